@@ -1,0 +1,34 @@
+-- The charge of a state: a number that each move lowers, so that it bounds the moves that can still come.
+-- Twice the open edges, the unanswered pointers, and what each node adds. This project's own.
+use Rattle.std.specs.Prelude.{ℕ, ◌+◌, ◌*◌, Bool, cond, not, ◌&&◌, ◌||◌, is_none, sum_by, count_by}
+use Rattle.rule_machine.specs.Network.{names, edge_list}
+use Rattle.rule_machine.specs.State.{State, pointer, flag, points, married, has_suitor, is_unanswered}
+
+-- w is null and v points at it
+abbrev pub awaits : State → ℕ → ℕ → Bool
+awaits s v w = points s.registers v w && is_none (pointer s w)
+
+-- w is null and has a suitor
+abbrev pub is_courted : State → ℕ → Bool
+is_courted s w = is_none (pointer s w) && has_suitor s w
+
+-- Hsu and Huang: an end is married, or one end points at the other, which is null, or both are null with a suitor each
+abbrev pub hsu_huang_closed : State → ℕ × ℕ → Bool
+hsu_huang_closed s e =
+    married s e.0 || married s e.1 || awaits s e.0 e.1 || awaits s e.1 e.0 || (is_courted s e.0 && is_courted s e.1)
+
+abbrev pub hsu_huang_charge : State → ℕ
+hsu_huang_charge s =
+    2 * count_by (λ e. not (hsu_huang_closed s e)) (edge_list s.network) + count_by (is_unanswered s) (names s.network)
+
+-- Manne and others: an end is married, or the lower end points at the higher one, which is not flagged
+abbrev pub manne_closed : State → ℕ × ℕ → Bool
+manne_closed s e = married s e.0 || married s e.1 || (points s.registers e.0 e.1 && not (flag s e.1))
+
+-- what a node adds: unmarried 1, and 1 more if flagged; married 0 if flagged, else 1
+abbrev pub manne_node_charge : State → ℕ → ℕ
+manne_node_charge s v = cond (married s v) (cond (flag s v) 0 1) (cond (flag s v) 2 1)
+
+abbrev pub manne_charge : State → ℕ
+manne_charge s =
+    2 * count_by (λ e. not (manne_closed s e)) (edge_list s.network) + count_by (is_unanswered s) (names s.network) + sum_by (manne_node_charge s) (names s.network)

@@ -1,0 +1,22 @@
+-- What edits and faults do to a state, where they are not refused. This project's own.
+use Rattle.std.specs.Prelude.{ℕ, Bool, Option, None, if◌then◌else◌}
+use Rattle.rule_machine.specs.Network.{with_edge, without_edge}
+use Rattle.rule_machine.specs.State.{State, Registers, points, with_pointer, with_flag}
+
+abbrev pub after_link : State → ℕ → ℕ → State
+after_link s a b = record s { network = with_edge s.network a b }
+
+-- v's pointer becomes null if it is at w
+abbrev pub without_pointer : Registers → ℕ → ℕ → Registers
+without_pointer r v w = if points r v w then with_pointer r v None else r
+
+-- the edge goes, and so does each end's pointer that crossed it; flags stay
+abbrev pub after_unlink : State → ℕ → ℕ → State
+after_unlink s a b =
+    record { network = without_edge s.network a b; registers = without_pointer (without_pointer s.registers a b) b a }
+
+abbrev pub after_point : State → ℕ → Option ℕ → State
+after_point s v target = record s { registers = with_pointer s.registers v target }
+
+abbrev pub after_flag : State → ℕ → Bool → State
+after_flag s v value = record s { registers = with_flag s.registers v value }

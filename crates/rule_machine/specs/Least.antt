@@ -1,0 +1,93 @@
+-- The one answer of the machine in which each free target is the least allowed one.
+use Rattle.std.specs.Prelude.{ℕ, List, [], ◌∷◌, Option, None, Some, if◌then◌else◌, nat_eq, find}
+use Rattle.std.specs.List.{filter_map}
+use Rattle.std.specs.Option.{option_and_then}
+use Rattle.rule_machine.specs.declared.act.Act.{Act}
+use Rattle.rule_machine.specs.declared.choice.Item.{Item}
+use Rattle.rule_machine.specs.declared.moved.Moved.{Moved}
+use Rattle.rule_machine.specs.declared.verdict.Outcome.{Outcome}
+use Rattle.rule_machine.specs.declared.verdict.Outcome.TheVariants as outcome
+use Rattle.rule_machine.specs.declared.event.Event.{Event}
+use Rattle.rule_machine.specs.declared.event.Event.TheVariants.{Link, Unlink, Point, Flag, Step, Show, Enabled, Matching}
+use Rattle.rule_machine.specs.declared.refusal.Refusal.{Refusal}
+use Rattle.rule_machine.specs.declared.reply.Reply.{Reply}
+use Rattle.rule_machine.specs.declared.reply.Reply.TheVariants.{Accepted, Refused, Moves, Shown, EnabledAre, Pairs}
+use Rattle.rule_machine.specs.Network.{names, present}
+use Rattle.rule_machine.specs.State.{State, pointer}
+use Rattle.rule_machine.specs.RuleTable.{RuleTable, rule_at, enabled, least_target}
+use Rattle.rule_machine.specs.Step.{after_moves}
+use Rattle.rule_machine.specs.Disturbance.{after_link, after_unlink, after_point, after_flag}
+use Rattle.rule_machine.specs.Stable.{mutual_pairs}
+use Rattle.rule_machine.specs.Refuse.{refusal_of}
+
+-- a move of v by the rule: to the wished target if it is allowed, to the least one where none is wished
+abbrev pub outcome_by : RuleTable → State → ℕ → Act → Option ℕ → Outcome
+outcome_by t s v act None = outcome.Moves (record { node = v; act = act; target = least_target t s v act })
+outcome_by t s v act (Some w) =
+    if t.allowed s v act w then outcome.Moves (record { node = v; act = act; target = Some w }) else outcome.Wrong
+
+abbrev pub outcome_at : RuleTable → State → Item → Option Act → Outcome
+outcome_at t s item None = outcome.Idle
+outcome_at t s item (Some act) = outcome_by t s item.node act item.wish
+
+-- what an item would do alone
+abbrev pub outcome_of : RuleTable → State → Item → Outcome
+outcome_of t s item = if present s.network item.node then outcome_at t s item (rule_at t s item.node) else outcome.Absent
+
+-- the move, where it is one
+abbrev pub move_in : Outcome → Option Moved
+move_in (outcome.Moves m) = Some m
+move_in other = None
+
+-- the first item of a choice that names v
+abbrev pub item_of : List Item → ℕ → Option Item
+item_of items v = find (λ i. nat_eq i.node v) items
+
+-- the moves of a choice, ascending
+abbrev pub least_moves : RuleTable → State → List Item → List Moved
+least_moves t s items =
+    filter_map (λ v. option_and_then (λ item. move_in (outcome_of t s item)) (item_of items v)) (names s.network)
+
+abbrev pub accepted_reply : RuleTable → State → Event → Reply
+accepted_reply t s (Link a b) = Accepted
+accepted_reply t s (Unlink a b) = Accepted
+accepted_reply t s (Point v target) = Accepted
+accepted_reply t s (Flag v value) = Accepted
+accepted_reply t s (Step items) = Moves (least_moves t s items)
+accepted_reply t s (Show v) = Shown (pointer s v)
+accepted_reply t s Enabled = EnabledAre (enabled t s)
+accepted_reply t s Matching = Pairs (mutual_pairs s)
+
+abbrev pub accepted_state : RuleTable → State → Event → State
+accepted_state t s (Link a b) = after_link s a b
+accepted_state t s (Unlink a b) = after_unlink s a b
+accepted_state t s (Point v target) = after_point s v target
+accepted_state t s (Flag v value) = after_flag s v value
+accepted_state t s (Step items) = after_moves s (least_moves t s items)
+accepted_state t s (Show v) = s
+accepted_state t s Enabled = s
+accepted_state t s Matching = s
+
+abbrev pub reply_by : RuleTable → State → Event → Option Refusal → Reply
+reply_by t s event (Some refusal) = Refused refusal
+reply_by t s event None = accepted_reply t s event
+
+abbrev pub state_by : RuleTable → State → Event → Option Refusal → State
+state_by t s event (Some refusal) = s
+state_by t s event None = accepted_state t s event
+
+-- the reply, and the state after it
+abbrev pub reply_of : RuleTable → State → Event → Reply
+reply_of t s event = reply_by t s event (refusal_of t s event)
+
+abbrev pub state_after : RuleTable → State → Event → State
+state_after t s event = state_by t s event (refusal_of t s event)
+
+-- the replies to events in turn, and the state at their end
+abbrev pub replies_of : RuleTable → State → List Event → List Reply
+replies_of t s [] = []
+replies_of t s (event ∷ events) = reply_of t s event ∷ replies_of t (state_after t s event) events
+
+abbrev pub state_after_all : RuleTable → State → List Event → State
+state_after_all t s [] = s
+state_after_all t s (event ∷ events) = state_after_all t (state_after t s event) events

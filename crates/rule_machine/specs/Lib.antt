@@ -1,0 +1,13 @@
+pub mod Network
+pub mod State
+pub mod RuleTable
+pub mod HsuHuang
+pub mod Manne
+pub mod Step
+pub mod Disturbance
+pub mod Stable
+pub mod Charge
+pub mod Refuse
+pub mod Answer
+pub mod Least
+pub mod Run

@@ -1,0 +1,64 @@
+-- Runs: what a log of events and replies says of the machine.
+use Rattle.std.specs.Prelude.{◌≡◌, ℕ, ◌+◌, List, [], ◌∷◌, ◌++◌, length}
+use Rattle.rule_machine.specs.declared.event.Event.{Event}
+use Rattle.rule_machine.specs.declared.reply.Reply.{Reply}
+use Rattle.rule_machine.specs.declared.reply.Reply.TheVariants.{Accepted, Refused, Moves, Shown, EnabledAre, Pairs}
+use Rattle.rule_machine.specs.Network.{node_count, edge_count}
+use Rattle.rule_machine.specs.State.{State, opening}
+use Rattle.rule_machine.specs.RuleTable.{RuleTable}
+use Rattle.rule_machine.specs.Answer.{Answers}
+
+-- an event, and the reply to it
+abbrev pub Entry : Type 0
+Entry = Event × Reply
+
+-- a state, and the moves spent since the last accepted disturbance or the start
+pub record Moment : Type 0 where
+  pub state : State
+  pub spent : ℕ
+
+-- the moves spent after a reply: only disturbances are answered by Accepted, and a disturbance begins anew
+abbrev pub spent_after : ℕ → Reply → ℕ
+spent_after spent Accepted = 0
+spent_after spent (Moves moves) = spent + length moves
+spent_after spent (Refused refusal) = spent
+spent_after spent (Shown target) = spent
+spent_after spent (EnabledAre nodes) = spent
+spent_after spent (Pairs pairs) = spent
+
+-- From one moment to another, the machine may answer the log's events by its replies, one after another.
+abbrev pub Run : RuleTable → Moment → List Entry → Moment → Type 0
+Run t start [] end = end ≡ start
+Run t start (entry ∷ log) end =
+    (next : State) × Answers t start.state entry.0 entry.1 next × Run t (record { state = next; spent = spent_after start.spent entry.1 }) log end
+
+-- where every run of a journal begins
+abbrev pub beginning : ℕ → Moment
+beginning size = record { state = opening size; spent = 0 }
+
+-- The entries between two accepted disturbances: the number of the entry that began it (0 for the start), the moves in
+-- it, and how many edges and nodes there are.
+pub record Epoch : Type 0 where
+  pub start : ℕ
+  pub moves : ℕ
+  pub edges : ℕ
+  pub nodes : ℕ
+
+abbrev pub epoch_at : ℕ → State → Epoch
+epoch_at start s = record { start = start; moves = 0; edges = edge_count s.network; nodes = node_count s.network }
+
+-- the epoch is over where its successor begins, and else it grows by the moves of a step
+abbrev pub epochs_by : Reply → ℕ → State → Epoch → List Epoch × Epoch
+epochs_by Accepted number s epoch = (epoch ∷ [], epoch_at number s)
+epochs_by (Moves moves) number s epoch = ([], record epoch { moves = epoch.moves + length moves })
+epochs_by (Refused refusal) number s epoch = ([], epoch)
+epochs_by (Shown target) number s epoch = ([], epoch)
+epochs_by (EnabledAre nodes) number s epoch = ([], epoch)
+epochs_by (Pairs pairs) number s epoch = ([], epoch)
+
+-- The epochs of a log, in order, where number is that of its next entry, epoch the one that has begun, and each entry
+-- stands with the state after it.
+abbrev pub epochs_from : ℕ → Epoch → List (Entry × State) → List Epoch
+epochs_from number epoch [] = epoch ∷ []
+epochs_from number epoch (entry ∷ log) =
+    let turn = epochs_by entry.0.1 number entry.1 epoch in turn.0 ++ epochs_from (number + 1) turn.1 log

@@ -1,0 +1,52 @@
+-- A step: the chosen nodes move at once, each by what its rule says of the state before.
+use Rattle.std.specs.Prelude.{◌≡◌, ◌≢◌, ℕ, List, [], length, map, fold, Option, None, Some, IsSome, IsSomeAnd, IsTrue, All, Any}
+use Rattle.std.specs.List.Sorted.{IsStrictlyIncreasing}
+use Rattle.rule_machine.specs.declared.act.Act.{Act}
+use Rattle.rule_machine.specs.declared.act.Act.TheVariants.{Update, Marry, Seduce, Abandon}
+use Rattle.rule_machine.specs.declared.choice.Item.{Item}
+use Rattle.rule_machine.specs.declared.moved.Moved.{Moved}
+use Rattle.rule_machine.specs.State.{State, Registers, with_pointer, with_flag, married}
+use Rattle.rule_machine.specs.RuleTable.{RuleTable, rule_at}
+
+-- an allowed target, and the wished one where there is a wish
+abbrev pub IsAllowedTarget : RuleTable → State → ℕ → Act → Option ℕ → Option ℕ → Type 0
+IsAllowedTarget t s v act wish target = IsSomeAnd target (λ w. IsTrue (t.allowed s v act w)) × (IsSome wish → target ≡ wish)
+
+-- what a move of v may have as its target: only to marry and to seduce take one
+abbrev pub IsTarget : RuleTable → State → ℕ → Act → Option ℕ → Option ℕ → Type 0
+IsTarget t s v Update wish target = target ≡ None
+IsTarget t s v Marry wish target = IsAllowedTarget t s v Marry wish target
+IsTarget t s v Seduce wish target = IsAllowedTarget t s v Seduce wish target
+IsTarget t s v Abandon wish target = target ≡ None
+
+-- the move that an item asks for: its node's rule, with a target that it may have
+pub record IsMoveOf (t : RuleTable) (s : State) (item : Item) (m : Moved) : Type 0 where
+  pub node : m.node ≡ item.node
+  pub rule : rule_at t s item.node ≡ Some m.act
+  pub target : IsTarget t s item.node m.act item.wish m.target
+
+-- what a move writes, where married is read in the state before the step
+abbrev pub written : State → Registers → ℕ → Act → Option ℕ → Registers
+written before r v Update target = with_flag r v (married before v)
+written before r v Marry target = with_pointer r v target
+written before r v Seduce target = with_pointer r v target
+written before r v Abandon target = with_pointer r v None
+
+abbrev pub after_move : State → Registers → Moved → Registers
+after_move before r m = written before r m.node m.act m.target
+
+-- the registers after these moves of one step
+abbrev pub registers_after : State → List Moved → Registers
+registers_after before moves = fold (after_move before) before.registers moves
+
+abbrev pub after_moves : State → List Moved → State
+after_moves before moves = record before { registers = registers_after before moves }
+
+-- From s, the items of a choice move in one step to s': each chosen node once, by a rule and a target of s.
+pub record IsStep (t : RuleTable) (s : State) (choice : List Item) (moves : List Moved) (s' : State) : Type 0 where
+  pub some : moves ≢ []
+  pub alone : IsTrue t.central → length moves ≡ 1
+  pub ascending : IsStrictlyIncreasing (map (λ m. m.node) moves)
+  pub each : All (λ m. Any (λ item. IsMoveOf t s item m) choice) moves
+  pub all : All (λ item. Any (λ m. IsMoveOf t s item m) moves) choice
+  pub after : s' ≡ after_moves s moves

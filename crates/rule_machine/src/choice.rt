@@ -1,0 +1,59 @@
+//! What a daemon chooses for one step.
+
+ghost use Rattle.std.specs.Prelude.{◌≡◌, ◌≤◌, length, SomeIff};
+
+use crate::{Listing, Node};
+use std::marker::Model;
+
+/// The most items that a choice holds.
+pub const MAX_ITEMS: usize = 65_535;
+
+/// One chosen node, and where its daemon wishes it to point.
+#[derive(Clone, Copy, Debug, PartialEq, Eq)]
+pub struct Item {
+    /// The node that shall move.
+    pub node: Node,
+    /// The target that it shall take, or `None` for any.
+    pub wish: Option<Node>,
+}
+
+/// The items of one step, in the order in which they were named; at most 65,535.
+#[derive(Debug, Drop, PartialEq, Eq)]
+pub struct Choice {
+    items: Listing<Item>,
+}
+
+impl Model for Choice {
+    ghost use Rattle.std.specs.Prelude.{List, ◌≤◌, length};
+    ghost use Rattle.rule_machine.specs.declared.choice.Item.{Item};
+
+    ghost Value = { List Item };
+
+    ghost view = { λ c. c.items };
+
+    ghost invariant = { λ c. length c.items ≤ 65535 };
+
+    ghost inverse = { λ l. record { items = l } };
+}
+
+impl Choice {
+    /// The choice of these items; `None` where there are more than 65,535.
+    pub fn new(items: Vec<Item>) -> Option<Choice>
+        ensures { SomeIff result (length items.items ≤ 65535) items.items }
+    {
+        if items.len() > MAX_ITEMS {
+            return None;
+        }
+        Some(Choice {
+            items: Listing::from_vec(items),
+        })
+    }
+
+    /// The items, in the order in which they were named.
+    pub fn items(&self) -> &[Item]
+        ensures items { result.now ≡ self.now }
+        ensures few { length self.now ≤ 65535 }
+    {
+        self.items.as_slice()
+    }
+}

@@ -1,0 +1,26 @@
+//! The plain types of a matching network, and in `specs/` the definitions of its rule machine.
+#![tactic(auto)]
+
+mod act;
+mod choice;
+mod edge;
+mod event;
+mod listing;
+mod memory;
+mod moved;
+mod node;
+mod refusal;
+mod reply;
+mod verdict;
+
+pub use act::Act;
+pub use choice::{Choice, Item, MAX_ITEMS};
+pub use edge::Edge;
+pub use event::Event;
+pub use listing::Listing;
+pub use memory::Want;
+pub use moved::Moved;
+pub use node::{MAX_NAME, Node};
+pub use refusal::Refusal;
+pub use reply::Reply;
+pub use verdict::{Outcome, Verdict};

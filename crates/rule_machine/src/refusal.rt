@@ -1,0 +1,75 @@
+//! Why an event was refused.
+
+/// Why an event was refused. The network stays as it was.
+#[derive(Clone, Copy, Debug, PartialEq, Eq)]
+pub enum Refusal {
+    /// A node that the event acts on or asks about is not present.
+    UnknownNode,
+    /// Both ends are one node.
+    SelfLoop,
+    /// The edge is there already.
+    AlreadyLinked,
+    /// The edge is not there.
+    NotLinked,
+    /// There are as many edges as there may be.
+    TooManyEdges,
+    /// The pointer would name a node that is present and no neighbour.
+    NotNeighbour,
+    /// The rule set has no flags.
+    NoFlag,
+    /// The step has no item.
+    EmptyChoice,
+    /// The daemon is central, and the step has more than one item.
+    NotCentral,
+    /// The node stands in the choice before.
+    ChosenTwice,
+    /// No rule is enabled at the node.
+    NotEnabled,
+    /// The wish is no target that the node's rule allows.
+    BadTarget,
+}
+
+impl Refusal {
+    ghost use Rattle.std.specs.Prelude.{◌≡◌};
+    ghost use Rattle.rule_machine.specs.Refuse.{refusal_number, refusal_text};
+
+    /// The number by which transcripts name it, 1 to 12.
+    pub fn number(self) -> u32
+        ensures { result ≡ refusal_number self }
+    {
+        match self {
+            Refusal::UnknownNode => 1,
+            Refusal::SelfLoop => 2,
+            Refusal::AlreadyLinked => 3,
+            Refusal::NotLinked => 4,
+            Refusal::TooManyEdges => 5,
+            Refusal::NotNeighbour => 6,
+            Refusal::NoFlag => 7,
+            Refusal::EmptyChoice => 8,
+            Refusal::NotCentral => 9,
+            Refusal::ChosenTwice => 10,
+            Refusal::NotEnabled => 11,
+            Refusal::BadTarget => 12,
+        }
+    }
+
+    /// Its text in transcripts, in lower case with dashes.
+    pub fn text(self) -> &'static str
+        ensures { result.now ≡ refusal_text self }
+    {
+        match self {
+            Refusal::UnknownNode => "unknown-node",
+            Refusal::SelfLoop => "self-loop",
+            Refusal::AlreadyLinked => "already-linked",
+            Refusal::NotLinked => "not-linked",
+            Refusal::TooManyEdges => "too-many-edges",
+            Refusal::NotNeighbour => "not-neighbour",
+            Refusal::NoFlag => "no-flag",
+            Refusal::EmptyChoice => "empty-choice",
+            Refusal::NotCentral => "not-central",
+            Refusal::ChosenTwice => "chosen-twice",
+            Refusal::NotEnabled => "not-enabled",
+            Refusal::BadTarget => "bad-target",
+        }
+    }
+}
