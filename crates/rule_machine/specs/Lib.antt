@@ -11,3 +11,4 @@ pub mod Refuse
 pub mod Answer
 pub mod Least
 pub mod Run
+pub mod Tables

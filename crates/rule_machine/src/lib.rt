@@ -11,6 +11,7 @@ mod moved;
 mod node;
 mod refusal;
 mod reply;
+mod rules;
 mod verdict;
 
 pub use act::Act;
@@ -23,4 +24,5 @@ pub use moved::Moved;
 pub use node::{MAX_NAME, Node};
 pub use refusal::Refusal;
 pub use reply::Reply;
+pub use rules::RuleSet;
 pub use verdict::{Outcome, Verdict};

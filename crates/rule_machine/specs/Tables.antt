@@ -1,0 +1,16 @@
+-- The rule sets by name.
+use Rattle.std.specs.Prelude.{ℕ, List, codes}
+use Rattle.rule_machine.specs.declared.rules.RuleSet.{RuleSet}
+use Rattle.rule_machine.specs.declared.rules.RuleSet.TheVariants.{Hh, Manne}
+use Rattle.rule_machine.specs.RuleTable.{RuleTable}
+use Rattle.rule_machine.specs.HsuHuang.{hsu_huang}
+use Rattle.rule_machine.specs.Manne.{manne}
+
+abbrev pub table_of : RuleSet → RuleTable
+table_of Hh = hsu_huang
+table_of Manne = manne
+
+-- the word for a rule set, on a command line and in a transcript's header
+abbrev pub rules_word : RuleSet → List ℕ
+rules_word Hh = codes "hh"
+rules_word Manne = codes "manne"

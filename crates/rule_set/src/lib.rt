@@ -1,0 +1,8 @@
+//! What a guard may look at, and what a set of rules is: the laws that serve every algorithm alike.
+#![tactic(auto)]
+
+mod local;
+mod rules;
+
+pub use local::Local;
+pub use rules::{BadTarget, Rules};

@@ -1,0 +1,73 @@
+//! A set of rules.
+
+ghost use Rattle.std.specs.Prelude.{◌≡◌, ℕ, Bool, List, [], IsTrue, IsSome};
+ghost use Rattle.std.specs.Result.{result_ok};
+ghost use Rattle.rule_machine.specs.declared.act.Act.{Act};
+ghost use Rattle.rule_machine.specs.State.{State, IsState};
+ghost use Rattle.rule_machine.specs.RuleTable.{RuleTable, rule_at, enabled_names};
+ghost use Rattle.rule_machine.specs.Stable.{IsStable};
+ghost use Rattle.rule_set.specs.Near.{SameAt};
+ghost use Rattle.rule_set.specs.Target.{target_at};
+
+use crate::Local;
+use rule_machine::{Act, Node};
+use thiserror::Error;
+
+/// The wish is no target that the node's rule allows.
+#[derive(Clone, Copy, Debug, PartialEq, Eq, Error)]
+#[error("the wish is not an allowed target")]
+pub struct BadTarget;
+
+/// A self-stabilising algorithm for maximal matching: its guards and targets, and the laws that it keeps.
+pub trait Rules {
+    /// The algorithm as the definitions have it.
+    ghost table: { RuleTable };
+
+    ghost CENTRAL: { Bool };
+
+    ghost FLAGS: { Bool };
+
+    /// Whether its daemon is central, so that one node moves at a time.
+    const CENTRAL: bool;
+
+    /// Whether it uses the married flags.
+    const FLAGS: bool;
+
+    /// Whether a neighbour with this pointer and this flag is open to a seduction.
+    fn opens(pointer: Option<Node>, flag: bool) -> bool
+        ensures { result ≡ table.opens pointer flag };
+
+    /// The rule that is enabled at the node, if any is.
+    fn guard<L: Local>(local: &L, v: Node) -> Option<Act>
+        requires at { L.at local.now ≡ v }
+        requires opens { L.opens ≡ table.opens }
+        requires state { IsState (L.state local.now) }
+        ensures { result ≡ rule_at table (L.state local.now) v };
+
+    /// The target of the rule that is enabled at the node: the wish if the rule allows it, else `BadTarget`; and with
+    /// no wish the least allowed one. `None` for a rule that takes no target.
+    fn target<L: Local>(local: &L, v: Node, wish: Option<Node>) -> Result<Option<Node>, BadTarget>
+        requires at { L.at local.now ≡ v }
+        requires opens { L.opens ≡ table.opens }
+        requires state { IsState (L.state local.now) }
+        requires enabled { IsSome (rule_at table (L.state local.now) v) }
+        ensures { result_ok result ≡ target_at table (L.state local.now) v wish };
+
+    /// The table says of the daemon what the constant says.
+    ghost is_central: { table.central ≡ CENTRAL };
+
+    /// The table says of the flags what the constant says.
+    ghost uses_flags: { table.flags ≡ FLAGS };
+
+    /// A guard depends on nothing but what is shown at its node.
+    ghost is_local: { (s u : State) (v : ℕ) (act : Act) → IsState s → IsState u → SameAt s u v → table.guard s v act ≡ table.guard u v act };
+
+    /// At most one rule is enabled at a node.
+    ghost one_rule: { (s : State) (v : ℕ) (a b : Act) → IsTrue (table.guard s v a) → IsTrue (table.guard s v b) → a ≡ b };
+
+    /// Where no rule is enabled the network is stable.
+    ghost quiet_is_stable: { (s : State) → IsState s → enabled_names table s ≡ [] → IsStable table.flags s };
+
+    /// Where the network is stable no rule is enabled.
+    ghost stable_is_quiet: { (s : State) → IsState s → IsStable table.flags s → enabled_names table s ≡ [] };
+}
