@@ -1,20 +1,25 @@
 -- A network: nodes with names from 1 up, and undirected edges between different nodes.
 -- Everything else reaches the nodes by `names`, `present` and `node_count` alone.
-use Rattle.std.specs.Prelude.{ℕ, ◌<◌, min, max, Bool, ◌&&◌, List, filter, nat_le, IsTrue, refl}
+use Rattle.std.specs.Prelude.{ℕ, ◌<◌, min, max, Bool, ◌&&◌, List, [], ◌∷◌, filter, nat_le, IsTrue, refl}
 use Rattle.std.specs.List.{range_with_len}
 use Rattle.std.specs.declared.cmp.Ordering.{Ordering}
 use Rattle.std.specs.Ordering.{nat_cmp, ordering_then}
 use Rattle.std.specs.Coded.{Coded, code_by, coded×, coded_ℕ}
+use base.Stored.{coded_unit}
 use Rattle.std.specs.FinMap as map
-use Rattle.std.specs.FinSet as set
 
 -- pairs in the order of their first, then of their second number
 abbrev pub pair_cmp : ℕ × ℕ → ℕ × ℕ → Ordering
 pair_cmp a b = ordering_then (nat_cmp a.0 b.0) (nat_cmp a.1 b.1)
 
--- a finite set of pairs
+-- a finite set of pairs: a finite map with nothing at each key
 abbrev pub PairSet : Type 0
-PairSet = set.FinSet pair_cmp
+PairSet = map.FinMap pair_cmp (Unit {0})
+
+-- the set of a list's pairs
+abbrev pub pair_set : List (ℕ × ℕ) → PairSet
+pair_set [] = map.empty
+pair_set (pair ∷ pairs) = map.insert (pair_set pairs) pair tt
 
 -- The names are 1 to size. An edge is the pair of its ends, the lower name first.
 pub record Network : Type 0 where
@@ -23,7 +28,7 @@ pub record Network : Type 0 where
 
 abbrev pub network_code : Coded Network
 network_code =
-    code_by (ℕ × PairSet) (coded× coded_ℕ (set.code (coded× coded_ℕ coded_ℕ))) (λ n. (n.size, n.edges)) (λ p. record { size = p.0; edges = p.1 }) (λ _. refl)
+    code_by (ℕ × PairSet) (coded× coded_ℕ (map.code (coded× coded_ℕ coded_ℕ) coded_unit)) (λ n. (n.size, n.edges)) (λ p. record { size = p.0; edges = p.1 }) (λ _. refl)
 
 -- the names of the nodes, ascending
 abbrev pub names : Network → List ℕ
@@ -65,12 +70,12 @@ pub record IsNetwork (net : Network) : Type 0 where
 
 -- the network of these many nodes without an edge
 abbrev pub edgeless : ℕ → Network
-edgeless size = record { size = size; edges = set.empty }
+edgeless size = record { size = size; edges = map.empty }
 
 -- the network with one more edge
 abbrev pub with_edge : Network → ℕ → ℕ → Network
-with_edge net a b = record net { edges = set.insert net.edges (edge a b) }
+with_edge net a b = record net { edges = map.insert net.edges (edge a b) tt }
 
 -- the network without an edge
 abbrev pub without_edge : Network → ℕ → ℕ → Network
-without_edge net a b = record net { edges = set.remove net.edges (edge a b) }
+without_edge net a b = record net { edges = map.remove net.edges (edge a b) }

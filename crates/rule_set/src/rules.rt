@@ -4,10 +4,11 @@ ghost use Rattle.std.specs.Prelude.{◌≡◌, ℕ, Bool, List, [], IsTrue, IsSo
 ghost use Rattle.std.specs.Result.{result_ok};
 ghost use Rattle.rule_machine.specs.declared.act.Act.{Act};
 ghost use Rattle.rule_machine.specs.State.{State, IsState};
-ghost use Rattle.rule_machine.specs.RuleTable.{RuleTable, rule_at, enabled_names};
+ghost use Rattle.rule_machine.specs.RuleTable.{RuleTable, rule_at, enabled_names, least_target};
+ghost use Rattle.rule_machine.specs.Network.{linked};
 ghost use Rattle.rule_machine.specs.Stable.{IsStable};
 ghost use Rattle.rule_set.specs.Near.{SameAt};
-ghost use Rattle.rule_set.specs.Target.{target_at};
+ghost use Rattle.rule_set.specs.Target.{target_at, takes_target};
 
 use crate::Local;
 use rule_machine::{Act, Node};
@@ -58,6 +59,15 @@ pub trait Rules {
 
     /// The table says of the flags what the constant says.
     ghost uses_flags: { table.flags ≡ FLAGS };
+
+    /// An allowed target is a neighbour.
+    ghost allowed_is_neighbour: { (s : State) (v : ℕ) (act : Act) (w : ℕ) → IsTrue (table.allowed s v act w) → IsTrue (linked s.network v w) };
+
+    /// Only to marry and to seduce take a target.
+    ghost allowed_takes_target: { (s : State) (v : ℕ) (act : Act) (w : ℕ) → IsTrue (table.allowed s v act w) → IsTrue (takes_target act) };
+
+    /// A rule that takes a target and is enabled has one that it allows.
+    ghost has_target: { (s : State) (v : ℕ) (act : Act) → IsState s → IsTrue (table.guard s v act) → IsTrue (takes_target act) → IsSome (least_target table s v act) };
 
     /// A guard depends on nothing but what is shown at its node.
     ghost is_local: { (s u : State) (v : ℕ) (act : Act) → IsState s → IsState u → SameAt s u v → table.guard s v act ≡ table.guard u v act };

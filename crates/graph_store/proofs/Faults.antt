@@ -1,0 +1,88 @@
+-- Which fault a call has, and the row that a call reads.
+use Rattle.std.proofs.Common.{◌≡◌, ℕ, ◌<◌, ◌≤◌, Bool, true, false, cond, not, ◌&&◌, List, length, get_or, Option, None, Some, eqb, sym, refl, ap, ◌∙◌, arith}
+use Rattle.std.specs.Prelude.{nat_le}
+use Rattle.std.specs.declared.vec.Vec.{Vec}
+use Rattle.std.specs.declared.alloc.Global.{Global}
+use Rattle.rule_machine.specs.Network.{Network, present, linked, edge, edge_count}
+use Rattle.rule_machine.specs.Refuse.{max_edges}
+use Rattle.graph_store.specs.declared.fault.GraphFault.{GraphFault}
+use Rattle.graph_store.specs.declared.fault.GraphFault.TheVariants.{UnknownNode, SelfLoop, AlreadyLinked, NotLinked, TooManyEdges}
+use Rattle.graph_store.specs.Fault.{ends_fault, link_fault, unlink_fault}
+use Rattle.graph_store.specs.Rows.{contents, row_at, has, network_of, IsRows, IsPlaceOf, IsGapFor}
+use Rattle.graph_store.proofs.PairOrder.{count-some}
+use Rattle.graph_store.proofs.Contents.{row_read, length_contents}
+use Rattle.graph_store.proofs.Rising.{there_at_place, absent_at_gap}
+use Rattle.graph_store.proofs.Store.{present_bounds, linked_by}
+
+-- what is known of two ends where none of their tests fails
+good_ends : (p q e : Bool) → cond (not (p && q)) (Some UnknownNode) (cond e (Some SelfLoop) None) ≡ None → (p ≡ true) × (q ≡ true) × (e ≡ false)
+good_ends false q e h = absurd cc
+good_ends true false e h = absurd cc
+good_ends true true true h = absurd cc
+good_ends true true false h = (refl, refl, refl)
+
+-- the fault of two ends comes before all that follows
+bad_ends : (p q e : Bool) (fault : GraphFault) (rest : Option GraphFault) → cond (not (p && q)) (Some UnknownNode) (cond e (Some SelfLoop) None) ≡ Some fault → cond (not (p && q)) (Some UnknownNode) (cond e (Some SelfLoop) rest) ≡ Some fault
+bad_ends false q e fault rest h = h
+bad_ends true false e fault rest h = h
+bad_ends true true true fault rest h = h
+bad_ends true true false fault rest h = absurd cc
+
+-- two names that may be ends are nodes, and different
+pub ends_known : (net : Network) (a b : ℕ) → ends_fault net a b ≡ None → (present net a ≡ true) × (present net b ≡ true) × (eqb a b ≡ false)
+ends_known net a b h = good_ends (present net a) (present net b) (eqb a b) h
+
+-- the fault of two ends is the fault of the call
+pub link_fault_ends : (net : Network) (a b : ℕ) (fault : GraphFault) → ends_fault net a b ≡ Some fault → link_fault net a b ≡ Some fault
+link_fault_ends net a b fault h = bad_ends (present net a) (present net b) (eqb a b) fault _ h
+
+pub unlink_fault_ends : (net : Network) (a b : ℕ) (fault : GraphFault) → ends_fault net a b ≡ Some fault → unlink_fault net a b ≡ Some fault
+unlink_fault_ends net a b fault h = bad_ends (present net a) (present net b) (eqb a b) fault _ h
+
+-- an edge that may be put in, or not, where the ends are two nodes
+pub link_fault_is : (net : Network) (a b : ℕ) (l m : Bool) → present net a ≡ true → present net b ≡ true → eqb a b ≡ false → linked net a b ≡ l → nat_le max_edges (edge_count net) ≡ m → link_fault net a b ≡ cond l (Some AlreadyLinked) (cond m (Some TooManyEdges) None)
+link_fault_is net a b l m p q e is_l is_m =
+    λ i. cond (not (p i && q i)) (Some UnknownNode) (cond (e i) (Some SelfLoop) (cond (is_l i) (Some AlreadyLinked) (cond (is_m i) (Some TooManyEdges) None)))
+
+-- an edge that may be taken out, or not, likewise
+pub unlink_fault_is : (net : Network) (a b : ℕ) (l : Bool) → present net a ≡ true → present net b ≡ true → eqb a b ≡ false → linked net a b ≡ l → unlink_fault net a b ≡ cond l None (Some NotLinked)
+unlink_fault_is net a b l p q e is_l =
+    λ i. cond (not (p i && q i)) (Some UnknownNode) (cond (e i) (Some SelfLoop) (cond (is_l i) None (Some NotLinked)))
+
+-- a node is one of a store's names
+pub known : (size : ℕ) (rows : List (List ℕ)) (net : Network) (v : ℕ) → network_of size rows ≡ net → present net v ≡ true → (1 ≤ v) × (v ≤ size)
+known size rows net v seen here =
+    let bounds = present_bounds net v here in
+    let same : size ≡ net.size = ap (λ (n : Network). n.size) seen in
+    (bounds.0, omega (arith, bounds.1, same))
+
+-- a node has a row
+pub has_row : (size : ℕ) (rows : List (Vec ℕ Global)) (net : Network) (v : ℕ) → network_of size (contents rows) ≡ net → IsRows size (contents rows) → present net v ≡ true → v < length rows
+has_row size rows net v seen good here =
+    let bounds = known size (contents rows) net v seen here in
+    let places = good.places in
+    omega (arith, bounds.1, places, length_contents rows)
+
+-- the row that is read at a node's place
+pub row_here : (size : ℕ) (rows : List (Vec ℕ Global)) (net : Network) (v p : ℕ) (r : Vec ℕ Global) (row : List ℕ) → network_of size (contents rows) ≡ net → IsRows size (contents rows) → present net v ≡ true → p ≡ v → r ≡ get_or rows p r → row ≡ r.items → row ≡ row_at (contents rows) v
+row_here size rows net v p r row seen good here same is items =
+    items ∙ row_read rows rows v p r refl same (has_row size rows net v seen good here) is
+
+-- two names are linked where one is found in the other's row
+pub linked_at_place : (size : ℕ) (rows : List (List ℕ)) (net : Network) (a b i : ℕ) (row : List ℕ) → network_of size rows ≡ net → IsRows size rows → row ≡ row_at rows a → IsPlaceOf row b i → linked net a b ≡ true
+linked_at_place size rows net a b i row seen good is place =
+    sym (linked_by size rows net a b seen good) ∙ ap (λ l. has l b) (sym is) ∙ there_at_place row b i place
+
+-- and not where one is missing there
+pub apart_at_gap : (size : ℕ) (rows : List (List ℕ)) (net : Network) (a b i : ℕ) (row : List ℕ) → network_of size rows ≡ net → IsRows size rows → row ≡ row_at rows a → IsGapFor row b i → linked net a b ≡ false
+apart_at_gap size rows net a b i row seen good is gap =
+    sym (linked_by size rows net a b seen good) ∙ ap (λ l. has l b) (sym is) ∙ absent_at_gap row b i gap
+
+-- an edge is the same from either end
+pub linked_back : (size : ℕ) (rows : List (List ℕ)) (net : Network) (a b : ℕ) → network_of size rows ≡ net → IsRows size rows → linked net a b ≡ linked net b a
+linked_back size rows net a b seen good =
+    sym (linked_by size rows net a b seen good) ∙ good.mutual_in a b ∙ linked_by size rows net b a seen good
+
+-- where two names are linked there is an edge
+pub some_edge : (net : Network) (a b : ℕ) → linked net a b ≡ true → 1 ≤ edge_count net
+some_edge net a b there = count-some net.edges (edge a b) there

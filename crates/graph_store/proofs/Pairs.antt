@@ -1,0 +1,69 @@
+-- Which pairs neighbour lists hold.
+use Rattle.std.proofs.Common.{◌≡◌, ℕ, ◌+◌, suc, zero, Bool, true, false, cond, ◌&&◌, ◌||◌, List, [], ◌∷◌, map, eqb, ltb, get_or, sym, refl, ap, ◌∙◌, ◌<◌, arith}
+use Rattle.std.specs.Prelude.{filter}
+use Rattle.std.specs.List.{list_any}
+use Rattle.std.proofs.lemmas.Bool.{ne_eqb, eq-eqb, eqb-true, or_from, and_left}
+use Rattle.std.proofs.lemmas.List.Folds.{list_any-append}
+use Rattle.std.specs.FinMap as fin
+use Rattle.graph_store.specs.Rows.{row_at, has, pairs_from, edges_of}
+use Rattle.graph_store.proofs.PairOrder.{same_pair, has-pair_set}
+
+-- nothing is in an empty row
+pub and-false : (p : Bool) → (p && false) ≡ false
+and-false true = refl
+and-false false = refl
+
+or-false : (p : Bool) → (p || false) ≡ p
+or-false true = refl
+or-false false = refl
+
+-- a name that is kept, as it is above
+kept : (p q t h : Bool) → (q ≡ true → t ≡ true) → ((p && q) || (p && (t && h))) ≡ (p && (t && (q || h)))
+kept false q t h so = refl
+kept true true true h so = refl
+kept true true false h so = absurd (let e = so refl in cc)
+kept true false t h so = refl
+
+-- a name that is left out, as it is not
+left_out : (p q t h : Bool) → (q ≡ true → t ≡ false) → (p && (t && h)) ≡ (p && (t && (q || h)))
+left_out false q t h so = refl
+left_out true true true h so = absurd (let e = so refl in cc)
+left_out true true false h so = refl
+left_out true false t h so = refl
+
+-- a row's pairs, met at (a, b)
+in_row : (v a b : ℕ) (row : List ℕ) → list_any (same_pair (a, b)) (map (λ w. (v, w)) (filter (ltb v) row)) ≡ (eqb a v && (ltb v b && has row b))
+in_row v a b [] = sym (ap (λ t. eqb a v && t) (and-false (ltb v b)) ∙ and-false (eqb a v))
+in_row v a b (w ∷ row) =
+    elim (ltb v w) as (λ t. ltb v w ≡ t → list_any (same_pair (a, b)) (map (λ x. (v, x)) (cond t (w ∷ filter (ltb v) row) (filter (ltb v) row))) ≡ (eqb a v && (ltb v b && (eqb b w || has row b)))) [
+      | true ↦ λ e. ap (λ r. (eqb a v && eqb b w) || r) (in_row v a b row) ∙ kept (eqb a v) (eqb b w) (ltb v b) (has row b) (λ same. ap (ltb v) (eqb-true b w same) ∙ e)
+      | false ↦ λ e. in_row v a b row ∙ left_out (eqb a v) (eqb b w) (ltb v b) (has row b) (λ same. ap (ltb v) (eqb-true b w same) ∙ e)
+    ] refl
+
+-- the rows from v on hold no pair whose lower end is below v
+below_rows : (v a b : ℕ) (rows : List (List ℕ)) → a < v → list_any (same_pair (a, b)) (pairs_from v rows) ≡ false
+below_rows v a b [] lt = refl
+below_rows v a b (row ∷ rows) lt =
+    list_any-append (same_pair (a, b)) (map (λ w. (v, w)) (filter (ltb v) row)) (pairs_from (v + 1) rows)
+    ∙ or_from _ _ (in_row v a b row ∙ and_left (eqb a v) _ (ne_eqb a v (λ e. omega (arith, e)))) (below_rows (v + 1) a b rows (omega arith))
+
+-- the rows from v on hold the pairs of each row at its place
+in_rows : (v k a b : ℕ) (rows : List (List ℕ)) → a ≡ v + k → list_any (same_pair (a, b)) (pairs_from v rows) ≡ (ltb a b && has (get_or rows k []) b)
+in_rows v k a b [] e = sym (and-false (ltb a b))
+in_rows v zero a b (row ∷ rows) e =
+    let same : a ≡ v = omega (arith, e) in
+    list_any-append (same_pair (a, b)) (map (λ w. (v, w)) (filter (ltb v) row)) (pairs_from (v + 1) rows)
+    ∙ ap (λ r. list_any (same_pair (a, b)) (map (λ w. (v, w)) (filter (ltb v) row)) || r) (below_rows (v + 1) a b rows (omega arith))
+    ∙ or-false _
+    ∙ in_row v a b row
+    ∙ ap (λ t. t && (ltb v b && has row b)) (eq-eqb a v same)
+    ∙ ap (λ x. ltb x b && has row b) (sym same)
+in_rows v (suc k) a b (row ∷ rows) e =
+    list_any-append (same_pair (a, b)) (map (λ w. (v, w)) (filter (ltb v) row)) (pairs_from (v + 1) rows)
+    ∙ ap (λ r. r || list_any (same_pair (a, b)) (pairs_from (v + 1) rows)) (in_row v a b row ∙ and_left (eqb a v) _ (ne_eqb a v (λ same. omega (arith, same, e))))
+    ∙ in_rows (v + 1) k a b rows (omega (arith, e))
+
+-- the edges of rows: each pair in the row of its lower end
+pub has-edges_of : (rows : List (List ℕ)) (a b : ℕ) → fin.contains_key (edges_of rows) (a, b) ≡ (ltb a b && has (row_at rows a) b)
+unfolding edges_of
+has-edges_of rows a b = has-pair_set (pairs_from 0 rows) (a, b) ∙ in_rows 0 a a b rows (omega arith)

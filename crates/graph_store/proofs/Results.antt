@@ -1,0 +1,19 @@
+-- A value that came through `map_err`, and a rising list by its places.
+use Rattle.std.proofs.Common.{◌≡◌, ℕ, ◌<◌, ◌≤◌, List, length, get_or, Result, Ok, Err, IfOk, MatchResult, ap, subst, arith, ⊎_elim}
+use Rattle.std.specs.Result.{IsErrAnd}
+use Rattle.std.specs.List.Sorted.{IsStrictlyIncreasing}
+use Rattle.std.proofs.lemmas.Bool.{cases_lt}
+use Rattle.std.proofs.lemmas.List.Kept.{AllPairs-from_increasing}
+
+-- what holds of an `Ok` holds of the value that `map_err` passed on
+pub from_map_err : {T E F : Type 0} (P : T → Type 0) (r : Result T E) (v : Result T F) (x : T) (Q : E → F → Type 0) → v ≡ Ok x → MatchResult r (λ y. v ≡ Ok y) (λ e. IsErrAnd v (Q e)) → IfOk r P → P x
+from_map_err P (Ok y) v x Q is passed h = let same : y ≡ x = cc in subst P same h
+from_map_err P (Err d) v x Q is passed h = absurd (subst (λ w. IsErrAnd w (Q d)) is passed)
+
+-- a later place of a rising list has no lower name
+pub never_falls : (xs : List ℕ) → IsStrictlyIncreasing xs → (i j : ℕ) → i ≤ j → j < length xs → get_or xs i 0 ≤ get_or xs j 0
+never_falls xs up i j le inside =
+    ⊎_elim
+    (λ (lt : i < j). let below = AllPairs-from_increasing xs up i j 0 lt inside in omega arith)
+    (λ (ge : j ≤ i). let e : i ≡ j = omega arith in omega (arith, ap (λ k. get_or xs k 0) e))
+    (cases_lt i j)

@@ -1,0 +1,207 @@
+-- What one edge more or less does to a store's rows and to its network.
+use Rattle.std.proofs.Common.{◌≡◌, ◌≢◌, ℕ, ◌+◌, ◌-◌, ◌<◌, ◌≤◌, min, max, Bool, true, false, not, cond, ◌&&◌, ◌||◌, List, [], length, eqb, ltb, set, sym, refl, ap, subst, ◌∙◌, arith, ⊎_elim, inl, inr, ◌⊎◌}
+use Rattle.std.specs.List.{insert, remove}
+use Rattle.std.specs.List.Sorted.{IsStrictlyIncreasing}
+use Rattle.std.specs.FinMap as map
+use Rattle.std.proofs.lemmas.Bool.{ne_eqb, eqb-true, and_left, and_parts, or_from, or_cases, cases_eq, cases_lt, cases_Bool, ltb-true, ltb-false}
+use Rattle.std.proofs.lemmas.Bool.Decides.{nat_tests}
+use Rattle.std.proofs.lemmas.List.{get_or-set_same, get_or-set_other, length-set}
+use Rattle.rule_machine.specs.Network.{Network, PairSet, edge, linked, with_edge, without_edge}
+use Rattle.graph_store.specs.Rows.{has, row_at, edges_of, network_of, IsRows, IsStore, IsPlaceOf, IsGapFor}
+use Rattle.graph_store.proofs.PairOrder.{same_pair, has-insert as has_pair-insert, has-remove as has_pair-remove, count-insert, count-remove, same_pairs}
+use Rattle.graph_store.proofs.Pairs.{and-false, has-edges_of}
+use Rattle.graph_store.proofs.Rising.{absent_at_gap, there_at_place, has-insert, has-remove, rising-insert, rising-remove}
+use Rattle.graph_store.proofs.Store.{linked_row}
+
+-- whether x and y are a and b, either way round
+abbrev joins : ℕ → ℕ → ℕ → ℕ → Bool
+joins a b x y = (eqb x a && eqb y b) || (eqb x b && eqb y a)
+
+-- a row in which one name is now there or not, and the others are as they were
+record RowSwitched (row row' : List ℕ) (w : ℕ) (on : Bool) : Type 0 where
+  held : (y : ℕ) → has row' y ≡ cond (eqb y w) on (has row y)
+  rising : IsStrictlyIncreasing row'
+
+-- rows in which one edge is now there or not, and the others are as they were
+record Switched (a b : ℕ) (on : Bool) (rows rows' : List (List ℕ)) : Type 0 where
+  places : length rows' ≡ length rows
+  held : (x y : ℕ) → has (row_at rows' x) y ≡ cond (joins a b x y) on (has (row_at rows x) y)
+  rising : (x : ℕ) → IsStrictlyIncreasing (row_at rows' x)
+
+or_cond : (b h : Bool) → (b || h) ≡ cond b true h
+or_cond true h = refl
+or_cond false h = refl
+
+and_cond : (b h : Bool) → (not b && h) ≡ cond b false h
+and_cond true h = refl
+and_cond false h = refl
+
+row_on : (row : List ℕ) (w i : ℕ) → IsStrictlyIncreasing row → IsGapFor row w i → RowSwitched row (insert row i w) w true
+row_on row w i up gap = record {
+  held = λ y. has-insert row i w y ∙ or_cond (eqb y w) (has row y);
+  rising = rising-insert row w i up gap;
+}
+
+row_off : (row : List ℕ) (w i : ℕ) → IsStrictlyIncreasing row → IsPlaceOf row w i → RowSwitched row (remove row i) w false
+row_off row w i up place = record {
+  held = λ y. has-remove row i w y up place ∙ and_cond (eqb y w) (has row y);
+  rising = rising-remove row i up place.0;
+}
+
+-- at a row that is neither end's, and at each end's
+joins_neither : (a b x y : ℕ) → x ≢ a → x ≢ b → joins a b x y ≡ false
+joins_neither a b x y not_a not_b =
+    or_from _ _ (and_left (eqb x a) (eqb y b) (ne_eqb x a not_a)) (and_left (eqb x b) (eqb y a) (ne_eqb x b not_b))
+
+joins_first : (a b x y : ℕ) → a ≢ b → x ≡ a → joins a b x y ≡ eqb y b
+joins_first a b x y apart e = grind (arith, nat_tests)
+
+joins_second : (a b x y : ℕ) → a ≢ b → x ≡ b → joins a b x y ≡ eqb y a
+joins_second a b x y apart e = grind (arith, nat_tests)
+
+-- both ends' rows switched
+both_rows : (a b : ℕ) (on : Bool) (rows : List (List ℕ)) (ra rb : List ℕ) → a ≢ b → a < length rows → b < length rows → ((x : ℕ) → IsStrictlyIncreasing (row_at rows x)) → RowSwitched (row_at rows a) ra b on → RowSwitched (row_at rows b) rb a on → Switched a b on rows (set (set rows a ra) b rb)
+both_rows a b on rows ra rb apart fits_a fits_b up first second =
+    let len : length (set rows a ra) ≡ length rows = length-set rows a ra in
+    let at_b : row_at (set (set rows a ra) b rb) b ≡ rb = get_or-set_same (set rows a ra) b rb [] (omega arith) in
+    let at_a : row_at (set (set rows a ra) b rb) a ≡ ra = get_or-set_other (set rows a ra) b a rb [] apart ∙ get_or-set_same rows a ra [] fits_a in
+    let others : (x : ℕ) → x ≢ a → x ≢ b → row_at (set (set rows a ra) b rb) x ≡ row_at rows x = λ x not_a not_b. get_or-set_other (set rows a ra) b x rb [] not_b ∙ get_or-set_other rows a x ra [] not_a in
+    record {
+      places = length-set (set rows a ra) b rb ∙ len;
+      held = λ x y. ⊎_elim
+          (λ (e : x ≡ a).
+          ap (λ z. has (row_at (set (set rows a ra) b rb) z) y) e ∙ ap (λ row. has row y) at_a ∙ first.held y
+          ∙ (λ i. cond (sym (joins_first a b x y apart e) i) on (has (row_at rows (sym e i)) y)))
+          (λ (not_a : x ≢ a). ⊎_elim
+          (λ (e : x ≡ b).
+          ap (λ z. has (row_at (set (set rows a ra) b rb) z) y) e ∙ ap (λ row. has row y) at_b ∙ second.held y
+          ∙ (λ i. cond (sym (joins_second a b x y apart e) i) on (has (row_at rows (sym e i)) y)))
+          (λ (not_b : x ≢ b).
+          ap (λ row. has row y) (others x not_a not_b) ∙ sym (ap (λ t. cond t on (has (row_at rows x) y)) (joins_neither a b x y not_a not_b)))
+          (cases_eq x b))
+          (cases_eq x a);
+      rising = λ x. ⊎_elim
+          (λ (e : x ≡ a). subst IsStrictlyIncreasing (sym (ap (row_at (set (set rows a ra) b rb)) e ∙ at_a)) first.rising)
+          (λ (not_a : x ≢ a). ⊎_elim
+          (λ (e : x ≡ b). subst IsStrictlyIncreasing (sym (ap (row_at (set (set rows a ra) b rb)) e ∙ at_b)) second.rising)
+          (λ (not_b : x ≢ b). subst IsStrictlyIncreasing (sym (others x not_a not_b)) (up x))
+          (cases_eq x b))
+          (cases_eq x a);
+    }
+
+joins_back : (a b x y : ℕ) → joins a b x y ≡ joins a b y x
+joins_back a b x y = grind (arith, nat_tests)
+
+joins_apart : (a b x : ℕ) → a ≢ b → joins a b x x ≡ false
+joins_apart a b x apart = grind (arith, nat_tests)
+
+joins_end : (a b x y : ℕ) → joins a b x y ≡ true → (y ≡ a) ⊎ (y ≡ b)
+joins_end a b x y h =
+    ⊎_elim
+    (λ first. inr (eqb-true y b (and_parts (eqb x a) (eqb y b) first).1))
+    (λ second. inl (eqb-true y a (and_parts (eqb x b) (eqb y a) second).1))
+    (or_cases (eqb x a && eqb y b) (eqb x b && eqb y a) h)
+
+-- switched rows are rows
+switched_rows : (size a b : ℕ) (on : Bool) (rows rows' : List (List ℕ)) → IsRows size rows → a ≢ b → (1 ≤ a) × (a ≤ size) → (1 ≤ b) × (b ≤ size) → Switched a b on rows rows' → IsRows size rows'
+switched_rows size a b on rows rows' good apart in_a in_b new = record {
+  places = new.places ∙ good.places;
+  within = λ v w h. ⊎_elim
+      (λ (j : joins a b v w ≡ true). ⊎_elim
+      (λ (e : w ≡ a). (omega (arith, e, in_a.0), omega (arith, e, in_a.1)))
+      (λ (e : w ≡ b). (omega (arith, e, in_b.0), omega (arith, e, in_b.1)))
+      (joins_end a b v w j))
+      (λ (j : joins a b v w ≡ false). good.within v w (sym (new.held v w ∙ ap (λ t. cond t on (has (row_at rows v) w)) j) ∙ h))
+      (cases_Bool (joins a b v w));
+  mutual_in = λ v w. new.held v w ∙ (λ i. cond (joins_back a b v w i) on (good.mutual_in v w i)) ∙ sym (new.held w v);
+  apart = λ v. new.held v v ∙ ap (λ t. cond t on (has (row_at rows v) v)) (joins_apart a b v apart) ∙ good.apart v;
+  rising = new.rising;
+}
+
+first_way : (a b x y : ℕ) → x < y → a < b → joins a b x y ≡ same_pair (x, y) (a, b)
+first_way a b x y lt below = grind (arith, nat_tests)
+
+second_way : (a b x y : ℕ) → x < y → b < a → joins a b x y ≡ same_pair (x, y) (b, a)
+second_way a b x y lt below = grind (arith, nat_tests)
+
+never_falls : (x y low high : ℕ) → y ≤ x → low < high → same_pair (x, y) (low, high) ≡ false
+never_falls x y low high ge up = grind (arith, nat_tests)
+
+-- the pair of an edge, where its lower end is first
+joins_pair : (a b x y : ℕ) → a ≢ b → ltb x y ≡ true → joins a b x y ≡ same_pair (x, y) (edge a b)
+joins_pair a b x y apart lt =
+    ⊎_elim
+    (λ (below : a < b).
+    let low : a ≡ min a b = omega arith in
+    let high : b ≡ max a b = omega arith in
+    first_way a b x y (ltb-true x y lt) below ∙ (λ i. same_pair (x, y) (low i, high i)))
+    (λ (above : b ≤ a).
+    let low : b ≡ min a b = omega arith in
+    let high : a ≡ max a b = omega arith in
+    second_way a b x y (ltb-true x y lt) (omega arith) ∙ (λ i. same_pair (x, y) (low i, high i)))
+    (cases_lt a b)
+
+-- and no pair whose lower end is second
+no_pair : (a b x y : ℕ) → ltb x y ≡ false → a ≢ b → same_pair (x, y) (edge a b) ≡ false
+no_pair a b x y ge apart = never_falls x y (min a b) (max a b) (ltb-false x y ge) (omega arith)
+
+on_pair : (t s j h : Bool) → (t ≡ true → j ≡ s) → (t ≡ false → s ≡ false) → (t && cond j true h) ≡ (s || (t && h))
+on_pair true s j h same none = ap (λ b. cond b true h) (same refl) ∙ sym (or_cond s h)
+on_pair false s j h same none = sym (ap (λ b. b || false) (none refl))
+
+off_pair : (t s j h : Bool) → (t ≡ true → j ≡ s) → (t ≡ false → s ≡ false) → (t && cond j false h) ≡ (not s && (t && h))
+off_pair true s j h same none = ap (λ b. cond b false h) (same refl) ∙ sym (and_cond s h)
+off_pair false s j h same none = sym (and-false (not s))
+
+-- with the switch on, the pairs have one more
+edges_on : (a b : ℕ) (rows rows' : List (List ℕ)) → a ≢ b → Switched a b true rows rows' → edges_of rows' ≡ map.insert (edges_of rows) (edge a b) tt
+edges_on a b rows rows' apart new =
+    same_pairs _ _ (λ x y.
+    has-edges_of rows' x y
+    ∙ ap (λ t. ltb x y && t) (new.held x y)
+    ∙ on_pair (ltb x y) (same_pair (x, y) (edge a b)) (joins a b x y) (has (row_at rows x) y) (joins_pair a b x y apart) (λ ge. no_pair a b x y ge apart)
+    ∙ sym (has_pair-insert (edges_of rows) (edge a b) (x, y) ∙ ap (λ t. same_pair (x, y) (edge a b) || t) (has-edges_of rows x y)))
+
+-- with the switch off, one less
+edges_off : (a b : ℕ) (rows rows' : List (List ℕ)) → a ≢ b → Switched a b false rows rows' → edges_of rows' ≡ map.remove (edges_of rows) (edge a b)
+edges_off a b rows rows' apart new =
+    same_pairs _ _ (λ x y.
+    has-edges_of rows' x y
+    ∙ ap (λ t. ltb x y && t) (new.held x y)
+    ∙ off_pair (ltb x y) (same_pair (x, y) (edge a b)) (joins a b x y) (has (row_at rows x) y) (joins_pair a b x y apart) (λ ge. no_pair a b x y ge apart)
+    ∙ sym (has_pair-remove (edges_of rows) (edge a b) (x, y) ∙ ap (λ t. not (same_pair (x, y) (edge a b)) && t) (has-edges_of rows x y)))
+
+-- a store with an edge put in at its two gaps is the store of the network with that edge
+pub link_rows : (size edges a b i j : ℕ) (rows rows' : List (List ℕ)) → IsStore size edges rows → a ≢ b → (1 ≤ a) × (a ≤ size) → (1 ≤ b) × (b ≤ size) → IsGapFor (row_at rows a) b i → IsGapFor (row_at rows b) a j → edges < 1048576 → rows' ≡ set (set rows a (insert (row_at rows a) i b)) b (insert (row_at rows b) j a) → IsStore size (edges + 1) rows' × (network_of size rows' ≡ with_edge (network_of size rows) a b)
+link_rows size edges a b i j rows rows' store apart in_a in_b gap_a gap_b few is =
+    let good = store.is_rows in
+    let places : length rows ≡ size + 1 = good.places in
+    let new : Switched a b true rows rows' = subst (λ r. Switched a b true rows r) (sym is) (both_rows a b true rows _ _ apart (let le = in_a.1 in omega arith) (let le = in_b.1 in omega arith) good.rising (row_on _ b i (good.rising a) gap_a) (row_on _ a j (good.rising b) gap_b)) in
+    let more = edges_on a b rows rows' apart new in
+    let absent : linked (network_of size rows) a b ≡ false = linked_row size rows a b good ∙ absent_at_gap (row_at rows a) b i gap_a in (
+      record {
+        is_rows = switched_rows size a b true rows rows' good apart in_a in_b new;
+        few_nodes = store.few_nodes;
+        counted = ap map.len more ∙ count-insert (edges_of rows) (edge a b) absent ∙ ap (λ n. n + 1) store.counted;
+        few_edges = omega arith;
+      },
+      ap (λ (s : PairSet). let net : Network = record { size = size; edges = s } in net) more,
+    )
+
+-- a store with an edge taken out at its two places is the store of the network without that edge
+pub unlink_rows : (size edges a b i j : ℕ) (rows rows' : List (List ℕ)) → IsStore size edges rows → a ≢ b → (1 ≤ a) × (a ≤ size) → (1 ≤ b) × (b ≤ size) → IsPlaceOf (row_at rows a) b i → IsPlaceOf (row_at rows b) a j → rows' ≡ set (set rows a (remove (row_at rows a) i)) b (remove (row_at rows b) j) → IsStore size (edges - 1) rows' × (network_of size rows' ≡ without_edge (network_of size rows) a b)
+unlink_rows size edges a b i j rows rows' store apart in_a in_b place_a place_b is =
+    let good = store.is_rows in
+    let places : length rows ≡ size + 1 = good.places in
+    let new : Switched a b false rows rows' = subst (λ r. Switched a b false rows r) (sym is) (both_rows a b false rows _ _ apart (let le = in_a.1 in omega arith) (let le = in_b.1 in omega arith) good.rising (row_off _ b i (good.rising a) place_a) (row_off _ a j (good.rising b) place_b)) in
+    let less = edges_off a b rows rows' apart new in
+    let there : linked (network_of size rows) a b ≡ true = linked_row size rows a b good ∙ there_at_place (row_at rows a) b i place_a in
+    let few = store.few_edges in (
+      record {
+        is_rows = switched_rows size a b false rows rows' good apart in_a in_b new;
+        few_nodes = store.few_nodes;
+        counted = ap map.len less ∙ count-remove (edges_of rows) (edge a b) there ∙ ap (λ n. n - 1) store.counted;
+        few_edges = omega arith;
+      },
+      ap (λ (s : PairSet). let net : Network = record { size = size; edges = s } in net) less,
+    )

@@ -1,0 +1,62 @@
+-- Neighbour lists as a network: the row of a name stands at its place, and place 0 is nobody's.
+use Rattle.std.specs.Prelude.{◌≡◌, ℕ, ◌+◌, ◌<◌, ◌≤◌, Bool, true, false, List, [], ◌∷◌, ◌++◌, map, filter, length, nat_eq, nat_lt, slice_index, slice_index_or}
+use Rattle.std.specs.List.{list_any}
+use Rattle.std.specs.List.Sorted.{IsStrictlyIncreasing}
+use Rattle.std.specs.Vec.{vec_len, vec_capacity}
+use Rattle.std.specs.declared.vec.Vec.{Vec}
+use Rattle.std.specs.declared.alloc.Global.{Global}
+use Rattle.rule_machine.specs.Network.{Network, PairSet, pair_set, edge_count}
+
+-- the neighbour lists, whatever their capacities
+abbrev pub contents : List (Vec ℕ Global) → List (List ℕ)
+contents rows = map (λ row. row.items) rows
+
+-- the neighbour list of a name
+abbrev pub row_at : List (List ℕ) → ℕ → List ℕ
+row_at rows v = slice_index_or rows v []
+
+-- whether a name is in a row
+abbrev pub has : List ℕ → ℕ → Bool
+has row w = list_any (nat_eq w) row
+
+-- the pairs of the rows from v on, each at its lower end
+abbrev pub pairs_from : ℕ → List (List ℕ) → List (ℕ × ℕ)
+pairs_from v [] = []
+pairs_from v (row ∷ rows) = map (λ w. (v, w)) (filter (nat_lt v) row) ++ pairs_from (v + 1) rows
+
+-- the pairs of all rows
+unfoldable pub edges_of : List (List ℕ) → PairSet
+edges_of rows = pair_set (pairs_from 0 rows)
+
+-- the network of these many names whose edges are the pairs of the rows
+abbrev pub network_of : ℕ → List (List ℕ) → Network
+network_of size rows = record { size = size; edges = edges_of rows }
+
+-- Each row rises and names other nodes of the network only, and two names are in each other's rows or in neither's.
+pub record IsRows (size : ℕ) (rows : List (List ℕ)) : Type 0 where
+  pub places : length rows ≡ size + 1
+  pub within : (v w : ℕ) → has (row_at rows v) w ≡ true → (1 ≤ w) × (w ≤ size)
+  pub mutual_in : (v w : ℕ) → has (row_at rows v) w ≡ has (row_at rows w) v
+  pub apart : (v : ℕ) → has (row_at rows v) v ≡ false
+  pub rising : (v : ℕ) → IsStrictlyIncreasing (row_at rows v)
+
+-- the rows of a store that counts this many edges
+pub record IsStore (size edges : ℕ) (rows : List (List ℕ)) : Type 0 where
+  pub is_rows : IsRows size rows
+  pub few_nodes : size ≤ 65535
+  pub counted : edge_count (network_of size rows) ≡ edges
+  pub few_edges : edges ≤ 1048576
+
+-- w stands in the row at place i
+abbrev pub IsPlaceOf : List ℕ → ℕ → ℕ → Type 0
+IsPlaceOf row w i = (i < length row) × (slice_index row i ≡ w)
+
+-- w belongs into the row at place i: what stands before is lower, and what stands from there on is higher
+pub record IsGapFor (row : List ℕ) (w i : ℕ) : Type 0 where
+  pub inside : i ≤ length row
+  pub below : (k : ℕ) → k < i → slice_index row k < w
+  pub above : (k : ℕ) → i ≤ k → k < length row → w < slice_index row k
+
+-- the row at place v has room for one more name
+abbrev pub HasRoom : List (Vec ℕ Global) → ℕ → Type 0
+HasRoom rows v = (d : Vec ℕ Global) → vec_len (slice_index_or rows v d) < vec_capacity (slice_index_or rows v d)

@@ -1,0 +1,163 @@
+//! The edges of a network.
+
+ghost use Rattle.std.specs.Prelude.{◌≡◌, ◌≤◌, IfOk, IfErr, OnOk, OnErr, IsTrue, All, None, Some};
+ghost use Rattle.rule_machine.specs.Network.{edgeless, node_count, edge_count, present, linked, neighbours, with_edge, without_edge};
+ghost use Rattle.graph_store.specs.Fault.{nodes_fault, ends_fault, link_fault, unlink_fault, Explains};
+
+use crate::GraphFault;
+use crate::rows::{empty_rows, find_place, put_both, take_both};
+use rule_machine::Node;
+use std::alloc::Global;
+use std::marker::Model;
+
+/// The most nodes that a graph has.
+pub const MAX_NODES: u32 = 65_535;
+
+/// The most edges that a graph has.
+pub const MAX_EDGES: u32 = 1_048_576;
+
+/// The nodes 1 to n and the edges between them, seen in contracts as the network of the two: each node has the sorted
+/// list of its neighbours, two bytes a neighbour.
+#[derive(Debug, Drop)]
+pub struct EdgeStore {
+    rows: Vec<Vec<Node>>,
+    nodes: u32,
+    edges: u32,
+}
+
+impl Model for EdgeStore {
+    ghost use Rattle.rule_machine.specs.Network.{Network, network_code};
+    ghost use Rattle.graph_store.specs.Rows.{contents, network_of, IsStore};
+
+    ghost Value = { Network };
+
+    ghost coded = { network_code };
+
+    ghost view = { λ s. network_of s.nodes (contents s.rows.items) };
+
+    ghost invariant = { λ s. IsStore s.nodes s.edges (contents s.rows.items) };
+}
+
+impl EdgeStore {
+    /// The graph of the nodes 1 to `nodes` with no edge; takes memory for one empty list a node.
+    /// `TooManyNodes` above 65,535, and `Memory` if memory runs out.
+    pub fn new(alloc: Global, nodes: u32) -> Result<EdgeStore, GraphFault>
+        ensures ok { IfOk result (λ store. store ≡ edgeless nodes) }
+        ensures small { OnOk result (nodes ≤ 65535) }
+        ensures fault { IfErr result (λ fault. Explains (nodes_fault nodes) fault) }
+    {
+        if nodes > MAX_NODES {
+            return Err(GraphFault::TooManyNodes);
+        }
+        let rows = empty_rows(alloc, nodes as usize + 1).map_err(|_| GraphFault::Memory)?;
+        Ok(EdgeStore {
+            rows,
+            nodes,
+            edges: 0,
+        })
+    }
+
+    /// How many nodes there are, at most 65,535.
+    pub fn nodes(&self) -> u32
+        ensures count { result ≡ node_count self.now }
+        ensures few { result ≤ 65535 }
+    {
+        self.nodes
+    }
+
+    /// Whether this is a node of the graph.
+    pub fn has(&self, node: Node) -> bool
+        ensures { result ≡ present self.now node }
+    {
+        node.name() <= self.nodes
+    }
+
+    /// How many edges there are, at most 1,048,576.
+    pub fn edges(&self) -> u32
+        ensures count { result ≡ edge_count self.now }
+        ensures few { result ≤ 1048576 }
+    {
+        self.edges
+    }
+
+    /// Whether there is an edge between two names; `false` where one of them is no node of the graph. A look-up by
+    /// halves among the neighbours of `a`.
+    pub fn linked(&self, a: Node, b: Node) -> bool
+        ensures value { result ≡ linked self.now a b }
+        ensures present { IsTrue result → IsTrue (present self.now a) × IsTrue (present self.now b) }
+    {
+        match self.rows.get(a.place()) {
+            Some(row) => find_place(row, b).is_ok(),
+            None => false,
+        }
+    }
+
+    /// The neighbours of a node, by rising names.
+    pub fn neighbours(&self, node: Node) -> &[Node]
+        requires { IsTrue (present self.now node) }
+        ensures all { result.now ≡ neighbours self.now node }
+        ensures present { All (λ w. IsTrue (present self.now w)) result.now }
+        ensures linked { All (λ w. IsTrue (linked self.now node w)) result.now }
+    {
+        &self.rows[node.place()]
+    }
+
+    // Whether an edge may join the two, which have to be nodes of the graph, and different.
+    fn check_ends(&self, a: Node, b: Node) -> Result<(), GraphFault>
+        ensures ok { OnOk result (ends_fault self.now a b ≡ None) }
+        ensures fault { IfErr result (λ fault. ends_fault self.now a b ≡ Some fault) }
+    {
+        if !self.has(a) || !self.has(b) {
+            return Err(GraphFault::UnknownNode);
+        }
+        if a == b {
+            return Err(GraphFault::SelfLoop);
+        }
+        Ok(())
+    }
+
+    /// Puts in the edge between two nodes: by a look-up by halves and a shift in the rows of the two.
+    /// `UnknownNode` where an end is no node of the graph, then `SelfLoop`, then `AlreadyLinked`, then `TooManyEdges`
+    /// at 1,048,576 edges, and `Memory` if memory runs out. No fault changes anything.
+    pub fn link(&mut self, a: Node, b: Node) -> Result<(), GraphFault>
+        ensures ok { OnOk result ((link_fault self.old a b ≡ None) × (self.new ≡ with_edge self.old a b)) }
+        ensures fault { IfErr result (λ fault. Explains (link_fault self.old a b) fault) }
+        ensures unchanged { OnErr result (self.new ≡ self.old) }
+    {
+        self.check_ends(a, b)?;
+        let Err(place_in_a) = find_place(&self.rows[a.place()], b) else {
+            return Err(GraphFault::AlreadyLinked);
+        };
+        let Err(place_in_b) = find_place(&self.rows[b.place()], a) else {
+            return Err(GraphFault::AlreadyLinked);
+        };
+        if self.edges >= MAX_EDGES {
+            return Err(GraphFault::TooManyEdges);
+        }
+        put_both(&mut self.rows, a, place_in_a, b, place_in_b).map_err(|_| GraphFault::Memory)?;
+        self.edges += 1;
+        Ok(())
+    }
+
+    /// Takes out the edge between two nodes, as `link` puts it in; takes no memory.
+    /// `UnknownNode` where an end is no node of the graph, then `SelfLoop`, then `NotLinked`. No fault changes anything.
+    pub fn unlink(&mut self, a: Node, b: Node) -> Result<(), GraphFault>
+        ensures ok { OnOk result ((unlink_fault self.old a b ≡ None) × (self.new ≡ without_edge self.old a b)) }
+        ensures fault { IfErr result (λ fault. unlink_fault self.old a b ≡ Some fault) }
+        ensures unchanged { OnErr result (self.new ≡ self.old) }
+    {
+        self.check_ends(a, b)?;
+        let Ok(place_in_a) = find_place(&self.rows[a.place()], b) else {
+            return Err(GraphFault::NotLinked);
+        };
+        let Ok(place_in_b) = find_place(&self.rows[b.place()], a) else {
+            return Err(GraphFault::NotLinked);
+        };
+        take_both(&mut self.rows, a, place_in_a, b, place_in_b);
+        self.edges -= 1;
+        Ok(())
+    }
+}
+
+#[cfg(test)]
+mod tests;

@@ -1,0 +1,94 @@
+//! Neighbour lists, which rise.
+
+ghost use Rattle.std.specs.Prelude.{◌≡◌, ◌≢◌, ℕ, ◌+◌, ◌<◌, ◌≤◌, [], length, replicate, slice_set, IfOk, OnOk, OnErr, MatchResult, true, false};
+ghost use Rattle.std.specs.List.{insert, remove};
+ghost use Rattle.std.specs.List.Sorted.{IsStrictlyIncreasing};
+ghost use Rattle.graph_store.specs.Rows.{contents, row_at, has, IsPlaceOf, IsGapFor, HasRoom};
+
+use rule_machine::{Node, Want};
+use std::alloc::Global;
+
+/// As many empty rows as `count` says.
+pub fn empty_rows(alloc: Global, count: usize) -> Result<Vec<Vec<Node>>, Want>
+    ensures { IfOk result (λ rows. contents rows.items ≡ replicate count []) }
+{
+    let mut rows = Vec::with_capacity(alloc, count)?;
+    for _ in 0..count {
+        rows.push(Vec::new(alloc))?;
+    }
+    Ok(rows)
+}
+
+/// The place of a name in a row, or the one where it belongs; a look-up by halves.
+pub fn find_place(row: &[Node], name: Node) -> Result<usize, usize>
+    requires { IsStrictlyIncreasing row.now }
+    ensures { MatchResult result (IsPlaceOf row.now name) (IsGapFor row.now name) }
+{
+    row.binary_search(&name)
+}
+
+/// Makes room for one more name in a node's row, and changes no names.
+fn make_room(rows: &mut [Vec<Node>], node: Node) -> Result<(), Want>
+    requires { node < length rows.old }
+    ensures names { contents rows.new ≡ contents rows.old }
+    ensures room { OnOk result (HasRoom rows.new node) }
+    ensures others { (v : ℕ) → HasRoom rows.old v → HasRoom rows.new v }
+{
+    rows[node.place()].reserve(1)
+}
+
+/// Puts a name into a node's row, where there is room for it.
+fn put_in(rows: &mut [Vec<Node>], node: Node, place: usize, name: Node)
+    requires known { node < length rows.old }
+    requires inside { place ≤ length (row_at (contents rows.old) node) }
+    requires room { HasRoom rows.old node }
+    ensures names { contents rows.new ≡ slice_set (contents rows.old) node (insert (row_at (contents rows.old) node) place name) }
+    ensures others { (v : ℕ) → v ≢ node → HasRoom rows.old v → HasRoom rows.new v }
+{
+    let _full = rows[node.place()].insert(place, name);
+}
+
+/// Puts two nodes into each other's rows, at these places; changes no names if memory runs out.
+pub fn put_both(
+    rows: &mut [Vec<Node>],
+    a: Node,
+    place_in_a: usize,
+    b: Node,
+    place_in_b: usize,
+) -> Result<(), Want>
+    requires apart { a ≢ b }
+    requires a_known { a < length rows.old }
+    requires b_known { b < length rows.old }
+    requires inside_a { place_in_a ≤ length (row_at (contents rows.old) a) }
+    requires inside_b { place_in_b ≤ length (row_at (contents rows.old) b) }
+    ensures put { OnOk result (contents rows.new ≡ slice_set (slice_set (contents rows.old) a (insert (row_at (contents rows.old) a) place_in_a b)) b (insert (row_at (contents rows.old) b) place_in_b a)) }
+    ensures refused { OnErr result (contents rows.new ≡ contents rows.old) }
+{
+    make_room(rows, a)?;
+    make_room(rows, b)?;
+    put_in(rows, a, place_in_a, b);
+    put_in(rows, b, place_in_b, a);
+    Ok(())
+}
+
+/// Takes the name at a place out of a node's row.
+fn take_out(rows: &mut [Vec<Node>], node: Node, place: usize)
+    requires known { node < length rows.old }
+    requires inside { place < length (row_at (contents rows.old) node) }
+    ensures { contents rows.new ≡ slice_set (contents rows.old) node (remove (row_at (contents rows.old) node) place) }
+{
+    let _name = rows[node.place()].remove(place);
+}
+
+/// Takes two nodes out of each other's rows, at these places.
+pub fn take_both(rows: &mut [Vec<Node>], a: Node, place_in_a: usize, b: Node, place_in_b: usize)
+    requires apart { a ≢ b }
+    requires a_known { a < length rows.old }
+    requires b_known { b < length rows.old }
+    requires inside_a { place_in_a < length (row_at (contents rows.old) a) }
+    requires inside_b { place_in_b < length (row_at (contents rows.old) b) }
+    ensures { contents rows.new ≡ slice_set (slice_set (contents rows.old) a (remove (row_at (contents rows.old) a) place_in_a)) b (remove (row_at (contents rows.old) b) place_in_b) }
+{
+    take_out(rows, a, place_in_a);
+    take_out(rows, b, place_in_b);
+}

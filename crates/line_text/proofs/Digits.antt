@@ -1,0 +1,83 @@
+-- Digits at the front of a text, and the names that they say.
+use Rattle.std.proofs.Common.{◌≡◌, ℕ, ◌<◌, ◌≤◌, List, [], ◌∷◌, ◌++◌, length, get_or, take, drop, refl, sym, ap, subst, ◌∙◌, append_assoc, arith}
+use Rattle.std.specs.Prelude.{slice_index}
+use Rattle.std.specs.Int.{IsInRange}
+use Rattle.std.specs.Str.Parse.{AllDigits, digits_value}
+use Rattle.std.proofs.lemmas.List.{append-nil, take-append-drop, length-take-le, get_or-take}
+use Rattle.std.proofs.lemmas.Str.Parse.{IsNumeralModel, numerals_by_value, tells_digits, digit_from_value}
+use Rattle.std.proofs.lemmas.Fmt.{digits_decimal, digits_value-decimal, decimal-digits_value, decimal_injective, decimal_nonempty, length-decimal-le, first_decimal}
+use Rattle.line_text.specs.Words.{number_text, IsName}
+use Rattle.line_text.specs.Reading.{NoDigit, NameThen, WordThen}
+
+-- std's words for digits and for their number
+pub own : IsNumeralModel (AllDigits 10) (digits_value 10)
+own = numerals_by_value (AllDigits 10) tells_digits
+
+-- equal lists have equal parts
+cons_parts : (c d : ℕ) (xs ys : List ℕ) → c ∷ xs ≡ d ∷ ys → (c ≡ d) × (xs ≡ ys)
+cons_parts c d xs ys e = (cc, cc)
+
+-- a run of digits that no digit follows is one run
+pub run_once : (ds es x y : List ℕ) → AllDigits 10 ds → AllDigits 10 es → NoDigit x → NoDigit y → ds ++ x ≡ es ++ y → (ds ≡ es) × (x ≡ y)
+run_once [] [] x y a b p q e = (refl, e)
+run_once [] (c ∷ es) x y a b p q e = absurd (p (subst (λ (z : List ℕ). IsInRange 48 57 (slice_index z 0)) (sym e) (digit_from_value c b.0)))
+run_once (c ∷ ds) [] x y a b p q e = absurd (q (subst (λ (z : List ℕ). IsInRange 48 57 (slice_index z 0)) e (digit_from_value c a.0)))
+run_once (c ∷ ds) (d ∷ es) x y a b p q e =
+    let h = cons_parts c d (ds ++ x) (es ++ y) e in
+    let t = run_once ds es x y a.1 b.1 p q h.1 in
+    (cc, t.1)
+
+-- a name is digits
+pub name_digits : (n : ℕ) → IsName n → AllDigits 10 (number_text n)
+name_digits n h = digits_decimal own n (omega arith)
+
+-- a name that no digit follows is one name
+pub name_once : (bytes : List ℕ) (m n : ℕ) (x y : List ℕ) → NameThen bytes m x → NameThen bytes n y → (m ≡ n) × (x ≡ y)
+name_once bytes m n x y a b =
+    let f = a.fits in
+    let g = b.fits in
+    let r = run_once (number_text m) (number_text n) x y (name_digits m f) (name_digits n g) a.ends b.ends (sym a.is ∙ b.is) in
+    (decimal_injective m n (omega arith) (omega arith) r.0, r.1)
+
+-- the digits of the name at the front are the longest run of digits there
+pub name_is_run : (bytes : List ℕ) (len n : ℕ) (rest : List ℕ) → AllDigits 10 (take len bytes) → NoDigit (drop len bytes) → NameThen bytes n rest → (take len bytes ≡ number_text n) × (drop len bytes ≡ rest)
+name_is_run bytes len n rest d e h =
+    run_once (take len bytes) (number_text n) (drop len bytes) rest d (name_digits n h.fits) e h.ends (take-append-drop len bytes ∙ h.is)
+
+-- what a name says of the run of digits at the front
+pub name_facts : (bytes : List ℕ) (len n : ℕ) (rest : List ℕ) → len ≤ length bytes → AllDigits 10 (take len bytes) → NoDigit (drop len bytes) → NameThen bytes n rest → (0 < len) × (len ≤ 5) × (48 < get_or bytes 0 0) × (digits_value 10 (take len bytes) ≡ n)
+name_facts bytes len n rest le d e h =
+    let f = h.fits in
+    let r = name_is_run bytes len n rest d e h in
+    let k : length (take len bytes) ≡ len = length-take-le len bytes le in
+    let same : len ≡ length (number_text n) = sym k ∙ ap length r.0 in
+    let some : 0 < len = omega (arith, decimal_nonempty n (omega arith)) in
+    let first : get_or bytes 0 0 ≡ get_or (number_text n) 0 0 = sym (get_or-take len bytes 0 0 some) ∙ ap (λ (z : List ℕ). get_or z 0 0) r.0 in
+    (some, omega (arith, length-decimal-le 5 n (omega arith) (omega arith) (omega arith)), omega (arith, first_decimal n (omega arith) (omega arith)), ap (digits_value 10) r.0 ∙ digits_value-decimal own n (omega arith))
+
+-- a short run of digits that begins with no 0 is a name, if its number is one
+pub found_name : (bytes : List ℕ) (len n : ℕ) → len ≤ length bytes → 0 < len → AllDigits 10 (take len bytes) → NoDigit (drop len bytes) → (get_or bytes 0 0 ≡ 48 → ⊥) → digits_value 10 (take len bytes) ≡ n → IsName n → NameThen bytes n (drop len bytes)
+found_name bytes len n le some d e lead v f =
+    let k : length (take len bytes) ≡ len = length-take-le len bytes le in
+    let first : get_or (take len bytes) 0 0 ≡ get_or bytes 0 0 = get_or-take len bytes 0 0 some in
+    let back : number_text (digits_value 10 (take len bytes)) ≡ take len bytes = decimal-digits_value own (take len bytes) d (omega arith) (λ z. absurd (lead (sym first ∙ z))) (omega arith) in
+    let text : number_text n ≡ take len bytes = ap number_text (sym v) ∙ back in
+    record { fits = f; ends = e; is = sym (take-append-drop len bytes) ∙ ap (λ (z : List ℕ). z ++ drop len bytes) (sym text) }
+
+-- a name that nothing follows
+pub NameThen-last : (bytes : List ℕ) (n : ℕ) → IsName n → bytes ≡ number_text n → NameThen bytes n []
+NameThen-last bytes n f e = record { fits = f; ends = λ h. omega (arith, h.0); is = e ∙ sym (append-nil (number_text n)) }
+
+-- a name that a space follows
+pub NameThen-word : (bytes : List ℕ) (n : ℕ) (rest : List ℕ) → WordThen bytes n rest → NameThen bytes n (32 ∷ rest)
+NameThen-word bytes n rest h = record { fits = h.fits; ends = λ (p : IsInRange 48 57 32). omega (arith, p.0, p.1); is = h.is }
+
+-- a name and a space at the front are one
+pub word_once : (bytes : List ℕ) (m n : ℕ) (x y : List ℕ) → WordThen bytes m x → WordThen bytes n y → (m ≡ n) × (x ≡ y)
+word_once bytes m n x y a b =
+    let r = name_once bytes m n (32 ∷ x) (32 ∷ y) (NameThen-word bytes m x a) (NameThen-word bytes n y b) in
+    (r.0, (cons_parts 32 32 x y r.1).1)
+
+-- a name, a space, and a text
+pub WordThen-from : (bytes : List ℕ) (n : ℕ) (text : List ℕ) → IsName n → bytes ≡ number_text n ++ (32 ∷ []) ++ text → WordThen bytes n text
+WordThen-from bytes n text f e = record { fits = f; is = e ∙ append_assoc (number_text n) (32 ∷ []) text }

@@ -1,0 +1,134 @@
+-- Items at the front of a text.
+use Rattle.std.proofs.Common.{◌≡◌, ◌≢◌, ℕ, List, [], ◌∷◌, ◌++◌, Option, None, Some, refl, sym, ap, ◌∙◌, append_assoc, arith}
+use Rattle.std.specs.Prelude.{slice_index, IfSome}
+use Rattle.std.specs.Int.{IsInRange}
+use Rattle.std.specs.List.{AllByRecursion}
+use Rattle.std.proofs.lemmas.List.{append-nil, append_cancel_left}
+use Rattle.std.proofs.lemmas.List.Concat.{flat_map-append}
+use Rattle.rule_machine.specs.declared.choice.Item.{Item}
+use Rattle.line_text.specs.Words.{number_text, IsName, marked_text, spaced}
+use Rattle.line_text.specs.EventText.{IsItem, IsChoice, item_text}
+use Rattle.line_text.specs.Reading.{NoDigit, NameThen, ItemEnds, ItemThen}
+use Rattle.line_text.proofs.Digits.{name_once}
+
+-- nothing is no text that has a byte
+pub nil_cons : {c : ℕ} {x : List ℕ} → [] ≡ c ∷ x → ⊥
+nil_cons e = cc
+
+-- an item of its parts
+abbrev pub item_of : ℕ → Option ℕ → Item
+item_of node wish = record { node = node; wish = wish }
+
+-- a wish and the rest begin with no digit
+pub NoDigit-wish : (wish : Option ℕ) (rest : List ℕ) → ItemEnds wish rest → NoDigit (marked_text (62 ∷ []) wish ++ rest)
+NoDigit-wish None rest h = h.0
+NoDigit-wish (Some w) rest h = λ (p : IsInRange 48 57 62). omega (arith, p.0, p.1)
+
+-- the name of the item at the front, and its wish behind it
+pub item_name : (word : List ℕ) (item : Item) (rest : List ℕ) → ItemThen (32 ∷ word) item rest → NameThen word item.node (marked_text (62 ∷ []) item.wish ++ rest)
+item_name word item rest h = record {
+  fits = h.fits.0;
+  ends = NoDigit-wish item.wish rest h.ends;
+  is = append_cancel_left (32 ∷ []) word (item_text item ++ rest) h.is ∙ append_assoc (number_text item.node) (marked_text (62 ∷ []) item.wish) rest;
+}
+
+-- the wish of an item, at the front
+pub wish_name : (w : ℕ) (marked rest : List ℕ) → IsName w → NoDigit rest → 62 ∷ marked ≡ marked_text (62 ∷ []) (Some w) ++ rest → NameThen marked w rest
+wish_name w marked rest f d e = record { fits = f; ends = d; is = append_cancel_left (62 ∷ []) marked (number_text w ++ rest) e }
+
+-- no item, where no name follows the mark
+no_wish_by : (word : List ℕ) (node : ℕ) (marked : List ℕ) (n : ℕ) (wish : Option ℕ) (rest : List ℕ) → NameThen word node (62 ∷ marked) → ((w : ℕ) (end : List ℕ) → NameThen marked w end → ⊥) → IfSome wish IsName → ItemEnds wish rest → NameThen word n (marked_text (62 ∷ []) wish ++ rest) → ⊥
+no_wish_by word node marked n None rest a none f ends b =
+    let r = name_once word node n (62 ∷ marked) rest a b in
+    ends.1 (sym (ap (λ (z : List ℕ). slice_index z 0) r.1))
+no_wish_by word node marked n (Some w) rest a none f ends b =
+    let r = name_once word node n (62 ∷ marked) (marked_text (62 ∷ []) (Some w) ++ rest) a b in
+    none w rest (wish_name w marked rest f ends r.1)
+
+-- the same of a whole item
+pub no_wish_no_item : (word : List ℕ) (node : ℕ) (marked : List ℕ) (item : Item) (rest : List ℕ) → NameThen word node (62 ∷ marked) → ((w : ℕ) (end : List ℕ) → NameThen marked w end → ⊥) → ItemThen (32 ∷ word) item rest → ⊥
+no_wish_no_item word node marked item rest a none h =
+    no_wish_by word node marked item.node item.wish rest a none h.fits.1 h.ends (item_name word item rest h)
+
+-- the wish and the rest are one wish and one rest
+wish_once : (v w : Option ℕ) (x y : List ℕ) → IfSome v IsName → IfSome w IsName → ItemEnds v x → ItemEnds w y → marked_text (62 ∷ []) v ++ x ≡ marked_text (62 ∷ []) w ++ y → (v ≡ w) × (x ≡ y)
+wish_once None None x y f g a b e = (refl, e)
+wish_once None (Some w) x y f g a b e = absurd (a.1 (ap (λ (z : List ℕ). slice_index z 0) e))
+wish_once (Some v) None x y f g a b e = absurd (b.1 (sym (ap (λ (z : List ℕ). slice_index z 0) e)))
+wish_once (Some v) (Some w) x y f g a b e =
+    let first : NameThen (number_text v ++ x) v x = record { fits = f; ends = a; is = refl } in
+    let r = name_once (number_text v ++ x) v w x y first (wish_name w (number_text v ++ x) y g b e) in
+    (ap (λ (n : ℕ). Some n) r.0, r.1)
+
+-- items with the same parts are one
+item_same : (i j : Item) → i.node ≡ j.node → i.wish ≡ j.wish → i ≡ j
+item_same i j e f = ap (λ (n : ℕ). item_of n i.wish) e ∙ ap (λ (w : Option ℕ). item_of j.node w) f
+
+-- an item behind its space
+first_space : (bytes : List ℕ) (item : Item) (rest : List ℕ) → ItemThen bytes item rest → ItemThen (32 ∷ (item_text item ++ rest)) item rest
+first_space bytes item rest h = record { fits = h.fits; ends = h.ends; is = refl }
+
+-- an item at the front is one item
+pub item_once : (bytes : List ℕ) (i j : Item) (x y : List ℕ) → ItemThen bytes i x → ItemThen bytes j y → (i ≡ j) × (x ≡ y)
+item_once bytes i j x y a b =
+    let word = item_text i ++ x in
+    let second : ItemThen (32 ∷ word) j y = record { fits = b.fits; ends = b.ends; is = sym a.is ∙ b.is } in
+    let r = name_once word i.node j.node (marked_text (62 ∷ []) i.wish ++ x) (marked_text (62 ∷ []) j.wish ++ y) (item_name word i x (first_space bytes i x a)) (item_name word j y second) in
+    let s = wish_once i.wish j.wish x y a.fits.1 b.fits.1 a.ends b.ends r.1 in
+    (item_same i j r.0 s.0, s.1)
+
+-- items end where a space or nothing follows
+ItemEnds-spaced : (wish : Option ℕ) (items : List Item) → ItemEnds wish (spaced item_text items)
+ItemEnds-spaced None [] = (λ p. omega (arith, p.0, p.1), λ e. omega (arith, e))
+ItemEnds-spaced None (i ∷ is) = (λ p. omega (arith, p.0, p.1), λ e. omega (arith, e))
+ItemEnds-spaced (Some w) [] = λ p. omega (arith, p.0, p.1)
+ItemEnds-spaced (Some w) (i ∷ is) = λ p. omega (arith, p.0, p.1)
+
+-- the first of the items that a text spells
+pub first_item : (bytes : List ℕ) (item : Item) (items : List Item) → AllByRecursion IsItem (item ∷ items) → bytes ≡ spaced item_text (item ∷ items) → ItemThen bytes item (spaced item_text items)
+first_item bytes item items f e = record { fits = f.0; ends = ItemEnds-spaced item.wish items; is = e }
+
+-- Some items were read, and the rest is left: whatever items the whole text spells, they are those and the ones that
+-- the rest spells.
+pub record SoFar (bytes : List ℕ) (items : List Item) (rest : List ℕ) : Type 0 where
+  pub fits : AllByRecursion IsItem items
+  pub read : bytes ≡ spaced item_text items ++ rest
+  pub left : (all : List Item) → AllByRecursion IsItem all → bytes ≡ spaced item_text all → (more : List Item) × (all ≡ items ++ more) × AllByRecursion IsItem more × (rest ≡ spaced item_text more)
+
+-- one more item that fits
+fits_push : (items : List Item) (item : Item) → AllByRecursion IsItem items → IsItem item → AllByRecursion IsItem (items ++ item ∷ [])
+fits_push [] item f g = (g, tt)
+fits_push (i ∷ is) item f g = (f.0, fits_push is item f.1 g)
+
+-- the text of one more item
+spaced_push : (items : List Item) (item : Item) → spaced item_text (items ++ item ∷ []) ≡ spaced item_text items ++ (32 ∷ item_text item)
+spaced_push items item = flat_map-append (λ (i : Item). 32 ∷ item_text i) items (item ∷ []) ∙ ap (λ (z : List ℕ). spaced item_text items ++ z) (append-nil (32 ∷ item_text item))
+
+-- what is left behind one more item
+left_behind : (rest : List ℕ) (item : Item) (behind : List ℕ) (more : List Item) → ItemThen rest item behind → AllByRecursion IsItem more → rest ≡ spaced item_text more → (others : List Item) × (more ≡ item ∷ others) × AllByRecursion IsItem others × (behind ≡ spaced item_text others)
+left_behind rest item behind [] h f e = absurd (nil_cons (sym e ∙ h.is))
+left_behind rest item behind (i ∷ is) h f e =
+    let r = item_once rest item i behind (spaced item_text is) h (first_item rest i is f e) in
+    (is, ap (λ (j : Item). j ∷ is) (sym r.0), f.1, r.1)
+
+-- one more item was read
+pub SoFar-more : (bytes : List ℕ) (items : List Item) (rest : List ℕ) (item : Item) (behind : List ℕ) → SoFar bytes items rest → ItemThen rest item behind → SoFar bytes (items ++ item ∷ []) behind
+SoFar-more bytes items rest item behind s h = record {
+  fits = fits_push items item s.fits h.fits;
+  read = s.read ∙ ap (λ (z : List ℕ). spaced item_text items ++ z) h.is ∙ sym (append_assoc (spaced item_text items) (32 ∷ item_text item) behind) ∙ ap (λ (z : List ℕ). z ++ behind) (sym (spaced_push items item));
+  left = λ all f e.
+      let l = s.left all f e in
+      let b = left_behind rest item behind l.0 h l.2 l.3 in
+      (b.0, l.1 ∙ ap (λ (z : List Item). items ++ z) b.1 ∙ sym (append_assoc items (item ∷ []) b.0), b.2, b.3);
+}
+
+-- nothing is spelled where something is left that begins with no item
+stuck : (rest : List ℕ) (more : List Item) → rest ≢ [] → ((item : Item) (end : List ℕ) → ItemThen rest item end → ⊥) → AllByRecursion IsItem more → rest ≡ spaced item_text more → ⊥
+stuck rest [] some none f e = some e
+stuck rest (i ∷ is) some none f e = none i (spaced item_text is) (first_item rest i is f e)
+
+-- no items are spelled where the rest begins with none
+pub SoFar-stuck : (bytes : List ℕ) (items : List Item) (rest : List ℕ) → SoFar bytes items rest → rest ≢ [] → ((item : Item) (end : List ℕ) → ItemThen rest item end → ⊥) → (all : List Item) → IsChoice all → bytes ≡ spaced item_text all → ⊥
+SoFar-stuck bytes items rest s some none all f e =
+    let l = s.left all f.1 e in
+    stuck rest l.0 some none l.2 l.3

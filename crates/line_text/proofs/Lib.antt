@@ -1,0 +1,4 @@
+pub mod Growing
+pub mod Digits
+pub mod ItemsOnce
+pub mod EventsOnce

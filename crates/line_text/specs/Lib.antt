@@ -1,0 +1,7 @@
+pub mod Words
+pub mod EventText
+pub mod ReplyText
+pub mod EntryText
+pub mod Growth
+pub mod Reading
+pub mod Script

@@ -1,0 +1,41 @@
+-- What the readers of a line's parts say of the bytes that they are given.
+use Rattle.std.specs.Prelude.{◌≡◌, ◌≢◌, ℕ, List, ◌++◌, Option, None, Some, MatchOption, slice_index, codes}
+use Rattle.std.specs.Int.{IsInRange}
+use Rattle.rule_machine.specs.declared.choice.Item.{Item}
+use Rattle.line_text.specs.Words.{number_text, IsName}
+use Rattle.line_text.specs.EventText.{IsItem, item_text}
+
+-- the bytes are the text of what was found, or of nothing that might be found
+abbrev pub Reads : {X : Type 0} → (X → Type 0) → (X → List ℕ) → List ℕ → Option X → Type 0
+Reads {X} fits text bytes found = MatchOption found ((x : X) → fits x → bytes ≡ text x → ⊥) (λ x. fits x × (bytes ≡ text x))
+
+-- the same of two parts
+abbrev pub ReadsTwo : {X Y : Type 0} → (X → Y → Type 0) → (X → Y → List ℕ) → List ℕ → Option (X × Y) → Type 0
+ReadsTwo {X} {Y} fits text bytes found =
+    MatchOption found ((x : X) (y : Y) → fits x y → bytes ≡ text x y → ⊥) (λ p. fits p.0 p.1 × (bytes ≡ text p.0 p.1))
+
+-- the first byte is no digit
+abbrev pub NoDigit : List ℕ → Type 0
+NoDigit bytes = IsInRange 48 57 (slice_index bytes 0) → ⊥
+
+-- the bytes are a name and, after its last digit, the rest
+pub record NameThen (bytes : List ℕ) (name : ℕ) (rest : List ℕ) : Type 0 where
+  pub fits : IsName name
+  pub ends : NoDigit rest
+  pub is : bytes ≡ number_text name ++ rest
+
+-- the bytes are a name, a space, and the rest
+pub record WordThen (bytes : List ℕ) (name : ℕ) (rest : List ℕ) : Type 0 where
+  pub fits : IsName name
+  pub is : bytes ≡ number_text name ++ (codes " " ++ rest)
+
+-- the rest goes on with no digit, and with no `>` where there was none
+abbrev pub ItemEnds : Option ℕ → List ℕ → Type 0
+ItemEnds None rest = NoDigit rest × (slice_index rest 0 ≢ 62)
+ItemEnds (Some w) rest = NoDigit rest
+
+-- the bytes are an item behind a space, and the rest
+pub record ItemThen (bytes : List ℕ) (item : Item) (rest : List ℕ) : Type 0 where
+  pub fits : IsItem item
+  pub ends : ItemEnds item.wish rest
+  pub is : bytes ≡ codes " " ++ (item_text item ++ rest)

@@ -1,0 +1,41 @@
+-- How a transcript spells a reply.
+use Rattle.std.specs.Prelude.{ℕ, List, ◌++◌, codes}
+use Rattle.rule_machine.specs.declared.act.Act.{Act}
+use Rattle.rule_machine.specs.declared.act.Act.TheVariants.{Update, Marry, Seduce, Abandon}
+use Rattle.rule_machine.specs.declared.moved.Moved.{Moved}
+use Rattle.rule_machine.specs.declared.refusal.Refusal.{Refusal}
+use Rattle.rule_machine.specs.declared.reply.Reply.{Reply}
+use Rattle.rule_machine.specs.declared.reply.Reply.TheVariants.{Accepted, Refused, Moves, Shown, EnabledAre, Pairs}
+use Rattle.rule_machine.specs.Refuse.{refusal_number, refusal_text}
+use Rattle.line_text.specs.Words.{number_text, marked_text, joined, joined_or}
+use Rattle.line_text.specs.EventText.{target_text}
+
+abbrev pub act_word : Act → List ℕ
+act_word Update = codes "update"
+act_word Marry = codes "marry"
+act_word Seduce = codes "seduce"
+act_word Abandon = codes "abandon"
+
+-- an enabled node and its rule
+abbrev pub enabled_text : ℕ × Act → List ℕ
+enabled_text e = number_text e.0 ++ codes ":" ++ act_word e.1
+
+-- a node, its rule, and its new target behind a `>`
+abbrev pub move_text : Moved → List ℕ
+move_text m = number_text m.node ++ codes ":" ++ act_word m.act ++ marked_text (codes ">") m.target
+
+-- a mutual pair, the lower end first
+abbrev pub mutual_text : ℕ × ℕ → List ℕ
+mutual_text p = number_text p.0 ++ codes "-" ++ number_text p.1
+
+-- the number and the text of a refusal
+abbrev pub refusal_words : Refusal → List ℕ
+refusal_words refusal = number_text (refusal_number refusal) ++ codes " " ++ refusal_text refusal
+
+abbrev pub reply_text : Reply → List ℕ
+reply_text Accepted = codes "ok"
+reply_text (Refused refusal) = codes "refused " ++ refusal_words refusal
+reply_text (Moves moves) = joined move_text moves
+reply_text (Shown target) = target_text target
+reply_text (EnabledAre nodes) = joined_or (codes "none") enabled_text nodes
+reply_text (Pairs pairs) = joined_or (codes "none") mutual_text pairs

@@ -1,0 +1,31 @@
+-- The words that lines are made of. A byte is its ASCII code.
+use Rattle.std.specs.Prelude.{ℕ, ◌≤◌, List, [], ◌∷◌, ◌++◌, Option, None, Some, codes}
+use Rattle.std.specs.Fmt.{decimal}
+use Rattle.std.specs.List.{flat_map}
+
+-- a number in decimal, with no leading zero
+abbrev pub number_text : ℕ → List ℕ
+number_text n = decimal n
+
+-- what a node is named by
+abbrev pub IsName : ℕ → Type 0
+IsName n = (1 ≤ n) × (n ≤ 65535)
+
+-- a mark and a name, where there is one
+abbrev pub marked_text : List ℕ → Option ℕ → List ℕ
+marked_text mark None = []
+marked_text mark (Some n) = mark ++ number_text n
+
+-- each item's text behind one space
+abbrev pub spaced : {X : Type 0} → (X → List ℕ) → List X → List ℕ
+spaced text items = flat_map (λ item. codes " " ++ text item) items
+
+-- the items' texts, joined by one space
+abbrev pub joined : {X : Type 0} → (X → List ℕ) → List X → List ℕ
+joined text [] = []
+joined text (item ∷ items) = text item ++ spaced text items
+
+-- the items' texts, joined by one space, or a word where there is none
+abbrev pub joined_or : {X : Type 0} → List ℕ → (X → List ℕ) → List X → List ℕ
+joined_or word text [] = word
+joined_or word text (item ∷ items) = joined text (item ∷ items)

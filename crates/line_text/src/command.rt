@@ -1,0 +1,112 @@
+//! Commands: the lines of a script.
+
+ghost use Rattle.std.specs.Prelude.{◌≡◌, ℕ, List, Option, Bool, ⊤, IfOk, IfSome, MatchOption};
+ghost use Rattle.line_text.specs.Words.{IsName, spaced};
+ghost use Rattle.line_text.specs.EventText.{IsChoice, Spells, NotACommand, pair_text, point_text, flag_text, bool_text, target_text, item_text};
+ghost use Rattle.line_text.specs.Reading.{Reads, ReadsTwo};
+
+use crate::front::after;
+use crate::items::read_items;
+use crate::names::{read_last, read_word};
+use rule_machine::{Event, Node, Want};
+use std::alloc::Global;
+
+/// The most bytes of a command, without its LF: no event's line is longer.
+pub const MAX_LINE: usize = 1_048_576;
+
+// Reads two names.
+fn read_pair(bytes: &[u8]) -> Option<(Node, Node)>
+    ensures { ReadsTwo (λ a b. IsName a × IsName b) pair_text bytes.now result }
+{
+    let Some((a, rest)) = read_word(bytes) else {
+        return None;
+    };
+    let Some(b) = read_last(rest) else {
+        return None;
+    };
+    Some((a, b))
+}
+
+// Reads a name, or a dash for null.
+fn read_target(bytes: &[u8]) -> Option<Option<Node>>
+    ensures { Reads (λ target. IfSome target IsName) target_text bytes.now result }
+{
+    if bytes == b"-".as_slice() {
+        return Some(None);
+    }
+    match read_last(bytes) {
+        Some(node) => Some(Some(node)),
+        None => None,
+    }
+}
+
+// Reads a name, and where it shall point.
+fn read_point(bytes: &[u8]) -> Option<(Node, Option<Node>)>
+    ensures { ReadsTwo (λ v target. IsName v × IfSome target IsName) point_text bytes.now result }
+{
+    let Some((node, rest)) = read_word(bytes) else {
+        return None;
+    };
+    let Some(target) = read_target(rest) else {
+        return None;
+    };
+    Some((node, target))
+}
+
+// Reads 1 for true, or 0 for false.
+fn read_bool(bytes: &[u8]) -> Option<bool>
+    ensures { Reads (λ (b : Bool). ⊤) bool_text bytes.now result }
+{
+    if bytes == b"0".as_slice() {
+        return Some(false);
+    }
+    if bytes == b"1".as_slice() {
+        return Some(true);
+    }
+    None
+}
+
+// Reads a name, and what its flag shall say.
+fn read_flag(bytes: &[u8]) -> Option<(Node, bool)>
+    ensures { ReadsTwo (λ v value. IsName v) flag_text bytes.now result }
+{
+    let Some((node, rest)) = read_word(bytes) else {
+        return None;
+    };
+    let Some(value) = read_bool(rest) else {
+        return None;
+    };
+    Some((node, value))
+}
+
+/// Reads the command that a line is; `None` where it is none. Memory is for the items of a step alone.
+pub fn read_command(alloc: Global, line: &[u8]) -> Result<Option<Event>, Want>
+    ensures command { IfOk result
+        (λ found. MatchOption found (NotACommand line.now) (λ event. Spells line.now event)) }
+{
+    if let Some(rest) = after(line, b"show ") {
+        return Ok(read_last(rest).map(|node| Event::Show(node)));
+    }
+    if let Some(rest) = after(line, b"step") {
+        return Ok(read_items(alloc, rest)?.map(|choice| Event::Step(choice)));
+    }
+    if let Some(rest) = after(line, b"link ") {
+        return Ok(read_pair(rest).map(|(a, b)| Event::Link(a, b)));
+    }
+    if let Some(rest) = after(line, b"unlink ") {
+        return Ok(read_pair(rest).map(|(a, b)| Event::Unlink(a, b)));
+    }
+    if let Some(rest) = after(line, b"point ") {
+        return Ok(read_point(rest).map(|(node, target)| Event::Point(node, target)));
+    }
+    if let Some(rest) = after(line, b"flag ") {
+        return Ok(read_flag(rest).map(|(node, value)| Event::Flag(node, value)));
+    }
+    if line == b"enabled".as_slice() {
+        return Ok(Some(Event::Enabled));
+    }
+    if line == b"matching".as_slice() {
+        return Ok(Some(Event::Matching));
+    }
+    Ok(None)
+}

@@ -1,0 +1,60 @@
+//! The lines of a transcript.
+
+ghost use Rattle.std.specs.Prelude.{◌≡◌, ◌++◌, OnOk, OnErr};
+ghost use Rattle.line_text.specs.EntryText.{header_line, entry_line};
+ghost use Rattle.line_text.specs.Growth.{Extends};
+
+use crate::events::put_event;
+use crate::numbers::put_number;
+use crate::replies::put_reply;
+use rule_machine::{Event, Reply, RuleSet, Want};
+
+fn append_header(out: &mut Vec<u8>, rules: RuleSet, nodes: u32) -> Result<(), Want>
+    ensures ok { OnOk result (out.new.items ≡ out.old.items ++ header_line rules nodes) }
+    ensures err { OnErr result (Extends out.old.items out.new.items) }
+{
+    out.extend_from_slice(b"matching ")?;
+    out.extend_from_slice(rules.word().as_bytes())?;
+    out.push(b' ')?;
+    put_number(out, nodes)?;
+    out.extend_from_slice(b"\n")
+}
+
+fn append_entry(out: &mut Vec<u8>, number: u32, event: &Event, reply: &Reply) -> Result<(), Want>
+    ensures ok { OnOk result (out.new.items ≡ out.old.items ++ entry_line number event.now reply.now) }
+    ensures err { OnErr result (Extends out.old.items out.new.items) }
+{
+    put_number(out, number)?;
+    out.push(b' ')?;
+    put_event(out, event)?;
+    out.extend_from_slice(b" = ")?;
+    put_reply(out, reply)?;
+    out.push(b'\n')?;
+    Ok(())
+}
+
+/// Writes a transcript's header, with its LF.
+pub fn put_header(out: &mut Vec<u8>, rules: RuleSet, nodes: u32) -> Result<(), Want>
+    ensures ok { OnOk result (out.new.items ≡ out.old.items ++ header_line rules nodes) }
+    ensures err { OnErr result (out.new.items ≡ out.old.items) }
+{
+    let len = out.len();
+    let done = append_header(out, rules, nodes);
+    if done.is_err() {
+        out.truncate(len);
+    }
+    done
+}
+
+/// Writes the entry with this number, with its LF: the event, and the reply to it.
+pub fn put_entry(out: &mut Vec<u8>, number: u32, event: &Event, reply: &Reply) -> Result<(), Want>
+    ensures ok { OnOk result (out.new.items ≡ out.old.items ++ entry_line number event.now reply.now) }
+    ensures err { OnErr result (out.new.items ≡ out.old.items) }
+{
+    let len = out.len();
+    let done = append_entry(out, number, event, reply);
+    if done.is_err() {
+        out.truncate(len);
+    }
+    done
+}

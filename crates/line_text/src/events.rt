@@ -1,0 +1,81 @@
+//! Script lines at the end of a text.
+
+ghost use Rattle.std.specs.Prelude.{◌≡◌, ◌++◌, OnOk, OnErr};
+ghost use Rattle.line_text.specs.EventText.{event_text, item_text, pair_text, point_text, flag_text};
+ghost use Rattle.line_text.specs.Growth.{Extends};
+
+use crate::numbers::{put_marked, put_name, put_target};
+use crate::word::{Word, put_spaced};
+use rule_machine::{Event, Item, Node, Want};
+
+fn put_pair(out: &mut Vec<u8>, a: Node, b: Node) -> Result<(), Want>
+    ensures ok { OnOk result (out.new.items ≡ out.old.items ++ pair_text a b) }
+    ensures err { OnErr result (Extends out.old.items out.new.items) }
+{
+    put_name(out, a)?;
+    out.push(b' ')?;
+    put_name(out, b)
+}
+
+fn put_point(out: &mut Vec<u8>, node: Node, target: Option<Node>) -> Result<(), Want>
+    ensures ok { OnOk result (out.new.items ≡ out.old.items ++ point_text node target) }
+    ensures err { OnErr result (Extends out.old.items out.new.items) }
+{
+    put_name(out, node)?;
+    out.push(b' ')?;
+    put_target(out, target)
+}
+
+fn put_flag(out: &mut Vec<u8>, node: Node, value: bool) -> Result<(), Want>
+    ensures ok { OnOk result (out.new.items ≡ out.old.items ++ flag_text node value) }
+    ensures err { OnErr result (Extends out.old.items out.new.items) }
+{
+    put_name(out, node)?;
+    out.push(b' ')?;
+    out.push(if value { b'1' } else { b'0' })?;
+    Ok(())
+}
+
+impl Word for Item {
+    ghost text = { item_text };
+
+    fn put(&self, out: &mut Vec<u8>) -> Result<(), Want> {
+        put_name(out, self.node)?;
+        put_marked(out, self.wish)
+    }
+}
+
+/// Writes an event's script line, without its LF.
+pub fn put_event(out: &mut Vec<u8>, event: &Event) -> Result<(), Want>
+    ensures ok { OnOk result (out.new.items ≡ out.old.items ++ event_text event.now) }
+    ensures err { OnErr result (Extends out.old.items out.new.items) }
+{
+    match event {
+        Event::Link(a, b) => {
+            out.extend_from_slice(b"link ")?;
+            put_pair(out, *a, *b)
+        }
+        Event::Unlink(a, b) => {
+            out.extend_from_slice(b"unlink ")?;
+            put_pair(out, *a, *b)
+        }
+        Event::Point(node, target) => {
+            out.extend_from_slice(b"point ")?;
+            put_point(out, *node, *target)
+        }
+        Event::Flag(node, value) => {
+            out.extend_from_slice(b"flag ")?;
+            put_flag(out, *node, *value)
+        }
+        Event::Step(choice) => {
+            out.extend_from_slice(b"step")?;
+            put_spaced(out, choice.items())
+        }
+        Event::Show(node) => {
+            out.extend_from_slice(b"show ")?;
+            put_name(out, *node)
+        }
+        Event::Enabled => out.extend_from_slice(b"enabled"),
+        Event::Matching => out.extend_from_slice(b"matching"),
+    }
+}

@@ -1,0 +1,20 @@
+//! The text of scripts and transcripts: commands are read exactly, and entries written exactly.
+#![tactic(auto)]
+
+mod command;
+mod entry;
+mod events;
+mod front;
+mod items;
+mod law;
+mod names;
+mod numbers;
+mod replies;
+mod word;
+
+pub use command::{MAX_LINE, read_command};
+pub use entry::{put_entry, put_header};
+pub use law::one_reading;
+
+#[cfg(test)]
+mod tests;

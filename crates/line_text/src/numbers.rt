@@ -1,0 +1,49 @@
+//! Numbers and names at the end of a text.
+
+ghost use Rattle.std.specs.Prelude.{◌≡◌, ◌++◌, codes, OnOk, OnErr};
+ghost use Rattle.line_text.specs.Words.{number_text, marked_text};
+ghost use Rattle.line_text.specs.EventText.{target_text};
+ghost use Rattle.line_text.specs.Growth.{Extends};
+
+use itoa::Buffer;
+use rule_machine::{Node, Want};
+
+/// Writes a number in decimal.
+pub fn put_number(out: &mut Vec<u8>, number: u32) -> Result<(), Want>
+    ensures ok { OnOk result (out.new.items ≡ out.old.items ++ number_text number) }
+    ensures err { OnErr result (out.new.items ≡ out.old.items) }
+{
+    let mut digits = Buffer::new();
+    out.extend_from_slice(digits.format(number).as_bytes())
+}
+
+/// Writes a node's name.
+pub fn put_name(out: &mut Vec<u8>, node: Node) -> Result<(), Want>
+    ensures ok { OnOk result (out.new.items ≡ out.old.items ++ number_text node) }
+    ensures err { OnErr result (out.new.items ≡ out.old.items) }
+{
+    put_number(out, node.name())
+}
+
+/// Writes a name, or a dash for null.
+pub fn put_target(out: &mut Vec<u8>, target: Option<Node>) -> Result<(), Want>
+    ensures ok { OnOk result (out.new.items ≡ out.old.items ++ target_text target) }
+    ensures err { OnErr result (out.new.items ≡ out.old.items) }
+{
+    match target {
+        None => out.extend_from_slice(b"-"),
+        Some(node) => put_name(out, node),
+    }
+}
+
+/// Writes a `>` and a name, where there is one.
+pub fn put_marked(out: &mut Vec<u8>, target: Option<Node>) -> Result<(), Want>
+    ensures ok { OnOk result (out.new.items ≡ out.old.items ++ marked_text (codes ">") target) }
+    ensures err { OnErr result (Extends out.old.items out.new.items) }
+{
+    if let Some(node) = target {
+        out.push(b'>')?;
+        put_name(out, node)?;
+    }
+    Ok(())
+}

@@ -1,0 +1,79 @@
+//! Replies at the end of a text.
+
+ghost use Rattle.std.specs.Prelude.{◌≡◌, ◌++◌, OnOk, OnErr};
+ghost use Rattle.line_text.specs.ReplyText.{act_word, enabled_text, move_text, mutual_text, refusal_words, reply_text};
+ghost use Rattle.line_text.specs.Growth.{Extends};
+
+use crate::numbers::{put_marked, put_name, put_number, put_target};
+use crate::word::{Word, put_joined, put_joined_or};
+use rule_machine::{Act, Edge, Moved, Node, Refusal, Reply, Want};
+
+fn put_act(out: &mut Vec<u8>, act: Act) -> Result<(), Want>
+    ensures ok { OnOk result (out.new.items ≡ out.old.items ++ act_word act) }
+    ensures err { OnErr result (out.new.items ≡ out.old.items) }
+{
+    match act {
+        Act::Update => out.extend_from_slice(b"update"),
+        Act::Marry => out.extend_from_slice(b"marry"),
+        Act::Seduce => out.extend_from_slice(b"seduce"),
+        Act::Abandon => out.extend_from_slice(b"abandon"),
+    }
+}
+
+fn put_refusal(out: &mut Vec<u8>, refusal: Refusal) -> Result<(), Want>
+    ensures ok { OnOk result (out.new.items ≡ out.old.items ++ refusal_words refusal) }
+    ensures err { OnErr result (Extends out.old.items out.new.items) }
+{
+    put_number(out, refusal.number())?;
+    out.push(b' ')?;
+    out.extend_from_slice(refusal.text().as_bytes())
+}
+
+impl Word for Moved {
+    ghost text = { move_text };
+
+    fn put(&self, out: &mut Vec<u8>) -> Result<(), Want> {
+        put_name(out, self.node)?;
+        out.push(b':')?;
+        put_act(out, self.act)?;
+        put_marked(out, self.target)
+    }
+}
+
+impl Word for (Node, Act) {
+    ghost text = { enabled_text };
+
+    fn put(&self, out: &mut Vec<u8>) -> Result<(), Want> {
+        put_name(out, self.0)?;
+        out.push(b':')?;
+        put_act(out, self.1)
+    }
+}
+
+impl Word for Edge {
+    ghost text = { mutual_text };
+
+    fn put(&self, out: &mut Vec<u8>) -> Result<(), Want> {
+        put_name(out, self.low())?;
+        out.push(b'-')?;
+        put_name(out, self.high())
+    }
+}
+
+/// Writes a reply as a transcript spells it.
+pub fn put_reply(out: &mut Vec<u8>, reply: &Reply) -> Result<(), Want>
+    ensures ok { OnOk result (out.new.items ≡ out.old.items ++ reply_text reply.now) }
+    ensures err { OnErr result (Extends out.old.items out.new.items) }
+{
+    match reply {
+        Reply::Accepted => out.extend_from_slice(b"ok"),
+        Reply::Refused(refusal) => {
+            out.extend_from_slice(b"refused ")?;
+            put_refusal(out, *refusal)
+        }
+        Reply::Moves(moves) => put_joined(out, moves.as_slice()),
+        Reply::Shown(target) => put_target(out, *target),
+        Reply::EnabledAre(nodes) => put_joined_or(out, b"none", nodes.as_slice()),
+        Reply::Pairs(pairs) => put_joined_or(out, b"none", pairs.as_slice()),
+    }
+}

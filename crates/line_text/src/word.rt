@@ -1,0 +1,55 @@
+//! Words, and lists of them, at the end of a text.
+
+ghost use Rattle.std.specs.Prelude.{◌≡◌, ◌++◌, List, ℕ, OnOk, OnErr};
+ghost use Rattle.line_text.specs.Words.{spaced, joined, joined_or};
+ghost use Rattle.line_text.specs.Growth.{Extends};
+
+use rule_machine::Want;
+
+/// What stands in a line as one word.
+pub trait Word {
+    // The word's text.
+    ghost text: { Self → List ℕ };
+
+    /// Writes the word.
+    fn put(&self, out: &mut Vec<u8>) -> Result<(), Want>
+        ensures ok { OnOk result (out.new.items ≡ out.old.items ++ text self.now) }
+        ensures err { OnErr result (Extends out.old.items out.new.items) };
+}
+
+/// Writes each word behind one space.
+pub fn put_spaced<W: Word>(out: &mut Vec<u8>, words: &[W]) -> Result<(), Want>
+    ensures ok { OnOk result (out.new.items ≡ out.old.items ++ spaced W.text words.now) }
+    ensures err { OnErr result (Extends out.old.items out.new.items) }
+{
+    for word in words {
+        out.push(b' ')?;
+        word.put(out)?;
+    }
+    Ok(())
+}
+
+/// Writes the words, joined by one space.
+pub fn put_joined<W: Word>(out: &mut Vec<u8>, words: &[W]) -> Result<(), Want>
+    ensures ok { OnOk result (out.new.items ≡ out.old.items ++ joined W.text words.now) }
+    ensures err { OnErr result (Extends out.old.items out.new.items) }
+{
+    match words {
+        [] => Ok(()),
+        [first, rest @ ..] => {
+            first.put(out)?;
+            put_spaced(out, rest)
+        }
+    }
+}
+
+/// Writes the words, joined by one space, or another text where there is none.
+pub fn put_joined_or<W: Word>(out: &mut Vec<u8>, none: &[u8], words: &[W]) -> Result<(), Want>
+    ensures ok { OnOk result (out.new.items ≡ out.old.items ++ joined_or none.now W.text words.now) }
+    ensures err { OnErr result (Extends out.old.items out.new.items) }
+{
+    if words.is_empty() {
+        return out.extend_from_slice(none);
+    }
+    put_joined(out, words)
+}

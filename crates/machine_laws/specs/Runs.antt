@@ -1,0 +1,92 @@
+-- The answers with the least targets are a run, and every run ends in a state.
+use Rattle.std.proofs.Common.{◌≡◌, ℕ, List, [], ◌∷◌, Any, Option, None, Some, IsSomeAnd, IsTrue, zip, fold, refl, sym, ◌∙◌, subst}
+use Rattle.std.proofs.lemmas.List.Elements.{All-weaker, recursion_from_All}
+use Rattle.std.proofs.lemmas.Option.{none-some}
+use Rattle.rule_machine.specs.declared.act.Act.{Act}
+use Rattle.rule_machine.specs.declared.act.Act.TheVariants.{Update, Marry, Seduce, Abandon}
+use Rattle.rule_machine.specs.declared.choice.Item.{Item}
+use Rattle.rule_machine.specs.declared.moved.Moved.{Moved}
+use Rattle.rule_machine.specs.declared.event.Event.{Event}
+use Rattle.rule_machine.specs.declared.event.Event.TheVariants.{Link, Unlink, Point, Flag, Step, Show, Enabled, Matching}
+use Rattle.rule_machine.specs.declared.refusal.Refusal.{Refusal}
+use Rattle.rule_machine.specs.declared.reply.Reply.{Reply}
+use Rattle.rule_machine.specs.declared.reply.Reply.TheVariants.{Accepted, Moves, Shown, EnabledAre, Pairs}
+use Rattle.rule_machine.specs.Network.{linked, present}
+use Rattle.rule_machine.specs.State.{State, IsState}
+use Rattle.rule_machine.specs.RuleTable.{RuleTable}
+use Rattle.rule_machine.specs.Step.{IsTarget, IsMoveOf, IsStep}
+use Rattle.rule_machine.specs.Refuse.{refusal_of}
+use Rattle.rule_machine.specs.Answer.{Does, AnswersBy, Answers}
+use Rattle.rule_machine.specs.Least.{reply_of, state_after, replies_of, state_after_all}
+use Rattle.rule_machine.specs.Run.{Entry, Moment, Run, spent_after}
+use Rattle.machine_laws.specs.Keeps.{IsMoveIn, moves_keep}
+use Rattle.machine_laws.specs.LeastMoves.{IsTable}
+use Rattle.machine_laws.specs.Accepted.{IsChoice, choice_from_none, taken_at, accepted_keeps, state_after_keeps}
+use Rattle.machine_laws.specs.LeastAnswers.{least_answers}
+
+-- ---- the run with the least targets
+
+-- the moves spent after replies in turn
+abbrev pub spent_after_all : ℕ → List Reply → ℕ
+spent_after_all spent replies = fold spent_after spent replies
+
+-- events in turn leave a state
+pub state_after_all_keeps : (t : RuleTable) → IsTable t → (s : State) → IsState s → (events : List Event) → IsState (state_after_all t s events)
+state_after_all_keeps t table s good [] = good
+state_after_all_keeps t table s good (event ∷ events) = state_after_all_keeps t table (state_after t s event) (state_after_keeps t table s good event) events
+
+-- The answers with the least targets to events in turn are a run, which spends what their replies say.
+pub least_run : (t : RuleTable) → IsTable t → (s : State) → IsState s → (events : List Event) (n : ℕ) → Run t (record { state = s; spent = n }) (zip events (replies_of t s events)) (record { state = state_after_all t s events; spent = spent_after_all n (replies_of t s events) })
+least_run t table s good [] n = refl
+least_run t table s good (event ∷ events) n =
+    (state_after t s event, least_answers t table s good event, least_run t table (state_after t s event) (state_after_keeps t table s good event) events (spent_after n (reply_of t s event)))
+
+-- ---- every run
+
+is_target_allowed : (t : RuleTable) (s : State) (v : ℕ) (act : Act) (wish target : Option ℕ) → IsTarget t s v act wish target → (x : ℕ) → target ≡ Some x → IsTrue (t.allowed s v act x)
+is_target_allowed t s v Update wish target is x at = absurd (none-some x (sym is ∙ at))
+is_target_allowed t s v Marry wish target is x at = subst (λ o. IsSomeAnd o (λ w. IsTrue (t.allowed s v Marry w))) at is.0
+is_target_allowed t s v Seduce wish target is x at = subst (λ o. IsSomeAnd o (λ w. IsTrue (t.allowed s v Seduce w))) at is.0
+is_target_allowed t s v Abandon wish target is x at = absurd (none-some x (sym is ∙ at))
+
+move_of_is_move_in : (t : RuleTable) → IsTable t → (s : State) (item : Item) (m : Moved) → IsTrue (present s.network item.node) → IsMoveOf t s item m → IsMoveIn s.network m
+move_of_is_move_in t table s item m has is = record {
+  has = subst (λ v. IsTrue (present s.network v)) (sym is.node) has;
+  near = λ x at. subst (λ v. IsTrue (linked s.network v x)) (sym is.node) (table.allowed_is_neighbour s item.node m.act x (is_target_allowed t s item.node m.act item.wish m.target is.target x at));
+}
+
+asked_is_move_in : (t : RuleTable) → IsTable t → (s : State) (items : List Item) → IsChoice t s items → (m : Moved) → Any (λ item. IsMoveOf t s item m) items → IsMoveIn s.network m
+asked_is_move_in t table s items choice m (k, item, below, at, is) =
+    let taken = taken_at t s [] items choice.taken k item below in
+    move_of_is_move_in t table s item m (subst (λ i. IsTrue (present s.network i.node)) at taken.0.has) is
+
+-- Whatever allowed targets a step takes, it leaves a state: its items are present, and what they allow is a neighbour.
+pub any_step_keeps : (t : RuleTable) → IsTable t → (s : State) → IsState s → (items : List Item) → IsChoice t s items → (moves : List Moved) (s' : State) → IsStep t s items moves s' → IsState s'
+any_step_keeps t table s good items choice moves s' step =
+    let all = All-weaker (λ m. Any (λ item. IsMoveOf t s item m) items) (IsMoveIn s.network) (asked_is_move_in t table s items choice) moves step.each in
+    subst IsState (sym step.after) (moves_keep s moves good (recursion_from_All (IsMoveIn s.network) moves all))
+
+does_keeps : (t : RuleTable) → IsTable t → (s : State) → IsState s → (event : Event) (reply : Reply) (s' : State) → refusal_of t s event ≡ None → Does t s event reply s' → IsState s'
+does_keeps t table s good (Link a b) Accepted s' e does = subst IsState (sym does) (accepted_keeps t table s good (Link a b) e)
+does_keeps t table s good (Unlink a b) Accepted s' e does = subst IsState (sym does) (accepted_keeps t table s good (Unlink a b) e)
+does_keeps t table s good (Point v target) Accepted s' e does = subst IsState (sym does) (accepted_keeps t table s good (Point v target) e)
+does_keeps t table s good (Flag v value) Accepted s' e does = subst IsState (sym does) (accepted_keeps t table s good (Flag v value) e)
+does_keeps t table s good (Step items) (Moves moves) s' e does = any_step_keeps t table s good items (choice_from_none t s items e) moves s' does
+does_keeps t table s good (Show v) (Shown target) s' e does = subst IsState (sym does.1) good
+does_keeps t table s good Enabled (EnabledAre nodes) s' e does = subst IsState (sym does.1) good
+does_keeps t table s good Matching (Pairs pairs) s' e does = subst IsState (sym does.1) good
+does_keeps t table s good event reply s' e does = absurd does
+
+answers_by_keep : (t : RuleTable) → IsTable t → (s : State) → IsState s → (event : Event) (r : Option Refusal) (reply : Reply) (s' : State) → refusal_of t s event ≡ r → AnswersBy t s event r reply s' → IsState s'
+answers_by_keep t table s good event None reply s' e does = does_keeps t table s good event reply s' e does
+answers_by_keep t table s good event (Some refusal) reply s' e does = subst IsState (sym does.1) good
+
+-- every answer leaves a state
+pub answers_keep : (t : RuleTable) → IsTable t → (s : State) → IsState s → (event : Event) (reply : Reply) (s' : State) → Answers t s event reply s' → IsState s'
+answers_keep t table s good event reply s' answers = answers_by_keep t table s good event (refusal_of t s event) reply s' refl answers
+
+-- a run from a state ends in a state
+pub runs_end_in_states : (t : RuleTable) → IsTable t → (start : Moment) → IsState start.state → (log : List Entry) (end : Moment) → Run t start log end → IsState end.state
+runs_end_in_states t table start good [] end run = subst (λ m. IsState m.state) (sym run) good
+runs_end_in_states t table start good (entry ∷ log) end (next, answers, run) =
+    runs_end_in_states t table (record { state = next; spent = spent_after start.spent entry.1 }) (answers_keep t table start.state good entry.0 entry.1 next answers) log end run

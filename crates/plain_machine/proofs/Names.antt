@@ -1,0 +1,26 @@
+-- The first names, one after another.
+use Rattle.std.proofs.Common.{suc, zero, ◌≡◌, ℕ, ◌+◌, ◌≤◌, List, [], ◌∷◌, ◌++◌, length, ap, sym, ◌∙◌, arith, add-one}
+use Rattle.std.specs.List.{range_with_len}
+use Rattle.std.proofs.lemmas.List.FromFn.{length-range_with_len}
+use Rattle.plain_machine.specs.Names.{AreNames}
+
+-- a range with one more number at its end
+pub range_more : (a n : ℕ) → range_with_len a (n + 1) ≡ range_with_len a n ++ (a + n) ∷ []
+range_more a n = rw add-one (go a n) where
+  go : (a n : ℕ) → range_with_len a (suc n) ≡ range_with_len a n ++ (a + n) ∷ []
+  go a zero = ap (λ x. x ∷ []) (omega arith)
+  go a (suc n) = ap (λ rest. a ∷ rest) (go (a + 1) n ∙ ap (λ x. range_with_len (a + 1) n ++ x ∷ []) (omega arith))
+
+-- one more name
+pub names_more : (n v : ℕ) → v ≡ n + 1 → range_with_len 1 n ++ v ∷ [] ≡ range_with_len 1 (n + 1)
+names_more n v e = ap (λ x. range_with_len 1 n ++ x ∷ []) (let same : v ≡ 1 + n = omega arith in same) ∙ sym (range_more 1 n)
+
+-- the first names are the names of a network
+pub are_names : (names : List ℕ) (n : ℕ) → names ≡ range_with_len 1 n → n ≤ 65535 → AreNames names
+are_names names n e few =
+    let count : length names ≡ n = ap length e ∙ length-range_with_len 1 n in
+    record { from_one = e ∙ ap (range_with_len 1) (sym count); few = omega arith }
+
+-- how many first names there are
+pub count_names : (names : List ℕ) (n : ℕ) → names ≡ range_with_len 1 n → length names ≡ n
+count_names names n e = ap length e ∙ length-range_with_len 1 n

@@ -1,0 +1,252 @@
+-- The set of a list of pairs that strictly rise: its entries are the list.
+use Rattle.std.proofs.Common.{min, max, length-append, take-append-drop, add_comm, add-one, ◌≡◌, ℕ, ◌+◌, ◌<◌, ◌≤◌, Bool, true, false, cond, not, ◌&&◌, ◌||◌, List, [], ◌∷◌, map, length, take, drop, eqb, ltb, IsTrue, T, Option, Some, None, refl, sym, ap, ◌∙◌, arith}
+use Rattle.std.specs.List.{list_any, filter, insert, position_or_len}
+use Rattle.std.specs.Option.{unwrap_or}
+use Rattle.std.specs.declared.cmp.Ordering.{Ordering}
+use Rattle.std.specs.declared.cmp.Ordering.TheVariants.{Less, Equal, Greater}
+use Rattle.std.specs.Ordering.{is_lt, is_eq, nat_cmp, ordering_then, eq_by_cmp}
+use Rattle.std.specs.Cmp.{IsTotalOrder}
+use Rattle.std.proofs.lemmas.Cmp.{nat_cmp_total, on_total, then_total, eq_by_cmp_equiv}
+use Rattle.std.proofs.lemmas.Map.Lookups.{exact_pairs, exact_unsigned}
+use Rattle.std.proofs.lemmas.Bool.{false≢true}
+use Rattle.std.proofs.lemmas.Bool.Decides.{nat_tests}
+use Rattle.std.specs.FinMap as finite
+use Rattle.std.specs.FinMap.Entries.{put, by_order, below_all, where_key, is_sorted-where_key, find-where_key}
+use Rattle.rule_machine.specs.Network.{edge, pair_cmp, pair_set}
+use Rattle.plain_machine.specs.Ascending.{marked, same_pair, is_below, IsAscending}
+
+-- the order of pairs is total
+pub pair_cmp_total : IsTotalOrder pair_cmp
+pair_cmp_total = then_total (on_total (λ p. p.0) nat_cmp_total) (on_total (λ p. p.1) nat_cmp_total)
+
+-- only equal pairs tie
+pub pair_cmp_exact : finite.IsAntisymmetric pair_cmp
+pair_cmp_exact = exact_pairs nat_cmp nat_cmp exact_unsigned exact_unsigned
+
+-- what a conjunction says of its parts
+both_left : (a b : Bool) → (a && b) ≡ true → a ≡ true
+both_left true b h = refl
+both_left false b h = h
+
+both_right : (a b : Bool) → (a && b) ≡ true → b ≡ true
+both_right true b h = h
+both_right false b h = absurd (false≢true h)
+
+-- the answer that the test for less passes
+less_is : (r : Ordering) → is_lt r ≡ true → r ≡ Less
+less_is Less h = refl
+less_is Equal h = absurd (false≢true h)
+less_is Greater h = absurd (false≢true h)
+
+-- a pair below all others comes first
+put_below : (pair : ℕ × ℕ) (pairs : List (ℕ × ℕ)) → below_all pair_cmp pair (marked pairs) ≡ true → put pair_cmp pair tt (marked pairs) ≡ marked (pair ∷ pairs)
+put_below pair [] below = refl
+put_below pair (next ∷ pairs) below =
+    ap (λ r. by_order r ((pair, tt) ∷ marked (next ∷ pairs)) ((next, tt) ∷ marked pairs) ((next, tt) ∷ put pair_cmp pair tt (marked pairs))) (less_is _ (both_left (is_lt (pair_cmp pair next)) _ below))
+
+-- a list without length is empty
+nothing_in : {X : Type 0} (xs : List X) → length xs ≡ 0 → xs ≡ []
+nothing_in [] h = refl
+nothing_in (x ∷ xs) h = absurd (omega arith)
+
+-- the entries of the set of a rising list are the list
+pub entries-pair_set : (pairs : List (ℕ × ℕ)) → IsTrue (finite.is_sorted pair_cmp (marked pairs)) → finite.entries (pair_set pairs) ≡ marked pairs
+entries-pair_set [] rising = nothing_in _ (sym (finite.len-entries (pair_set [])) ∙ finite.len-empty pair_cmp (Unit {0}))
+entries-pair_set (pair ∷ pairs) rising =
+    finite.entries-insert pair_cmp_total (pair_set pairs) pair tt
+    ∙ ap (put pair_cmp pair tt) (entries-pair_set pairs (both_right (below_all pair_cmp pair (marked pairs)) _ rising))
+    ∙ put_below pair pairs (both_left (below_all pair_cmp pair (marked pairs)) _ rising)
+
+-- a list is back where its marks are dropped
+firsts : (pairs : List (ℕ × ℕ)) → map (λ e. e.0) (marked pairs) ≡ pairs
+firsts [] = refl
+firsts (pair ∷ pairs) = ap (λ rest. pair ∷ rest) (firsts pairs)
+
+-- the set of a rising list has that list as its keys
+pub keys-pair_set : (pairs : List (ℕ × ℕ)) → IsAscending pairs → finite.keys (pair_set pairs) ≡ pairs
+keys-pair_set pairs up = ap (map (λ e. e.0)) (entries-pair_set pairs up.rising) ∙ firsts pairs
+
+-- marks change no length
+length-marked : (pairs : List (ℕ × ℕ)) → length (marked pairs) ≡ length pairs
+length-marked [] = refl
+length-marked (pair ∷ pairs) = omega (arith, length-marked pairs)
+
+-- the set of a rising list is as large as the list is long
+pub len-pair_set : (pairs : List (ℕ × ℕ)) → IsAscending pairs → finite.len (pair_set pairs) ≡ length pairs
+len-pair_set pairs up = finite.len-entries (pair_set pairs) ∙ ap length (entries-pair_set pairs up.rising) ∙ length-marked pairs
+
+-- numbers tie where they are equal
+tied_numbers : (a b : ℕ) → is_eq (nat_cmp a b) ≡ eqb b a
+tied_numbers a b = grind (arith, nat_tests)
+
+-- a tie in both parts
+tied_first : (r s : Ordering) → is_eq (ordering_then r s) ≡ (is_eq r && is_eq s)
+tied_first Less s = refl
+tied_first Equal s = refl
+tied_first Greater s = refl
+
+-- pairs tie where they are one
+pub eq_by_cmp-same_pair : (p q : ℕ × ℕ) → eq_by_cmp pair_cmp q p ≡ same_pair p q
+eq_by_cmp-same_pair p q =
+    tied_first (nat_cmp q.0 p.0) (nat_cmp q.1 p.1) ∙ (λ i. tied_numbers q.0 p.0 i && tied_numbers q.1 p.1 i)
+
+-- tests that answer alike find alike
+any_alike : {X : Type 0} (p q : X → Bool) → ((x : X) → p x ≡ q x) → (xs : List X) → list_any p xs ≡ list_any q xs
+any_alike p q alike [] = refl
+any_alike p q alike (x ∷ xs) = λ i. alike x i || any_alike p q alike xs i
+
+-- a pair is in the set where the list has it
+pub contains_key-pair_set : (pairs : List (ℕ × ℕ)) (q : ℕ × ℕ) → IsAscending pairs → finite.contains_key (pair_set pairs) q ≡ list_any (λ p. same_pair p q) pairs
+contains_key-pair_set pairs q up =
+    finite.contains_key-keys (pair_set pairs) q ∙ ap (list_any (eq_by_cmp pair_cmp q)) (keys-pair_set pairs up)
+    ∙ any_alike _ _ (λ p. eq_by_cmp-same_pair p q) pairs
+
+-- what a failed disjunction says of its parts
+neither_left : (a b : Bool) → (a || b) ≡ false → a ≡ false
+neither_left true b h = h
+neither_left false b h = refl
+
+neither_right : (a b : Bool) → (a || b) ≡ false → b ≡ false
+neither_right true b h = absurd (false≢true (sym h))
+neither_right false b h = h
+
+-- pairs that tie are one
+same_if_equal : (p pair : ℕ × ℕ) → pair_cmp pair p ≡ Equal → same_pair p pair ≡ true
+same_if_equal p pair e = sym (eq_by_cmp-same_pair p pair) ∙ ap is_eq e
+
+-- an insertion behind the first
+insert_behind : (p : ℕ × ℕ) (pairs : List (ℕ × ℕ)) (at : ℕ) (pair : ℕ × ℕ) → p ∷ insert pairs at pair ≡ insert (p ∷ pairs) (1 + at) pair
+insert_behind p pairs at pair = rw (add_comm 1 at, add-one)
+
+-- a pair that is not among them goes before the first above it
+pub put_at : (pair : ℕ × ℕ) (pairs : List (ℕ × ℕ)) → list_any (λ p. same_pair p pair) pairs ≡ false → put pair_cmp pair tt (marked pairs) ≡ marked (insert pairs (position_or_len (is_below pair) pairs) pair)
+put_at pair [] absent = refl
+put_at pair (p ∷ pairs) absent =
+    elim (pair_cmp pair p) as (λ r. pair_cmp pair p ≡ r → by_order r ((pair, tt) ∷ marked (p ∷ pairs)) ((p, tt) ∷ marked pairs) ((p, tt) ∷ put pair_cmp pair tt (marked pairs)) ≡ marked (insert (p ∷ pairs) (cond (not (is_lt r)) (1 + position_or_len (is_below pair) pairs) 0) pair)) [
+      | Less ↦ λ e. refl
+      | Equal ↦ λ e. absurd (false≢true (sym (neither_left _ _ absent) ∙ same_if_equal p pair e))
+      | Greater ↦ λ e. ap (λ rest. (p, tt) ∷ rest) (put_at pair pairs (neither_right (same_pair p pair) _ absent)) ∙ ap marked (insert_behind p pairs (position_or_len (is_below pair) pairs) pair)
+    ] refl
+
+-- the entries after a pair is put in its place
+insert-pair_set : (pairs : List (ℕ × ℕ)) (pair : ℕ × ℕ) → IsAscending pairs → list_any (λ p. same_pair p pair) pairs ≡ false → finite.entries (finite.insert (pair_set pairs) pair tt) ≡ marked (insert pairs (position_or_len (is_below pair) pairs) pair)
+insert-pair_set pairs pair up absent =
+    finite.entries-insert pair_cmp_total (pair_set pairs) pair tt ∙ ap (put pair_cmp pair tt) (entries-pair_set pairs up.rising) ∙ put_at pair pairs absent
+
+-- a test that holds is true
+true_is : (b : Bool) → T b → b ≡ true
+true_is true h = refl
+true_is false h = absurd h
+
+-- the list still rises with a pair in its place
+pub rising_insert : (pairs : List (ℕ × ℕ)) (pair : ℕ × ℕ) → IsAscending pairs → list_any (λ p. same_pair p pair) pairs ≡ false → finite.is_sorted pair_cmp (marked (insert pairs (position_or_len (is_below pair) pairs) pair)) ≡ true
+rising_insert pairs pair up absent =
+    sym (ap (finite.is_sorted pair_cmp) (insert-pair_set pairs pair up absent)) ∙ true_is _ (finite.entries_sorted (finite.insert (pair_set pairs) pair tt))
+
+-- an edge put in its place is an edge added to the set
+pub pair_set-insert : (pairs : List (ℕ × ℕ)) (pair : ℕ × ℕ) → IsAscending pairs → list_any (λ p. same_pair p pair) pairs ≡ false → pair_set (insert pairs (position_or_len (is_below pair) pairs) pair) ≡ finite.insert (pair_set pairs) pair tt
+pair_set-insert pairs pair up absent =
+    finite.same_entries_map _ _ (entries-pair_set _ (rising_insert pairs pair up absent) ∙ sym (insert-pair_set pairs pair up absent))
+
+-- whether a pair is another one
+abbrev pub is_other : ℕ × ℕ → ℕ × ℕ → Bool
+is_other pair p = not (same_pair p pair)
+
+-- marks and a filter in either order
+marked-filter : (test : ℕ × ℕ → Bool) (pairs : List (ℕ × ℕ)) → marked (filter test pairs) ≡ where_key pair_cmp test (marked pairs)
+marked-filter test [] = refl
+marked-filter test (p ∷ pairs) = elim (test p) as (λ b. marked (cond b (p ∷ filter test pairs) (filter test pairs)) ≡ cond b ((p, tt) ∷ where_key pair_cmp test (marked pairs)) (where_key pair_cmp test (marked pairs))) [
+  | true ↦ ap (λ rest. (p, tt) ∷ rest) (marked-filter test pairs)
+  | false ↦ marked-filter test pairs
+]
+
+-- a true test holds
+is_true : (b : Bool) → b ≡ true → T b
+is_true true h = tt
+is_true false h = absurd (false≢true h)
+
+-- a filtered list still rises
+pub rising_filter : (test : ℕ × ℕ → Bool) (pairs : List (ℕ × ℕ)) → finite.is_sorted pair_cmp (marked pairs) ≡ true → finite.is_sorted pair_cmp (marked (filter test pairs)) ≡ true
+rising_filter test pairs rising =
+    ap (finite.is_sorted pair_cmp) (marked-filter test pairs) ∙ true_is _ (is_sorted-where_key pair_cmp test (marked pairs) (is_true _ rising))
+
+-- a choice by a negated test
+turned : (b : Bool) (x y : Option (Unit {0})) → cond (not b) x y ≡ cond b y x
+turned true x y = refl
+turned false x y = refl
+
+-- pairs that tie are told apart from a third alike
+other_alike : (pair q p : ℕ × ℕ) → pair_cmp q p ≡ Equal → is_other pair p ≡ is_other pair q
+other_alike pair q p e = ap (is_other pair) (sym (pair_cmp_exact q p e))
+
+-- the other pairs are the set without the pair
+pub pair_set-filter : (pairs : List (ℕ × ℕ)) (pair : ℕ × ℕ) → IsAscending pairs → pair_set (filter (is_other pair) pairs) ≡ finite.remove (pair_set pairs) pair
+pair_set-filter pairs pair up = finite.same_map pair_cmp_total pair_cmp_exact _ _ (λ q.
+    finite.get-entries _ q
+    ∙ ap (finite.find pair_cmp q) (entries-pair_set _ (rising_filter (is_other pair) pairs up.rising) ∙ marked-filter (is_other pair) pairs)
+    ∙ find-where_key pair_cmp (is_other pair) q (λ p e. other_alike pair q p e) (marked pairs)
+    ∙ turned (same_pair q pair) (finite.find pair_cmp q (marked pairs)) None
+    ∙ ap (λ b. cond b None (finite.find pair_cmp q (marked pairs))) (sym (eq_by_cmp-same_pair q pair) ∙ (eq_by_cmp_equiv pair_cmp_total).symm pair q)
+    ∙ ap (cond (eq_by_cmp pair_cmp q pair) None) (ap (finite.find pair_cmp q) (sym (entries-pair_set pairs up.rising)) ∙ sym (finite.get-entries (pair_set pairs) q))
+    ∙ sym (finite.get-remove pair_cmp_total (pair_set pairs) pair q))
+
+-- a filter lengthens nothing
+length_filtered : {X : Type 0} (test : X → Bool) (xs : List X) → length (filter test xs) ≤ length xs
+length_filtered test [] = omega arith
+length_filtered test (x ∷ xs) = elim (test x) as (λ b. length (cond b (x ∷ filter test xs) (filter test xs)) ≤ length (x ∷ xs)) [
+  | true ↦ omega (arith, length_filtered test xs)
+  | false ↦ omega (arith, length_filtered test xs)
+]
+
+-- a filtered list can still stand for edges
+pub filter_ascending : (test : ℕ × ℕ → Bool) (pairs : List (ℕ × ℕ)) → IsAscending pairs → IsAscending (filter test pairs)
+filter_ascending test pairs up = record {
+  rising = rising_filter test pairs up.rising;
+  few = omega (arith, length_filtered test pairs, up.few);
+}
+
+-- a place is within the list or at its end
+pub position_or_len-le : {X : Type 0} (test : X → Bool) (xs : List X) → position_or_len test xs ≤ length xs
+position_or_len-le test [] = omega arith
+position_or_len-le test (x ∷ xs) = elim (test x) as (λ b. cond (not b) (1 + position_or_len test xs) 0 ≤ length (x ∷ xs)) [
+  | true ↦ omega arith
+  | false ↦ omega (arith, position_or_len-le test xs)
+]
+
+-- an insertion adds one
+length-insert : {X : Type 0} (xs : List X) (at : ℕ) (x : X) → length (insert xs at x) ≡ length xs + 1
+length-insert xs at x = simp length-append (omega (arith, ap length (take-append-drop at xs), length-append (take at xs) (drop at xs)))
+
+-- with room, the list with a pair in its place can still stand for edges
+pub insert_ascending : (pairs : List (ℕ × ℕ)) (pair : ℕ × ℕ) → IsAscending pairs → list_any (λ p. same_pair p pair) pairs ≡ false → length pairs < 1048576 → IsAscending (insert pairs (position_or_len (is_below pair) pairs) pair)
+insert_ascending pairs pair up absent room = record {
+  rising = rising_insert pairs pair up absent;
+  few = omega (arith, length-insert pairs (position_or_len (is_below pair) pairs) pair);
+}
+
+-- what the order of two numbers says
+in_order : (a b : ℕ) → is_lt (nat_cmp a b) ≡ true → a < b
+in_order a b h = grind (arith, nat_tests)
+
+out_of_order : (a b : ℕ) → is_lt (nat_cmp a b) ≡ false → b ≤ a
+out_of_order a b h = grind (arith, nat_tests)
+
+-- the pair of an edge between two names
+pub edge_below : (a b : ℕ) → is_lt (nat_cmp a b) ≡ true → edge a b ≡ (a, b)
+edge_below a b h =
+    let low : min a b ≡ a = omega (arith, in_order a b h) in
+    let high : max a b ≡ b = omega (arith, in_order a b h) in
+    λ i. (low i, high i)
+
+pub edge_above : (a b : ℕ) → is_lt (nat_cmp a b) ≡ false → edge a b ≡ (b, a)
+edge_above a b h =
+    let low : min a b ≡ b = omega (arith, out_of_order a b h) in
+    let high : max a b ≡ a = omega (arith, out_of_order a b h) in
+    λ i. (low i, high i)
+
+-- the place of the first that passes, or the length where none does
+pub unwrap_position : (at len : ℕ) → at ≤ len → unwrap_or (cond (ltb at len) (Some at) None) len ≡ at
+unwrap_position at len within = elim (ltb at len) as (λ b. ltb at len ≡ b → unwrap_or (cond b (Some at) None) len ≡ at) [
+  | true ↦ λ e. refl
+  | false ↦ λ e. grind (arith, nat_tests)
+] refl

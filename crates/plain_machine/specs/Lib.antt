@@ -1,0 +1,4 @@
+pub mod Ascending
+pub mod Names
+pub mod Spurned
+pub mod Closed

@@ -1,0 +1,58 @@
+//! The interpreter: the reply to an event, and what it changes.
+
+ghost use Rattle.std.specs.Prelude.{◌≡◌, None, IfOk, OnOk, OnErr};
+ghost use Rattle.rule_machine.specs.Least.{reply_of, state_after, accepted_reply, accepted_state};
+ghost use Rattle.rule_machine.specs.Refuse.{refusal_of};
+ghost use Rattle.rule_machine.specs.Tables.{table_of};
+
+use crate::PlainNet;
+use rule_machine::{Event, Listing, Reply, RuleSet, Want};
+use std::alloc::Global;
+
+impl PlainNet {
+    /// Answers an event, in which each free target is the least allowed one. An event that is refused changes nothing,
+    /// and neither does one that fails for want of memory. A step takes some n·n·m steps for each chosen node, with n
+    /// nodes and m edges.
+    pub fn answer(&mut self, alloc: Global, rules: RuleSet, event: &Event) -> Result<Reply, Want>
+        ensures ok { IfOk result (λ reply. reply ≡ reply_of (table_of rules) self.old event.now) }
+        ensures after { OnOk result (self.new ≡ state_after (table_of rules) self.old event.now) }
+        ensures err { OnErr result (self.new ≡ self.old) }
+    {
+        match self.refusal(rules, event) {
+            Some(refusal) => Ok(Reply::Refused(refusal)),
+            None => self.accept(alloc, rules, event),
+        }
+    }
+
+    /// Answers an event that is not refused.
+    fn accept(&mut self, alloc: Global, rules: RuleSet, event: &Event) -> Result<Reply, Want>
+        requires { refusal_of (table_of rules) self.old event.now ≡ None }
+        ensures ok { IfOk result (λ reply. reply ≡ accepted_reply (table_of rules) self.old event.now) }
+        ensures after { OnOk result (self.new ≡ accepted_state (table_of rules) self.old event.now) }
+        ensures err { OnErr result (self.new ≡ self.old) }
+    {
+        match event {
+            Event::Link(a, b) => self.link(*a, *b)?,
+            Event::Unlink(a, b) => self.unlink(*a, *b),
+            Event::Point(v, target) => self.point(*v, *target),
+            Event::Flag(v, value) => self.set_flag(*v, *value),
+            Event::Step(choice) => {
+                let moves = self.step(alloc, rules, choice.items())?;
+                return Ok(Reply::Moves(Listing::from_vec(moves)));
+            }
+            Event::Show(v) => return Ok(Reply::Shown(self.pointer(*v))),
+            Event::Enabled => {
+                let nodes = self.enabled(alloc, rules)?;
+                return Ok(Reply::EnabledAre(Listing::from_vec(nodes)));
+            }
+            Event::Matching => {
+                let pairs = self.mutual_pairs(alloc)?;
+                return Ok(Reply::Pairs(Listing::from_vec(pairs)));
+            }
+        }
+        Ok(Reply::Accepted)
+    }
+}
+
+#[cfg(test)]
+mod tests;

@@ -1,0 +1,121 @@
+//! The edges of a network, in one sorted list.
+
+ghost use Rattle.std.specs.Prelude.{◌≡◌, ℕ, false, not, ◌<◌, ◌≤◌, length, OnOk, OnErr, filter};
+ghost use Rattle.std.specs.List.{list_any, position_or_len};
+ghost use Rattle.std.specs.FinMap as map;
+ghost use Rattle.rule_machine.specs.Network.{edge, PairSet};
+ghost use Rattle.plain_machine.specs.Ascending.{same_pair, is_below};
+
+use rule_machine::{Edge, Node, Want};
+use std::alloc::Global;
+use std::marker::Model;
+
+/// The most edges that a network has.
+pub const MAX_EDGES: usize = 1_048_576;
+
+/// A set of edges, ascending by lower end, then by higher end; seen in contracts as the set of its pairs.
+#[derive(Drop)]
+pub struct EdgeSet {
+    edges: Vec<Edge>,
+}
+
+impl Model for EdgeSet {
+    ghost use Rattle.rule_machine.specs.Network.{PairSet, pair_set};
+    ghost use Rattle.plain_machine.specs.Ascending.{IsAscending, pair_set_code};
+
+    ghost Value = { PairSet };
+
+    ghost coded = { pair_set_code };
+
+    ghost view = { λ s. pair_set s.edges.items };
+
+    ghost invariant = { λ s. IsAscending s.edges.items };
+}
+
+impl EdgeSet {
+    /// No edge.
+    pub fn new(alloc: Global) -> EdgeSet
+        ensures { result ≡ map.empty }
+    {
+        EdgeSet {
+            edges: Vec::new(alloc),
+        }
+    }
+
+    /// How many edges there are.
+    pub fn len(&self) -> usize
+        ensures count { result ≡ map.len self.now }
+        ensures few { result ≤ 1048576 }
+    {
+        self.edges.len()
+    }
+
+    /// The edges in their order.
+    pub fn as_slice(&self) -> &[Edge]
+        ensures list { result.now ≡ map.keys self.now }
+        ensures few { length result.now ≤ 1048576 }
+    {
+        &self.edges
+    }
+
+    /// Whether there is an edge between two nodes.
+    pub fn contains(&self, a: Node, b: Node) -> bool
+        ensures { result ≡ map.contains_key self.now (edge a b) }
+    {
+        if a < b {
+            has_pair(&self.edges, a, b)
+        } else {
+            has_pair(&self.edges, b, a)
+        }
+    }
+
+    /// Adds an edge.
+    pub fn insert(&mut self, e: Edge) -> Result<(), Want>
+        requires room { map.len self.old < 1048576 }
+        requires absent { map.contains_key self.old e ≡ false }
+        ensures ok { OnOk result (self.new ≡ map.insert self.old e tt) }
+        ensures err { OnErr result (self.new ≡ self.old) }
+    {
+        let at = place_for(&self.edges, e);
+        self.edges.insert(at, e)?;
+        Ok(())
+    }
+
+    /// Removes an edge, where it is there.
+    pub fn remove(&mut self, e: Edge)
+        ensures { self.new ≡ map.remove self.old e }
+    {
+        keep_others(&mut self.edges, e);
+    }
+}
+
+/// Whether an edge with these ends is among the edges.
+fn has_pair(edges: &[Edge], low: Node, high: Node) -> bool
+    ensures { result ≡ list_any (λ p. same_pair p (low, high)) edges.now }
+{
+    edges.iter().any(|e| e.low() == low && e.high() == high)
+}
+
+/// Where the edges after this one begin.
+fn place_for(edges: &[Edge], e: Edge) -> usize
+    ensures { result ≡ position_or_len (is_below e) edges.now }
+{
+    edges
+        .iter()
+        .position(|x| comes_before(e, *x))
+        .unwrap_or(edges.len())
+}
+
+/// Whether an edge stands before another in their order.
+fn comes_before(e: Edge, x: Edge) -> bool
+    ensures { result ≡ is_below e x }
+{
+    e < x
+}
+
+/// Drops an edge from the list, wherever it stands.
+fn keep_others(edges: &mut Vec<Edge>, e: Edge)
+    ensures { edges.new.items ≡ filter (λ p. not (same_pair p e)) edges.old.items }
+{
+    edges.retain(|x| *x != e);
+}

@@ -1,0 +1,19 @@
+//! A plain, slow interpreter of the rule machine: each function scans all nodes or all edges, and is its definition.
+#![tactic(auto)]
+
+mod answers;
+mod charge;
+mod edge_set;
+mod guards;
+mod lists;
+mod outcomes;
+mod plain_net;
+mod refusals;
+mod register_table;
+mod scans;
+mod steps;
+mod targets;
+
+use edge_set::EdgeSet;
+pub use plain_net::PlainNet;
+use register_table::RegisterTable;

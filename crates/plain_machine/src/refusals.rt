@@ -1,0 +1,153 @@
+//! Why an event is refused.
+
+ghost use Rattle.std.specs.Prelude.{◌≡◌, [], nat_eq};
+ghost use Rattle.std.specs.List.{list_any};
+ghost use Rattle.rule_machine.specs.RuleTable.{rule_at};
+ghost use Rattle.rule_machine.specs.Refuse as refuse;
+ghost use Rattle.rule_machine.specs.Tables.{table_of};
+
+use crate::PlainNet;
+use crate::edge_set::MAX_EDGES;
+use rule_machine::{Act, Event, Item, Node, Refusal, RuleSet};
+
+impl PlainNet {
+    /// Why an event is refused, if it is: the first reason in their fixed order.
+    pub fn refusal(&self, rules: RuleSet, event: &Event) -> Option<Refusal>
+        ensures { result ≡ refuse.refusal_of (table_of rules) self.now event.now }
+    {
+        match event {
+            Event::Link(a, b) => self.link_refusal(*a, *b),
+            Event::Unlink(a, b) => self.unlink_refusal(*a, *b),
+            Event::Point(v, target) => self.point_refusal(*v, *target),
+            Event::Flag(v, _) => self.flag_refusal(rules, *v),
+            Event::Step(choice) => self.step_refusal(rules, choice.items()),
+            Event::Show(v) => self.show_refusal(*v),
+            Event::Enabled | Event::Matching => None,
+        }
+    }
+
+    fn link_refusal(&self, a: Node, b: Node) -> Option<Refusal>
+        ensures { result ≡ refuse.link_refusal self.now.network a b }
+    {
+        if !(self.has(a) && self.has(b)) {
+            Some(Refusal::UnknownNode)
+        } else if a == b {
+            Some(Refusal::SelfLoop)
+        } else if self.linked(a, b) {
+            Some(Refusal::AlreadyLinked)
+        } else if self.edges().len() >= MAX_EDGES {
+            Some(Refusal::TooManyEdges)
+        } else {
+            None
+        }
+    }
+
+    fn unlink_refusal(&self, a: Node, b: Node) -> Option<Refusal>
+        ensures { result ≡ refuse.unlink_refusal self.now.network a b }
+    {
+        if !(self.has(a) && self.has(b)) {
+            Some(Refusal::UnknownNode)
+        } else if a == b {
+            Some(Refusal::SelfLoop)
+        } else if self.linked(a, b) {
+            None
+        } else {
+            Some(Refusal::NotLinked)
+        }
+    }
+
+    fn point_refusal(&self, v: Node, target: Option<Node>) -> Option<Refusal>
+        ensures { result ≡ refuse.point_refusal self.now.network v target }
+    {
+        match target {
+            Some(w) if !(self.has(v) && self.has(w)) => Some(Refusal::UnknownNode),
+            Some(w) if !self.linked(v, w) => Some(Refusal::NotNeighbour),
+            Some(_) => None,
+            None => self.show_refusal(v),
+        }
+    }
+
+    fn flag_refusal(&self, rules: RuleSet, v: Node) -> Option<Refusal>
+        ensures { result ≡ refuse.flag_refusal (table_of rules) self.now.network v }
+    {
+        match rules {
+            RuleSet::Hh => Some(Refusal::NoFlag),
+            RuleSet::Manne => self.show_refusal(v),
+        }
+    }
+
+    fn show_refusal(&self, v: Node) -> Option<Refusal>
+        ensures { result ≡ refuse.show_refusal self.now.network v }
+    {
+        if self.has(v) {
+            None
+        } else {
+            Some(Refusal::UnknownNode)
+        }
+    }
+
+    fn step_refusal(&self, rules: RuleSet, items: &[Item]) -> Option<Refusal>
+        ensures { result ≡ refuse.step_refusal (table_of rules) self.now items.now }
+    {
+        if items.is_empty() {
+            return Some(Refusal::EmptyChoice);
+        }
+        match rules {
+            RuleSet::Hh if items.len() > 1 => Some(Refusal::NotCentral),
+            _ => self.items_refusal(rules, items),
+        }
+    }
+
+    /// The first refusal of an item.
+    fn items_refusal(&self, rules: RuleSet, items: &[Item]) -> Option<Refusal>
+        ensures { result ≡ refuse.items_refusal (table_of rules) self.now [] items.now }
+    {
+        for (place, item) in items.iter().enumerate() {
+            let refusal = self.item_refusal(rules, &items[..place], *item);
+            if refusal.is_some() {
+                return refusal;
+            }
+        }
+        None
+    }
+
+    /// Why an item is refused that stands behind these.
+    fn item_refusal(&self, rules: RuleSet, earlier: &[Item], item: Item) -> Option<Refusal>
+        ensures { result ≡ refuse.item_refusal (table_of rules) self.now earlier.now item }
+    {
+        if !self.has(item.node) {
+            Some(Refusal::UnknownNode)
+        } else if names_node(earlier, item.node) {
+            Some(Refusal::ChosenTwice)
+        } else {
+            self.rule_refusal(rules, item)
+        }
+    }
+
+    /// Why the rule of an item's node refuses it.
+    fn rule_refusal(&self, rules: RuleSet, item: Item) -> Option<Refusal>
+        ensures { result ≡ refuse.rule_refusal (table_of rules) self.now item (rule_at (table_of rules) self.now item.node) }
+    {
+        match self.rule_at(rules, item.node) {
+            Some(act) => self.wish_refusal(rules, act, item),
+            None => Some(Refusal::NotEnabled),
+        }
+    }
+
+    /// Why a rule refuses an item's wish.
+    fn wish_refusal(&self, rules: RuleSet, act: Act, item: Item) -> Option<Refusal>
+        ensures { result ≡ refuse.wish_refusal ((table_of rules).allowed self.now item.node act) item.wish }
+    {
+        match item.wish {
+            Some(w) if !self.is_allowed(rules, item.node, act, w) => Some(Refusal::BadTarget),
+            _ => None,
+        }
+    }
+}
+
+/// Whether an item names a node.
+fn names_node(items: &[Item], v: Node) -> bool
+    ensures { result ≡ list_any (λ item. nat_eq item.node v) items.now }
+{
+    items.iter().any(|item| item.node == v)
+}

@@ -1,0 +1,97 @@
+//! Each node's pointer and married flag.
+
+ghost use Rattle.std.specs.Prelude.{◌≡◌, ◌≤◌, IfOk};
+ghost use Rattle.rule_machine.specs.Disturbance.{without_pointer};
+ghost use Rattle.rule_machine.specs.State.{blank, pointer_of, flag_of, with_pointer, with_flag, points};
+
+use rule_machine::{Node, Want};
+use std::alloc::Global;
+use std::marker::Model;
+
+/// Where each node points and what its flag says; a node that has no place points nowhere and is not flagged.
+#[derive(Drop)]
+pub struct RegisterTable {
+    pointers: Vec<Option<Node>>,
+    flags: Vec<bool>,
+}
+
+impl Model for RegisterTable {
+    ghost use Rattle.rule_machine.specs.State.{Registers, registers_code};
+
+    ghost Value = { Registers };
+
+    ghost coded = { registers_code };
+
+    ghost view = { λ r. record { pointers = r.pointers.items; flags = r.flags.items } };
+}
+
+impl RegisterTable {
+    /// The registers of these many names, all pointers null and all flags false.
+    pub fn new(alloc: Global, size: usize) -> Result<RegisterTable, Want>
+        requires { size ≤ 65535 }
+        ensures { IfOk result (λ r. r ≡ blank size) }
+    {
+        let pointers = vec![in alloc; None; size + 1]?;
+        let flags = vec![in alloc; false; size + 1]?;
+        Ok(RegisterTable { pointers, flags })
+    }
+
+    /// The same registers once more.
+    pub fn copy(&self, alloc: Global) -> Result<RegisterTable, Want>
+        ensures { IfOk result (λ r. r ≡ self.now) }
+    {
+        let pointers = Vec::from_slice(alloc, &self.pointers)?;
+        let flags = Vec::from_slice(alloc, &self.flags)?;
+        Ok(RegisterTable { pointers, flags })
+    }
+
+    /// Where a node points, if anywhere.
+    pub fn pointer(&self, v: Node) -> Option<Node>
+        ensures { result ≡ pointer_of self.now v }
+    {
+        self.pointers.get(v.place()).copied().flatten()
+    }
+
+    /// A node's flag.
+    pub fn flag(&self, v: Node) -> bool
+        ensures { result ≡ flag_of self.now v }
+    {
+        self.flags.get(v.place()).copied().unwrap_or(false)
+    }
+
+    /// Whether a node points at another.
+    pub fn points(&self, v: Node, w: Node) -> bool
+        ensures { result ≡ points self.now v w }
+    {
+        self.pointer(v) == Some(w)
+    }
+
+    /// Writes a node's pointer, where it has a place.
+    pub fn set_pointer(&mut self, v: Node, target: Option<Node>)
+        ensures { self.new ≡ with_pointer self.old v target }
+    {
+        let place = v.place();
+        if place < self.pointers.len() {
+            self.pointers[place] = target;
+        }
+    }
+
+    /// Sets a node's pointer to null, where it points at another.
+    pub fn drop_pointer(&mut self, v: Node, w: Node)
+        ensures { self.new ≡ without_pointer self.old v w }
+    {
+        if self.points(v, w) {
+            self.set_pointer(v, None);
+        }
+    }
+
+    /// Writes a node's flag, where it has a place.
+    pub fn set_flag(&mut self, v: Node, value: bool)
+        ensures { self.new ≡ with_flag self.old v value }
+    {
+        let place = v.place();
+        if place < self.flags.len() {
+            self.flags[place] = value;
+        }
+    }
+}

@@ -1,0 +1,95 @@
+//! Scans of a node's neighbours.
+
+ghost use Rattle.std.specs.Prelude.{◌≡◌, find};
+ghost use Rattle.rule_machine.specs.Network.{neighbours};
+ghost use Rattle.rule_machine.specs.State as state;
+ghost use Rattle.rule_machine.specs.RuleTable.{first_open};
+ghost use Rattle.rule_machine.specs.HsuHuang.{hsu_huang_opens};
+ghost use Rattle.rule_machine.specs.Manne.{may_court};
+
+use crate::PlainNet;
+use rule_machine::Node;
+
+impl PlainNet {
+    /// The first neighbour that points at a node, if any does.
+    pub(crate) fn first_suitor(&self, v: Node) -> Option<Node>
+        ensures { result ≡ state.first_suitor self.now v }
+    {
+        self.names()
+            .iter()
+            .copied()
+            .filter(|w| self.linked(v, *w))
+            .find(|w| self.points(*w, v))
+    }
+
+    /// Whether a neighbour points at a node.
+    pub(crate) fn has_suitor(&self, v: Node) -> bool
+        ensures { result ≡ state.has_suitor self.now v }
+    {
+        self.first_suitor(v).is_some()
+    }
+
+    /// The neighbour with which a node is a mutual pair, if there is one.
+    pub(crate) fn partner(&self, v: Node) -> Option<Node>
+        ensures { result ≡ state.partner self.now v }
+    {
+        self.names()
+            .iter()
+            .copied()
+            .filter(|w| self.linked(v, *w))
+            .find(|w| self.points(v, *w) && self.points(*w, v))
+    }
+
+    /// Whether a node is in a mutual pair.
+    pub(crate) fn married(&self, v: Node) -> bool
+        ensures { result ≡ state.married self.now v }
+    {
+        self.partner(v).is_some()
+    }
+
+    /// Whether a node's flag says whether it is married.
+    pub(crate) fn is_settled(&self, v: Node) -> bool
+        ensures { result ≡ state.is_settled self.now v }
+    {
+        self.flag(v) == self.married(v)
+    }
+
+    /// Whether a node points at one that does not point back.
+    pub(crate) fn is_unanswered(&self, v: Node) -> bool
+        ensures { result ≡ state.is_unanswered self.now v }
+    {
+        match self.pointer(v) {
+            Some(w) => !self.points(w, v),
+            None => false,
+        }
+    }
+
+    /// The first neighbour that points nowhere.
+    pub(crate) fn first_null(&self, v: Node) -> Option<Node>
+        ensures { result ≡ first_open hsu_huang_opens self.now v }
+    {
+        self.names()
+            .iter()
+            .copied()
+            .filter(|w| self.linked(v, *w))
+            .find(|w| self.pointer(*w).is_none())
+    }
+
+    /// Whether a node may court another: that one is above it, points nowhere and is not flagged.
+    pub(crate) fn may_court(&self, v: Node, w: Node) -> bool
+        ensures { result ≡ may_court self.now v w }
+    {
+        self.pointer(w).is_none() && !self.flag(w) && v < w
+    }
+
+    /// The first neighbour that a node may court.
+    pub(crate) fn first_courted(&self, v: Node) -> Option<Node>
+        ensures { result ≡ find (may_court self.now v) (neighbours self.now.network v) }
+    {
+        self.names()
+            .iter()
+            .copied()
+            .filter(|w| self.linked(v, *w))
+            .find(|w| self.may_court(v, *w))
+    }
+}

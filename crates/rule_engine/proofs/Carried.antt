@@ -1,0 +1,128 @@
+-- What carrying out the verdicts of a choice that is not refused does.
+use Rattle.std.proofs.Common.{◌≡◌, ℕ, zero, suc, ◌+◌, ◌-◌, ◌<◌, List, [], ◌∷◌, length, get_or, fold, filter_map, Option, None, All, refl, sym, ap, ◌∙◌, subst, arith}
+use Rattle.std.specs.List.{range_with_len}
+use Rattle.std.proofs.lemmas.List.Elements.{All-from_recursion}
+use Rattle.rule_machine.specs.declared.act.Act.{Act}
+use Rattle.rule_machine.specs.declared.act.Act.TheVariants.{Update, Marry, Seduce, Abandon}
+use Rattle.rule_machine.specs.declared.choice.Item.{Item}
+use Rattle.rule_machine.specs.declared.moved.Moved.{Moved}
+use Rattle.rule_machine.specs.declared.verdict.Verdict.{Verdict}
+use Rattle.rule_machine.specs.Network.{names}
+use Rattle.rule_machine.specs.State.{State, Registers, IsState, holds_at, points, with_flag}
+use Rattle.rule_machine.specs.RuleTable.{RuleTable}
+use Rattle.rule_machine.specs.Step.{written, after_move, registers_after}
+use Rattle.rule_machine.specs.Refuse.{step_refusal}
+use Rattle.rule_machine.specs.Least.{least_moves}
+use Rattle.machine_laws.specs.Keeps.{IsMoveIn}
+use Rattle.machine_laws.specs.LeastMoves.{IsTable, least_moves_in, step_keeps}
+use Rattle.machine_laws.specs.Accepted.{choice_from_none, taken_at}
+use Rattle.rule_engine.specs.Choosing.{verdicts_from, verdicts_of, verdicts_refusal, found_move, flag_by, flag_written, flag_read_by, flag_read, pointer_by, pointer_written, AreApart}
+use Rattle.rule_engine.proofs.Judged.{found_move-verdicts_from, refusals_agree, length-verdicts_from, apart_from}
+use Rattle.rule_engine.proofs.Keeping.{present_below}
+use Rattle.rule_engine.proofs.Partners.{married_answered}
+
+verdict_at : (t : RuleTable) (s : State) (place : ℕ) (items : List Item) (k : ℕ) (d : Verdict) (i : Item) → k < length items → (get_or (verdicts_from t s place items) k d).node ≡ (get_or items k i).node
+verdict_at t s place [] k d i below = absurd (omega arith)
+verdict_at t s place (item ∷ items) zero d i below = refl
+verdict_at t s place (item ∷ items) (suc k) d i below = verdict_at t s (place + 1) items k d i (omega arith)
+
+-- each verdict is of a present node
+pub verdicts_within : (t : RuleTable) (s : State) (items : List Item) (verdicts : List Verdict) → verdicts ≡ verdicts_of t s items → step_refusal t s items ≡ None → (k : ℕ) (d : Verdict) → k < length verdicts → (get_or verdicts k d).node < s.network.size + 1
+verdicts_within t s items verdicts is none k d below =
+    let inside : k < length items = omega (arith, ap length is, length-verdicts_from t s 0 items) in
+    let item : Item = record { node = 0; wish = None } in
+    let taken = taken_at t s [] items (choice_from_none t s items none).taken k item inside in
+    let same : (get_or verdicts k d).node ≡ (get_or items k item).node = ap (λ l. (get_or l k d).node) is ∙ verdict_at t s 0 items k d item inside in
+    subst (λ v. v < s.network.size + 1) (sym same) (present_below s.network.size (get_or items k item).node taken.0.has)
+
+-- and no two are of one node
+pub verdicts_apart : (t : RuleTable) (s : State) (items : List Item) (verdicts : List Verdict) → verdicts ≡ verdicts_of t s items → step_refusal t s items ≡ None → AreApart verdicts
+verdicts_apart t s items verdicts is none =
+    let judged : verdicts_refusal [] verdicts ≡ None = ap (verdicts_refusal []) is ∙ refusals_agree t s 0 items [] [] (λ v. refl) ∙ (choice_from_none t s items none).taken in
+    λ k d below. apart_from [] verdicts judged k d below
+
+-- the moves that they have are those of the choice
+pub moves_found : (t : RuleTable) (s : State) (items : List Item) (verdicts : List Verdict) (places : ℕ) → verdicts ≡ verdicts_of t s items → places ≡ s.network.size + 1 → filter_map (found_move verdicts) (range_with_len 1 (places - 1)) ≡ least_moves t s items
+moves_found t s items verdicts places is count =
+    let size : places - 1 ≡ s.network.size = omega arith in
+    ap (λ vs. filter_map (found_move vs) (range_with_len 1 (places - 1))) is
+    ∙ ap (λ n. filter_map (found_move (verdicts_of t s items)) (range_with_len 1 n)) size
+    ∙ (λ i. filter_map (λ v. found_move-verdicts_from t s 0 items v i) (names s.network))
+
+-- each is of a node that has a place
+pub moves_within : (t : RuleTable) → IsTable t → (s : State) (items : List Item) (moves : List Moved) (places : ℕ) → moves ≡ least_moves t s items → places ≡ s.network.size + 1 → (k : ℕ) (d : Moved) → k < length moves → (get_or moves k d).node < places
+moves_within t table s items moves places is count k d below =
+    let all : All (IsMoveIn s.network) moves = subst (All (IsMoveIn s.network)) (sym is) (All-from_recursion (IsMoveIn s.network) (least_moves t s items) (least_moves_in t table s items)) in
+    let low = present_below s.network.size (get_or moves k d).node (all k d below).has in
+    omega (arith, low, count)
+
+-- a move's write is that of its flag, then of its pointer
+split_write : (before : State) (r : Registers) (m : Moved) → after_move before r m ≡ pointer_written (flag_written before r m) m
+split_write before r m = by_act m.act
+  where
+    by_act : (act : Act) → written before r m.node act m.target ≡ pointer_by (flag_by before r m.node act) m.node act m.target
+    by_act Update = refl
+    by_act Marry = refl
+    by_act Seduce = refl
+    by_act Abandon = refl
+
+-- flags and pointers are written past each other
+pass_write : (before : State) (r : Registers) (m n : Moved) → flag_written before (pointer_written r m) n ≡ pointer_written (flag_written before r n) m
+pass_write before r m n = by_acts m.act n.act
+  where
+    by_acts : (a b : Act) → flag_by before (pointer_by r m.node a m.target) n.node b ≡ pointer_by (flag_by before r n.node b) m.node a m.target
+    by_acts Update b = refl
+    by_acts Marry Update = refl
+    by_acts Marry Marry = refl
+    by_acts Marry Seduce = refl
+    by_acts Marry Abandon = refl
+    by_acts Seduce Update = refl
+    by_acts Seduce Marry = refl
+    by_acts Seduce Seduce = refl
+    by_acts Seduce Abandon = refl
+    by_acts Abandon Update = refl
+    by_acts Abandon Marry = refl
+    by_acts Abandon Seduce = refl
+    by_acts Abandon Abandon = refl
+
+pass_writes : (before : State) (r : Registers) (m : Moved) (moves : List Moved) → fold (flag_written before) (pointer_written r m) moves ≡ pointer_written (fold (flag_written before) r moves) m
+pass_writes before r m [] = refl
+pass_writes before r m (n ∷ moves) = ap (λ q. fold (flag_written before) q moves) (pass_write before r m n) ∙ pass_writes before (flag_written before r n) m moves
+
+-- so all flags may be written first
+two_passes : (before : State) (r : Registers) (moves : List Moved) → fold (after_move before) r moves ≡ fold pointer_written (fold (flag_written before) r moves) moves
+two_passes before r [] = refl
+two_passes before r (m ∷ moves) =
+    two_passes before (after_move before r m) moves
+    ∙ ap (λ q. fold pointer_written (fold (flag_written before) q moves) moves) (split_write before r m)
+    ∙ ap (λ q. fold pointer_written q moves) (pass_writes before (flag_written before r m) m moves)
+
+-- over the pointers of before, a flag that is read is the one of before
+same_flag : (s : State) → IsState s → (r : Registers) → r.pointers ≡ s.registers.pointers → (v : ℕ) (act : Act) → flag_read_by r v act ≡ flag_by s r v act
+same_flag s good r same v Update =
+    ap (with_flag r v) (ap (λ (p : List (Option ℕ)). holds_at (λ w. points (record { pointers = p; flags = [] }) w v) (get_or p v None)) same ∙ sym (married_answered s v good))
+same_flag s good r same v Marry = refl
+same_flag s good r same v Seduce = refl
+same_flag s good r same v Abandon = refl
+
+flag_keeps_pointers : (s : State) (r : Registers) (v : ℕ) (act : Act) → (flag_by s r v act).pointers ≡ r.pointers
+flag_keeps_pointers s r v Update = refl
+flag_keeps_pointers s r v Marry = refl
+flag_keeps_pointers s r v Seduce = refl
+flag_keeps_pointers s r v Abandon = refl
+
+flags_read : (s : State) → IsState s → (r : Registers) (moves : List Moved) → r.pointers ≡ s.registers.pointers → fold flag_read r moves ≡ fold (flag_written s) r moves
+flags_read s good r [] same = refl
+flags_read s good r (m ∷ moves) same =
+    ap (λ q. fold flag_read q moves) (same_flag s good r same m.node m.act)
+    ∙ flags_read s good (flag_by s r m.node m.act) moves (flag_keeps_pointers s r m.node m.act ∙ same)
+
+-- the registers after flags that are read, and then pointers
+pub written_in_two : (s : State) → IsState s → (moves : List Moved) → fold pointer_written (fold flag_read s.registers moves) moves ≡ registers_after s moves
+written_in_two s good moves = ap (λ q. fold pointer_written q moves) (flags_read s good s.registers moves refl) ∙ sym (two_passes s s.registers moves)
+
+-- what is left is a state
+pub carried_state : (t : RuleTable) → IsTable t → (s : State) → IsState s → (items : List Item) (moves : List Moved) (r : Registers) → moves ≡ least_moves t s items → r ≡ fold pointer_written (fold flag_read s.registers moves) moves → IsState (record s { registers = r })
+carried_state t table s good items moves r is wrote =
+    let same : r ≡ registers_after s (least_moves t s items) = wrote ∙ written_in_two s good moves ∙ ap (registers_after s) is in
+    subst (λ q. IsState (record s { registers = q })) (sym same) (step_keeps t table s good items)

@@ -1,0 +1,109 @@
+-- What verdicts say of the items that they are of.
+use Rattle.std.proofs.Common.{◌≡◌, ℕ, zero, suc, ◌+◌, ◌<◌, Bool, true, false, cond, not, ◌&&◌, ◌||◌, List, [], ◌∷◌, ◌++◌, length, get_or, take, find, Option, None, Some, option_and_then, nat_eq, nat_lt, if◌then◌else◌, refl, sym, ap, ◌∙◌, arith, append_assoc}
+use Rattle.std.specs.List.{list_any}
+use Rattle.std.specs.Option.{option_or}
+use Rattle.std.proofs.lemmas.List.{append-nil}
+use Rattle.rule_machine.specs.declared.act.Act.{Act}
+use Rattle.rule_machine.specs.declared.choice.Item.{Item}
+use Rattle.rule_machine.specs.declared.refusal.Refusal.TheVariants.{UnknownNode, ChosenTwice, BadTarget, EmptyChoice, NotCentral}
+use Rattle.rule_machine.specs.declared.verdict.Verdict.{Verdict}
+use Rattle.rule_machine.specs.declared.verdict.Outcome.TheVariants as outcome
+use Rattle.rule_machine.specs.Network.{present}
+use Rattle.rule_machine.specs.State.{State}
+use Rattle.rule_machine.specs.RuleTable.{RuleTable, rule_at}
+use Rattle.rule_machine.specs.Refuse.{item_refusal, items_refusal, step_refusal, rule_refusal, wish_refusal}
+use Rattle.rule_machine.specs.Least.{outcome_of, outcome_at, outcome_by, item_of, move_in}
+use Rattle.machine_laws.specs.LeastMoves.{move_at}
+use Rattle.rule_engine.specs.Choosing.{verdict_of, verdicts_from, verdicts_of, refused_by, verdicts_refusal, refusal_of_verdicts, found_move}
+use Rattle.rule_engine.proofs.Found.{once_from_accepted}
+
+by_wish : (t : RuleTable) (s : State) (v : ℕ) (act : Act) (wish : Option ℕ) → wish_refusal (t.allowed s v act) wish ≡ refused_by (outcome_by t s v act wish) false
+by_wish t s v act None = refl
+by_wish t s v act (Some w) =
+    elim (t.allowed s v act w) as (λ b. cond b None (Some BadTarget) ≡ refused_by (cond b (outcome.Moves (record { node = v; act = act; target = Some w })) outcome.Wrong) false) [
+      | true ↦ refl
+      | false ↦ refl
+    ]
+
+by_wish_twice : (t : RuleTable) (s : State) (v : ℕ) (act : Act) (wish : Option ℕ) → Some ChosenTwice ≡ refused_by (outcome_by t s v act wish) true
+by_wish_twice t s v act None = refl
+by_wish_twice t s v act (Some w) =
+    elim (t.allowed s v act w) as (λ b. Some ChosenTwice ≡ refused_by (cond b (outcome.Moves (record { node = v; act = act; target = Some w })) outcome.Wrong) true) [
+      | true ↦ refl
+      | false ↦ refl
+    ]
+
+by_rule : (t : RuleTable) (s : State) (item : Item) (twice : Bool) (act : Option Act) → cond twice (Some ChosenTwice) (rule_refusal t s item act) ≡ refused_by (outcome_at t s item act) twice
+by_rule t s item true None = refl
+by_rule t s item false None = refl
+by_rule t s item true (Some act) = by_wish_twice t s item.node act item.wish
+by_rule t s item false (Some act) = by_wish t s item.node act item.wish
+
+-- why an item is refused, from its outcome and whether its node stands earlier
+pub item_refusal-outcome : (t : RuleTable) (s : State) (earlier : List Item) (item : Item) → item_refusal t s earlier item ≡ refused_by (outcome_of t s item) (list_any (λ i. nat_eq i.node item.node) earlier)
+item_refusal-outcome t s earlier item =
+    elim (present s.network item.node) as (λ b. cond (not b) (Some UnknownNode) (cond (list_any (λ i. nat_eq i.node item.node) earlier) (Some ChosenTwice) (rule_refusal t s item (rule_at t s item.node))) ≡ refused_by (cond b (outcome_at t s item (rule_at t s item.node)) outcome.Absent) (list_any (λ i. nat_eq i.node item.node) earlier)) [
+      | true ↦ by_rule t s item (list_any (λ i. nat_eq i.node item.node) earlier) (rule_at t s item.node)
+      | false ↦ refl
+    ]
+
+pub length-verdicts_from : (t : RuleTable) (s : State) (place : ℕ) (items : List Item) → length (verdicts_from t s place items) ≡ length items
+length-verdicts_from t s place [] = refl
+length-verdicts_from t s place (item ∷ items) = ap suc (length-verdicts_from t s (place + 1) items)
+
+-- the verdicts name the nodes that the items name
+same_named : (t : RuleTable) (s : State) (place : ℕ) (items : List Item) (v : ℕ) → list_any (λ d. nat_eq d.node v) (verdicts_from t s place items) ≡ list_any (λ i. nat_eq i.node v) items
+same_named t s place [] v = refl
+same_named t s place (item ∷ items) v = ap (λ b. nat_eq item.node v || b) (same_named t s (place + 1) items v)
+
+any_push : {X : Type 0} (p : X → Bool) (xs ys : List X) → list_any p (xs ++ ys) ≡ (list_any p xs || list_any p ys)
+any_push p [] ys = refl
+any_push p (x ∷ xs) ys = ap (λ b. p x || b) (any_push p xs ys) ∙ or_regroup (p x) (list_any p xs) (list_any p ys)
+  where
+    or_regroup : (a b c : Bool) → (a || (b || c)) ≡ ((a || b) || c)
+    or_regroup true b c = refl
+    or_regroup false b c = refl
+
+-- two lists whose verdicts and items name the same nodes go on to the same refusal
+pub refusals_agree : (t : RuleTable) (s : State) (place : ℕ) (items earlier : List Item) (judged : List Verdict) → ((v : ℕ) → list_any (λ d. nat_eq d.node v) judged ≡ list_any (λ i. nat_eq i.node v) earlier) → verdicts_refusal judged (verdicts_from t s place items) ≡ items_refusal t s earlier items
+refusals_agree t s place [] earlier judged same = refl
+refusals_agree t s place (item ∷ items) earlier judged same =
+    let first = item_refusal-outcome t s earlier item in
+    let next : (v : ℕ) → list_any (λ d. nat_eq d.node v) (judged ++ verdict_of t s place item ∷ []) ≡ list_any (λ i. nat_eq i.node v) (earlier ++ item ∷ []) =
+    λ v. any_push (λ (d : Verdict). nat_eq d.node v) judged (verdict_of t s place item ∷ []) ∙ ap (λ b. b || (nat_eq item.node v || false)) (same v) ∙ sym (any_push (λ (i : Item). nat_eq i.node v) earlier (item ∷ []))
+    in
+    ap (λ b. option_or (refused_by (outcome_of t s item) b) (verdicts_refusal (judged ++ verdict_of t s place item ∷ []) (verdicts_from t s (place + 1) items))) (same item.node)
+    ∙ ap (λ o. option_or o (verdicts_refusal (judged ++ verdict_of t s place item ∷ []) (verdicts_from t s (place + 1) items))) (sym first)
+    ∙ ap (option_or (item_refusal t s earlier item)) (refusals_agree t s (place + 1) items (earlier ++ item ∷ []) (judged ++ verdict_of t s place item ∷ []) next)
+
+-- a step is refused by its verdicts as by its items
+pub refusal-verdicts_of : (t : RuleTable) (s : State) (items : List Item) → refusal_of_verdicts t.central (verdicts_of t s items) ≡ step_refusal t s items
+refusal-verdicts_of t s items =
+    (λ i. if nat_eq (length-verdicts_from t s 0 items i) 0 then Some EmptyChoice else (if t.central && nat_lt 1 (length-verdicts_from t s 0 items i) then Some NotCentral else refusals_agree t s 0 items [] [] (λ v. refl) i))
+
+-- the move that the verdicts have for a node is that of the first item that names it
+pub found_move-verdicts_from : (t : RuleTable) (s : State) (place : ℕ) (items : List Item) (v : ℕ) → found_move (verdicts_from t s place items) v ≡ move_at t s items v
+found_move-verdicts_from t s place [] v = refl
+found_move-verdicts_from t s place (item ∷ items) v =
+    elim (nat_eq item.node v) as (λ b. option_and_then (λ (d : Verdict). move_in d.outcome) (cond b (Some (verdict_of t s place item)) (find (λ d. nat_eq d.node v) (verdicts_from t s (place + 1) items))) ≡ option_and_then (λ i. move_in (outcome_of t s i)) (cond b (Some item) (item_of items v))) [
+      | true ↦ refl
+      | false ↦ found_move-verdicts_from t s (place + 1) items v
+    ]
+
+-- of verdicts that are not refused no two are of one node
+pub apart_from : (judged ds : List Verdict) → verdicts_refusal judged ds ≡ None → (k : ℕ) (d : Verdict) → k < length ds → list_any (λ e. nat_eq e.node (get_or ds k d).node) (judged ++ take k ds) ≡ false
+apart_from judged [] none k d below = absurd (omega arith)
+apart_from judged (e ∷ ds) none zero d below =
+    let parts = or_none (refused_by e.outcome (list_any (λ x. nat_eq x.node e.node) judged)) (verdicts_refusal (judged ++ e ∷ []) ds) none in
+    ap (list_any (λ (x : Verdict). nat_eq x.node e.node)) (append-nil judged) ∙ once_from_accepted e.outcome _ parts.0
+  where
+    or_none : {X : Type 0} (o p : Option X) → option_or o p ≡ None → (o ≡ None) × (p ≡ None)
+    or_none None p h = (refl, h)
+    or_none (Some x) p h = absurd cc
+apart_from judged (e ∷ ds) none (suc k) d below =
+    let parts = or_none (refused_by e.outcome (list_any (λ x. nat_eq x.node e.node) judged)) (verdicts_refusal (judged ++ e ∷ []) ds) none in
+    ap (list_any (λ (x : Verdict). nat_eq x.node (get_or ds k d).node)) (sym (append_assoc judged (e ∷ []) (take k ds))) ∙ apart_from (judged ++ e ∷ []) ds parts.1 k d (omega arith)
+  where
+    or_none : {X : Type 0} (o p : Option X) → option_or o p ≡ None → (o ≡ None) × (p ≡ None)
+    or_none None p h = (refl, h)
+    or_none (Some x) p h = absurd cc

@@ -1,0 +1,81 @@
+-- Lists that scans of all names, or of the enabled ones, make.
+use Rattle.std.proofs.Common.{◌≡◌, ℕ, zero, suc, ◌+◌, ◌-◌, ◌<◌, ◌≤◌, Bool, true, false, cond, List, [], ◌∷◌, ◌++◌, length, get_or, take, filter, filter_map, SomeIff, Option, None, Some, Result, Ok, is_ok, is_some, option_map, option_to_list, IsTrue, refl, sym, ap, ◌∙◌, subst, arith}
+use Rattle.std.specs.List.{range_with_len, cons_option}
+use Rattle.std.proofs.lemmas.List.{append-nil}
+use Rattle.std.proofs.lemmas.List.Elements.{filter_map-append}
+use Rattle.rule_machine.specs.declared.act.Act.{Act}
+use Rattle.rule_machine.specs.Network.{present}
+use Rattle.rule_machine.specs.State.{State}
+use Rattle.rule_machine.specs.RuleTable.{RuleTable, rule_at, enabled_names, enabled}
+use Rattle.state_lemmas.specs.Neighbours.{present_from}
+use Rattle.rule_engine.specs.Kept.{guard_at, marked_at}
+use Rattle.rule_engine.proofs.Found.{filter_range_more, push_is_take, one_found}
+
+-- at a name that is present
+pub guard_at_present : (t : RuleTable) (s : State) (v : ℕ) → IsTrue (present s.network v) → guard_at t s v ≡ rule_at t s v
+guard_at_present t s v has = ap (λ b. cond b (rule_at t s v) None) has
+
+-- a filter keeps no more than it is given
+pub length-filter : (p : ℕ → Bool) (xs : List ℕ) → length (filter p xs) ≤ length xs
+length-filter p [] = omega arith
+length-filter p (x ∷ xs) =
+    elim (p x) as (λ b. length (cond b (x ∷ filter p xs) (filter p xs)) ≤ suc (length xs)) [
+      | true ↦ omega (arith, length-filter p xs)
+      | false ↦ omega (arith, length-filter p xs)
+    ]
+
+-- what passes of the names below n, and at n
+pub passed_more : (p : ℕ → Bool) (n : ℕ) (before : List ℕ) → 1 ≤ n → before ≡ filter p (range_with_len 1 (n - 1)) → before ++ cond (p n) (n ∷ []) [] ≡ filter p (range_with_len 1 (n + 1 - 1))
+passed_more p n before low is =
+    let next : 1 + (n - 1) ≡ n = omega arith in
+    let count : n - 1 + 1 ≡ n + 1 - 1 = omega arith in
+    ap (λ l. l ++ cond (p n) (n ∷ []) []) is
+    ∙ ap (λ q. filter p (range_with_len 1 (n - 1)) ++ cond (p q) (q ∷ []) []) (sym next)
+    ∙ sym (filter_range_more p 1 (n - 1))
+    ∙ ap (λ m. filter p (range_with_len 1 m)) count
+
+marked_by : (f : ℕ → Option (ℕ × Act)) (v : ℕ) (act : Option Act) (rest : List ℕ) (ps : List (ℕ × Act)) → f v ≡ option_map (λ a. (v, a)) act → filter_map f rest ≡ ps → filter_map f (cond (is_some act) (v ∷ rest) rest) ≡ cons_option (option_map (λ a. (v, a)) act) ps
+marked_by f v None rest ps at is = is
+marked_by f v (Some a) rest ps at is = ap (λ o. cons_option o (filter_map f rest)) at ∙ ap (λ l. (v, a) ∷ l) is
+
+enabled_in : (t : RuleTable) (s : State) (a n : ℕ) → 1 ≤ a → a + n ≤ s.network.size + 1 → filter_map (marked_at t s) (filter (λ v. is_some (rule_at t s v)) (range_with_len a n)) ≡ filter_map {Y = ℕ × Act} (λ v. option_map (λ act. (v, act)) (rule_at t s v)) (range_with_len a n)
+enabled_in t s a zero low high = refl
+enabled_in t s a (suc n) low high =
+    marked_by (marked_at t s) a (rule_at t s a) (filter (λ v. is_some (rule_at t s v)) (range_with_len (a + 1) n)) _
+    (ap (λ (o : Option Act). option_map (λ act. (a, act)) o) (guard_at_present t s a (present_from s.network a low (omega arith))))
+    (enabled_in t s (a + 1) n (omega arith) (omega arith))
+
+-- the enabled nodes with the rules that are found at them
+pub enabled_listed : (t : RuleTable) (s : State) → filter_map (marked_at t s) (enabled_names t s) ≡ enabled t s
+enabled_listed t s = enabled_in t s 1 s.network.size (omega arith) (omega arith)
+
+-- what is found in the items so far, and in the next
+pub filter_map_take_more : {X Y : Type 0} (f : X → Option Y) (xs : List X) (i : ℕ) (x : X) → i < length xs → x ≡ get_or xs i x → filter_map f (take (i + 1) xs) ≡ filter_map f (take i xs) ++ option_to_list (f x)
+filter_map_take_more f xs i x within is =
+    ap (filter_map f) (sym (push_is_take xs i x within is)) ∙ filter_map-append f (take i xs) (x ∷ []) ∙ ap (λ l. filter_map f (take i xs) ++ l) (one_found (f x))
+
+-- the value of a call that answers exactly where a fact holds
+pub some_iff_at : {X : Type 0} (o : Option X) (P : Type 0) (v x : X) → SomeIff o P v → o ≡ Some x → x ≡ v
+some_iff_at o P v x h e = (let k : P × (x ≡ v) = subst (λ q. SomeIff q P v) e h in k).1
+
+-- one more item that is found, and one that is not
+pub pushed_found : {X Y : Type 0} (f : X → Option Y) (before after : List Y) (xs : List X) (i : ℕ) (x : X) (y : Y) → i < length xs → x ≡ get_or xs i x → before ≡ filter_map f (take i xs) → after ≡ before ++ y ∷ [] → f x ≡ Some y → after ≡ filter_map f (take (i + 1) xs)
+pushed_found f before after xs i x y within is so_far pushed found =
+    pushed ∙ ap (λ l. l ++ y ∷ []) so_far ∙ ap (λ o. filter_map f (take i xs) ++ option_to_list o) (sym found) ∙ sym (filter_map_take_more f xs i x within is)
+
+pub skipped_found : {X Y : Type 0} (f : X → Option Y) (before after : List Y) (xs : List X) (i : ℕ) (x : X) → i < length xs → x ≡ get_or xs i x → before ≡ filter_map f (take i xs) → after ≡ before → f x ≡ None → after ≡ filter_map f (take (i + 1) xs)
+skipped_found f before after xs i x within is so_far same none =
+    same ∙ so_far ∙ sym (append-nil (filter_map f (take i xs))) ∙ ap (λ o. filter_map f (take i xs) ++ option_to_list o) (sym none) ∙ sym (filter_map_take_more f xs i x within is)
+
+-- one more name that passes, and one that does not
+pub pushed_passed : (p : ℕ → Bool) (n v : ℕ) (before after : List ℕ) → 1 ≤ n → v ≡ n → before ≡ filter p (range_with_len 1 (n - 1)) → after ≡ before ++ v ∷ [] → p v ≡ true → after ≡ filter p (range_with_len 1 (n + 1 - 1))
+pushed_passed p n v before after low named so_far pushed passes =
+    pushed ∙ ap (λ q. before ++ q ∷ []) named ∙ ap (λ b. before ++ cond b (n ∷ []) []) (sym (sym (ap p named) ∙ passes)) ∙ passed_more p n before low so_far
+
+pub skipped_passed : (p : ℕ → Bool) (n v : ℕ) (before after : List ℕ) → 1 ≤ n → v ≡ n → before ≡ filter p (range_with_len 1 (n - 1)) → after ≡ before → p v ≡ false → after ≡ filter p (range_with_len 1 (n + 1 - 1))
+skipped_passed p n v before after low named so_far same fails =
+    same ∙ sym (append-nil before) ∙ ap (λ b. before ++ cond b (n ∷ []) []) (sym (sym (ap p named) ∙ fails)) ∙ passed_more p n before low so_far
+
+-- what a call that succeeds leaves
+pub ok_branch : {A U E : Type 0} (r : Result U E) (u : U) (x y : A) → r ≡ Ok u → cond (is_ok r) x y ≡ x
+ok_branch r u x y e = ap (λ q. cond (is_ok q) x y) e

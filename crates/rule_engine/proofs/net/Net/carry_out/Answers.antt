@@ -1,0 +1,102 @@
+use Rattle.std.proofs.Common.{◌≡◌, ◌+◌, ◌<◌, ap, sym, ◌∙◌, refl, subst, length, get_or, None}
+use Rattle.rule_machine.specs.declared.event.Event.TheVariants.{Step}
+use Rattle.rule_machine.specs.declared.reply.Reply.TheVariants.{Moves}
+use Rattle.rule_machine.specs.Refuse.{step_refusal}
+use Rattle.rule_machine.specs.Step.{registers_after}
+use Rattle.rule_machine.specs.Least.{least_moves, reply_by, state_by, reply_of, state_after}
+use Rattle.machine_laws.specs.LeastMoves.{IsTable}
+use Rattle.rule_engine.specs.Kept.{state_of}
+use Rattle.rule_engine.specs.Choosing.{verdicts_of}
+use Rattle.rule_engine.proofs.Carried.{verdicts_within, verdicts_apart, moves_found, moves_within, carried_state, written_in_two}
+use Rattle.rule_engine.proofs.Keeping.{kept_again}
+use Rattle.rule_engine.proofs.net.Net.carry_out.Goals as goal
+
+pub ascending_moves-requires-clause-within : goal.ascending_moves-requires-clause-within
+ascending_moves-requires-clause-within g c =
+    let t = g.R.Rules.table in
+    let s = state_of c.self.inside.store c.self.inside.registers in
+    let items = c.args.choice.now in
+    let none : step_refusal t s items ≡ None = ap (λ u. step_refusal t u items) c.self.view_is ∙ c.requires.accepted in
+    let verdicts : c.args.verdicts.now ≡ verdicts_of t s items = c.requires.verdicts ∙ ap (λ u. verdicts_of t u items) (sym c.self.view_is) in
+    λ k d below. subst (λ n. (get_or c.args.verdicts.now k d).node < n + 1) (sym c.nodes.ensures.count) (verdicts_within t s items c.args.verdicts.now verdicts none k d below)
+
+pub ascending_moves-requires-clause-apart : goal.ascending_moves-requires-clause-apart
+ascending_moves-requires-clause-apart g c =
+    let t = g.R.Rules.table in
+    let s = state_of c.self.inside.store c.self.inside.registers in
+    let items = c.args.choice.now in
+    let none : step_refusal t s items ≡ None = ap (λ u. step_refusal t u items) c.self.view_is ∙ c.requires.accepted in
+    let verdicts : c.args.verdicts.now ≡ verdicts_of t s items = c.requires.verdicts ∙ ap (λ u. verdicts_of t u items) (sym c.self.view_is) in
+    verdicts_apart t s items c.args.verdicts.now verdicts none
+
+pub write_moves-requires-clause-flags_in : goal.write_moves-requires-clause-flags_in
+write_moves-requires-clause-flags_in g c =
+    let laws = g.met.R.Rules in
+    let table : IsTable g.R.Rules.table = record { allowed_is_neighbour = laws.allowed_is_neighbour; allowed_takes_target = laws.allowed_takes_target; has_target = laws.has_target } in
+    let t = g.R.Rules.table in
+    let s = state_of c.self.inside.store c.self.inside.registers in
+    let items = c.args.choice.now in
+    let verdicts : c.args.verdicts.now ≡ verdicts_of t s items = c.requires.verdicts ∙ ap (λ u. verdicts_of t u items) (sym c.self.view_is) in
+    let count : c.nodes.result + 1 ≡ s.network.size + 1 = ap (λ n. n + 1) c.nodes.ensures.count in
+    let found : c.in_ok-moves.moves.items ≡ least_moves t s items = c.in_ok-moves.ensures ∙ moves_found t s items c.args.verdicts.now (c.nodes.result + 1) verdicts count in
+    let moves : c.deref.result.now ≡ least_moves t s items = c.deref.ensures.value ∙ found in
+    moves_within t table s items c.deref.result.now (length c.self.inside.registers.flags) moves c.self.invariant.is_state.flags_len
+
+pub write_moves-requires-clause-pointers_in : goal.write_moves-requires-clause-pointers_in
+write_moves-requires-clause-pointers_in g c =
+    let laws = g.met.R.Rules in
+    let table : IsTable g.R.Rules.table = record { allowed_is_neighbour = laws.allowed_is_neighbour; allowed_takes_target = laws.allowed_takes_target; has_target = laws.has_target } in
+    let t = g.R.Rules.table in
+    let s = state_of c.self.inside.store c.self.inside.registers in
+    let items = c.args.choice.now in
+    let verdicts : c.args.verdicts.now ≡ verdicts_of t s items = c.requires.verdicts ∙ ap (λ u. verdicts_of t u items) (sym c.self.view_is) in
+    let count : c.nodes.result + 1 ≡ s.network.size + 1 = ap (λ n. n + 1) c.nodes.ensures.count in
+    let found : c.in_ok-moves.moves.items ≡ least_moves t s items = c.in_ok-moves.ensures ∙ moves_found t s items c.args.verdicts.now (c.nodes.result + 1) verdicts count in
+    let moves : c.deref.result.now ≡ least_moves t s items = c.deref.ensures.value ∙ found in
+    moves_within t table s items c.deref.result.now (length c.self.inside.registers.pointers) moves c.self.invariant.is_state.pointers_len
+
+pub rescan-requires-clause-state : goal.rescan-requires-clause-state
+rescan-requires-clause-state g c =
+    let laws = g.met.R.Rules in
+    let table : IsTable g.R.Rules.table = record { allowed_is_neighbour = laws.allowed_is_neighbour; allowed_takes_target = laws.allowed_takes_target; has_target = laws.has_target } in
+    let t = g.R.Rules.table in
+    let s = state_of c.self.inside.store c.self.inside.registers in
+    let items = c.args.choice.now in
+    let verdicts : c.args.verdicts.now ≡ verdicts_of t s items = c.requires.verdicts ∙ ap (λ u. verdicts_of t u items) (sym c.self.view_is) in
+    let count : c.nodes.result + 1 ≡ s.network.size + 1 = ap (λ n. n + 1) c.nodes.ensures.count in
+    let found : c.in_ok-moves.moves.items ≡ least_moves t s items = c.in_ok-moves.ensures ∙ moves_found t s items c.args.verdicts.now (c.nodes.result + 1) verdicts count in
+    let moves : c.deref.result.now ≡ least_moves t s items = c.deref.ensures.value ∙ found in
+    carried_state t table s c.self.invariant.is_state items c.deref.result.now c.write_moves.new.registers moves c.write_moves.ensures
+
+pub invariant_of-self : goal.invariant_of-self
+invariant_of-self g c =
+    let laws = g.met.R.Rules in
+    let table : IsTable g.R.Rules.table = record { allowed_is_neighbour = laws.allowed_is_neighbour; allowed_takes_target = laws.allowed_takes_target; has_target = laws.has_target } in
+    let t = g.R.Rules.table in
+    let s = state_of c.self.inside.store c.self.inside.registers in
+    let items = c.args.choice.now in
+    let verdicts : c.args.verdicts.now ≡ verdicts_of t s items = c.requires.verdicts ∙ ap (λ u. verdicts_of t u items) (sym c.self.view_is) in
+    let count : c.nodes.result + 1 ≡ s.network.size + 1 = ap (λ n. n + 1) c.nodes.ensures.count in
+    let found : c.in_ok-moves.moves.items ≡ least_moves t s items = c.in_ok-moves.ensures ∙ moves_found t s items c.args.verdicts.now (c.nodes.result + 1) verdicts count in
+    let moves : c.deref.result.now ≡ least_moves t s items = c.deref.ensures.value ∙ found in
+    kept_again t _ _ _ _ _ _ c.self.invariant
+    (carried_state t table s c.self.invariant.is_state items c.deref.result.now c.write_moves.new.registers moves c.write_moves.ensures)
+    refl c.rescan.ensures.names c.rescan.ensures.room
+
+pub returns : goal.returns
+returns g c =
+    let t = g.R.Rules.table in
+    let s = state_of c.self.inside.store c.self.inside.registers in
+    let items = c.args.choice.now in
+    let none : step_refusal t s items ≡ None = ap (λ u. step_refusal t u items) c.self.view_is ∙ c.requires.accepted in
+    let verdicts : c.args.verdicts.now ≡ verdicts_of t s items = c.requires.verdicts ∙ ap (λ u. verdicts_of t u items) (sym c.self.view_is) in
+    let count : c.nodes.result + 1 ≡ s.network.size + 1 = ap (λ n. n + 1) c.nodes.ensures.count in
+    let found : c.in_ok-moves.moves.items ≡ least_moves t s items = c.in_ok-moves.ensures ∙ moves_found t s items c.args.verdicts.now (c.nodes.result + 1) verdicts count in
+    let moves : c.deref.result.now ≡ least_moves t s items = c.deref.ensures.value ∙ found in
+    let wrote : c.write_moves.new.registers ≡ registers_after s (least_moves t s items) = c.write_moves.ensures ∙ written_in_two s c.self.invariant.is_state c.deref.result.now ∙ ap (registers_after s) moves in
+    record {
+      reply = ap Moves (c.from_vec.ensures ∙ found) ∙ ap (reply_by t s (Step items)) (sym none) ∙ ap (λ u. reply_of t u (Step items)) c.self.view_is;
+      state = ap (state_of c.self.inside.store) wrote ∙ ap (state_by t s (Step items)) (sym none) ∙ ap (λ u. state_after t u (Step items)) c.self.view_is;
+      kept = tt;
+      want = tt;
+    }

@@ -1,0 +1,90 @@
+-- The moves of a choice: the verdict of each item, and what the moves write.
+use Rattle.std.specs.Prelude.{◌≡◌, ℕ, ◌+◌, ◌<◌, Bool, true, false, ◌&&◌, List, [], ◌∷◌, ◌++◌, length, take, find, Option, Some, None, option_and_then, if◌then◌else◌, nat_eq, nat_lt, slice_index_or}
+use Rattle.std.specs.List.{list_any}
+use Rattle.std.specs.Option.{option_or}
+use Rattle.rule_machine.specs.declared.act.Act.{Act}
+use Rattle.rule_machine.specs.declared.act.Act.TheVariants.{Update, Marry, Seduce, Abandon}
+use Rattle.rule_machine.specs.declared.choice.Item.{Item}
+use Rattle.rule_machine.specs.declared.moved.Moved.{Moved}
+use Rattle.rule_machine.specs.declared.verdict.Verdict.{Verdict}
+use Rattle.rule_machine.specs.declared.verdict.Outcome.{Outcome}
+use Rattle.rule_machine.specs.declared.verdict.Outcome.TheVariants as outcome
+use Rattle.rule_machine.specs.declared.refusal.Refusal.{Refusal}
+use Rattle.rule_machine.specs.declared.refusal.Refusal.TheVariants.{UnknownNode, EmptyChoice, NotCentral, ChosenTwice, NotEnabled, BadTarget}
+use Rattle.rule_machine.specs.State.{State, Registers, with_pointer, with_flag, holds_at, points, pointer_of, married}
+use Rattle.rule_machine.specs.RuleTable.{RuleTable}
+use Rattle.rule_machine.specs.Least.{outcome_of, move_in}
+
+-- what the item at a place of a choice would do alone
+abbrev pub verdict_of : RuleTable → State → ℕ → Item → Verdict
+verdict_of t s place item = record { place = place; node = item.node; outcome = outcome_of t s item }
+
+-- the verdicts of items, the first of which stands at the place
+abbrev pub verdicts_from : RuleTable → State → ℕ → List Item → List Verdict
+verdicts_from t s place [] = []
+verdicts_from t s place (item ∷ items) = verdict_of t s place item ∷ verdicts_from t s (place + 1) items
+
+-- the verdict of each item, in order
+abbrev pub verdicts_of : RuleTable → State → List Item → List Verdict
+verdicts_of t s items = verdicts_from t s 0 items
+
+-- why an item with this outcome is refused, where it may stand in the choice before
+abbrev pub refused_by : Outcome → Bool → Option Refusal
+refused_by outcome.Absent twice = Some UnknownNode
+refused_by outcome.Idle true = Some ChosenTwice
+refused_by outcome.Wrong true = Some ChosenTwice
+refused_by (outcome.Moves m) true = Some ChosenTwice
+refused_by outcome.Idle false = Some NotEnabled
+refused_by outcome.Wrong false = Some BadTarget
+refused_by (outcome.Moves m) false = None
+
+-- the first refusal among verdicts, behind those that stand earlier
+abbrev pub verdicts_refusal : List Verdict → List Verdict → Option Refusal
+verdicts_refusal earlier [] = None
+verdicts_refusal earlier (verdict ∷ verdicts) =
+    option_or (refused_by verdict.outcome (list_any (λ d. nat_eq d.node verdict.node) earlier)) (verdicts_refusal (earlier ++ verdict ∷ []) verdicts)
+
+-- why a step with these verdicts is refused
+abbrev pub refusal_of_verdicts : Bool → List Verdict → Option Refusal
+refusal_of_verdicts central verdicts =
+    if nat_eq (length verdicts) 0 then Some EmptyChoice
+    else (if central && nat_lt 1 (length verdicts) then Some NotCentral else verdicts_refusal [] verdicts)
+
+-- no verdict is of a node that an earlier one is of
+abbrev pub AreApart : List Verdict → Type 0
+AreApart verdicts =
+    (k : ℕ) (d : Verdict) → k < length verdicts → list_any (λ e. nat_eq e.node (slice_index_or verdicts k d).node) (take k verdicts) ≡ false
+
+-- the move that the verdicts have for v
+abbrev pub found_move : List Verdict → ℕ → Option Moved
+found_move verdicts v = option_and_then (λ d. move_in d.outcome) (find (λ d. nat_eq d.node v) verdicts)
+
+abbrev pub flag_by : State → Registers → ℕ → Act → Registers
+flag_by before r v Update = with_flag r v (married before v)
+flag_by before r v Marry = r
+flag_by before r v Seduce = r
+flag_by before r v Abandon = r
+
+abbrev pub pointer_by : Registers → ℕ → Act → Option ℕ → Registers
+pointer_by r v Update target = r
+pointer_by r v Marry target = with_pointer r v target
+pointer_by r v Seduce target = with_pointer r v target
+pointer_by r v Abandon target = with_pointer r v None
+
+-- the flag that a move writes, read from these registers
+abbrev pub flag_read_by : Registers → ℕ → Act → Registers
+flag_read_by r v Update = with_flag r v (holds_at (λ w. points r w v) (pointer_of r v))
+flag_read_by r v Marry = r
+flag_read_by r v Seduce = r
+flag_read_by r v Abandon = r
+
+abbrev pub flag_read : Registers → Moved → Registers
+flag_read r m = flag_read_by r m.node m.act
+
+-- the flag that a move writes, read from the state before
+abbrev pub flag_written : State → Registers → Moved → Registers
+flag_written before r m = flag_by before r m.node m.act
+
+-- the pointer that it writes
+abbrev pub pointer_written : Registers → Moved → Registers
+pointer_written r m = pointer_by r m.node m.act m.target

@@ -1,0 +1,38 @@
+-- What a network keeps beside its state.
+use Rattle.std.specs.Prelude.{◌≡◌, ℕ, ◌≤◌, Bool, IfSome, IsTrue, List, Option, Some, None, option_and_then, option_map, if◌then◌else◌}
+use Rattle.rule_machine.specs.declared.act.Act.{Act}
+use Rattle.rule_machine.specs.Network.{Network, present}
+use Rattle.rule_machine.specs.State.{State, Registers, IsState, points, pointer_of, pointer, flag, married}
+use Rattle.rule_machine.specs.Run.{Moment}
+use Rattle.rule_machine.specs.RuleTable.{RuleTable, rule_at, enabled_names}
+
+abbrev pub state_of : Network → Registers → State
+state_of net registers = record { network = net; registers = registers }
+
+-- the state is one, the list is that of its enabled nodes, and there is room for all names in it
+pub record IsKept (t : RuleTable) (s : State) (names : List ℕ) (places : ℕ) : Type 0 where
+  pub is_state : IsState s
+  pub enabled : names ≡ enabled_names t s
+  pub room : s.network.size ≤ places
+  pub few : s.network.size ≤ 65535
+
+-- the rule that is enabled at a name; at an absent one there is none
+abbrev pub guard_at : RuleTable → State → ℕ → Option Act
+guard_at t s v = if present s.network v then rule_at t s v else None
+
+-- the node that v points at, if it points back
+abbrev pub answered_by : Registers → ℕ → Option ℕ
+answered_by r v = option_and_then (λ w. if points r w v then Some w else None) (pointer_of r v)
+
+-- v with the rule that is enabled there
+abbrev pub marked_at : RuleTable → State → ℕ → Option (ℕ × Act)
+marked_at t s v = option_map (λ act. (v, act)) (guard_at t s v)
+
+-- every pointer is null or answered, and where flags are used each says whether its node is married
+pub record IsAnswered (uses_flags : Bool) (s : State) : Type 0 where
+  pub answered : (v : ℕ) → IfSome (pointer s v) (λ w. pointer s w ≡ Some v)
+  pub flagged : IsTrue uses_flags → (v : ℕ) → IsTrue (present s.network v) → flag s v ≡ married s v
+
+-- a state, and the moves spent
+abbrev pub moment : State → ℕ → Moment
+moment s spent = record { state = s; spent = spent }

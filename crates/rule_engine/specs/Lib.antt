@@ -1,0 +1,4 @@
+pub mod Kept
+pub mod Choosing
+pub mod Refused
+pub mod Applied

@@ -1,0 +1,19 @@
+//! The rule engine: a network whose replies and states are the rule machine's, for any set of rules.
+#![tactic(auto)]
+
+mod edits;
+mod guard;
+mod judge;
+mod listing;
+mod moves;
+mod near;
+mod net;
+mod rescan;
+mod scan;
+
+pub use graph_store::{Edge, GraphFault, Node};
+pub use net::Net;
+pub use rule_machine::{
+    Act, Choice, Event, Item, Listing, Moved, Outcome, Refusal, Reply, RuleSet, Verdict, Want,
+};
+pub use rule_set::{BadTarget, Local, Rules};

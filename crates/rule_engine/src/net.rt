@@ -1,0 +1,295 @@
+//! A network under a rule set.
+
+ghost use Rattle.std.specs.Prelude.{◌≡◌, ◌<◌, ◌≤◌, ◌↔◌, ℕ, [], IfOk, IfErr, IfSome, OnOk, OnErr, IsTrue, None, length, take, zip, slice_get, Some};
+ghost use Rattle.graph_store.specs.Fault.{nodes_fault, Explains};
+ghost use Rattle.rule_machine.specs.State.{opening};
+ghost use Rattle.rule_machine.specs.RuleTable.{enabled_names};
+ghost use Rattle.rule_machine.specs.Refuse.{refusal_of};
+ghost use Rattle.rule_machine.specs.Least.{reply_of, state_after, replies_of, state_after_all};
+ghost use Rattle.rule_machine.specs.Stable.{IsStable, IsMaximalMatching, mutual_pairs};
+ghost use Rattle.rule_machine.specs.Run.{Run};
+ghost use Rattle.machine_laws.specs.Runs.{spent_after_all};
+ghost use Rattle.rule_machine.specs.Answer.{Answers};
+ghost use Rattle.rule_machine.specs.declared.event.Event.TheVariants.{Link, Unlink, Point, Flag, Step, Show, Enabled, Matching};
+ghost use Rattle.rule_engine.specs.Kept.{guard_at, IsAnswered, moment};
+ghost use Rattle.rule_engine.specs.Applied.{Applies, Answered, takes_memory};
+ghost use Rattle.rule_engine.specs.Choosing.{verdict_of, verdicts_of};
+
+use crate::edits::{clear_pointer, refusal_of, refused_point};
+use crate::guard::{outcome, refused_step, rule_enabled, verdicts};
+use crate::judge::refused_verdicts;
+use crate::listing::{enabled_rules, mutual_edges};
+use crate::moves::{ascending_moves, write_moves};
+use crate::rescan::rescan;
+use graph_store::{EdgeStore, GraphFault};
+use registers::Registers;
+use rule_machine::{Act, Choice, Event, Listing, Node, Refusal, Reply, Verdict, Want};
+use rule_set::Rules;
+use std::alloc::{AllocError, Global};
+use std::marker::{Model, PhantomData};
+
+/// A network under the rules `R`: its edges, its registers and who is enabled, seen in contracts as the state of the
+/// rule machine.
+#[derive(Drop)]
+pub struct Net<R: Rules> {
+    alloc: Global,
+    store: EdgeStore,
+    registers: Registers,
+    enabled: Vec<Node>,
+    rules: PhantomData<R>,
+}
+
+impl<R: Rules> Model for Net<R> {
+    ghost use Rattle.std.specs.Prelude.{vec_capacity};
+    ghost use Rattle.rule_machine.specs.State.{State, state_code};
+    ghost use Rattle.rule_engine.specs.Kept.{state_of, IsKept};
+
+    ghost Value = { State };
+
+    ghost coded = { state_code };
+
+    ghost view = { λ n. state_of n.store n.registers };
+
+    ghost invariant = { λ n. IsKept R.table (state_of n.store n.registers) n.enabled.items (vec_capacity n.enabled) };
+}
+
+impl<R: Rules> Net<R> {
+    /// The network of the nodes 1 to `nodes` with no edges, all pointers null and all flags false.
+    /// `TooManyNodes` above 65,535, and `Memory` if memory runs out. Takes some fifty bytes a node.
+    pub fn new(alloc: Global, nodes: u32) -> Result<Net<R>, GraphFault>
+        ensures ok { IfOk result (λ net. net ≡ opening nodes) }
+        ensures fault { IfErr result (λ fault. Explains (nodes_fault nodes) fault) }
+    {
+        let store = EdgeStore::new(alloc, nodes)?;
+        let Ok(registers) = Registers::new(alloc, nodes) else {
+            return Err(GraphFault::Memory);
+        };
+        let Ok(mut enabled) = Vec::with_capacity(alloc, nodes as usize) else {
+            return Err(GraphFault::Memory);
+        };
+        rescan::<R>(&store, &registers, &mut enabled);
+        Ok(Net {
+            alloc,
+            store,
+            registers,
+            enabled,
+            rules: PhantomData,
+        })
+    }
+
+    /// The edges.
+    pub fn store(&self) -> &EdgeStore
+        ensures { result.now ≡ self.now.network }
+    {
+        &self.store
+    }
+
+    /// The registers.
+    pub fn registers(&self) -> &Registers
+        ensures { result.now ≡ self.now.registers }
+    {
+        &self.registers
+    }
+
+    /// The enabled nodes, ascending.
+    pub fn enabled(&self) -> &[Node]
+        ensures { result.now ≡ enabled_names R.table self.now }
+    {
+        &self.enabled
+    }
+
+    /// Whether no rule is enabled. That is so exactly where the network is stable, and then its mutual pairs are a
+    /// maximal matching; and where every pointer is null or answered and the flags are right, they are one only if
+    /// the network is stable.
+    pub fn is_quiet(&self) -> bool
+        ensures quiet { IsTrue result ↔ (enabled_names R.table self.now ≡ []) }
+        ensures stable { IsTrue result ↔ IsStable R.table.flags self.now }
+        ensures matching { IsTrue result → IsMaximalMatching self.now.network (mutual_pairs self.now) }
+        ensures only_stable { IsAnswered R.table.flags self.now → IsMaximalMatching self.now.network (mutual_pairs self.now) → IsTrue result }
+    {
+        self.enabled.is_empty()
+    }
+
+    /// The rule that is enabled at a node, if any is; none at an absent one. Looks at the node's neighbours.
+    pub fn guard(&self, v: Node) -> Option<Act>
+        ensures { result ≡ guard_at R.table self.now v }
+    {
+        rule_enabled::<R>(&self.store, &self.registers, v)
+    }
+
+    /// What the item at a place of a choice, from 0, would do alone. Looks at its node's neighbours.
+    pub fn verdict(&self, choice: &Choice, place: u32) -> Verdict
+        requires { place < length choice.now }
+        ensures { IfSome (slice_get choice.now place) (λ item. result ≡ verdict_of R.table self.now place item) }
+    {
+        let item = choice.items()[place as usize];
+        Verdict {
+            place,
+            node: item.node,
+            outcome: outcome::<R>(&self.store, &self.registers, item),
+        }
+    }
+
+    /// Carries out an event: a refusal, the change of the network, the moves of a step in which each free target is
+    /// the least allowed one, or an answer. Want of memory comes after every refusal and changes nothing; `Unlink`,
+    /// `Point`, `Flag` and `Show` take no memory. A step costs a look at all nodes and edges.
+    pub fn apply(&mut self, event: &Event) -> Result<Reply, Want>
+        ensures reply { IfOk result (λ reply. reply ≡ reply_of R.table self.old event.now) }
+        ensures state { OnOk result (self.new ≡ state_after R.table self.old event.now) }
+        ensures machine { IfOk result (λ reply. Answers R.table self.old event.now reply self.new) }
+        ensures kept { OnErr result (self.new ≡ self.old) }
+        ensures want { OnErr result ((refusal_of R.table self.old event.now ≡ None) × IsTrue (takes_memory event.now)) }
+    {
+        match event {
+            Event::Link(a, b) => self.link(*a, *b),
+            Event::Unlink(a, b) => Ok(self.unlink(*a, *b)),
+            Event::Point(v, target) => Ok(self.point(*v, *target)),
+            Event::Flag(v, value) => Ok(self.flag(*v, *value)),
+            Event::Step(choice) => self.step(choice),
+            Event::Show(v) => Ok(self.show(*v)),
+            Event::Enabled => self.list_enabled(),
+            Event::Matching => self.list_pairs(),
+        }
+    }
+
+    /// Carries out events one after another: a run of the rule machine from the state before to the state after. At
+    /// want of memory, the events before it have been carried out.
+    pub fn apply_all(&mut self, events: &[Event]) -> Result<Listing<Reply>, Want>
+        ensures replies { IfOk result (λ replies. replies ≡ replies_of R.table self.old events.now) }
+        ensures state { OnOk result (self.new ≡ state_after_all R.table self.old events.now) }
+        ensures run { IfOk result (λ replies. (n : ℕ) → Run R.table (moment self.old n) (zip events.now replies)
+            (moment self.new (spent_after_all n replies))) }
+        ensures err { OnErr result ((k : ℕ) × (k ≤ length events.now) × (self.new ≡ state_after_all R.table self.old (take k events.now))) }
+    {
+        let mut replies = Vec::with_capacity(self.alloc, events.len())?;
+        for event in events {
+            match self.apply(event) {
+                Ok(reply) => replies.push(reply).unwrap(),
+                Err(want) => return Err(want),
+            }
+        }
+        Ok(Listing::from_vec(replies))
+    }
+
+    fn link(&mut self, a: Node, b: Node) -> Result<Reply, Want>
+        ensures { Applies R.table self.old (Link a b) result self.new }
+    {
+        match self.store.link(a, b) {
+            Ok(()) => {
+                rescan::<R>(&self.store, &self.registers, &mut self.enabled);
+                Ok(Reply::Accepted)
+            }
+            Err(fault) => match refusal_of(fault) {
+                Some(refusal) => Ok(Reply::Refused(refusal)),
+                None => Err(AllocError),
+            },
+        }
+    }
+
+    fn unlink(&mut self, a: Node, b: Node) -> Reply
+        ensures { Answered R.table self.old (Unlink a b) result self.new }
+    {
+        match self.store.unlink(a, b) {
+            Ok(()) => {
+                clear_pointer(&mut self.registers, a, b);
+                clear_pointer(&mut self.registers, b, a);
+                rescan::<R>(&self.store, &self.registers, &mut self.enabled);
+                Reply::Accepted
+            }
+            Err(fault) => match refusal_of(fault) {
+                Some(refusal) => Reply::Refused(refusal),
+                None => unreachable!(),
+            },
+        }
+    }
+
+    fn point(&mut self, v: Node, target: Option<Node>) -> Reply
+        ensures { Answered R.table self.old (Point v target) result self.new }
+    {
+        let wanted = target;
+        match refused_point(&self.store, v, wanted) {
+            Some(refusal) => Reply::Refused(refusal),
+            None => {
+                self.registers.set_pointer(v, target);
+                rescan::<R>(&self.store, &self.registers, &mut self.enabled);
+                Reply::Accepted
+            }
+        }
+    }
+
+    fn flag(&mut self, v: Node, value: bool) -> Reply
+        ensures { Answered R.table self.old (Flag v value) result self.new }
+    {
+        if !R::FLAGS {
+            return Reply::Refused(Refusal::NoFlag);
+        }
+        if !self.store.has(v) {
+            return Reply::Refused(Refusal::UnknownNode);
+        }
+        self.registers.set_flag(v, value);
+        rescan::<R>(&self.store, &self.registers, &mut self.enabled);
+        Reply::Accepted
+    }
+
+    fn show(&self, v: Node) -> Reply
+        ensures { result ≡ reply_of R.table self.now (Show v) }
+    {
+        if !self.store.has(v) {
+            return Reply::Refused(Refusal::UnknownNode);
+        }
+        Reply::Shown(self.registers.pointer(v))
+    }
+
+    fn list_enabled(&self) -> Result<Reply, Want>
+        ensures { IfOk result (λ reply. reply ≡ reply_of R.table self.now Enabled) }
+    {
+        let rules = enabled_rules::<R>(self.alloc, &self.store, &self.registers, &self.enabled)?;
+        Ok(Reply::EnabledAre(Listing::from_vec(rules)))
+    }
+
+    fn list_pairs(&self) -> Result<Reply, Want>
+        ensures { IfOk result (λ reply. reply ≡ reply_of R.table self.now Matching) }
+    {
+        let pairs = mutual_edges(self.alloc, &self.store, &self.registers)?;
+        Ok(Reply::Pairs(Listing::from_vec(pairs)))
+    }
+
+    fn step(&mut self, choice: &Choice) -> Result<Reply, Want>
+        ensures applies { Applies R.table self.old (Step choice.now) result self.new }
+        ensures machine { IfOk result (λ reply. Answers R.table self.old (Step choice.now) reply self.new) }
+    {
+        let items = choice.items();
+        if let Some(refusal) = refused_step::<R>(&self.store, &self.registers, items) {
+            return Ok(Reply::Refused(refusal));
+        }
+        let verdicts = verdicts::<R>(self.alloc, &self.store, &self.registers, items)?;
+        self.carry_out(choice, &verdicts)
+    }
+
+    fn carry_out(&mut self, choice: &Choice, verdicts: &[Verdict]) -> Result<Reply, Want>
+        requires accepted { refusal_of R.table self.old (Step choice.now) ≡ None }
+        requires verdicts { verdicts.now ≡ verdicts_of R.table self.old choice.now }
+        ensures { Applies R.table self.old (Step choice.now) result self.new }
+    {
+        let places = self.store.nodes() as usize + 1;
+        let moves = ascending_moves(self.alloc, places, choice.items().len(), verdicts)?;
+        write_moves(&mut self.registers, &moves);
+        rescan::<R>(&self.store, &self.registers, &mut self.enabled);
+        Ok(Reply::Moves(Listing::from_vec(moves)))
+    }
+
+    /// Carries out a step from the verdicts of its items: what `apply` of the step would do, without a second look at
+    /// a guard. Want of memory comes after every refusal and changes nothing.
+    pub fn apply_step(&mut self, choice: &Choice, verdicts: &[Verdict]) -> Result<Reply, Want>
+        requires { verdicts.now ≡ verdicts_of R.table self.old choice.now }
+        ensures reply { IfOk result (λ reply. reply ≡ reply_of R.table self.old (Step choice.now)) }
+        ensures state { OnOk result (self.new ≡ state_after R.table self.old (Step choice.now)) }
+        ensures kept { OnErr result (self.new ≡ self.old) }
+        ensures want { OnErr result (refusal_of R.table self.old (Step choice.now) ≡ None) }
+    {
+        if let Some(refusal) = refused_verdicts(R::CENTRAL, verdicts) {
+            return Ok(Reply::Refused(refusal));
+        }
+        self.carry_out(choice, verdicts)
+    }
+}

@@ -1,0 +1,104 @@
+-- Where no rule is enabled the network is stable, and the other way round.
+use Rattle.std.proofs.Common.{◌≡◌, ◌≢◌, ℕ, Bool, true, false, not, ◌&&◌, [], Option, None, Some, is_some, is_none, IsTrue, refl, sym, ap, ap₂, ◌∙◌, ⊎_elim}
+use Rattle.std.proofs.lemmas.Bool.{and_cases, and_from, and_right, and_left, not-false, cases_Bool}
+use Rattle.rule_machine.specs.declared.act.Act.TheVariants.{Update, Marry, Seduce, Abandon}
+use Rattle.rule_machine.specs.Network.{linked}
+use Rattle.rule_machine.specs.State.{State, IsState, pointer, points, holds_at, has_suitor}
+use Rattle.rule_machine.specs.RuleTable.{enabled_names, is_open}
+use Rattle.rule_machine.specs.HsuHuang.{hsu_huang, hsu_huang_opens}
+use Rattle.rule_machine.specs.Stable.{IsStable}
+use Rattle.state_lemmas.specs.Neighbours.{option_cases, linked_back, linked_present, near_found, near_fails}
+use Rattle.state_lemmas.specs.Pointers.{if_some, if_some_from, points_true, points_from, pointer_linked, suitor_from, suitor_some}
+use Rattle.state_lemmas.specs.Enabled.{quiet_at, quiet_from}
+use Rattle.rules_hsu_huang.specs.Rule.{is_taken, has_open}
+
+module _ (s : State) (is_state : IsState s) (quiet : enabled_names hsu_huang s ≡ []) where
+  -- A node w that is pointed at points somewhere, since it could marry.
+  courted_points : (v w : ℕ) → pointer s v ≡ Some w → pointer s w ≢ None
+  courted_points v w there null =
+      let back = linked_back s.network w v ∙ pointer_linked s v w is_state there in
+      let idle = quiet_at hsu_huang s quiet w (linked_present s.network w v is_state.is_network back) Marry in
+      let suitor = suitor_from s w v is_state there in
+      let marries = and_from (is_none (pointer s w)) (has_suitor s w) (ap is_none null) suitor in
+      absurd cc
+
+  -- It points back, since v could abandon it.
+  points_back : (v w : ℕ) → pointer s v ≡ Some w → pointer s w ≡ Some v
+  points_back v w there =
+      let here = linked_present s.network v w is_state.is_network (pointer_linked s v w is_state there) in
+      let idle = quiet_at hsu_huang s quiet v here Abandon in
+      let stays : is_taken s v w ≡ false = sym (ap (holds_at (is_taken s v)) there) ∙ idle in
+      ⊎_elim
+      (λ null. absurd (courted_points v w there null))
+      (
+      λ some. ⊎_elim
+      (λ (none : is_some (pointer s w) ≡ false). let is = ap is_some some.1 in absurd cc)
+      (λ back. points_true s w v (not-false _ back))
+      (and_cases _ _ stays)
+      )
+      (option_cases (pointer s w))
+
+  -- Of two neighbours that point nowhere, one has a suitor and could marry it, or has none and could seduce the other.
+  no_pair_free : (v w : ℕ) → IsTrue (linked s.network v w) → pointer s v ≡ None → pointer s w ≡ None → ⊥
+  no_pair_free v w h null other =
+      let here = linked_present s.network v w is_state.is_network h in
+      let no_marry = quiet_at hsu_huang s quiet v here Marry in
+      let no_seduce = quiet_at hsu_huang s quiet v here Seduce in
+      let found = near_found s.network (is_open hsu_huang_opens s) v w is_state.is_network h (ap is_none other) in
+      let reach : has_open s v ≡ true = ap is_some found.1 in
+      ⊎_elim
+      (λ suitor. let marries = and_from (is_none (pointer s v)) (has_suitor s v) (ap is_none null) suitor in absurd cc)
+      (
+      λ free. let seduces : (is_none (pointer s v) && not (has_suitor s v) && has_open s v) ≡ true = ap (λ o. is_none o && not (has_suitor s v) && has_open s v) null ∙ ap₂ (λ b c. not b && c) free reach in
+      absurd cc
+      )
+      (cases_Bool (has_suitor s v))
+
+pub stable_from_quiet : (s : State) → IsState s → enabled_names hsu_huang s ≡ [] → IsStable false s
+stable_from_quiet s is_state quiet = record {
+  answered = λ v. if_some_from (pointer s v) (λ w. pointer s w ≡ Some v) (points_back s is_state quiet v);
+  covered = no_pair_free s is_state quiet;
+  flagged = λ used. absurd cc;
+}
+
+-- A suitor is answered, so whom it points at does not point nowhere; a free neighbour of a free node would be an
+-- uncovered edge; and whom a node points at points back.
+pub quiet_from_stable : (s : State) → IsState s → IsStable false s → enabled_names hsu_huang s ≡ []
+quiet_from_stable s is_state stable = quiet_from hsu_huang s (λ v here. elim [ Update ↦ refl | Marry ↦ no_marry v | Seduce ↦ no_seduce v | Abandon ↦ no_abandon v (pointer s v) refl ])
+  where
+    no_marry : (v : ℕ) → (is_none (pointer s v) && has_suitor s v) ≡ false
+    no_marry v =
+        ⊎_elim
+        (
+        λ suitor. let w = suitor_some s v suitor in
+        let back = if_some (pointer s w.0) (λ x. pointer s x ≡ Some w.0) v w.1 (stable.answered w.0) in
+        and_left (is_none (pointer s v)) (has_suitor s v) (ap is_none back)
+        )
+        (λ none. and_right (is_none (pointer s v)) (has_suitor s v) none)
+        (cases_Bool (has_suitor s v))
+
+    last_fails : (a b c : Bool) → c ≡ false → (a && b && c) ≡ false
+    last_fails true true c e = e
+    last_fails true false c e = refl
+    last_fails false b c e = refl
+
+    no_seduce : (v : ℕ) → (is_none (pointer s v) && not (has_suitor s v) && has_open s v) ≡ false
+    no_seduce v =
+        ⊎_elim
+        (
+        λ null. let fails = near_fails s.network (is_open hsu_huang_opens s) v (
+        λ w h. ⊎_elim
+        (λ other. absurd (stable.covered v w h null other))
+        (λ some. ap is_none some.1)
+        (option_cases (pointer s w))
+        ) in
+        last_fails (is_none (pointer s v)) (not (has_suitor s v)) (has_open s v) (ap is_some fails)
+        )
+        (λ some. ap (λ o. is_none o && not (has_suitor s v) && has_open s v) some.1)
+        (option_cases (pointer s v))
+
+    no_abandon : (v : ℕ) (o : Option ℕ) → pointer s v ≡ o → holds_at (is_taken s v) o ≡ false
+    no_abandon v None e = refl
+    no_abandon v (Some w) e =
+        let back = if_some (pointer s v) (λ x. pointer s x ≡ Some v) w e (stable.answered v) in
+        and_right (is_some (pointer s w)) (not (points s.registers w v)) (ap not (points_from s w v back))

@@ -1,0 +1,78 @@
+//! The rules of Hsu and Huang.
+
+use rule_machine::{Act, Node};
+use rule_set::{BadTarget, Local, Rules};
+
+/// Hsu and Huang's algorithm of 1992: one node moves at a time, and no flags are used.
+#[derive(Clone, Copy, Debug, PartialEq, Eq)]
+pub struct HsuHuang;
+
+impl Rules for HsuHuang {
+    ghost use Rattle.std.specs.Prelude.{true, false, refl};
+    ghost use Rattle.rule_machine.specs.HsuHuang.{hsu_huang};
+    ghost use Rattle.rules_hsu_huang.specs.Rule.{guard_is_local, one_rule_at};
+    ghost use Rattle.rules_hsu_huang.specs.Target.{allowed_near, allowed_takes, target_from_guard};
+    ghost use Rattle.rules_hsu_huang.specs.Quiet.{stable_from_quiet, quiet_from_stable};
+
+    ghost table = { hsu_huang };
+
+    ghost CENTRAL = { true };
+
+    ghost FLAGS = { false };
+
+    const CENTRAL: bool = true;
+
+    const FLAGS: bool = false;
+
+    fn opens(pointer: Option<Node>, _flag: bool) -> bool {
+        pointer.is_none()
+    }
+
+    fn guard<L: Local>(local: &L, v: Node) -> Option<Act> {
+        match local.pointer(v) {
+            None if local.first_suitor().is_some() => Some(Act::Marry),
+            None if local.first_open().is_some() => Some(Act::Seduce),
+            None => None,
+            Some(w) => match local.pointer(w) {
+                Some(x) if x != v => Some(Act::Abandon),
+                _ => None,
+            },
+        }
+    }
+
+    fn target<L: Local>(local: &L, v: Node, wish: Option<Node>) -> Result<Option<Node>, BadTarget> {
+        match (local.pointer(v), wish) {
+            (Some(_), None) => Ok(None),
+            (Some(_), Some(_)) => Err(BadTarget),
+            (None, None) => match local.first_suitor() {
+                Some(w) => Ok(Some(w)),
+                None => Ok(local.first_open()),
+            },
+            (None, Some(w)) => {
+                if local.is_suitor(w) || (local.first_suitor().is_none() && local.is_open(w)) {
+                    Ok(wish)
+                } else {
+                    Err(BadTarget)
+                }
+            }
+        }
+    }
+
+    ghost is_central = { refl };
+
+    ghost uses_flags = { refl };
+
+    ghost allowed_is_neighbour = { allowed_near };
+
+    ghost allowed_takes_target = { allowed_takes };
+
+    ghost has_target = { target_from_guard };
+
+    ghost is_local = { guard_is_local };
+
+    ghost one_rule = { one_rule_at };
+
+    ghost quiet_is_stable = { stable_from_quiet };
+
+    ghost stable_is_quiet = { quiet_from_stable };
+}

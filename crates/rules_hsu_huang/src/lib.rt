@@ -1,0 +1,6 @@
+//! Hsu and Huang's algorithm of 1992, under a central daemon.
+#![tactic(auto)]
+
+mod hsu_huang;
+
+pub use hsu_huang::HsuHuang;

@@ -1,0 +1,4 @@
+pub mod Greatest
+pub mod Rule
+pub mod Target
+pub mod Quiet

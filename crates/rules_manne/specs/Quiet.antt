@@ -1,0 +1,164 @@
+-- Where no rule is enabled the network is stable, and the other way round.
+use Rattle.std.proofs.Common.{◌≡◌, ◌≢◌, ℕ, zero, suc, ◌+◌, ◌<◌, Bool, true, false, not, ◌&&◌, ◌||◌, [], Option, None, Some, is_some, is_none, nat_lt, nat_le, IsTrue, refl, sym, ap, ap₂, ◌∙◌, ⊎_elim, arith, lt-ltb, leb-false}
+use Rattle.std.proofs.lemmas.Bool.{and_from, and_right, and_left, or_parts, not-false, cases_Bool, cases_order}
+use Rattle.rule_machine.specs.declared.act.Act.TheVariants.{Update, Marry, Seduce, Abandon}
+use Rattle.rule_machine.specs.Network.{linked, present}
+use Rattle.rule_machine.specs.State.{State, IsState, pointer, flag, points, holds_at, has_suitor, married, is_settled}
+use Rattle.rule_machine.specs.RuleTable.{enabled_names, is_open}
+use Rattle.rule_machine.specs.Manne.{manne, manne_opens, may_court}
+use Rattle.rule_machine.specs.Stable.{IsStable}
+use Rattle.state_lemmas.specs.Neighbours.{option_cases, present_range, linked_back, linked_present, linked_apart, near_found, near_fails}
+use Rattle.state_lemmas.specs.Pointers.{if_some, if_some_from, points_true, points_from, pointer_linked, suitor_from, suitor_some, married_from, null_unmarried}
+use Rattle.state_lemmas.specs.Enabled.{quiet_at, quiet_from}
+use Rattle.rules_manne.specs.Rule.{is_lost, courts, flag_from_settled, settled_from_flag}
+
+-- a test of four parts
+fourth_from : (a b c d : Bool) → a ≡ true → b ≡ true → c ≡ true → d ≡ true → (a && b && c && d) ≡ true
+fourth_from a b c d p q r t = and_from _ _ (and_from _ _ (and_from _ _ p q) r) t
+
+module _ (s : State) (is_state : IsState s) (quiet : enabled_names manne s ≡ []) where
+  -- each present node's flag is right, since it does not update
+  settled : (v : ℕ) → IsTrue (present s.network v) → is_settled s v ≡ true
+  settled v here = not-false (is_settled s v) (quiet_at manne s quiet v here Update)
+
+  right_flag : (v : ℕ) → IsTrue (present s.network v) → flag s v ≡ married s v
+  right_flag v here = flag_from_settled (married s v) (flag s v) (settled v here)
+
+  -- the ends of a pointer are present
+  tail_present : (v w : ℕ) → pointer s v ≡ Some w → IsTrue (present s.network v)
+  tail_present v w there = linked_present s.network v w is_state.is_network (pointer_linked s v w is_state there)
+
+  head_present : (v w : ℕ) → pointer s v ≡ Some w → IsTrue (present s.network w)
+  head_present v w there =
+      linked_present s.network w v is_state.is_network (linked_back s.network w v ∙ pointer_linked s v w is_state there)
+
+  -- a node w that is pointed at points somewhere, since it could marry
+  courted_points : (v w : ℕ) → pointer s v ≡ Some w → pointer s w ≢ None
+  courted_points v w there null =
+      let here = head_present v w there in
+      let idle = quiet_at manne s quiet w here Marry in
+      let marries = and_from (is_settled s w && is_none (pointer s w)) (has_suitor s w) (and_from _ _ (settled w here) (ap is_none null)) (suitor_from s w v is_state there) in
+      absurd cc
+
+  -- where it does not point back, it is unflagged and above v, since v does not abandon it
+  not_lost : (v w : ℕ) → pointer s v ≡ Some w → points s.registers w v ≡ false → (flag s w ≡ false) × (v < w)
+  not_lost v w there apart =
+      let here = tail_present v w there in
+      let idle = quiet_at manne s quiet v here Abandon in
+      let stays : is_lost s v w ≡ false = sym (ap₂ (λ b o. b && holds_at (is_lost s v) o) (settled v here) there) ∙ idle in
+      let kept : (flag s w || nat_le w v) ≡ false = sym (ap (λ b. not b && (flag s w || nat_le w v)) apart) ∙ stays in
+      let parts = or_parts (flag s w) (nat_le w v) kept in
+      (parts.0, leb-false w v parts.1)
+
+  -- Every pointer is answered. If w did not point back to v, it would be above v and unflagged, so unmarried; it points
+  -- somewhere, and by induction downward from the greatest name that pointer is answered, so that w is married after
+  -- all. The fuel n bounds how far v is below the greatest name.
+  points_back : (n v w : ℕ) → s.network.size < v + n → pointer s v ≡ Some w → pointer s w ≡ Some v
+  points_back zero v w far there =
+      let bounds = present_range s.network v (tail_present v w there) in absurd (omega arith)
+  points_back (suc n) v w far there =
+      ⊎_elim
+      (λ back. points_true s w v back)
+      (
+      λ apart. let kept = not_lost v w there apart in
+      ⊎_elim
+      (λ null. absurd (courted_points v w there null))
+      (
+      λ some. let answer = points_back n w some.0 (omega arith) some.1 in
+      let is_married = married_from s w some.0 is_state some.1 answer in
+      let right = right_flag w (head_present v w there) in
+      absurd cc
+      )
+      (option_cases (pointer s w))
+      )
+      (cases_Bool (points s.registers w v))
+
+  -- Of two neighbours that point nowhere, the lower one could marry a suitor, or seduce the higher one, which is
+  -- unmarried and so unflagged.
+  lower_free : (v w : ℕ) → v < w → IsTrue (linked s.network v w) → pointer s v ≡ None → pointer s w ≡ None → ⊥
+  lower_free v w below h null other =
+      let here = linked_present s.network v w is_state.is_network h in
+      let there = linked_present s.network w v is_state.is_network (linked_back s.network w v ∙ h) in
+      let no_marry = quiet_at manne s quiet v here Marry in
+      let no_seduce = quiet_at manne s quiet v here Seduce in
+      let unflagged = right_flag w there ∙ null_unmarried s w other in
+      let reachable : may_court s v w ≡ true = and_from (is_open manne_opens s w) (nat_lt v w) (ap₂ (λ o f. manne_opens o f) other unflagged) (lt-ltb v w below) in
+      let found = near_found s.network (may_court s v) v w is_state.is_network h reachable in
+      ⊎_elim
+      (
+      λ suitor. let marries = and_from (is_settled s v && is_none (pointer s v)) (has_suitor s v) (and_from _ _ (settled v here) (ap is_none null)) suitor in
+      absurd cc
+      )
+      (
+      λ (alone : has_suitor s v ≡ false). let seduces = fourth_from (is_settled s v) (is_none (pointer s v)) (not (has_suitor s v)) (courts s v) (settled v here) (ap is_none null) (ap not alone) (ap is_some found.1) in
+      absurd cc
+      )
+      (cases_Bool (has_suitor s v))
+
+  no_pair_free : (v w : ℕ) → IsTrue (linked s.network v w) → pointer s v ≡ None → pointer s w ≡ None → ⊥
+  no_pair_free v w h null other =
+      ⊎_elim
+      (λ same. linked_apart s.network v w is_state.is_network h same)
+      (
+      ⊎_elim
+      (λ below. lower_free v w below h null other)
+      (λ above. lower_free w v above (linked_back s.network w v ∙ h) other null)
+      )
+      (cases_order v w)
+
+pub stable_from_quiet : (s : State) → IsState s → enabled_names manne s ≡ [] → IsStable true s
+stable_from_quiet s is_state quiet = record {
+  answered = λ v. if_some_from (pointer s v) (λ w. pointer s w ≡ Some v) (λ w there. points_back s is_state quiet (s.network.size + 1) v w (omega arith) there);
+  covered = no_pair_free s is_state quiet;
+  flagged = λ used v here. right_flag s is_state quiet v here;
+}
+
+-- Each flag is right; a suitor is answered, so whom it points at does not point nowhere; a free neighbour of a free node
+-- would be an uncovered edge; and whom a node points at points back.
+pub quiet_from_stable : (s : State) → IsState s → IsStable true s → enabled_names manne s ≡ []
+quiet_from_stable s is_state stable = quiet_from manne s (λ v here. elim [ Update ↦ no_update v here | Marry ↦ no_marry v | Seduce ↦ no_seduce v | Abandon ↦ no_abandon v ])
+  where
+    no_update : (v : ℕ) → IsTrue (present s.network v) → not (is_settled s v) ≡ false
+    no_update v here = ap not (settled_from_flag (married s v) (flag s v) (stable.flagged refl v here))
+
+    no_marry : (v : ℕ) → (is_settled s v && is_none (pointer s v) && has_suitor s v) ≡ false
+    no_marry v =
+        ⊎_elim
+        (
+        λ suitor. let w = suitor_some s v suitor in
+        let back = if_some (pointer s w.0) (λ x. pointer s x ≡ Some w.0) v w.1 (stable.answered w.0) in
+        and_left (is_settled s v && is_none (pointer s v)) (has_suitor s v) (and_right (is_settled s v) (is_none (pointer s v)) (ap is_none back))
+        )
+        (λ none. and_right (is_settled s v && is_none (pointer s v)) (has_suitor s v) none)
+        (cases_Bool (has_suitor s v))
+
+    no_court : (v : ℕ) → pointer s v ≡ None → courts s v ≡ false
+    no_court v null =
+        ap is_some (
+        near_fails s.network (may_court s v) v (
+        λ w h. ⊎_elim
+        (λ other. absurd (stable.covered v w h null other))
+        (λ some. ap (λ o. manne_opens o (flag s w) && nat_lt v w) some.1)
+        (option_cases (pointer s w))
+        )
+        )
+
+    no_seduce : (v : ℕ) → (is_settled s v && is_none (pointer s v) && not (has_suitor s v) && courts s v) ≡ false
+    no_seduce v =
+        ⊎_elim
+        (λ null. and_right (is_settled s v && is_none (pointer s v) && not (has_suitor s v)) (courts s v) (no_court v null))
+        (
+        λ some. and_left (is_settled s v && is_none (pointer s v) && not (has_suitor s v)) (courts s v) (
+        and_left (is_settled s v && is_none (pointer s v)) (not (has_suitor s v)) (and_right (is_settled s v) (is_none (pointer s v)) (ap is_none some.1))
+        )
+        )
+        (option_cases (pointer s v))
+
+    not_left : (v : ℕ) (o : Option ℕ) → pointer s v ≡ o → holds_at (is_lost s v) o ≡ false
+    not_left v None e = refl
+    not_left v (Some w) e =
+        let back = if_some (pointer s v) (λ x. pointer s x ≡ Some v) w e (stable.answered v) in
+        and_left (not (points s.registers w v)) (flag s w || nat_le w v) (ap not (points_from s w v back))
+
+    no_abandon : (v : ℕ) → (is_settled s v && holds_at (is_lost s v) (pointer s v)) ≡ false
+    no_abandon v = and_right (is_settled s v) (holds_at (is_lost s v) (pointer s v)) (not_left v (pointer s v) refl)

@@ -1,0 +1,135 @@
+-- The rule of a node by cases, and what follows at once.
+use Rattle.std.proofs.Common.{◌≡◌, ℕ, Bool, true, false, cond, not, ◌&&◌, ◌||◌, Option, None, Some, is_some, is_none, nat_lt, nat_le, find, IsTrue, refl, ap, ap₂, ◌∙◌, inl, inr}
+use Rattle.std.specs.Bool.{beq}
+use Rattle.rule_machine.specs.declared.act.Act.{Act}
+use Rattle.rule_machine.specs.declared.act.Act.TheVariants.{Update, Marry, Seduce, Abandon}
+use Rattle.rule_machine.specs.Network.{neighbours}
+use Rattle.rule_machine.specs.State.{State, IsState, pointer, flag, points, is_at, holds_at, has_suitor, is_settled}
+use Rattle.rule_machine.specs.RuleTable.{rule_at}
+use Rattle.rule_machine.specs.Manne.{manne, manne_opens, may_court}
+use Rattle.rule_set.specs.Near.{SameAt}
+use Rattle.state_lemmas.specs.Shown.{same_find, same_pointer, same_suitor, same_married}
+use Rattle.state_lemmas.specs.Pointers.{pointer_linked}
+use Rattle.rules_manne.specs.Greatest.{greatest, greatest_reaches}
+
+-- the rule of a node that is settled or not, points at this, has a suitor or not, may court someone or not, and leaves
+-- whom it tests
+abbrev pub rule_by : Bool → Option ℕ → Bool → Bool → (ℕ → Bool) → Option Act
+rule_by false target suitor court leaves = Some Update
+rule_by true None true court leaves = Some Marry
+rule_by true None false true leaves = Some Seduce
+rule_by true None false false leaves = None
+rule_by true (Some w) suitor court leaves = cond (leaves w) (Some Abandon) None
+
+-- v leaves w, which does not point back and never will: it is flagged, or not above v
+abbrev pub is_lost : State → ℕ → ℕ → Bool
+is_lost s v w = not (points s.registers w v) && (flag s w || nat_le w v)
+
+abbrev pub courts : State → ℕ → Bool
+courts s v = is_some (find (may_court s v) (neighbours s.network v))
+
+pub rule_cases : (s : State) (v : ℕ) → rule_at manne s v ≡ rule_by (is_settled s v) (pointer s v) (has_suitor s v) (courts s v) (is_lost s v)
+rule_cases s v = cases (is_settled s v) (pointer s v) (has_suitor s v) (courts s v) (is_lost s v)
+  where
+    cases : (settled : Bool) (o : Option ℕ) (suitor court : Bool) (leaves : ℕ → Bool) → cond (not settled) (Some Update) (cond (settled && is_none o && suitor) (Some Marry) (cond (settled && is_none o && not suitor && court) (Some Seduce) (cond (settled && holds_at leaves o) (Some Abandon) None))) ≡ rule_by settled o suitor court leaves
+    cases false o suitor court leaves = refl
+    cases true None true court leaves = refl
+    cases true None false true leaves = refl
+    cases true None false false leaves = refl
+    cases true (Some w) suitor court leaves = refl
+
+-- the rule of a settled node that points nowhere
+pub null_rule : (s : State) (v : ℕ) (suitor court : Bool) → IsState s → is_settled s v ≡ true → pointer s v ≡ None → has_suitor s v ≡ suitor → is_some (greatest s v) ≡ court → rule_at manne s v ≡ rule_by true None suitor court (is_lost s v)
+null_rule s v suitor court is_state settled null suits reaches =
+    rule_cases s v
+    ∙ ap₂ (λ b o. rule_by b o (has_suitor s v) (courts s v) (is_lost s v)) settled null
+    ∙ ap₂ (λ b c. rule_by true None b c (is_lost s v)) suits (greatest_reaches s v is_state.is_network ∙ reaches)
+
+-- a node is settled just where its flag says whether it is married
+pub flag_from_settled : (married flag : Bool) → cond married flag (not flag) ≡ true → flag ≡ married
+flag_from_settled true true h = refl
+flag_from_settled true false h = absurd cc
+flag_from_settled false true h = absurd cc
+flag_from_settled false false h = refl
+
+pub settled_from_flag : (married flag : Bool) → flag ≡ married → cond married flag (not flag) ≡ true
+settled_from_flag true true h = refl
+settled_from_flag true false h = absurd cc
+settled_from_flag false true h = absurd cc
+settled_from_flag false false h = refl
+
+-- or where they do not differ
+pub settled_from_test : (married flag : Bool) → not (beq flag married) ≡ false → cond married flag (not flag) ≡ true
+settled_from_test true true h = refl
+settled_from_test true false h = absurd cc
+settled_from_test false true h = absurd cc
+settled_from_test false false h = refl
+
+-- an enabled rule is the one that the cases name
+rule_from_guard : (s : State) (v : ℕ) (act : Act) → IsTrue (manne.guard s v act) → rule_by (is_settled s v) (pointer s v) (has_suitor s v) (courts s v) (is_lost s v) ≡ Some act
+rule_from_guard s v Update h = updates (is_settled s v) h
+  where
+    updates : (settled : Bool) → IsTrue (not settled) → rule_by settled (pointer s v) (has_suitor s v) (courts s v) (is_lost s v) ≡ Some Update
+    updates true k = absurd cc
+    updates false k = refl
+rule_from_guard s v Marry h = marries (is_settled s v) (pointer s v) (has_suitor s v) h
+  where
+    marries : (settled : Bool) (o : Option ℕ) (suitor : Bool) → IsTrue (settled && is_none o && suitor) → rule_by settled o suitor (courts s v) (is_lost s v) ≡ Some Marry
+    marries false o suitor k = absurd cc
+    marries true None true k = refl
+    marries true None false k = absurd cc
+    marries true (Some w) suitor k = absurd cc
+rule_from_guard s v Seduce h = seduces (is_settled s v) (pointer s v) (has_suitor s v) (courts s v) h
+  where
+    seduces : (settled : Bool) (o : Option ℕ) (suitor court : Bool) → IsTrue (settled && is_none o && not suitor && court) → rule_by settled o suitor court (is_lost s v) ≡ Some Seduce
+    seduces false o suitor court k = absurd cc
+    seduces true None true court k = absurd cc
+    seduces true None false true k = refl
+    seduces true None false false k = absurd cc
+    seduces true (Some w) suitor court k = absurd cc
+rule_from_guard s v Abandon h = abandons (is_settled s v) (pointer s v) h
+  where
+    abandons : (settled : Bool) (o : Option ℕ) → IsTrue (settled && holds_at (is_lost s v) o) → rule_by settled o (has_suitor s v) (courts s v) (is_lost s v) ≡ Some Abandon
+    abandons false o k = absurd cc
+    abandons true None k = absurd cc
+    abandons true (Some w) k = ap (λ b. cond b (Some Abandon) None) k
+
+-- Two rules at one node: one that updates has a wrong flag, and the others a right one; one that marries or seduces
+-- points nowhere, one that abandons points somewhere; one that marries has a suitor, and one that seduces has none.
+pub one_rule_at : (s : State) (v : ℕ) (a b : Act) → IsTrue (manne.guard s v a) → IsTrue (manne.guard s v b) → a ≡ b
+one_rule_at s v a b h k =
+    let first = rule_from_guard s v a h in
+    let second = rule_from_guard s v b k in
+    cc
+
+-- what each part of a guard reads is shown at its node
+same_settled : (s u : State) (v : ℕ) → SameAt s u v → is_settled s v ≡ is_settled u v
+same_settled s u v same =
+    ap₂ (λ (m f : Bool). cond m f (not f)) (same_married s u v same) (same.flags v (inl refl))
+
+same_courts : (s u : State) (v : ℕ) → SameAt s u v → courts s v ≡ courts u v
+same_courts s u v same =
+    ap is_some (
+    same_find s u v (may_court s v) (may_court u v) same (
+    λ w h. ap₂ (λ o f. manne_opens o f && nat_lt v w) (same.pointers w (inr h)) (same.flags w (inr h))
+    )
+    )
+
+same_lost : (s u : State) (v : ℕ) (o : Option ℕ) → IsState s → SameAt s u v → pointer s v ≡ o → holds_at (is_lost s v) o ≡ holds_at (is_lost u v) o
+same_lost s u v None is_state same e = refl
+same_lost s u v (Some w) is_state same e =
+    let near = inr (pointer_linked s v w is_state e) in
+    ap₂ (λ o f. not (is_at o v) && (f || nat_le w v)) (same.pointers w near) (same.flags w near)
+
+-- Each part of a guard is a search among the neighbours or reads the registers of the node and of the neighbour that it
+-- points at.
+pub guard_is_local : (s u : State) (v : ℕ) (act : Act) → IsState s → IsState u → SameAt s u v → manne.guard s v act ≡ manne.guard u v act
+guard_is_local s u v Update is_state other same = ap not (same_settled s u v same)
+guard_is_local s u v Marry is_state other same =
+    ap₂ (λ (b c : Bool). b && c) (ap₂ (λ b o. b && is_none o) (same_settled s u v same) (same_pointer s u v same)) (same_suitor s u v same)
+guard_is_local s u v Seduce is_state other same =
+    ap₂ (λ (b c : Bool). b && c)
+    (ap₂ (λ b c. b && not c) (ap₂ (λ b o. b && is_none o) (same_settled s u v same) (same_pointer s u v same)) (same_suitor s u v same))
+    (same_courts s u v same)
+guard_is_local s u v Abandon is_state other same =
+    ap₂ (λ (b c : Bool). b && c) (same_settled s u v same) (same_lost s u v (pointer s v) is_state same refl ∙ ap (holds_at (is_lost u v)) (same_pointer s u v same))

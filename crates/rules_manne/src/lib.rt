@@ -1,0 +1,6 @@
+//! The algorithm of Manne, Mjelde, Pilard and Tixeuil of 2009, under a distributed daemon.
+#![tactic(auto)]
+
+mod rules;
+
+pub use rules::Manne;

@@ -1,0 +1,122 @@
+//! The rules of Manne, Mjelde, Pilard and Tixeuil.
+
+ghost use Rattle.std.specs.Prelude.{◌≡◌, ◌&&◌, ◌||◌, is_none};
+ghost use Rattle.std.specs.Option.{option_or};
+ghost use Rattle.rule_machine.specs.Network.{linked};
+ghost use Rattle.rule_machine.specs.State.{IsState, is_at, suits, first_suitor};
+ghost use Rattle.rule_machine.specs.RuleTable.{last_open_above};
+ghost use Rattle.rules_manne.specs.Target.{is_free};
+
+use rule_machine::{Act, Node};
+use rule_set::{BadTarget, Local, Rules};
+
+/// The algorithm of Manne, Mjelde, Pilard and Tixeuil of 2009: any set of enabled nodes moves at once, and a node's flag
+/// tells its neighbours whether it is married.
+#[derive(Clone, Copy, Debug, PartialEq, Eq)]
+pub struct Manne;
+
+impl Rules for Manne {
+    ghost use Rattle.std.specs.Prelude.{true, false, refl};
+    ghost use Rattle.rule_machine.specs.Manne.{manne};
+    ghost use Rattle.rules_manne.specs.Rule.{guard_is_local, one_rule_at};
+    ghost use Rattle.rules_manne.specs.Target.{allowed_near, allowed_takes, target_from_guard};
+    ghost use Rattle.rules_manne.specs.Quiet.{stable_from_quiet, quiet_from_stable};
+
+    ghost table = { manne };
+
+    ghost CENTRAL = { false };
+
+    ghost FLAGS = { true };
+
+    const CENTRAL: bool = false;
+
+    const FLAGS: bool = true;
+
+    fn opens(pointer: Option<Node>, flag: bool) -> bool {
+        pointer.is_none() && !flag
+    }
+
+    fn guard<L: Local>(local: &L, v: Node) -> Option<Act> {
+        if local.flag(v) != local.married() {
+            return Some(Act::Update);
+        }
+        match local.pointer(v) {
+            None if local.first_suitor().is_some() => Some(Act::Marry),
+            None if local.last_open_above().is_some() => Some(Act::Seduce),
+            None => None,
+            Some(w) => match local.pointer(w) {
+                Some(x) if x == v => None,
+                _ if local.flag(w) || w <= v => Some(Act::Abandon),
+                _ => None,
+            },
+        }
+    }
+
+    fn target<L: Local>(local: &L, v: Node, wish: Option<Node>) -> Result<Option<Node>, BadTarget> {
+        let free = is_free(local, v);
+        match wish {
+            None if free => Ok(least_target(local)),
+            None => Ok(None),
+            Some(_) if !free => Err(BadTarget),
+            Some(w) if is_allowed(local, w) => Ok(Some(w)),
+            Some(_) => Err(BadTarget),
+        }
+    }
+
+    ghost is_central = { refl };
+
+    ghost uses_flags = { refl };
+
+    ghost allowed_is_neighbour = { allowed_near };
+
+    ghost allowed_takes_target = { allowed_takes };
+
+    ghost has_target = { target_from_guard };
+
+    ghost is_local = { guard_is_local };
+
+    ghost one_rule = { one_rule_at };
+
+    ghost quiet_is_stable = { stable_from_quiet };
+
+    ghost stable_is_quiet = { quiet_from_stable };
+}
+
+// Whether the node may marry or seduce: it points nowhere, so it is unmarried, and its flag says so.
+fn is_free<L: Local>(local: &L, v: Node) -> bool
+    requires at { L.at local.now ≡ v }
+    requires state { IsState (L.state local.now) }
+    ensures { result ≡ is_free (L.state local.now) v }
+{
+    local.pointer(v).is_none() && !local.flag(v)
+}
+
+// The first suitor, else the greatest open neighbour above.
+fn least_target<L: Local>(local: &L) -> Option<Node>
+    ensures { result ≡ option_or (first_suitor (L.state local.now) (L.at local.now)) (last_open_above L.opens (L.state local.now) (L.at local.now)) }
+{
+    match local.first_suitor() {
+        Some(w) => Some(w),
+        None => local.last_open_above(),
+    }
+}
+
+// Whether the node is a suitor, or where there is none the greatest open neighbour above.
+fn is_allowed<L: Local>(local: &L, w: Node) -> bool
+    ensures { result
+        ≡ ((linked (L.state local.now).network (L.at local.now) w
+        && suits (L.state local.now) (L.at local.now) w)
+        || (is_none (first_suitor (L.state local.now) (L.at local.now))
+        && is_at (last_open_above L.opens (L.state local.now) (L.at local.now)) w)) }
+{
+    if local.is_suitor(w) {
+        return true;
+    }
+    match local.first_suitor() {
+        Some(_) => false,
+        None => match local.last_open_above() {
+            Some(x) => x == w,
+            None => false,
+        },
+    }
+}

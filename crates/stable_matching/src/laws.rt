@@ -1,0 +1,24 @@
+//! Laws of the definitions: each function does nothing, and its contract is the law.
+
+ghost use Rattle.std.specs.Prelude.{◌≡◌, ℕ, Bool, Some, IfSome, IsTrue, All, Contains};
+ghost use Rattle.std.specs.FinMap as map;
+ghost use Rattle.rule_machine.specs.Network.{present};
+ghost use Rattle.rule_machine.specs.State.{State, IsState, pointer, flag, married};
+ghost use Rattle.rule_machine.specs.Stable.{IsStable, IsMaximalMatching, ShareAnEnd, mutual_pairs};
+
+/// The mutual pairs of any state are edges, and no two of them share an end.
+pub fn mutual_pairs_apart()
+    ensures edges { (s : State) → IsState s → All (λ e. IsTrue (map.contains_key s.network.edges e)) (mutual_pairs s) }
+    ensures apart { (s : State) (e f : ℕ × ℕ) → Contains (mutual_pairs s) e → Contains (mutual_pairs s) f → ShareAnEnd e f → e ≡ f }
+{}
+
+/// Where a network is stable its mutual pairs are a maximal matching.
+pub fn stable_is_maximal()
+    ensures { (uses_flags : Bool) (s : State) → IsState s → IsStable uses_flags s → IsMaximalMatching s.network (mutual_pairs s) }
+{}
+
+/// Where the mutual pairs are a maximal matching, every pointer is null or answered and the flags are right where they
+/// are used, a network is stable.
+pub fn maximal_is_stable()
+    ensures { (uses_flags : Bool) (s : State) → IsState s → ((v : ℕ) → IfSome (pointer s v) (λ w. pointer s w ≡ Some v)) → (IsTrue uses_flags → (v : ℕ) → IsTrue (present s.network v) → flag s v ≡ married s v) → IsMaximalMatching s.network (mutual_pairs s) → IsStable uses_flags s }
+{}

@@ -1,0 +1,2 @@
+//! Lemmas on the states of a matching network, which every set of rules needs.
+#![tactic(auto)]
