@@ -36,6 +36,7 @@ ends_known net a b h = good_ends (present net a) (present net b) (eqb a b) h
 pub link_fault_ends : (net : Network) (a b : ℕ) (fault : GraphFault) → ends_fault net a b ≡ Some fault → link_fault net a b ≡ Some fault
 link_fault_ends net a b fault h = bad_ends (present net a) (present net b) (eqb a b) fault _ h
 
+-- likewise where an edge is taken out
 pub unlink_fault_ends : (net : Network) (a b : ℕ) (fault : GraphFault) → ends_fault net a b ≡ Some fault → unlink_fault net a b ≡ Some fault
 unlink_fault_ends net a b fault h = bad_ends (present net a) (present net b) (eqb a b) fault _ h
 

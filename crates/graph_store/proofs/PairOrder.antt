@@ -28,10 +28,12 @@ pair_cmp-IsAntisymmetric p q e =
     let second = eqb-true p.1 q.1 both.1 in
     λ i. (first i, second i)
 
+-- what is there after one was put in
 is_some_put : (b : Bool) (x : Option (Unit {0})) → is_some (cond b (Some tt) x) ≡ (b || is_some x)
 is_some_put true x = refl
 is_some_put false x = refl
 
+-- what is there after one was taken out
 is_some_taken : (b : Bool) (x : Option (Unit {0})) → is_some (cond b None x) ≡ (not b && is_some x)
 is_some_taken true x = refl
 is_some_taken false x = refl
@@ -81,6 +83,7 @@ count-some s p there =
 pub count-empty : map.len (map.empty {X = Unit {0}} {R = pair_cmp}) ≡ 0
 count-empty = map.len-empty pair_cmp (Unit {0})
 
+-- a pair is there or not, and nothing stands beside it
 only_mark : (x y : Option (Unit {0})) → is_some x ≡ is_some y → x ≡ y
 only_mark None None e = refl
 only_mark None (Some u) e = absurd cc

@@ -8,23 +8,24 @@ use Rattle.std.specs.FinMap as fin
 use Rattle.graph_store.specs.Rows.{row_at, has, pairs_from, edges_of}
 use Rattle.graph_store.proofs.PairOrder.{same_pair, has-pair_set}
 
--- nothing is in an empty row
+-- a test and one that fails
 pub and-false : (p : Bool) → (p && false) ≡ false
 and-false true = refl
 and-false false = refl
 
+-- a test or one that fails
 or-false : (p : Bool) → (p || false) ≡ p
 or-false true = refl
 or-false false = refl
 
--- a name that is kept, as it is above
+-- a name that is kept, since it is above the row's
 kept : (p q t h : Bool) → (q ≡ true → t ≡ true) → ((p && q) || (p && (t && h))) ≡ (p && (t && (q || h)))
 kept false q t h so = refl
 kept true true true h so = refl
 kept true true false h so = absurd (let e = so refl in cc)
 kept true false t h so = refl
 
--- a name that is left out, as it is not
+-- a name that is left out, since it is not
 left_out : (p q t h : Bool) → (q ≡ true → t ≡ false) → (p && (t && h)) ≡ (p && (t && (q || h)))
 left_out false q t h so = refl
 left_out true true true h so = absurd (let e = so refl in cc)

@@ -1,4 +1,4 @@
--- A value that came through `map_err`, and a rising list by its places.
+-- What `map_err` passes on, and the order of a rising list's places.
 use Rattle.std.proofs.Common.{◌≡◌, ℕ, ◌<◌, ◌≤◌, List, length, get_or, Result, Ok, Err, IfOk, MatchResult, ap, subst, arith, ⊎_elim}
 use Rattle.std.specs.Result.{IsErrAnd}
 use Rattle.std.specs.List.Sorted.{IsStrictlyIncreasing}

@@ -16,6 +16,7 @@ RisesFrom : ℕ → List ℕ → Type 0
 RisesFrom a [] = Unit {0}
 RisesFrom a (x ∷ xs) = (a ≤ x) × RisesFrom (x + 1) xs
 
+-- a list whose names rise by places rises from any lower name on
 rises_from : (a x : ℕ) (xs : List ℕ) → a ≤ x → IsStrictlyIncreasing (x ∷ xs) → RisesFrom a (x ∷ xs)
 unfolding RisesFrom
 rises_from a x [] low up = (low, tt)
@@ -23,6 +24,7 @@ rises_from a x (y ∷ ys) low up =
     let next : x < y = up 0 (omega arith) in
     (low, rises_from (x + 1) y ys (omega arith) (λ k inside. let h = up (suc k) (omega arith) in simp add-one (simp add-one at h)))
 
+-- and from any name that is lower still
 lower_rises : (a b : ℕ) (xs : List ℕ) → b ≤ a → RisesFrom a xs → RisesFrom b xs
 unfolding RisesFrom
 lower_rises a b [] low up = tt
@@ -88,6 +90,7 @@ absent_at_gap row w i gap =
 pub there_at_place : (row : List ℕ) (w i : ℕ) → IsPlaceOf row w i → has row w ≡ true
 there_at_place row w i place = list_any_at (eqb w) row i 0 place.0 (eq-eqb w (get_or row i 0) (sym place.1))
 
+-- the first two of three tests in the other order
 or_swap : (a b c : Bool) → (a || (b || c)) ≡ (b || (a || c))
 or_swap true true c = refl
 or_swap true false c = refl
@@ -121,6 +124,7 @@ gone row i up inside =
     (list_any_none (eqb (get_or row i 0)) (drop (suc i) row) (λ k d there.
     ap (eqb (get_or row i 0)) (get_or-drop (suc i) row k d) ∙ other_place row i (suc i + k) d up inside (omega (arith, length-drop (suc i) row)) (λ e. omega arith)))
 
+-- a test that fails between two others
 skip : (a b c : Bool) → b ≡ false → (a || c) ≡ (not b && (a || (b || c)))
 skip a true c e = absurd (true≢false e)
 skip a false c e = refl

@@ -66,6 +66,7 @@ pub all_linked : (size : ℕ) (rows : List (List ℕ)) (v : ℕ) → IsRows size
 all_linked size rows v good =
     All-from_any nat_eq_equiv (λ w. IsTrue (linked (network_of size rows) v w)) (row_at rows v) (λ w h. linked_row size rows v w good ∙ h)
 
+-- and each is present
 pub all_present : (size : ℕ) (rows : List (List ℕ)) (v : ℕ) → IsRows size rows → All (λ w. IsTrue (present (network_of size rows) w)) (row_at rows v)
 all_present size rows v good =
     All-from_any nat_eq_equiv (λ w. IsTrue (present (network_of size rows) w)) (row_at rows v) (λ w h. let bounds = good.within v w h in present_from (network_of size rows) w bounds.0 bounds.1)

@@ -28,34 +28,40 @@ record Switched (a b : ℕ) (on : Bool) (rows rows' : List (List ℕ)) : Type 0 
   held : (x y : ℕ) → has (row_at rows' x) y ≡ cond (joins a b x y) on (has (row_at rows x) y)
   rising : (x : ℕ) → IsStrictlyIncreasing (row_at rows' x)
 
+-- one more that passes, as a choice
 or_cond : (b h : Bool) → (b || h) ≡ cond b true h
 or_cond true h = refl
 or_cond false h = refl
 
+-- one less that passes, as a choice
 and_cond : (b h : Bool) → (not b && h) ≡ cond b false h
 and_cond true h = refl
 and_cond false h = refl
 
+-- a name put in at its gap
 row_on : (row : List ℕ) (w i : ℕ) → IsStrictlyIncreasing row → IsGapFor row w i → RowSwitched row (insert row i w) w true
 row_on row w i up gap = record {
   held = λ y. has-insert row i w y ∙ or_cond (eqb y w) (has row y);
   rising = rising-insert row w i up gap;
 }
 
+-- a name taken out at its place
 row_off : (row : List ℕ) (w i : ℕ) → IsStrictlyIncreasing row → IsPlaceOf row w i → RowSwitched row (remove row i) w false
 row_off row w i up place = record {
   held = λ y. has-remove row i w y up place ∙ and_cond (eqb y w) (has row y);
   rising = rising-remove row i up place.0;
 }
 
--- at a row that is neither end's, and at each end's
+-- at a row that is neither end's no edge joins
 joins_neither : (a b x y : ℕ) → x ≢ a → x ≢ b → joins a b x y ≡ false
 joins_neither a b x y not_a not_b =
     or_from _ _ (and_left (eqb x a) (eqb y b) (ne_eqb x a not_a)) (and_left (eqb x b) (eqb y a) (ne_eqb x b not_b))
 
+-- at the first end's row the other name is the second end
 joins_first : (a b x y : ℕ) → a ≢ b → x ≡ a → joins a b x y ≡ eqb y b
 joins_first a b x y apart e = grind (arith, nat_tests)
 
+-- and the other way round
 joins_second : (a b x y : ℕ) → a ≢ b → x ≡ b → joins a b x y ≡ eqb y a
 joins_second a b x y apart e = grind (arith, nat_tests)
 
@@ -89,12 +95,15 @@ both_rows a b on rows ra rb apart fits_a fits_b up first second =
           (cases_eq x a);
     }
 
+-- an edge joins its ends either way round
 joins_back : (a b x y : ℕ) → joins a b x y ≡ joins a b y x
 joins_back a b x y = grind (arith, nat_tests)
 
+-- no edge joins a name with itself
 joins_apart : (a b x : ℕ) → a ≢ b → joins a b x x ≡ false
 joins_apart a b x apart = grind (arith, nat_tests)
 
+-- what an edge joins is one of its ends
 joins_end : (a b x y : ℕ) → joins a b x y ≡ true → (y ≡ a) ⊎ (y ≡ b)
 joins_end a b x y h =
     ⊎_elim
@@ -118,12 +127,15 @@ switched_rows size a b on rows rows' good apart in_a in_b new = record {
   rising = new.rising;
 }
 
+-- a pair that rises, where the first end is the lower one
 first_way : (a b x y : ℕ) → x < y → a < b → joins a b x y ≡ same_pair (x, y) (a, b)
 first_way a b x y lt below = grind (arith, nat_tests)
 
+-- and where it is the higher one
 second_way : (a b x y : ℕ) → x < y → b < a → joins a b x y ≡ same_pair (x, y) (b, a)
 second_way a b x y lt below = grind (arith, nat_tests)
 
+-- a pair that rises is no pair that does not
 never_falls : (x y low high : ℕ) → y ≤ x → low < high → same_pair (x, y) (low, high) ≡ false
 never_falls x y low high ge up = grind (arith, nat_tests)
 
@@ -145,10 +157,12 @@ joins_pair a b x y apart lt =
 no_pair : (a b x y : ℕ) → ltb x y ≡ false → a ≢ b → same_pair (x, y) (edge a b) ≡ false
 no_pair a b x y ge apart = never_falls x y (min a b) (max a b) (ltb-false x y ge) (omega arith)
 
+-- one more pair in the set of the pairs that rise
 on_pair : (t s j h : Bool) → (t ≡ true → j ≡ s) → (t ≡ false → s ≡ false) → (t && cond j true h) ≡ (s || (t && h))
 on_pair true s j h same none = ap (λ b. cond b true h) (same refl) ∙ sym (or_cond s h)
 on_pair false s j h same none = sym (ap (λ b. b || false) (none refl))
 
+-- one pair less in it
 off_pair : (t s j h : Bool) → (t ≡ true → j ≡ s) → (t ≡ false → s ≡ false) → (t && cond j false h) ≡ (not s && (t && h))
 off_pair true s j h same none = ap (λ b. cond b false h) (same refl) ∙ sym (and_cond s h)
 off_pair false s j h same none = sym (and-false (not s))

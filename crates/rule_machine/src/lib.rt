@@ -12,6 +12,8 @@ mod node;
 mod refusal;
 mod reply;
 mod rules;
+#[cfg(test)]
+mod tests;
 mod verdict;
 
 pub use act::Act;

@@ -1,0 +1,34 @@
+-- The exit statuses: 0 done, 2 bad words or a bad line, 3 a read or a write failed, 4 want of memory or a full log.
+use Rattle.std.specs.Prelude.{ℕ, ◌≢◌, ◌≤◌}
+use Rattle.clap.specs.declared.error.kind.ErrorKind.{ErrorKind}
+use Rattle.clap.specs.declared.error.kind.ErrorKind.TheVariants.{DisplayHelp, DisplayVersion, OutOfMemory}
+use Rattle.std.specs.declared.io.ErrorKind as io
+use Rattle.std.specs.declared.io.ErrorKind.TheVariants.{InvalidData}
+use Rattle.script_run.specs.declared.fault.RunFault.{RunFault}
+use Rattle.script_run.specs.declared.fault.RunFault.TheVariants.{BadLine, LogFull, Read, Write, Memory}
+
+-- what a fault of a run ends the program with
+abbrev pub status_of : RunFault → ℕ
+status_of (BadLine _) = 2
+status_of Read = 3
+status_of Write = 3
+status_of LogFull = 4
+status_of Memory = 4
+
+-- what words that cannot be followed end the program with
+abbrev pub words_status : ErrorKind → ℕ
+words_status OutOfMemory = 4
+words_status _ = 2
+
+-- what words that could not be had end the program with
+abbrev pub no_words_status : io.ErrorKind → ℕ
+no_words_status InvalidData = 2
+no_words_status _ = 4
+
+-- neither the help nor the version was asked for
+abbrev pub IsMistake : ErrorKind → Type 0
+IsMistake kind = (kind ≢ DisplayHelp) × (kind ≢ DisplayVersion)
+
+-- one of 0, 2, 3 and 4
+abbrev pub IsStatus : ℕ → Type 0
+IsStatus n = (n ≤ 4) × (n ≢ 1)

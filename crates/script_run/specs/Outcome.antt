@@ -1,0 +1,48 @@
+-- How the run of a script ends.
+use Rattle.std.specs.Prelude.{◌≡◌, ℕ, ◌+◌, List, ◌∷◌, ◌++◌, length, Option, Result, Ok, Err}
+use Rattle.std.specs.Io.KnownBytes.{Appends}
+use Rattle.rule_machine.specs.declared.rules.RuleSet.{RuleSet}
+use Rattle.rule_machine.specs.State.{opening}
+use Rattle.rule_machine.specs.RuleTable.{RuleTable}
+use Rattle.rule_machine.specs.Tables.{table_of}
+use Rattle.line_text.specs.EntryText.{header_line}
+use Rattle.line_text.specs.Script.{Progress, LinesDo, IsBadLine, MeetsFullLog, lines_of}
+use Rattle.script_run.specs.declared.fault.RunFault.{RunFault}
+use Rattle.script_run.specs.declared.fault.RunFault.TheVariants.{BadLine, LogFull, Read, Write, Memory}
+
+-- where every run begins: the opening state, no entry, and the header
+abbrev pub beginning : RuleSet → ℕ → Progress
+beginning rules nodes = record { state = opening nodes; count = 0; text = header_line rules nodes }
+
+-- the lines before the one with this number lead to the end, and it comes next
+pub record StopsAt (t : RuleTable) (limit : ℕ) (lines : List (List ℕ)) (start : Progress) (n : ℕ) (line : List ℕ) (end : Progress) : Type 0 where
+  pub before : List (List ℕ)
+  pub behind : List (List ℕ)
+  pub splits : lines ≡ before ++ line ∷ behind
+  pub number : n ≡ length before + 1
+  pub does : LinesDo t limit before start end
+
+-- the line with this number is no command
+abbrev pub StopsAtBadLine : RuleTable → ℕ → List (List ℕ) → Progress → ℕ → Progress → Type 0
+StopsAtBadLine t limit lines start number end =
+    (line : List ℕ) × StopsAt t limit lines start number line end × IsBadLine line
+
+-- some line is a command that meets a full log
+abbrev pub StopsAtFullLog : RuleTable → ℕ → List (List ℕ) → Progress → Progress → Type 0
+StopsAtFullLog t limit lines start end =
+    (number : ℕ) × (line : List ℕ) × StopsAt t limit lines start number line end × MeetsFullLog limit line end
+
+-- all lines were carried out, or those before a bad line or a full log, and P holds of where they lead; of a fault of the reader, of
+-- the writer or of memory nothing is said
+abbrev pub Ends : RuleTable → ℕ → List (List ℕ) → Progress → Result Unit RunFault → (Progress → Type 0) → Type 0
+Ends t limit lines start (Ok done) P = (end : Progress) × LinesDo t limit lines start end × P end
+Ends t limit lines start (Err (BadLine number)) P = (end : Progress) × StopsAtBadLine t limit lines start number end × P end
+Ends t limit lines start (Err LogFull) P = (end : Progress) × StopsAtFullLog t limit lines start end × P end
+Ends t limit lines start (Err Read) P = Unit {0}
+Ends t limit lines start (Err Write) P = Unit {0}
+Ends t limit lines start (Err Memory) P = Unit {0}
+
+-- the script was run, and the writer has got the header and the entries that the machine makes, and nothing else
+abbrev pub IsOutcome : RuleSet → ℕ → ℕ → List ℕ → Option (List ℕ) → Option (List ℕ) → Result Unit RunFault → Type 0
+IsOutcome rules nodes limit script old new result =
+    Ends (table_of rules) limit (lines_of script) (beginning rules nodes) result (λ end. Appends old new end.text)

@@ -1,0 +1,23 @@
+//! Why a run ends early.
+
+use thiserror::Error;
+
+/// Why a run did not come to the end of its script.
+#[derive(Clone, Copy, Debug, PartialEq, Eq, Error)]
+pub enum RunFault {
+    /// The line with this number, from 1, is neither empty nor a command.
+    #[error("line {line}: not a command")]
+    BadLine { line: u64 },
+    /// A command came when there were as many entries as there may be.
+    #[error("log full")]
+    LogFull,
+    /// A read of the script failed.
+    #[error("read failed")]
+    Read,
+    /// A write of the transcript failed.
+    #[error("write failed")]
+    Write,
+    /// A growth of memory was refused.
+    #[error("out of memory")]
+    Memory,
+}

@@ -1,0 +1,19 @@
+//! The run of a script: bytes in, transcript out.
+#![tactic(auto)]
+
+mod fault;
+mod lines;
+mod options;
+mod reading;
+mod runner;
+mod script;
+mod stop;
+mod writing;
+
+pub use fault::RunFault;
+pub use options::{MAX_ENTRIES, Options};
+pub use rule_machine::RuleSet;
+pub use script::run;
+
+#[cfg(test)]
+mod tests;

@@ -1,0 +1,22 @@
+//! The lines of a script.
+
+ghost use Rattle.std.specs.Prelude.{◌≡◌, ◌<◌, [], ◌∷◌, length, MatchOption, IfSome};
+ghost use Rattle.line_text.specs.Script.{lines_of};
+
+use memchr::memchr;
+
+/// The first line, without the LF that ends it, and what follows; `None` at the end.
+pub fn next_line(bytes: &[u8]) -> Option<(&[u8], &[u8])>
+    ensures lines { MatchOption result
+        (lines_of bytes.now ≡ [])
+        (λ found. lines_of bytes.now ≡ found.0.now ∷ lines_of found.1.now) }
+    ensures shorter { IfSome result (λ found. length found.1.now < length bytes.now) }
+{
+    if bytes.is_empty() {
+        return None;
+    }
+    match memchr(b'\n', bytes) {
+        Some(len) => Some((&bytes[..len], &bytes[len + 1..])),
+        None => Some((bytes, &[])),
+    }
+}

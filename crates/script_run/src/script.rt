@@ -1,0 +1,35 @@
+//! The run of a script.
+
+ghost use Rattle.std.specs.Prelude.{OnOk, IfSome};
+ghost use Rattle.std.specs.Io.KnownBytes.{IsAtEnd};
+ghost use Rattle.script_run.specs.Outcome.{IsOutcome};
+
+use crate::reading::read_whole;
+use crate::runner::run_on;
+use crate::{Options, RunFault};
+use rule_machine::RuleSet;
+use rules_hsu_huang::HsuHuang;
+use rules_manne::Manne;
+use std::alloc::Global;
+use std::io::{Read, Write};
+
+/// Reads a script to its end, carries out its lines in turn, and writes the transcript: a header, and an entry for each
+/// command. `BadLine` at the first line that is neither empty nor a command, `LogFull` at a command beyond the limit,
+/// both after the entries before were written; `Read` and `Write` at the first error of the reader or the writer, and
+/// `Memory` if memory runs out.
+pub fn run<In: Read, Out: Write>(
+    alloc: Global,
+    reader: &mut In,
+    writer: &mut Out,
+    options: &Options,
+) -> Result<(), RunFault>
+    ensures outcome { IfSome (In.remaining reader.old) (λ script.
+        IsOutcome options.now.rules options.now.nodes options.now.limit script (Out.contents writer.old) (Out.contents writer.new) result) }
+    ensures read { OnOk result (IsAtEnd (In.remaining reader.new)) }
+{
+    let script = read_whole(alloc, reader)?;
+    match options.rules() {
+        RuleSet::Hh => run_on::<HsuHuang, Out>(alloc, &script, writer, options),
+        RuleSet::Manne => run_on::<Manne, Out>(alloc, &script, writer, options),
+    }
+}
