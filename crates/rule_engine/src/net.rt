@@ -2,7 +2,7 @@
 
 ghost use Rattle.std.specs.Prelude.{◌≡◌, ◌<◌, ◌≤◌, ◌↔◌, ℕ, [], IfOk, IfErr, IfSome, OnOk, OnErr, IsTrue, None, length, take, zip, slice_get, Some};
 ghost use Rattle.graph_store.specs.Fault.{nodes_fault, Explains};
-ghost use Rattle.rule_machine.specs.State.{opening};
+ghost use Rattle.rule_machine.specs.State.{opening, IsState};
 ghost use Rattle.rule_machine.specs.RuleTable.{enabled_names};
 ghost use Rattle.rule_machine.specs.Refuse.{refusal_of};
 ghost use Rattle.rule_machine.specs.Least.{reply_of, state_after, replies_of, state_after_all};
@@ -86,7 +86,8 @@ impl<R: Rules> Net<R> {
 
     /// The registers.
     pub fn registers(&self) -> &Registers
-        ensures { result.now ≡ self.now.registers }
+        ensures value { result.now ≡ self.now.registers }
+        ensures state { IsState self.now }
     {
         &self.registers
     }
