@@ -3,6 +3,7 @@
 ghost use Rattle.std.specs.Prelude.{◌≡◌, ◌≤◌, length, SomeIff};
 
 use crate::{Listing, Node};
+use std::alloc::AllocError;
 use std::marker::Model;
 
 /// The most items that a choice holds.
@@ -34,6 +35,16 @@ impl Model for Choice {
     ghost invariant = { λ c. length c.items ≤ 65535 };
 
     ghost inverse = { λ l. record { items = l } };
+}
+
+impl Clone for Choice {
+    ghost is_clone = { λ a b. b ≡ a };
+
+    fn clone(&self) -> Result<Choice, AllocError> {
+        Ok(Choice {
+            items: self.items.clone()?,
+        })
+    }
 }
 
 impl Choice {

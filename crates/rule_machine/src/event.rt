@@ -1,6 +1,9 @@
 //! What a network is asked to do.
 
+ghost use Rattle.std.specs.Prelude.{◌≡◌};
+
 use crate::{Choice, Node};
+use std::alloc::AllocError;
 
 /// One event: a change of the network, a step of its nodes, or a question.
 #[derive(Debug, Drop, PartialEq, Eq)]
@@ -21,4 +24,21 @@ pub enum Event {
     Enabled,
     /// Asks for the mutual pairs.
     Matching,
+}
+
+impl Clone for Event {
+    ghost is_clone = { λ a b. b ≡ a };
+
+    fn clone(&self) -> Result<Event, AllocError> {
+        Ok(match self {
+            Event::Link(a, b) => Event::Link(*a, *b),
+            Event::Unlink(a, b) => Event::Unlink(*a, *b),
+            Event::Point(v, target) => Event::Point(*v, *target),
+            Event::Flag(v, value) => Event::Flag(*v, *value),
+            Event::Step(choice) => Event::Step(choice.clone()?),
+            Event::Show(v) => Event::Show(*v),
+            Event::Enabled => Event::Enabled,
+            Event::Matching => Event::Matching,
+        })
+    }
 }

@@ -3,6 +3,7 @@
 ghost use Rattle.std.specs.Prelude.{◌≡◌};
 ghost use Rattle.std.specs.Cmp.Lexicographic.{pointwise, lists_per, lists_equiv};
 
+use std::alloc::AllocError;
 use std::marker::Model;
 
 /// A `Vec` that contracts see as the list of its items, whatever its capacity.
@@ -43,6 +44,16 @@ impl<T> Listing<T> {
         ensures { result.now ≡ self.now }
     {
         &self.items
+    }
+}
+
+impl<T: Copy> Clone for Listing<T> {
+    ghost is_clone = { λ a b. b ≡ a };
+
+    fn clone(&self) -> Result<Listing<T>, AllocError> {
+        let mut items = Vec::with_capacity(self.items.allocator().clone()?, self.items.len())?;
+        items.extend_from_slice(&self.items)?;
+        Ok(Listing { items })
     }
 }
 

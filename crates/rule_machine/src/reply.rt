@@ -1,6 +1,9 @@
 //! What a network answers.
 
+ghost use Rattle.std.specs.Prelude.{◌≡◌};
+
 use crate::{Act, Edge, Listing, Moved, Node, Refusal};
+use std::alloc::AllocError;
 
 /// The reply to an event. Every list is in the order of its nodes, pairs in that of their lower ends.
 #[derive(Debug, Drop, PartialEq, Eq)]
@@ -17,4 +20,19 @@ pub enum Reply {
     EnabledAre(Listing<(Node, Act)>),
     /// The mutual pairs.
     Pairs(Listing<Edge>),
+}
+
+impl Clone for Reply {
+    ghost is_clone = { λ a b. b ≡ a };
+
+    fn clone(&self) -> Result<Reply, AllocError> {
+        Ok(match self {
+            Reply::Accepted => Reply::Accepted,
+            Reply::Refused(refusal) => Reply::Refused(*refusal),
+            Reply::Moves(moves) => Reply::Moves(moves.clone()?),
+            Reply::Shown(target) => Reply::Shown(*target),
+            Reply::EnabledAre(nodes) => Reply::EnabledAre(nodes.clone()?),
+            Reply::Pairs(pairs) => Reply::Pairs(pairs.clone()?),
+        })
+    }
 }

@@ -1,0 +1,44 @@
+-- Which replies are of an event's kind, whatever they say.
+use Rattle.std.specs.Prelude.{ℕ, Bool, true, false, cond, ◌&&◌, List, [], ◌∷◌, Option, is_some, is_none, length, nat_le}
+use Rattle.std.specs.List.{list_all}
+use Rattle.rule_machine.specs.declared.act.Act.{Act}
+use Rattle.rule_machine.specs.declared.act.Act.TheVariants.{Update, Marry, Seduce, Abandon}
+use Rattle.rule_machine.specs.declared.moved.Moved.{Moved}
+use Rattle.rule_machine.specs.declared.event.Event.{Event}
+use Rattle.rule_machine.specs.declared.event.Event.TheVariants.{Link, Unlink, Point, Flag, Step, Show, Enabled, Matching}
+use Rattle.rule_machine.specs.declared.reply.Reply.{Reply}
+use Rattle.rule_machine.specs.declared.reply.Reply.TheVariants.{Accepted, Refused, Moves, Shown, EnabledAre, Pairs}
+
+-- only to marry and to seduce takes a target
+abbrev pub takes_target : Act → Bool
+takes_target Update = false
+takes_target Marry = true
+takes_target Seduce = true
+takes_target Abandon = false
+
+-- a move has a target exactly where its rule takes one
+abbrev pub is_move : Moved → Bool
+is_move m = cond (takes_target m.act) (is_some m.target) (is_none m.target)
+
+-- at least one move, and no more than there are names
+abbrev pub are_moves : List Moved → Bool
+are_moves moves = nat_le 1 (length moves) && nat_le (length moves) 65535 && list_all is_move moves
+
+-- whether the reply is of the event's kind
+abbrev pub fits : Event → Reply → Bool
+fits (Link a b) Accepted = true
+fits (Link a b) (Refused refusal) = true
+fits (Unlink a b) Accepted = true
+fits (Unlink a b) (Refused refusal) = true
+fits (Point v target) Accepted = true
+fits (Point v target) (Refused refusal) = true
+fits (Flag v value) Accepted = true
+fits (Flag v value) (Refused refusal) = true
+fits (Step items) (Moves moves) = are_moves moves
+fits (Step items) (Refused refusal) = true
+fits (Show v) (Shown target) = true
+fits (Show v) (Refused refusal) = true
+fits Enabled (EnabledAre nodes) = nat_le (length nodes) 65535
+fits Matching (Pairs pairs) = nat_le (length pairs) 65535
+-- no other reply is given
+fits event reply = false
