@@ -6,6 +6,8 @@ use Rattle.rule_machine.specs.Run.{Entry, Moment}
 use Rattle.rule_machine.specs.Answer.{Answers}
 use Rattle.rule_machine.specs.Tables.{table_of}
 use Rattle.entry_grammar.specs.Spelling.{SpellsEntry, SpellsHeader}
+use Rattle.byte_input.specs.declared.fault.InputFault.{InputFault}
+use Rattle.byte_input.specs.declared.fault.InputFault.TheVariants as input
 use Rattle.auditor.specs.declared.fault.AuditFault.{AuditFault}
 use Rattle.auditor.specs.declared.fault.AuditFault.TheVariants.{BadHeader, NotALine, OutOfOrder, NotTheMachines, Read, Memory}
 use Rattle.auditor.specs.Transcript.{IsTranscript}
@@ -97,3 +99,8 @@ IsDamage bytes (OutOfOrder line) = EndsOutOfOrder bytes line
 IsDamage bytes (NotTheMachines line) = EndsNotTheMachines bytes line
 IsDamage bytes Read = Unit {0}
 IsDamage bytes Memory = Unit {0}
+
+-- what a fault of the input is in an audit
+abbrev pub fault_of : InputFault → AuditFault
+fault_of input.Read = Read
+fault_of input.Memory = Memory

@@ -1,2 +1,4 @@
 pub mod Transcript
 pub mod Damage
+pub mod Position
+pub mod Accepted

@@ -1,5 +1,5 @@
 -- The answers with the least targets are a run, and every run ends in a state.
-use Rattle.std.proofs.Common.{◌≡◌, ℕ, List, [], ◌∷◌, Any, Option, None, Some, IsSomeAnd, IsTrue, zip, fold, refl, sym, ◌∙◌, subst}
+use Rattle.std.proofs.Common.{◌≡◌, ℕ, List, [], ◌∷◌, ◌++◌, Any, Option, None, Some, IsSomeAnd, IsTrue, zip, fold, refl, sym, ◌∙◌, subst}
 use Rattle.std.proofs.lemmas.List.Elements.{All-weaker, recursion_from_All}
 use Rattle.std.proofs.lemmas.Option.{none-some}
 use Rattle.rule_machine.specs.declared.act.Act.{Act}
@@ -90,3 +90,10 @@ pub runs_end_in_states : (t : RuleTable) → IsTable t → (start : Moment) → 
 runs_end_in_states t table start good [] end run = subst (λ m. IsState m.state) (sym run) good
 runs_end_in_states t table start good (entry ∷ log) end (next, answers, run) =
     runs_end_in_states t table (record { state = next; spent = spent_after start.spent entry.1 }) (answers_keep t table start.state good entry.0 entry.1 next answers) log end run
+
+-- a run goes on by one answer of the machine
+pub run_add : (t : RuleTable) (start end : Moment) (log : List Entry) (entry : Entry) (s : State) → Run t start log end → Answers t end.state entry.0 entry.1 s → Run t start (log ++ entry ∷ []) (record { state = s; spent = spent_after end.spent entry.1 })
+run_add t start end [] entry s run answers =
+    subst (λ (m : Moment). Run t m (entry ∷ []) (record { state = s; spent = spent_after end.spent entry.1 })) run (s, answers, refl)
+run_add t start end (first ∷ log) entry s run answers =
+    (run.0, run.1, run_add t (record { state = run.0; spent = spent_after start.spent first.1 }) end log entry s run.2 answers)

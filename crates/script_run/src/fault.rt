@@ -1,5 +1,6 @@
 //! Why a run ends early.
 
+use byte_input::InputFault;
 use thiserror::Error;
 
 /// Why a run did not come to the end of its script.
@@ -20,4 +21,18 @@ pub enum RunFault {
     /// A growth of memory was refused.
     #[error("out of memory")]
     Memory,
+}
+
+impl From<InputFault> for RunFault {
+    ghost use Rattle.std.specs.Prelude.{◌≡◌};
+    ghost use Rattle.script_run.specs.Input.{fault_of};
+
+    ghost from_gives = { λ fault run. run ≡ fault_of fault };
+
+    fn from(fault: InputFault) -> RunFault {
+        match fault {
+            InputFault::Read => RunFault::Read,
+            InputFault::Memory => RunFault::Memory,
+        }
+    }
 }

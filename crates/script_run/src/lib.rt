@@ -4,7 +4,6 @@
 mod fault;
 mod lines;
 mod options;
-mod reading;
 mod runner;
 mod script;
 mod stop;

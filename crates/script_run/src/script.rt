@@ -4,9 +4,9 @@ ghost use Rattle.std.specs.Prelude.{OnOk, IfSome};
 ghost use Rattle.std.specs.Io.KnownBytes.{IsAtEnd};
 ghost use Rattle.script_run.specs.Outcome.{IsOutcome};
 
-use crate::reading::read_whole;
 use crate::runner::run_on;
 use crate::{Options, RunFault};
+use byte_input::read_whole;
 use rule_machine::RuleSet;
 use rules_hsu_huang::HsuHuang;
 use rules_manne::Manne;

@@ -17,19 +17,12 @@ use Rattle.rule_machine.specs.Run.{Entry, Moment, Run, beginning, spent_after}
 use Rattle.machine_laws.specs.LeastMoves.{IsTable}
 use Rattle.machine_laws.specs.LeastAnswers.{least_answers}
 use Rattle.machine_laws.specs.Keeps.{opening_is_state}
-use Rattle.machine_laws.specs.Runs.{runs_end_in_states}
+use Rattle.machine_laws.specs.Runs.{run_add, runs_end_in_states}
 use Rattle.step_log.specs.Log.{Log, IsLog}
 use Rattle.step_log.specs.Copies.{is_listed}
 
 abbrev moment_of : State → ℕ → Moment
 moment_of s n = record { state = s; spent = n }
-
--- a run goes on by one answer of the machine
-pub run_add : (t : RuleTable) (start end : Moment) (log : List Entry) (entry : Entry) (s : State) → Run t start log end → Answers t end.state entry.0 entry.1 s → Run t start (log ++ entry ∷ []) (moment_of s (spent_after end.spent entry.1))
-run_add t start end [] entry s run answers =
-    subst (λ (m : Moment). Run t m (entry ∷ []) (moment_of s (spent_after end.spent entry.1))) run (s, answers, refl)
-run_add t start end (first ∷ log) entry s run answers =
-    (run.0, run.1, run_add t (moment_of run.0 (spent_after start.spent first.1)) end log entry s run.2 answers)
 
 accepted_size : (t : RuleTable) (s : State) (event : Event) → node_count (accepted_state t s event).network ≡ node_count s.network
 accepted_size t s (Link a b) = refl

@@ -1,0 +1,67 @@
+-- How far an audit has come, and what one line does to it.
+use Rattle.std.specs.Prelude.{◌≡◌, ◌≢◌, ℕ, ◌+◌, ◌*◌, ◌≤◌, List, Result, Ok, Err}
+use Rattle.rule_machine.specs.declared.reply.Reply.{Reply}
+use Rattle.rule_machine.specs.State.{State, opening}
+use Rattle.rule_machine.specs.RuleTable.{RuleTable}
+use Rattle.rule_machine.specs.Run.{Entry}
+use Rattle.rule_machine.specs.Answer.{Answers}
+use Rattle.entry_grammar.specs.Spelling.{SpellsEntry, max_entries}
+use Rattle.auditor.specs.declared.fault.AuditFault.{AuditFault}
+use Rattle.auditor.specs.declared.fault.AuditFault.TheVariants.{BadHeader, NotALine, OutOfOrder, NotTheMachines, Read, Memory}
+use Rattle.auditor.specs.declared.summary.Summary.{Summary}
+use Rattle.auditor.specs.Transcript.{disturbances_in, moves_in}
+use Rattle.auditor.specs.Damage.{SpellsNoEntry}
+
+-- the state that the entries so far have led to, and what was counted in them
+pub record Position : Type 0 where
+  pub state : State
+  pub counted : Summary
+
+-- before any entry
+abbrev pub opening_position : ℕ → Position
+opening_position nodes = record { state = opening nodes; counted = record { entries = 0; epochs = 1; moves = 0 } }
+
+-- with one more entry
+abbrev pub counted_more : Summary → Reply → Summary
+counted_more c reply =
+    record { entries = c.entries + 1; epochs = c.epochs + disturbances_in reply; moves = c.moves + moves_in reply }
+
+-- what may have been counted
+pub record IsCounted (c : Summary) : Type 0 where
+  pub entries : c.entries ≤ max_entries
+  pub epochs : c.epochs ≤ c.entries + 1
+  pub moves : c.moves ≤ c.entries * 65535
+
+-- the line is the next entry, the machine may give its reply, and it is counted
+pub record GoodLine (t : RuleTable) (line : List ℕ) (before after : Position) : Type 0 where
+  pub entry : Entry
+  pub spells : SpellsEntry line (before.counted.entries + 1) entry
+  pub answers : Answers t before.state entry.0 entry.1 after.state
+  pub counted : after.counted ≡ counted_more before.counted entry.1
+
+-- the line is an entry with another number
+pub record BadNumber (line : List ℕ) (before : Position) : Type 0 where
+  pub seq : ℕ
+  pub entry : Entry
+  pub spells : SpellsEntry line seq entry
+  pub other : seq ≢ before.counted.entries + 1
+
+-- the line is the next entry, and the machine may not give its reply
+pub record BadReply (t : RuleTable) (line : List ℕ) (before : Position) : Type 0 where
+  pub entry : Entry
+  pub spells : SpellsEntry line (before.counted.entries + 1) entry
+  pub never : (s : State) → Answers t before.state entry.0 entry.1 s → ⊥
+
+-- line 1 is the header, so the next line has a number two above that of the entries
+abbrev pub IsNext : ℕ → Position → Type 0
+IsNext number before = number ≡ before.counted.entries + 2
+
+-- what the check of the next line says of it; of want of memory nothing is said, and other faults don't come
+abbrev pub LineJudged : RuleTable → List ℕ → Position → Position → Result Unit AuditFault → Type 0
+LineJudged t line before after (Ok done) = GoodLine t line before after
+LineJudged t line before after (Err BadHeader) = ⊥
+LineJudged t line before after (Err (NotALine number)) = IsNext number before × SpellsNoEntry line
+LineJudged t line before after (Err (OutOfOrder number)) = IsNext number before × BadNumber line before
+LineJudged t line before after (Err (NotTheMachines number)) = IsNext number before × BadReply t line before
+LineJudged t line before after (Err Read) = ⊥
+LineJudged t line before after (Err Memory) = Unit {0}

@@ -1,0 +1,88 @@
+//! One line of a transcript against the machine.
+
+ghost use Rattle.std.specs.Prelude.{◌≡◌, ◌≤◌, IfOk};
+ghost use Rattle.rule_machine.specs.Tables.{table_of};
+ghost use Rattle.auditor.specs.Position.{opening_position, IsNext, LineJudged};
+
+use crate::{AuditFault, Summary};
+use entry_grammar::{EntryFault, read_entry};
+use plain_machine::PlainNet;
+use rule_machine::{RuleSet, Want};
+use std::alloc::Global;
+use std::marker::Model;
+
+/// How far an audit has come: the network as the entries so far have left it, and what was counted.
+#[derive(Drop)]
+pub(crate) struct Audit {
+    net: PlainNet,
+    counted: Summary,
+}
+
+impl Model for Audit {
+    ghost use Rattle.auditor.specs.Position.{Position, IsCounted};
+
+    ghost Value = { Position };
+
+    ghost view = { λ a. record { state = a.net; counted = a.counted } };
+
+    ghost invariant = { λ a. IsCounted a.counted };
+}
+
+impl Audit {
+    /// An audit before the first entry.
+    pub(crate) fn new(alloc: Global, nodes: u32) -> Result<Audit, Want>
+        requires { nodes ≤ 65535 }
+        ensures { IfOk result (λ audit. audit ≡ opening_position nodes) }
+    {
+        Ok(Audit {
+            net: PlainNet::new(alloc, nodes)?,
+            counted: Summary {
+                entries: 0,
+                epochs: 1,
+                moves: 0,
+            },
+        })
+    }
+
+    /// What was counted.
+    pub(crate) fn counted(&self) -> Summary
+        ensures { result ≡ self.now.counted }
+    {
+        self.counted
+    }
+
+    /// The number of the next line.
+    pub(crate) fn next_line(&self) -> u64
+        ensures { IsNext result self.now }
+    {
+        u64::from(self.counted.entries) + 2
+    }
+
+    /// Checks that the next line is the next entry, and that the machine may give its reply.
+    pub(crate) fn check_line(
+        &mut self,
+        alloc: Global,
+        rules: RuleSet,
+        line: &[u8],
+    ) -> Result<(), AuditFault>
+        ensures { LineJudged (table_of rules) line.now self.old self.new result }
+    {
+        let number = self.next_line();
+        let (seq, entry) = match read_entry(alloc, line) {
+            Ok(found) => found,
+            Err(EntryFault::NotALine) => return Err(AuditFault::NotALine { line: number }),
+            Err(EntryFault::Memory) => return Err(AuditFault::Memory),
+        };
+        if seq != self.counted.entries + 1 {
+            return Err(AuditFault::OutOfOrder { line: number });
+        }
+        let Ok(right) = self.net.replay(alloc, rules, entry.event(), entry.reply()) else {
+            return Err(AuditFault::Memory);
+        };
+        if !right {
+            return Err(AuditFault::NotTheMachines { line: number });
+        }
+        self.counted = self.counted.with_reply(entry.reply());
+        Ok(())
+    }
+}

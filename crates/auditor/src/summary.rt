@@ -1,0 +1,56 @@
+//! What an audit counts.
+
+ghost use Rattle.std.specs.Prelude.{◌≡◌, ◌<◌, ◌≤◌};
+ghost use Rattle.auditor.specs.Transcript.{disturbances_in, moves_in};
+ghost use Rattle.auditor.specs.Position.{counted_more, IsCounted};
+
+use rule_machine::Reply;
+
+/// How many entries, epochs and moves an accepted transcript has. There is one epoch at the start, and one more from
+/// each accepted disturbance on.
+#[derive(Clone, Copy, Debug, PartialEq, Eq)]
+pub struct Summary {
+    /// The entries, at most 16,777,216.
+    pub entries: u32,
+    /// The epochs, at least 1.
+    pub epochs: u32,
+    /// The moves of all steps.
+    pub moves: u64,
+}
+
+impl Summary {
+    /// The counts with one more entry.
+    pub(crate) fn with_reply(self, reply: &Reply) -> Summary
+        requires counted { IsCounted self }
+        requires room { self.entries < 16777216 }
+        requires few { moves_in reply.now ≤ 65535 }
+        ensures value { result ≡ counted_more self reply.now }
+        ensures counted { IsCounted result }
+    {
+        Summary {
+            entries: self.entries + 1,
+            epochs: self.epochs + disturbances_in(reply),
+            moves: self.moves + moves_in(reply) as u64,
+        }
+    }
+}
+
+// How many disturbances a reply says were made.
+fn disturbances_in(reply: &Reply) -> u32
+    ensures { result ≡ disturbances_in reply.now }
+{
+    match reply {
+        Reply::Accepted => 1,
+        _ => 0,
+    }
+}
+
+// How many moves a reply says were made.
+fn moves_in(reply: &Reply) -> usize
+    ensures { result ≡ moves_in reply.now }
+{
+    match reply {
+        Reply::Moves(moves) => moves.as_slice().len(),
+        _ => 0,
+    }
+}

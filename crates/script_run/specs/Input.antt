@@ -1,0 +1,9 @@
+-- What a fault of the input is in a run.
+use Rattle.byte_input.specs.declared.fault.InputFault.{InputFault}
+use Rattle.byte_input.specs.declared.fault.InputFault.TheVariants as input
+use Rattle.script_run.specs.declared.fault.RunFault.{RunFault}
+use Rattle.script_run.specs.declared.fault.RunFault.TheVariants.{Read, Memory}
+
+abbrev pub fault_of : InputFault → RunFault
+fault_of input.Read = Read
+fault_of input.Memory = Memory
