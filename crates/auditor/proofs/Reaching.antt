@@ -1,0 +1,155 @@
+-- How far an audit is, line by line.
+use Rattle.std.proofs.Common.{◌≡◌, ◌≢◌, ℕ, ◌+◌, ◌<◌, ◌≤◌, List, [], ◌∷◌, ◌++◌, Option, None, Some, length, sum_by, refl, sym, ap, subst, ◌∙◌, append_assoc, arith}
+use Rattle.std.specs.List.{AllByRecursion}
+use Rattle.std.proofs.lemmas.List.{append-nil, length-append}
+use Rattle.rule_machine.specs.declared.rules.RuleSet.{RuleSet}
+use Rattle.rule_machine.specs.State.{State}
+use Rattle.rule_machine.specs.Run.{Entry, Moment, Run, beginning, spent_after}
+use Rattle.rule_machine.specs.Answer.{Answers}
+use Rattle.rule_machine.specs.Tables.{table_of}
+use Rattle.machine_laws.specs.Runs.{run_add}
+use Rattle.line_text.specs.EntryText.{header_text, header_line, entry_text, entry_line}
+use Rattle.entry_grammar.specs.Spelling.{SpellsEntry, SpellsHeader, max_entries}
+use Rattle.auditor.specs.declared.summary.Summary.{Summary}
+use Rattle.auditor.specs.Transcript.{IsEntry, IsTranscript, entry_lines, transcript, disturbances_in, moves_in, epoch_count, move_count}
+use Rattle.auditor.specs.Damage.{Follows, EntryComes, EndsInNoLine, EndsOutOfOrder, EndsNotTheMachines, HasNoEntry, first_line}
+use Rattle.auditor.specs.Position.{Position, opening_position, counted_more, GoodLine, BadNumber, BadReply, IsNext}
+use Rattle.auditor.specs.Accepted.{Counts, IsAccepted, IsReached}
+use Rattle.auditor.proofs.Cutting.{first_line-splits}
+
+-- ---- lists
+
+sum_by-push : (f : Entry → ℕ) (log : List Entry) (entry : Entry) → sum_by f (log ++ entry ∷ []) ≡ sum_by f log + f entry
+sum_by-push f log entry = ?
+
+all_push : (log : List Entry) (entry : Entry) → AllByRecursion IsEntry log → IsEntry entry → AllByRecursion IsEntry (log ++ entry ∷ [])
+all_push [] entry all is = (is, tt)
+all_push (first ∷ log) entry all is = (all.0, all_push log entry all.1 is)
+
+lines_push : (number : ℕ) (log : List Entry) (entry : Entry) → entry_lines number (log ++ entry ∷ []) ≡ entry_lines number log ++ entry_line (number + length log) entry.0 entry.1
+lines_push number [] entry = append-nil (entry_line number entry.0 entry.1) ∙ ap (λ (n : ℕ). entry_line n entry.0 entry.1) (omega arith)
+lines_push number (first ∷ log) entry =
+    ap (λ (z : List ℕ). entry_line number first.0 first.1 ++ z) (lines_push (number + 1) log entry ∙ ap (λ (n : ℕ). entry_lines (number + 1) log ++ entry_line n entry.0 entry.1) (omega arith))
+    ∙ sym (append_assoc (entry_line number first.0 first.1) (entry_lines (number + 1) log) (entry_line (number + 1 + length log) entry.0 entry.1) ∙ ap (λ (n : ℕ). entry_line number first.0 first.1 ++ entry_lines (number + 1) log ++ entry_line n entry.0 entry.1) (omega arith))
+
+-- ---- the header
+
+pub reached_start : (bytes line rest : List ℕ) (rules : RuleSet) (nodes : ℕ) → first_line bytes ≡ Some (line, rest) → SpellsHeader line rules nodes → IsReached bytes rules (opening_position nodes) rest
+reached_start bytes line rest rules nodes cut spells =
+    let begin = beginning nodes in
+    record {
+      log = [];
+      end = begin;
+      follows = record {
+        nodes = nodes;
+        good = header_line rules nodes;
+        transcript = record {
+          few = spells.few;
+          text = sym (append-nil (header_line rules nodes));
+          entries = tt;
+          not_too_many = omega arith;
+          run = refl;
+        };
+        splits = first_line-splits bytes line rest cut ∙ ap (λ (z : List ℕ). z ++ 10 ∷ rest) spells.is ∙ sym (append_assoc (header_text rules nodes) (10 ∷ []) rest);
+      };
+      state = refl;
+      counts = record { entries = refl; epochs = refl; moves = refl };
+    }
+
+-- ---- one more line
+
+log_text : (bytes good line rest behind : List ℕ) (rules : RuleSet) (nodes : ℕ) (log : List Entry) (entry : Entry) → bytes ≡ good ++ rest → good ≡ transcript rules nodes log → rest ≡ line ++ 10 ∷ behind → line ≡ entry_text (length log + 1) entry.0 entry.1 → bytes ≡ transcript rules nodes (log ++ entry ∷ []) ++ behind
+log_text bytes good line rest behind rules nodes log entry splits text cut is =
+    let more : rest ≡ entry_line (length log + 1) entry.0 entry.1 ++ behind = cut ∙ ap (λ (z : List ℕ). z ++ 10 ∷ behind) is ∙ sym (append_assoc (entry_text (length log + 1) entry.0 entry.1) (10 ∷ []) behind) in
+    let lines : entry_lines 1 (log ++ entry ∷ []) ≡ entry_lines 1 log ++ entry_line (length log + 1) entry.0 entry.1 = lines_push 1 log entry ∙ ap (λ (n : ℕ). entry_lines 1 log ++ entry_line n entry.0 entry.1) (omega arith) in
+    let whole : transcript rules nodes (log ++ entry ∷ []) ≡ transcript rules nodes log ++ entry_line (length log + 1) entry.0 entry.1 = ap (λ (z : List ℕ). header_line rules nodes ++ z) lines ∙ sym (append_assoc (header_line rules nodes) (entry_lines 1 log) (entry_line (length log + 1) entry.0 entry.1)) in
+    splits ∙ ap (λ (z : List ℕ). z ++ rest) text ∙ ap (λ (z : List ℕ). transcript rules nodes log ++ z) more ∙ sym (append_assoc (transcript rules nodes log) (entry_line (length log + 1) entry.0 entry.1) behind) ∙ ap (λ (z : List ℕ). z ++ behind) (sym whole)
+
+more_counts : (c d : Summary) (log : List Entry) (entry : Entry) → Counts c log → d ≡ counted_more c entry.1 → Counts d (log ++ entry ∷ [])
+more_counts c d log entry counts is =
+    let l = length-append log (entry ∷ []) in
+    let e = sum_by-push (λ (x : Entry). disturbances_in x.1) log entry in
+    let m = sum_by-push (λ (x : Entry). moves_in x.1) log entry in
+    record {
+      entries = ap (λ (s : Summary). s.entries) is ∙ omega (arith, counts.entries, l);
+      epochs = ap (λ (s : Summary). s.epochs) is ∙ omega (arith, counts.epochs, e);
+      moves = ap (λ (s : Summary). s.moves) is ∙ omega (arith, counts.moves, m);
+    }
+
+more_entry : (rules : RuleSet) (p q : Position) (bytes line rest behind : List ℕ) (entry : Entry) (log : List Entry) (end : Moment) → Follows bytes rules log end rest → p.state ≡ end.state → Counts p.counted log → first_line rest ≡ Some (line, behind) → SpellsEntry line (length log + 1) entry → Answers (table_of rules) end.state entry.0 entry.1 q.state → q.counted ≡ counted_more p.counted entry.1 → IsReached bytes rules q behind
+more_entry rules p q bytes line rest behind entry log end follows state counts cut spells answers counted =
+    let good = follows.transcript in
+    let l = length-append log (entry ∷ []) in
+    let next : Moment = record { state = q.state; spent = spent_after end.spent entry.1 } in
+    record {
+      log = log ++ entry ∷ [];
+      end = next;
+      follows = record {
+        nodes = follows.nodes;
+        good = transcript rules follows.nodes (log ++ entry ∷ []);
+        transcript = record {
+          few = good.few;
+          text = refl;
+          entries = all_push log entry good.entries (record { event = spells.event; reply = spells.reply; fits = spells.fits });
+          not_too_many = omega (arith, l, spells.numbered.1);
+          run = run_add (table_of rules) (beginning follows.nodes) end log entry q.state good.run answers;
+        };
+        splits = log_text bytes follows.good line rest behind rules follows.nodes log entry follows.splits good.text (first_line-splits rest line behind cut) spells.is;
+      };
+      state = refl;
+      counts = more_counts p.counted q.counted log entry counts counted;
+    }
+
+pub reached_more : (rules : RuleSet) (p q : Position) (bytes line rest behind : List ℕ) → IsReached bytes rules p rest → first_line rest ≡ Some (line, behind) → GoodLine (table_of rules) line p q → IsReached bytes rules q behind
+reached_more rules p q bytes line rest behind r cut good =
+    let spells = subst (λ (n : ℕ). SpellsEntry line (n + 1) good.entry) r.counts.entries good.spells in
+    let answers = subst (λ (s : State). Answers (table_of rules) s good.entry.0 good.entry.1 q.state) r.state good.answers in
+    more_entry rules p q bytes line rest behind good.entry r.log r.end r.follows r.state r.counts cut spells answers good.counted
+
+-- ---- the end, and damage
+
+pub reached_end : (bytes : List ℕ) (rules : RuleSet) (p : Position) (rest : List ℕ) → IsReached bytes rules p rest → rest ≡ [] → IsAccepted bytes p.counted
+reached_end bytes rules p rest r none =
+    let good = r.follows.transcript in
+    let same : bytes ≡ r.follows.good = r.follows.splits ∙ ap (λ (z : List ℕ). r.follows.good ++ z) none ∙ append-nil r.follows.good in
+    record {
+      rules = rules;
+      nodes = r.follows.nodes;
+      log = r.log;
+      end = r.end;
+      transcript = subst (λ (b : List ℕ). IsTranscript b rules r.follows.nodes r.log r.end) (sym same) good;
+      counts = r.counts;
+    }
+
+pub damaged_line : (bytes : List ℕ) (rules : RuleSet) (p : Position) (rest : List ℕ) (number : ℕ) → IsReached bytes rules p rest → IsNext number p → HasNoEntry rest (first_line rest) → EndsInNoLine bytes number
+damaged_line bytes rules p rest number r next damage =
+    record { rules = rules; log = r.log; end = r.end; rest = rest; follows = r.follows; number = next ∙ ap (λ (n : ℕ). n + 2) r.counts.entries; damage = damage }
+
+pub damaged_number : (bytes line behind : List ℕ) (rules : RuleSet) (p : Position) (rest : List ℕ) (number : ℕ) → IsReached bytes rules p rest → IsNext number p → first_line rest ≡ Some (line, behind) → BadNumber line p → EndsOutOfOrder bytes number
+damaged_number bytes line behind rules p rest number r next cut bad =
+    record {
+      rules = rules;
+      log = r.log;
+      end = r.end;
+      rest = rest;
+      follows = r.follows;
+      number = next ∙ ap (λ (n : ℕ). n + 2) r.counts.entries;
+      seq = bad.seq;
+      entry = bad.entry;
+      comes = record { line = line; more = behind; is = cut; spells = bad.spells };
+      damage = λ e. bad.other (e ∙ ap (λ (n : ℕ). n + 1) (sym r.counts.entries));
+    }
+
+pub damaged_reply : (bytes line behind : List ℕ) (rules : RuleSet) (p : Position) (rest : List ℕ) (number : ℕ) → IsReached bytes rules p rest → IsNext number p → first_line rest ≡ Some (line, behind) → BadReply (table_of rules) line p → EndsNotTheMachines bytes number
+damaged_reply bytes line behind rules p rest number r next cut bad =
+    record {
+      rules = rules;
+      log = r.log;
+      end = r.end;
+      rest = rest;
+      follows = r.follows;
+      number = next ∙ ap (λ (n : ℕ). n + 2) r.counts.entries;
+      entry = bad.entry;
+      comes = record { line = line; more = behind; is = cut; spells = subst (λ (n : ℕ). SpellsEntry line (n + 1) bad.entry) r.counts.entries bad.spells };
+      damage = λ s a. bad.never s (subst (λ (u : State). Answers (table_of rules) u bad.entry.0 bad.entry.1 s) (sym r.state) a);
+    }
