@@ -1,0 +1,78 @@
+-- Texts that have no byte of a kind, and where they end.
+use Rattle.std.proofs.Common.{◌≡◌, ◌≢◌, ℕ, ◌<◌, ◌+◌, Bool, true, false, not, List, [], ◌∷◌, ◌++◌, take, drop, length, get_or, refl, sym, ap, subst, ◌∙◌, append_assoc, arith}
+use Rattle.std.specs.Prelude.{IsTrue, nat_eq}
+use Rattle.std.specs.Int.{IsInRange}
+use Rattle.std.specs.List.{AllByRecursion, list_all}
+use Rattle.std.specs.Str.Parse.{AllDigits}
+use Rattle.std.proofs.lemmas.Str.Parse.{digit_from_value}
+use Rattle.line_text.specs.Words.{number_text, IsName}
+use Rattle.line_text.proofs.Digits.{own}
+use Rattle.entry_grammar.specs.Reading.{IsFree, CutAt}
+use Rattle.std.proofs.lemmas.Fmt.{digits_decimal}
+use Rattle.std.proofs.lemmas.Bool.{and_parts}
+use Rattle.std.proofs.lemmas.List.{take-append-drop, take_more}
+use Rattle.std.proofs.Math.Seq.{drop-cons}
+
+-- two free texts make one
+pub free_append : (mark : ℕ) (x y : List ℕ) → IsFree mark x → IsFree mark y → IsFree mark (x ++ y)
+free_append mark [] y f g = g
+free_append mark (b ∷ x) y f g = (f.0, free_append mark x y f.1 g)
+
+-- digits are no other byte
+pub free_digits : (mark : ℕ) (ds : List ℕ) → (IsInRange 48 57 mark → ⊥) → AllDigits 10 ds → IsFree mark ds
+free_digits mark [] o d = tt
+free_digits mark (c ∷ ds) o d = (λ e. o (subst (λ (z : ℕ). IsInRange 48 57 z) e (digit_from_value c d.0)), free_digits mark ds o d.1)
+
+-- a number has digits alone
+pub free_number : (mark n : ℕ) → (IsInRange 48 57 mark → ⊥) → n < 18446744073709551616 → IsFree mark (number_text n)
+free_number mark n o h = free_digits mark (number_text n) o (digits_decimal own n h)
+
+-- bytes that a test finds different
+other : (b mark : ℕ) → not (nat_eq b mark) ≡ true → b ≢ mark
+other b mark e = λ h. grind arith
+
+-- a text that a test finds free
+pub free_by : (mark : ℕ) (x : List ℕ) → list_all (λ b. not (nat_eq b mark)) x ≡ true → IsFree mark x
+free_by mark [] e = tt
+free_by mark (b ∷ x) e =
+    let r = and_parts (not (nat_eq b mark)) (list_all (λ z. not (nat_eq z mark)) x) e in
+    (other b mark r.0, free_by mark x r.1)
+
+-- a text that has a mark is not free of it
+pub not_free : (mark : ℕ) (front back : List ℕ) → IsFree mark (front ++ mark ∷ back) → ⊥
+not_free mark [] back f = f.0 refl
+not_free mark (b ∷ front) back f = not_free mark front back f.1
+
+-- equal lists have equal parts
+cons_parts : (c d : ℕ) (xs ys : List ℕ) → c ∷ xs ≡ d ∷ ys → (c ≡ d) × (xs ≡ ys)
+cons_parts c d xs ys e = (cc, cc)
+
+-- what stands before the first mark, and behind it, is determined
+pub mark_once : (mark : ℕ) (f g x y : List ℕ) → IsFree mark f → IsFree mark g → f ++ mark ∷ x ≡ g ++ mark ∷ y → (f ≡ g) × (x ≡ y)
+mark_once mark [] [] x y p q e = (refl, (cons_parts mark mark x y e).1)
+mark_once mark [] (d ∷ g) x y p q e = absurd (q.0 (sym (cons_parts mark d x (g ++ mark ∷ y) e).0))
+mark_once mark (c ∷ f) [] x y p q e = absurd (p.0 (cons_parts c mark (f ++ mark ∷ x) y e).0)
+mark_once mark (c ∷ f) (d ∷ g) x y p q e =
+    let h = cons_parts c d (f ++ mark ∷ x) (g ++ mark ∷ y) e in
+    let t = mark_once mark f g x y p.1 q.1 h.1 in
+    (cc, t.1)
+
+-- a cut is determined
+pub cut_once : (mark : ℕ) (bytes f g x y : List ℕ) → CutAt mark bytes f x → CutAt mark bytes g y → (f ≡ g) × (x ≡ y)
+cut_once mark bytes f g x y a b = mark_once mark f g x y a.free b.free (sym a.is ∙ b.is)
+
+-- a text that is free is not cut
+pub free_no_cut : (mark : ℕ) (bytes f x : List ℕ) → IsFree mark bytes → CutAt mark bytes f x → ⊥
+free_no_cut mark bytes f x h a = not_free mark f x (subst (IsFree mark) a.is h)
+
+-- one more byte that is no mark
+pub free_more : (mark : ℕ) (bytes : List ℕ) (i : ℕ) → i < length bytes → IsFree mark (take i bytes) → get_or bytes i 0 ≢ mark → IsFree mark (take (i + 1) bytes)
+free_more mark bytes i lt f n =
+    subst (IsFree mark) (sym (take_more bytes i 0 lt)) (free_append mark (take i bytes) (get_or bytes i 0 ∷ []) f (n, tt))
+
+-- the bytes around the mark
+pub cut_here : (mark : ℕ) (bytes : List ℕ) (i : ℕ) → i < length bytes → IsFree mark (take i bytes) → get_or bytes i 0 ≡ mark → CutAt mark bytes (take i bytes) (drop (i + 1) bytes)
+cut_here mark bytes i lt f e =
+    let whole : bytes ≡ take i bytes ++ drop i bytes = sym (take-append-drop i bytes) in
+    let behind : drop i bytes ≡ mark ∷ drop (i + 1) bytes = grind (arith, drop-cons bytes i 0 lt) in
+    record { free = f; is = whole ∙ ap (λ (z : List ℕ). take i bytes ++ z) behind }

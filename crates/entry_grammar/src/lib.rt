@@ -1,0 +1,10 @@
+//! The lines of a transcript: each entry and each header has one spelling, which is written and read exactly.
+#![tactic(auto)]
+
+mod cut;
+mod fault;
+mod header;
+mod number;
+
+pub use fault::EntryFault;
+pub use header::{header_text, read_header};
