@@ -1,3 +1,5 @@
 pub mod Free
 pub mod Numbers
 pub mod Headers
+pub mod Joined
+pub mod Marked

@@ -5,6 +5,8 @@ mod cut;
 mod fault;
 mod header;
 mod number;
+mod tokens;
+mod words;
 
 pub use fault::EntryFault;
 pub use header::{header_text, read_header};
