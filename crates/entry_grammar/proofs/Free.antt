@@ -49,7 +49,7 @@ not_free mark [] back f = f.0 refl
 not_free mark (b ∷ front) back f = not_free mark front back f.1
 
 -- equal lists have equal parts
-cons_parts : (c d : ℕ) (xs ys : List ℕ) → c ∷ xs ≡ d ∷ ys → (c ≡ d) × (xs ≡ ys)
+pub cons_parts : (c d : ℕ) (xs ys : List ℕ) → c ∷ xs ≡ d ∷ ys → (c ≡ d) × (xs ≡ ys)
 cons_parts c d xs ys e = (cc, cc)
 
 -- what stands before the first mark, and behind it, is determined

@@ -1,8 +1,9 @@
 -- Words that are joined by one space.
-use Rattle.std.proofs.Common.{◌≡◌, ◌≢◌, ℕ, List, [], ◌∷◌, ◌++◌, refl, sym, ap, subst, ◌∙◌, append_assoc, arith}
+use Rattle.std.proofs.Common.{◌≡◌, ◌≢◌, ℕ, List, [], ◌∷◌, ◌++◌, length, refl, sym, ap, subst, ◌∙◌, append_assoc, arith}
+use Rattle.std.specs.Prelude.{codes}
 use Rattle.std.specs.List.{AllByRecursion}
 use Rattle.std.proofs.lemmas.List.{append-nil}
-use Rattle.line_text.specs.Words.{spaced, joined}
+use Rattle.line_text.specs.Words.{spaced, joined, joined_or}
 use Rattle.entry_grammar.specs.Reading.{IsFree, CutAt}
 use Rattle.entry_grammar.proofs.Free.{mark_once, not_free}
 
@@ -73,3 +74,14 @@ pub SoFar-end : {X : Type 0} (text : X → List ℕ) (fits : X → Type 0) (byte
 SoFar-end text fits bytes words rest s a none all g h =
     let l = s.left all g h in
     none l.0 l.2.0 (last_word text fits rest l.0 l.1 a l.2 l.3)
+
+-- only an empty text and another make an empty text
+front_nil : (x y : List ℕ) → x ++ y ≡ [] → x ≡ []
+front_nil [] y e = refl
+front_nil (b ∷ x) y e = absurd (omega (arith, ap length e))
+
+-- an empty text spells no words, not even none
+pub none_empty : {X : Type 0} (text : X → List ℕ) (fits : X → Type 0) → ((x : X) → fits x → text x ≢ []) → (bytes : List ℕ) → length bytes ≡ 0 → (all : List X) → AllByRecursion fits all → bytes ≡ joined_or (codes "none") text all → ⊥
+none_empty text fits some bytes n [] f e = omega (arith, n, ap length e)
+none_empty text fits some [] n (x ∷ all) f e = some x f.0 (front_nil (text x) (spaced text all) (sym e))
+none_empty text fits some (b ∷ bytes) n (x ∷ all) f e = omega (arith, n)

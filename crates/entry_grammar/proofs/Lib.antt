@@ -3,3 +3,6 @@ pub mod Numbers
 pub mod Headers
 pub mod Joined
 pub mod Marked
+pub mod RefusalsOnce
+pub mod TokensOnce
+pub mod Replies

@@ -1,5 +1,5 @@
 -- What the readers of an entry's parts say of the bytes that they are given.
-use Rattle.std.specs.Prelude.{◌≡◌, ◌≢◌, ℕ, Bool, true, false, List, [], ◌∷◌, ◌++◌, Option, None, Some, codes}
+use Rattle.std.specs.Prelude.{◌≡◌, ◌≢◌, ℕ, Bool, true, false, List, [], ◌∷◌, ◌++◌, Option, None, Some, IsTrue, codes}
 use Rattle.std.specs.List.{AllByRecursion}
 use Rattle.rule_machine.specs.declared.act.Act.{Act}
 use Rattle.rule_machine.specs.declared.event.Event.{Event}
@@ -7,7 +7,9 @@ use Rattle.rule_machine.specs.declared.event.Event.TheVariants.{Link, Unlink, Po
 use Rattle.rule_machine.specs.declared.reply.Reply.{Reply}
 use Rattle.rule_machine.specs.declared.reply.Reply.TheVariants.{Accepted, Refused, Moves, Shown, EnabledAre, Pairs}
 use Rattle.line_text.specs.Words.{marked_text}
-use Rattle.line_text.specs.ReplyText.{act_word}
+use Rattle.line_text.specs.ReplyText.{act_word, reply_text}
+use Rattle.line_text.specs.Reading.{Reads}
+use Rattle.entry_grammar.specs.Spelling.{IsReply}
 
 -- no byte of the text is the mark
 abbrev pub IsFree : ℕ → List ℕ → Type 0
@@ -28,21 +30,45 @@ pub record PartsOf (line number event reply : List ℕ) : Type 0 where
 abbrev pub deed_text : Act → Option ℕ → List ℕ
 deed_text act target = act_word act ++ marked_text (codes ">") target
 
+-- replies to a change of the network
+abbrev pub is_done : Reply → Bool
+is_done Accepted = true
+is_done (Refused refusal) = true
+is_done reply = false
+
+-- replies to a step
+abbrev pub is_moved : Reply → Bool
+is_moved (Moves moves) = true
+is_moved (Refused refusal) = true
+is_moved reply = false
+
+-- replies to the question where a node points
+abbrev pub is_shown : Reply → Bool
+is_shown (Shown target) = true
+is_shown (Refused refusal) = true
+is_shown reply = false
+
+-- replies to the question which nodes are enabled
+abbrev pub are_enabled : Reply → Bool
+are_enabled (EnabledAre nodes) = true
+are_enabled reply = false
+
+-- replies to the question for the mutual pairs
+abbrev pub are_pairs : Reply → Bool
+are_pairs (Pairs pairs) = true
+are_pairs reply = false
+
 -- whether replies of this kind are given to the event, whatever they say
 abbrev pub suits : Event → Reply → Bool
-suits (Link a b) Accepted = true
-suits (Link a b) (Refused refusal) = true
-suits (Unlink a b) Accepted = true
-suits (Unlink a b) (Refused refusal) = true
-suits (Point v target) Accepted = true
-suits (Point v target) (Refused refusal) = true
-suits (Flag v value) Accepted = true
-suits (Flag v value) (Refused refusal) = true
-suits (Step items) (Moves moves) = true
-suits (Step items) (Refused refusal) = true
-suits (Show v) (Shown target) = true
-suits (Show v) (Refused refusal) = true
-suits Enabled (EnabledAre nodes) = true
-suits Matching (Pairs pairs) = true
--- no other reply is given
-suits event reply = false
+suits (Link a b) reply = is_done reply
+suits (Unlink a b) reply = is_done reply
+suits (Point v target) reply = is_done reply
+suits (Flag v value) reply = is_done reply
+suits (Step items) reply = is_moved reply
+suits (Show v) reply = is_shown reply
+suits Enabled reply = are_enabled reply
+suits Matching reply = are_pairs reply
+
+-- the bytes spell a reply of the kind that the test tells, or what was found is none and they spell no such reply
+abbrev pub ReadsReply : (Reply → Bool) → List ℕ → Option Reply → Type 0
+ReadsReply kind bytes found = Reads (λ reply. IsTrue (kind reply) × IsReply reply) reply_text bytes found

@@ -5,6 +5,8 @@ mod cut;
 mod fault;
 mod header;
 mod number;
+mod refusals;
+mod reply;
 mod tokens;
 mod words;
 

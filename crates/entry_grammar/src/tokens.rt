@@ -112,7 +112,7 @@ impl Token for Edge {
         let Some(high) = read_last(name) else {
             return None;
         };
-        if low >= high {
+        if low.name() >= high.name() {
             return None;
         }
         Edge::new(low, high)

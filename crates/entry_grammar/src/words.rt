@@ -1,6 +1,6 @@
 //! Lists of words that are joined by one space.
 
-ghost use Rattle.std.specs.Prelude.{◌≡◌, ℕ, List, IfOk, codes};
+ghost use Rattle.std.specs.Prelude.{◌≡◌, ◌≢◌, ℕ, List, [], IfOk, codes};
 ghost use Rattle.std.specs.List.{AllByRecursion};
 ghost use Rattle.line_text.specs.Words.{joined, joined_or};
 ghost use Rattle.line_text.specs.Reading.{Reads};
@@ -52,6 +52,7 @@ pub fn read_words_or_none<W: Token + Copy>(
     alloc: Global,
     bytes: &[u8],
 ) -> Result<Option<Listing<W>>, Want>
+    requires some { (word : W) → W.fits word → W.text word ≢ [] }
     requires no_space { (word : W) → W.fits word → IsFree 32 (W.text word) }
     ensures { IfOk result (Reads (AllByRecursion W.fits) (joined_or (codes "none") W.text) bytes.now) }
 {
