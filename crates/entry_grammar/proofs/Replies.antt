@@ -1,6 +1,6 @@
 -- Replies of one kind.
 use Rattle.std.proofs.Common.{◌≡◌, ◌≢◌, ℕ, Bool, true, false, List, [], ◌∷◌, ◌++◌, Option, None, Some, length, get_or, refl, sym, ap, subst, ◌∙◌, append_assoc, arith}
-use Rattle.std.specs.Prelude.{IsTrue, IfSome, codes}
+use Rattle.std.specs.Prelude.{IsTrue, ⊤, IfSome, codes}
 use Rattle.std.specs.Int.{IsInRange}
 use Rattle.std.specs.List.{AllByRecursion}
 use Rattle.std.proofs.lemmas.List.{append_cancel_left}
@@ -86,3 +86,14 @@ reply_once (Step items) r q s t f g e = moved_once r q s t f g e
 reply_once (Show v) r q s t f g e = shown_once r q s t f g e
 reply_once Enabled r q s t f g e = are_enabled_once r q s t f g e
 reply_once Matching r q s t f g e = are_pairs_once r q s t f g e
+
+-- where the words behind `refused` are no refusal's, no reply to a step or to a question where a node points is spelled
+pub no_moved : (bytes words : List ℕ) → bytes ≡ codes "refused " ++ words → ((r : Refusal) → ⊤ → words ≡ refusal_words r → ⊥) → (q : Reply) → IsTrue (is_moved q) × IsReply q → bytes ≡ reply_text q → ⊥
+no_moved bytes words a none (Moves x) f e = refused_moves x words f.1 (sym e ∙ a)
+no_moved bytes words a none (Refused q) f e = none q tt (append_cancel_left (codes "refused ") words (refusal_words q) (sym a ∙ e))
+no_moved bytes words a none q f e = let h = f.0 in cc
+
+pub no_shown : (bytes words : List ℕ) → bytes ≡ codes "refused " ++ words → ((r : Refusal) → ⊤ → words ≡ refusal_words r → ⊥) → (q : Reply) → IsTrue (is_shown q) × IsReply q → bytes ≡ reply_text q → ⊥
+no_shown bytes words a none (Shown x) f e = refused_target x words f.1 (sym e ∙ a)
+no_shown bytes words a none (Refused q) f e = none q tt (append_cancel_left (codes "refused ") words (refusal_words q) (sym a ∙ e))
+no_shown bytes words a none q f e = let h = f.0 in cc

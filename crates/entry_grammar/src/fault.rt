@@ -3,7 +3,7 @@
 ghost use Rattle.std.specs.Prelude.{◌≡◌};
 ghost use Rattle.entry_grammar.specs.declared.fault.EntryFault.TheVariants.{Memory};
 
-use std::alloc::AllocFailed;
+use std::alloc::AllocError;
 use thiserror::Error;
 
 /// Why a line was not read.
@@ -17,10 +17,10 @@ pub enum EntryFault {
     Memory,
 }
 
-impl<T: Drop> From<AllocFailed<T>> for EntryFault {
+impl From<AllocError> for EntryFault {
     ghost from_gives = { λ _ e. e ≡ Memory };
 
-    fn from(_failed: AllocFailed<T>) -> EntryFault {
+    fn from(_failed: AllocError) -> EntryFault {
         EntryFault::Memory
     }
 }

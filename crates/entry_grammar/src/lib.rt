@@ -2,13 +2,17 @@
 #![tactic(auto)]
 
 mod cut;
+mod entry;
 mod fault;
 mod header;
+mod law;
 mod number;
 mod refusals;
 mod reply;
 mod tokens;
 mod words;
 
+pub use entry::{entry_text, read_entry};
 pub use fault::EntryFault;
 pub use header::{header_text, read_header};
+pub use law::one_spelling;

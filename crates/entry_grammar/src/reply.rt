@@ -27,7 +27,10 @@ fn read_moved(alloc: Global, bytes: &[u8]) -> Result<Option<Reply>, Want>
     ensures { IfOk result (ReadsReply is_moved bytes.now) }
 {
     if let Some(words) = after(bytes, b"refused ") {
-        return Ok(read_refusal(words).map(|refusal| Reply::Refused(refusal)));
+        let Some(refusal) = read_refusal(words) else {
+            return Ok(None);
+        };
+        return Ok(Some(Reply::Refused(refusal)));
     }
     Ok(read_words(alloc, bytes)?.map(|moves| Reply::Moves(moves)))
 }
@@ -37,7 +40,10 @@ fn read_shown(bytes: &[u8]) -> Option<Reply>
     ensures { ReadsReply is_shown bytes.now result }
 {
     if let Some(words) = after(bytes, b"refused ") {
-        return read_refusal(words).map(|refusal| Reply::Refused(refusal));
+        let Some(refusal) = read_refusal(words) else {
+            return None;
+        };
+        return Some(Reply::Refused(refusal));
     }
     read_target(bytes).map(|target| Reply::Shown(target))
 }
