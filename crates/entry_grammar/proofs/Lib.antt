@@ -6,3 +6,5 @@ pub mod Marked
 pub mod RefusalsOnce
 pub mod TokensOnce
 pub mod Replies
+pub mod Parts
+pub mod Entries

@@ -1,6 +1,6 @@
 //! Texts that are cut at a byte.
 
-ghost use Rattle.std.specs.Prelude.{◌≡◌, ℕ, List, MatchOption};
+ghost use Rattle.std.specs.Prelude.{◌≡◌, ℕ, List, ◌++◌, MatchOption};
 ghost use Rattle.entry_grammar.specs.Reading.{IsFree, CutAt};
 
 /// What stands before the first byte that is the mark, and what stands behind it; `None` where no byte is.
@@ -15,4 +15,13 @@ pub fn cut(bytes: &[u8], mark: u8) -> Option<(&[u8], &[u8])>
         }
     }
     None
+}
+
+/// What stands before the given text at the end; `None` where another text stands there.
+pub fn before<'a>(bytes: &'a [u8], back: &[u8]) -> Option<&'a [u8]>
+    ensures { MatchOption result
+        ((front : List ℕ) → bytes.now ≡ front ++ back.now → ⊥)
+        (λ front. bytes.now ≡ front.now ++ back.now) }
+{
+    bytes.strip_suffix(back)
 }

@@ -8,7 +8,7 @@ ghost use Rattle.entry_grammar.specs.Spelling.{max_entries, SpellsEntry};
 ghost use Rattle.entry_grammar.specs.Reading.{PartsOf};
 ghost use Rattle.entry_grammar.specs.declared.fault.EntryFault.TheVariants.{NotALine};
 
-use crate::cut::cut;
+use crate::cut::{before, cut};
 use crate::fault::EntryFault;
 use crate::number::read_number;
 use crate::reply::read_reply;
@@ -32,7 +32,7 @@ fn parts(line: &[u8]) -> Option<(&[u8], &[u8], &[u8])>
     let Some((asked, answered)) = cut(rest, b'=') else {
         return None;
     };
-    let Some(event) = asked.strip_suffix(b" ") else {
+    let Some(event) = before(asked, b" ") else {
         return None;
     };
     let Some(reply) = after(answered, b" ") else {
