@@ -1,5 +1,5 @@
 -- The parts of a header.
-use Rattle.std.proofs.Common.{◌≡◌, ℕ, ◌<◌, ◌≤◌, List, [], ◌∷◌, ◌++◌, length, get_or, refl, sym, ap, subst, ◌∙◌, append_assoc, arith}
+use Rattle.std.proofs.Common.{◌≡◌, ℕ, ◌<◌, ◌≤◌, List, [], ◌∷◌, ◌++◌, length, refl, sym, ap, ◌∙◌, append_assoc, arith}
 use Rattle.std.specs.Prelude.{codes}
 use Rattle.std.proofs.lemmas.List.{append_cancel_left}
 use Rattle.std.proofs.lemmas.Fmt.{decimal_injective}
@@ -7,7 +7,6 @@ use Rattle.rule_machine.specs.declared.rules.RuleSet.{RuleSet}
 use Rattle.rule_machine.specs.declared.rules.RuleSet.TheVariants.{Hh, Manne}
 use Rattle.rule_machine.specs.Tables.{rules_word}
 use Rattle.line_text.specs.Words.{number_text}
-use Rattle.line_text.specs.EntryText.{header_text}
 use Rattle.entry_grammar.specs.Spelling.{SpellsHeader}
 use Rattle.entry_grammar.specs.Reading.{IsFree, CutAt}
 use Rattle.entry_grammar.proofs.Free.{free_by, cut_once}

@@ -1,8 +1,6 @@
 -- Replies of one kind.
-use Rattle.std.proofs.Common.{◌≡◌, ◌≢◌, ℕ, Bool, true, false, List, [], ◌∷◌, ◌++◌, Option, None, Some, length, get_or, refl, sym, ap, subst, ◌∙◌, append_assoc, arith}
-use Rattle.std.specs.Prelude.{IsTrue, ⊤, IfSome, codes}
-use Rattle.std.specs.Int.{IsInRange}
-use Rattle.std.specs.List.{AllByRecursion}
+use Rattle.std.proofs.Common.{◌≡◌, ℕ, List, ◌++◌, Option, get_or, refl, sym, ap, ◌∙◌, arith}
+use Rattle.std.specs.Prelude.{IsTrue, ⊤, codes}
 use Rattle.std.proofs.lemmas.List.{append_cancel_left}
 use Rattle.rule_machine.specs.declared.act.Act.{Act}
 use Rattle.rule_machine.specs.declared.moved.Moved.{Moved}
@@ -12,10 +10,8 @@ use Rattle.rule_machine.specs.declared.event.Event.TheVariants.{Link, Unlink, Po
 use Rattle.rule_machine.specs.declared.reply.Reply.{Reply}
 use Rattle.rule_machine.specs.declared.reply.Reply.TheVariants.{Accepted, Refused, Moves, Shown, EnabledAre, Pairs}
 use Rattle.log_entry.specs.Kinds.{fits}
-use Rattle.line_text.specs.Words.{number_text, IsName, joined, joined_or}
-use Rattle.line_text.specs.EventText.{target_text}
-use Rattle.line_text.specs.ReplyText.{enabled_text, move_text, mutual_text, refusal_words, reply_text}
-use Rattle.entry_grammar.specs.Spelling.{IsMoved, IsEnabled, IsPair, IsReply}
+use Rattle.line_text.specs.ReplyText.{refusal_words, reply_text}
+use Rattle.entry_grammar.specs.Spelling.{IsReply}
 use Rattle.entry_grammar.specs.Reading.{is_done, is_moved, is_shown, are_enabled, are_pairs, suits}
 use Rattle.entry_grammar.proofs.RefusalsOnce.{refusal_words_once}
 use Rattle.entry_grammar.proofs.TokensOnce.{moves_once, enabled_once, pairs_once, target_once, refused_moves, refused_target}

@@ -10,12 +10,12 @@ use Rattle.std.proofs.lemmas.Fmt.{decimal_nonempty}
 use Rattle.rule_machine.specs.declared.act.Act.{Act}
 use Rattle.rule_machine.specs.declared.act.Act.TheVariants.{Update, Marry, Seduce, Abandon}
 use Rattle.rule_machine.specs.declared.moved.Moved.{Moved}
-use Rattle.line_text.specs.Words.{number_text, marked_text, IsName, spaced, joined, joined_or}
+use Rattle.line_text.specs.Words.{number_text, IsName, spaced, joined, joined_or}
 use Rattle.line_text.specs.EventText.{target_text}
 use Rattle.line_text.specs.ReplyText.{act_word, enabled_text, move_text, mutual_text}
 use Rattle.line_text.proofs.Digits.{name_digits}
 use Rattle.entry_grammar.specs.Spelling.{IsMoved, IsEnabled, IsPair}
-use Rattle.entry_grammar.specs.Reading.{IsFree, CutAt, deed_text}
+use Rattle.entry_grammar.specs.Reading.{IsFree, deed_text}
 use Rattle.entry_grammar.proofs.Free.{cons_parts, mark_once, not_free, free_move, free_enabled, free_pair, free_act_mark}
 use Rattle.entry_grammar.proofs.Marked.{name_once, marked_once, move_is, enabled_is, mutual_is}
 

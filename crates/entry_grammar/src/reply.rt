@@ -4,7 +4,7 @@ ghost use Rattle.std.specs.Prelude.{◌≡◌, IfOk};
 ghost use Rattle.entry_grammar.specs.Reading.{ReadsReply, is_done, is_moved, is_shown, suits};
 
 use crate::refusals::read_refusal;
-use crate::words::{read_words, read_words_or_none};
+use crate::words::{read_list, read_words};
 use line_text::{after, read_target};
 use rule_machine::{Event, Reply, Want};
 use std::alloc::Global;
@@ -53,14 +53,13 @@ pub fn read_reply(alloc: Global, event: &Event, bytes: &[u8]) -> Result<Option<R
     ensures { IfOk result (ReadsReply (suits event.now) bytes.now) }
 {
     match event {
-        Event::Link(..) | Event::Unlink(..) | Event::Point(..) | Event::Flag(..) => Ok(read_done(
-            bytes,
-        )),
         Event::Step(_) => read_moved(alloc, bytes),
         Event::Show(_) => Ok(read_shown(bytes)),
-        Event::Enabled => Ok(read_words_or_none(alloc, bytes)?.map(|nodes| Reply::EnabledAre(
-            nodes,
-        ))),
-        Event::Matching => Ok(read_words_or_none(alloc, bytes)?.map(|pairs| Reply::Pairs(pairs))),
+        Event::Enabled => Ok(read_list(alloc, bytes)?.map(|nodes| Reply::EnabledAre(nodes))),
+        Event::Matching => Ok(read_list(alloc, bytes)?.map(|pairs| Reply::Pairs(pairs))),
+        Event::Link(..) | Event::Unlink(..) | Event::Point(..) | Event::Flag(..) => {
+            let reply = read_done(bytes);
+            Ok(reply)
+        }
     }
 }

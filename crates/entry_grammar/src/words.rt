@@ -48,10 +48,7 @@ pub fn read_words<W: Token + Copy>(alloc: Global, bytes: &[u8]) -> Result<Option
 }
 
 /// Reads words that are joined by one space, or `none` for no words; `None` where anything else stands there.
-pub fn read_words_or_none<W: Token + Copy>(
-    alloc: Global,
-    bytes: &[u8],
-) -> Result<Option<Listing<W>>, Want>
+pub fn read_list<W: Token + Copy>(alloc: Global, bytes: &[u8]) -> Result<Option<Listing<W>>, Want>
     requires some { (word : W) → W.fits word → W.text word ≢ [] }
     requires no_space { (word : W) → W.fits word → IsFree 32 (W.text word) }
     ensures { IfOk result (Reads (AllByRecursion W.fits) (joined_or (codes "none") W.text) bytes.now) }

@@ -1,4 +1,4 @@
-use Rattle.std.proofs.Common.{◌≡◌, ◌∷◌, ◌++◌, [], arith}
+use Rattle.std.proofs.Common.{◌∷◌, ◌++◌, []}
 use Rattle.std.specs.Prelude.{codes}
 use Rattle.entry_grammar.proofs.Free.{free_no_cut}
 use Rattle.entry_grammar.proofs.Parts.{parts_rest, parts_rest_cut, parts_cut, parts_made}

@@ -1,4 +1,3 @@
-use Rattle.std.proofs.Common.{sym, ap, ◌∙◌, arith}
 use Rattle.line_text.specs.Words.{number_text}
 use Rattle.entry_grammar.proofs.Free.{free_no_cut, cut_once}
 use Rattle.entry_grammar.proofs.Marked.{name_cut}

@@ -1,5 +1,4 @@
-use Rattle.std.proofs.Common.{arith}
-use Rattle.entry_grammar.proofs.Joined.{SoFar-none, SoFar-more, SoFar-stuck, SoFar-last, SoFar-end}
+use Rattle.entry_grammar.proofs.Joined.{SoFar-more, SoFar-stuck, SoFar-end}
 use Rattle.entry_grammar.proofs.words.read_words.Goals as goal
 
 pub returns-in_default-read : goal.returns-in_default-read

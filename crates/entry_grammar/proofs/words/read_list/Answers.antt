@@ -1,6 +1,6 @@
 use Rattle.std.proofs.Common.{◌≡◌, length, arith}
 use Rattle.entry_grammar.proofs.Joined.{none_empty}
-use Rattle.entry_grammar.proofs.words.read_words_or_none.Goals as goal
+use Rattle.entry_grammar.proofs.words.read_list.Goals as goal
 
 pub returns-then-is_empty : goal.returns-then-is_empty
 returns-then-is_empty g c =
