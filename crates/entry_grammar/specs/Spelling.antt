@@ -1,5 +1,5 @@
 -- Which lines of a transcript are a header, and which an entry. Lines are without the LF that ends them.
-use Rattle.std.specs.Prelude.{◌≡◌, ℕ, ◌<◌, ◌≤◌, List, Option, IfSome, IsTrue}
+use Rattle.std.specs.Prelude.{◌≡◌, ℕ, ◌<◌, ◌≤◌, List, IfSome, IsTrue}
 use Rattle.std.specs.List.{AllByRecursion}
 use Rattle.rule_machine.specs.declared.act.Act.{Act}
 use Rattle.rule_machine.specs.declared.moved.Moved.{Moved}

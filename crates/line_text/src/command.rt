@@ -27,8 +27,8 @@ fn read_pair(bytes: &[u8]) -> Option<(Node, Node)>
     Some((a, b))
 }
 
-// Reads a name, or a dash for null.
-fn read_target(bytes: &[u8]) -> Option<Option<Node>>
+/// Reads a name, or a dash for null.
+pub fn read_target(bytes: &[u8]) -> Option<Option<Node>>
     ensures { Reads (λ target. IfSome target IsName) target_text bytes.now result }
 {
     if bytes == b"-".as_slice() {

@@ -12,9 +12,11 @@ mod numbers;
 mod replies;
 mod word;
 
-pub use command::{MAX_LINE, read_command};
+pub use command::{MAX_LINE, read_command, read_target};
 pub use entry::{put_entry, put_header};
+pub use front::after;
 pub use law::one_reading;
+pub use names::{read_last, read_name, read_word, value_of};
 
 #[cfg(test)]
 mod tests;

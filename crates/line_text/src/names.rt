@@ -25,9 +25,9 @@ fn count_digits(bytes: &[u8]) -> usize
     bytes.len()
 }
 
-// The number that the digits say.
-fn value_of(digits: &[u8]) -> u32
-    requires few { length digits.now ≤ 5 }
+/// The number that the digits say.
+pub fn value_of(digits: &[u8]) -> u32
+    requires few { length digits.now ≤ 8 }
     requires digits { AllDigits 10 digits.now }
     ensures { result ≡ digits_value 10 digits.now }
 {

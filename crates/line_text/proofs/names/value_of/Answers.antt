@@ -8,8 +8,8 @@ use Rattle.line_text.proofs.Digits.{own}
 use Rattle.line_text.proofs.names.value_of.Goals as goal
 
 -- the number so far is short
-small : (ds : List ℕ) (i value : ℕ) → length ds ≤ 5 → AllDigits 10 ds → value ≡ digits_value 10 (take i ds) → value < 100000
-small ds i value few d is = omega (arith, digits_value-take-le 10 ds i (omega arith), digits_value_short own ds 5 d few)
+small : (ds : List ℕ) (i value : ℕ) → length ds ≤ 8 → AllDigits 10 ds → value ≡ digits_value 10 (take i ds) → value < 100000000
+small ds i value few d is = omega (arith, digits_value-take-le 10 ds i (omega arith), digits_value_short own ds 8 d few)
 
 -- one digit more
 step : (ds : List ℕ) (i value : ℕ) → AllDigits 10 ds → i < length ds → value ≡ digits_value 10 (take i ds) → (48 ≤ get_or ds i 0) × (get_or ds i 0 ≤ 57) × (value * 10 + get_or ds i 0 ≡ digits_value 10 (take (i + 1) ds) + 48)

@@ -1,0 +1,132 @@
+-- Texts that have no byte of a kind, and where they end.
+use Rattle.std.proofs.Common.{◌≡◌, ◌≢◌, ℕ, ◌<◌, ◌+◌, ◌-◌, true, not, List, [], ◌∷◌, ◌++◌, take, drop, length, get_or, refl, sym, ap, subst, ◌∙◌, arith}
+use Rattle.std.specs.Prelude.{Option, None, Some, IfSome, nat_eq}
+use Rattle.std.specs.Int.{IsInRange}
+use Rattle.std.specs.List.{list_all}
+use Rattle.std.specs.Str.Parse.{AllDigits}
+use Rattle.std.proofs.lemmas.Str.Parse.{digit_from_value}
+use Rattle.rule_machine.specs.declared.act.Act.{Act}
+use Rattle.rule_machine.specs.declared.act.Act.TheVariants.{Update, Marry, Seduce, Abandon}
+use Rattle.rule_machine.specs.declared.moved.Moved.{Moved}
+use Rattle.line_text.specs.Words.{number_text, marked_text, IsName}
+use Rattle.line_text.specs.ReplyText.{act_word, enabled_text, move_text, mutual_text}
+use Rattle.entry_grammar.specs.Spelling.{IsMoved, IsEnabled, IsPair}
+use Rattle.line_text.proofs.Digits.{own}
+use Rattle.entry_grammar.specs.Reading.{IsFree, CutAt}
+use Rattle.std.proofs.lemmas.Fmt.{digits_decimal}
+use Rattle.std.proofs.lemmas.Bool.{and_parts}
+use Rattle.std.proofs.lemmas.List.{take-append-drop, take_more, length-drop}
+use Rattle.std.proofs.Math.Seq.{drop-cons, take-length}
+
+-- two free texts make one
+pub free_append : (mark : ℕ) (x y : List ℕ) → IsFree mark x → IsFree mark y → IsFree mark (x ++ y)
+free_append mark [] y f g = g
+free_append mark (b ∷ x) y f g = (f.0, free_append mark x y f.1 g)
+
+-- digits are no other byte
+pub free_digits : (mark : ℕ) (ds : List ℕ) → (IsInRange 48 57 mark → ⊥) → AllDigits 10 ds → IsFree mark ds
+free_digits mark [] o d = tt
+free_digits mark (c ∷ ds) o d = (λ e. o (subst (λ (z : ℕ). IsInRange 48 57 z) e (digit_from_value c d.0)), free_digits mark ds o d.1)
+
+-- a number has digits alone
+pub free_number : (mark n : ℕ) → (IsInRange 48 57 mark → ⊥) → n < 18446744073709551616 → IsFree mark (number_text n)
+free_number mark n o h = free_digits mark (number_text n) o (digits_decimal own n h)
+
+-- bytes that a test finds different
+other : (b mark : ℕ) → not (nat_eq b mark) ≡ true → b ≢ mark
+other b mark e = λ h. grind arith
+
+-- a text that a test finds free
+pub free_by : (mark : ℕ) (x : List ℕ) → list_all (λ b. not (nat_eq b mark)) x ≡ true → IsFree mark x
+free_by mark [] e = tt
+free_by mark (b ∷ x) e =
+    let r = and_parts (not (nat_eq b mark)) (list_all (λ z. not (nat_eq z mark)) x) e in
+    (other b mark r.0, free_by mark x r.1)
+
+-- a text that has a mark is not free of it
+pub not_free : (mark : ℕ) (front back : List ℕ) → IsFree mark (front ++ mark ∷ back) → ⊥
+not_free mark [] back f = f.0 refl
+not_free mark (b ∷ front) back f = not_free mark front back f.1
+
+-- equal lists have equal parts
+pub cons_parts : (c d : ℕ) (xs ys : List ℕ) → c ∷ xs ≡ d ∷ ys → (c ≡ d) × (xs ≡ ys)
+cons_parts c d xs ys e = (cc, cc)
+
+-- what stands before the first mark, and behind it, is determined
+pub mark_once : (mark : ℕ) (f g x y : List ℕ) → IsFree mark f → IsFree mark g → f ++ mark ∷ x ≡ g ++ mark ∷ y → (f ≡ g) × (x ≡ y)
+mark_once mark [] [] x y p q e = (refl, (cons_parts mark mark x y e).1)
+mark_once mark [] (d ∷ g) x y p q e = absurd (q.0 (sym (cons_parts mark d x (g ++ mark ∷ y) e).0))
+mark_once mark (c ∷ f) [] x y p q e = absurd (p.0 (cons_parts c mark (f ++ mark ∷ x) y e).0)
+mark_once mark (c ∷ f) (d ∷ g) x y p q e =
+    let h = cons_parts c d (f ++ mark ∷ x) (g ++ mark ∷ y) e in
+    let t = mark_once mark f g x y p.1 q.1 h.1 in
+    (cc, t.1)
+
+-- a cut is determined
+pub cut_once : (mark : ℕ) (bytes f g x y : List ℕ) → CutAt mark bytes f x → CutAt mark bytes g y → (f ≡ g) × (x ≡ y)
+cut_once mark bytes f g x y a b = mark_once mark f g x y a.free b.free (sym a.is ∙ b.is)
+
+-- a text that is free is not cut
+pub free_no_cut : (mark : ℕ) (bytes f x : List ℕ) → IsFree mark bytes → CutAt mark bytes f x → ⊥
+free_no_cut mark bytes f x h a = not_free mark f x (subst (IsFree mark) a.is h)
+
+-- one more byte that is no mark
+pub free_more : (mark : ℕ) (bytes : List ℕ) (i : ℕ) → i < length bytes → IsFree mark (take i bytes) → get_or bytes i 0 ≢ mark → IsFree mark (take (i + 1) bytes)
+free_more mark bytes i lt f n =
+    subst (IsFree mark) (sym (take_more bytes i 0 lt)) (free_append mark (take i bytes) (get_or bytes i 0 ∷ []) f (n, tt))
+
+-- what is left of the bytes behind the mark
+pub behind_mark : (mark : ℕ) (bytes : List ℕ) (i : ℕ) → CutAt mark bytes (take i bytes) (drop (i + 1) bytes) → CutAt mark bytes (take i bytes) (take (length bytes - (i + 1)) (drop (i + 1) bytes))
+behind_mark mark bytes i h =
+    let all : take (length bytes - (i + 1)) (drop (i + 1) bytes) ≡ drop (i + 1) bytes = ap (λ (z : ℕ). take z (drop (i + 1) bytes)) (sym (length-drop (i + 1) bytes)) ∙ take-length (drop (i + 1) bytes) in
+    subst (λ (z : List ℕ). CutAt mark bytes (take i bytes) z) (sym all) h
+
+-- the bytes around the mark
+pub cut_here : (mark : ℕ) (bytes : List ℕ) (i : ℕ) → i < length bytes → IsFree mark (take i bytes) → get_or bytes i 0 ≡ mark → CutAt mark bytes (take i bytes) (drop (i + 1) bytes)
+cut_here mark bytes i lt f e =
+    let whole : bytes ≡ take i bytes ++ drop i bytes = sym (take-append-drop i bytes) in
+    let behind : drop i bytes ≡ mark ∷ drop (i + 1) bytes = grind (arith, drop-cons bytes i 0 lt) in
+    record { free = f; is = whole ∙ ap (λ (z : List ℕ). take i bytes ++ z) behind }
+
+-- a name has no byte that is no digit
+pub free_name : (mark n : ℕ) → (IsInRange 48 57 mark → ⊥) → IsName n → IsFree mark (number_text n)
+free_name mark n o h = free_number mark n o (omega arith)
+
+-- a rule's word has no space, no colon and no `>`
+pub free_act : (act : Act) → IsFree 32 (act_word act)
+free_act Update = free_by 32 (act_word Update) refl
+free_act Marry = free_by 32 (act_word Marry) refl
+free_act Seduce = free_by 32 (act_word Seduce) refl
+free_act Abandon = free_by 32 (act_word Abandon) refl
+
+pub free_act_mark : (act : Act) → IsFree 62 (act_word act)
+free_act_mark Update = free_by 62 (act_word Update) refl
+free_act_mark Marry = free_by 62 (act_word Marry) refl
+free_act_mark Seduce = free_by 62 (act_word Seduce) refl
+free_act_mark Abandon = free_by 62 (act_word Abandon) refl
+
+-- a target behind its mark
+pub free_marked : (mark : ℕ) (target : Option ℕ) → (IsInRange 48 57 mark → ⊥) → 62 ≢ mark → IfSome target IsName → IsFree mark (marked_text (62 ∷ []) target)
+free_marked mark None o n f = tt
+free_marked mark (Some w) o n f = (n, free_name mark w o f)
+
+-- no word of a reply has a space
+pub free_move : (m : Moved) → IsMoved m → IsFree 32 (move_text m)
+free_move m f =
+    free_append 32 (number_text m.node ++ 58 ∷ [] ++ act_word m.act) (marked_text (62 ∷ []) m.target)
+    (free_append 32 (number_text m.node ++ 58 ∷ []) (act_word m.act)
+    (free_append 32 (number_text m.node) (58 ∷ []) (free_name 32 m.node (λ h. omega (arith, h.0)) f.0) (free_by 32 (58 ∷ []) refl))
+    (free_act m.act))
+    (free_marked 32 m.target (λ h. omega (arith, h.0)) (λ h. omega (arith, h)) f.1)
+
+pub free_enabled : (e : ℕ × Act) → IsEnabled e → IsFree 32 (enabled_text e)
+free_enabled e f =
+    free_append 32 (number_text e.0 ++ 58 ∷ []) (act_word e.1)
+    (free_append 32 (number_text e.0) (58 ∷ []) (free_name 32 e.0 (λ h. omega (arith, h.0)) f) (free_by 32 (58 ∷ []) refl))
+    (free_act e.1)
+
+pub free_pair : (p : ℕ × ℕ) → IsPair p → IsFree 32 (mutual_text p)
+free_pair p f =
+    free_append 32 (number_text p.0 ++ 45 ∷ []) (number_text p.1)
+    (free_append 32 (number_text p.0) (45 ∷ []) (free_name 32 p.0 (λ h. omega (arith, h.0)) f.0) (free_by 32 (45 ∷ []) refl))
+    (free_name 32 p.1 (λ h. omega (arith, h.0)) f.1)

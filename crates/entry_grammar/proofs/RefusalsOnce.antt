@@ -1,0 +1,77 @@
+-- Refusals by their numbers.
+use Rattle.std.proofs.Common.{◌≡◌, ℕ, ◌<◌, List, [], ◌∷◌, ◌++◌, if◌then◌else◌, refl, sym, ap, ◌∙◌, append_assoc, arith}
+use Rattle.std.specs.Prelude.{nat_eq}
+use Rattle.std.proofs.lemmas.Fmt.{decimal_injective}
+use Rattle.rule_machine.specs.declared.refusal.Refusal.{Refusal}
+use Rattle.rule_machine.specs.declared.refusal.Refusal.TheVariants.{UnknownNode, SelfLoop, AlreadyLinked, NotLinked, TooManyEdges, NotNeighbour, NoFlag, EmptyChoice, NotCentral, ChosenTwice, NotEnabled, BadTarget}
+use Rattle.rule_machine.specs.Refuse.{refusal_number, refusal_text}
+use Rattle.line_text.specs.Words.{number_text, IsName}
+use Rattle.line_text.specs.ReplyText.{refusal_words}
+use Rattle.entry_grammar.specs.Reading.{CutAt}
+use Rattle.entry_grammar.proofs.Free.{cut_once}
+use Rattle.entry_grammar.proofs.Marked.{name_cut, name_once}
+
+-- the refusal with this number
+abbrev refusal_at : ℕ → Refusal
+refusal_at n =
+    if nat_eq n 1 then UnknownNode else (if nat_eq n 2 then SelfLoop else (if nat_eq n 3 then AlreadyLinked else (if nat_eq n 4 then NotLinked else (if nat_eq n 5 then TooManyEdges else (if nat_eq n 6 then NotNeighbour else (if nat_eq n 7 then NoFlag else (if nat_eq n 8 then EmptyChoice else (if nat_eq n 9 then NotCentral else (if nat_eq n 10 then ChosenTwice else (if nat_eq n 11 then NotEnabled else (BadTarget)))))))))))
+
+at_number : (r : Refusal) → refusal_at (refusal_number r) ≡ r
+at_number UnknownNode = refl
+at_number SelfLoop = refl
+at_number AlreadyLinked = refl
+at_number NotLinked = refl
+at_number TooManyEdges = refl
+at_number NotNeighbour = refl
+at_number NoFlag = refl
+at_number EmptyChoice = refl
+at_number NotCentral = refl
+at_number ChosenTwice = refl
+at_number NotEnabled = refl
+at_number BadTarget = refl
+
+-- a refusal has a number of its own
+pub refusal_once : (r q : Refusal) → refusal_number r ≡ refusal_number q → r ≡ q
+refusal_once r q e = sym (at_number r) ∙ ap refusal_at e ∙ at_number q
+
+-- a refusal's number is small enough to be a name
+pub refusal_named : (r : Refusal) → IsName (refusal_number r)
+refusal_named UnknownNode = (omega arith, omega arith)
+refusal_named SelfLoop = (omega arith, omega arith)
+refusal_named AlreadyLinked = (omega arith, omega arith)
+refusal_named NotLinked = (omega arith, omega arith)
+refusal_named TooManyEdges = (omega arith, omega arith)
+refusal_named NotNeighbour = (omega arith, omega arith)
+refusal_named NoFlag = (omega arith, omega arith)
+refusal_named EmptyChoice = (omega arith, omega arith)
+refusal_named NotCentral = (omega arith, omega arith)
+refusal_named ChosenTwice = (omega arith, omega arith)
+refusal_named NotEnabled = (omega arith, omega arith)
+refusal_named BadTarget = (omega arith, omega arith)
+
+-- a refusal's words are cut behind its number
+pub refusal_cut : (bytes : List ℕ) (r : Refusal) → bytes ≡ refusal_words r → CutAt 32 bytes (number_text (refusal_number r)) (refusal_text r)
+refusal_cut bytes r e =
+    name_cut 32 bytes (refusal_number r) (refusal_text r) (λ h. omega (arith, h.0)) (refusal_named r) (e ∙ append_assoc (number_text (refusal_number r)) (32 ∷ []) (refusal_text r))
+
+-- a refusal has words of its own
+pub refusal_words_once : (r q : Refusal) → refusal_words r ≡ refusal_words q → r ≡ q
+refusal_words_once r q e =
+    let p = cut_once 32 (refusal_words r) (number_text (refusal_number r)) (number_text (refusal_number q)) (refusal_text r) (refusal_text q) (refusal_cut (refusal_words r) r refl) (refusal_cut (refusal_words r) q e) in
+    refusal_once r q (name_once (refusal_number r) (refusal_number q) (refusal_named r) (refusal_named q) p.0)
+
+-- a refusal's number has few digits
+pub refusal_small : (r : Refusal) → refusal_number r < 100000000
+refusal_small r = let f = refusal_named r in omega (arith, f.1)
+
+-- a refusal's number is the number that its text says
+pub number_same : (bytes : List ℕ) (r : Refusal) (n : ℕ) → n < 100000000 → bytes ≡ number_text (refusal_number r) → bytes ≡ number_text n → refusal_number r ≡ n
+number_same bytes r n h e f =
+    let small = refusal_small r in
+    decimal_injective (refusal_number r) n (omega (arith, small)) (omega (arith, h)) (sym e ∙ f)
+
+-- a number and a text that are a refusal's
+pub refusal_read : (bytes number text : List ℕ) (n : ℕ) (r : Refusal) → CutAt 32 bytes number text → number ≡ number_text n → refusal_number r ≡ n → text ≡ refusal_text r → bytes ≡ refusal_words r
+refusal_read bytes number text n r a e k t =
+    a.is ∙ ap (λ (z : List ℕ). z ++ 32 ∷ text) (e ∙ ap number_text (sym k)) ∙ ap (λ (z : List ℕ). number_text (refusal_number r) ++ 32 ∷ z) t
+    ∙ sym (append_assoc (number_text (refusal_number r)) (32 ∷ []) (refusal_text r))

@@ -1,0 +1,95 @@
+-- Replies of one kind.
+use Rattle.std.proofs.Common.{◌≡◌, ℕ, List, ◌++◌, Option, get_or, refl, sym, ap, ◌∙◌, arith}
+use Rattle.std.specs.Prelude.{IsTrue, ⊤, codes}
+use Rattle.std.proofs.lemmas.List.{append_cancel_left}
+use Rattle.rule_machine.specs.declared.act.Act.{Act}
+use Rattle.rule_machine.specs.declared.moved.Moved.{Moved}
+use Rattle.rule_machine.specs.declared.refusal.Refusal.{Refusal}
+use Rattle.rule_machine.specs.declared.event.Event.{Event}
+use Rattle.rule_machine.specs.declared.event.Event.TheVariants.{Link, Unlink, Point, Flag, Step, Show, Enabled, Matching}
+use Rattle.rule_machine.specs.declared.reply.Reply.{Reply}
+use Rattle.rule_machine.specs.declared.reply.Reply.TheVariants.{Accepted, Refused, Moves, Shown, EnabledAre, Pairs}
+use Rattle.log_entry.specs.Kinds.{fits}
+use Rattle.line_text.specs.ReplyText.{refusal_words, reply_text}
+use Rattle.entry_grammar.specs.Spelling.{IsReply}
+use Rattle.entry_grammar.specs.Reading.{is_done, is_moved, is_shown, are_enabled, are_pairs, suits}
+use Rattle.entry_grammar.proofs.RefusalsOnce.{refusal_words_once}
+use Rattle.entry_grammar.proofs.TokensOnce.{moves_once, enabled_once, pairs_once, target_once, refused_moves, refused_target}
+
+-- what fits an event suits it
+pub fits_suits : (event : Event) (reply : Reply) → IsTrue (fits event reply) → IsTrue (suits event reply)
+fits_suits (Link a b) Accepted h = refl
+fits_suits (Link a b) (Refused r) h = refl
+fits_suits (Unlink a b) Accepted h = refl
+fits_suits (Unlink a b) (Refused r) h = refl
+fits_suits (Point a b) Accepted h = refl
+fits_suits (Point a b) (Refused r) h = refl
+fits_suits (Flag a b) Accepted h = refl
+fits_suits (Flag a b) (Refused r) h = refl
+fits_suits (Step items) (Moves moves) h = refl
+fits_suits (Step items) (Refused r) h = refl
+fits_suits (Show v) (Shown target) h = refl
+fits_suits (Show v) (Refused r) h = refl
+fits_suits Enabled (EnabledAre nodes) h = refl
+fits_suits Matching (Pairs pairs) h = refl
+fits_suits event reply h = cc
+
+-- a refusal is not said as `ok`
+ok_refused : (r : Refusal) → codes "ok" ≡ codes "refused " ++ refusal_words r → ⊥
+ok_refused r e = omega (arith, ap (λ (z : List ℕ). get_or z 0 0) e)
+
+-- a refusal is said in one way
+refused_once : (r q : Refusal) → codes "refused " ++ refusal_words r ≡ codes "refused " ++ refusal_words q → Refused r ≡ Refused q
+refused_once r q e = ap (λ (z : Refusal). Refused z) (refusal_words_once r q (append_cancel_left (codes "refused ") (refusal_words r) (refusal_words q) e))
+
+-- replies of one kind have texts of their own
+done_once : (r q : Reply) → IsTrue (is_done r) → IsTrue (is_done q) → reply_text r ≡ reply_text q → r ≡ q
+done_once Accepted Accepted s t e = refl
+done_once Accepted (Refused q) s t e = absurd (ok_refused q e)
+done_once (Refused r) Accepted s t e = absurd (ok_refused r (sym e))
+done_once (Refused r) (Refused q) s t e = refused_once r q e
+done_once r q s t e = cc
+
+moved_once : (r q : Reply) → IsTrue (is_moved r) → IsTrue (is_moved q) → IsReply r → IsReply q → reply_text r ≡ reply_text q → r ≡ q
+moved_once (Moves x) (Moves y) s t f g e = ap (λ (z : List Moved). Moves z) (moves_once x y f g e)
+moved_once (Moves x) (Refused q) s t f g e = absurd (refused_moves x (refusal_words q) f e)
+moved_once (Refused r) (Moves y) s t f g e = absurd (refused_moves y (refusal_words r) g (sym e))
+moved_once (Refused r) (Refused q) s t f g e = refused_once r q e
+moved_once r q s t f g e = cc
+
+shown_once : (r q : Reply) → IsTrue (is_shown r) → IsTrue (is_shown q) → IsReply r → IsReply q → reply_text r ≡ reply_text q → r ≡ q
+shown_once (Shown x) (Shown y) s t f g e = ap (λ (z : Option ℕ). Shown z) (target_once x y f g e)
+shown_once (Shown x) (Refused q) s t f g e = absurd (refused_target x (refusal_words q) f e)
+shown_once (Refused r) (Shown y) s t f g e = absurd (refused_target y (refusal_words r) g (sym e))
+shown_once (Refused r) (Refused q) s t f g e = refused_once r q e
+shown_once r q s t f g e = cc
+
+are_enabled_once : (r q : Reply) → IsTrue (are_enabled r) → IsTrue (are_enabled q) → IsReply r → IsReply q → reply_text r ≡ reply_text q → r ≡ q
+are_enabled_once (EnabledAre x) (EnabledAre y) s t f g e = ap (λ (z : List (ℕ × Act)). EnabledAre z) (enabled_once x y f g e)
+are_enabled_once r q s t f g e = cc
+
+are_pairs_once : (r q : Reply) → IsTrue (are_pairs r) → IsTrue (are_pairs q) → IsReply r → IsReply q → reply_text r ≡ reply_text q → r ≡ q
+are_pairs_once (Pairs x) (Pairs y) s t f g e = ap (λ (z : List (ℕ × ℕ)). Pairs z) (pairs_once x y f g e)
+are_pairs_once r q s t f g e = cc
+
+-- replies of an event's kind have texts of their own
+pub reply_once : (event : Event) (r q : Reply) → IsTrue (suits event r) → IsTrue (suits event q) → IsReply r → IsReply q → reply_text r ≡ reply_text q → r ≡ q
+reply_once (Link a b) r q s t f g e = done_once r q s t e
+reply_once (Unlink a b) r q s t f g e = done_once r q s t e
+reply_once (Point v target) r q s t f g e = done_once r q s t e
+reply_once (Flag v value) r q s t f g e = done_once r q s t e
+reply_once (Step items) r q s t f g e = moved_once r q s t f g e
+reply_once (Show v) r q s t f g e = shown_once r q s t f g e
+reply_once Enabled r q s t f g e = are_enabled_once r q s t f g e
+reply_once Matching r q s t f g e = are_pairs_once r q s t f g e
+
+-- where the words behind `refused` are no refusal's, no reply to a step or to a question where a node points is spelled
+pub no_moved : (bytes words : List ℕ) → bytes ≡ codes "refused " ++ words → ((r : Refusal) → ⊤ → words ≡ refusal_words r → ⊥) → (q : Reply) → IsTrue (is_moved q) × IsReply q → bytes ≡ reply_text q → ⊥
+no_moved bytes words a none (Moves x) f e = refused_moves x words f.1 (sym e ∙ a)
+no_moved bytes words a none (Refused q) f e = none q tt (append_cancel_left (codes "refused ") words (refusal_words q) (sym a ∙ e))
+no_moved bytes words a none q f e = let h = f.0 in cc
+
+pub no_shown : (bytes words : List ℕ) → bytes ≡ codes "refused " ++ words → ((r : Refusal) → ⊤ → words ≡ refusal_words r → ⊥) → (q : Reply) → IsTrue (is_shown q) × IsReply q → bytes ≡ reply_text q → ⊥
+no_shown bytes words a none (Shown x) f e = refused_target x words f.1 (sym e ∙ a)
+no_shown bytes words a none (Refused q) f e = none q tt (append_cancel_left (codes "refused ") words (refusal_words q) (sym a ∙ e))
+no_shown bytes words a none q f e = let h = f.0 in cc

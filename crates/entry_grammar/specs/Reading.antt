@@ -1,0 +1,74 @@
+-- What the readers of an entry's parts say of the bytes that they are given.
+use Rattle.std.specs.Prelude.{◌≡◌, ◌≢◌, ℕ, Bool, true, false, List, ◌∷◌, ◌++◌, Option, IsTrue, codes}
+use Rattle.std.specs.List.{AllByRecursion}
+use Rattle.rule_machine.specs.declared.act.Act.{Act}
+use Rattle.rule_machine.specs.declared.event.Event.{Event}
+use Rattle.rule_machine.specs.declared.event.Event.TheVariants.{Link, Unlink, Point, Flag, Step, Show, Enabled, Matching}
+use Rattle.rule_machine.specs.declared.reply.Reply.{Reply}
+use Rattle.rule_machine.specs.declared.reply.Reply.TheVariants.{Accepted, Refused, Moves, Shown, EnabledAre, Pairs}
+use Rattle.line_text.specs.Words.{marked_text}
+use Rattle.line_text.specs.ReplyText.{act_word, reply_text}
+use Rattle.line_text.specs.Reading.{Reads}
+use Rattle.entry_grammar.specs.Spelling.{IsReply}
+
+-- no byte of the text is the mark
+abbrev pub IsFree : ℕ → List ℕ → Type 0
+IsFree mark bytes = AllByRecursion (λ b. b ≢ mark) bytes
+
+-- the bytes are a front that has no mark, the mark, and what stands behind it
+pub record CutAt (mark : ℕ) (bytes front back : List ℕ) : Type 0 where
+  pub free : IsFree mark front
+  pub is : bytes ≡ front ++ mark ∷ back
+
+-- the line is three texts with what stands between those of an entry: the first without a space, the second without a `=`
+pub record PartsOf (line number event reply : List ℕ) : Type 0 where
+  pub numbered : IsFree 32 number
+  pub asked : IsFree 61 event
+  pub is : line ≡ number ++ codes " " ++ event ++ codes " = " ++ reply
+
+-- a rule, and a target behind a `>`
+abbrev pub deed_text : Act → Option ℕ → List ℕ
+deed_text act target = act_word act ++ marked_text (codes ">") target
+
+-- replies to a change of the network
+abbrev pub is_done : Reply → Bool
+is_done Accepted = true
+is_done (Refused refusal) = true
+is_done reply = false
+
+-- replies to a step
+abbrev pub is_moved : Reply → Bool
+is_moved (Moves moves) = true
+is_moved (Refused refusal) = true
+is_moved reply = false
+
+-- replies to the question where a node points
+abbrev pub is_shown : Reply → Bool
+is_shown (Shown target) = true
+is_shown (Refused refusal) = true
+is_shown reply = false
+
+-- replies to the question which nodes are enabled
+abbrev pub are_enabled : Reply → Bool
+are_enabled (EnabledAre nodes) = true
+are_enabled reply = false
+
+-- replies to the question for the mutual pairs
+abbrev pub are_pairs : Reply → Bool
+are_pairs (Pairs pairs) = true
+are_pairs reply = false
+
+-- whether replies of this kind are given to the event, whatever they say
+abbrev pub suits : Event → Reply → Bool
+suits (Link a b) reply = is_done reply
+suits (Unlink a b) reply = is_done reply
+suits (Point v target) reply = is_done reply
+suits (Flag v value) reply = is_done reply
+suits (Step items) reply = is_moved reply
+suits (Show v) reply = is_shown reply
+suits Enabled reply = are_enabled reply
+suits Matching reply = are_pairs reply
+
+-- the bytes spell a reply of the kind that the test tells, or what was found is none and they spell no such reply
+abbrev pub ReadsReply : (Reply → Bool) → List ℕ → Option Reply → Type 0
+ReadsReply kind bytes found = Reads (λ reply. IsTrue (kind reply) × IsReply reply) reply_text bytes found

@@ -1,0 +1,27 @@
+//! Texts that are cut at a byte.
+
+ghost use Rattle.std.specs.Prelude.{◌≡◌, ℕ, List, ◌++◌, MatchOption};
+ghost use Rattle.entry_grammar.specs.Reading.{IsFree, CutAt};
+
+/// What stands before the first byte that is the mark, and what stands behind it; `None` where no byte is.
+pub fn cut(bytes: &[u8], mark: u8) -> Option<(&[u8], &[u8])>
+    ensures { MatchOption result
+        (IsFree mark bytes.now)
+        (λ found. CutAt mark bytes.now found.0.now found.1.now) }
+{
+    for (i, byte) in bytes.iter().enumerate() {
+        if *byte == mark {
+            return Some((&bytes[..i], &bytes[i + 1..]));
+        }
+    }
+    None
+}
+
+/// What stands before the given text at the end; `None` where another text stands there.
+pub fn before<'a>(bytes: &'a [u8], back: &[u8]) -> Option<&'a [u8]>
+    ensures { MatchOption result
+        ((front : List ℕ) → bytes.now ≡ front ++ back.now → ⊥)
+        (λ front. bytes.now ≡ front.now ++ back.now) }
+{
+    bytes.strip_suffix(back)
+}

@@ -1,0 +1,80 @@
+//! The lines of a transcript that are entries.
+
+ghost use Rattle.std.specs.Prelude.{◌≡◌, ℕ, ◌<◌, ◌≤◌, List, IfOk, IfErr, MatchOption};
+ghost use Rattle.rule_machine.specs.declared.event.Event.{Event};
+ghost use Rattle.rule_machine.specs.declared.reply.Reply.{Reply};
+ghost use Rattle.line_text.specs.EntryText.{entry_text};
+ghost use Rattle.entry_grammar.specs.Spelling.{max_entries, SpellsEntry};
+ghost use Rattle.entry_grammar.specs.Reading.{PartsOf};
+ghost use Rattle.entry_grammar.specs.declared.fault.EntryFault.TheVariants.{NotALine};
+
+use crate::cut::{before, cut};
+use crate::fault::EntryFault;
+use crate::number::read_number;
+use crate::reply::read_reply;
+use line_text::{after, put_entry, read_command};
+use log_entry::Entry;
+use rule_machine::Want;
+use std::alloc::Global;
+
+/// The most entries that a log holds.
+const MAX_ENTRIES: u32 = 16_777_216;
+
+// The texts of a line's number, event and reply.
+fn parts(line: &[u8]) -> Option<(&[u8], &[u8], &[u8])>
+    ensures { MatchOption result
+        ((number : List ℕ) (event : List ℕ) (reply : List ℕ) → PartsOf line.now number event reply → ⊥)
+        (λ found. PartsOf line.now found.0.now found.1.now found.2.now) }
+{
+    let Some((number, rest)) = cut(line, b' ') else {
+        return None;
+    };
+    let Some((asked, answered)) = cut(rest, b'=') else {
+        return None;
+    };
+    let Some(event) = before(asked, b" ") else {
+        return None;
+    };
+    let Some(reply) = after(answered, b" ") else {
+        return None;
+    };
+    Some((number, event, reply))
+}
+
+/// The line of the entry with this number, without an LF.
+pub fn entry_text(alloc: Global, number: u32, entry: &Entry) -> Result<Vec<u8>, Want>
+    requires { (1 ≤ number) × (number ≤ max_entries) }
+    ensures { IfOk result (λ text. text.items ≡ entry_text number entry.now.0 entry.now.1) }
+{
+    let mut text = Vec::new(alloc);
+    put_entry(&mut text, number, entry.event(), entry.reply())?;
+    text.pop();
+    Ok(text)
+}
+
+/// Reads an entry and its number from a line without its LF. Memory is for the items of a step and for lists.
+pub fn read_entry(alloc: Global, line: &[u8]) -> Result<(u32, Entry), EntryFault>
+    ensures ok { IfOk result (λ found. SpellsEntry line.now found.0 found.1) }
+    ensures not_a_line { IfErr result (λ fault. fault ≡ NotALine
+        → (number : ℕ) (entry : Event × Reply) → SpellsEntry line.now number entry → ⊥) }
+{
+    let Some((number, event, reply)) = parts(line) else {
+        return Err(EntryFault::NotALine);
+    };
+    let Some(number) = read_number(number) else {
+        return Err(EntryFault::NotALine);
+    };
+    if number == 0 || number > MAX_ENTRIES {
+        return Err(EntryFault::NotALine);
+    }
+    let Some(event) = read_command(alloc, event)? else {
+        return Err(EntryFault::NotALine);
+    };
+    let Some(reply) = read_reply(alloc, &event, reply)? else {
+        return Err(EntryFault::NotALine);
+    };
+    let Some(entry) = Entry::new(event, reply) else {
+        return Err(EntryFault::NotALine);
+    };
+    Ok((number, entry))
+}

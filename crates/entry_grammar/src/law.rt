@@ -1,0 +1,15 @@
+//! What holds of all lines of a transcript.
+
+ghost use Rattle.std.specs.Prelude.{◌≡◌, ℕ, List};
+ghost use Rattle.rule_machine.specs.declared.event.Event.{Event};
+ghost use Rattle.rule_machine.specs.declared.reply.Reply.{Reply};
+ghost use Rattle.rule_machine.specs.declared.rules.RuleSet.{RuleSet};
+ghost use Rattle.entry_grammar.specs.Spelling.{SpellsEntry, SpellsHeader};
+
+/// A line spells at most one entry, and one header.
+pub fn one_spelling()
+    ensures entry { (line : List ℕ) (m n : ℕ) (e f : Event × Reply)
+        → SpellsEntry line m e → SpellsEntry line n f → (m ≡ n) × (e ≡ f) }
+    ensures header { (line : List ℕ) (r q : RuleSet) (m n : ℕ)
+        → SpellsHeader line r m → SpellsHeader line q n → (r ≡ q) × (m ≡ n) }
+{}

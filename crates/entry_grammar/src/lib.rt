@@ -1,0 +1,21 @@
+//! The lines of a transcript: each entry and each header has one spelling, which is written and read exactly.
+#![tactic(auto)]
+
+mod cut;
+mod entry;
+mod fault;
+mod header;
+mod law;
+mod number;
+mod refusals;
+mod reply;
+mod tokens;
+mod words;
+
+pub use entry::{entry_text, read_entry};
+pub use fault::EntryFault;
+pub use header::{header_text, read_header};
+pub use law::one_spelling;
+
+#[cfg(test)]
+mod tests;

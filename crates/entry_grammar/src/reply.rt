@@ -1,0 +1,65 @@
+//! Replies, which are read by the kind of the event that they answer.
+
+ghost use Rattle.std.specs.Prelude.{◌≡◌, IfOk};
+ghost use Rattle.entry_grammar.specs.Reading.{ReadsReply, is_done, is_moved, is_shown, suits};
+
+use crate::refusals::read_refusal;
+use crate::words::{read_list, read_words};
+use line_text::{after, read_target};
+use rule_machine::{Event, Reply, Want};
+use std::alloc::Global;
+
+// Reads whether a change was made, or why it was refused.
+fn read_done(bytes: &[u8]) -> Option<Reply>
+    ensures { ReadsReply is_done bytes.now result }
+{
+    if let Some(words) = after(bytes, b"refused ") {
+        return read_refusal(words).map(|refusal| Reply::Refused(refusal));
+    }
+    if bytes != b"ok".as_slice() {
+        return None;
+    }
+    Some(Reply::Accepted)
+}
+
+// Reads the moves of a step, or why it was refused.
+fn read_moved(alloc: Global, bytes: &[u8]) -> Result<Option<Reply>, Want>
+    ensures { IfOk result (ReadsReply is_moved bytes.now) }
+{
+    if let Some(words) = after(bytes, b"refused ") {
+        let Some(refusal) = read_refusal(words) else {
+            return Ok(None);
+        };
+        return Ok(Some(Reply::Refused(refusal)));
+    }
+    Ok(read_words(alloc, bytes)?.map(|moves| Reply::Moves(moves)))
+}
+
+// Reads where a node points, or why it is not told.
+fn read_shown(bytes: &[u8]) -> Option<Reply>
+    ensures { ReadsReply is_shown bytes.now result }
+{
+    if let Some(words) = after(bytes, b"refused ") {
+        let Some(refusal) = read_refusal(words) else {
+            return None;
+        };
+        return Some(Reply::Refused(refusal));
+    }
+    read_target(bytes).map(|target| Reply::Shown(target))
+}
+
+/// Reads a reply to the event; `None` where the bytes spell none of its kind. Memory is for lists alone.
+pub fn read_reply(alloc: Global, event: &Event, bytes: &[u8]) -> Result<Option<Reply>, Want>
+    ensures { IfOk result (ReadsReply (suits event.now) bytes.now) }
+{
+    match event {
+        Event::Step(_) => read_moved(alloc, bytes),
+        Event::Show(_) => Ok(read_shown(bytes)),
+        Event::Enabled => Ok(read_list(alloc, bytes)?.map(|nodes| Reply::EnabledAre(nodes))),
+        Event::Matching => Ok(read_list(alloc, bytes)?.map(|pairs| Reply::Pairs(pairs))),
+        Event::Link(..) | Event::Unlink(..) | Event::Point(..) | Event::Flag(..) => {
+            let reply = read_done(bytes);
+            Ok(reply)
+        }
+    }
+}

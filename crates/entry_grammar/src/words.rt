@@ -1,0 +1,63 @@
+//! Lists of words that are joined by one space.
+
+ghost use Rattle.std.specs.Prelude.{◌≡◌, ◌≢◌, ℕ, List, [], IfOk, codes};
+ghost use Rattle.std.specs.List.{AllByRecursion};
+ghost use Rattle.line_text.specs.Words.{joined, joined_or};
+ghost use Rattle.line_text.specs.Reading.{Reads};
+ghost use Rattle.entry_grammar.specs.Reading.{IsFree};
+
+use crate::cut::cut;
+use rule_machine::{Listing, Want};
+use std::alloc::Global;
+
+/// What stands in a line as one word.
+pub trait Token {
+    // The word's text.
+    ghost text: { Self → List ℕ };
+
+    // What each value of the type meets.
+    ghost fits: { Self → Type 0 };
+
+    /// Reads the word; `None` where the bytes are none.
+    fn read(bytes: &[u8]) -> Option<Self>
+        ensures { Reads fits text bytes.now result };
+}
+
+/// Reads words that are joined by one space, none at all from an empty text; `None` where anything else stands there.
+pub fn read_words<W: Token + Copy>(alloc: Global, bytes: &[u8]) -> Result<Option<Listing<W>>, Want>
+    requires no_space { (word : W) → W.fits word → IsFree 32 (W.text word) }
+    ensures { IfOk result (Reads (AllByRecursion W.fits) (joined W.text) bytes.now) }
+{
+    let mut words = Vec::new(alloc);
+    if bytes.is_empty() {
+        return Ok(Some(Listing::from_vec(words)));
+    }
+    let mut rest = bytes;
+    while let Some((front, back)) = cut(rest, b' ') {
+        let Some(word) = W::read(front) else {
+            return Ok(None);
+        };
+        words.push(word)?;
+        rest = back;
+    }
+    let Some(word) = W::read(rest) else {
+        return Ok(None);
+    };
+    words.push(word)?;
+    Ok(Some(Listing::from_vec(words)))
+}
+
+/// Reads words that are joined by one space, or `none` for no words; `None` where anything else stands there.
+pub fn read_list<W: Token + Copy>(alloc: Global, bytes: &[u8]) -> Result<Option<Listing<W>>, Want>
+    requires some { (word : W) → W.fits word → W.text word ≢ [] }
+    requires no_space { (word : W) → W.fits word → IsFree 32 (W.text word) }
+    ensures { IfOk result (Reads (AllByRecursion W.fits) (joined_or (codes "none") W.text) bytes.now) }
+{
+    if bytes == b"none".as_slice() {
+        return Ok(Some(Listing::from_vec(Vec::new(alloc))));
+    }
+    if bytes.is_empty() {
+        return Ok(None);
+    }
+    read_words(alloc, bytes)
+}
