@@ -2,3 +2,4 @@ pub mod Ascending
 pub mod Names
 pub mod Spurned
 pub mod Closed
+pub mod Judged

@@ -5,6 +5,7 @@ mod answers;
 mod charge;
 mod edge_set;
 mod guards;
+mod judged;
 mod lists;
 mod outcomes;
 mod plain_net;
