@@ -1,6 +1,6 @@
 -- Which moves are those of a step, by tests.
 use Rattle.std.specs.Prelude.{ℕ, Bool, true, false, not, ◌&&◌, List, length, Option, None, Some, if◌then◌else◌, nat_eq}
-use Rattle.std.specs.List.{list_any}
+use Rattle.std.specs.List.{list_any, list_all}
 use Rattle.rule_machine.specs.declared.act.Act.{Act}
 use Rattle.rule_machine.specs.declared.act.Act.TheVariants.{Update, Marry, Seduce, Abandon}
 use Rattle.rule_machine.specs.declared.choice.Item.{Item}
@@ -54,3 +54,8 @@ is_answered t s moves item = list_any (λ m. is_move_of t s item m) moves
 -- whether there are as many moves as the daemon lets through: some, and one under a central daemon
 abbrev pub fits_daemon : RuleTable → List Moved → Bool
 fits_daemon t moves = if t.central then nat_eq (length moves) 1 else not (nat_eq (length moves) 0)
+
+-- whether moves are those of items, whatever their order
+abbrev pub are_of_items : RuleTable → State → List Item → List Moved → Bool
+are_of_items t s items moves =
+    fits_daemon t moves && (list_all (λ m. is_asked t s items m) moves && list_all (λ item. is_answered t s moves item) items)

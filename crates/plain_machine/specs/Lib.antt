@@ -3,3 +3,4 @@ pub mod Names
 pub mod Spurned
 pub mod Closed
 pub mod Judged
+pub mod Followed

@@ -3,6 +3,7 @@
 ghost use Rattle.std.specs.Prelude.{◌≡◌, ◌↔◌, IsTrue, map};
 ghost use Rattle.std.specs.List.{list_all};
 ghost use Rattle.std.specs.List.Sorted.{IsStrictlyIncreasing};
+ghost use Rattle.rule_machine.specs.Step.{IsStep, after_moves};
 ghost use Rattle.rule_machine.specs.Tables.{table_of};
 ghost use Rattle.plain_machine.specs.Judged as judged;
 
@@ -10,6 +11,24 @@ use crate::PlainNet;
 use rule_machine::{Act, Item, Moved, Node, RuleSet};
 
 impl PlainNet {
+    /// Whether these are moves of one step of the items. Takes one look at an item for each move, and one at a move for
+    /// each item.
+    pub(crate) fn is_step(&self, rules: RuleSet, items: &[Item], moves: &[Moved]) -> bool
+        ensures { IsTrue result ↔ IsStep (table_of rules) self.now items.now moves.now (after_moves self.now moves.now) }
+    {
+        are_ascending(moves) && self.are_of_items(rules, items, moves)
+    }
+
+    /// Whether there are as many moves as the daemon lets through, each move is one that an item asks for, and each item
+    /// has a move.
+    fn are_of_items(&self, rules: RuleSet, items: &[Item], moves: &[Moved]) -> bool
+        ensures { result ≡ judged.are_of_items (table_of rules) self.now items.now moves.now }
+    {
+        fits_daemon(rules, moves)
+            && self.are_asked(rules, items, moves)
+            && self.are_answered(rules, moves, items)
+    }
+
     /// Whether each move is one that an item asks for.
     fn are_asked(&self, rules: RuleSet, items: &[Item], moves: &[Moved]) -> bool
         ensures { result ≡ list_all (λ m. judged.is_asked (table_of rules) self.now items.now m) moves.now }
