@@ -11,6 +11,8 @@ mod outcomes;
 mod plain_net;
 mod refusals;
 mod register_table;
+mod replay;
+mod replies;
 mod scans;
 mod steps;
 mod targets;
