@@ -1,5 +1,5 @@
 -- The tests of a step's moves are true where the definitions hold.
-use Rattle.std.proofs.Common.{◌≡◌, ◌≢◌, ℕ, Bool, true, false, cond, not, ◌&&◌, List, [], ◌∷◌, length, map, All, Any, Option, None, Some, IsSome, IsSomeAnd, IsTrue, Decides, nat_eq, refl, sym, ap, ◌∙◌, subst, eq-eqb, eqb-true, arith}
+use Rattle.std.proofs.Common.{◌≡◌, ◌≢◌, ℕ, Bool, true, false, cond, not, ◌&&◌, List, [], ◌∷◌, length, map, All, Any, Option, None, Some, IsSome, IsTrue, Decides, nat_eq, refl, sym, ap, ◌∙◌, subst, eq-eqb, eqb-true, arith}
 use Rattle.std.specs.List.{list_any, list_all}
 use Rattle.std.specs.List.Sorted.{IsStrictlyIncreasing}
 use Rattle.std.proofs.lemmas.Bool.{false≢true, true≢false, and_parts, and_from}
@@ -69,14 +69,16 @@ is_move_of_decides t s item m =
     let node = Decides-eqb m.node item.node in
     let rule = is_rule_decides (rule_at t s item.node) m.act in
     let target = is_target_decides t s item.node m.act item.wish m.target in
-    let both = Decides-and _ _ node (Decides-and _ _ rule target) in
-    (λ e. let parts = both.0 e in record { node = parts.0; rule = parts.1.0; target = parts.1.1 },
-     λ h. both.1 (h.node, (h.rule, h.target)))
+    let both = Decides-and _ _ node (Decides-and _ _ rule target) in (
+      λ e. let parts = both.0 e in record { node = parts.0; rule = parts.1.0; target = parts.1.1 },
+      λ h. both.1 (h.node, (h.rule, h.target)),
+    )
 
 any_decides : {X : Type 0} (p : X → Bool) (P : X → Type 0) → ((x : X) → Decides (p x) (P x)) → (xs : List X) → Decides (list_any p xs) (Any P xs)
-any_decides p P each xs =
-    (λ e. let at = Any-from_list_any p xs e in (at.0, at.1, at.2, at.3, (each at.1).0 at.4),
-     λ at. list_any-from_Any p xs (at.0, at.1, at.2, at.3, (each at.1).1 at.4))
+any_decides p P each xs = (
+  λ e. let at = Any-from_list_any p xs e in (at.0, at.1, at.2, at.3, (each at.1).0 at.4),
+  λ at. list_any-from_Any p xs (at.0, at.1, at.2, at.3, (each at.1).1 at.4),
+)
 
 all_decides : {X : Type 0} (p : X → Bool) (P : X → Type 0) → ((x : X) → Decides (p x) (P x)) → (xs : List X) → Decides (list_all p xs) (All P xs)
 all_decides p P each xs = Decides-by_and p P (list_all p) each refl (λ _ _. refl) xs
@@ -99,9 +101,10 @@ fits_decides true (m ∷ moves) =
     (λ e. ((λ none. cc), (λ _. eqb-true (length (m ∷ moves)) 1 e)), λ h. eq-eqb (length (m ∷ moves)) 1 (h.1 refl))
 fits_decides false [] = never (λ h. h.0 refl)
 fits_decides false (m ∷ moves) =
-    let some : length (m ∷ moves) ≢ 0 = λ e. omega arith in
-    (λ e. ((λ none. cc), (λ central. absurd (false≢true central))),
-    λ h. (Decides-not (nat_eq (length (m ∷ moves)) 0) (Decides-eqb (length (m ∷ moves)) 0)).1 some)
+    let some : length (m ∷ moves) ≢ 0 = λ e. omega arith in (
+      λ e. ((λ none. cc), (λ central. absurd (false≢true central))),
+      λ h. (Decides-not (nat_eq (length (m ∷ moves)) 0) (Decides-eqb (length (m ∷ moves)) 0)).1 some,
+    )
 
 are_of_items_decides : (t : RuleTable) (s : State) (items : List Item) (moves : List Moved) → Decides (are_of_items t s items moves) (((moves ≢ []) × (t.central ≡ true → length moves ≡ 1)) × (All (λ m. Any (λ item. IsMoveOf t s item m) items) moves × All (λ item. Any (λ m. IsMoveOf t s item m) moves) items))
 are_of_items_decides t s items moves =

@@ -11,8 +11,8 @@ use crate::PlainNet;
 use rule_machine::{Act, Item, Moved, Node, RuleSet};
 
 impl PlainNet {
-    /// Whether these are moves of one step of the items. Takes one look at an item for each move, and one at a move for
-    /// each item.
+    /// Whether these are the moves of one step of the items: some, one under a central daemon, ascending by node, each
+    /// what an item asks for, and each item with one. Every move is held against every item.
     pub(crate) fn is_step(&self, rules: RuleSet, items: &[Item], moves: &[Moved]) -> bool
         ensures { IsTrue result ↔ IsStep (table_of rules) self.now items.now moves.now (after_moves self.now moves.now) }
     {
@@ -40,7 +40,9 @@ impl PlainNet {
     fn are_answered(&self, rules: RuleSet, moves: &[Moved], items: &[Item]) -> bool
         ensures { result ≡ list_all (λ item. judged.is_answered (table_of rules) self.now moves.now item) items.now }
     {
-        items.iter().all(|item| self.is_answered(rules, moves, *item))
+        items
+            .iter()
+            .all(|item| self.is_answered(rules, moves, *item))
     }
 
     /// Whether an item asks for a move.

@@ -15,8 +15,9 @@ use std::alloc::Global;
 
 impl PlainNet {
     /// Whether the machine may give this reply to the event; where it may, the event is carried out as the reply says.
-    /// Where no target is wished, any allowed one is right. A wrong reply changes nothing, and neither does one that
-    /// fails for want of memory. A step of k items with k moves takes some k·k looks at a node's rule.
+    /// Where no target is wished, any allowed one is right. A wrong reply changes nothing, and neither does want of
+    /// memory. A step of k moves takes some k·k comparisons of nodes, and n·m steps for each move, with n nodes and m
+    /// edges.
     pub fn replay(
         &mut self,
         alloc: Global,
@@ -83,3 +84,6 @@ impl PlainNet {
         Ok(())
     }
 }
+
+#[cfg(test)]
+mod tests;

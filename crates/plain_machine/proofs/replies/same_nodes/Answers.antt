@@ -1,4 +1,4 @@
-use Rattle.std.proofs.Common.{◌≡◌, ◌&&◌, Bool, true, Decides, ℕ, nat_eq, refl, sym, subst, rules}
+use Rattle.std.proofs.Common.{◌≡◌, ◌&&◌, true, Decides, ℕ, nat_eq, refl, subst, rules}
 use Rattle.std.proofs.lemmas.Bool.Decides.{Decides-and, Decides-eqb}
 use Rattle.std.proofs.lemmas.Slice.Eq.{slice_eq-Decides}
 use Rattle.rule_machine.specs.declared.act.Act.{Act}
