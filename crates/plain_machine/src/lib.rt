@@ -5,14 +5,19 @@ mod answers;
 mod charge;
 mod edge_set;
 mod guards;
+mod judged;
 mod lists;
 mod outcomes;
 mod plain_net;
 mod refusals;
 mod register_table;
+mod replay;
+mod replies;
 mod scans;
 mod steps;
 mod targets;
+#[cfg(test)]
+mod test_lines;
 
 use edge_set::EdgeSet;
 pub use plain_net::PlainNet;

@@ -1,6 +1,6 @@
 //! A step: the chosen nodes move at once.
 
-ghost use Rattle.std.specs.Prelude.{◌≡◌, IfOk, OnErr};
+ghost use Rattle.std.specs.Prelude.{◌≡◌, IfOk, OnOk, OnErr};
 ghost use Rattle.rule_machine.specs.Least.{least_moves};
 ghost use Rattle.rule_machine.specs.Step.{after_move, after_moves, registers_after};
 ghost use Rattle.rule_machine.specs.Tables.{table_of};
@@ -22,9 +22,18 @@ impl PlainNet {
         ensures err { OnErr result (self.new ≡ self.old) }
     {
         let moves = self.least_moves(alloc, rules, items)?;
-        let registers = self.registers_after(alloc, &moves)?;
-        self.set_registers(registers);
+        self.make_moves(alloc, &moves)?;
         Ok(moves)
+    }
+
+    /// Makes these moves of one step.
+    pub(crate) fn make_moves(&mut self, alloc: Global, moves: &[Moved]) -> Result<(), Want>
+        ensures ok { OnOk result (self.new ≡ after_moves self.old moves.now) }
+        ensures err { OnErr result (self.new ≡ self.old) }
+    {
+        let registers = self.registers_after(alloc, moves)?;
+        self.set_registers(registers);
+        Ok(())
     }
 
     /// The moves that a choice makes, ascending.

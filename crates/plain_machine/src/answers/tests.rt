@@ -1,68 +1,11 @@
 //! What the interpreter answers, by examples.
 
 use crate::PlainNet;
-use rule_machine::{Act, Choice, Event, Item, Node, Outcome, Reply, RuleSet};
+use crate::test_lines::event;
+use rule_machine::{Act, Event, Item, Node, Outcome, Reply, RuleSet};
 use std::alloc::{AllocError, Global};
 use std::process::Abort;
 use std::test::Fail;
-
-fn node(word: &str) -> Option<Node> {
-    Node::new(word.parse::<u32>().ok()?)
-}
-
-fn target(word: &str) -> Option<Node> {
-    if word == "null" { None } else { node(word) }
-}
-
-fn item(word: &str) -> Option<Item> {
-    match word.split_once('>') {
-        Some((name, wish)) => Some(Item {
-            node: node(name)?,
-            wish: node(wish),
-        }),
-        None => Some(Item {
-            node: node(word)?,
-            wish: None,
-        }),
-    }
-}
-
-fn items(alloc: Global, words: &str) -> Result<Vec<Item>, AllocError> {
-    words
-        .split_whitespace()
-        .filter_map(|word| item(word))
-        .collect(alloc)
-}
-
-/// The event of a line: its verb, and what follows.
-fn event(alloc: Global, line: &str) -> Result<Option<Event>, AllocError> {
-    let (verb, rest) = line.split_once(' ').unwrap_or((line, ""));
-    if verb == "step" {
-        return Ok(Choice::new(items(alloc, rest)?).map(Event::Step));
-    }
-    Ok(plain_event(verb, rest))
-}
-
-fn plain_event(verb: &str, rest: &str) -> Option<Event> {
-    let (first, second) = rest.split_once(' ').unwrap_or((rest, ""));
-    if verb == "link" {
-        Some(Event::Link(node(first)?, node(second)?))
-    } else if verb == "unlink" {
-        Some(Event::Unlink(node(first)?, node(second)?))
-    } else if verb == "point" {
-        Some(Event::Point(node(first)?, target(second)))
-    } else if verb == "flag" {
-        Some(Event::Flag(node(first)?, second == "true"))
-    } else if verb == "show" {
-        Some(Event::Show(node(first)?))
-    } else if verb == "enabled" {
-        Some(Event::Enabled)
-    } else if verb == "matching" {
-        Some(Event::Matching)
-    } else {
-        None
-    }
-}
 
 fn act_word(act: Act) -> &'static str {
     match act {

@@ -1,0 +1,28 @@
+-- Where a reply leaves the machine that may give it.
+use Rattle.rule_machine.specs.declared.event.Event.{Event}
+use Rattle.rule_machine.specs.declared.event.Event.TheVariants.{Link, Unlink, Point, Flag, Step, Show, Enabled, Matching}
+use Rattle.rule_machine.specs.declared.reply.Reply.{Reply}
+use Rattle.rule_machine.specs.declared.reply.Reply.TheVariants.{Accepted, Refused, Moves, Shown, EnabledAre, Pairs}
+use Rattle.rule_machine.specs.State.{State}
+use Rattle.rule_machine.specs.Step.{after_moves}
+use Rattle.rule_machine.specs.Disturbance.{after_link, after_unlink, after_point, after_flag}
+
+-- what an accepted disturbance does; a step and a question are none
+abbrev pub disturbed : State → Event → State
+disturbed s (Link a b) = after_link s a b
+disturbed s (Unlink a b) = after_unlink s a b
+disturbed s (Point v target) = after_point s v target
+disturbed s (Flag v value) = after_flag s v value
+disturbed s (Step items) = s
+disturbed s (Show v) = s
+disturbed s Enabled = s
+disturbed s Matching = s
+
+-- the state that a reply says
+abbrev pub followed : State → Event → Reply → State
+followed s event Accepted = disturbed s event
+followed s event (Moves moves) = after_moves s moves
+followed s event (Refused refusal) = s
+followed s event (Shown target) = s
+followed s event (EnabledAre nodes) = s
+followed s event (Pairs pairs) = s

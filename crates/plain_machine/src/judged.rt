@@ -1,0 +1,136 @@
+//! Whether moves are those of a step.
+
+ghost use Rattle.std.specs.Prelude.{◌≡◌, ◌↔◌, IsTrue, map};
+ghost use Rattle.std.specs.List.{list_all};
+ghost use Rattle.std.specs.List.Sorted.{IsStrictlyIncreasing};
+ghost use Rattle.rule_machine.specs.Step.{IsStep, after_moves};
+ghost use Rattle.rule_machine.specs.Tables.{table_of};
+ghost use Rattle.plain_machine.specs.Judged as judged;
+
+use crate::PlainNet;
+use rule_machine::{Act, Item, Moved, Node, RuleSet};
+
+impl PlainNet {
+    /// Whether these are the moves of one step of the items: some, one under a central daemon, ascending by node, each
+    /// what an item asks for, and each item with one. Every move is held against every item.
+    pub(crate) fn is_step(&self, rules: RuleSet, items: &[Item], moves: &[Moved]) -> bool
+        ensures { IsTrue result ↔ IsStep (table_of rules) self.now items.now moves.now (after_moves self.now moves.now) }
+    {
+        are_ascending(moves) && self.are_of_items(rules, items, moves)
+    }
+
+    /// Whether there are as many moves as the daemon lets through, each move is one that an item asks for, and each item
+    /// has a move.
+    fn are_of_items(&self, rules: RuleSet, items: &[Item], moves: &[Moved]) -> bool
+        ensures { result ≡ judged.are_of_items (table_of rules) self.now items.now moves.now }
+    {
+        fits_daemon(rules, moves)
+            && self.are_asked(rules, items, moves)
+            && self.are_answered(rules, moves, items)
+    }
+
+    /// Whether each move is one that an item asks for.
+    fn are_asked(&self, rules: RuleSet, items: &[Item], moves: &[Moved]) -> bool
+        ensures { result ≡ list_all (λ m. judged.is_asked (table_of rules) self.now items.now m) moves.now }
+    {
+        moves.iter().all(|made| self.is_asked(rules, items, *made))
+    }
+
+    /// Whether each item has a move.
+    fn are_answered(&self, rules: RuleSet, moves: &[Moved], items: &[Item]) -> bool
+        ensures { result ≡ list_all (λ item. judged.is_answered (table_of rules) self.now moves.now item) items.now }
+    {
+        items
+            .iter()
+            .all(|item| self.is_answered(rules, moves, *item))
+    }
+
+    /// Whether an item asks for a move.
+    fn is_asked(&self, rules: RuleSet, items: &[Item], made: Moved) -> bool
+        ensures { result ≡ judged.is_asked (table_of rules) self.now items.now made }
+    {
+        items.iter().any(|item| self.is_move_of(rules, *item, made))
+    }
+
+    /// Whether one of the moves is an item's.
+    fn is_answered(&self, rules: RuleSet, moves: &[Moved], item: Item) -> bool
+        ensures { result ≡ judged.is_answered (table_of rules) self.now moves.now item }
+    {
+        moves.iter().any(|made| self.is_move_of(rules, item, *made))
+    }
+
+    /// Whether a move is one that an item asks for.
+    fn is_move_of(&self, rules: RuleSet, item: Item, made: Moved) -> bool
+        ensures { result ≡ judged.is_move_of (table_of rules) self.now item made }
+    {
+        made.node == item.node
+            && is_rule(self.rule_at(rules, item.node), made.act)
+            && self.is_target(rules, made.act, item, made.target)
+    }
+
+    /// Whether a move that an item asks for, by a rule, may have this target.
+    fn is_target(&self, rules: RuleSet, act: Act, item: Item, target: Option<Node>) -> bool
+        ensures { result ≡ judged.is_target (table_of rules) self.now item.node act item.wish target }
+    {
+        match target {
+            Some(w) => {
+                takes_target(act)
+                    && self.is_allowed(rules, item.node, act, w)
+                    && suits_wish(item.wish, w)
+            }
+            None => !takes_target(act),
+        }
+    }
+}
+
+/// Whether a node's rule is this one.
+fn is_rule(rule: Option<Act>, act: Act) -> bool
+    ensures { result ≡ judged.is_rule rule act }
+{
+    match rule {
+        Some(own) => own == act,
+        None => false,
+    }
+}
+
+/// Whether a rule takes a target.
+fn takes_target(act: Act) -> bool
+    ensures { result ≡ judged.takes_target act }
+{
+    match act {
+        Act::Marry | Act::Seduce => true,
+        Act::Update | Act::Abandon => false,
+    }
+}
+
+/// Whether a wish, if there is one, is for a node.
+fn suits_wish(wish: Option<Node>, w: Node) -> bool
+    ensures { result ≡ judged.suits_wish wish w }
+{
+    match wish {
+        Some(x) => x == w,
+        None => true,
+    }
+}
+
+/// Whether there are as many moves as the daemon lets through: some, and one under a central daemon.
+fn fits_daemon(rules: RuleSet, moves: &[Moved]) -> bool
+    ensures { result ≡ judged.fits_daemon (table_of rules) moves.now }
+{
+    match rules {
+        RuleSet::Hh => moves.len() == 1,
+        RuleSet::Manne => !moves.is_empty(),
+    }
+}
+
+/// Whether the moves' nodes ascend.
+fn are_ascending(moves: &[Moved]) -> bool
+    ensures { IsTrue result ↔ IsStrictlyIncreasing (map (λ m. m.node) moves.now) }
+{
+    for place in 1..moves.len() {
+        if moves[place].node <= moves[place - 1].node {
+            return false;
+        }
+    }
+    true
+}
