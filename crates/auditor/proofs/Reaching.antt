@@ -1,7 +1,8 @@
 -- How far an audit is, line by line.
-use Rattle.std.proofs.Common.{◌≡◌, ◌≢◌, ℕ, ◌+◌, ◌<◌, ◌≤◌, List, [], ◌∷◌, ◌++◌, Option, None, Some, length, sum_by, refl, sym, ap, subst, ◌∙◌, append_assoc, arith}
+use Rattle.std.proofs.Common.{◌≡◌, ◌≢◌, ℕ, ◌+◌, ◌<◌, ◌≤◌, List, [], ◌∷◌, ◌++◌, Option, None, Some, Ok, Err, length, sum_by, refl, sym, ap, subst, ◌∙◌, append_assoc, arith}
 use Rattle.std.specs.List.{AllByRecursion}
 use Rattle.std.proofs.lemmas.List.{append-nil, length-append}
+use Rattle.std.proofs.lemmas.List.Sums.{sum_by-append}
 use Rattle.rule_machine.specs.declared.rules.RuleSet.{RuleSet}
 use Rattle.rule_machine.specs.State.{State}
 use Rattle.rule_machine.specs.Run.{Entry, Moment, Run, beginning, spent_after}
@@ -10,17 +11,19 @@ use Rattle.rule_machine.specs.Tables.{table_of}
 use Rattle.machine_laws.specs.Runs.{run_add}
 use Rattle.line_text.specs.EntryText.{header_text, header_line, entry_text, entry_line}
 use Rattle.entry_grammar.specs.Spelling.{SpellsEntry, SpellsHeader, max_entries}
+use Rattle.auditor.specs.declared.fault.AuditFault.{AuditFault}
+use Rattle.auditor.specs.declared.fault.AuditFault.TheVariants.{BadHeader, NotALine, OutOfOrder, NotTheMachines, Read, Memory}
 use Rattle.auditor.specs.declared.summary.Summary.{Summary}
 use Rattle.auditor.specs.Transcript.{IsEntry, IsTranscript, entry_lines, transcript, disturbances_in, moves_in, epoch_count, move_count}
-use Rattle.auditor.specs.Damage.{Follows, EntryComes, EndsInNoLine, EndsOutOfOrder, EndsNotTheMachines, HasNoEntry, first_line}
-use Rattle.auditor.specs.Position.{Position, opening_position, counted_more, GoodLine, BadNumber, BadReply, IsNext}
+use Rattle.auditor.specs.Damage.{Follows, EntryComes, EndsInNoLine, EndsOutOfOrder, EndsNotTheMachines, HasNoEntry, IsDamage, first_line}
+use Rattle.auditor.specs.Position.{Position, opening_position, counted_more, GoodLine, BadNumber, BadReply, IsNext, LineJudged}
 use Rattle.auditor.specs.Accepted.{Counts, IsAccepted, IsReached}
 use Rattle.auditor.proofs.Cutting.{first_line-splits}
 
 -- ---- lists
 
 sum_by-push : (f : Entry → ℕ) (log : List Entry) (entry : Entry) → sum_by f (log ++ entry ∷ []) ≡ sum_by f log + f entry
-sum_by-push f log entry = ?
+sum_by-push f log entry = sum_by-append f log (entry ∷ []) ∙ omega arith
 
 all_push : (log : List Entry) (entry : Entry) → AllByRecursion IsEntry log → IsEntry entry → AllByRecursion IsEntry (log ++ entry ∷ [])
 all_push [] entry all is = (is, tt)
@@ -29,8 +32,11 @@ all_push (first ∷ log) entry all is = (all.0, all_push log entry all.1 is)
 lines_push : (number : ℕ) (log : List Entry) (entry : Entry) → entry_lines number (log ++ entry ∷ []) ≡ entry_lines number log ++ entry_line (number + length log) entry.0 entry.1
 lines_push number [] entry = append-nil (entry_line number entry.0 entry.1) ∙ ap (λ (n : ℕ). entry_line n entry.0 entry.1) (omega arith)
 lines_push number (first ∷ log) entry =
-    ap (λ (z : List ℕ). entry_line number first.0 first.1 ++ z) (lines_push (number + 1) log entry ∙ ap (λ (n : ℕ). entry_lines (number + 1) log ++ entry_line n entry.0 entry.1) (omega arith))
-    ∙ sym (append_assoc (entry_line number first.0 first.1) (entry_lines (number + 1) log) (entry_line (number + 1 + length log) entry.0 entry.1) ∙ ap (λ (n : ℕ). entry_line number first.0 first.1 ++ entry_lines (number + 1) log ++ entry_line n entry.0 entry.1) (omega arith))
+    let count : number + 1 + length log ≡ number + length (first ∷ log) = omega arith in
+    let front = entry_line number first.0 first.1 in
+    ap (λ (z : List ℕ). front ++ z) (lines_push (number + 1) log entry)
+    ∙ sym (append_assoc front (entry_lines (number + 1) log) (entry_line (number + 1 + length log) entry.0 entry.1))
+    ∙ ap (λ (n : ℕ). (front ++ entry_lines (number + 1) log) ++ entry_line n entry.0 entry.1) count
 
 -- ---- the header
 
@@ -153,3 +159,15 @@ damaged_reply bytes line behind rules p rest number r next cut bad =
       comes = record { line = line; more = behind; is = cut; spells = subst (λ (n : ℕ). SpellsEntry line (n + 1) bad.entry) r.counts.entries bad.spells };
       damage = λ s a. bad.never s (subst (λ (u : State). Answers (table_of rules) u bad.entry.0 bad.entry.1 s) (sym r.state) a);
     }
+
+-- what the check of a line finds is the damage of the bytes
+pub damaged : (bytes line behind : List ℕ) (rules : RuleSet) (p q : Position) (rest : List ℕ) (fault : AuditFault) → IsReached bytes rules p rest → first_line rest ≡ Some (line, behind) → LineJudged (table_of rules) line p q (Err fault) → IsDamage bytes fault
+damaged bytes line behind rules p q rest BadHeader r cut judged = absurd judged
+damaged bytes line behind rules p q rest (NotALine number) r cut judged =
+    damaged_line bytes rules p rest number r judged.0 (subst (λ (found : Option (List ℕ × List ℕ)). HasNoEntry rest found) (sym cut) judged.1)
+damaged bytes line behind rules p q rest (OutOfOrder number) r cut judged =
+    damaged_number bytes line behind rules p rest number r judged.0 cut judged.1
+damaged bytes line behind rules p q rest (NotTheMachines number) r cut judged =
+    damaged_reply bytes line behind rules p rest number r judged.0 cut judged.1
+damaged bytes line behind rules p q rest Read r cut judged = absurd judged
+damaged bytes line behind rules p q rest Memory r cut judged = tt

@@ -19,9 +19,13 @@ pub(crate) struct Audit {
 }
 
 impl Model for Audit {
+    ghost use Rattle.std.specs.Coded.{codes};
+    ghost use Rattle.rule_machine.specs.State.{state_code};
     ghost use Rattle.auditor.specs.Position.{Position, IsCounted};
 
     ghost Value = { Position };
+
+    ghost coded = { Prim.hlevel (codes, state_code) };
 
     ghost view = { λ a. record { state = a.net; counted = a.counted } };
 

@@ -12,6 +12,8 @@ pub(crate) fn split_line(bytes: &[u8]) -> Option<(&[u8], &[u8])>
         (λ found. first_line bytes.now ≡ Some (found.0.now, found.1.now)) }
     ensures shorter { IfSome result (λ found. length found.1.now < length bytes.now) }
 {
-    let len = memchr(b'\n', bytes)?;
-    Some((&bytes[..len], &bytes[len + 1..]))
+    match memchr(b'\n', bytes) {
+        Some(len) => Some((&bytes[..len], &bytes[len + 1..])),
+        None => None,
+    }
 }

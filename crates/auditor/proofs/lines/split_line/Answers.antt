@@ -3,3 +3,13 @@ use Rattle.std.proofs.lemmas.List.{take_rest}
 use Rattle.auditor.specs.Damage.{first_line}
 use Rattle.auditor.proofs.Cutting.{first_line-cut, first_line-none}
 use Rattle.auditor.proofs.lines.split_line.Goals as goal
+
+pub returns-in-Some-clause-line : goal.returns-in-Some-clause-line
+returns-in-Some-clause-line c =
+    let bytes = c.args.bytes.now in
+    let len = c.in-Some.len in
+    let first = c.in-Some.ensures in
+    subst (λ l. first_line bytes ≡ Some (take len bytes, l)) (sym (take_rest bytes (len + 1))) (first_line-cut bytes len first.0.high (λ j below. first.0.before j (omega arith) below) first.1)
+
+pub returns-in-None-clause-line : goal.returns-in-None-clause-line
+returns-in-None-clause-line c = first_line-none c.args.bytes.now (λ j below. c.in-None.ensures j (omega arith) below)

@@ -45,8 +45,10 @@ pub fn audit_bytes(alloc: Global, bytes: &[u8]) -> Result<Summary, AuditFault>
                 line: audit.next_line(),
             });
         };
-        audit.check_line(alloc, rules, line)?;
-        rest = behind;
+        match audit.check_line(alloc, rules, line) {
+            Ok(()) => rest = behind,
+            Err(fault) => return Err(fault),
+        }
     }
     Ok(audit.counted())
 }
