@@ -58,6 +58,7 @@ impl<R: Rules> Net<R> {
     /// `TooManyNodes` above 65,535, and `Memory` if memory runs out. Takes some fifty bytes a node.
     pub fn new(alloc: Global, nodes: u32) -> Result<Net<R>, GraphFault>
         ensures ok { IfOk result (λ net. net ≡ opening nodes) }
+        ensures small { OnOk result (nodes ≤ 65535) }
         ensures fault { IfErr result (λ fault. Explains (nodes_fault nodes) fault) }
     {
         let store = EdgeStore::new(alloc, nodes)?;
