@@ -5,3 +5,6 @@ mod entry;
 mod kinds;
 
 pub use entry::Entry;
+
+#[cfg(test)]
+mod tests;

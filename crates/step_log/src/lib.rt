@@ -10,3 +10,6 @@ pub use fault::RecordFault;
 pub use journal::{Journal, MAX_ENTRIES};
 pub use log_entry::Entry;
 pub use receipt::Receipt;
+
+#[cfg(test)]
+mod tests;
