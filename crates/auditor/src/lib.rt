@@ -11,3 +11,5 @@ pub use fault::AuditFault;
 pub use summary::Summary;
 pub use transcript::{audit, audit_bytes};
 
+#[cfg(test)]
+mod tests;

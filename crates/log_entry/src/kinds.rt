@@ -39,9 +39,10 @@ pub(crate) fn fits(event: &Event, reply: &Reply) -> bool
     ensures { result ≡ fits event.now reply.now }
 {
     match (event, reply) {
-        (Event::Link(..) | Event::Unlink(..) | Event::Point(..) | Event::Flag(..), Reply::Accepted) => {
-            true
-        }
+        (
+            Event::Link(..) | Event::Unlink(..) | Event::Point(..) | Event::Flag(..),
+            Reply::Accepted,
+        ) => { true }
         (Event::Enabled, Reply::EnabledAre(nodes)) => nodes.as_slice().len() <= MAX_ITEMS,
         (Event::Matching, Reply::Pairs(pairs)) => pairs.as_slice().len() <= MAX_ITEMS,
         (Event::Enabled | Event::Matching, _) => false,

@@ -123,7 +123,11 @@ impl<R: Rules> Journal<R> {
 
     /// The same for a step, from the verdicts of its items: what `record` of the step would do, without a second look
     /// at a guard.
-    pub fn record_step(&mut self, choice: Choice, verdicts: &[Verdict]) -> Result<Receipt, RecordFault>
+    pub fn record_step(
+        &mut self,
+        choice: Choice,
+        verdicts: &[Verdict],
+    ) -> Result<Receipt, RecordFault>
         requires { verdicts.now ≡ verdicts_of R.table self.old.state choice }
         ensures receipt { IfOk result (λ receipt. receipt ≡ receipt_of R.table self.old (Step choice)) }
         ensures log { OnOk result (self.new ≡ recorded R.table self.old (Step choice)) }

@@ -54,8 +54,14 @@ fn a_full_log_takes_no_event(rt: HostRuntime) -> Result<(), Fail> {
     let (one, two) = (named(&rt, 1), named(&rt, 2));
     let mut journal = Journal::<HsuHuang>::with_limit(rt.alloc(), 2, 1)?;
     assert_eq!(rt; journal.record(Event::Link(one, two))?.seq, 1);
-    assert_eq!(rt; journal.record(Event::Enabled).err(), Some(RecordFault::LogFull));
-    assert_eq!(rt; journal.record(Event::Unlink(one, two)).err(), Some(RecordFault::LogFull));
+    assert_eq!(rt;
+        journal.record(Event::Enabled).err(),
+        Some(RecordFault::LogFull)
+    );
+    assert_eq!(rt;
+        journal.record(Event::Unlink(one, two)).err(),
+        Some(RecordFault::LogFull)
+    );
     assert_eq!(rt; journal.len(), 1);
     assert_eq!(rt; journal.net().store().edges(), 1);
     Ok(())
