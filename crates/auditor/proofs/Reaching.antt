@@ -1,21 +1,21 @@
 -- How far an audit is, line by line.
-use Rattle.std.proofs.Common.{◌≡◌, ◌≢◌, ℕ, ◌+◌, ◌<◌, ◌≤◌, List, [], ◌∷◌, ◌++◌, Option, None, Some, Ok, Err, length, sum_by, refl, sym, ap, subst, ◌∙◌, append_assoc, arith}
+use Rattle.std.proofs.Common.{◌≡◌, ℕ, ◌+◌, List, [], ◌∷◌, ◌++◌, Option, Some, Err, length, sum_by, refl, sym, ap, subst, ◌∙◌, append_assoc, arith}
 use Rattle.std.specs.List.{AllByRecursion}
 use Rattle.std.proofs.lemmas.List.{append-nil, length-append}
 use Rattle.std.proofs.lemmas.List.Sums.{sum_by-append}
 use Rattle.rule_machine.specs.declared.rules.RuleSet.{RuleSet}
 use Rattle.rule_machine.specs.State.{State}
-use Rattle.rule_machine.specs.Run.{Entry, Moment, Run, beginning, spent_after}
+use Rattle.rule_machine.specs.Run.{Entry, Moment, beginning, spent_after}
 use Rattle.rule_machine.specs.Answer.{Answers}
 use Rattle.rule_machine.specs.Tables.{table_of}
 use Rattle.machine_laws.specs.Runs.{run_add}
 use Rattle.line_text.specs.EntryText.{header_text, header_line, entry_text, entry_line}
-use Rattle.entry_grammar.specs.Spelling.{SpellsEntry, SpellsHeader, max_entries}
+use Rattle.entry_grammar.specs.Spelling.{SpellsEntry, SpellsHeader}
 use Rattle.auditor.specs.declared.fault.AuditFault.{AuditFault}
 use Rattle.auditor.specs.declared.fault.AuditFault.TheVariants.{BadHeader, NotALine, OutOfOrder, NotTheMachines, Read, Memory}
 use Rattle.auditor.specs.declared.summary.Summary.{Summary}
-use Rattle.auditor.specs.Transcript.{IsEntry, IsTranscript, entry_lines, transcript, disturbances_in, moves_in, epoch_count, move_count}
-use Rattle.auditor.specs.Damage.{Follows, EntryComes, EndsInNoLine, EndsOutOfOrder, EndsNotTheMachines, HasNoEntry, IsDamage, first_line}
+use Rattle.auditor.specs.Transcript.{IsEntry, IsTranscript, entry_lines, transcript, disturbances_in, moves_in}
+use Rattle.auditor.specs.Damage.{Follows, EndsInNoLine, EndsOutOfOrder, EndsNotTheMachines, HasNoEntry, IsDamage, first_line}
 use Rattle.auditor.specs.Position.{Position, opening_position, counted_more, GoodLine, BadNumber, BadReply, IsNext, LineJudged}
 use Rattle.auditor.specs.Accepted.{Counts, IsAccepted, IsReached}
 use Rattle.auditor.proofs.Cutting.{first_line-splits}

@@ -1,7 +1,6 @@
 -- Transcripts: the bytes of a header and of a log's entries, where the log is a run of the machine.
 use Rattle.std.specs.Prelude.{◌≡◌, ℕ, ◌+◌, ◌≤◌, List, [], ◌∷◌, ◌++◌, length, sum_by, IsTrue}
 use Rattle.std.specs.List.{AllByRecursion}
-use Rattle.rule_machine.specs.declared.event.Event.{Event}
 use Rattle.rule_machine.specs.declared.reply.Reply.{Reply}
 use Rattle.rule_machine.specs.declared.reply.Reply.TheVariants.{Accepted, Refused, Moves, Shown, EnabledAre, Pairs}
 use Rattle.rule_machine.specs.declared.rules.RuleSet.{RuleSet}

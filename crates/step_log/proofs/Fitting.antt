@@ -1,6 +1,6 @@
 -- What the machine answers is of the event's kind, and a step has no more moves than items.
-use Rattle.std.proofs.Common.{◌≡◌, ◌≢◌, ℕ, zero, suc, ◌+◌, ◌<◌, ◌≤◌, Bool, true, false, cond, ◌&&◌, List, [], ◌∷◌, length, map, filter, filter_map, All, Any, Contains, Option, None, Some, IsSome, IsSomeAnd, IsTrue, is_some, is_none, get_or, nat_le, refl, sym, ap, ◌∙◌, subst, arith, le-leb}
-use Rattle.std.specs.List.{list_all, AllPass, cons_option}
+use Rattle.std.proofs.Common.{◌≡◌, ◌≢◌, ℕ, ◌+◌, ◌<◌, ◌≤◌, true, cond, ◌&&◌, List, [], ◌∷◌, length, map, filter_map, All, Any, Contains, Option, None, Some, is_some, is_none, get_or, nat_le, refl, sym, ap, ◌∙◌, subst, arith, le-leb}
+use Rattle.std.specs.List.{list_all, cons_option}
 use Rattle.std.specs.Option.{option_map}
 use Rattle.std.proofs.lemmas.List.{length-map, get_or-map}
 use Rattle.std.proofs.lemmas.List.FromFn.{length-range_with_len}

@@ -1,9 +1,9 @@
 -- The memory for a copy of a reply that is not there yet.
 use Rattle.std.specs.Prelude.{ℕ, Bool, true, false, length}
 use Rattle.rule_machine.specs.declared.event.Event.{Event}
-use Rattle.rule_machine.specs.declared.event.Event.TheVariants.{Link, Unlink, Point, Flag, Step, Show, Enabled, Matching}
+use Rattle.rule_machine.specs.declared.event.Event.TheVariants.{Step}
 use Rattle.rule_machine.specs.declared.reply.Reply.{Reply}
-use Rattle.rule_machine.specs.declared.reply.Reply.TheVariants.{Accepted, Refused, Moves, Shown, EnabledAre, Pairs}
+use Rattle.rule_machine.specs.declared.reply.Reply.TheVariants.{Moves, EnabledAre, Pairs}
 
 -- how many moves a reply to the event may have
 abbrev pub most_moves : Event → ℕ

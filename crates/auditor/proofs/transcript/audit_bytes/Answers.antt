@@ -1,7 +1,7 @@
 use Rattle.std.proofs.Common.{◌≡◌, ◌≢◌, ℕ, List, [], Option, None, length, sym, subst, ◌∙◌, arith, eqb-true}
 use Rattle.std.proofs.lemmas.List.{nil_from_length}
 use Rattle.auditor.specs.declared.summary.Summary.{Summary}
-use Rattle.auditor.specs.Damage.{HasNoEntry, HasBadHeader}
+use Rattle.auditor.specs.Damage.{HasNoEntry}
 use Rattle.auditor.specs.Position.{Position}
 use Rattle.auditor.specs.Accepted.{IsReached, IsAccepted}
 use Rattle.auditor.proofs.Reaching.{reached_start, reached_more, reached_end, damaged_line, damaged}
