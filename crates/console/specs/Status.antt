@@ -1,4 +1,4 @@
--- The exit statuses: 0 done, 2 bad words or a bad line, 3 a read or a write failed, 4 want of memory or a full log.
+-- The exit statuses: 0 done, 1 a transcript refused, 2 bad words or a bad line, 3 a read or a write failed, 4 want of memory or a full log.
 use Rattle.std.specs.Prelude.{ℕ, ◌≢◌, ◌≤◌}
 use Rattle.clap.specs.declared.error.kind.ErrorKind.{ErrorKind}
 use Rattle.clap.specs.declared.error.kind.ErrorKind.TheVariants.{DisplayHelp, DisplayVersion, OutOfMemory}
@@ -29,6 +29,10 @@ no_words_status _ = 4
 abbrev pub IsMistake : ErrorKind → Type 0
 IsMistake kind = (kind ≢ DisplayHelp) × (kind ≢ DisplayVersion)
 
--- one of 0, 2, 3 and 4
+-- one of 0 to 4
 abbrev pub IsStatus : ℕ → Type 0
-IsStatus n = (n ≤ 4) × (n ≢ 1)
+IsStatus n = n ≤ 4
+
+-- one of these but 1, which is a refused transcript's
+abbrev pub IsRunStatus : ℕ → Type 0
+IsRunStatus n = (n ≤ 4) × (n ≢ 1)

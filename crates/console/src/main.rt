@@ -1,6 +1,7 @@
-//! Runs the script on standard input and writes its transcript to standard output.
+//! Runs the script on standard input and writes its transcript to standard output, or judges a transcript.
 #![tactic(auto)]
 
+mod check;
 mod start;
 #[cfg(test)]
 mod tests;

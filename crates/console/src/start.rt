@@ -3,8 +3,9 @@
 ghost use Rattle.std.specs.Prelude.{◌≡◌, ◌⊎◌, IfSome};
 ghost use Rattle.clap.specs.Words.{kind_of};
 ghost use Rattle.console.specs.Ended.{TellsOutcome};
-ghost use Rattle.console.specs.Status.{IsStatus, status_of, no_words_status, words_status};
+ghost use Rattle.console.specs.Status.{IsRunStatus, IsStatus, status_of, no_words_status, words_status};
 
+use crate::check::check;
 use crate::words::{Task, read_words};
 use clap::Error;
 use clap::error::ErrorKind;
@@ -76,7 +77,7 @@ fn run_script<In: Read, Out: Write, Faults: Write>(
 ) -> u8
     ensures outcome { IfSome (In.remaining reader.old) (λ script.
         TellsOutcome options.now.rules options.now.nodes options.now.limit script (Out.contents writer.old) (Out.contents writer.new) result) }
-    ensures status { IsStatus result }
+    ensures status { IsRunStatus result }
 {
     match run(alloc, reader, writer, options) {
         Ok(()) => 0,
@@ -84,8 +85,23 @@ fn run_script<In: Read, Out: Write, Faults: Write>(
     }
 }
 
-/// Does what the words ask for, of which the first is the program's name, and gives the exit status: 0 for a whole run,
-/// or where the help or the version was shown; 2 for bad words or a bad line; 3 where a read or a write failed; 4 for
+// Judges the transcript, tells the verdict or a fault, and gives the exit status.
+fn check_transcript<In: Read, Out: Write, Faults: Write>(
+    alloc: Global,
+    reader: &mut In,
+    writer: &mut Out,
+    faults: &mut Faults,
+) -> u8
+    ensures { IsStatus result }
+{
+    match check(alloc, reader, writer) {
+        Ok(end) => end.status(),
+        Err(failed) => tell(failed, faults),
+    }
+}
+
+/// Does what the words ask for, of which the first is the program's name, and gives the exit status: 0 for a whole run
+/// or an accepted transcript, or where the help or the version was shown; 1 for a refused transcript; 2 for bad words or a bad line; 3 where a read or a write failed; 4 for
 /// want of memory or a full log. Faults are told on `faults`, and with bad words nothing goes to `writer`.
 pub fn start<S: AsStr, In: Read, Out: Write, Faults: Write>(
     alloc: Global,
@@ -98,6 +114,7 @@ pub fn start<S: AsStr, In: Read, Out: Write, Faults: Write>(
 {
     match read_words(alloc, words) {
         Ok(Task::Run(options)) => run_script(alloc, &options, reader, writer, faults),
+        Ok(Task::Audit) => check_transcript(alloc, reader, writer, faults),
         Ok(Task::Show(text)) => show(text, writer, faults),
         Err(error) => refuse(error, faults),
     }

@@ -81,6 +81,7 @@ fn bad_words_write_nothing(rt: HostRuntime) {
         &["console", "run", "--rules", "hh"],
         &["console", "run", "--nodes", "2"],
         &["console", "walk"],
+        &["console", "audit", "transcript.txt"],
         &["console"],
         &[],
     ] {
@@ -103,6 +104,7 @@ fn the_help_is_shown(rt: HostRuntime) {
             b"Usage: console run --rules <RULES> --nodes <N>",
         ),
         (&["console", "help", "run"], b"Exit status:"),
+        (&["console", "audit", "--help"], b"Usage: console audit"),
         (&["console", "--help"], b"Examples:"),
         (&["console", "run", "--help"], b"Examples:"),
         (&["console", "--version"], b"console 0.1.0\n"),
@@ -126,6 +128,67 @@ fn a_bad_line_is_told(rt: HostRuntime) {
     assert_eq!(rt;
         ended.faults.as_slice(),
         b"! line 2: not a command\n".as_slice()
+    );
+}
+
+#[test]
+fn a_transcript_is_judged(rt: HostRuntime) {
+    let run = b"matching hh 2\n1 link 1 2 = ok\n2 step 1 = 1:seduce>2\n".as_slice();
+    for (transcript, line, status) in [
+        (
+            run,
+            b"accepted: 2 entries, 2 epochs, 1 moves\n".as_slice(),
+            0,
+        ),
+        (
+            b"matching hh 2\n",
+            b"accepted: 0 entries, 1 epochs, 0 moves\n",
+            0,
+        ),
+        (b"", b"line 1: bad header\n", 1),
+        (&run[..20], b"line 2: not a transcript line\n", 1),
+        (
+            b"matching hh 1\n2 show 1 = -\n",
+            b"line 2: out of order\n",
+            1,
+        ),
+        (
+            b"matching hh 1\n1 show 1 = 1\n",
+            b"line 2: not the machine's reply\n",
+            1,
+        ),
+    ] {
+        let ended = run_words(rt.alloc(), &["console", "audit"], transcript);
+        assert_eq!(rt; ended.status, status);
+        assert_eq!(rt; ended.text.as_slice(), line);
+        assert!(rt; ended.faults.is_empty());
+    }
+}
+
+#[test]
+fn a_failed_read_of_an_audit_is_told(rt: HostRuntime) {
+    let words = ["console", "audit"];
+    let (mut text, mut faults) = (Vec::new(rt.alloc()), Vec::new(rt.alloc()));
+    let status = start(rt.alloc(), &words, &mut Broken, &mut text, &mut faults);
+    assert_eq!(rt;
+        (status, faults.as_slice()),
+        (3, b"! read failed\n".as_slice())
+    );
+}
+
+#[test]
+fn a_failed_write_of_an_audit_is_told(rt: HostRuntime) {
+    let (mut transcript, mut faults) = (b"".as_slice(), Vec::new(rt.alloc()));
+    let status = start(
+        rt.alloc(),
+        &["console", "audit"],
+        &mut transcript,
+        &mut Broken,
+        &mut faults,
+    );
+    assert_eq!(rt;
+        (status, faults.as_slice()),
+        (3, b"! write failed\n".as_slice())
     );
 }
 

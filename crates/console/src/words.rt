@@ -17,6 +17,7 @@ disturbance by themselves, and writes down each event and its answer.";
 const EXAMPLES: &str = "\
 Examples:
   console run --rules hh --nodes 4 < script.txt > transcript.txt
+  console audit < transcript.txt
   console help run";
 
 const RUN_ABOUT: &str =
@@ -41,6 +42,24 @@ Exit status:
   3  a read or a write failed
   4  memory ran out, or the log is full";
 
+const AUDIT_ABOUT: &str =
+    "Judges the transcript on standard input, in one line on standard output.";
+
+const AUDIT_NOTES: &str = "\
+It is accepted where it is the text of a run of the rules, whatever allowed targets were taken. Else the first line that
+fails is named, with the first of these that it fails: its form, its number, its reply.
+
+Examples:
+  console audit < transcript.txt
+  console run --rules hh --nodes 4 < script.txt | console audit
+
+Exit status:
+  0  accepted
+  1  refused
+  2  bad words
+  3  a read or a write failed
+  4  memory ran out";
+
 static RULES: [&str; 2] = ["hh", "manne"];
 
 /// What good words ask for.
@@ -48,6 +67,8 @@ static RULES: [&str; 2] = ["hh", "manne"];
 pub enum Task {
     /// To run a script.
     Run(Options),
+    /// To judge a transcript.
+    Audit,
     /// To show the help or the version, of which this is the text.
     Show(Error),
 }
@@ -78,13 +99,17 @@ fn command<'a>(alloc: Global) -> Result<Command<'a>, AllocError> {
         .after_help(RUN_NOTES)
         .arg(rules_arg(alloc))?
         .arg(nodes_arg(alloc))?;
+    let audit = Command::new(alloc, "audit")
+        .about(AUDIT_ABOUT)
+        .after_help(AUDIT_NOTES);
     Command::new(alloc, "console")
         .version("0.1.0")
         .about(ABOUT)
         .after_help(EXAMPLES)
         .subcommand_required(true)
         .arg_required_else_help(true)
-        .subcommand(run)
+        .subcommand(run)?
+        .subcommand(audit)
 }
 
 // The words of `run`, which the parse has tested: `None` is for words that it should have refused.
@@ -108,6 +133,9 @@ pub fn read_words<'a, S: AsStr>(alloc: Global, words: &'a [S]) -> Result<Task, E
         Err(error) if error.use_stderr() => return Err(error),
         Err(text) => return Ok(Task::Show(text)),
     };
+    if found.subcommand_matches("audit").is_some() {
+        return Ok(Task::Audit);
+    }
     match found.subcommand_matches("run").and_then(|run| options(run)) {
         Some(options) => Ok(Task::Run(options)),
         None => Err(command.error(ErrorKind::ValueValidation, "no such run")?),
