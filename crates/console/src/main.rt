@@ -1,24 +1,17 @@
 //! Runs the script on standard input and writes its transcript to standard output, or judges a transcript.
 #![tactic(auto)]
 
-mod check;
-mod start;
-#[cfg(test)]
-mod tests;
-mod words;
-
-use start::{start, tell_no_words};
+use command_line::{start, tell_no_words};
 use std::process::ExitCode;
 use std::{env, io};
 
-fn given_words(rt: &HostRuntime) -> io::Result<Vec<String>> {
-    let words = env::args(rt)?.collect(rt.alloc())?;
-    Ok(words)
-}
-
 fn main(rt: HostRuntime) -> ExitCode {
     let (mut reader, mut writer, mut faults) = (rt.reader(), io::writer(&rt), rt.stderr());
-    let status = match given_words(&rt) {
+    let given = match env::args(&rt) {
+        Ok(words) => words.collect::<Vec<String>>(rt.alloc()).map_err(io::Error::from),
+        Err(error) => Err(error),
+    };
+    let status = match given {
         Ok(words) => start(
             rt.alloc(),
             words.as_slice(),

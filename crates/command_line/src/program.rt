@@ -1,0 +1,122 @@
+//! From the words to the exit status.
+
+ghost use Rattle.std.specs.Prelude.{◌≡◌, ◌⊎◌, IfSome};
+ghost use Rattle.clap.specs.Words.{kind_of};
+ghost use Rattle.command_line.specs.Ended.{TellsOutcome};
+ghost use Rattle.command_line.specs.Status.{IsRunStatus, IsStatus, status_of, no_words_status, words_status};
+
+use crate::verdict::check;
+use crate::words::{Task, read_words};
+use clap::Error;
+use clap::error::ErrorKind;
+use script_run::{Options, RunFault, run};
+use std::alloc::Global;
+use std::convert::AsStr;
+use std::io::{self, Read, Write};
+
+/// The exit status of a run that ended early: 2 for a bad line, 3 where a read or a write failed, 4 for a full log or
+/// want of memory.
+pub fn status(fault: RunFault) -> u8
+    ensures { result ≡ status_of fault }
+{
+    match fault {
+        RunFault::BadLine { .. } => 2,
+        RunFault::Read | RunFault::Write => 3,
+        RunFault::LogFull | RunFault::Memory => 4,
+    }
+}
+
+/// Tells why a run ended early, in one line, and gives the exit status. The status is the same where the line cannot
+/// be written.
+pub fn tell<Faults: Write>(fault: RunFault, faults: &mut Faults) -> u8
+    ensures { result ≡ status_of fault }
+{
+    let _ = writeln!(faults, "! {fault}");
+    status(fault)
+}
+
+/// Tells why the words could not be had, in one line, and gives the exit status: 2 for a word that is not UTF-8, else 4.
+pub fn tell_no_words<Faults: Write>(kind: io::ErrorKind, faults: &mut Faults) -> u8
+    ensures { result ≡ no_words_status kind }
+{
+    if kind != io::ErrorKind::InvalidData {
+        return tell(RunFault::Memory, faults);
+    }
+    let _ = writeln!(faults, "! a word is not UTF-8");
+    2
+}
+
+// Tells what is wrong with the words, in clap's text, and gives the exit status: 2, or 4 for want of memory.
+fn refuse<Faults: Write>(error: Error, faults: &mut Faults) -> u8
+    ensures { result ≡ words_status (kind_of error) }
+{
+    if error.kind() == ErrorKind::OutOfMemory {
+        return tell(RunFault::Memory, faults);
+    }
+    let _ = write!(faults, "{error}");
+    2
+}
+
+// Shows the help or the version.
+fn show<Out: Write, Faults: Write>(text: Error, writer: &mut Out, faults: &mut Faults) -> u8
+    ensures { (result ≡ 0) ⊎ (result ≡ 3) }
+{
+    match write!(writer, "{text}") {
+        Ok(()) => 0,
+        Err(_) => tell(RunFault::Write, faults),
+    }
+}
+
+// Runs the script, tells a fault, and gives the exit status.
+fn run_script<In: Read, Out: Write, Faults: Write>(
+    alloc: Global,
+    options: &Options,
+    reader: &mut In,
+    writer: &mut Out,
+    faults: &mut Faults,
+) -> u8
+    ensures outcome { IfSome (In.remaining reader.old) (λ script.
+        TellsOutcome options.now.rules options.now.nodes options.now.limit script (Out.contents writer.old) (Out.contents writer.new) result) }
+    ensures status { IsRunStatus result }
+{
+    match run(alloc, reader, writer, options) {
+        Ok(()) => 0,
+        Err(fault) => tell(fault, faults),
+    }
+}
+
+// Judges the transcript, tells the verdict or a fault, and gives the exit status.
+fn check_transcript<In: Read, Out: Write, Faults: Write>(
+    alloc: Global,
+    reader: &mut In,
+    writer: &mut Out,
+    faults: &mut Faults,
+) -> u8
+    ensures { IsStatus result }
+{
+    match check(alloc, reader, writer) {
+        Ok(end) => end.status(),
+        Err(failed) => tell(failed, faults),
+    }
+}
+
+/// Does what the words ask for, of which the first is the program's name, and gives the exit status: 0 for a whole run
+/// or an accepted transcript, or where the help or the version was shown; 1 for a refused transcript; 2 for bad words or
+/// a bad line; 3 where a read or a write failed; 4 for want of memory or a full log. Faults are told on `faults`, and
+/// with bad words nothing goes to `writer`.
+pub fn start<S: AsStr, In: Read, Out: Write, Faults: Write>(
+    alloc: Global,
+    words: &[S],
+    reader: &mut In,
+    writer: &mut Out,
+    faults: &mut Faults,
+) -> u8
+    ensures { IsStatus result }
+{
+    match read_words(alloc, words) {
+        Ok(Task::Run(options)) => run_script(alloc, &options, reader, writer, faults),
+        Ok(Task::Audit) => check_transcript(alloc, reader, writer, faults),
+        Ok(Task::Show(text)) => show(text, writer, faults),
+        Err(error) => refuse(error, faults),
+    }
+}

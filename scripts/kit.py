@@ -1,0 +1,23 @@
+"""The Rattle kit's own library for its commands, which knows how a crate is checked and built."""
+import importlib.machinery
+import importlib.util
+import os
+import re
+import subprocess
+import sys
+
+
+def load():
+    page = subprocess.run(["rt", "doc"], capture_output=True, text=True, check=True).stdout.strip()
+    loader = importlib.machinery.SourceFileLoader("rtlib", f"{os.path.dirname(page)}/bin/rtlib.py")
+    made = importlib.util.module_from_spec(importlib.util.spec_from_loader("rtlib", loader))
+    sys.modules["rtlib"] = made
+    loader.exec_module(made)
+    return made
+
+
+def at_once():
+    """How many checks to run side by side: one a processor, as far as memory holds."""
+    with open("/proc/meminfo") as file:
+        free = int(re.search(r"MemAvailable:\s+(\d+)", file.read())[1]) * 1024
+    return max(1, min(len(os.sched_getaffinity(0)), int(free // 2_500_000_000)))
