@@ -3,8 +3,6 @@
 
 mod check;
 mod start;
-#[cfg(test)]
-mod tests;
 mod words;
 
 use start::{start, tell_no_words};
