@@ -10,6 +10,3 @@ mod transcript;
 pub use fault::AuditFault;
 pub use summary::Summary;
 pub use transcript::{audit, audit_bytes};
-
-#[cfg(test)]
-mod tests;

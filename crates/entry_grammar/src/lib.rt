@@ -16,6 +16,3 @@ pub use entry::{entry_text, read_entry};
 pub use fault::EntryFault;
 pub use header::{header_text, read_header};
 pub use law::one_spelling;
-
-#[cfg(test)]
-mod tests;

@@ -17,6 +17,3 @@ pub use entry::{put_entry, put_header};
 pub use front::after;
 pub use law::one_reading;
 pub use names::{read_last, read_name, read_word, value_of};
-
-#[cfg(test)]
-mod tests;

@@ -13,6 +13,3 @@ pub use fault::RunFault;
 pub use options::{MAX_ENTRIES, Options};
 pub use rule_machine::RuleSet;
 pub use script::run;
-
-#[cfg(test)]
-mod tests;
