@@ -13,6 +13,8 @@ def load():
     made = importlib.util.module_from_spec(importlib.util.spec_from_loader("rtlib", loader))
     sys.modules["rtlib"] = made
     loader.exec_module(made)
+    # its first call sets a signal's handler, which only the main thread may
+    made.guarded()
     return made
 
 
