@@ -53,6 +53,3 @@ impl PlainNet {
         Ok(Reply::Accepted)
     }
 }
-
-#[cfg(test)]
-mod tests;

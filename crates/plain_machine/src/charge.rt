@@ -27,11 +27,13 @@ impl PlainNet {
         ensures count { result ≡ count_by (λ e. not (is_closed rules self.now e)) (edge_list self.now.network) }
         ensures few { result ≤ 1048576 }
     {
-        self.edges()
-            .as_slice()
-            .iter()
-            .filter(|e| !self.is_closed(rules, **e))
-            .count() as u64
+        let mut open = 0;
+        for &e in self.edges().as_slice() {
+            if !self.is_closed(rules, e) {
+                open += 1;
+            }
+        }
+        open
     }
 
     /// How many pointers are unanswered.
@@ -39,10 +41,13 @@ impl PlainNet {
         ensures count { result ≡ count_by (state.is_unanswered self.now) (names self.now.network) }
         ensures few { result ≤ 65535 }
     {
-        self.names()
-            .iter()
-            .filter(|v| self.is_unanswered(**v))
-            .count() as u64
+        let mut unanswered = 0;
+        for &v in self.names() {
+            if self.is_unanswered(v) {
+                unanswered += 1;
+            }
+        }
+        unanswered
     }
 
     /// What the nodes add by their flags.

@@ -93,7 +93,12 @@ impl EdgeSet {
 fn has_pair(edges: &[Edge], low: Node, high: Node) -> bool
     ensures { result ≡ list_any (λ p. same_pair p (low, high)) edges.now }
 {
-    edges.iter().any(|e| e.low() == low && e.high() == high)
+    for e in edges {
+        if e.low() == low && e.high() == high {
+            return true;
+        }
+    }
+    false
 }
 
 /// Where the edges after this one begin.

@@ -33,16 +33,24 @@ impl PlainNet {
     fn are_asked(&self, rules: RuleSet, items: &[Item], moves: &[Moved]) -> bool
         ensures { result ≡ list_all (λ m. judged.is_asked (table_of rules) self.now items.now m) moves.now }
     {
-        moves.iter().all(|made| self.is_asked(rules, items, *made))
+        for &made in moves {
+            if !self.is_asked(rules, items, made) {
+                return false;
+            }
+        }
+        true
     }
 
     /// Whether each item has a move.
     fn are_answered(&self, rules: RuleSet, moves: &[Moved], items: &[Item]) -> bool
         ensures { result ≡ list_all (λ item. judged.is_answered (table_of rules) self.now moves.now item) items.now }
     {
-        items
-            .iter()
-            .all(|item| self.is_answered(rules, moves, *item))
+        for &item in items {
+            if !self.is_answered(rules, moves, item) {
+                return false;
+            }
+        }
+        true
     }
 
     /// Whether an item asks for a move.

@@ -16,8 +16,6 @@ mod replies;
 mod scans;
 mod steps;
 mod targets;
-#[cfg(test)]
-mod test_lines;
 
 use edge_set::EdgeSet;
 pub use plain_net::PlainNet;

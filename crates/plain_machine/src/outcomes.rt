@@ -53,7 +53,12 @@ impl PlainNet {
 fn item_of(items: &[Item], v: Node) -> Option<Item>
     ensures { result ≡ item_of items.now v }
 {
-    items.iter().copied().find(|item| item.node == v)
+    for &item in items {
+        if item.node == v {
+            return Some(item);
+        }
+    }
+    None
 }
 
 /// The move, where the outcome is one.

@@ -149,5 +149,10 @@ impl PlainNet {
 fn names_node(items: &[Item], v: Node) -> bool
     ensures { result ≡ list_any (λ item. nat_eq item.node v) items.now }
 {
-    items.iter().any(|item| item.node == v)
+    for item in items {
+        if item.node == v {
+            return true;
+        }
+    }
+    false
 }

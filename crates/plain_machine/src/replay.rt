@@ -84,6 +84,3 @@ impl PlainNet {
         Ok(())
     }
 }
-
-#[cfg(test)]
-mod tests;

@@ -15,11 +15,12 @@ impl PlainNet {
     pub(crate) fn first_suitor(&self, v: Node) -> Option<Node>
         ensures { result ≡ state.first_suitor self.now v }
     {
-        self.names()
-            .iter()
-            .copied()
-            .filter(|w| self.linked(v, *w))
-            .find(|w| self.points(*w, v))
+        for &w in self.names() {
+            if self.linked(v, w) && self.points(w, v) {
+                return Some(w);
+            }
+        }
+        None
     }
 
     /// Whether a neighbour points at a node.
@@ -33,11 +34,12 @@ impl PlainNet {
     pub(crate) fn partner(&self, v: Node) -> Option<Node>
         ensures { result ≡ state.partner self.now v }
     {
-        self.names()
-            .iter()
-            .copied()
-            .filter(|w| self.linked(v, *w))
-            .find(|w| self.points(v, *w) && self.points(*w, v))
+        for &w in self.names() {
+            if self.linked(v, w) && self.points(v, w) && self.points(w, v) {
+                return Some(w);
+            }
+        }
+        None
     }
 
     /// Whether a node is in a mutual pair.
@@ -68,11 +70,12 @@ impl PlainNet {
     pub(crate) fn first_null(&self, v: Node) -> Option<Node>
         ensures { result ≡ first_open hsu_huang_opens self.now v }
     {
-        self.names()
-            .iter()
-            .copied()
-            .filter(|w| self.linked(v, *w))
-            .find(|w| self.pointer(*w).is_none())
+        for &w in self.names() {
+            if self.linked(v, w) && self.pointer(w).is_none() {
+                return Some(w);
+            }
+        }
+        None
     }
 
     /// Whether a node may court another: that one is above it, points nowhere and is not flagged.
@@ -86,10 +89,11 @@ impl PlainNet {
     pub(crate) fn first_courted(&self, v: Node) -> Option<Node>
         ensures { result ≡ find (may_court self.now v) (neighbours self.now.network v) }
     {
-        self.names()
-            .iter()
-            .copied()
-            .filter(|w| self.linked(v, *w))
-            .find(|w| self.may_court(v, *w))
+        for &w in self.names() {
+            if self.linked(v, w) && self.may_court(v, w) {
+                return Some(w);
+            }
+        }
+        None
     }
 }

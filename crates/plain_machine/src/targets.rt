@@ -32,23 +32,25 @@ impl PlainNet {
     ) -> Result<Vec<Node>, Want>
         ensures { IfOk result (λ targets. targets.items ≡ table.allowed_targets (table_of rules) self.now v act) }
     {
-        self.names()
-            .iter()
-            .copied()
-            .filter(|w| self.linked(v, *w))
-            .filter(|w| self.is_allowed(rules, v, act, *w))
-            .collect(alloc)
+        let mut targets = Vec::new(alloc);
+        for &target in self.names() {
+            if self.linked(v, target) && self.is_allowed(rules, v, act, target) {
+                targets.push(target)?;
+            }
+        }
+        Ok(targets)
     }
 
     /// The least target that a rule allows at a node.
     pub fn least_target(&self, rules: RuleSet, v: Node, act: Act) -> Option<Node>
         ensures { result ≡ table.least_target (table_of rules) self.now v act }
     {
-        self.names()
-            .iter()
-            .copied()
-            .filter(|w| self.linked(v, *w))
-            .find(|w| self.is_allowed(rules, v, act, *w))
+        for &w in self.names() {
+            if self.linked(v, w) && self.is_allowed(rules, v, act, w) {
+                return Some(w);
+            }
+        }
+        None
     }
 
     fn hsu_huang_allows(&self, v: Node, act: Act, w: Node) -> bool
@@ -77,10 +79,11 @@ impl PlainNet {
     fn courted_above(&self, v: Node, w: Node) -> Option<Node>
         ensures { result ≡ find (λ x. may_court self.now v x && nat_lt w x) (neighbours self.now.network v) }
     {
-        self.names()
-            .iter()
-            .copied()
-            .filter(|x| self.linked(v, *x))
-            .find(|x| self.may_court(v, *x) && w < *x)
+        for &x in self.names() {
+            if self.linked(v, x) && self.may_court(v, x) && w < x {
+                return Some(x);
+            }
+        }
+        None
     }
 }

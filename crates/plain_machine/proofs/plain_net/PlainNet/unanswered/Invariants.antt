@@ -1,0 +1,10 @@
+use Rattle.std.proofs.Common.{◌≡◌, ◌≤◌, take}
+use Rattle.std.specs.Prelude.{count_by}
+use Rattle.rule_machine.specs.State.{is_unanswered}
+use Rattle.plain_machine.proofs.plain_net.PlainNet.unanswered.Given as goal
+
+abbrev pub invariant-loop-v : goal.invariant-loop-v
+invariant-loop-v l = record {
+  count : l.unanswered ≡ count_by (is_unanswered l.self) (take l.v-index l.v-items);
+  few : l.unanswered ≤ l.v-index;
+}
