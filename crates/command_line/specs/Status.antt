@@ -1,7 +1,7 @@
 -- The exit statuses: 0 done, 1 a transcript refused, 2 bad words or a bad line, 3 a read or a write failed, 4 want of memory or a full log.
 use Rattle.std.specs.Prelude.{ℕ, ◌≢◌, ◌≤◌}
 use Rattle.clap.specs.declared.error.kind.ErrorKind.{ErrorKind}
-use Rattle.clap.specs.declared.error.kind.ErrorKind.TheVariants.{DisplayHelp, DisplayVersion, OutOfMemory}
+use Rattle.clap.specs.declared.error.kind.ErrorKind.TheVariants.{OutOfMemory}
 use Rattle.std.specs.declared.io.ErrorKind as io
 use Rattle.std.specs.declared.io.ErrorKind.TheVariants.{InvalidData}
 use Rattle.script_run.specs.declared.fault.RunFault.{RunFault}
@@ -24,10 +24,6 @@ words_status _ = 2
 abbrev pub no_words_status : io.ErrorKind → ℕ
 no_words_status InvalidData = 2
 no_words_status _ = 4
-
--- neither the help nor the version was asked for
-abbrev pub IsMistake : ErrorKind → Type 0
-IsMistake kind = (kind ≢ DisplayHelp) × (kind ≢ DisplayVersion)
 
 -- one of 0 to 4
 abbrev pub IsStatus : ℕ → Type 0

@@ -3,8 +3,6 @@
 
 mod program;
 mod verdict;
-mod words;
 
 pub use program::{start, status, tell, tell_no_words};
 pub use verdict::{CheckEnd, check};
-pub use words::{Task, read_words};

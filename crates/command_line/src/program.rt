@@ -6,9 +6,9 @@ ghost use Rattle.command_line.specs.Ended.{TellsOutcome};
 ghost use Rattle.command_line.specs.Status.{IsRunStatus, IsStatus, status_of, no_words_status, words_status};
 
 use crate::verdict::check;
-use crate::words::{Task, read_words};
 use clap::Error;
 use clap::error::ErrorKind;
+use command_words::{Task, read_words};
 use script_run::{Options, RunFault, run};
 use std::alloc::Global;
 use std::convert::AsStr;
@@ -114,7 +114,10 @@ pub fn start<S: AsStr, In: Read, Out: Write, Faults: Write>(
     ensures { IsStatus result }
 {
     match read_words(alloc, words) {
-        Ok(Task::Run(options)) => run_script(alloc, &options, reader, writer, faults),
+        Ok(Task::Run { rules, nodes }) => {
+            let options = Options::new(rules, u32::from(nodes)).unwrap();
+            run_script(alloc, &options, reader, writer, faults)
+        }
         Ok(Task::Audit) => check_transcript(alloc, reader, writer, faults),
         Ok(Task::Show(text)) => show(text, writer, faults),
         Err(error) => refuse(error, faults),

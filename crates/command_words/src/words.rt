@@ -2,12 +2,11 @@
 
 ghost use Rattle.std.specs.Prelude.{IfErr};
 ghost use Rattle.clap.specs.Words.{kind_of};
-ghost use Rattle.command_line.specs.Status.{IsMistake};
+ghost use Rattle.command_words.specs.Mistake.{IsMistake};
 
 use clap::error::ErrorKind;
 use clap::{Arg, ArgMatches, Command, Error, value_parser};
 use rule_machine::RuleSet;
-use script_run::Options;
 use std::alloc::{AllocError, Global};
 use std::convert::AsStr;
 
@@ -65,8 +64,8 @@ static RULES: [&str; 2] = ["hh", "manne"];
 /// What good words ask for.
 #[derive(Debug, Drop)]
 pub enum Task {
-    /// To run a script.
-    Run(Options),
+    /// To run a script under a rule set, on the nodes 1 to `nodes`.
+    Run { rules: RuleSet, nodes: u16 },
     /// To judge a transcript.
     Audit,
     /// To show the help or the version, of which this is the text.
@@ -89,7 +88,7 @@ fn nodes_arg<'a>(alloc: Global) -> Arg<'a> {
         .long("nodes")
         .required(true)
         .value_name("N")
-        .value_parser(value_parser!(u32).range(0..=65535))
+        .value_parser(value_parser!(u16))
         .help("How many nodes there are, named 1 to N; at most 65535")
 }
 
@@ -113,13 +112,23 @@ fn command<'a>(alloc: Global) -> Result<Command<'a>, AllocError> {
 }
 
 // The words of `run`, which the parse has tested: `None` is for words that it should have refused.
-fn options(run: &ArgMatches<'_>) -> Option<Options> {
+fn run_task(run: &ArgMatches<'_>) -> Option<Task> {
     let rules = match run.get_str("rules")? {
         "hh" => RuleSet::Hh,
         "manne" => RuleSet::Manne,
         _ => return None,
     };
-    Options::new(rules, run.get_one::<u32>("nodes")?)
+    let nodes = run.get_one::<u16>("nodes")?;
+    Some(Task::Run { rules, nodes })
+}
+
+// What the words ask for, which the parse has tested too.
+fn asked(found: &ArgMatches<'_>) -> Option<Task> {
+    match found.subcommand()? {
+        ("run", run) => run_task(run),
+        ("audit", _) => Some(Task::Audit),
+        _ => None,
+    }
 }
 
 /// Reads the words of the command line, of which the first is the program's name. The error is clap's, for bad words
@@ -128,16 +137,12 @@ pub fn read_words<'a, S: AsStr>(alloc: Global, words: &'a [S]) -> Result<Task, E
     ensures { IfErr result (λ e. IsMistake (kind_of e)) }
 {
     let mut command = command(alloc)?;
-    let found = match command.try_get_matches_from_mut(words) {
-        Ok(found) => found,
-        Err(error) if error.use_stderr() => return Err(error),
-        Err(text) => return Ok(Task::Show(text)),
-    };
-    if found.subcommand_matches("audit").is_some() {
-        return Ok(Task::Audit);
-    }
-    match found.subcommand_matches("run").and_then(|run| options(run)) {
-        Some(options) => Ok(Task::Run(options)),
-        None => Err(command.error(ErrorKind::ValueValidation, "no such run")?),
+    match command.try_get_matches_from_mut(words) {
+        Ok(found) => match asked(&found) {
+            Some(task) => Ok(task),
+            None => Err(command.error(ErrorKind::ValueValidation, "no such task")?),
+        },
+        Err(error) if error.use_stderr() => Err(error),
+        Err(text) => Ok(Task::Show(text)),
     }
 }
