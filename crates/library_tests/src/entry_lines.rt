@@ -1,0 +1,131 @@
+//! The lines of a transcript as values.
+
+use crate::helpers::{entry_of, named, same, tells};
+use entry_grammar::{EntryFault, entry_text, header_text, read_entry, read_header};
+use log_entry::Entry;
+use rule_machine::{Act, Choice, Event, Item, Listing, Moved, Refusal, Reply, RuleSet};
+use std::alloc::Global;
+use std::process::Abort;
+use std::test::Fail;
+
+/// Reads a line, and writes it back.
+fn write_back(rt: &impl Abort, alloc: Global, line: &str, number: u32) -> Result<(), Fail> {
+    let (came, entry) = read_entry(alloc, line.as_bytes())?;
+    assert!(rt; came == number, "{line} has the number {came}");
+    let text = entry_text(alloc, came, &entry)?;
+    assert!(rt; text.as_slice() == line.as_bytes(), "{line}");
+    Ok(())
+}
+
+#[test]
+fn entries_are_written_back(rt: HostRuntime) -> Result<(), Fail> {
+    for (line, number) in [
+        ("1 link 1 2 = ok", 1),
+        ("2 matching = 1-2 3-4", 2),
+        ("3 enabled = none", 3),
+        ("4 step 1 2>3 = 1:seduce>3 2:abandon", 4),
+        ("5 show 1 = -", 5),
+        ("6 flag 1 0 = refused 7 no-flag", 6),
+        ("16777216 unlink 1 2 = ok", 16_777_216),
+        ("8 enabled = 1:update 2:marry 3:seduce 4:abandon", 8),
+        ("9 matching = none", 9),
+        ("10 step = refused 8 empty-choice", 10),
+        ("11 show 65535 = 65534", 11),
+        ("12 point 1 - = refused 1 unknown-node", 12),
+    ] {
+        write_back(&rt, rt.alloc(), line, number)?;
+    }
+    Ok(())
+}
+
+/// Compares the entry of a row with its parts.
+fn reads(rt: &impl Abort, alloc: Global, row: &str, event: Event, reply: Reply) {
+    let wanted = Entry::new(event, reply).expect(rt, "an entry");
+    same(rt, &entry_of(rt, alloc, row), &wanted, row);
+}
+
+#[test]
+fn plain_entries_are_read(rt: HostRuntime) {
+    let one = named(&rt, 1);
+    let refused = Reply::Refused(Refusal::SelfLoop);
+    reads(
+        &rt,
+        rt.alloc(),
+        "link 1 1 = refused 2 self-loop",
+        Event::Link(one, one),
+        refused,
+    );
+    let quiet = Reply::EnabledAre(Listing::from_vec(Vec::new(rt.alloc())));
+    reads(&rt, rt.alloc(), "enabled = none", Event::Enabled, quiet);
+}
+
+#[test]
+fn a_step_is_read(rt: HostRuntime) -> Result<(), Fail> {
+    let node = named(&rt, 2);
+    let items = Vec::from_slice(rt.alloc(), &[Item { node, wish: None }])?;
+    let choice = Choice::new(items).expect(&rt, "a choice");
+    let made = Moved {
+        node,
+        act: Act::Marry,
+        target: Some(named(&rt, 3)),
+    };
+    let moves = Listing::from_vec(Vec::from_slice(rt.alloc(), &[made])?);
+    reads(
+        &rt,
+        rt.alloc(),
+        "step 2 = 2:marry>3",
+        Event::Step(choice),
+        Reply::Moves(moves),
+    );
+    Ok(())
+}
+
+#[test]
+fn headers_are_written_back(rt: HostRuntime) -> Result<(), Fail> {
+    for (line, rules, nodes) in [
+        ("matching hh 2", RuleSet::Hh, 2u16),
+        ("matching manne 0", RuleSet::Manne, 0),
+        ("matching hh 65535", RuleSet::Hh, 65_535),
+    ] {
+        let nodes = u32::from(nodes);
+        assert!(rt;
+            read_header(line.as_bytes()) == Ok((rules, nodes)),
+            "{line}"
+        );
+        let text = header_text(rt.alloc(), rules, nodes)?;
+        assert!(rt; text.as_slice() == line.as_bytes(), "{line}");
+    }
+    Ok(())
+}
+
+#[test]
+fn other_headers_are_refused(rt: HostRuntime) {
+    for line in [
+        "",
+        "matching hh 65536",
+        "matching hh 02",
+        "matching hh 00",
+        "matching hh",
+        "matching hh ",
+        "matching hh  2",
+        "matching hh 2 ",
+        "matching hh 2\r",
+        "matching hsu 2",
+        "Matching hh 2",
+        " matching hh 2",
+        "matching",
+    ] {
+        assert!(rt; read_header(line.as_bytes()).is_err(), "{line}");
+    }
+}
+
+#[test]
+fn faults_are_told(rt: HostRuntime) -> Result<(), Fail> {
+    tells(
+        &rt,
+        rt.alloc(),
+        &EntryFault::NotALine,
+        "not a transcript line",
+    )?;
+    tells(&rt, rt.alloc(), &EntryFault::Memory, "out of memory")
+}

@@ -1,0 +1,269 @@
+//! Every network of up to three nodes, in every state and under every small choice, against the plain machine.
+//!
+//! The choices at n nodes have items of n + 1 names, the last of an absent node, each with no wish or one of these
+//! names: (n + 1)(n + 2) items i, so 1 + i + i·i choices of up to two, and 6 more of three at three nodes. There are
+//! 2 items and 7 choices at no node, 6 and 43 at one, 12 and 157 at two, and 20 and 421 + 6 = 427 at three.
+//! The pointers of a node are null or one of its neighbours: with no flags 1 state at no node, 1 at one, 1 + 4 at two,
+//! and at three 1 with no edge, 4 with one (3 networks), 12 with two (3 networks) and 27 with three: 76. With flags
+//! each counts twice for each node.
+
+use crate::helpers::named;
+use plain_machine::PlainNet;
+use rule_engine::{Choice, Event, Item, Net, Node, Reply, RuleSet, Rules};
+use rules_hsu_huang::HsuHuang;
+use rules_manne::Manne;
+use std::alloc::Global;
+use std::process::Abort;
+
+/// A network under a rule set, the plain one that is asked the same, and the state that both are in: for each node a
+/// digit of four for its pointer, and behind that a bit for its flag if there are flags.
+#[derive(Drop)]
+struct Twins<R: Rules> {
+    net: Net<R>,
+    plain: PlainNet,
+    rules: RuleSet,
+    nodes: u32,
+    edges: u32,
+    state: u32,
+}
+
+impl<R: Rules> Twins<R> {
+    /// Two networks without an edge.
+    fn new(rt: &impl Abort, alloc: Global, rules: RuleSet, nodes: u32, edges: u32) -> Twins<R> {
+        assert!(rt; nodes <= 3);
+        Twins {
+            net: Net::new(alloc, nodes).expect(rt, "memory"),
+            plain: PlainNet::new(alloc, nodes).expect(rt, "memory"),
+            rules,
+            nodes,
+            edges,
+            state: 0,
+        }
+    }
+
+    /// The reply of both to an event.
+    fn ask(&mut self, rt: &impl Abort, alloc: Global, event: &Event) -> Reply {
+        let reply = self.net.apply(event).expect(rt, "memory");
+        let plain = self
+            .plain
+            .answer(alloc, self.rules, event)
+            .expect(rt, "memory");
+        let (edges, state) = (self.edges, self.state);
+        assert!(rt;
+            reply == plain,
+            "{event:?}: {reply:?}, {plain:?} at {edges}, {state}"
+        );
+        reply
+    }
+
+    /// Whether both accept a change.
+    fn change(&mut self, rt: &impl Abort, alloc: Global, event: &Event) -> bool {
+        self.ask(rt, alloc, event) == Reply::Accepted
+    }
+
+    /// Links the nodes: a bit for each of the edges 1-2, 1-3 and 2-3. Says whether these are edges of its nodes.
+    fn link(&mut self, rt: &impl Abort, alloc: Global) -> bool {
+        let edges = self.edges;
+        for (a, b, place) in [(1, 2, 1), (1, 3, 2), (2, 3, 4)] {
+            let event = Event::Link(named(rt, a), named(rt, b));
+            if edges / place % 2 == 1 && !self.change(rt, alloc, &event) {
+                return false;
+            }
+        }
+        true
+    }
+
+    /// Writes the registers. Says whether each pointer is null or at a neighbour, and all digits are of its nodes.
+    fn set(&mut self, rt: &impl Abort, alloc: Global) -> bool {
+        let mut rest = self.state;
+        for name in 1..=self.nodes {
+            let v = named(rt, name);
+            if !self.change(rt, alloc, &Event::Point(v, Node::new(rest % 4))) {
+                return false;
+            }
+            rest /= 4;
+            if R::FLAGS {
+                assert!(rt; self.change(rt, alloc, &Event::Flag(v, rest % 2 == 1)));
+                rest /= 2;
+            }
+        }
+        rest == 0
+    }
+
+    /// Looks at every pointer, the enabled nodes and the matching.
+    fn look(&mut self, rt: &impl Abort, alloc: Global) {
+        for name in 1..4 {
+            let _ = self.ask(rt, alloc, &Event::Show(named(rt, name)));
+        }
+        let _ = self.ask(rt, alloc, &Event::Enabled);
+        let _ = self.ask(rt, alloc, &Event::Matching);
+    }
+
+    /// Lets the chosen nodes move; if they do, looks at what is there then and goes back to the state.
+    fn step(&mut self, rt: &impl Abort, alloc: Global, items: &[(u32, u32)]) {
+        let event = Event::Step(chosen(rt, alloc, items));
+        if let Reply::Moves(_) = self.ask(rt, alloc, &event) {
+            self.look(rt, alloc);
+            assert!(rt; self.set(rt, alloc));
+        }
+    }
+}
+
+/// The choice of items, where wish 0 stands for none.
+fn chosen(rt: &impl Abort, alloc: Global, items: &[(u32, u32)]) -> Choice {
+    let mut list = Vec::new(alloc);
+    for (name, wish) in items {
+        let item = Item {
+            node: named(rt, *name),
+            wish: Node::new(*wish),
+        };
+        list.push(item).expect(rt, "memory");
+    }
+    Choice::new(list).expect(rt, "a choice")
+}
+
+/// The item of a number below (n + 1)(n + 2): a node 1 to n + 1, and its wish 1 to n + 1, or 0 for none.
+fn item(nodes: u32, number: u32) -> (u32, u32) {
+    let names = nodes.saturating_add(2).max(1);
+    (1 + number / names, number % names)
+}
+
+/// Every choice of up to two items in the state. Answers how many.
+fn try_pairs<R: Rules>(rt: &impl Abort, alloc: Global, twins: &mut Twins<R>) -> u64 {
+    let nodes = twins.nodes;
+    let items = nodes
+        .saturating_add(1)
+        .saturating_mul(nodes.saturating_add(2));
+    let places = items.saturating_add(1);
+    let mut tried = 0u64;
+    for number in 0..places.saturating_mul(places) {
+        let (first, second) = (number / places, number % places);
+        let pair = [
+            item(nodes, first.saturating_sub(1)),
+            item(nodes, second.saturating_sub(1)),
+        ];
+        if first > 0 || second == 0 {
+            let len = usize::from(first > 0) + usize::from(second > 0);
+            twins.step(rt, alloc, &pair[..len]);
+            tried = tried.wrapping_add(1);
+        }
+    }
+    tried
+}
+
+/// Every order of three nodes in the state. Answers how many.
+fn try_orders<R: Rules>(rt: &impl Abort, alloc: Global, twins: &mut Twins<R>) -> u64 {
+    for (a, b, c) in [
+        (1, 2, 3),
+        (1, 3, 2),
+        (2, 1, 3),
+        (2, 3, 1),
+        (3, 1, 2),
+        (3, 2, 1),
+    ] {
+        twins.step(rt, alloc, &[(a, 0), (b, 0), (c, 0)]);
+    }
+    6
+}
+
+/// Every choice in the state, if it is one. Answers how many choices that were.
+fn try_state<R: Rules>(rt: &impl Abort, alloc: Global, twins: &mut Twins<R>) -> u64 {
+    if !twins.set(rt, alloc) {
+        return 0;
+    }
+    twins.look(rt, alloc);
+    let tried = try_pairs(rt, alloc, twins);
+    if twins.nodes < 3 {
+        return tried;
+    }
+    tried.wrapping_add(try_orders(rt, alloc, twins))
+}
+
+/// Every state of a network, if its edges are of its nodes, and every choice in it. Answers how many choices.
+fn try_network<R: Rules>(
+    rt: &impl Abort,
+    alloc: Global,
+    rules: RuleSet,
+    nodes: u32,
+    edges: u32,
+) -> u64 {
+    let mut twins = Twins::<R>::new(rt, alloc, rules, nodes, edges);
+    if !twins.link(rt, alloc) {
+        return 0;
+    }
+    let mut tried = 0u64;
+    for state in 0..512 {
+        twins.state = state;
+        tried = tried.wrapping_add(try_state(rt, alloc, &mut twins));
+    }
+    tried
+}
+
+/// Every network of so many nodes and so many edges, and every state and choice. Compares how many choices that were.
+fn try_networks<R: Rules>(
+    rt: &impl Abort,
+    alloc: Global,
+    rules: RuleSet,
+    nodes: u32,
+    count: u32,
+    wanted: u64,
+) {
+    let mut tried = 0u64;
+    for edges in 0..8u32 {
+        if edges.count_ones() == count {
+            tried = tried.wrapping_add(try_network::<R>(rt, alloc, rules, nodes, edges));
+        }
+    }
+    assert!(rt;
+        tried == wanted,
+        "{tried} choices at {nodes} nodes and {count} edges"
+    );
+}
+
+fn try_hsu_huang(rt: &impl Abort, alloc: Global, nodes: u32, count: u32, wanted: u64) {
+    try_networks::<HsuHuang>(rt, alloc, RuleSet::Hh, nodes, count, wanted);
+}
+
+fn try_manne(rt: &impl Abort, alloc: Global, nodes: u32, count: u32, wanted: u64) {
+    try_networks::<Manne>(rt, alloc, RuleSet::Manne, nodes, count, wanted);
+}
+
+#[test]
+fn hsu_huang_up_to_two_nodes(rt: HostRuntime) {
+    try_hsu_huang(&rt, rt.alloc(), 0, 0, 7);
+    try_hsu_huang(&rt, rt.alloc(), 1, 0, 43);
+    try_hsu_huang(&rt, rt.alloc(), 2, 0, 157);
+    try_hsu_huang(&rt, rt.alloc(), 2, 1, 4 * 157);
+}
+
+#[test]
+fn hsu_huang_three_nodes(rt: HostRuntime) {
+    try_hsu_huang(&rt, rt.alloc(), 3, 0, 427);
+    try_hsu_huang(&rt, rt.alloc(), 3, 1, 3 * 4 * 427);
+    try_hsu_huang(&rt, rt.alloc(), 3, 2, 3 * 12 * 427);
+    try_hsu_huang(&rt, rt.alloc(), 3, 3, 27 * 427);
+}
+
+#[test]
+fn manne_up_to_two_nodes(rt: HostRuntime) {
+    try_manne(&rt, rt.alloc(), 0, 0, 7);
+    try_manne(&rt, rt.alloc(), 1, 0, 2 * 43);
+    try_manne(&rt, rt.alloc(), 2, 0, 4 * 157);
+    try_manne(&rt, rt.alloc(), 2, 1, 4 * 4 * 157);
+}
+
+#[test]
+fn manne_three_nodes_no_edge_or_one(rt: HostRuntime) {
+    try_manne(&rt, rt.alloc(), 3, 0, 8 * 427);
+    try_manne(&rt, rt.alloc(), 3, 1, 3 * 4 * 8 * 427);
+}
+
+#[test]
+fn manne_three_nodes_two_edges(rt: HostRuntime) {
+    try_manne(&rt, rt.alloc(), 3, 2, 3 * 12 * 8 * 427);
+}
+
+#[test]
+fn manne_three_nodes_three_edges(rt: HostRuntime) {
+    try_manne(&rt, rt.alloc(), 3, 3, 27 * 8 * 427);
+}
