@@ -5,12 +5,11 @@ use line_text::{put_entry, read_command};
 use rule_machine::{Choice, Event, Item, Node, Reply};
 use std::alloc::Global;
 use std::process::Abort;
-use std::test::Fail;
 
 /// Compares the command of a line with an event.
 fn reads(rt: &impl Abort, alloc: Global, line: &str, event: Event) {
     let came = read_command(alloc, line.as_bytes()).expect(rt, "memory");
-    assert!(rt; came == Some(event), "{line} was read as {came:?}");
+    assert!(rt; came == Some(event), "{line}");
 }
 
 #[test]
@@ -75,10 +74,9 @@ fn a_step_has_at_most_65535_items(rt: HostRuntime) {
 }
 
 #[test]
-fn the_greatest_number_is_written(rt: HostRuntime) -> Result<(), Fail> {
+fn the_greatest_number_is_written(rt: HostRuntime) {
     let event = Event::Point(named(&rt, 2), Some(named(&rt, 3)));
     let mut text = Vec::new(rt.alloc());
-    put_entry(&mut text, 4_294_967_295, &event, &Reply::Accepted)?;
+    put_entry(&mut text, 4_294_967_295, &event, &Reply::Accepted).expect(&rt, "memory");
     assert!(rt; text.as_slice() == b"4294967295 point 2 3 = ok\n".as_slice());
-    Ok(())
 }

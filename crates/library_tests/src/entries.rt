@@ -5,17 +5,22 @@ use log_entry::Entry;
 use rule_machine::{Act, Choice, Event, Listing, Moved, Node, Reply};
 use std::alloc::Global;
 use std::process::Abort;
-use std::test::Fail;
 
 /// Whether the event of one row and the reply of another make an entry.
-fn fits(rt: &impl Abort, alloc: Global, asked: &str, answered: &str) -> Result<bool, Fail> {
-    let event = entry_of(rt, alloc, asked).event().clone()?;
-    let reply = entry_of(rt, alloc, answered).reply().clone()?;
-    Ok(Entry::new(event, reply).is_some())
+fn fits(rt: &impl Abort, alloc: Global, asked: &str, answered: &str) -> bool {
+    let event = entry_of(rt, alloc, asked)
+        .event()
+        .clone()
+        .expect(rt, "memory");
+    let reply = entry_of(rt, alloc, answered)
+        .reply()
+        .clone()
+        .expect(rt, "memory");
+    Entry::new(event, reply).is_some()
 }
 
 #[test]
-fn a_reply_is_of_its_events_kind(rt: HostRuntime) -> Result<(), Fail> {
+fn a_reply_is_of_its_events_kind(rt: HostRuntime) {
     for (asked, answered, right) in [
         ("flag 1 1 = ok", "link 1 1 = refused 2 self-loop", true),
         ("point 1 - = ok", "link 1 2 = ok", true),
@@ -30,21 +35,20 @@ fn a_reply_is_of_its_events_kind(rt: HostRuntime) -> Result<(), Fail> {
         ("step 1 = 1:marry>2", "step = refused 8 empty-choice", true),
         ("step 1 = 1:marry>2", "link 1 2 = ok", false),
     ] {
-        let came = fits(&rt, rt.alloc(), asked, answered)?;
+        let came = fits(&rt, rt.alloc(), asked, answered);
         assert!(rt; came == right, "{asked} and {answered}");
     }
-    Ok(())
 }
 
 /// Whether these moves answer a step.
-fn are_moves(rt: &impl Abort, alloc: Global, moves: &[Moved]) -> Result<bool, Fail> {
+fn are_moves(rt: &impl Abort, alloc: Global, moves: &[Moved]) -> bool {
+    let moves = Vec::from_slice(alloc, moves).expect(rt, "memory");
     let choice = Choice::new(Vec::new(alloc)).expect(rt, "a choice");
-    let moves = Listing::from_vec(Vec::from_slice(alloc, moves)?);
-    Ok(Entry::new(Event::Step(choice), Reply::Moves(moves)).is_some())
+    Entry::new(Event::Step(choice), Reply::Moves(Listing::from_vec(moves))).is_some()
 }
 
 #[test]
-fn a_move_has_the_target_of_its_rule(rt: HostRuntime) -> Result<(), Fail> {
+fn a_move_has_the_target_of_its_rule(rt: HostRuntime) {
     let node = named(&rt, 1);
     for (act, target, right) in [
         (Act::Update, 0, true),
@@ -57,11 +61,10 @@ fn a_move_has_the_target_of_its_rule(rt: HostRuntime) -> Result<(), Fail> {
         (Act::Abandon, 2, false),
     ] {
         let target = Node::new(target);
-        let came = are_moves(&rt, rt.alloc(), &[Moved { node, act, target }])?;
+        let came = are_moves(&rt, rt.alloc(), &[Moved { node, act, target }]);
         assert!(rt; came == right, "{act:?} {target:?}");
     }
-    assert!(rt; !are_moves(&rt, rt.alloc(), &[])?);
-    Ok(())
+    assert!(rt; !are_moves(&rt, rt.alloc(), &[]));
 }
 
 #[test]

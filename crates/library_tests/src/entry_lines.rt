@@ -1,24 +1,21 @@
 //! The lines of a transcript as values.
 
-use crate::helpers::{entry_of, named, same, tells};
+use crate::helpers::{entry_of, named, tells};
 use entry_grammar::{EntryFault, entry_text, header_text, read_entry, read_header};
-use log_entry::Entry;
 use rule_machine::{Act, Choice, Event, Item, Listing, Moved, Refusal, Reply, RuleSet};
 use std::alloc::Global;
 use std::process::Abort;
-use std::test::Fail;
 
 /// Reads a line, and writes it back.
-fn write_back(rt: &impl Abort, alloc: Global, line: &str, number: u32) -> Result<(), Fail> {
-    let (came, entry) = read_entry(alloc, line.as_bytes())?;
-    assert!(rt; came == number, "{line} has the number {came}");
-    let text = entry_text(alloc, came, &entry)?;
+fn write_back(rt: &impl Abort, alloc: Global, line: &str, number: u32) {
+    let (came, entry) = read_entry(alloc, line.as_bytes()).expect(rt, "an entry");
+    assert!(rt; came == number, "{line}");
+    let text = entry_text(alloc, came, &entry).expect(rt, "memory");
     assert!(rt; text.as_slice() == line.as_bytes(), "{line}");
-    Ok(())
 }
 
 #[test]
-fn entries_are_written_back(rt: HostRuntime) -> Result<(), Fail> {
+fn entries_are_written_back(rt: HostRuntime) {
     for (line, number) in [
         ("1 link 1 2 = ok", 1),
         ("2 matching = 1-2 3-4", 2),
@@ -33,69 +30,64 @@ fn entries_are_written_back(rt: HostRuntime) -> Result<(), Fail> {
         ("11 show 65535 = 65534", 11),
         ("12 point 1 - = refused 1 unknown-node", 12),
     ] {
-        write_back(&rt, rt.alloc(), line, number)?;
+        write_back(&rt, rt.alloc(), line, number);
     }
-    Ok(())
 }
 
 /// Compares the entry of a row with its parts.
-fn reads(rt: &impl Abort, alloc: Global, row: &str, event: Event, reply: Reply) {
-    let wanted = Entry::new(event, reply).expect(rt, "an entry");
-    same(rt, &entry_of(rt, alloc, row), &wanted, row);
+fn reads(rt: &impl Abort, alloc: Global, row: &str, event: &Event, reply: &Reply) {
+    let entry = entry_of(rt, alloc, row);
+    assert!(rt; entry.event() == event, "{row}");
+    assert!(rt; entry.reply() == reply, "{row}");
 }
 
 #[test]
 fn plain_entries_are_read(rt: HostRuntime) {
-    let one = named(&rt, 1);
+    let link = Event::Link(named(&rt, 1), named(&rt, 1));
     let refused = Reply::Refused(Refusal::SelfLoop);
     reads(
         &rt,
         rt.alloc(),
         "link 1 1 = refused 2 self-loop",
-        Event::Link(one, one),
-        refused,
+        &link,
+        &refused,
     );
     let quiet = Reply::EnabledAre(Listing::from_vec(Vec::new(rt.alloc())));
-    reads(&rt, rt.alloc(), "enabled = none", Event::Enabled, quiet);
+    reads(&rt, rt.alloc(), "enabled = none", &Event::Enabled, &quiet);
 }
 
 #[test]
-fn a_step_is_read(rt: HostRuntime) -> Result<(), Fail> {
+fn a_step_is_read(rt: HostRuntime) {
     let node = named(&rt, 2);
-    let items = Vec::from_slice(rt.alloc(), &[Item { node, wish: None }])?;
-    let choice = Choice::new(items).expect(&rt, "a choice");
+    let item = Item { node, wish: None };
+    let items = Vec::from_slice(rt.alloc(), &[item]).expect(&rt, "memory");
+    let step = Event::Step(Choice::new(items).expect(&rt, "a choice"));
     let made = Moved {
         node,
         act: Act::Marry,
         target: Some(named(&rt, 3)),
     };
-    let moves = Listing::from_vec(Vec::from_slice(rt.alloc(), &[made])?);
-    reads(
-        &rt,
-        rt.alloc(),
-        "step 2 = 2:marry>3",
-        Event::Step(choice),
-        Reply::Moves(moves),
+    let moves = Vec::from_slice(rt.alloc(), &[made]).expect(&rt, "memory");
+    let reply = Reply::Moves(Listing::from_vec(moves));
+    reads(&rt, rt.alloc(), "step 2 = 2:marry>3", &step, &reply);
+}
+
+/// Reads a header, and writes it back.
+fn write_header_back(rt: &impl Abort, alloc: Global, line: &str, rules: RuleSet, nodes: u16) {
+    let nodes = u32::from(nodes);
+    assert!(rt;
+        read_header(line.as_bytes()) == Ok((rules, nodes)),
+        "{line}"
     );
-    Ok(())
+    let text = header_text(alloc, rules, nodes).expect(rt, "memory");
+    assert!(rt; text.as_slice() == line.as_bytes(), "{line}");
 }
 
 #[test]
-fn headers_are_written_back(rt: HostRuntime) -> Result<(), Fail> {
-    for (line, rules, nodes) in [
-        ("matching hh 2", RuleSet::Hh, 2u16),
-        ("matching manne 0", RuleSet::Manne, 0),
-        ("matching hh 65535", RuleSet::Hh, 65_535),
-    ] {
-        let nodes = u32::from(nodes);
-        assert!(rt;
-            read_header(line.as_bytes()) == Ok((rules, nodes)),
-            "{line}"
-        );
-        let text = header_text(rt.alloc(), rules, nodes)?;
-        assert!(rt; text.as_slice() == line.as_bytes(), "{line}");
-    }
-    Ok(())
+fn headers_are_written_back(rt: HostRuntime) {
+    write_header_back(&rt, rt.alloc(), "matching hh 2", RuleSet::Hh, 2);
+    write_header_back(&rt, rt.alloc(), "matching manne 0", RuleSet::Manne, 0);
+    write_header_back(&rt, rt.alloc(), "matching hh 65535", RuleSet::Hh, 65_535);
 }
 
 #[test]
@@ -120,12 +112,12 @@ fn other_headers_are_refused(rt: HostRuntime) {
 }
 
 #[test]
-fn faults_are_told(rt: HostRuntime) -> Result<(), Fail> {
+fn faults_are_told(rt: HostRuntime) {
     tells(
         &rt,
         rt.alloc(),
         &EntryFault::NotALine,
         "not a transcript line",
-    )?;
-    tells(&rt, rt.alloc(), &EntryFault::Memory, "out of memory")
+    );
+    tells(&rt, rt.alloc(), &EntryFault::Memory, "out of memory");
 }

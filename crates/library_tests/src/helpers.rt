@@ -1,4 +1,6 @@
-//! What many tests use.
+//! What many tests use. Want of memory ends a test.
+
+ghost use Rattle.std.specs.Prelude.{◌≡◌};
 
 use entry_grammar::read_entry;
 use log_entry::Entry;
@@ -6,10 +8,11 @@ use rule_machine::Node;
 use std::alloc::Global;
 use std::fmt::{Debug, Display};
 use std::process::Abort;
-use std::test::Fail;
 
 /// The node of a name.
-pub(crate) fn named(rt: &impl Abort, name: u32) -> Node {
+pub(crate) fn named(rt: &impl Abort, name: u32) -> Node
+    ensures { result ≡ name }
+{
     Node::new(name).expect(rt, "a name")
 }
 
@@ -22,18 +25,9 @@ pub(crate) fn same<T: PartialEq + Debug>(rt: &impl Abort, came: &T, wanted: &T, 
 }
 
 /// Compares the text of a fault with what was wanted.
-pub(crate) fn tells<T: Display>(
-    rt: &impl Abort,
-    alloc: Global,
-    fault: &T,
-    wanted: &str,
-) -> Result<(), Fail> {
-    let text = format!(in alloc; "{fault}")?;
-    assert!(rt;
-        text.as_str() == wanted,
-        "{text} was told, {wanted} was wanted"
-    );
-    Ok(())
+pub(crate) fn tells<T: Display>(rt: &impl Abort, alloc: Global, fault: &T, wanted: &str) {
+    let text = fault.to_string(alloc).expect(rt, "memory");
+    assert!(rt; text.as_str() == wanted, "{wanted}");
 }
 
 /// The entry of a row: an event and a reply as a transcript has them, without the number.

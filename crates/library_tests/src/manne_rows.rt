@@ -1,12 +1,11 @@
 //! Worked rows under the rules of Manne and others.
 
 use crate::helpers::{entry_of, same};
-use crate::machines::play_both;
-use rule_engine::{Event, Net, Reply, RuleSet};
+use crate::machines::{net_of, play_both};
+use rule_engine::{Event, Reply, RuleSet};
 use rules_manne::Manne;
-use std::alloc::{AllocError, Global};
+use std::alloc::Global;
 use std::process::Abort;
-use std::test::Fail;
 
 const A_PAIR: &str = "\
 link 1 2 = ok
@@ -89,15 +88,15 @@ show 3 = refused 1 unknown-node
 enabled = 1:seduce
 ";
 
-const A_SCRIPT: &str = "\
-link 1 2 = ok
-step 2 = refused 11 not-enabled
-step 1 = 1:seduce>2
-show 1 = 2
-";
+const A_SCRIPT: [&str; 4] = [
+    "link 1 2 = ok",
+    "step 2 = refused 11 not-enabled",
+    "step 1 = 1:seduce>2",
+    "show 1 = 2",
+];
 
 #[test]
-fn rows_are_answered(rt: HostRuntime) -> Result<(), Fail> {
+fn rows_are_answered(rt: HostRuntime) {
     for (nodes, rows) in [
         (2, A_PAIR),
         (2, MARRIED_WHILE_ABANDONED),
@@ -105,33 +104,33 @@ fn rows_are_answered(rt: HostRuntime) -> Result<(), Fail> {
         (4, THE_GREATEST_UNFLAGGED),
         (2, REFUSALS),
     ] {
-        play_both::<Manne>(&rt, rt.alloc(), RuleSet::Manne, nodes, rows)?;
+        play_both::<Manne>(&rt, rt.alloc(), RuleSet::Manne, nodes, rows);
     }
-    Ok(())
 }
 
-/// The events of rows.
-fn events_of(rt: &impl Abort, alloc: Global, rows: &str) -> Result<Vec<Event>, AllocError> {
-    let mut events = Vec::new(alloc);
-    for row in rows.lines() {
-        events.push(entry_of(rt, alloc, row).event().clone()?)?;
-    }
-    Ok(events)
-}
-
-/// Compares replies with those of rows.
-fn expect_replies(rt: &impl Abort, alloc: Global, rows: &str, replies: &[Reply]) {
-    for (row, reply) in rows.lines().zip(replies) {
-        same(rt, reply, entry_of(rt, alloc, row).reply(), row);
-    }
+/// Adds the event of a row.
+fn add_event(rt: &impl Abort, alloc: Global, events: &mut Vec<Event>, row: &str) {
+    let entry = entry_of(rt, alloc, row);
+    let event = entry.event().clone().expect(rt, "memory");
+    events.push(event).expect(rt, "memory");
 }
 
 #[test]
-fn events_are_answered_in_turn(rt: HostRuntime) -> Result<(), Fail> {
-    let events = events_of(&rt, rt.alloc(), A_SCRIPT)?;
-    let mut net = Net::<Manne>::new(rt.alloc(), 2)?;
-    let replies = net.apply_all(&events)?;
-    assert!(rt; replies.as_slice().len() == 4);
-    expect_replies(&rt, rt.alloc(), A_SCRIPT, replies.as_slice());
-    Ok(())
+fn events_are_answered_in_turn(rt: HostRuntime) {
+    let mut events = Vec::new(rt.alloc());
+    for row in A_SCRIPT {
+        add_event(&rt, rt.alloc(), &mut events, row);
+    }
+    let mut net = net_of::<Manne>(&rt, rt.alloc(), 2);
+    let replies = net.apply_all(&events).expect(&rt, "memory");
+    expect_replies(&rt, rt.alloc(), replies.as_slice());
+}
+
+/// Compares replies with those of the script.
+fn expect_replies(rt: &impl Abort, alloc: Global, replies: &[Reply]) {
+    assert!(rt; replies.len() == 4);
+    for place in 0..4 {
+        let row = A_SCRIPT[place];
+        same(rt, &replies[place], entry_of(rt, alloc, row).reply(), row);
+    }
 }

@@ -2,7 +2,8 @@
 
 use crate::helpers::{named, same};
 use rule_machine::{Choice, Edge, Item, Listing, Node, Refusal, RuleSet};
-use std::test::Fail;
+use std::alloc::{AllocError, Global};
+use std::process::Abort;
 
 #[test]
 fn names_fit_sixteen_bits(rt: HostRuntime) {
@@ -12,10 +13,10 @@ fn names_fit_sixteen_bits(rt: HostRuntime) {
         (65_535, Some(65_535)),
         (65_536, None),
     ] {
-        let came = Node::new(name).map(|v| v.name());
+        let came = Node::new(name).map(|v| v.place());
         same(&rt, &came, &wanted, "a name");
     }
-    assert!(rt; named(&rt, 7).place() == 7);
+    assert!(rt; named(&rt, 65_535).name() == 65_535);
     assert!(rt; named(&rt, 7) < named(&rt, 8));
 }
 
@@ -24,32 +25,42 @@ fn an_edge_has_two_ends(rt: HostRuntime) {
     let (one, two, three) = (named(&rt, 1), named(&rt, 2), named(&rt, 3));
     assert!(rt; Edge::new(two, two).is_none());
     let edge = Edge::new(three, one).expect(&rt, "an edge");
-    assert!(rt; edge.low() == one && edge.high() == three);
+    assert!(rt; edge.low() == one);
+    assert!(rt; edge.high() == three);
+}
+
+/// The choice of an item so many times, if there is one.
+fn choice_of(alloc: Global, item: Item, count: usize) -> Result<Option<Choice>, AllocError> {
+    Ok(Choice::new(vec![in alloc; item; count]?))
 }
 
 #[test]
-fn a_choice_has_at_most_65535_items(rt: HostRuntime) -> Result<(), Fail> {
+fn a_choice_has_at_most_65535_items(rt: HostRuntime) {
     let item = Item {
         node: named(&rt, 4),
         wish: None,
     };
-    let full = Choice::new(vec![in rt.alloc(); item; 65_535]?).expect(&rt, "a choice");
-    assert!(rt; full.items().len() == 65_535);
-    assert!(rt; Choice::new(vec![in rt.alloc(); item; 65_536]?).is_none());
-    Ok(())
+    let full = choice_of(rt.alloc(), item, 65_535).expect(&rt, "memory");
+    assert!(rt; full.expect(&rt, "a choice").items().len() == 65_535);
+    let none = choice_of(rt.alloc(), item, 65_536).expect(&rt, "memory");
+    assert!(rt; none.is_none());
+}
+
+/// The listing of some numbers, with this much room.
+fn listing(rt: &impl Abort, alloc: Global, room: usize, numbers: &[u8]) -> Listing<u8> {
+    let mut items = Vec::with_capacity(alloc, room).expect(rt, "memory");
+    items.extend_from_slice(numbers).expect(rt, "memory");
+    Listing::from_vec(items)
 }
 
 #[test]
-fn listings_compare_by_their_items(rt: HostRuntime) -> Result<(), Fail> {
-    let mut roomy = Vec::with_capacity(rt.alloc(), 100)?;
-    roomy.extend_from_slice(&[5u8])?;
-    let roomy = Listing::from_vec(roomy);
-    let tight = Listing::from_vec(Vec::from_slice(rt.alloc(), &[5u8])?);
-    let longer = Listing::from_vec(Vec::from_slice(rt.alloc(), &[5u8, 6])?);
-    assert!(rt; roomy == tight && roomy != longer);
+fn listings_compare_by_their_items(rt: HostRuntime) {
+    let roomy = listing(&rt, rt.alloc(), 100, &[5]);
+    let longer = listing(&rt, rt.alloc(), 2, &[5, 6]);
+    assert!(rt; roomy == listing(&rt, rt.alloc(), 1, &[5]));
+    assert!(rt; roomy != longer);
     assert!(rt; roomy.as_slice() == [5u8].as_slice());
     assert!(rt; longer.into_vec().len() == 2);
-    Ok(())
 }
 
 #[test]
@@ -68,10 +79,8 @@ fn refusals_have_numbers_and_texts(rt: HostRuntime) {
         (Refusal::NotEnabled, 11, "not-enabled"),
         (Refusal::BadTarget, 12, "bad-target"),
     ] {
-        assert!(rt;
-            refusal.number() == number && refusal.text() == text,
-            "{text}"
-        );
+        assert!(rt; refusal.number() == number);
+        assert!(rt; refusal.text() == text);
     }
 }
 

@@ -8,6 +8,7 @@
 //! each counts twice for each node.
 
 use crate::helpers::named;
+use crate::machines::net_of;
 use plain_machine::PlainNet;
 use rule_engine::{Choice, Event, Item, Net, Node, Reply, RuleSet, Rules};
 use rules_hsu_huang::HsuHuang;
@@ -22,18 +23,17 @@ struct Twins<R: Rules> {
     net: Net<R>,
     plain: PlainNet,
     rules: RuleSet,
-    nodes: u32,
+    nodes: u8,
     edges: u32,
     state: u32,
 }
 
 impl<R: Rules> Twins<R> {
     /// Two networks without an edge.
-    fn new(rt: &impl Abort, alloc: Global, rules: RuleSet, nodes: u32, edges: u32) -> Twins<R> {
-        assert!(rt; nodes <= 3);
+    fn new(rt: &impl Abort, alloc: Global, rules: RuleSet, nodes: u8, edges: u32) -> Twins<R> {
         Twins {
-            net: Net::new(alloc, nodes).expect(rt, "memory"),
-            plain: PlainNet::new(alloc, nodes).expect(rt, "memory"),
+            net: net_of(rt, alloc, u32::from(nodes)),
+            plain: PlainNet::new(alloc, u32::from(nodes)).expect(rt, "memory"),
             rules,
             nodes,
             edges,
@@ -76,7 +76,7 @@ impl<R: Rules> Twins<R> {
     /// Writes the registers. Says whether each pointer is null or at a neighbour, and all digits are of its nodes.
     fn set(&mut self, rt: &impl Abort, alloc: Global) -> bool {
         let mut rest = self.state;
-        for name in 1..=self.nodes {
+        for name in 1..=u32::from(self.nodes) {
             let v = named(rt, name);
             if !self.change(rt, alloc, &Event::Point(v, Node::new(rest % 4))) {
                 return false;
@@ -99,9 +99,9 @@ impl<R: Rules> Twins<R> {
         let _ = self.ask(rt, alloc, &Event::Matching);
     }
 
-    /// Lets the chosen nodes move; if they do, looks at what is there then and goes back to the state.
-    fn step(&mut self, rt: &impl Abort, alloc: Global, items: &[(u32, u32)]) {
-        let event = Event::Step(chosen(rt, alloc, items));
+    /// Lets the nodes of a choice move; if they do, looks at what is there then and goes back to the state.
+    fn step(&mut self, rt: &impl Abort, alloc: Global, number: u32) {
+        let event = Event::Step(choice_of(rt, alloc, self.nodes, number));
         if let Reply::Moves(_) = self.ask(rt, alloc, &event) {
             self.look(rt, alloc);
             assert!(rt; self.set(rt, alloc));
@@ -109,59 +109,49 @@ impl<R: Rules> Twins<R> {
     }
 }
 
-/// The choice of items, where wish 0 stands for none.
-fn chosen(rt: &impl Abort, alloc: Global, items: &[(u32, u32)]) -> Choice {
-    let mut list = Vec::new(alloc);
-    for (name, wish) in items {
-        let item = Item {
-            node: named(rt, *name),
-            wish: Node::new(*wish),
-        };
-        list.push(item).expect(rt, "memory");
+/// The choice of a number: its digits in base 1 + (n + 1)(n + 2), the lowest first, where 0 stands for no item, and each
+/// other counts a node 1 to n + 1, and its wish 1 to n + 1, or 0 for none.
+fn choice_of(rt: &impl Abort, alloc: Global, nodes: u8, number: u32) -> Choice {
+    let names = u32::from(nodes) + 2;
+    let digits = 1 + (names - 1) * names;
+    let mut rest = number;
+    let mut items = Vec::new(alloc);
+    for _ in 0..3 {
+        if let Some(digit) = (rest % digits).checked_sub(1) {
+            let node = named(rt, 1 + digit / names);
+            let wish = Node::new(digit % names);
+            items.push(Item { node, wish }).expect(rt, "memory");
+        }
+        rest /= digits;
     }
-    Choice::new(list).expect(rt, "a choice")
-}
-
-/// The item of a number below (n + 1)(n + 2): a node 1 to n + 1, and its wish 1 to n + 1, or 0 for none.
-fn item(nodes: u32, number: u32) -> (u32, u32) {
-    let names = nodes.saturating_add(2).max(1);
-    (1 + number / names, number % names)
+    Choice::new(items).expect(rt, "a choice")
 }
 
 /// Every choice of up to two items in the state. Answers how many.
 fn try_pairs<R: Rules>(rt: &impl Abort, alloc: Global, twins: &mut Twins<R>) -> u64 {
-    let nodes = twins.nodes;
-    let items = nodes
-        .saturating_add(1)
-        .saturating_mul(nodes.saturating_add(2));
-    let places = items.saturating_add(1);
+    let names = u32::from(twins.nodes) + 2;
+    let digits = 1 + (names - 1) * names;
     let mut tried = 0u64;
-    for number in 0..places.saturating_mul(places) {
-        let (first, second) = (number / places, number % places);
-        let pair = [
-            item(nodes, first.saturating_sub(1)),
-            item(nodes, second.saturating_sub(1)),
-        ];
-        if first > 0 || second == 0 {
-            let len = usize::from(first > 0) + usize::from(second > 0);
-            twins.step(rt, alloc, &pair[..len]);
+    for number in 0..digits.wrapping_mul(digits) {
+        if number == 0 || number % digits > 0 {
+            twins.step(rt, alloc, number);
             tried = tried.wrapping_add(1);
         }
     }
     tried
 }
 
-/// Every order of three nodes in the state. Answers how many.
+/// Every order of three nodes in the state, of which there are three. Answers how many.
 fn try_orders<R: Rules>(rt: &impl Abort, alloc: Global, twins: &mut Twins<R>) -> u64 {
     for (a, b, c) in [
-        (1, 2, 3),
-        (1, 3, 2),
-        (2, 1, 3),
-        (2, 3, 1),
-        (3, 1, 2),
-        (3, 2, 1),
+        (1, 6, 11),
+        (1, 11, 6),
+        (6, 1, 11),
+        (6, 11, 1),
+        (11, 1, 6),
+        (11, 6, 1),
     ] {
-        twins.step(rt, alloc, &[(a, 0), (b, 0), (c, 0)]);
+        twins.step(rt, alloc, a + 21 * b + 441 * c);
     }
     6
 }
@@ -184,7 +174,7 @@ fn try_network<R: Rules>(
     rt: &impl Abort,
     alloc: Global,
     rules: RuleSet,
-    nodes: u32,
+    nodes: u8,
     edges: u32,
 ) -> u64 {
     let mut twins = Twins::<R>::new(rt, alloc, rules, nodes, edges);
@@ -204,7 +194,7 @@ fn try_networks<R: Rules>(
     rt: &impl Abort,
     alloc: Global,
     rules: RuleSet,
-    nodes: u32,
+    nodes: u8,
     count: u32,
     wanted: u64,
 ) {
@@ -220,11 +210,11 @@ fn try_networks<R: Rules>(
     );
 }
 
-fn try_hsu_huang(rt: &impl Abort, alloc: Global, nodes: u32, count: u32, wanted: u64) {
+fn try_hsu_huang(rt: &impl Abort, alloc: Global, nodes: u8, count: u32, wanted: u64) {
     try_networks::<HsuHuang>(rt, alloc, RuleSet::Hh, nodes, count, wanted);
 }
 
-fn try_manne(rt: &impl Abort, alloc: Global, nodes: u32, count: u32, wanted: u64) {
+fn try_manne(rt: &impl Abort, alloc: Global, nodes: u8, count: u32, wanted: u64) {
     try_networks::<Manne>(rt, alloc, RuleSet::Manne, nodes, count, wanted);
 }
 
