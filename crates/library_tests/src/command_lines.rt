@@ -58,21 +58,6 @@ fn steps_are_read(rt: HostRuntime) {
     reads_step(&rt, rt.alloc(), "step 2>3 65535", &wished);
 }
 
-/// Whether a line of so many items is a command.
-fn is_step_of(rt: &impl Abort, alloc: Global, items: u32) -> bool {
-    let mut line = Vec::from_slice(alloc, b"step").expect(rt, "memory");
-    for _ in 0..items {
-        line.extend_from_slice(b" 1").expect(rt, "memory");
-    }
-    read_command(alloc, &line).expect(rt, "memory").is_some()
-}
-
-#[test]
-fn a_step_has_at_most_65535_items(rt: HostRuntime) {
-    assert!(rt; is_step_of(&rt, rt.alloc(), 65_535));
-    assert!(rt; !is_step_of(&rt, rt.alloc(), 65_536));
-}
-
 #[test]
 fn the_greatest_number_is_written(rt: HostRuntime) {
     let event = Event::Point(named(&rt, 2), Some(named(&rt, 3)));

@@ -66,11 +66,3 @@ fn a_move_has_the_target_of_its_rule(rt: HostRuntime) {
     }
     assert!(rt; !are_moves(&rt, rt.alloc(), &[]));
 }
-
-#[test]
-fn an_entry_gives_back_its_parts(rt: HostRuntime) {
-    let (one, two) = (named(&rt, 1), named(&rt, 2));
-    let entry = Entry::new(Event::Link(one, two), Reply::Accepted).expect(&rt, "an entry");
-    assert!(rt; *entry.event() == Event::Link(one, two));
-    assert!(rt; *entry.reply() == Reply::Accepted);
-}

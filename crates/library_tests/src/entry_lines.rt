@@ -1,7 +1,9 @@
 //! The lines of a transcript as values.
 
-use crate::helpers::{entry_of, named, tells};
+use crate::helpers::{named, tells};
+use crate::machines::{Machine, play};
 use entry_grammar::{EntryFault, entry_text, header_text, read_entry, read_header};
+use log_entry::Entry;
 use rule_machine::{Act, Choice, Event, Item, Listing, Moved, Refusal, Reply, RuleSet};
 use std::alloc::Global;
 use std::process::Abort;
@@ -34,11 +36,26 @@ fn entries_are_written_back(rt: HostRuntime) {
     }
 }
 
+/// The parts that an entry is compared with.
+#[derive(Drop)]
+struct Parts<'a> {
+    event: &'a Event,
+    reply: &'a Reply,
+}
+
+impl Machine for Parts<'_> {
+    fn answers(&mut self, _rt: &impl Abort, _alloc: Global, entry: &Entry) -> bool {
+        entry.event() == self.event && entry.reply() == self.reply
+    }
+
+    fn charge(&self) -> Option<u64> {
+        None
+    }
+}
+
 /// Compares the entry of a row with its parts.
 fn reads(rt: &impl Abort, alloc: Global, row: &str, event: &Event, reply: &Reply) {
-    let entry = entry_of(rt, alloc, row);
-    assert!(rt; entry.event() == event, "{row}");
-    assert!(rt; entry.reply() == reply, "{row}");
+    play(rt, alloc, &mut Parts { event, reply }, row);
 }
 
 #[test]
@@ -88,27 +105,6 @@ fn headers_are_written_back(rt: HostRuntime) {
     write_header_back(&rt, rt.alloc(), "matching hh 2", RuleSet::Hh, 2);
     write_header_back(&rt, rt.alloc(), "matching manne 0", RuleSet::Manne, 0);
     write_header_back(&rt, rt.alloc(), "matching hh 65535", RuleSet::Hh, 65_535);
-}
-
-#[test]
-fn other_headers_are_refused(rt: HostRuntime) {
-    for line in [
-        "",
-        "matching hh 65536",
-        "matching hh 02",
-        "matching hh 00",
-        "matching hh",
-        "matching hh ",
-        "matching hh  2",
-        "matching hh 2 ",
-        "matching hh 2\r",
-        "matching hsu 2",
-        "Matching hh 2",
-        " matching hh 2",
-        "matching",
-    ] {
-        assert!(rt; read_header(line.as_bytes()).is_err(), "{line}");
-    }
 }
 
 #[test]

@@ -1,7 +1,8 @@
 //! Worked rows under Hsu and Huang's rules.
 
+use crate::all_machines::play_all;
 use crate::helpers::named;
-use crate::machines::{net_of, play, play_both};
+use crate::machines::{net_of, play};
 use rule_engine::{Act, GraphFault, Net, RuleSet};
 use rules_hsu_huang::HsuHuang;
 
@@ -101,6 +102,7 @@ step = refused 8 empty-choice
 step 9 = refused 1 unknown-node
 show 9 = refused 1 unknown-node
 step 1 1 = refused 9 not-central
+step 1 2 = refused 9 not-central
 step 9 8 = refused 9 not-central
 step 1 = 1:seduce>2
 point 1 2 = ok
@@ -120,7 +122,7 @@ fn rows_are_answered(rt: HostRuntime) {
         (3, REFUSALS),
         (1, "step 1 2 = refused 9 not-central"),
     ] {
-        play_both::<HsuHuang>(&rt, rt.alloc(), RuleSet::Hh, nodes, rows);
+        play_all::<HsuHuang>(&rt, rt.alloc(), RuleSet::Hh, nodes, rows);
     }
 }
 

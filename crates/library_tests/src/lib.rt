@@ -2,7 +2,7 @@
 #![tactic(auto)]
 
 #[cfg(test)]
-mod auditing;
+mod all_machines;
 #[cfg(test)]
 mod command_lines;
 #[cfg(test)]
@@ -29,5 +29,7 @@ mod script_runs;
 mod small_networks;
 #[cfg(test)]
 mod stores;
+#[cfg(test)]
+mod unread_transcripts;
 #[cfg(test)]
 mod verdicts;

@@ -1,7 +1,8 @@
 //! Worked rows under the rules of Manne and others.
 
-use crate::helpers::{entry_of, same};
-use crate::machines::{net_of, play_both};
+use crate::all_machines::play_all;
+use crate::helpers::entry_of;
+use crate::machines::net_of;
 use rule_engine::{Event, Reply, RuleSet};
 use rules_manne::Manne;
 use std::alloc::Global;
@@ -69,7 +70,14 @@ enabled = 1:seduce 4:update
 step 1>2 = refused 12 bad-target
 step 1>4 = refused 12 bad-target
 step 4>1 = refused 12 bad-target
+step = refused 8 empty-choice
+step 1 9 = refused 1 unknown-node
+step 1 1>4 = refused 10 chosen-twice
+step 2 9 = refused 11 not-enabled
+step 1>4 9 = refused 12 bad-target
+enabled = 1:seduce 4:update
 step 4 1 = 1:seduce>3 4:update
+show 1 = 3
 enabled = 3:marry
 ";
 
@@ -104,14 +112,16 @@ fn rows_are_answered(rt: HostRuntime) {
         (4, THE_GREATEST_UNFLAGGED),
         (2, REFUSALS),
     ] {
-        play_both::<Manne>(&rt, rt.alloc(), RuleSet::Manne, nodes, rows);
+        play_all::<Manne>(&rt, rt.alloc(), RuleSet::Manne, nodes, rows);
     }
 }
 
 /// Adds the event of a row.
 fn add_event(rt: &impl Abort, alloc: Global, events: &mut Vec<Event>, row: &str) {
-    let entry = entry_of(rt, alloc, row);
-    let event = entry.event().clone().expect(rt, "memory");
+    let event = entry_of(rt, alloc, row)
+        .event()
+        .clone()
+        .expect(rt, "memory");
     events.push(event).expect(rt, "memory");
 }
 
@@ -131,6 +141,9 @@ fn expect_replies(rt: &impl Abort, alloc: Global, replies: &[Reply]) {
     assert!(rt; replies.len() == 4);
     for place in 0..4 {
         let row = A_SCRIPT[place];
-        same(rt, &replies[place], entry_of(rt, alloc, row).reply(), row);
+        assert!(rt;
+            replies[place] == *entry_of(rt, alloc, row).reply(),
+            "{row}"
+        );
     }
 }

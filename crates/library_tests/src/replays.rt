@@ -1,118 +1,106 @@
 //! Replies that the plain machine judges.
 
-use crate::helpers::entry_of;
-use crate::machines::Plain;
+use crate::machines::{Judge, plain_of, play};
 use rule_machine::RuleSet;
-use std::alloc::Global;
-use std::process::Abort;
 
-const A_PATH: [(&str, bool); 2] = [("link 1 2 = ok", true), ("link 2 3 = ok", true)];
+const A_PATH: &str = "\
+link 1 2 = ok
+link 2 3 = ok
+";
 
-const THE_LEAST_TARGET: [(&str, bool); 7] = [
-    ("step 2 = 2:seduce>1", true),
-    ("show 2 = 1", true),
-    ("enabled = 1:marry 3:seduce", false),
-    ("enabled = 1:marry", true),
-    ("step 1 = 1:marry>2", true),
-    ("matching = none", false),
-    ("matching = 1-2", true),
-];
+const THE_LEAST_TARGET: &str = "\
+step 2 = 2:seduce>1
+show 2 = 1
+wrong enabled = 1:marry 3:seduce
+enabled = 1:marry
+step 1 = 1:marry>2
+wrong matching = none
+matching = 1-2
+";
 
-const ANOTHER_TARGET: [(&str, bool); 4] = [
-    ("step 2 = 2:seduce>3", true),
-    ("show 2 = 1", false),
-    ("show 2 = 3", true),
-    ("enabled = 3:marry", true),
-];
+const ANOTHER_TARGET: &str = "\
+step 2 = 2:seduce>3
+wrong show 2 = 1
+show 2 = 3
+enabled = 3:marry
+";
 
-const A_WISHED_TARGET: [(&str, bool); 4] = [
-    ("step 2>1 = 2:seduce>3", false),
-    ("show 2 = -", true),
-    ("step 2>1 = 2:seduce>1", true),
-    ("show 2 = 1", true),
-];
+const A_WISHED_TARGET: &str = "\
+wrong step 2>1 = 2:seduce>3
+show 2 = -
+step 2>1 = 2:seduce>1
+show 2 = 1
+";
 
-const WRONG_MOVES: [(&str, bool); 9] = [
-    ("step 2 = 2:seduce>2", false),
-    ("step 2 = 2:marry>1", false),
-    ("step 2 = 2:abandon", false),
-    ("step 2 = 1:seduce>2", false),
-    ("step 2 = 1:seduce>2 2:seduce>1", false),
-    ("step 2 = 2:seduce>1 2:seduce>1", false),
-    ("step 2 = refused 11 not-enabled", false),
-    ("enabled = 1:seduce 2:seduce 3:seduce", true),
-    ("show 2 = -", true),
-];
+const WRONG_MOVES: &str = "\
+wrong step 2 = 2:seduce>2
+wrong step 2 = 2:marry>1
+wrong step 2 = 2:abandon
+wrong step 2 = 1:seduce>2
+wrong step 2 = 1:seduce>2 2:seduce>1
+wrong step 2 = 2:seduce>1 2:seduce>1
+wrong step 2 = refused 11 not-enabled
+enabled = 1:seduce 2:seduce 3:seduce
+show 2 = -
+";
 
-const WRONG_ANSWERS: [(&str, bool); 13] = [
-    ("step 9 = refused 11 not-enabled", false),
-    ("step 9 = refused 1 unknown-node", true),
-    ("link 1 3 = refused 3 already-linked", false),
-    ("unlink 1 3 = refused 4 not-linked", true),
-    ("unlink 1 2 = refused 4 not-linked", false),
-    ("link 1 2 = refused 3 already-linked", true),
-    ("show 1 = 2", false),
-    ("show 1 = -", true),
-    ("enabled = 1:seduce 3:seduce", false),
-    ("enabled = 1:seduce 2:marry 3:seduce", false),
-    ("enabled = 2:seduce 1:seduce 3:seduce", false),
-    ("matching = 1-2", false),
-    ("matching = none", true),
-];
+const WRONG_ANSWERS: &str = "\
+wrong step 9 = refused 11 not-enabled
+step 9 = refused 1 unknown-node
+wrong link 1 3 = refused 3 already-linked
+unlink 1 3 = refused 4 not-linked
+wrong unlink 1 2 = refused 4 not-linked
+link 1 2 = refused 3 already-linked
+wrong show 1 = 2
+show 1 = -
+wrong enabled = 1:seduce 3:seduce
+wrong enabled = 1:seduce 2:marry 3:seduce
+wrong enabled = 2:seduce 1:seduce 3:seduce
+wrong matching = 1-2
+matching = none
+";
 
-const DISTURBANCES: [(&str, bool); 4] = [
-    ("point 1 2 = ok", true),
-    ("show 1 = 2", true),
-    ("unlink 1 2 = ok", true),
-    ("show 1 = -", true),
-];
+const DISTURBANCES: &str = "\
+point 1 2 = ok
+show 1 = 2
+unlink 1 2 = ok
+show 1 = -
+";
 
-const MANY_MOVE: [(&str, bool); 13] = [
-    ("link 1 2 = ok", true),
-    ("link 1 3 = ok", true),
-    ("link 1 4 = ok", true),
-    ("flag 4 1 = ok", true),
-    ("step 4 1 = 4:update 1:seduce>3", false),
-    ("step 4 1 = 1:seduce>2 4:update", false),
-    ("step 4 1 = 1:seduce>3", false),
-    ("step 4 1 = 1:seduce>3 4:update 4:update", false),
-    ("step 4 = 1:seduce>3 4:update", false),
-    ("enabled = 1:seduce 4:update", true),
-    ("step 4 1 = 1:seduce>3 4:update", true),
-    ("show 1 = 3", true),
-    ("enabled = 3:marry", true),
-];
-
-/// Judges the reply of each row to its event, and compares whether it is right.
-fn judge(rt: &impl Abort, alloc: Global, plain: &mut Plain, rows: &[(&str, bool)]) {
-    for (row, right) in rows {
-        let entry = entry_of(rt, alloc, *row);
-        let judged = plain
-            .net
-            .replay(alloc, plain.rules, entry.event(), entry.reply())
-            .expect(rt, "memory");
-        assert!(rt; judged == *right, "{row}");
-    }
-}
+const MANY_MOVE: &str = "\
+link 1 2 = ok
+link 1 3 = ok
+link 1 4 = ok
+flag 4 1 = ok
+wrong step 4 1 = 4:update 1:seduce>3
+wrong step 4 1 = 1:seduce>2 4:update
+wrong step 4 1 = 1:seduce>3
+wrong step 4 1 = 1:seduce>3 4:update 4:update
+wrong step 4 = 1:seduce>3 4:update
+enabled = 1:seduce 4:update
+step 4 1 = 1:seduce>3 4:update
+show 1 = 3
+enabled = 3:marry
+";
 
 #[test]
 fn replies_on_a_path_are_judged(rt: HostRuntime) {
     for rows in [
-        THE_LEAST_TARGET.as_slice(),
-        ANOTHER_TARGET.as_slice(),
-        A_WISHED_TARGET.as_slice(),
-        WRONG_MOVES.as_slice(),
-        WRONG_ANSWERS.as_slice(),
-        DISTURBANCES.as_slice(),
+        THE_LEAST_TARGET,
+        ANOTHER_TARGET,
+        A_WISHED_TARGET,
+        WRONG_MOVES,
+        WRONG_ANSWERS,
+        DISTURBANCES,
     ] {
-        let mut plain = Plain::new(&rt, rt.alloc(), RuleSet::Hh, 3);
-        judge(&rt, rt.alloc(), &mut plain, &A_PATH);
-        judge(&rt, rt.alloc(), &mut plain, rows);
+        let mut judge = Judge(plain_of(&rt, rt.alloc(), RuleSet::Hh, 3));
+        play(&rt, rt.alloc(), &mut judge, A_PATH);
+        play(&rt, rt.alloc(), &mut judge, rows);
     }
 }
 
 #[test]
 fn many_move_in_the_order_of_their_nodes(rt: HostRuntime) {
-    let mut plain = Plain::new(&rt, rt.alloc(), RuleSet::Manne, 4);
-    judge(&rt, rt.alloc(), &mut plain, &MANY_MOVE);
+    let mut judge = Judge(plain_of(&rt, rt.alloc(), RuleSet::Manne, 4));
+    play(&rt, rt.alloc(), &mut judge, MANY_MOVE);
 }

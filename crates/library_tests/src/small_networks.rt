@@ -16,6 +16,14 @@ use rules_manne::Manne;
 use std::alloc::Global;
 use std::process::Abort;
 
+/// What kind of reply came.
+#[derive(Clone, Copy, PartialEq)]
+enum Kind {
+    Accepted,
+    Moves,
+    Other,
+}
+
 /// A network under a rule set, the plain one that is asked the same, and the state that both are in: for each node a
 /// digit of four for its pointer, and behind that a bit for its flag if there are flags.
 #[derive(Drop)]
@@ -41,32 +49,34 @@ impl<R: Rules> Twins<R> {
         }
     }
 
-    /// The reply of both to an event.
-    fn ask(&mut self, rt: &impl Abort, alloc: Global, event: &Event) -> Reply {
-        let reply = self.net.apply(event).expect(rt, "memory");
-        let plain = self
-            .plain
-            .answer(alloc, self.rules, event)
-            .expect(rt, "memory");
+    /// Asks both for an event, and compares their replies.
+    fn ask(&mut self, rt: &impl Abort, alloc: Global, event: Event) -> Kind {
+        let reply = self.net.apply(&event).expect(rt, "memory");
+        let plain = self.plain.answer(alloc, self.rules, &event);
+        let same = plain.expect(rt, "memory") == reply;
         let (edges, state) = (self.edges, self.state);
         assert!(rt;
-            reply == plain,
-            "{event:?}: {reply:?}, {plain:?} at {edges}, {state}"
+            same,
+            "{event:?} at the edges {edges} and the state {state}"
         );
-        reply
+        match reply {
+            Reply::Accepted => Kind::Accepted,
+            Reply::Moves(_) => Kind::Moves,
+            _ => Kind::Other,
+        }
     }
 
     /// Whether both accept a change.
-    fn change(&mut self, rt: &impl Abort, alloc: Global, event: &Event) -> bool {
-        self.ask(rt, alloc, event) == Reply::Accepted
+    fn change(&mut self, rt: &impl Abort, alloc: Global, event: Event) -> bool {
+        self.ask(rt, alloc, event) == Kind::Accepted
     }
 
     /// Links the nodes: a bit for each of the edges 1-2, 1-3 and 2-3. Says whether these are edges of its nodes.
     fn link(&mut self, rt: &impl Abort, alloc: Global) -> bool {
         let edges = self.edges;
         for (a, b, place) in [(1, 2, 1), (1, 3, 2), (2, 3, 4)] {
-            let event = Event::Link(named(rt, a), named(rt, b));
-            if edges / place % 2 == 1 && !self.change(rt, alloc, &event) {
+            let (a, b) = (named(rt, a), named(rt, b));
+            if edges / place % 2 == 1 && !self.change(rt, alloc, Event::Link(a, b)) {
                 return false;
             }
         }
@@ -78,12 +88,12 @@ impl<R: Rules> Twins<R> {
         let mut rest = self.state;
         for name in 1..=u32::from(self.nodes) {
             let v = named(rt, name);
-            if !self.change(rt, alloc, &Event::Point(v, Node::new(rest % 4))) {
+            if !self.change(rt, alloc, Event::Point(v, Node::new(rest % 4))) {
                 return false;
             }
             rest /= 4;
             if R::FLAGS {
-                assert!(rt; self.change(rt, alloc, &Event::Flag(v, rest % 2 == 1)));
+                assert!(rt; self.change(rt, alloc, Event::Flag(v, rest % 2 == 1)));
                 rest /= 2;
             }
         }
@@ -93,16 +103,16 @@ impl<R: Rules> Twins<R> {
     /// Looks at every pointer, the enabled nodes and the matching.
     fn look(&mut self, rt: &impl Abort, alloc: Global) {
         for name in 1..4 {
-            let _ = self.ask(rt, alloc, &Event::Show(named(rt, name)));
+            let _ = self.ask(rt, alloc, Event::Show(named(rt, name)));
         }
-        let _ = self.ask(rt, alloc, &Event::Enabled);
-        let _ = self.ask(rt, alloc, &Event::Matching);
+        let _ = self.ask(rt, alloc, Event::Enabled);
+        let _ = self.ask(rt, alloc, Event::Matching);
     }
 
     /// Lets the nodes of a choice move; if they do, looks at what is there then and goes back to the state.
     fn step(&mut self, rt: &impl Abort, alloc: Global, number: u32) {
-        let event = Event::Step(choice_of(rt, alloc, self.nodes, number));
-        if let Reply::Moves(_) = self.ask(rt, alloc, &event) {
+        let choice = choice_of(rt, alloc, self.nodes, number);
+        if self.ask(rt, alloc, Event::Step(choice)) == Kind::Moves {
             self.look(rt, alloc);
             assert!(rt; self.set(rt, alloc));
         }
