@@ -1,12 +1,14 @@
 //! Rows on every kind of machine.
 
+use crate::journals::journal_of;
 use crate::machines::{Judge, net_of, plain_of, play};
 use crate::verdicts::ByVerdicts;
 use rule_engine::{RuleSet, Rules};
 use std::alloc::Global;
 use std::process::Abort;
 
-/// Plays rows on a new network, on one whose steps are carried out from verdicts, and on plain ones.
+/// Plays rows on a plain network, on one that judges, on a network, on one whose steps are carried out from verdicts,
+/// and on a journal.
 pub(crate) fn play_all<R: Rules>(
     rt: &impl Abort,
     alloc: Global,
@@ -14,19 +16,13 @@ pub(crate) fn play_all<R: Rules>(
     nodes: u16,
     rows: &str,
 ) {
-    play(rt, alloc, &mut plain_of(rt, alloc, rules, nodes), rows);
-    play(
-        rt,
-        alloc,
-        &mut Judge(plain_of(rt, alloc, rules, nodes)),
-        rows,
-    );
-    play(
-        rt,
-        alloc,
-        &mut net_of::<R>(rt, alloc, u32::from(nodes)),
-        rows,
-    );
-    let net = net_of::<R>(rt, alloc, u32::from(nodes));
-    play(rt, alloc, &mut ByVerdicts(net), rows);
+    let size = u32::from(nodes);
+    let mut plain = plain_of(rt, alloc, rules, nodes);
+    play(rt, alloc, &mut plain, rows);
+    let mut judge = Judge(plain_of(rt, alloc, rules, nodes));
+    play(rt, alloc, &mut judge, rows);
+    play(rt, alloc, &mut net_of::<R>(rt, alloc, size), rows);
+    let mut by_verdicts = ByVerdicts(net_of::<R>(rt, alloc, size));
+    play(rt, alloc, &mut by_verdicts, rows);
+    play(rt, alloc, &mut journal_of::<R>(rt, alloc, size, 99), rows);
 }

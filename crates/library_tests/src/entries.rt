@@ -1,54 +1,51 @@
 //! Which replies an entry takes.
 
-use crate::helpers::{entry_of, named};
+use crate::helpers::named;
 use log_entry::Entry;
-use rule_machine::{Act, Choice, Event, Listing, Moved, Node, Reply};
+use rule_machine::{Act, Choice, Edge, Event, Listing, Moved, Node, Refusal, Reply};
 use std::alloc::Global;
 use std::process::Abort;
 
-/// Whether the event of one row and the reply of another make an entry.
-fn fits(rt: &impl Abort, alloc: Global, asked: &str, answered: &str) -> bool {
-    let event = entry_of(rt, alloc, asked)
-        .event()
-        .clone()
-        .expect(rt, "memory");
-    let reply = entry_of(rt, alloc, answered)
-        .reply()
-        .clone()
-        .expect(rt, "memory");
+/// Whether an event and a reply make an entry.
+fn fits(event: Event, reply: Reply) -> bool {
     Entry::new(event, reply).is_some()
 }
 
 #[test]
-fn a_reply_is_of_its_events_kind(rt: HostRuntime) {
-    for (asked, answered, right) in [
-        ("flag 1 1 = ok", "link 1 1 = refused 2 self-loop", true),
-        ("point 1 - = ok", "link 1 2 = ok", true),
-        ("unlink 1 1 = ok", "show 1 = -", false),
-        ("show 1 = -", "link 1 2 = ok", false),
-        ("show 1 = -", "show 2 = 1", true),
-        ("show 1 = -", "step 9 = refused 1 unknown-node", true),
-        ("enabled = none", "show 9 = refused 1 unknown-node", false),
-        ("enabled = none", "matching = none", false),
-        ("enabled = none", "enabled = 1:marry", true),
-        ("step = refused 8 empty-choice", "step 1 = 1:marry>2", true),
-        ("step 1 = 1:marry>2", "step = refused 8 empty-choice", true),
-        ("step 1 = 1:marry>2", "link 1 2 = ok", false),
-    ] {
-        let came = fits(&rt, rt.alloc(), asked, answered);
-        assert!(rt; came == right, "{asked} and {answered}");
-    }
+fn a_disturbance_is_accepted_or_refused(rt: HostRuntime) {
+    let one = named(&rt, 1);
+    assert!(rt; fits(Event::Flag(one, true), Reply::Refused(Refusal::SelfLoop)));
+    assert!(rt; fits(Event::Point(one, None), Reply::Accepted));
+    assert!(rt; !fits(Event::Unlink(one, one), Reply::Shown(None)));
+    assert!(rt; !fits(Event::Show(one), Reply::Accepted));
+}
+
+#[test]
+fn a_question_has_its_own_answer(rt: HostRuntime) {
+    let one = named(&rt, 1);
+    let none = Listing::<Edge>::from_vec(Vec::new(rt.alloc()));
+    let nodes = Listing::<(Node, Act)>::from_vec(Vec::new(rt.alloc()));
+    assert!(rt; fits(Event::Show(one), Reply::Shown(Some(one))));
+    assert!(rt; fits(Event::Show(one), Reply::Refused(Refusal::UnknownNode)));
+    assert!(rt; !fits(Event::Enabled, Reply::Refused(Refusal::UnknownNode)));
+    assert!(rt; !fits(Event::Enabled, Reply::Pairs(none)));
+    assert!(rt; fits(Event::Enabled, Reply::EnabledAre(nodes)));
+}
+
+/// Whether a reply answers a step.
+fn answers_step(rt: &impl Abort, alloc: Global, reply: Reply) -> bool {
+    let choice = Choice::new(Vec::new(alloc)).expect(rt, "a choice");
+    fits(Event::Step(choice), reply)
 }
 
 /// Whether these moves answer a step.
 fn are_moves(rt: &impl Abort, alloc: Global, moves: &[Moved]) -> bool {
     let moves = Vec::from_slice(alloc, moves).expect(rt, "memory");
-    let choice = Choice::new(Vec::new(alloc)).expect(rt, "a choice");
-    Entry::new(Event::Step(choice), Reply::Moves(Listing::from_vec(moves))).is_some()
+    answers_step(rt, alloc, Reply::Moves(Listing::from_vec(moves)))
 }
 
 #[test]
-fn a_move_has_the_target_of_its_rule(rt: HostRuntime) {
+fn a_step_has_moves_with_their_targets(rt: HostRuntime) {
     let node = named(&rt, 1);
     for (act, target, right) in [
         (Act::Update, 0, true),
@@ -65,4 +62,6 @@ fn a_move_has_the_target_of_its_rule(rt: HostRuntime) {
         assert!(rt; came == right, "{act:?} {target:?}");
     }
     assert!(rt; !are_moves(&rt, rt.alloc(), &[]));
+    assert!(rt; answers_step(&rt, rt.alloc(), Reply::Refused(Refusal::EmptyChoice)));
+    assert!(rt; !answers_step(&rt, rt.alloc(), Reply::Accepted));
 }

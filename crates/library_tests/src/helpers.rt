@@ -6,7 +6,7 @@ use entry_grammar::read_entry;
 use log_entry::Entry;
 use rule_machine::Node;
 use std::alloc::Global;
-use std::fmt::{Debug, Display};
+use std::fmt::Display;
 use std::process::Abort;
 
 /// The node of a name.
@@ -14,14 +14,6 @@ pub(crate) fn named(rt: &impl Abort, name: u32) -> Node
     ensures { result ≡ name }
 {
     Node::new(name).expect(rt, "a name")
-}
-
-/// Compares what came with what was wanted.
-pub(crate) fn same<T: PartialEq + Debug>(rt: &impl Abort, came: &T, wanted: &T, place: &str) {
-    assert!(rt;
-        came == wanted,
-        "{place}: {came:?} came, {wanted:?} was wanted"
-    );
 }
 
 /// Compares the text of a fault with what was wanted.

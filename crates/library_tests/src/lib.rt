@@ -14,6 +14,8 @@ mod helpers;
 #[cfg(test)]
 mod hsu_huang_rows;
 #[cfg(test)]
+mod journals;
+#[cfg(test)]
 mod machines;
 #[cfg(test)]
 mod manne_rows;

@@ -1,8 +1,8 @@
 //! Worked rows under the rules of Manne and others.
 
 use crate::all_machines::play_all;
-use crate::helpers::entry_of;
-use crate::machines::net_of;
+use crate::machines::{Machine, net_of, play};
+use log_entry::Entry;
 use rule_engine::{Event, Reply, RuleSet};
 use rules_manne::Manne;
 use std::alloc::Global;
@@ -96,12 +96,12 @@ show 3 = refused 1 unknown-node
 enabled = 1:seduce
 ";
 
-const A_SCRIPT: [&str; 4] = [
-    "link 1 2 = ok",
-    "step 2 = refused 11 not-enabled",
-    "step 1 = 1:seduce>2",
-    "show 1 = 2",
-];
+const A_SCRIPT: &str = "\
+link 1 2 = ok
+step 2 = refused 11 not-enabled
+step 1 = 1:seduce>2
+show 1 = 2
+";
 
 #[test]
 fn rows_are_answered(rt: HostRuntime) {
@@ -116,34 +116,51 @@ fn rows_are_answered(rt: HostRuntime) {
     }
 }
 
-/// Adds the event of a row.
-fn add_event(rt: &impl Abort, alloc: Global, events: &mut Vec<Event>, row: &str) {
-    let event = entry_of(rt, alloc, row)
-        .event()
-        .clone()
-        .expect(rt, "memory");
-    events.push(event).expect(rt, "memory");
+/// Events that are collected.
+#[derive(Drop)]
+struct Events(Vec<Event>);
+
+impl Machine for Events {
+    fn answers(&mut self, rt: &impl Abort, _alloc: Global, entry: &Entry) -> bool {
+        let event = entry.event().clone().expect(rt, "memory");
+        self.0.push(event).expect(rt, "memory");
+        true
+    }
+
+    fn charge(&self) -> Option<u64> {
+        None
+    }
+}
+
+/// Replies that are given, and how many of them were.
+#[derive(Drop)]
+struct Replies<'a> {
+    replies: &'a [Reply],
+    given: usize,
+}
+
+impl Machine for Replies<'_> {
+    fn answers(&mut self, _rt: &impl Abort, _alloc: Global, entry: &Entry) -> bool {
+        let place = self.given;
+        self.given = place.wrapping_add(1);
+        self.replies.get(place) == Some(entry.reply())
+    }
+
+    fn charge(&self) -> Option<u64> {
+        None
+    }
 }
 
 #[test]
 fn events_are_answered_in_turn(rt: HostRuntime) {
-    let mut events = Vec::new(rt.alloc());
-    for row in A_SCRIPT {
-        add_event(&rt, rt.alloc(), &mut events, row);
-    }
+    let mut events = Events(Vec::new(rt.alloc()));
+    play(&rt, rt.alloc(), &mut events, A_SCRIPT);
     let mut net = net_of::<Manne>(&rt, rt.alloc(), 2);
-    let replies = net.apply_all(&events).expect(&rt, "memory");
-    expect_replies(&rt, rt.alloc(), replies.as_slice());
-}
-
-/// Compares replies with those of the script.
-fn expect_replies(rt: &impl Abort, alloc: Global, replies: &[Reply]) {
-    assert!(rt; replies.len() == 4);
-    for place in 0..4 {
-        let row = A_SCRIPT[place];
-        assert!(rt;
-            replies[place] == *entry_of(rt, alloc, row).reply(),
-            "{row}"
-        );
-    }
+    let replies = net.apply_all(&events.0).expect(&rt, "memory");
+    assert!(rt; replies.as_slice().len() == 4);
+    let mut given = Replies {
+        replies: replies.as_slice(),
+        given: 0,
+    };
+    play(&rt, rt.alloc(), &mut given, A_SCRIPT);
 }

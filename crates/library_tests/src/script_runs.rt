@@ -1,6 +1,6 @@
 //! Runs with a limit on the log, and with readers and writers that fail.
 
-use crate::helpers::{same, tells};
+use crate::helpers::tells;
 use script_run::{Options, RuleSet, RunFault, run};
 use std::alloc::Global;
 use std::io::{self, Error, ErrorKind, Read, Write};
@@ -36,7 +36,7 @@ fn ends(
     let mut rest = script.as_bytes();
     let mut written = Vec::new(alloc);
     let end = run(alloc, &mut rest, &mut written, &options);
-    same(rt, &end, &wanted.1, script);
+    assert!(rt; end == wanted.1, "{script}");
     assert!(rt; written.as_slice() == wanted.0.as_bytes(), "{script}");
 }
 
@@ -148,7 +148,7 @@ fn faults_of_a_writer_end_a_run(rt: HostRuntime) {
     for left in 0..28 {
         for fails in [false, true] {
             let end = end_at(&rt, rt.alloc(), Full { left, fails });
-            same(&rt, &end, &Err(RunFault::Write), "a writer that fails");
+            assert!(rt; end == Err(RunFault::Write));
         }
     }
     let end = end_at(
@@ -159,5 +159,5 @@ fn faults_of_a_writer_end_a_run(rt: HostRuntime) {
             fails: true,
         },
     );
-    same(&rt, &end, &Ok(()), "a writer with room");
+    assert!(rt; end == Ok(()));
 }
