@@ -158,6 +158,3 @@ impl EdgeStore {
         Ok(())
     }
 }
-
-#[cfg(test)]
-mod tests;

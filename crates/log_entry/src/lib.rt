@@ -5,6 +5,3 @@ mod entry;
 mod kinds;
 
 pub use entry::Entry;
-
-#[cfg(test)]
-mod tests;

@@ -89,27 +89,3 @@ impl Registers {
         self.flags[v.place()] = value;
     }
 }
-
-#[cfg(test)]
-mod tests {
-    use super::*;
-    use std::test::Fail;
-
-    #[test]
-    fn reads_what_was_written(rt: HostRuntime) -> Result<(), Fail> {
-        let one = Node::new(1).expect(&rt, "a name");
-        let two = Node::new(2).expect(&rt, "a name");
-        let mut registers = Registers::new(rt.alloc(), 2)?;
-        assert_eq!(rt; registers.pointer(one), None);
-        assert!(rt; !registers.flag(one));
-        registers.set_pointer(one, Some(two));
-        assert_eq!(rt; registers.pointer(one), Some(two));
-        assert!(rt; registers.points_at(one, two) && !registers.points_at(two, one));
-        assert!(rt; !registers.married(one));
-        registers.set_pointer(two, Some(one));
-        assert!(rt; registers.married(one) && registers.married(two));
-        registers.set_flag(one, true);
-        assert!(rt; registers.flag(one) && !registers.flag(two));
-        Ok(())
-    }
-}

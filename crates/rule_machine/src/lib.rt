@@ -12,8 +12,6 @@ mod node;
 mod refusal;
 mod reply;
 mod rules;
-#[cfg(test)]
-mod tests;
 mod verdict;
 
 pub use act::Act;

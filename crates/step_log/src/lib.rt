@@ -10,6 +10,3 @@ pub use fault::RecordFault;
 pub use journal::{Journal, MAX_ENTRIES};
 pub use log_entry::Entry;
 pub use receipt::Receipt;
-
-#[cfg(test)]
-mod tests;

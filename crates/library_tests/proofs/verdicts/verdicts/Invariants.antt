@@ -1,6 +1,6 @@
 use Rattle.std.proofs.Common.{◌≡◌, ◌++◌, drop}
 use Rattle.rule_engine.specs.Choosing.{verdicts_from, verdicts_of}
-use Rattle.engine_tests.proofs.rows.verdicts.Given as goal
+use Rattle.library_tests.proofs.verdicts.verdicts.Given as goal
 
 abbrev pub invariant-loop-place : goal.invariant-loop-place
 invariant-loop-place g l =

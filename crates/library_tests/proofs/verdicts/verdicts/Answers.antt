@@ -1,6 +1,6 @@
 use Rattle.std.proofs.Common.{◌<◌, length, arith}
-use Rattle.engine_tests.proofs.Verdicts.{one_more}
-use Rattle.engine_tests.proofs.rows.verdicts.Goals as goal
+use Rattle.library_tests.proofs.NextVerdict.{one_more}
+use Rattle.library_tests.proofs.verdicts.verdicts.Goals as goal
 
 pub loop-place-preserved : goal.loop-place-preserved
 loop-place-preserved g c =

@@ -1,0 +1,119 @@
+//! The lines of a transcript as values.
+
+use crate::helpers::{named, tells};
+use crate::machines::{Machine, play};
+use entry_grammar::{EntryFault, entry_text, header_text, read_entry, read_header};
+use log_entry::Entry;
+use rule_machine::{Act, Choice, Event, Item, Listing, Moved, Refusal, Reply, RuleSet};
+use std::alloc::Global;
+use std::process::Abort;
+
+/// Reads a line, and writes it back.
+fn write_back(rt: &impl Abort, alloc: Global, line: &str, number: u32) {
+    let (came, entry) = read_entry(alloc, line.as_bytes()).expect(rt, "an entry");
+    assert!(rt; came == number, "{line}");
+    let text = entry_text(alloc, came, &entry).expect(rt, "memory");
+    assert!(rt; text.as_slice() == line.as_bytes(), "{line}");
+}
+
+#[test]
+fn entries_are_written_back(rt: HostRuntime) {
+    for (line, number) in [
+        ("1 link 1 2 = ok", 1),
+        ("2 matching = 1-2 3-4", 2),
+        ("3 enabled = none", 3),
+        ("4 step 1 2>3 = 1:seduce>3 2:abandon", 4),
+        ("5 show 1 = -", 5),
+        ("6 flag 1 0 = refused 7 no-flag", 6),
+        ("16777216 unlink 1 2 = ok", 16_777_216),
+        ("8 enabled = 1:update 2:marry 3:seduce 4:abandon", 8),
+        ("9 matching = none", 9),
+        ("10 step = refused 8 empty-choice", 10),
+        ("11 show 65535 = 65534", 11),
+        ("12 point 1 - = refused 1 unknown-node", 12),
+    ] {
+        write_back(&rt, rt.alloc(), line, number);
+    }
+}
+
+/// The parts that an entry is compared with.
+#[derive(Drop)]
+struct Parts<'a> {
+    event: &'a Event,
+    reply: &'a Reply,
+}
+
+impl Machine for Parts<'_> {
+    fn answers(&mut self, _rt: &impl Abort, _alloc: Global, entry: &Entry) -> bool {
+        entry.event() == self.event && entry.reply() == self.reply
+    }
+
+    fn charge(&self) -> Option<u64> {
+        None
+    }
+}
+
+/// Compares the entry of a row with its parts.
+fn reads(rt: &impl Abort, alloc: Global, row: &str, event: &Event, reply: &Reply) {
+    play(rt, alloc, &mut Parts { event, reply }, row);
+}
+
+#[test]
+fn plain_entries_are_read(rt: HostRuntime) {
+    let link = Event::Link(named(&rt, 1), named(&rt, 1));
+    let refused = Reply::Refused(Refusal::SelfLoop);
+    reads(
+        &rt,
+        rt.alloc(),
+        "link 1 1 = refused 2 self-loop",
+        &link,
+        &refused,
+    );
+    let quiet = Reply::EnabledAre(Listing::from_vec(Vec::new(rt.alloc())));
+    reads(&rt, rt.alloc(), "enabled = none", &Event::Enabled, &quiet);
+}
+
+#[test]
+fn a_step_is_read(rt: HostRuntime) {
+    let node = named(&rt, 2);
+    let item = Item { node, wish: None };
+    let items = Vec::from_slice(rt.alloc(), &[item]).expect(&rt, "memory");
+    let step = Event::Step(Choice::new(items).expect(&rt, "a choice"));
+    let made = Moved {
+        node,
+        act: Act::Marry,
+        target: Some(named(&rt, 3)),
+    };
+    let moves = Vec::from_slice(rt.alloc(), &[made]).expect(&rt, "memory");
+    let reply = Reply::Moves(Listing::from_vec(moves));
+    reads(&rt, rt.alloc(), "step 2 = 2:marry>3", &step, &reply);
+}
+
+/// Reads a header, and writes it back.
+fn write_header_back(rt: &impl Abort, alloc: Global, line: &str, rules: RuleSet, nodes: u16) {
+    let nodes = u32::from(nodes);
+    assert!(rt;
+        read_header(line.as_bytes()) == Ok((rules, nodes)),
+        "{line}"
+    );
+    let text = header_text(alloc, rules, nodes).expect(rt, "memory");
+    assert!(rt; text.as_slice() == line.as_bytes(), "{line}");
+}
+
+#[test]
+fn headers_are_written_back(rt: HostRuntime) {
+    write_header_back(&rt, rt.alloc(), "matching hh 2", RuleSet::Hh, 2);
+    write_header_back(&rt, rt.alloc(), "matching manne 0", RuleSet::Manne, 0);
+    write_header_back(&rt, rt.alloc(), "matching hh 65535", RuleSet::Hh, 65_535);
+}
+
+#[test]
+fn faults_are_told(rt: HostRuntime) {
+    tells(
+        &rt,
+        rt.alloc(),
+        &EntryFault::NotALine,
+        "not a transcript line",
+    );
+    tells(&rt, rt.alloc(), &EntryFault::Memory, "out of memory");
+}

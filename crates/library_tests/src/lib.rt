@@ -1,0 +1,39 @@
+//! Tests of the libraries: calls that the program does not make, or not with these values.
+#![tactic(auto)]
+
+#[cfg(test)]
+mod all_machines;
+#[cfg(test)]
+mod command_lines;
+#[cfg(test)]
+mod entries;
+#[cfg(test)]
+mod entry_lines;
+#[cfg(test)]
+mod helpers;
+#[cfg(test)]
+mod hsu_huang_rows;
+#[cfg(test)]
+mod journals;
+#[cfg(test)]
+mod machines;
+#[cfg(test)]
+mod manne_rows;
+#[cfg(test)]
+mod plain_answers;
+#[cfg(test)]
+mod plain_types;
+#[cfg(test)]
+mod replays;
+#[cfg(test)]
+mod script_runs;
+#[cfg(test)]
+mod small_networks;
+#[cfg(test)]
+mod stores;
+#[cfg(test)]
+mod told;
+#[cfg(test)]
+mod unread_transcripts;
+#[cfg(test)]
+mod verdicts;

@@ -1,0 +1,129 @@
+//! What answers events, and rows of events with their replies.
+
+use crate::helpers::entry_of;
+use log_entry::Entry;
+use plain_machine::PlainNet;
+use rule_engine::{Act, Net, Node, Reply, RuleSet, Rules};
+use std::alloc::Global;
+use std::process::Abort;
+
+/// What answers events.
+pub(crate) trait Machine {
+    /// Asks for the event of an entry. Says whether the reply is that of the entry.
+    fn answers(&mut self, rt: &impl Abort, alloc: Global, entry: &Entry) -> bool;
+
+    /// The charge, if it is counted.
+    fn charge(&self) -> Option<u64>;
+}
+
+/// The network of the nodes 1 to `nodes` without an edge.
+pub(crate) fn net_of<R: Rules>(rt: &impl Abort, alloc: Global, nodes: u32) -> Net<R> {
+    Net::new(alloc, nodes).expect(rt, "a network")
+}
+
+/// Compares the enabled nodes and their rules with these.
+fn expect_enabled<R: Rules>(rt: &impl Abort, net: &Net<R>, nodes: &[(Node, Act)]) {
+    assert!(rt; net.is_quiet() == nodes.is_empty());
+    assert!(rt; net.enabled().len() == nodes.len());
+    for (v, act) in nodes {
+        assert!(rt; net.enabled().contains(v));
+        assert!(rt; net.guard(*v) == Some(*act));
+    }
+}
+
+impl<R: Rules> Machine for Net<R> {
+    fn answers(&mut self, rt: &impl Abort, _alloc: Global, entry: &Entry) -> bool {
+        if let Reply::EnabledAre(nodes) = entry.reply() {
+            expect_enabled(rt, self, nodes.as_slice());
+        }
+        self.apply(entry.event()).expect(rt, "memory") == *entry.reply()
+    }
+
+    fn charge(&self) -> Option<u64> {
+        None
+    }
+}
+
+/// A plain network with its rules, which answers events.
+#[derive(Drop)]
+pub(crate) struct Plain {
+    pub(crate) net: PlainNet,
+    pub(crate) rules: RuleSet,
+}
+
+/// The plain network of the nodes 1 to `nodes` without an edge.
+pub(crate) fn plain_of(rt: &impl Abort, alloc: Global, rules: RuleSet, nodes: u16) -> Plain {
+    let net = PlainNet::new(alloc, u32::from(nodes)).expect(rt, "memory");
+    Plain { net, rules }
+}
+
+impl Machine for Plain {
+    fn answers(&mut self, rt: &impl Abort, alloc: Global, entry: &Entry) -> bool {
+        if let Reply::EnabledAre(nodes) = entry.reply() {
+            for (v, act) in nodes.as_slice() {
+                assert!(rt; self.net.rule_at(self.rules, *v) == Some(*act));
+            }
+        }
+        let reply = self.net.answer(alloc, self.rules, entry.event());
+        reply.expect(rt, "memory") == *entry.reply()
+    }
+
+    fn charge(&self) -> Option<u64> {
+        Some(self.net.charge(self.rules))
+    }
+}
+
+/// A plain network that judges replies.
+#[derive(Drop)]
+pub(crate) struct Judge(pub(crate) Plain);
+
+impl Machine for Judge {
+    fn answers(&mut self, rt: &impl Abort, alloc: Global, entry: &Entry) -> bool {
+        self.0
+            .net
+            .replay(alloc, self.0.rules, entry.event(), entry.reply())
+            .expect(rt, "memory")
+    }
+
+    fn charge(&self) -> Option<u64> {
+        self.0.charge()
+    }
+}
+
+/// Compares the charge with that of a row.
+fn expect_charge<M: Machine>(rt: &impl Abort, machine: &M, word: &str) {
+    if let Some(charge) = machine.charge() {
+        let wanted = word.parse::<u64>().expect(rt, "a charge");
+        assert!(rt; charge == wanted, "the charge is {charge}, not {wanted}");
+    }
+}
+
+/// Compares whether an event has the reply of its row with what was wanted.
+pub(crate) fn expect_reply<M: Machine>(
+    rt: &impl Abort,
+    alloc: Global,
+    machine: &mut M,
+    row: &str,
+    wanted: bool,
+) {
+    let came = machine.answers(rt, alloc, &entry_of(rt, alloc, row));
+    assert!(rt; came == wanted, "{row}");
+}
+
+/// Plays a row: an event and its reply, a reply that is wrong, or the charge after the rows before.
+fn play_row<M: Machine>(rt: &impl Abort, alloc: Global, machine: &mut M, row: &str) {
+    if let Some(word) = row.strip_prefix("charge ") {
+        expect_charge(rt, machine, word);
+    } else if let Some(row) = row.strip_prefix("wrong ") {
+        expect_reply(rt, alloc, machine, row, false);
+    } else {
+        expect_reply(rt, alloc, machine, row, true);
+    }
+}
+
+/// Plays rows.
+pub(crate) fn play<M: Machine>(rt: &impl Abort, alloc: Global, machine: &mut M, rows: &str) {
+    for row in rows.lines() {
+        play_row(rt, alloc, machine, row);
+    }
+}

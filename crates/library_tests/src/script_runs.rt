@@ -1,0 +1,163 @@
+//! Runs with a limit on the log, and with readers and writers that fail.
+
+use crate::helpers::tells;
+use script_run::{Options, RuleSet, RunFault, run};
+use std::alloc::Global;
+use std::io::{self, Error, ErrorKind, Read, Write};
+use std::process::Abort;
+
+#[test]
+fn options_are_kept(rt: HostRuntime) {
+    let most = Options::new(RuleSet::Manne, 65_535).expect(&rt, "options");
+    assert!(rt; most.rules() == RuleSet::Manne);
+    assert!(rt; most.nodes() == 65_535);
+    for (limit, wanted) in [(7, 7), (16_777_216, 16_777_216), (16_777_217, 16_777_216)] {
+        assert!(rt; most.with_limit(limit).limit() == wanted);
+    }
+    assert!(rt; most.limit() == 16_777_216);
+    assert!(rt; Options::new(RuleSet::Hh, 65_536).is_none());
+}
+
+/// Options of a run under Hsu and Huang's rules.
+fn options(rt: &impl Abort, nodes: u32, limit: u32) -> Options {
+    Options::new(RuleSet::Hh, nodes)
+        .expect(rt, "options")
+        .with_limit(limit)
+}
+
+/// Runs a script, and compares its transcript and its end.
+fn ends(
+    rt: &impl Abort,
+    alloc: Global,
+    options: Options,
+    script: &str,
+    wanted: (&str, Result<(), RunFault>),
+) {
+    let mut rest = script.as_bytes();
+    let mut written = Vec::new(alloc);
+    let end = run(alloc, &mut rest, &mut written, &options);
+    assert!(rt; end == wanted.1, "{script}");
+    assert!(rt; written.as_slice() == wanted.0.as_bytes(), "{script}");
+}
+
+#[test]
+fn a_bad_line_ends_a_run(rt: HostRuntime) {
+    let first = "matching hh 2\n1 link 1 2 = ok\n";
+    for (script, line) in [("link 1 2\nlnk 1 2\n", 2), ("link 1 2\n\n\nlnk", 4)] {
+        let wanted = (first, Err(RunFault::BadLine { line }));
+        ends(&rt, rt.alloc(), options(&rt, 2, 9), script, wanted);
+    }
+}
+
+#[test]
+fn a_full_log_ends_a_run(rt: HostRuntime) {
+    let two = "matching hh 1\n1 show 1 = -\n2 show 1 = -\n";
+    for (script, end) in [
+        ("show 1\nshow 1\nshow 1\n", Err(RunFault::LogFull)),
+        ("show 1\nshow 1\nshow 1\nx", Err(RunFault::LogFull)),
+        (
+            "show 1\nshow 1\nx\nshow 1\n",
+            Err(RunFault::BadLine { line: 3 }),
+        ),
+        ("show 1\nshow 1\n\n", Ok(())),
+    ] {
+        ends(&rt, rt.alloc(), options(&rt, 1, 2), script, (two, end));
+    }
+}
+
+#[test]
+fn faults_are_named(rt: HostRuntime) {
+    for (fault, text) in [
+        (RunFault::BadLine { line: 3 }, "line 3: not a command"),
+        (RunFault::LogFull, "log full"),
+        (RunFault::Read, "read failed"),
+        (RunFault::Write, "write failed"),
+        (RunFault::Memory, "out of memory"),
+    ] {
+        tells(&rt, rt.alloc(), &fault, text);
+    }
+}
+
+/// A reader that gives a byte at a time, and fails once as many as `left` were given.
+#[derive(Drop)]
+struct Failing {
+    left: usize,
+}
+
+impl Read for Failing {
+    fn read(&mut self, buf: &mut [u8]) -> io::Result<usize> {
+        if self.left == 0 || buf.is_empty() {
+            return Err(Error::from(ErrorKind::Interrupted));
+        }
+        self.left -= 1;
+        buf[0] = b'\n';
+        Ok(1)
+    }
+}
+
+#[test]
+fn faults_of_a_reader_end_a_run(rt: HostRuntime) {
+    for left in 0..5 {
+        let mut written = Vec::new(rt.alloc());
+        let mut reader = Failing { left };
+        let end = run(rt.alloc(), &mut reader, &mut written, &options(&rt, 1, 9));
+        assert!(rt; end == Err(RunFault::Read));
+        assert!(rt; written.is_empty());
+    }
+}
+
+/// A writer that takes a byte at a time, and then as many as `left` none, or fails.
+#[derive(Drop)]
+struct Full {
+    left: usize,
+    fails: bool,
+}
+
+impl Write for Full {
+    fn write(&mut self, buf: &[u8]) -> io::Result<usize> {
+        if buf.is_empty() {
+            return Ok(0);
+        }
+        if self.left == 0 && self.fails {
+            return Err(Error::from(ErrorKind::Interrupted));
+        }
+        if self.left == 0 {
+            return Ok(0);
+        }
+        self.left -= 1;
+        Ok(1)
+    }
+
+    fn flush(&mut self) -> io::Result<()> {
+        if self.left == 0 {
+            return Err(Error::from(ErrorKind::Other));
+        }
+        Ok(())
+    }
+}
+
+/// How a run of one question ends at this writer.
+fn end_at(rt: &impl Abort, alloc: Global, mut writer: Full) -> Result<(), RunFault> {
+    let mut script = b"show 1\n".as_slice();
+    run(alloc, &mut script, &mut writer, &options(rt, 1, 9))
+}
+
+#[test]
+fn faults_of_a_writer_end_a_run(rt: HostRuntime) {
+    // The header has 14 bytes and the entry 13; then a flush fails.
+    for left in 0..28 {
+        for fails in [false, true] {
+            let end = end_at(&rt, rt.alloc(), Full { left, fails });
+            assert!(rt; end == Err(RunFault::Write));
+        }
+    }
+    let end = end_at(
+        &rt,
+        rt.alloc(),
+        Full {
+            left: 28,
+            fails: true,
+        },
+    );
+    assert!(rt; end == Ok(()));
+}

@@ -1,0 +1,269 @@
+//! Every network of up to three nodes, in every state and under every small choice, against the plain machine.
+//!
+//! The choices at n nodes have items of n + 1 names, the last of an absent node, each with no wish or one of these
+//! names: (n + 1)(n + 2) items i, so 1 + i + i·i choices of up to two, and 6 more of three at three nodes. There are
+//! 2 items and 7 choices at no node, 6 and 43 at one, 12 and 157 at two, and 20 and 421 + 6 = 427 at three.
+//! The pointers of a node are null or one of its neighbours: with no flags 1 state at no node, 1 at one, 1 + 4 at two,
+//! and at three 1 with no edge, 4 with one (3 networks), 12 with two (3 networks) and 27 with three: 76. With flags
+//! each counts twice for each node.
+
+use crate::helpers::named;
+use crate::machines::net_of;
+use plain_machine::PlainNet;
+use rule_engine::{Choice, Event, Item, Net, Node, Reply, RuleSet, Rules};
+use rules_hsu_huang::HsuHuang;
+use rules_manne::Manne;
+use std::alloc::Global;
+use std::process::Abort;
+
+/// What kind of reply came.
+#[derive(Clone, Copy, PartialEq)]
+enum Kind {
+    Accepted,
+    Moves,
+    Other,
+}
+
+/// A network under a rule set, the plain one that is asked the same, and the state that both are in: for each node a
+/// digit of four for its pointer, and behind that a bit for its flag if there are flags.
+#[derive(Drop)]
+struct Twins<R: Rules> {
+    net: Net<R>,
+    plain: PlainNet,
+    rules: RuleSet,
+    nodes: u8,
+    edges: u32,
+    state: u32,
+}
+
+impl<R: Rules> Twins<R> {
+    /// Two networks without an edge.
+    fn new(rt: &impl Abort, alloc: Global, rules: RuleSet, nodes: u8, edges: u32) -> Twins<R> {
+        Twins {
+            net: net_of(rt, alloc, u32::from(nodes)),
+            plain: PlainNet::new(alloc, u32::from(nodes)).expect(rt, "memory"),
+            rules,
+            nodes,
+            edges,
+            state: 0,
+        }
+    }
+
+    /// Asks both for an event, and compares their replies.
+    fn ask(&mut self, rt: &impl Abort, alloc: Global, event: Event) -> Kind {
+        let reply = self.net.apply(&event).expect(rt, "memory");
+        let plain = self.plain.answer(alloc, self.rules, &event);
+        let same = plain.expect(rt, "memory") == reply;
+        let (edges, state) = (self.edges, self.state);
+        assert!(rt;
+            same,
+            "{event:?} at the edges {edges} and the state {state}"
+        );
+        match reply {
+            Reply::Accepted => Kind::Accepted,
+            Reply::Moves(_) => Kind::Moves,
+            _ => Kind::Other,
+        }
+    }
+
+    /// Whether both accept a change.
+    fn change(&mut self, rt: &impl Abort, alloc: Global, event: Event) -> bool {
+        self.ask(rt, alloc, event) == Kind::Accepted
+    }
+
+    /// Links the nodes: a bit for each of the edges 1-2, 1-3 and 2-3. Says whether these are edges of its nodes.
+    fn link(&mut self, rt: &impl Abort, alloc: Global) -> bool {
+        let edges = self.edges;
+        for (a, b, place) in [(1, 2, 1), (1, 3, 2), (2, 3, 4)] {
+            let (a, b) = (named(rt, a), named(rt, b));
+            if edges / place % 2 == 1 && !self.change(rt, alloc, Event::Link(a, b)) {
+                return false;
+            }
+        }
+        true
+    }
+
+    /// Writes the registers. Says whether each pointer is null or at a neighbour, and all digits are of its nodes.
+    fn set(&mut self, rt: &impl Abort, alloc: Global) -> bool {
+        let mut rest = self.state;
+        for name in 1..=u32::from(self.nodes) {
+            let v = named(rt, name);
+            if !self.change(rt, alloc, Event::Point(v, Node::new(rest % 4))) {
+                return false;
+            }
+            rest /= 4;
+            if R::FLAGS {
+                assert!(rt; self.change(rt, alloc, Event::Flag(v, rest % 2 == 1)));
+                rest /= 2;
+            }
+        }
+        rest == 0
+    }
+
+    /// Looks at every pointer, the enabled nodes and the matching.
+    fn look(&mut self, rt: &impl Abort, alloc: Global) {
+        for name in 1..4 {
+            let _ = self.ask(rt, alloc, Event::Show(named(rt, name)));
+        }
+        let _ = self.ask(rt, alloc, Event::Enabled);
+        let _ = self.ask(rt, alloc, Event::Matching);
+    }
+
+    /// Lets the nodes of a choice move; if they do, looks at what is there then and goes back to the state.
+    fn step(&mut self, rt: &impl Abort, alloc: Global, number: u32) {
+        let choice = choice_of(rt, alloc, self.nodes, number);
+        if self.ask(rt, alloc, Event::Step(choice)) == Kind::Moves {
+            self.look(rt, alloc);
+            assert!(rt; self.set(rt, alloc));
+        }
+    }
+}
+
+/// The choice of a number: its digits in base 1 + (n + 1)(n + 2), the lowest first, where 0 stands for no item, and each
+/// other counts a node 1 to n + 1, and its wish 1 to n + 1, or 0 for none.
+fn choice_of(rt: &impl Abort, alloc: Global, nodes: u8, number: u32) -> Choice {
+    let names = u32::from(nodes) + 2;
+    let digits = 1 + (names - 1) * names;
+    let mut rest = number;
+    let mut items = Vec::new(alloc);
+    for _ in 0..3 {
+        if let Some(digit) = (rest % digits).checked_sub(1) {
+            let node = named(rt, 1 + digit / names);
+            let wish = Node::new(digit % names);
+            items.push(Item { node, wish }).expect(rt, "memory");
+        }
+        rest /= digits;
+    }
+    Choice::new(items).expect(rt, "a choice")
+}
+
+/// Every choice of up to two items in the state. Answers how many.
+fn try_pairs<R: Rules>(rt: &impl Abort, alloc: Global, twins: &mut Twins<R>) -> u64 {
+    let names = u32::from(twins.nodes) + 2;
+    let digits = 1 + (names - 1) * names;
+    let mut tried = 0u64;
+    for number in 0..digits.wrapping_mul(digits) {
+        if number == 0 || number % digits > 0 {
+            twins.step(rt, alloc, number);
+            tried = tried.wrapping_add(1);
+        }
+    }
+    tried
+}
+
+/// Every order of three nodes in the state, of which there are three. Answers how many.
+fn try_orders<R: Rules>(rt: &impl Abort, alloc: Global, twins: &mut Twins<R>) -> u64 {
+    for (a, b, c) in [
+        (1, 6, 11),
+        (1, 11, 6),
+        (6, 1, 11),
+        (6, 11, 1),
+        (11, 1, 6),
+        (11, 6, 1),
+    ] {
+        twins.step(rt, alloc, a + 21 * b + 441 * c);
+    }
+    6
+}
+
+/// Every choice in the state, if it is one. Answers how many choices that were.
+fn try_state<R: Rules>(rt: &impl Abort, alloc: Global, twins: &mut Twins<R>) -> u64 {
+    if !twins.set(rt, alloc) {
+        return 0;
+    }
+    twins.look(rt, alloc);
+    let tried = try_pairs(rt, alloc, twins);
+    if twins.nodes < 3 {
+        return tried;
+    }
+    tried.wrapping_add(try_orders(rt, alloc, twins))
+}
+
+/// Every state of a network, if its edges are of its nodes, and every choice in it. Answers how many choices.
+fn try_network<R: Rules>(
+    rt: &impl Abort,
+    alloc: Global,
+    rules: RuleSet,
+    nodes: u8,
+    edges: u32,
+) -> u64 {
+    let mut twins = Twins::<R>::new(rt, alloc, rules, nodes, edges);
+    if !twins.link(rt, alloc) {
+        return 0;
+    }
+    let mut tried = 0u64;
+    for state in 0..512 {
+        twins.state = state;
+        tried = tried.wrapping_add(try_state(rt, alloc, &mut twins));
+    }
+    tried
+}
+
+/// Every network of so many nodes and so many edges, and every state and choice. Compares how many choices that were.
+fn try_networks<R: Rules>(
+    rt: &impl Abort,
+    alloc: Global,
+    rules: RuleSet,
+    nodes: u8,
+    count: u32,
+    wanted: u64,
+) {
+    let mut tried = 0u64;
+    for edges in 0..8u32 {
+        if edges.count_ones() == count {
+            tried = tried.wrapping_add(try_network::<R>(rt, alloc, rules, nodes, edges));
+        }
+    }
+    assert!(rt;
+        tried == wanted,
+        "{tried} choices at {nodes} nodes and {count} edges"
+    );
+}
+
+fn try_hsu_huang(rt: &impl Abort, alloc: Global, nodes: u8, count: u32, wanted: u64) {
+    try_networks::<HsuHuang>(rt, alloc, RuleSet::Hh, nodes, count, wanted);
+}
+
+fn try_manne(rt: &impl Abort, alloc: Global, nodes: u8, count: u32, wanted: u64) {
+    try_networks::<Manne>(rt, alloc, RuleSet::Manne, nodes, count, wanted);
+}
+
+#[test]
+fn hsu_huang_up_to_two_nodes(rt: HostRuntime) {
+    try_hsu_huang(&rt, rt.alloc(), 0, 0, 7);
+    try_hsu_huang(&rt, rt.alloc(), 1, 0, 43);
+    try_hsu_huang(&rt, rt.alloc(), 2, 0, 157);
+    try_hsu_huang(&rt, rt.alloc(), 2, 1, 4 * 157);
+}
+
+#[test]
+fn hsu_huang_three_nodes(rt: HostRuntime) {
+    try_hsu_huang(&rt, rt.alloc(), 3, 0, 427);
+    try_hsu_huang(&rt, rt.alloc(), 3, 1, 3 * 4 * 427);
+    try_hsu_huang(&rt, rt.alloc(), 3, 2, 3 * 12 * 427);
+    try_hsu_huang(&rt, rt.alloc(), 3, 3, 27 * 427);
+}
+
+#[test]
+fn manne_up_to_two_nodes(rt: HostRuntime) {
+    try_manne(&rt, rt.alloc(), 0, 0, 7);
+    try_manne(&rt, rt.alloc(), 1, 0, 2 * 43);
+    try_manne(&rt, rt.alloc(), 2, 0, 4 * 157);
+    try_manne(&rt, rt.alloc(), 2, 1, 4 * 4 * 157);
+}
+
+#[test]
+fn manne_three_nodes_no_edge_or_one(rt: HostRuntime) {
+    try_manne(&rt, rt.alloc(), 3, 0, 8 * 427);
+    try_manne(&rt, rt.alloc(), 3, 1, 3 * 4 * 8 * 427);
+}
+
+#[test]
+fn manne_three_nodes_two_edges(rt: HostRuntime) {
+    try_manne(&rt, rt.alloc(), 3, 2, 3 * 12 * 8 * 427);
+}
+
+#[test]
+fn manne_three_nodes_three_edges(rt: HostRuntime) {
+    try_manne(&rt, rt.alloc(), 3, 3, 27 * 8 * 427);
+}
