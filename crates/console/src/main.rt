@@ -8,7 +8,9 @@ use std::{env, io};
 fn main(rt: HostRuntime) -> ExitCode {
     let (mut reader, mut writer, mut faults) = (rt.reader(), io::writer(&rt), rt.stderr());
     let given = match env::args(&rt) {
-        Ok(words) => words.collect::<Vec<String>>(rt.alloc()).map_err(io::Error::from),
+        Ok(words) => words
+            .collect::<Vec<String>>(rt.alloc())
+            .map_err(io::Error::from),
         Err(error) => Err(error),
     };
     let status = match given {
