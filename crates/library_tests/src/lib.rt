@@ -37,3 +37,5 @@ mod told;
 mod unread_transcripts;
 #[cfg(test)]
 mod verdicts;
+#[cfg(test)]
+mod whole_reads;
