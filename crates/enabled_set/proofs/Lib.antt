@@ -1,0 +1,4 @@
+pub mod Tally
+pub mod Before
+pub mod Stretches
+pub mod Changes

@@ -1,0 +1,34 @@
+-- How many members each stretch of places has.
+use Rattle.std.specs.Prelude.{◌≡◌, ℕ, zero, suc, ◌+◌, ◌*◌, ◌≤◌, Bool, false, cond, List, length, slice_index}
+use Rattle.std.specs.List.{filter, range_with_len}
+use Rattle.enabled_set.specs.Members.{is_in}
+
+-- how many of the numbers below the second pass
+unfoldable pub tally : (ℕ → Bool) → ℕ → ℕ
+tally p zero = 0
+tally p (suc n) = cond (p n) (suc (tally p n)) (tally p n)
+
+-- the numbers below the second that pass, ascending
+unfoldable pub below : (ℕ → Bool) → ℕ → List ℕ
+below p n = filter p (range_with_len 0 n)
+
+-- the sum of the counts before a place; nothing is counted past the end
+unfoldable pub before : List ℕ → ℕ → ℕ
+before counts zero = 0
+before counts (suc i) = before counts i + slice_index counts i
+
+-- The i-th count is how many members the i-th stretch of this many places has. The stretches cover all places, and no
+-- more than one of them is spare.
+pub record IsCount (bits : List Bool) (width : ℕ) (counts : List ℕ) : Type 0 where
+  pub covers : length bits ≤ width * length counts
+  pub spare : width * length counts ≤ length bits + width
+  pub counted : (i : ℕ) → before counts i ≡ tally (is_in bits) (width * i)
+
+-- The counts and the total are right, and nobody is no member.
+pub record IsCounted (bits : List Bool) (sixteens lots blocks : List ℕ) (total : ℕ) : Type 0 where
+  pub few : length bits ≤ 65536
+  pub nobody : is_in bits 0 ≡ false
+  pub by_16 : IsCount bits 16 sixteens
+  pub by_256 : IsCount bits 256 lots
+  pub by_4096 : IsCount bits 4096 blocks
+  pub in_all : tally (is_in bits) (length bits) ≡ total

@@ -1,0 +1,6 @@
+//! A set of node names that knows how many members it has, and which is the k-th.
+#![tactic(auto)]
+
+mod set;
+
+pub use set::EnabledSet;
