@@ -1,5 +1,5 @@
 -- One member more, and one less.
-use Rattle.std.proofs.Common.{◌≡◌, ℕ, suc, ◌+◌, ◌-◌, ◌*◌, ◌/◌, ◌<◌, ◌≤◌, Bool, true, false, ◌⊎◌, List, length, get_or, set, replicate, refl, sym, ap, ◌∙◌, arith, ⊎_elim}
+use Rattle.std.proofs.Common.{◌≡◌, ℕ, zero, suc, ◌+◌, ◌-◌, ◌*◌, ◌/◌, ◌<◌, ◌≤◌, Bool, true, false, ◌⊎◌, List, length, get_or, set, replicate, refl, sym, ap, subst, ◌∙◌, arith, ⊎_elim}
 use Rattle.std.proofs.lemmas.Bool.{cases_lt, true≢false}
 use Rattle.std.proofs.lemmas.List.{length-set, length-replicate, get_or_read, get_or-replicate, get_or_past}
 use Rattle.enabled_set.specs.Members.{is_in}
@@ -27,6 +27,10 @@ somebody bits v nobody on =
 -- there are no more members than places
 pub total_few : (bits : List Bool) → tally (is_in bits) (length bits) ≤ length bits
 total_few bits = let t = tally_add (is_in bits) 0 (length bits) (length bits) (omega arith) in let z = tally_none (is_in bits) in omega arith
+
+-- where there is a member, there is one at least
+pub total_some : (bits : List Bool) (v : ℕ) → v < length bits → is_in bits v ≡ true → 1 ≤ tally (is_in bits) (length bits)
+total_some bits v there on = let t = tally_through (is_in bits) 0 v (length bits) on (omega arith) there in omega arith
 
 -- one member more
 pub counted_more : (bits : List Bool) (s l b : List ℕ) (total v x y z : ℕ) → IsCounted bits s l b total → v < length bits → 1 ≤ v → is_in bits v ≡ false → x ≡ get_or s (v / 16) x → y ≡ get_or l (v / 256) y → z ≡ get_or b (v / 4096) z → IsCounted (set bits v true) (set s (v / 16) (x + 1)) (set l (v / 256) (y + 1)) (set b (v / 4096) (z + 1)) (total + 1)
@@ -72,3 +76,49 @@ none_in n v =
     (λ (lt : v < n). get_or-replicate n v false false lt)
     (λ (le : n ≤ v). get_or_past (replicate n false) v false (let len = length-replicate n false in omega arith))
     (cases_lt v n)
+
+-- nothing is counted where there is nothing
+before_zeros : (m i : ℕ) → before (replicate m 0) i ≡ 0
+before_zeros m zero = before_none (replicate m 0)
+before_zeros m (suc i) =
+    let zeros : List ℕ = replicate m 0 in
+    let more = before_more zeros i in
+    let ih : before zeros i ≡ 0 = before_zeros m i in
+    let z : get_or zeros i 0 ≡ 0 = ⊎_elim (λ (lt : i < m). get_or-replicate m i 0 0 lt) (λ (le : m ≤ i). get_or_past (replicate m 0) i 0 (let o : ℕ = 0 in let len = length-replicate m o in omega arith)) (cases_lt i m) in
+    omega arith
+
+-- no place passes
+tally_nobody : (n i : ℕ) → tally (is_in (replicate n false)) i ≡ 0
+tally_nobody n i = tally_past (is_in (replicate n false)) 0 i i (λ k low. none_in n k) (omega arith) ∙ tally_none (is_in (replicate n false))
+
+-- the counts of nobody
+pub count_empty : (n w m : ℕ) → n ≤ w * m → w * m ≤ n + w → IsCount (replicate n false) w (replicate m 0)
+count_empty n w m most least =
+    let len = length-replicate n false in
+    let o : ℕ = 0 in
+    let count_len = length-replicate m o in
+    record {
+  covers = omega (arith, ap (λ k. w * k) count_len);
+  spare = omega (arith, ap (λ k. w * k) count_len);
+  counted = λ i. before_zeros m i ∙ sym (tally_nobody n (w * i));
+}
+
+-- the set of nobody
+pub counted_empty : (n : ℕ) → n ≤ 65536 → IsCounted (replicate n false) (replicate (n / 16 + 1) 0) (replicate (n / 256 + 1) 0) (replicate (n / 4096 + 1) 0) 0
+counted_empty n few = record {
+  few = omega (arith, length-replicate n false);
+  nobody = none_in n 0;
+  by_16 = count_empty n 16 (n / 16 + 1) (omega arith) (omega arith);
+  by_256 = count_empty n 256 (n / 256 + 1) (omega arith) (omega arith);
+  by_4096 = count_empty n 4096 (n / 4096 + 1) (omega arith) (omega arith);
+  in_all = tally_nobody n (length (replicate n false));
+}
+
+-- the same of lists that are known to be these
+pub counted_new : (bits : List Bool) (s l b : List ℕ) (n : ℕ) → n ≤ 65536 → bits ≡ replicate n false → s ≡ replicate (n / 16 + 1) 0 → l ≡ replicate (n / 256 + 1) 0 → b ≡ replicate (n / 4096 + 1) 0 → IsCounted bits s l b 0
+counted_new bits s l b n few is_bits is_s is_l is_b =
+    subst (λ (xs : List Bool). IsCounted xs s l b 0) (sym is_bits)
+    (subst (λ (xs : List ℕ). IsCounted (replicate n false) xs l b 0) (sym is_s)
+    (subst (λ (xs : List ℕ). IsCounted (replicate n false) (replicate (n / 16 + 1) 0) xs b 0) (sym is_l)
+    (subst (λ (xs : List ℕ). IsCounted (replicate n false) (replicate (n / 16 + 1) 0) (replicate (n / 256 + 1) 0) xs 0) (sym is_b)
+    (counted_empty n few))))

@@ -2,3 +2,4 @@ pub mod Tally
 pub mod Before
 pub mod Stretches
 pub mod Changes
+pub mod Members

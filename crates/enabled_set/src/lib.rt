@@ -1,6 +1,7 @@
 //! A set of node names that knows how many members it has, and which is the k-th.
 #![tactic(auto)]
 
+mod scan;
 mod set;
 
 pub use set::EnabledSet;

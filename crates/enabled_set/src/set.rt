@@ -3,6 +3,7 @@
 ghost use Rattle.std.specs.Prelude.{◌≡◌, ◌+◌, ◌<◌, ◌≤◌, true, false, length, replicate, slice_get, slice_set, IfOk};
 ghost use Rattle.enabled_set.specs.Members.{is_in, members};
 
+use crate::scan::{find, is_on, pass, push_stretches};
 use rule_machine::{Node, Want};
 use std::alloc::Global;
 use std::marker::Model;
@@ -53,10 +54,7 @@ impl EnabledSet {
     pub fn contains(&self, v: Node) -> bool
         ensures { result ≡ is_in self.now v }
     {
-        match self.places.get(v.place()) {
-            Some(on) => *on,
-            None => false,
-        }
+        is_on(&self.places, v.place())
     }
 
     /// How many members there are, at most 65,535. One look.
@@ -64,6 +62,33 @@ impl EnabledSet {
         ensures { result ≡ length (members self.now) }
     {
         self.total
+    }
+
+    /// The k-th member by rising names, from 0; `None` where there are not so many. Some 64 looks at most.
+    pub fn nth(&self, k: u32) -> Option<Node>
+        ensures { result ≡ slice_get (members self.now) k }
+    {
+        if k >= self.total {
+            return None;
+        }
+        let block = pass(&self.blocks, 0, k);
+        let lot = pass(&self.lots, 16 * block.place, block.left);
+        let stretch = pass(&self.sixteens, 16 * lot.place, lot.left);
+        let place = find(&self.places, 16 * stretch.place, stretch.left)?;
+        Node::new(place as u32)
+    }
+
+    /// The members by rising names. A look at each count of 256, and further looks only where it is not 0.
+    pub fn to_list(&self) -> Result<Vec<Node>, Want>
+        ensures { IfOk result (λ list. list.items ≡ members self.now) }
+    {
+        let mut list = Vec::with_capacity(self.places.allocator().clone()?, self.total as usize)?;
+        for lot in 0..self.lots.len() {
+            if self.lots[lot] > 0 {
+                push_stretches(&mut list, &self.places, &self.sixteens, 16 * lot)?;
+            }
+        }
+        Ok(list)
     }
 
     /// Makes a name a member, which it may be already. Five writes.

@@ -1,0 +1,50 @@
+-- The members below a number, ascending.
+use Rattle.std.proofs.Common.{◌≡◌, ℕ, zero, suc, ◌+◌, ◌-◌, ◌<◌, ◌≤◌, Bool, true, false, cond, ◌⊎◌, List, [], ◌∷◌, ◌++◌, map, length, get_or, Some, refl, sym, ap, subst, ◌∙◌, arith, ⊎_elim}
+use Rattle.std.specs.List.{filter, range_with_len}
+use Rattle.std.specs.Prelude.{slice_get}
+use Rattle.std.proofs.lemmas.Bool.{cases_Bool, cases_lt, cases_order, true≢false}
+use Rattle.std.proofs.lemmas.List.{append-nil, map-id, length_push, get_or_push, get_or_append_left}
+use Rattle.std.proofs.lemmas.List.FromFn.{filter_of_map_range_with_len_more}
+use Rattle.std.proofs.lemmas.Option.{slice_get-get_or}
+use Rattle.enabled_set.specs.Members.{is_in, members}
+use Rattle.enabled_set.specs.Counts.{tally, below}
+use Rattle.enabled_set.proofs.Tally.{tally_none, tally_true, tally_false, tally_one, tally_rise, tally_through}
+
+pub below_none : (p : ℕ → Bool) → below p 0 ≡ []
+unfolding below
+below_none p = refl
+
+-- one number more
+pub below_more : (p : ℕ → Bool) (n : ℕ) → below p (suc n) ≡ below p n ++ cond (p n) (n ∷ []) []
+unfolding below
+below_more p n =
+    let same : (m : ℕ) → map (λ (k : ℕ). k) (range_with_len 0 m) ≡ range_with_len 0 m = λ m. map-id (range_with_len 0 m) in
+    let e : n + 1 ≡ suc n = omega arith in
+    ap (λ m. filter p (range_with_len 0 m)) (sym e)
+    ∙ ap (filter p) (sym (same (n + 1)))
+    ∙ filter_of_map_range_with_len_more p (λ (k : ℕ). k) 0 n n (omega arith)
+    ∙ ap (λ l. filter p l ++ cond (p n) (n ∷ []) []) (same n)
+
+pub below_true : (p : ℕ → Bool) (n : ℕ) → p n ≡ true → below p (suc n) ≡ below p n ++ n ∷ []
+below_true p n h = below_more p n ∙ ap (λ b. below p n ++ cond b (n ∷ []) []) h
+
+pub below_false : (p : ℕ → Bool) (n : ℕ) → p n ≡ false → below p (suc n) ≡ below p n
+below_false p n h = below_more p n ∙ ap (λ b. below p n ++ cond b (n ∷ []) []) h ∙ append-nil (below p n)
+
+-- there are as many as the tally says
+pub length-below : (p : ℕ → Bool) (n : ℕ) → length (below p n) ≡ tally p n
+length-below p zero = ap length (below_none p) ∙ sym (tally_none p)
+length-below p (suc n) =
+    let ih = length-below p n in
+    ⊎_elim
+    (λ (h : p n ≡ true). ap length (below_true p n h) ∙ length_push (below p n) n ∙ (let t = tally_true p n h in omega arith))
+    (λ (h : p n ≡ false). ap length (below_false p n h) ∙ ih ∙ sym (tally_false p n h))
+    (cases_Bool (p n))
+
+-- the members are those below the last place
+pub members_below : (bits : List Bool) → members bits ≡ below (is_in bits) (length bits)
+unfolding below
+members_below bits = refl
+
+pub length-members : (bits : List Bool) → length (members bits) ≡ tally (is_in bits) (length bits)
+length-members bits = ap length (members_below bits) ∙ length-below (is_in bits) (length bits)

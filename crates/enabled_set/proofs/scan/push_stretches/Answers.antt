@@ -1,0 +1,1 @@
+use Rattle.enabled_set.proofs.scan.push_stretches.Goals as goal
