@@ -3,3 +3,5 @@ pub mod Before
 pub mod Stretches
 pub mod Changes
 pub mod Members
+pub mod Steps
+pub mod Nth
