@@ -1,4 +1,6 @@
 pub mod Tally
+pub mod Bits
+pub mod Places
 pub mod Before
 pub mod Stretches
 pub mod Changes

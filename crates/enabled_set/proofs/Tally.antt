@@ -60,11 +60,14 @@ tally_through p a v b h low high =
     let high_part = tally_rise p (suc v) b (omega arith) in
     omega arith
 
--- past the last number that may pass it stays
-pub tally_past : (p : ℕ → Bool) (a n b : ℕ) → ((k : ℕ) → a ≤ k → p k ≡ false) → b ≡ a + n → tally p b ≡ tally p a
-tally_past p a zero b none e = ap (tally p) (let f : b ≡ a = omega arith in f)
-tally_past p a (suc n) b none e =
-    ap (tally p) (let f : b ≡ suc (a + n) = omega arith in f) ∙ tally_false p (a + n) (none (a + n) (omega arith)) ∙ tally_past p a n (a + n) none refl
+-- where no number passes it stays
+pub tally_flat : (p : ℕ → Bool) (a n b : ℕ) → ((k : ℕ) → a ≤ k → k < b → p k ≡ false) → b ≡ a + n → tally p b ≡ tally p a
+tally_flat p a zero b none e = ap (tally p) (let f : b ≡ a = omega arith in f)
+tally_flat p a (suc n) b none e =
+    let f : b ≡ suc (a + n) = omega arith in
+    ap (tally p) f
+    ∙ tally_false p (a + n) (none (a + n) (omega arith) (omega arith))
+    ∙ tally_flat p a n (a + n) (λ k low high. none k low (omega arith)) refl
 
 -- two tests that agree at a number
 tally_step : (p q : ℕ → Bool) (n : ℕ) → q n ≡ p n → (d : ℕ) → tally q n ≡ tally p n + d → tally q (suc n) ≡ tally p (suc n) + d
@@ -73,6 +76,26 @@ tally_step p q n same d h =
     (λ (t : p n ≡ true). let e = tally_true p n t in let f = tally_true q n (same ∙ t) in omega arith)
     (λ (t : p n ≡ false). let e = tally_false p n t in let f = tally_false q n (same ∙ t) in omega arith)
     (cases_Bool (p n))
+
+-- two tests that agree everywhere
+pub tally_agree : (p q : ℕ → Bool) → ((k : ℕ) → q k ≡ p k) → (n : ℕ) → tally q n ≡ tally p n
+tally_agree p q same zero = tally_none q ∙ sym (tally_none p)
+tally_agree p q same (suc n) =
+    let ih = tally_agree p q same n in
+    let s = tally_step p q n (same n) 0 (omega arith) in
+    omega arith
+
+-- two tests that agree from a number on
+pub tally_shift : (p q : ℕ → Bool) (a n : ℕ) → ((k : ℕ) → k < n → p (a + k) ≡ q k) → tally p (a + n) ≡ tally p a + tally q n
+tally_shift p q a zero same = let e : a + 0 ≡ a = omega arith in let f = ap (tally p) e in let none = tally_none q in omega arith
+tally_shift p q a (suc n) same =
+    let ih = tally_shift p q a n (λ k high. same k (omega arith)) in
+    let e : a + suc n ≡ suc (a + n) = omega arith in
+    let f = ap (tally p) e in
+    ⊎_elim
+    (λ (h : p (a + n) ≡ true). let s = tally_true p (a + n) h in let t = tally_true q n (sym (same n (omega arith)) ∙ h) in omega arith)
+    (λ (h : p (a + n) ≡ false). let s = tally_false p (a + n) h in let t = tally_false q n (sym (same n (omega arith)) ∙ h) in omega arith)
+    (cases_Bool (p (a + n)))
 
 -- one number more that passes
 pub tally_put : (p q : ℕ → Bool) (v : ℕ) → p v ≡ false → q v ≡ true → ((k : ℕ) → (k ≡ v → ⊥) → q k ≡ p k) → (n : ℕ) → tally q n ≡ tally p n + past v n

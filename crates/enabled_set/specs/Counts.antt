@@ -2,6 +2,7 @@
 use Rattle.std.specs.Prelude.{◌≡◌, ℕ, zero, suc, ◌+◌, ◌*◌, ◌≤◌, Bool, false, cond, List, length, slice_index}
 use Rattle.std.specs.List.{filter, range_with_len}
 use Rattle.enabled_set.specs.Members.{is_in}
+use Rattle.enabled_set.specs.Words.{is_on}
 
 -- how many of the numbers below the second pass
 unfoldable pub tally : (ℕ → Bool) → ℕ → ℕ
@@ -24,11 +25,13 @@ pub record IsCount (bits : List Bool) (width : ℕ) (counts : List ℕ) : Type 0
   pub spare : width * length counts ≤ length bits + width
   pub counted : (i : ℕ) → before counts i ≡ tally (is_in bits) (width * i)
 
--- The counts and the total are right, and nobody is no member.
-pub record IsCounted (bits : List Bool) (sixteens lots blocks : List ℕ) (total : ℕ) : Type 0 where
+-- The words have these places and no more, nobody is no member, and the counts and the total are right.
+pub record IsCounted (bits : List Bool) (words by_64 by_1024 : List ℕ) (total : ℕ) : Type 0 where
   pub few : length bits ≤ 65536
+  pub covered : length bits ≤ 64 * length words
+  pub spare : 64 * length words ≤ length bits + 64
   pub nobody : is_in bits 0 ≡ false
-  pub by_16 : IsCount bits 16 sixteens
-  pub by_256 : IsCount bits 256 lots
-  pub by_4096 : IsCount bits 4096 blocks
+  pub same : (v : ℕ) → is_in bits v ≡ is_on words v
+  pub in_64 : IsCount bits 64 by_64
+  pub in_1024 : IsCount bits 1024 by_1024
   pub in_all : tally (is_in bits) (length bits) ≡ total

@@ -3,5 +3,6 @@
 
 mod scan;
 mod set;
+mod word;
 
 pub use set::EnabledSet;

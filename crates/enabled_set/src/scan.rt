@@ -1,26 +1,34 @@
-//! Scans of places and of counts.
+//! Scans of words and of counts.
 
-ghost use Rattle.std.specs.Prelude.{◌≡◌, ◌+◌, ◌*◌, ◌≤◌, true, false, length, slice_index, None, Some, if◌then◌else◌, MatchOption, OnOk};
-ghost use Rattle.enabled_set.specs.Members.{is_in};
-ghost use Rattle.enabled_set.specs.Counts.{tally, below, before, IsCount};
+ghost use Rattle.std.specs.Prelude.{◌≡◌, ◌+◌, ◌*◌, ◌≤◌, slice_index, OnOk};
+ghost use Rattle.enabled_set.specs.Words.{is_on, AreNames};
+ghost use Rattle.enabled_set.specs.Counts.{before, below};
 
+use crate::word::{has, next};
 use rule_machine::{Node, Want};
 
-/// Where a scan for a member stands: at a place, with as many members from there on to pass before it.
+/// Where a scan for a member stands: before a stretch of places, with as many members from there on to pass.
 #[derive(Clone, Copy)]
 pub struct Spot {
     pub place: usize,
     pub left: u32,
 }
 
-/// Whether the name with this place is a member; `false` past the end.
-pub fn is_on(places: &[bool], place: usize) -> bool
-    ensures { result ≡ is_in places.now place }
+/// The word at a place; 0 past the end.
+pub fn word_at(words: &[u64], place: usize) -> u64
+    ensures { result ≡ slice_index words.now place }
 {
-    match places.get(place) {
-        Some(on) => *on,
-        None => false,
+    match words.get(place) {
+        Some(word) => *word,
+        None => 0,
     }
+}
+
+/// Whether the words have the bit of a place.
+pub fn look(words: &[u64], place: usize) -> bool
+    ensures { result ≡ is_on words.now place }
+{
+    has(word_at(words, place / 64), place % 64)
 }
 
 /// The count at a place; 0 past the end.
@@ -33,14 +41,15 @@ fn count_at(counts: &[u16], place: usize) -> u32
     }
 }
 
-/// Passes the stretches from one on, 16 at most, that have no more members than are left to pass.
-pub fn pass(counts: &[u16], from: usize, to_pass: u32) -> Spot
-    requires { from ≤ 65536 }
+/// Passes the stretches from one on, as many as `most`, that have no more members than are to pass.
+pub fn pass(counts: &[u16], from: usize, most: usize, to_pass: u32) -> Spot
+    requires near { from ≤ 65536 }
+    requires few { most ≤ 64 }
     ensures passed { before counts.now result.place + result.left ≡ before counts.now from + to_pass }
-    ensures near { result.place ≤ from + 16 }
+    ensures near { result.place ≤ from + most }
 {
     let mut left = to_pass;
-    for place in from..from + 16 {
+    for place in from..from + most {
         let count = count_at(counts, place);
         if left < count {
             return Spot { place, left };
@@ -48,68 +57,25 @@ pub fn pass(counts: &[u16], from: usize, to_pass: u32) -> Spot
         left -= count;
     }
     Spot {
-        place: from + 16,
+        place: from + most,
         left,
     }
 }
 
-/// The place of the member that stands behind as many as are left to pass, from a place on.
-pub fn find(places: &[bool], from: usize, to_pass: u32) -> Option<usize>
-    ensures { MatchOption result (tally (is_in places.now) (length places.now) ≤ tally (is_in places.now) from + to_pass) (λ v. (is_in places.now v ≡ true) × (tally (is_in places.now) v ≡ tally (is_in places.now) from + to_pass)) }
+/// Appends the names in a word to a list of those before.
+pub fn push_word(list: &mut Vec<Node>, words: &[u64], place: usize) -> Result<(), Want>
+    requires named { AreNames words.now }
+    requires near { place ≤ 65536 }
+    requires so_far { list.old.items ≡ below (is_on words.now) (64 * place) }
+    ensures { OnOk result (list.new.items ≡ below (is_on words.now) (64 * place + 64)) }
 {
-    let mut left = to_pass;
-    for place in from..places.len() {
-        if places[place] {
-            if left == 0 {
-                return Some(place);
-            }
-            left -= 1;
-        }
-    }
-    None
-}
-
-/// The member at a place.
-fn member_at(places: &[bool], place: usize) -> Option<Node>
-    requires few { length places.now ≤ 65536 }
-    requires nobody { is_in places.now 0 ≡ false }
-    ensures { result ≡ (if is_in places.now place then Some place else None) }
-{
-    if !is_on(places, place) {
-        return None;
-    }
-    Node::new(place as u32)
-}
-
-/// Appends the members at the 16 places from one on to a list of those before.
-fn push_places(list: &mut Vec<Node>, places: &[bool], from: usize) -> Result<(), Want>
-    requires few { length places.now ≤ 65536 }
-    requires nobody { is_in places.now 0 ≡ false }
-    requires near { from ≤ 131072 }
-    requires so_far { list.old.items ≡ below (is_in places.now) from }
-    ensures { OnOk result (list.new.items ≡ below (is_in places.now) (from + 16)) }
-{
-    for place in from..from + 16 {
-        if let Some(member) = member_at(places, place) {
+    let word = word_at(words, place);
+    let mut from = 0;
+    while let Some(at) = next(word, from) {
+        if let Some(member) = Node::new((64 * place + at) as u32) {
             list.push(member)?;
         }
-    }
-    Ok(())
-}
-
-/// Appends the members in the 16 stretches of 16 places from one on to a list of those before.
-pub fn push_stretches(list: &mut Vec<Node>, places: &[bool], sixteens: &[u16], from: usize) -> Result<(), Want>
-    requires few { length places.now ≤ 65536 }
-    requires nobody { is_in places.now 0 ≡ false }
-    requires counted { IsCount places.now 16 sixteens.now }
-    requires near { from ≤ 4352 }
-    requires so_far { list.old.items ≡ below (is_in places.now) (16 * from) }
-    ensures { OnOk result (list.new.items ≡ below (is_in places.now) (16 * (from + 16))) }
-{
-    for stretch in from..from + 16 {
-        if count_at(sixteens, stretch) > 0 {
-            push_places(list, places, 16 * stretch)?;
-        }
+        from = at + 1;
     }
     Ok(())
 }

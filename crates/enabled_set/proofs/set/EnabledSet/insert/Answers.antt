@@ -1,31 +1,48 @@
-use Rattle.std.proofs.Common.{◌≡◌, ◌+◌, ◌<◌, ◌≤◌, true, false, length, ℕ, ◌*◌, ◌/◌, Fits, arith, ap}
-use Rattle.enabled_set.specs.Members.{is_in}
-use Rattle.enabled_set.proofs.Stretches.{count_few}
-use Rattle.enabled_set.proofs.Changes.{count_read, place_read, total_few, counted_more}
+use Rattle.std.proofs.Common.{◌≡◌, ◌+◌, ◌-◌, ◌<◌, ◌≤◌, Bool, List, true, false, length, ℕ, ◌*◌, ◌/◌, ◌%◌, Fits, arith, ap, sym, subst, ◌∙◌, get_or, set}
+use Rattle.std.specs.Prelude.{◌≢◌}
+use Rattle.enabled_set.specs.Words.{has_bit, is_on, places_of}
+use Rattle.enabled_set.specs.Counts.{IsCounted}
+use Rattle.enabled_set.proofs.Places.{length-places_of}
+use Rattle.enabled_set.proofs.Stretches.{count_few, count_some}
+use Rattle.enabled_set.proofs.Changes.{count_read, word_read, set_same, total_few, total_some, places_put, counted_more, counted_less}
 use Rattle.enabled_set.proofs.set.EnabledSet.insert.Goals as goal
 
 pub overflow_add-index_mut : goal.overflow_add-index_mut
 overflow_add-index_mut c =
-    let there : c.place-place.result < length c.self.inside.places.items = omega (arith, ap length c.self.view_is) in
-    let is = count_read c.self.inside.places.items 16 c.self.inside.sixteens.items c.place-place.result c.index_mut-2.result.now (omega arith) c.self.invariant.by_16 there c.index_mut-2.ensures.value in
-    omega (arith, count_few c.self.inside.places.items 16 c.self.inside.sixteens.items (c.place-place.result / 16) c.self.invariant.by_16)
+    let bits : List Bool = places_of c.self.inside.len c.self.inside.words.items in
+    let there : c.place-place.result < length bits = omega (arith, ap length c.self.view_is) in
+    let is = count_read bits 64 c.self.inside.by_64.items c.place-place.result c.index_mut-2.result.now (omega arith) c.self.invariant.in_64 there c.index_mut-2.ensures.value in
+    omega (arith, count_few bits 64 c.self.inside.by_64.items (c.place-place.result / 64) c.self.invariant.in_64)
 
 pub overflow_add-index_mut-2 : goal.overflow_add-index_mut-2
 overflow_add-index_mut-2 c =
-    let there : c.place-place.result < length c.self.inside.places.items = omega (arith, ap length c.self.view_is) in
-    let is = count_read c.self.inside.places.items 256 c.self.inside.lots.items c.place-place.result c.index_mut-3.result.now (omega arith) c.self.invariant.by_256 there c.index_mut-3.ensures.value in
-    omega (arith, count_few c.self.inside.places.items 256 c.self.inside.lots.items (c.place-place.result / 256) c.self.invariant.by_256)
-
-pub overflow_add-index_mut-3 : goal.overflow_add-index_mut-3
-overflow_add-index_mut-3 c =
-    let there : c.place-place.result < length c.self.inside.places.items = omega (arith, ap length c.self.view_is) in
-    let is = count_read c.self.inside.places.items 4096 c.self.inside.blocks.items c.place-place.result c.index_mut-4.result.now (omega arith) c.self.invariant.by_4096 there c.index_mut-4.ensures.value in
-    omega (arith, count_few c.self.inside.places.items 4096 c.self.inside.blocks.items (c.place-place.result / 4096) c.self.invariant.by_4096)
+    let bits : List Bool = places_of c.self.inside.len c.self.inside.words.items in
+    let there : c.place-place.result < length bits = omega (arith, ap length c.self.view_is) in
+    let is = count_read bits 1024 c.self.inside.by_1024.items c.place-place.result c.index_mut-3.result.now (omega arith) c.self.invariant.in_1024 there c.index_mut-3.ensures.value in
+    omega (arith, count_few bits 1024 c.self.inside.by_1024.items (c.place-place.result / 1024) c.self.invariant.in_1024)
 
 pub overflow_add-self : goal.overflow_add-self
-overflow_add-self c = omega (arith, total_few c.self.inside.places.items)
+overflow_add-self c = omega (arith, total_few (places_of c.self.inside.len c.self.inside.words.items))
 
 pub invariant_of-self : goal.invariant_of-self
 invariant_of-self c =
-    let there : c.place-place.result < length c.self.inside.places.items = omega (arith, ap length c.self.view_is) in
-    counted_more c.self.inside.places.items c.self.inside.sixteens.items c.self.inside.lots.items c.self.inside.blocks.items c.self.inside.total c.place-place.result c.index_mut-2.result.now c.index_mut-3.result.now c.index_mut-4.result.now c.self.invariant there c.place-place.ensures.named.0 (place_read c.self.inside.places.items c.place-place.result c.index.result.now false there c.index.ensures c.if-index.false) c.index_mut-2.ensures.value c.index_mut-3.ensures.value c.index_mut-4.ensures.value
+    let bits : List Bool = places_of c.self.inside.len c.self.inside.words.items in
+    let there : c.place-place.result < length bits = omega (arith, ap length c.self.view_is) in
+    let off = c.self.invariant.same c.place-place.result ∙ ap (λ ws. is_on ws c.place-place.result) (sym c.deref.ensures.value) ∙ sym c.look.ensures ∙ c.if-look.false in
+    let covered = c.self.invariant.covered in
+    let room : c.place-place.result / 64 < length c.self.inside.words.items = omega arith in
+    let others = word_read c.self.inside.words.items c.place-place.result c.index.result.now c.with.result room c.index.ensures c.with.ensures.others in
+    let words = set c.self.inside.words.items (c.place-place.result / 64) c.with.result in
+    let by_64 = set c.self.inside.by_64.items (c.place-place.result / 64) (c.index_mut-2.result.now + 1) in
+    let by_1024 = set c.self.inside.by_1024.items (c.place-place.result / 1024) (c.index_mut-3.result.now + 1) in
+    subst (λ (xs : List Bool). IsCounted xs words by_64 by_1024 (c.self.inside.total + 1)) (sym (places_put c.self.inside.len bits c.self.inside.words.items c.place-place.result c.with.result true (length-places_of c.self.inside.len c.self.inside.words.items) there room c.self.invariant.same c.with.ensures.here others)) (counted_more bits c.self.inside.words.items c.self.inside.by_64.items c.self.inside.by_1024.items c.self.inside.total c.place-place.result c.with.result c.index_mut-2.result.now c.index_mut-3.result.now c.self.invariant there c.place-place.ensures.named.0 off c.with.ensures.here others c.index_mut-2.ensures.value c.index_mut-3.ensures.value)
+
+pub returns : goal.returns
+returns c =
+    let bits : List Bool = places_of c.self.inside.len c.self.inside.words.items in
+    let there : c.place-place.result < length bits = omega (arith, ap length c.self.view_is) in
+    let off = c.self.invariant.same c.place-place.result ∙ ap (λ ws. is_on ws c.place-place.result) (sym c.deref.ensures.value) ∙ sym c.look.ensures ∙ c.if-look.false in
+    let covered = c.self.invariant.covered in
+    let room : c.place-place.result / 64 < length c.self.inside.words.items = omega arith in
+    let others = word_read c.self.inside.words.items c.place-place.result c.index.result.now c.with.result room c.index.ensures c.with.ensures.others in
+    places_put c.self.inside.len bits c.self.inside.words.items c.place-place.result c.with.result true (length-places_of c.self.inside.len c.self.inside.words.items) there room c.self.invariant.same c.with.ensures.here others ∙ ap (λ v. set bits v true) c.place-place.ensures.same ∙ ap (λ xs. set xs c.args.v true) c.self.view_is

@@ -1,37 +1,54 @@
-use Rattle.std.proofs.Common.{◌≡◌, ◌+◌, ◌-◌, ◌<◌, ◌≤◌, true, false, length, ℕ, ◌*◌, ◌/◌, Fits, arith, ap}
-use Rattle.enabled_set.specs.Members.{is_in}
-use Rattle.enabled_set.proofs.Stretches.{count_some}
-use Rattle.enabled_set.proofs.Changes.{count_read, place_read, total_some, counted_less}
+use Rattle.std.proofs.Common.{◌≡◌, ◌+◌, ◌-◌, ◌<◌, ◌≤◌, Bool, List, true, false, length, ℕ, ◌*◌, ◌/◌, ◌%◌, Fits, arith, ap, sym, subst, ◌∙◌, get_or, set}
+use Rattle.std.specs.Prelude.{◌≢◌}
+use Rattle.enabled_set.specs.Words.{has_bit, is_on, places_of}
+use Rattle.enabled_set.specs.Counts.{IsCounted}
+use Rattle.enabled_set.proofs.Places.{length-places_of}
+use Rattle.enabled_set.proofs.Stretches.{count_few, count_some}
+use Rattle.enabled_set.proofs.Changes.{count_read, word_read, set_same, total_few, total_some, places_put, counted_more, counted_less}
 use Rattle.enabled_set.proofs.set.EnabledSet.remove.Goals as goal
 
 pub overflow_sub-index_mut : goal.overflow_sub-index_mut
 overflow_sub-index_mut c =
-    let there : c.place-place.result < length c.self.inside.places.items = omega (arith, ap length c.self.view_is) in
-    let on = place_read c.self.inside.places.items c.place-place.result c.index.result.now true there c.index.ensures c.if-not-index.false in
-    let is = count_read c.self.inside.places.items 16 c.self.inside.sixteens.items c.place-place.result c.index_mut-2.result.now (omega arith) c.self.invariant.by_16 there c.index_mut-2.ensures.value in
-    omega (arith, count_some c.self.inside.places.items 16 c.self.inside.sixteens.items c.place-place.result (omega arith) c.self.invariant.by_16 on)
+    let bits : List Bool = places_of c.self.inside.len c.self.inside.words.items in
+    let there : c.place-place.result < length bits = omega (arith, ap length c.self.view_is) in
+    let on = c.self.invariant.same c.place-place.result ∙ ap (λ ws. is_on ws c.place-place.result) (sym c.deref.ensures.value) ∙ sym c.look.ensures ∙ c.if-not-look.false in
+    let is = count_read bits 64 c.self.inside.by_64.items c.place-place.result c.index_mut-2.result.now (omega arith) c.self.invariant.in_64 there c.index_mut-2.ensures.value in
+    omega (arith, count_some bits 64 c.self.inside.by_64.items c.place-place.result (omega arith) c.self.invariant.in_64 on)
 
 pub overflow_sub-index_mut-2 : goal.overflow_sub-index_mut-2
 overflow_sub-index_mut-2 c =
-    let there : c.place-place.result < length c.self.inside.places.items = omega (arith, ap length c.self.view_is) in
-    let on = place_read c.self.inside.places.items c.place-place.result c.index.result.now true there c.index.ensures c.if-not-index.false in
-    let is = count_read c.self.inside.places.items 256 c.self.inside.lots.items c.place-place.result c.index_mut-3.result.now (omega arith) c.self.invariant.by_256 there c.index_mut-3.ensures.value in
-    omega (arith, count_some c.self.inside.places.items 256 c.self.inside.lots.items c.place-place.result (omega arith) c.self.invariant.by_256 on)
-
-pub overflow_sub-index_mut-3 : goal.overflow_sub-index_mut-3
-overflow_sub-index_mut-3 c =
-    let there : c.place-place.result < length c.self.inside.places.items = omega (arith, ap length c.self.view_is) in
-    let on = place_read c.self.inside.places.items c.place-place.result c.index.result.now true there c.index.ensures c.if-not-index.false in
-    let is = count_read c.self.inside.places.items 4096 c.self.inside.blocks.items c.place-place.result c.index_mut-4.result.now (omega arith) c.self.invariant.by_4096 there c.index_mut-4.ensures.value in
-    omega (arith, count_some c.self.inside.places.items 4096 c.self.inside.blocks.items c.place-place.result (omega arith) c.self.invariant.by_4096 on)
+    let bits : List Bool = places_of c.self.inside.len c.self.inside.words.items in
+    let there : c.place-place.result < length bits = omega (arith, ap length c.self.view_is) in
+    let on = c.self.invariant.same c.place-place.result ∙ ap (λ ws. is_on ws c.place-place.result) (sym c.deref.ensures.value) ∙ sym c.look.ensures ∙ c.if-not-look.false in
+    let is = count_read bits 1024 c.self.inside.by_1024.items c.place-place.result c.index_mut-3.result.now (omega arith) c.self.invariant.in_1024 there c.index_mut-3.ensures.value in
+    omega (arith, count_some bits 1024 c.self.inside.by_1024.items c.place-place.result (omega arith) c.self.invariant.in_1024 on)
 
 pub overflow_sub-self : goal.overflow_sub-self
 overflow_sub-self c =
-    let there : c.place-place.result < length c.self.inside.places.items = omega (arith, ap length c.self.view_is) in
-    let on = place_read c.self.inside.places.items c.place-place.result c.index.result.now true there c.index.ensures c.if-not-index.false in
-    omega (arith, total_some c.self.inside.places.items c.place-place.result there on)
+    let bits : List Bool = places_of c.self.inside.len c.self.inside.words.items in
+    let there : c.place-place.result < length bits = omega (arith, ap length c.self.view_is) in
+    let on = c.self.invariant.same c.place-place.result ∙ ap (λ ws. is_on ws c.place-place.result) (sym c.deref.ensures.value) ∙ sym c.look.ensures ∙ c.if-not-look.false in
+    omega (arith, total_some bits c.place-place.result there on)
 
 pub invariant_of-self : goal.invariant_of-self
 invariant_of-self c =
-    let there : c.place-place.result < length c.self.inside.places.items = omega (arith, ap length c.self.view_is) in
-    counted_less c.self.inside.places.items c.self.inside.sixteens.items c.self.inside.lots.items c.self.inside.blocks.items c.self.inside.total c.place-place.result c.index_mut-2.result.now c.index_mut-3.result.now c.index_mut-4.result.now c.self.invariant there (place_read c.self.inside.places.items c.place-place.result c.index.result.now true there c.index.ensures c.if-not-index.false) c.index_mut-2.ensures.value c.index_mut-3.ensures.value c.index_mut-4.ensures.value
+    let bits : List Bool = places_of c.self.inside.len c.self.inside.words.items in
+    let there : c.place-place.result < length bits = omega (arith, ap length c.self.view_is) in
+    let on = c.self.invariant.same c.place-place.result ∙ ap (λ ws. is_on ws c.place-place.result) (sym c.deref.ensures.value) ∙ sym c.look.ensures ∙ c.if-not-look.false in
+    let covered = c.self.invariant.covered in
+    let room : c.place-place.result / 64 < length c.self.inside.words.items = omega arith in
+    let others = word_read c.self.inside.words.items c.place-place.result c.index.result.now c.without.result room c.index.ensures c.without.ensures.others in
+    let words = set c.self.inside.words.items (c.place-place.result / 64) c.without.result in
+    let by_64 = set c.self.inside.by_64.items (c.place-place.result / 64) (c.index_mut-2.result.now - 1) in
+    let by_1024 = set c.self.inside.by_1024.items (c.place-place.result / 1024) (c.index_mut-3.result.now - 1) in
+    subst (λ (xs : List Bool). IsCounted xs words by_64 by_1024 (c.self.inside.total - 1)) (sym (places_put c.self.inside.len bits c.self.inside.words.items c.place-place.result c.without.result false (length-places_of c.self.inside.len c.self.inside.words.items) there room c.self.invariant.same c.without.ensures.here others)) (counted_less bits c.self.inside.words.items c.self.inside.by_64.items c.self.inside.by_1024.items c.self.inside.total c.place-place.result c.without.result c.index_mut-2.result.now c.index_mut-3.result.now c.self.invariant there on c.without.ensures.here others c.index_mut-2.ensures.value c.index_mut-3.ensures.value)
+
+pub returns : goal.returns
+returns c =
+    let bits : List Bool = places_of c.self.inside.len c.self.inside.words.items in
+    let there : c.place-place.result < length bits = omega (arith, ap length c.self.view_is) in
+    let on = c.self.invariant.same c.place-place.result ∙ ap (λ ws. is_on ws c.place-place.result) (sym c.deref.ensures.value) ∙ sym c.look.ensures ∙ c.if-not-look.false in
+    let covered = c.self.invariant.covered in
+    let room : c.place-place.result / 64 < length c.self.inside.words.items = omega arith in
+    let others = word_read c.self.inside.words.items c.place-place.result c.index.result.now c.without.result room c.index.ensures c.without.ensures.others in
+    places_put c.self.inside.len bits c.self.inside.words.items c.place-place.result c.without.result false (length-places_of c.self.inside.len c.self.inside.words.items) there room c.self.invariant.same c.without.ensures.here others ∙ ap (λ v. set bits v false) c.place-place.ensures.same ∙ ap (λ xs. set xs c.args.v false) c.self.view_is
