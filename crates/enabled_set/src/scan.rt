@@ -1,6 +1,6 @@
 //! Scans of words and of counts.
 
-ghost use Rattle.std.specs.Prelude.{◌≡◌, ◌+◌, ◌*◌, ◌≤◌, slice_index, OnOk};
+ghost use Rattle.std.specs.Prelude.{◌≡◌, ◌+◌, ◌*◌, ◌<◌, ◌≤◌, slice_index, OnOk};
 ghost use Rattle.enabled_set.specs.Words.{is_on, AreNames};
 ghost use Rattle.enabled_set.specs.Counts.{before, below};
 
@@ -41,11 +41,14 @@ fn count_at(counts: &[u16], place: usize) -> u32
     }
 }
 
-/// Passes the stretches from one on, as many as `most`, that have no more members than are to pass.
+/// Passes the stretches from one on that have no more members than are to pass. Among the first `most` there is one that
+/// has more, and the scan stands before it.
 pub fn pass(counts: &[u16], from: usize, most: usize, to_pass: u32) -> Spot
     requires near { from ≤ 65536 }
     requires few { most ≤ 64 }
+    requires enough { before counts.now from + to_pass < before counts.now (from + most) }
     ensures passed { before counts.now result.place + result.left ≡ before counts.now from + to_pass }
+    ensures here { result.left < slice_index counts.now result.place }
     ensures near { result.place ≤ from + most }
 {
     let mut left = to_pass;

@@ -1,4 +1,5 @@
-use Rattle.std.proofs.Common.{◌≡◌, ◌+◌, ◌-◌, arith}
+use Rattle.std.proofs.Common.{◌≡◌, ◌+◌, ◌-◌, ◌<◌, ap, arith}
+use Rattle.enabled_set.specs.Counts.{before}
 use Rattle.enabled_set.proofs.Steps.{before_step}
 use Rattle.enabled_set.proofs.scan.pass.Goals as goal
 
