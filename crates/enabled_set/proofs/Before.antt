@@ -1,11 +1,8 @@
 -- Sums of counts, and counts that say how many members each stretch has.
-use Rattle.std.proofs.Common.{◌≡◌, ℕ, zero, suc, ◌+◌, ◌-◌, ◌*◌, ◌/◌, ◌<◌, ◌≤◌, Bool, true, false, ◌⊎◌, List, length, get_or, set, refl, sym, ap, ◌∙◌, arith, ⊎_elim}
-use Rattle.std.proofs.lemmas.Bool.{cases_lt, cases_order}
-use Rattle.std.proofs.lemmas.List.{length-set, get_or-set_same, get_or-set_other}
-use Rattle.std.proofs.Math.Nat.{div-lt_iff_lt-mul}
-use Rattle.enabled_set.specs.Members.{is_in}
-use Rattle.enabled_set.specs.Counts.{tally, before, IsCount}
-use Rattle.enabled_set.proofs.Tally.{past, past_above, past_below, tally_add, tally_through, tally_put}
+use Rattle.std.proofs.Common.{◌≡◌, ℕ, zero, suc, ◌+◌, ◌<◌, ◌⊎◌, List, get_or, refl, ap, arith, ⊎_elim}
+use Rattle.std.proofs.lemmas.Bool.{cases_order}
+use Rattle.enabled_set.specs.Counts.{before}
+use Rattle.enabled_set.proofs.Tally.{past, past_above, past_below}
 
 pub before_none : (counts : List ℕ) → before counts 0 ≡ 0
 unfolding before

@@ -1,7 +1,7 @@
 -- The bits of a word.
-use Rattle.std.proofs.Common.{◌≡◌, ℕ, zero, suc, ◌+◌, ◌-◌, ◌*◌, ◌/◌, ◌%◌, ◌^◌, ◌<◌, ◌≤◌, Bool, true, false, Option, None, Some, List, get_or, set, length, refl, sym, ap, ◌∙◌, arith, ⊎_elim}
+use Rattle.std.proofs.Common.{◌≡◌, ℕ, ◌+◌, ◌-◌, ◌*◌, ◌/◌, ◌%◌, ◌^◌, ◌<◌, ◌≤◌, true, false, Option, None, Some, sym, ap, ◌∙◌, arith, ⊎_elim}
 use Rattle.std.specs.Prelude.{◌≢◌, bit_and, bit_or, nat_eq, MatchOption}
-use Rattle.std.specs.Int.{bit_at, w64, trailing_zeros, bit_not}
+use Rattle.std.specs.Int.{bit_at, w64, trailing_zeros}
 use Rattle.std.proofs.lemmas.Bool.{cases_lt}
 use Rattle.std.proofs.lemmas.Nat.{shr-shr, shr_le}
 use Rattle.std.proofs.lemmas.Nat.Bits.{shr_and_one, bit_at-zero, bit_at_set_same, bit_at_set_other, bit_at_clear_same, bit_at_clear_other, bit_at-trailing_zeros, bit_at_above}
@@ -57,9 +57,9 @@ next_some word from fits some =
     let zeros = bit_at-trailing_zeros w64 (word / 2 ^ from) some (omega arith) in
     let one : bit_at word (from + at) ≡ 1 = sym (shifted word from at) ∙ zeros.1 in
     let within : from + at < 64 = ⊎_elim
-      (λ (lt : from + at < 64). lt)
-      (λ (le : 64 ≤ from + at). let none = bit_at_above word 64 (from + at) fits le in absurd (omega arith))
-      (cases_lt (from + at) 64) in
+    (λ (lt : from + at < 64). lt)
+    (λ (le : 64 ≤ from + at). let none = bit_at_above word 64 (from + at) fits le in absurd (omega arith))
+    (cases_lt (from + at) 64) in
     (omega arith, within, has_one word (from + at) one, λ i low high. has_none word i (shifted_at word from i low ∙ zeros.2 (i - from) (omega arith)))
 
 -- what a scan of a word ends with

@@ -1,15 +1,15 @@
 -- One member more, and one less.
-use Rattle.std.proofs.Common.{◌≡◌, ℕ, zero, suc, ◌+◌, ◌-◌, ◌*◌, ◌/◌, ◌%◌, ◌<◌, ◌≤◌, Bool, true, false, ◌⊎◌, List, length, get_or, set, replicate, refl, sym, ap, subst, ◌∙◌, arith, ⊎_elim}
+use Rattle.std.proofs.Common.{◌≡◌, ℕ, zero, suc, ◌+◌, ◌-◌, ◌*◌, ◌/◌, ◌%◌, ◌<◌, ◌≤◌, Bool, true, false, List, length, get_or, set, replicate, sym, ap, subst, ◌∙◌, arith, ⊎_elim}
 use Rattle.std.specs.Prelude.{◌≢◌}
 use Rattle.std.proofs.lemmas.Bool.{cases_lt, cases_eq, true≢false}
 use Rattle.std.proofs.lemmas.List.{length-set, length-replicate, set-get_or, get_or_read, get_or-replicate, get_or_past}
 use Rattle.enabled_set.specs.Members.{is_in}
 use Rattle.enabled_set.specs.Words.{has_bit, is_on, places_of}
 use Rattle.enabled_set.specs.Counts.{tally, before, IsCount, IsCounted}
-use Rattle.enabled_set.proofs.Tally.{past, past_above, past_below, tally_add, tally_through, tally_put, tally_flat, tally_none}
-use Rattle.enabled_set.proofs.Before.{before_none, before_more, before_put}
+use Rattle.enabled_set.proofs.Tally.{past_above, tally_add, tally_through, tally_put, tally_flat, tally_none}
+use Rattle.enabled_set.proofs.Before.{before_none, before_more}
 use Rattle.enabled_set.proofs.Places.{places_are, put_here, put_there, on_none}
-use Rattle.enabled_set.proofs.Stretches.{stretch_there, count_few, count_some, count_more, count_less, on_here, same_there}
+use Rattle.enabled_set.proofs.Stretches.{stretch_there, count_more, count_less, on_here, same_there}
 
 -- the count that was read
 pub count_read : (bits : List Bool) (w : ℕ) (counts : List ℕ) (v n : ℕ) → 0 < w → IsCount bits w counts → v < length bits → n ≡ get_or counts (v / w) n → n ≡ get_or counts (v / w) 0
@@ -64,20 +64,20 @@ counted_more bits words s l total v word x y good there named off here others re
     let words_len = length-set words (v / 64) word in
     let covered = good.covered in
     record {
-  few = omega (arith, good.few, len);
-  covered = omega (arith, good.covered, len, words_len);
-  spare = omega (arith, good.spare, len, words_len);
-  nobody = same_there bits v true 0 (λ (e : 0 ≡ v). omega arith) ∙ good.nobody;
-  same = same_put bits words v word true there (omega arith) good.same here others;
-  in_64 = count_more bits 64 s v x (omega arith) good.in_64 there off (count_read bits 64 s v x (omega arith) good.in_64 there read_x);
-  in_1024 = count_more bits 1024 l v y (omega arith) good.in_1024 there off (count_read bits 1024 l v y (omega arith) good.in_1024 there read_y);
-  in_all =
-    let put = tally_put (is_in bits) (is_in (set bits v true)) v off (on_here bits v true there) (same_there bits v true) (length bits) in
-    let all = ap (tally (is_in (set bits v true))) len in
-    let one = past_above v (length bits) there in
-    let was = good.in_all in
-    omega arith;
-}
+      few = omega (arith, good.few, len);
+      covered = omega (arith, good.covered, len, words_len);
+      spare = omega (arith, good.spare, len, words_len);
+      nobody = same_there bits v true 0 (λ (e : 0 ≡ v). omega arith) ∙ good.nobody;
+      same = same_put bits words v word true there (omega arith) good.same here others;
+      in_64 = count_more bits 64 s v x (omega arith) good.in_64 there off (count_read bits 64 s v x (omega arith) good.in_64 there read_x);
+      in_1024 = count_more bits 1024 l v y (omega arith) good.in_1024 there off (count_read bits 1024 l v y (omega arith) good.in_1024 there read_y);
+      in_all =
+          let put = tally_put (is_in bits) (is_in (set bits v true)) v off (on_here bits v true there) (same_there bits v true) (length bits) in
+          let all = ap (tally (is_in (set bits v true))) len in
+          let one = past_above v (length bits) there in
+          let was = good.in_all in
+          omega arith;
+    }
 
 -- one member less
 pub counted_less : (bits : List Bool) (words s l : List ℕ) (total v word x y : ℕ) → IsCounted bits words s l total → v < length bits → is_in bits v ≡ true → has_bit word (v % 64) ≡ false → ((i : ℕ) → i < 64 → i ≢ (v % 64) → has_bit word i ≡ has_bit (get_or words (v / 64) 0) i) → x ≡ get_or s (v / 64) x → y ≡ get_or l (v / 1024) y → IsCounted (set bits v false) (set words (v / 64) word) (set s (v / 64) (x - 1)) (set l (v / 1024) (y - 1)) (total - 1)
@@ -87,20 +87,20 @@ counted_less bits words s l total v word x y good there on here others read_x re
     let named = somebody bits v good.nobody on in
     let covered = good.covered in
     record {
-  few = omega (arith, good.few, len);
-  covered = omega (arith, good.covered, len, words_len);
-  spare = omega (arith, good.spare, len, words_len);
-  nobody = same_there bits v false 0 (λ (e : 0 ≡ v). omega arith) ∙ good.nobody;
-  same = same_put bits words v word false there (omega arith) good.same here others;
-  in_64 = count_less bits 64 s v x (omega arith) good.in_64 there on (count_read bits 64 s v x (omega arith) good.in_64 there read_x);
-  in_1024 = count_less bits 1024 l v y (omega arith) good.in_1024 there on (count_read bits 1024 l v y (omega arith) good.in_1024 there read_y);
-  in_all =
-    let put = tally_put (is_in (set bits v false)) (is_in bits) v (on_here bits v false there) on (λ k apart. sym (same_there bits v false k apart)) (length bits) in
-    let all = ap (tally (is_in (set bits v false))) len in
-    let one = past_above v (length bits) there in
-    let was = good.in_all in
-    omega arith;
-}
+      few = omega (arith, good.few, len);
+      covered = omega (arith, good.covered, len, words_len);
+      spare = omega (arith, good.spare, len, words_len);
+      nobody = same_there bits v false 0 (λ (e : 0 ≡ v). omega arith) ∙ good.nobody;
+      same = same_put bits words v word false there (omega arith) good.same here others;
+      in_64 = count_less bits 64 s v x (omega arith) good.in_64 there on (count_read bits 64 s v x (omega arith) good.in_64 there read_x);
+      in_1024 = count_less bits 1024 l v y (omega arith) good.in_1024 there on (count_read bits 1024 l v y (omega arith) good.in_1024 there read_y);
+      in_all =
+          let put = tally_put (is_in (set bits v false)) (is_in bits) v (on_here bits v false there) on (λ k apart. sym (same_there bits v false k apart)) (length bits) in
+          let all = ap (tally (is_in (set bits v false))) len in
+          let one = past_above v (length bits) there in
+          let was = good.in_all in
+          omega arith;
+    }
 
 -- no member at all
 pub none_in : (n v : ℕ) → is_in (replicate n false) v ≡ false
@@ -131,10 +131,10 @@ count_empty n w m most least =
     let o : ℕ = 0 in
     let count_len = length-replicate m o in
     record {
-  covers = omega (arith, ap (λ k. w * k) count_len);
-  spare = omega (arith, ap (λ k. w * k) count_len);
-  counted = λ i. before_zeros m i ∙ sym (tally_nobody n (w * i));
-}
+      covers = omega (arith, ap (λ k. w * k) count_len);
+      spare = omega (arith, ap (λ k. w * k) count_len);
+      counted = λ i. before_zeros m i ∙ sym (tally_nobody n (w * i));
+    }
 
 -- the set of nobody
 counted_empty : (n : ℕ) → n ≤ 65536 → IsCounted (replicate n false) (replicate (n / 64 + 1) 0) (replicate (n / 64 + 1) 0) (replicate (n / 1024 + 1) 0) 0
@@ -143,15 +143,15 @@ counted_empty n few =
     let o : ℕ = 0 in
     let words_len = length-replicate (n / 64 + 1) o in
     record {
-  few = omega (arith, len);
-  covered = omega (arith, len, words_len);
-  spare = omega (arith, len, words_len);
-  nobody = none_in n 0;
-  same = λ v. none_in n v ∙ sym (on_none (n / 64 + 1) v);
-  in_64 = count_empty n 64 (n / 64 + 1) (omega arith) (omega arith);
-  in_1024 = count_empty n 1024 (n / 1024 + 1) (omega arith) (omega arith);
-  in_all = tally_nobody n (length (replicate n false));
-}
+      few = omega (arith, len);
+      covered = omega (arith, len, words_len);
+      spare = omega (arith, len, words_len);
+      nobody = none_in n 0;
+      same = λ v. none_in n v ∙ sym (on_none (n / 64 + 1) v);
+      in_64 = count_empty n 64 (n / 64 + 1) (omega arith) (omega arith);
+      in_1024 = count_empty n 1024 (n / 1024 + 1) (omega arith) (omega arith);
+      in_all = tally_nobody n (length (replicate n false));
+    }
 
 -- the places of words of no bits
 pub places_empty : (n : ℕ) (words : List ℕ) → words ≡ replicate (n / 64 + 1) 0 → places_of n words ≡ replicate n false

@@ -1,14 +1,14 @@
 -- The members below a number, ascending.
-use Rattle.std.proofs.Common.{◌≡◌, ℕ, zero, suc, ◌+◌, ◌-◌, ◌<◌, ◌≤◌, Bool, true, false, cond, ◌⊎◌, List, [], ◌∷◌, ◌++◌, map, length, get_or, Some, refl, sym, ap, subst, ◌∙◌, arith, ⊎_elim}
+use Rattle.std.proofs.Common.{◌≡◌, ℕ, zero, suc, ◌+◌, ◌<◌, ◌≤◌, Bool, true, false, cond, List, [], ◌∷◌, ◌++◌, map, length, get_or, Some, refl, sym, ap, ◌∙◌, arith, ⊎_elim}
 use Rattle.std.specs.List.{filter, range_with_len}
 use Rattle.std.specs.Prelude.{slice_get}
-use Rattle.std.proofs.lemmas.Bool.{cases_Bool, cases_lt, cases_order, true≢false}
+use Rattle.std.proofs.lemmas.Bool.{cases_Bool, cases_lt, true≢false}
 use Rattle.std.proofs.lemmas.List.{append-nil, map-id, length_push, get_or_past, get_or_push, get_or_append_left}
 use Rattle.std.proofs.lemmas.List.FromFn.{filter_of_map_range_with_len_more}
 use Rattle.std.proofs.lemmas.Option.{slice_get-get_or}
 use Rattle.enabled_set.specs.Members.{is_in, members}
 use Rattle.enabled_set.specs.Counts.{tally, below}
-use Rattle.enabled_set.proofs.Tally.{tally_none, tally_true, tally_false, tally_one, tally_rise, tally_through}
+use Rattle.enabled_set.proofs.Tally.{tally_none, tally_true, tally_false, tally_through}
 
 pub below_none : (p : ℕ → Bool) → below p 0 ≡ []
 unfolding below

@@ -1,5 +1,5 @@
 -- From the counts down to the k-th member, and from the words to all members.
-use Rattle.std.proofs.Common.{◌≡◌, ℕ, suc, ◌+◌, ◌-◌, ◌*◌, ◌/◌, ◌<◌, ◌≤◌, Bool, true, false, List, [], ◌∷◌, ◌++◌, length, get_or, Option, Some, None, sym, ap, ◌∙◌, arith}
+use Rattle.std.proofs.Common.{◌≡◌, ℕ, suc, ◌+◌, ◌-◌, ◌*◌, ◌<◌, ◌≤◌, Bool, true, false, List, [], ◌∷◌, ◌++◌, length, get_or, Option, Some, None, sym, ap, ◌∙◌, arith}
 use Rattle.std.specs.Prelude.{slice_get, SomeIff}
 use Rattle.std.specs.List.{range_with_len}
 use Rattle.std.proofs.lemmas.List.{get_or_past}
@@ -7,8 +7,8 @@ use Rattle.std.proofs.lemmas.List.Elements.{filter_agree}
 use Rattle.std.proofs.lemmas.Option.{slice_get_past}
 use Rattle.enabled_set.specs.Members.{is_in, members}
 use Rattle.enabled_set.specs.Words.{has_bit, is_on, AreNames}
-use Rattle.enabled_set.specs.Counts.{tally, below, before, IsCount, IsCounted}
-use Rattle.enabled_set.proofs.Tally.{tally_none, tally_rise, tally_flat, tally_shift}
+use Rattle.enabled_set.specs.Counts.{tally, below, before, IsCounted}
+use Rattle.enabled_set.proofs.Tally.{tally_rise, tally_flat, tally_shift}
 use Rattle.enabled_set.proofs.Before.{before_none}
 use Rattle.enabled_set.proofs.Places.{on_word}
 use Rattle.enabled_set.proofs.Members.{below_true, members_below, length-members, nth_member, inside}
@@ -28,7 +28,7 @@ pub word_step : (words : List ℕ) (word place from at v : ℕ) (l m : List ℕ)
 word_step words word place from at v l m is low inside on flat old name new =
     let here : is_on words (64 * place + at) ≡ true = on_word words place at inside ∙ ap (λ w. has_bit w at) (sym is) ∙ on in
     let none : (k : ℕ) → 64 * place + from ≤ k → k < 64 * place + at → is_on words k ≡ false = λ k a b.
-      ap (is_on words) (let e : k ≡ 64 * place + (k - 64 * place) = omega arith in e) ∙ on_word words place (k - 64 * place) (omega arith) ∙ ap (λ w. has_bit w (k - 64 * place)) (sym is) ∙ flat (k - 64 * place) (omega arith) (omega arith) in
+    ap (is_on words) (let e : k ≡ 64 * place + (k - 64 * place) = omega arith in e) ∙ on_word words place (k - 64 * place) (omega arith) ∙ ap (λ w. has_bit w (k - 64 * place)) (sym is) ∙ flat (k - 64 * place) (omega arith) (omega arith) in
     let same = below_same (is_on words) (64 * place + from) (64 * place + at) (omega arith) (tally_flat (is_on words) (64 * place + from) (at - from) (64 * place + at) none (omega arith)) in
     new ∙ ap (λ xs. xs ++ v ∷ []) (old ∙ sym same) ∙ ap (λ n. below (is_on words) (64 * place + at) ++ n ∷ []) name ∙ sym (below_true (is_on words) (64 * place + at) here) ∙ ap (below (is_on words)) (let e : suc (64 * place + at) ≡ 64 * place + (at + 1) = omega arith in e)
 
@@ -40,7 +40,7 @@ word_name words word place at names is inside on = names (64 * place + at) (on_w
 pub word_rest : (words : List ℕ) (word place from : ℕ) (l : List ℕ) → word ≡ get_or words place 0 → from ≤ 64 → ((i : ℕ) → from ≤ i → i < 64 → has_bit word i ≡ false) → l ≡ below (is_on words) (64 * place + from) → l ≡ below (is_on words) (64 * place + 64)
 word_rest words word place from l is low flat old =
     let none : (k : ℕ) → 64 * place + from ≤ k → k < 64 * place + 64 → is_on words k ≡ false = λ k a b.
-      ap (is_on words) (let e : k ≡ 64 * place + (k - 64 * place) = omega arith in e) ∙ on_word words place (k - 64 * place) (omega arith) ∙ ap (λ w. has_bit w (k - 64 * place)) (sym is) ∙ flat (k - 64 * place) (omega arith) (omega arith) in
+    ap (is_on words) (let e : k ≡ 64 * place + (k - 64 * place) = omega arith in e) ∙ on_word words place (k - 64 * place) (omega arith) ∙ ap (λ w. has_bit w (k - 64 * place)) (sym is) ∙ flat (k - 64 * place) (omega arith) (omega arith) in
     old ∙ sym (below_same (is_on words) (64 * place + from) (64 * place + 64) (omega arith) (tally_flat (is_on words) (64 * place + from) (64 - from) (64 * place + 64) none (omega arith)))
 
 -- the words have all members

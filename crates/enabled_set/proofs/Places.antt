@@ -1,13 +1,12 @@
 -- Places as bits of words.
-use Rattle.std.proofs.Common.{◌≡◌, ℕ, zero, suc, ◌+◌, ◌-◌, ◌*◌, ◌/◌, ◌%◌, ◌<◌, ◌≤◌, Bool, true, false, List, length, get_or, set, map, replicate, refl, sym, ap, ◌∙◌, arith, ⊎_elim}
+use Rattle.std.proofs.Common.{◌≡◌, ℕ, ◌+◌, ◌*◌, ◌/◌, ◌%◌, ◌<◌, ◌≤◌, Bool, false, List, length, get_or, set, replicate, sym, ap, ◌∙◌, arith, ⊎_elim}
 use Rattle.std.specs.Prelude.{◌≢◌}
-use Rattle.std.specs.List.{range_with_len}
-use Rattle.std.proofs.lemmas.Bool.{cases_lt, cases_eq, true≢false}
-use Rattle.std.proofs.lemmas.List.{length-set, length-replicate, get_or-set_same, get_or-set_other, get_or-replicate, get_or_past, ext_get_or}
+use Rattle.std.proofs.lemmas.Bool.{cases_lt, cases_eq}
+use Rattle.std.proofs.lemmas.List.{length-replicate, get_or-set_same, get_or-set_other, get_or-replicate, get_or_past, ext_get_or}
 use Rattle.std.proofs.lemmas.List.FromFn.{length-map-range_with_len, get_or-map-range_with_len}
 use Rattle.std.proofs.lemmas.Nat.Bits.{bit_at-zero}
 use Rattle.enabled_set.specs.Members.{is_in}
-use Rattle.enabled_set.specs.Words.{has_bit, is_on, places_of, AreNames}
+use Rattle.enabled_set.specs.Words.{has_bit, is_on, places_of}
 use Rattle.enabled_set.proofs.Bits.{has_none}
 
 pub length-places_of : (len : ℕ) (words : List ℕ) → length (places_of len words) ≡ len
@@ -57,7 +56,7 @@ unfolding is_on
 on_none m v =
     let zeros : List ℕ = replicate m 0 in
     let none : get_or zeros (v / 64) 0 ≡ 0 = ⊎_elim
-      (λ (lt : v / 64 < m). get_or-replicate m (v / 64) 0 0 lt)
-      (λ (le : m ≤ v / 64). get_or_past zeros (v / 64) 0 (let o : ℕ = 0 in let len = length-replicate m o in omega arith))
-      (cases_lt (v / 64) m) in
+    (λ (lt : v / 64 < m). get_or-replicate m (v / 64) 0 0 lt)
+    (λ (le : m ≤ v / 64). get_or_past zeros (v / 64) 0 (let o : ℕ = 0 in let len = length-replicate m o in omega arith))
+    (cases_lt (v / 64) m) in
     ap (λ w. has_bit w (v % 64)) none ∙ has_none 0 (v % 64) (bit_at-zero (v % 64))

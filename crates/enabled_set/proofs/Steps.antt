@@ -1,10 +1,10 @@
 -- What a step of a scan passes, and what it appends.
-use Rattle.std.proofs.Common.{◌≡◌, ℕ, zero, suc, ◌+◌, ◌-◌, ◌*◌, ◌<◌, ◌≤◌, Bool, true, false, cond, ◌⊎◌, Option, None, Some, List, [], ◌∷◌, ◌++◌, length, get_or, add-one, refl, sym, ap, subst, ◌∙◌, arith, ⊎_elim}
+use Rattle.std.proofs.Common.{◌≡◌, ℕ, zero, suc, ◌+◌, ◌-◌, ◌*◌, ◌≤◌, Bool, true, false, Option, None, Some, List, [], ◌∷◌, ◌++◌, get_or, add-one, refl, sym, ap, ◌∙◌, arith, ⊎_elim}
 use Rattle.std.specs.Prelude.{if◌then◌else◌}
-use Rattle.std.proofs.lemmas.Bool.{cases_Bool, cases_lt, false≢true, cond-true, cond-false}
+use Rattle.std.proofs.lemmas.Bool.{cases_Bool}
 use Rattle.enabled_set.specs.Members.{is_in}
 use Rattle.enabled_set.specs.Counts.{tally, below, before, IsCount}
-use Rattle.enabled_set.proofs.Tally.{tally_none, tally_true, tally_false, tally_one, tally_rise, tally_through}
+use Rattle.enabled_set.proofs.Tally.{tally_true, tally_false, tally_rise}
 use Rattle.enabled_set.proofs.Before.{before_more}
 use Rattle.enabled_set.proofs.Members.{below_true, below_false}
 

@@ -1,12 +1,12 @@
 -- Counts that say how many members each stretch of places has.
-use Rattle.std.proofs.Common.{◌≡◌, ℕ, zero, suc, ◌+◌, ◌-◌, ◌*◌, ◌/◌, ◌<◌, ◌≤◌, Bool, true, false, ◌⊎◌, List, length, get_or, set, replicate, refl, sym, ap, ◌∙◌, arith, ⊎_elim}
+use Rattle.std.proofs.Common.{◌≡◌, ℕ, suc, ◌+◌, ◌-◌, ◌*◌, ◌/◌, ◌<◌, ◌≤◌, Bool, true, false, List, length, get_or, set, sym, ap, ◌∙◌, arith, ⊎_elim}
 use Rattle.std.proofs.lemmas.Bool.{cases_lt}
-use Rattle.std.proofs.lemmas.List.{length-set, length-replicate, get_or-set_same, get_or-set_other, get_or-replicate, get_or_past}
+use Rattle.std.proofs.lemmas.List.{length-set, get_or-set_same, get_or-set_other}
 use Rattle.std.proofs.Math.Nat.{div-lt_iff_lt-mul, mul-suc, mul_comm, mul-div-le, le-div_iff_mul-le}
 use Rattle.enabled_set.specs.Members.{is_in}
-use Rattle.enabled_set.specs.Counts.{tally, before, IsCount}
-use Rattle.enabled_set.proofs.Tally.{past, past_above, past_below, tally_add, tally_through, tally_put, tally_none}
-use Rattle.enabled_set.proofs.Before.{before_none, before_more, before_put}
+use Rattle.enabled_set.specs.Counts.{tally, IsCount}
+use Rattle.enabled_set.proofs.Tally.{past, past_above, past_below, tally_add, tally_through, tally_put}
+use Rattle.enabled_set.proofs.Before.{before_more, before_put}
 
 -- a stretch is counted before a place where it ends there
 past_stretch : (w v i : ℕ) → 0 < w → past (v / w) i ≡ past v (w * i)
@@ -61,14 +61,14 @@ count_more bits w counts v n some good there off is =
     let count_len = length-set counts (v / w) (n + 1) in
     let inside = stretch_there bits w counts v some good there in
     record {
-  covers = omega (arith, good.covers, len, ap (λ m. w * m) count_len);
-  spare = omega (arith, good.spare, len, ap (λ m. w * m) count_len);
-  counted = λ i.
-    before_put counts (set counts (v / w) (n + 1)) (v / w) (get_or-set_same counts (v / w) (n + 1) 0 inside ∙ omega arith) (λ k apart. get_or-set_other counts (v / w) k (n + 1) 0 apart) i
-    ∙ ap (λ t. t + past (v / w) i) (good.counted i)
-    ∙ ap (λ t. tally (is_in bits) (w * i) + t) (past_stretch w v i some)
-    ∙ sym (tally_put (is_in bits) (is_in (set bits v true)) v off (on_here bits v true there) (same_there bits v true) (w * i));
-}
+      covers = omega (arith, good.covers, len, ap (λ m. w * m) count_len);
+      spare = omega (arith, good.spare, len, ap (λ m. w * m) count_len);
+      counted = λ i.
+          before_put counts (set counts (v / w) (n + 1)) (v / w) (get_or-set_same counts (v / w) (n + 1) 0 inside ∙ omega arith) (λ k apart. get_or-set_other counts (v / w) k (n + 1) 0 apart) i
+          ∙ ap (λ t. t + past (v / w) i) (good.counted i)
+          ∙ ap (λ t. tally (is_in bits) (w * i) + t) (past_stretch w v i some)
+          ∙ sym (tally_put (is_in bits) (is_in (set bits v true)) v off (on_here bits v true there) (same_there bits v true) (w * i));
+    }
 
 -- one member less
 pub count_less : (bits : List Bool) (w : ℕ) (counts : List ℕ) (v n : ℕ) → 0 < w → IsCount bits w counts → v < length bits → is_in bits v ≡ true → n ≡ get_or counts (v / w) 0 → IsCount (set bits v false) w (set counts (v / w) (n - 1))
@@ -78,13 +78,13 @@ count_less bits w counts v n some good there on is =
     let inside = stretch_there bits w counts v some good there in
     let has = count_some bits w counts v some good on in
     record {
-  covers = omega (arith, good.covers, len, ap (λ m. w * m) count_len);
-  spare = omega (arith, good.spare, len, ap (λ m. w * m) count_len);
-  counted = λ i.
-    let here = get_or-set_same counts (v / w) (n - 1) 0 inside in
-    let more = before_put (set counts (v / w) (n - 1)) counts (v / w) (omega arith) (λ k apart. sym (get_or-set_other counts (v / w) k (n - 1) 0 apart)) i in
-    let less = tally_put (is_in (set bits v false)) (is_in bits) v (on_here bits v false there) on (λ k apart. sym (same_there bits v false k apart)) (w * i) in
-    let stretch = past_stretch w v i some in
-    let was = good.counted i in
-    omega arith;
-}
+      covers = omega (arith, good.covers, len, ap (λ m. w * m) count_len);
+      spare = omega (arith, good.spare, len, ap (λ m. w * m) count_len);
+      counted = λ i.
+          let here = get_or-set_same counts (v / w) (n - 1) 0 inside in
+          let more = before_put (set counts (v / w) (n - 1)) counts (v / w) (omega arith) (λ k apart. sym (get_or-set_other counts (v / w) k (n - 1) 0 apart)) i in
+          let less = tally_put (is_in (set bits v false)) (is_in bits) v (on_here bits v false there) on (λ k apart. sym (same_there bits v false k apart)) (w * i) in
+          let stretch = past_stretch w v i some in
+          let was = good.counted i in
+          omega arith;
+    }

@@ -1,4 +1,4 @@
-use Rattle.std.proofs.Common.{◌≡◌, ◌%◌, ℕ, ap, ◌∙◌}
+use Rattle.std.proofs.Common.{◌%◌, ap, ◌∙◌}
 use Rattle.enabled_set.specs.Words.{has_bit, is_on}
 use Rattle.enabled_set.proofs.scan.look.Goals as goal
 

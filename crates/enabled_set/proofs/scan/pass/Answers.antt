@@ -1,5 +1,4 @@
-use Rattle.std.proofs.Common.{◌≡◌, ◌+◌, ◌-◌, ◌<◌, ap, arith}
-use Rattle.enabled_set.specs.Counts.{before}
+use Rattle.std.proofs.Common.{arith}
 use Rattle.enabled_set.proofs.Steps.{before_step}
 use Rattle.enabled_set.proofs.scan.pass.Goals as goal
 

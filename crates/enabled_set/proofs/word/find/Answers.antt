@@ -1,4 +1,4 @@
-use Rattle.std.proofs.Common.{◌≡◌, ◌+◌, ◌-◌, ◌<◌, ◌≤◌, ℕ, true, arith, ◌∙◌, sym, subst}
+use Rattle.std.proofs.Common.{◌≡◌, ◌-◌, ◌<◌, ◌≤◌, true, arith, sym, subst}
 use Rattle.std.specs.Prelude.{MatchOption}
 use Rattle.enabled_set.specs.Words.{has_bit}
 use Rattle.enabled_set.specs.Counts.{tally}

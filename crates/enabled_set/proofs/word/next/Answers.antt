@@ -1,4 +1,4 @@
-use Rattle.std.proofs.Common.{◌<◌, arith}
+use Rattle.std.proofs.Common.{arith}
 use Rattle.enabled_set.proofs.Bits.{next_none, next_some}
 use Rattle.enabled_set.proofs.word.next.Goals as goal
 

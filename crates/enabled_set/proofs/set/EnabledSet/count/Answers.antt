@@ -1,4 +1,4 @@
-use Rattle.std.proofs.Common.{◌≡◌, length, sym, ap, ◌∙◌}
+use Rattle.std.proofs.Common.{length, sym, ap, ◌∙◌}
 use Rattle.enabled_set.specs.Members.{members}
 use Rattle.enabled_set.specs.Words.{places_of}
 use Rattle.enabled_set.proofs.Members.{length-members}

@@ -1,10 +1,9 @@
-use Rattle.std.proofs.Common.{◌≡◌, ◌+◌, ◌-◌, ◌<◌, ◌≤◌, Bool, List, true, false, length, ℕ, ◌*◌, ◌/◌, ◌%◌, Fits, arith, ap, sym, subst, ◌∙◌, get_or, set}
-use Rattle.std.specs.Prelude.{◌≢◌}
-use Rattle.enabled_set.specs.Words.{has_bit, is_on, places_of}
+use Rattle.std.proofs.Common.{◌+◌, ◌<◌, Bool, List, true, length, ◌/◌, arith, ap, sym, subst, ◌∙◌, set}
+use Rattle.enabled_set.specs.Words.{is_on, places_of}
 use Rattle.enabled_set.specs.Counts.{IsCounted}
 use Rattle.enabled_set.proofs.Places.{length-places_of}
-use Rattle.enabled_set.proofs.Stretches.{count_few, count_some}
-use Rattle.enabled_set.proofs.Changes.{count_read, word_read, set_same, total_few, total_some, places_put, counted_more, counted_less}
+use Rattle.enabled_set.proofs.Stretches.{count_few}
+use Rattle.enabled_set.proofs.Changes.{count_read, word_read, total_few, places_put, counted_more}
 use Rattle.enabled_set.proofs.set.EnabledSet.insert.Goals as goal
 
 pub overflow_add-index_mut : goal.overflow_add-index_mut

@@ -1,5 +1,5 @@
-use Rattle.std.proofs.Common.{◌≡◌, ◌+◌, ◌*◌, ◌<◌, ◌≤◌, true, false, length, slice_get, None, Some, ap, sym, ◌∙◌, arith}
-use Rattle.enabled_set.specs.Members.{is_in, members}
+use Rattle.std.proofs.Common.{slice_get, ap, sym, ◌∙◌}
+use Rattle.enabled_set.specs.Members.{members}
 use Rattle.enabled_set.specs.Words.{places_of}
 use Rattle.enabled_set.proofs.Nth.{enough_lots, enough_groups, passed, nth_none, nth_there, nth_some}
 use Rattle.enabled_set.proofs.set.EnabledSet.nth.Goals as goal

@@ -1,10 +1,9 @@
-use Rattle.std.proofs.Common.{◌≡◌, ◌+◌, ◌-◌, ◌<◌, ◌≤◌, Bool, List, true, false, length, ℕ, ◌*◌, ◌/◌, ◌%◌, Fits, arith, ap, sym, subst, ◌∙◌, get_or, set}
-use Rattle.std.specs.Prelude.{◌≢◌}
-use Rattle.enabled_set.specs.Words.{has_bit, is_on, places_of}
+use Rattle.std.proofs.Common.{◌-◌, ◌<◌, Bool, List, false, length, ◌/◌, arith, ap, sym, subst, ◌∙◌, set}
+use Rattle.enabled_set.specs.Words.{is_on, places_of}
 use Rattle.enabled_set.specs.Counts.{IsCounted}
 use Rattle.enabled_set.proofs.Places.{length-places_of}
-use Rattle.enabled_set.proofs.Stretches.{count_few, count_some}
-use Rattle.enabled_set.proofs.Changes.{count_read, word_read, set_same, total_few, total_some, places_put, counted_more, counted_less}
+use Rattle.enabled_set.proofs.Stretches.{count_some}
+use Rattle.enabled_set.proofs.Changes.{count_read, word_read, total_some, places_put, counted_less}
 use Rattle.enabled_set.proofs.set.EnabledSet.remove.Goals as goal
 
 pub overflow_sub-index_mut : goal.overflow_sub-index_mut
