@@ -98,9 +98,9 @@ word_tally bits words s l ws total word group n good is_w is few =
 pub nth_none : (bits : List Bool) (words s l : List ℕ) (total k : ℕ) → IsCounted bits words s l total → total ≤ k → slice_get (members bits) k ≡ None
 nth_none bits words s l total k good most = slice_get_past (members bits) k (let len = length-members bits in let all = good.in_all in omega arith)
 
--- a word with more members than are to pass has one behind them
-pub nth_there : (bits : List Bool) (words s l ss ws : List ℕ) (total word group left : ℕ) → IsCounted bits words s l total → ss ≡ s → ws ≡ words → word ≡ get_or ws group 0 → left < get_or ss group 0 → tally (has_bit word) 64 ≤ left → ⊥
-nth_there bits words s l ss ws total word group left good is_s is_w is less few =
+-- the word where two scans stand has more members than are to pass
+pub word_enough : (bits : List Bool) (words s l ss ws : List ℕ) (total word group left : ℕ) → IsCounted bits words s l total → ss ≡ s → ws ≡ words → word ≡ get_or ws group 0 → left < get_or ss group 0 → left < tally (has_bit word) 64
+word_enough bits words s l ss ws total word group left good is_s is_w is less =
     let all = word_tally bits words s l ws total word group 64 good is_w is (omega arith) in
     let low = good.in_64.counted group in
     let high = good.in_64.counted (group + 1) in

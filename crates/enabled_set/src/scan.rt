@@ -4,15 +4,8 @@ ghost use Rattle.std.specs.Prelude.{◌≡◌, ◌+◌, ◌*◌, ◌<◌, ◌≤
 ghost use Rattle.enabled_set.specs.Words.{is_on, AreNames};
 ghost use Rattle.enabled_set.specs.Counts.{before, below};
 
-use crate::word::{has, next};
+use crate::word::{Spot, has, next};
 use rule_machine::{Node, Want};
-
-/// Where a scan for a member stands: before a stretch of places, with as many members from there on to pass.
-#[derive(Clone, Copy)]
-pub struct Spot {
-    pub place: usize,
-    pub left: u32,
-}
 
 /// The word at a place; 0 past the end.
 pub fn word_at(words: &[u64], place: usize) -> u64

@@ -65,8 +65,8 @@ impl EnabledSet {
         self.total
     }
 
-    /// The k-th member by rising names, from 0; `None` where there are not so many. 144 looks at most: at 64 counts, at
-    /// 16 counts, and at the bits of a word.
+    /// The k-th member by rising names, from 0; `None` where there are not so many. A look at 64 counts at most, then at
+    /// 16, then at a word.
     pub fn nth(&self, k: u32) -> Option<Node>
         ensures { result ≡ slice_get (members self.now) k }
     {
@@ -75,7 +75,7 @@ impl EnabledSet {
         }
         let lot = pass(&self.by_1024, 0, 64, k);
         let group = pass(&self.by_64, 16 * lot.place, 16, lot.left);
-        let at = find(word_at(&self.words, group.place), group.left)?;
+        let at = find(word_at(&self.words, group.place), group.left);
         Node::new((64 * group.place + at) as u32)
     }
 

@@ -1,6 +1,6 @@
 //! Bits of a word of 64.
 
-ghost use Rattle.std.specs.Prelude.{◌≡◌, ◌≢◌, ℕ, ◌<◌, ◌≤◌, true, false, MatchOption};
+ghost use Rattle.std.specs.Prelude.{◌≡◌, ◌≢◌, ℕ, ◌+◌, ◌*◌, ◌<◌, ◌≤◌, true, false, MatchOption};
 ghost use Rattle.enabled_set.specs.Words.{has_bit};
 ghost use Rattle.enabled_set.specs.Counts.{tally};
 
@@ -45,13 +45,48 @@ pub fn next(word: u64, from: usize) -> Option<usize>
     Some(from + rest.trailing_zeros() as usize)
 }
 
-/// The bit of a word that stands behind as many as are to pass.
-pub fn find(word: u64, to_pass: u32) -> Option<usize>
-    ensures { MatchOption result (tally (has_bit word) 64 ≤ to_pass) (λ at. (at < 64) × (has_bit word at ≡ true) × (tally (has_bit word) at ≡ to_pass)) }
+/// Where a scan stands: before a stretch of places, with as many members from there on to pass.
+#[derive(Clone, Copy)]
+pub struct Spot {
+    pub place: usize,
+    pub left: u32,
+}
+
+/// Of twice as many places as `width`, the half in which the bit stands that a scan is looking for.
+fn half(word: u64, spot: Spot, width: usize) -> Spot
+    requires some { 1 ≤ width }
+    requires inside { spot.place + 2 * width ≤ 64 }
+    requires enough { tally (has_bit word) spot.place + spot.left < tally (has_bit word) (spot.place + 2 * width) }
+    ensures passed { tally (has_bit word) result.place + result.left ≡ tally (has_bit word) spot.place + spot.left }
+    ensures here { tally (has_bit word) result.place + result.left < tally (has_bit word) (result.place + width) }
+    ensures near { result.place ≤ spot.place + width }
 {
-    let mut from = 0;
-    for _passed in 0..to_pass {
-        from = next(word, from)? + 1;
+    let low = word >> spot.place & ((1 << width) - 1);
+    let ones = low.count_ones();
+    if spot.left < ones {
+        return spot;
     }
-    next(word, from)
+    Spot {
+        place: spot.place + width,
+        left: spot.left - ones,
+    }
+}
+
+/// The bit of a word that stands behind as many as are to pass.
+pub fn find(word: u64, to_pass: u32) -> usize
+    requires { to_pass < tally (has_bit word) 64 }
+    ensures inside { result < 64 }
+    ensures on { has_bit word result ≡ true }
+    ensures passed { tally (has_bit word) result ≡ to_pass }
+{
+    let whole = Spot {
+        place: 0,
+        left: to_pass,
+    };
+    let in_32 = half(word, whole, 32);
+    let in_16 = half(word, in_32, 16);
+    let in_8 = half(word, in_16, 8);
+    let in_4 = half(word, in_8, 4);
+    let in_2 = half(word, in_4, 2);
+    half(word, in_2, 1).place
 }
