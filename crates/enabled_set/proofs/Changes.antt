@@ -125,14 +125,13 @@ tally_nobody : (n i : ℕ) → tally (is_in (replicate n false)) i ≡ 0
 tally_nobody n i = tally_flat (is_in (replicate n false)) 0 i i (λ k low high. none_in n k) (omega arith) ∙ tally_none (is_in (replicate n false))
 
 -- the counts of nobody
-pub count_empty : (n w m : ℕ) → n ≤ w * m → w * m ≤ n + w → IsCount (replicate n false) w (replicate m 0)
-count_empty n w m most least =
+pub count_empty : (n w m : ℕ) → n ≤ w * m → IsCount (replicate n false) w (replicate m 0)
+count_empty n w m most =
     let len = length-replicate n false in
     let o : ℕ = 0 in
     let count_len = length-replicate m o in
     record {
       covers = omega (arith, ap (λ k. w * k) count_len);
-      spare = omega (arith, ap (λ k. w * k) count_len);
       counted = λ i. before_zeros m i ∙ sym (tally_nobody n (w * i));
     }
 
@@ -148,8 +147,8 @@ counted_empty n few =
       spare = omega (arith, len, words_len);
       nobody = none_in n 0;
       same = λ v. none_in n v ∙ sym (on_none (n / 64 + 1) v);
-      in_64 = count_empty n 64 (n / 64 + 1) (omega arith) (omega arith);
-      in_1024 = count_empty n 1024 (n / 1024 + 1) (omega arith) (omega arith);
+      in_64 = count_empty n 64 (n / 64 + 1) (omega arith);
+      in_1024 = count_empty n 1024 (n / 1024 + 1) (omega arith);
       in_all = tally_nobody n (length (replicate n false));
     }
 

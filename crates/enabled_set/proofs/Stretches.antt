@@ -62,7 +62,6 @@ count_more bits w counts v n some good there off is =
     let inside = stretch_there bits w counts v some good there in
     record {
       covers = omega (arith, good.covers, len, ap (λ m. w * m) count_len);
-      spare = omega (arith, good.spare, len, ap (λ m. w * m) count_len);
       counted = λ i.
           before_put counts (set counts (v / w) (n + 1)) (v / w) (get_or-set_same counts (v / w) (n + 1) 0 inside ∙ omega arith) (λ k apart. get_or-set_other counts (v / w) k (n + 1) 0 apart) i
           ∙ ap (λ t. t + past (v / w) i) (good.counted i)
@@ -79,7 +78,6 @@ count_less bits w counts v n some good there on is =
     let has = count_some bits w counts v some good on in
     record {
       covers = omega (arith, good.covers, len, ap (λ m. w * m) count_len);
-      spare = omega (arith, good.spare, len, ap (λ m. w * m) count_len);
       counted = λ i.
           let here = get_or-set_same counts (v / w) (n - 1) 0 inside in
           let more = before_put (set counts (v / w) (n - 1)) counts (v / w) (omega arith) (λ k apart. sym (get_or-set_other counts (v / w) k (n - 1) 0 apart)) i in

@@ -18,14 +18,12 @@ unfoldable pub before : List ℕ → ℕ → ℕ
 before counts zero = 0
 before counts (suc i) = before counts i + slice_index counts i
 
--- The i-th count is how many members the i-th stretch of this many places has. The stretches cover all places, and no
--- more than one of them is spare.
+-- The i-th count is how many members the i-th stretch of this many places has, and the stretches cover all places.
 pub record IsCount (bits : List Bool) (width : ℕ) (counts : List ℕ) : Type 0 where
   pub covers : length bits ≤ width * length counts
-  pub spare : width * length counts ≤ length bits + width
   pub counted : (i : ℕ) → before counts i ≡ tally (is_in bits) (width * i)
 
--- The words have these places and no more, nobody is no member, and the counts and the total are right.
+-- The words have these places and at most a word's more, nobody is no member, and the counts and the total are right.
 pub record IsCounted (bits : List Bool) (words by_64 by_1024 : List ℕ) (total : ℕ) : Type 0 where
   pub few : length bits ≤ 65536
   pub covered : length bits ≤ 64 * length words

@@ -4,7 +4,7 @@ ghost use Rattle.std.specs.Prelude.{◌≡◌, ◌+◌, ◌*◌, ◌<◌, ◌≤
 ghost use Rattle.enabled_set.specs.Words.{is_on, AreNames};
 ghost use Rattle.enabled_set.specs.Counts.{before, below};
 
-use crate::word::{Spot, has, next};
+use crate::word::{Spot, bit_is_set, next_bit};
 use rule_machine::{Node, Want};
 
 /// The word at a place; 0 past the end.
@@ -21,7 +21,7 @@ pub fn word_at(words: &[u64], place: usize) -> u64
 pub fn look(words: &[u64], place: usize) -> bool
     ensures { result ≡ is_on words.now place }
 {
-    has(word_at(words, place / 64), place % 64)
+    bit_is_set(word_at(words, place / 64), place % 64)
 }
 
 /// The count at a place; 0 past the end.
@@ -67,7 +67,7 @@ pub fn push_word(list: &mut Vec<Node>, words: &[u64], place: usize) -> Result<()
 {
     let word = word_at(words, place);
     let mut from = 0;
-    while let Some(at) = next(word, from) {
+    while let Some(at) = next_bit(word, from) {
         if let Some(member) = Node::new((64 * place + at) as u32) {
             list.push(member)?;
         }

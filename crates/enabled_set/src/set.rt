@@ -4,7 +4,7 @@ ghost use Rattle.std.specs.Prelude.{◌≡◌, ◌+◌, ◌<◌, ◌≤◌, true
 ghost use Rattle.enabled_set.specs.Members.{is_in, members};
 
 use crate::scan::{look, pass, push_word, word_at};
-use crate::word::{find, with, without};
+use crate::word::{find_bit, with_bit, without_bit};
 use rule_machine::{Node, Want};
 use std::alloc::Global;
 use std::marker::Model;
@@ -75,7 +75,7 @@ impl EnabledSet {
         }
         let lot = pass(&self.by_1024, 0, 64, k);
         let group = pass(&self.by_64, 16 * lot.place, 16, lot.left);
-        let at = find(word_at(&self.words, group.place), group.left);
+        let at = find_bit(word_at(&self.words, group.place), group.left);
         Node::new((64 * group.place + at) as u32)
     }
 
@@ -99,7 +99,7 @@ impl EnabledSet {
         if look(&self.words, place) {
             return;
         }
-        self.words[place / 64] = with(self.words[place / 64], place % 64);
+        self.words[place / 64] = with_bit(self.words[place / 64], place % 64);
         self.by_64[place / 64] += 1;
         self.by_1024[place / 1024] += 1;
         self.total += 1;
@@ -114,7 +114,7 @@ impl EnabledSet {
         if !look(&self.words, place) {
             return;
         }
-        self.words[place / 64] = without(self.words[place / 64], place % 64);
+        self.words[place / 64] = without_bit(self.words[place / 64], place % 64);
         self.by_64[place / 64] -= 1;
         self.by_1024[place / 1024] -= 1;
         self.total -= 1;

@@ -5,7 +5,7 @@ ghost use Rattle.enabled_set.specs.Words.{has_bit};
 ghost use Rattle.enabled_set.specs.Counts.{tally};
 
 /// Whether a word has a bit.
-pub fn has(word: u64, at: usize) -> bool
+pub fn bit_is_set(word: u64, at: usize) -> bool
     requires { at < 64 }
     ensures { result ≡ has_bit word at }
 {
@@ -13,7 +13,7 @@ pub fn has(word: u64, at: usize) -> bool
 }
 
 /// A word with one bit more.
-pub fn with(word: u64, at: usize) -> u64
+pub fn with_bit(word: u64, at: usize) -> u64
     requires { at < 64 }
     ensures here { has_bit result at ≡ true }
     ensures others { (i : ℕ) → i < 64 → i ≢ at → has_bit result i ≡ has_bit word i }
@@ -22,7 +22,7 @@ pub fn with(word: u64, at: usize) -> u64
 }
 
 /// A word with one bit less.
-pub fn without(word: u64, at: usize) -> u64
+pub fn without_bit(word: u64, at: usize) -> u64
     requires { at < 64 }
     ensures here { has_bit result at ≡ false }
     ensures others { (i : ℕ) → i < 64 → i ≢ at → has_bit result i ≡ has_bit word i }
@@ -31,7 +31,7 @@ pub fn without(word: u64, at: usize) -> u64
 }
 
 /// The next bit that a word has, from a place on.
-pub fn next(word: u64, from: usize) -> Option<usize>
+pub fn next_bit(word: u64, from: usize) -> Option<usize>
     requires { from ≤ 64 }
     ensures { MatchOption result ((i : ℕ) → from ≤ i → i < 64 → has_bit word i ≡ false) (λ at. (from ≤ at) × (at < 64) × (has_bit word at ≡ true) × ((i : ℕ) → from ≤ i → i < at → has_bit word i ≡ false)) }
 {
@@ -73,7 +73,7 @@ fn half(word: u64, spot: Spot, width: usize) -> Spot
 }
 
 /// The bit of a word that stands behind as many as are to pass.
-pub fn find(word: u64, to_pass: u32) -> usize
+pub fn find_bit(word: u64, to_pass: u32) -> usize
     requires { to_pass < tally (has_bit word) 64 }
     ensures inside { result < 64 }
     ensures on { has_bit word result ≡ true }

@@ -4,4 +4,4 @@ use Rattle.enabled_set.proofs.scan.look.Goals as goal
 
 pub returns : goal.returns
 unfolding is_on
-returns c = c.has.ensures ∙ ap (λ word. has_bit word (c.args.place % 64)) c.word_at.ensures
+returns c = c.bit_is_set.ensures ∙ ap (λ word. has_bit word (c.args.place % 64)) c.word_at.ensures

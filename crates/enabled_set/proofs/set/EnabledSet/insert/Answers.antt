@@ -30,11 +30,11 @@ invariant_of-self c =
     let off = c.self.invariant.same c.place-place.result ∙ ap (λ ws. is_on ws c.place-place.result) (sym c.deref.ensures.value) ∙ sym c.look.ensures ∙ c.if-look.false in
     let covered = c.self.invariant.covered in
     let room : c.place-place.result / 64 < length c.self.inside.words.items = omega arith in
-    let others = word_read c.self.inside.words.items c.place-place.result c.index.result.now c.with.result room c.index.ensures c.with.ensures.others in
-    let words = set c.self.inside.words.items (c.place-place.result / 64) c.with.result in
+    let others = word_read c.self.inside.words.items c.place-place.result c.index.result.now c.with_bit.result room c.index.ensures c.with_bit.ensures.others in
+    let words = set c.self.inside.words.items (c.place-place.result / 64) c.with_bit.result in
     let by_64 = set c.self.inside.by_64.items (c.place-place.result / 64) (c.index_mut-2.result.now + 1) in
     let by_1024 = set c.self.inside.by_1024.items (c.place-place.result / 1024) (c.index_mut-3.result.now + 1) in
-    subst (λ (xs : List Bool). IsCounted xs words by_64 by_1024 (c.self.inside.total + 1)) (sym (places_put c.self.inside.len bits c.self.inside.words.items c.place-place.result c.with.result true (length-places_of c.self.inside.len c.self.inside.words.items) there room c.self.invariant.same c.with.ensures.here others)) (counted_more bits c.self.inside.words.items c.self.inside.by_64.items c.self.inside.by_1024.items c.self.inside.total c.place-place.result c.with.result c.index_mut-2.result.now c.index_mut-3.result.now c.self.invariant there c.place-place.ensures.named.0 off c.with.ensures.here others c.index_mut-2.ensures.value c.index_mut-3.ensures.value)
+    subst (λ (xs : List Bool). IsCounted xs words by_64 by_1024 (c.self.inside.total + 1)) (sym (places_put c.self.inside.len bits c.self.inside.words.items c.place-place.result c.with_bit.result true (length-places_of c.self.inside.len c.self.inside.words.items) there room c.self.invariant.same c.with_bit.ensures.here others)) (counted_more bits c.self.inside.words.items c.self.inside.by_64.items c.self.inside.by_1024.items c.self.inside.total c.place-place.result c.with_bit.result c.index_mut-2.result.now c.index_mut-3.result.now c.self.invariant there c.place-place.ensures.named.0 off c.with_bit.ensures.here others c.index_mut-2.ensures.value c.index_mut-3.ensures.value)
 
 pub returns : goal.returns
 returns c =
@@ -43,5 +43,5 @@ returns c =
     let off = c.self.invariant.same c.place-place.result ∙ ap (λ ws. is_on ws c.place-place.result) (sym c.deref.ensures.value) ∙ sym c.look.ensures ∙ c.if-look.false in
     let covered = c.self.invariant.covered in
     let room : c.place-place.result / 64 < length c.self.inside.words.items = omega arith in
-    let others = word_read c.self.inside.words.items c.place-place.result c.index.result.now c.with.result room c.index.ensures c.with.ensures.others in
-    places_put c.self.inside.len bits c.self.inside.words.items c.place-place.result c.with.result true (length-places_of c.self.inside.len c.self.inside.words.items) there room c.self.invariant.same c.with.ensures.here others ∙ ap (λ v. set bits v true) c.place-place.ensures.same ∙ ap (λ xs. set xs c.args.v true) c.self.view_is
+    let others = word_read c.self.inside.words.items c.place-place.result c.index.result.now c.with_bit.result room c.index.ensures c.with_bit.ensures.others in
+    places_put c.self.inside.len bits c.self.inside.words.items c.place-place.result c.with_bit.result true (length-places_of c.self.inside.len c.self.inside.words.items) there room c.self.invariant.same c.with_bit.ensures.here others ∙ ap (λ v. set bits v true) c.place-place.ensures.same ∙ ap (λ xs. set xs c.args.v true) c.self.view_is

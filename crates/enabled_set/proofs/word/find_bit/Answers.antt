@@ -2,7 +2,7 @@ use Rattle.std.proofs.Common.{arith}
 use Rattle.enabled_set.specs.Words.{has_bit}
 use Rattle.enabled_set.proofs.Tally.{tally_none}
 use Rattle.enabled_set.proofs.Bits.{last}
-use Rattle.enabled_set.proofs.word.find.Goals as goal
+use Rattle.enabled_set.proofs.word.find_bit.Goals as goal
 
 pub half-in_32-requires-clause-enough : goal.half-in_32-requires-clause-enough
 half-in_32-requires-clause-enough c = omega (arith, c.requires, tally_none (has_bit c.args.word))

@@ -1,5 +1,5 @@
 use Rattle.enabled_set.proofs.Bits.{with_here, with_others}
-use Rattle.enabled_set.proofs.word.with.Goals as goal
+use Rattle.enabled_set.proofs.word.with_bit.Goals as goal
 
 pub returns-clause-here : goal.returns-clause-here
 returns-clause-here c = with_here c.args.word c.args.at c.requires

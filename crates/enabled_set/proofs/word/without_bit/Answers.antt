@@ -1,5 +1,5 @@
 use Rattle.enabled_set.proofs.Bits.{without_here, without_others}
-use Rattle.enabled_set.proofs.word.without.Goals as goal
+use Rattle.enabled_set.proofs.word.without_bit.Goals as goal
 
 pub returns-clause-here : goal.returns-clause-here
 returns-clause-here c = without_here c.args.word c.args.at c.requires
