@@ -2,7 +2,7 @@
 use Rattle.std.proofs.Common.{◌≡◌, ℕ, zero, suc, ◌+◌, ◌-◌, ◌*◌, ◌/◌, ◌%◌, ◌<◌, ◌≤◌, Bool, true, false, List, length, get_or, set, replicate, sym, ap, subst, ◌∙◌, arith, ⊎_elim}
 use Rattle.std.specs.Prelude.{◌≢◌}
 use Rattle.std.proofs.lemmas.Bool.{cases_lt, cases_eq, true≢false}
-use Rattle.std.proofs.lemmas.List.{length-set, length-replicate, set-get_or, get_or_read, get_or-replicate, get_or_past}
+use Rattle.std.proofs.lemmas.List.{length-set, length-replicate, get_or_read, get_or-replicate, get_or_past}
 use Rattle.enabled_set.specs.Members.{is_in}
 use Rattle.enabled_set.specs.Words.{has_bit, is_on, places_of}
 use Rattle.enabled_set.specs.Counts.{tally, before, IsCount, IsCounted}
@@ -15,17 +15,9 @@ use Rattle.enabled_set.proofs.Stretches.{stretch_there, count_more, count_less, 
 pub count_read : (bits : List Bool) (w : ℕ) (counts : List ℕ) (v n : ℕ) → 0 < w → IsCount bits w counts → v < length bits → n ≡ get_or counts (v / w) n → n ≡ get_or counts (v / w) 0
 count_read bits w counts v n some good there read = get_or_read counts (v / w) n (stretch_there bits w counts v some good there) read 0
 
--- the place that was read
-pub place_read : (bits : List Bool) (v : ℕ) (on b : Bool) → v < length bits → on ≡ get_or bits v on → on ≡ b → is_in bits v ≡ b
-place_read bits v on b there read is = sym (get_or_read bits v on there read false) ∙ is
-
 -- the word that was read
 pub word_read : (words : List ℕ) (v read word : ℕ) → v / 64 < length words → read ≡ get_or words (v / 64) read → ((i : ℕ) → i < 64 → i ≢ (v % 64) → has_bit word i ≡ has_bit read i) → (i : ℕ) → i < 64 → i ≢ (v % 64) → has_bit word i ≡ has_bit (get_or words (v / 64) 0) i
 word_read words v read word room is others i inside apart = others i inside apart ∙ ap (λ w. has_bit w i) (get_or_read words (v / 64) read room is 0)
-
--- a place that is as it is to be
-pub set_same : (bits : List Bool) (v : ℕ) (b : Bool) → is_in bits v ≡ b → set bits v b ≡ bits
-set_same bits v b is = ap (set bits v) (sym is) ∙ set-get_or bits v false
 
 -- who is a member, or is to be one, is somebody
 pub somebody : (bits : List Bool) (v : ℕ) → is_in bits 0 ≡ false → is_in bits v ≡ true → 1 ≤ v

@@ -23,14 +23,23 @@ names_only bits words s l total good v on =
     let few = good.few in
     (somebody bits v good.nobody here, omega arith)
 
+-- where a word has no bit, no name is added
+word_gap : (words : List ℕ) (word place from to : ℕ) → word ≡ get_or words place 0 → from ≤ to → to ≤ 64 → ((i : ℕ) → from ≤ i → i < to → has_bit word i ≡ false) → below (is_on words) (64 * place + to) ≡ below (is_on words) (64 * place + from)
+word_gap words word place from to is low high flat =
+    let none : (k : ℕ) → 64 * place + from ≤ k → k < 64 * place + to → is_on words k ≡ false = λ k a b.
+    ap (is_on words) (let e : k ≡ 64 * place + (k - 64 * place) = omega arith in e) ∙ on_word words place (k - 64 * place) (omega arith) ∙ ap (λ w. has_bit w (k - 64 * place)) (sym is) ∙ flat (k - 64 * place) (omega arith) (omega arith) in
+    below_same (is_on words) (64 * place + from) (64 * place + to) (omega arith) (tally_flat (is_on words) (64 * place + from) (to - from) (64 * place + to) none (omega arith))
+
 -- a name in a word is appended to those before
 pub word_step : (words : List ℕ) (word place from at v : ℕ) (l m : List ℕ) → word ≡ get_or words place 0 → from ≤ at → at < 64 → has_bit word at ≡ true → ((i : ℕ) → from ≤ i → i < at → has_bit word i ≡ false) → l ≡ below (is_on words) (64 * place + from) → v ≡ 64 * place + at → m ≡ l ++ v ∷ [] → m ≡ below (is_on words) (64 * place + (at + 1))
 word_step words word place from at v l m is low inside on flat old name new =
     let here : is_on words (64 * place + at) ≡ true = on_word words place at inside ∙ ap (λ w. has_bit w at) (sym is) ∙ on in
-    let none : (k : ℕ) → 64 * place + from ≤ k → k < 64 * place + at → is_on words k ≡ false = λ k a b.
-    ap (is_on words) (let e : k ≡ 64 * place + (k - 64 * place) = omega arith in e) ∙ on_word words place (k - 64 * place) (omega arith) ∙ ap (λ w. has_bit w (k - 64 * place)) (sym is) ∙ flat (k - 64 * place) (omega arith) (omega arith) in
-    let same = below_same (is_on words) (64 * place + from) (64 * place + at) (omega arith) (tally_flat (is_on words) (64 * place + from) (at - from) (64 * place + at) none (omega arith)) in
-    new ∙ ap (λ xs. xs ++ v ∷ []) (old ∙ sym same) ∙ ap (λ n. below (is_on words) (64 * place + at) ++ n ∷ []) name ∙ sym (below_true (is_on words) (64 * place + at) here) ∙ ap (below (is_on words)) (let e : suc (64 * place + at) ≡ 64 * place + (at + 1) = omega arith in e)
+    let same = word_gap words word place from at is low (omega arith) flat in
+    new
+    ∙ ap (λ xs. xs ++ v ∷ []) (old ∙ sym same)
+    ∙ ap (λ n. below (is_on words) (64 * place + at) ++ n ∷ []) name
+    ∙ sym (below_true (is_on words) (64 * place + at) here)
+    ∙ ap (below (is_on words)) (let e : suc (64 * place + at) ≡ 64 * place + (at + 1) = omega arith in e)
 
 -- a bit of a word is a name
 pub word_name : (words : List ℕ) (word place at : ℕ) → AreNames words → word ≡ get_or words place 0 → at < 64 → has_bit word at ≡ true → (1 ≤ 64 * place + at) × (64 * place + at ≤ 65535)
@@ -38,10 +47,7 @@ word_name words word place at names is inside on = names (64 * place + at) (on_w
 
 -- the rest of a word has no name
 pub word_rest : (words : List ℕ) (word place from : ℕ) (l : List ℕ) → word ≡ get_or words place 0 → from ≤ 64 → ((i : ℕ) → from ≤ i → i < 64 → has_bit word i ≡ false) → l ≡ below (is_on words) (64 * place + from) → l ≡ below (is_on words) (64 * place + 64)
-word_rest words word place from l is low flat old =
-    let none : (k : ℕ) → 64 * place + from ≤ k → k < 64 * place + 64 → is_on words k ≡ false = λ k a b.
-    ap (is_on words) (let e : k ≡ 64 * place + (k - 64 * place) = omega arith in e) ∙ on_word words place (k - 64 * place) (omega arith) ∙ ap (λ w. has_bit w (k - 64 * place)) (sym is) ∙ flat (k - 64 * place) (omega arith) (omega arith) in
-    old ∙ sym (below_same (is_on words) (64 * place + from) (64 * place + 64) (omega arith) (tally_flat (is_on words) (64 * place + from) (64 - from) (64 * place + 64) none (omega arith)))
+word_rest words word place from l is low flat old = old ∙ sym (word_gap words word place from 64 is low (omega arith) flat)
 
 -- the words have all members
 below_agree : (p q : ℕ → Bool) (n : ℕ) → ((v : ℕ) → p v ≡ q v) → below p n ≡ below q n

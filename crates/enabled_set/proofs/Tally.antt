@@ -77,14 +77,6 @@ tally_step p q n same d h =
     (λ (t : p n ≡ false). let e = tally_false p n t in let f = tally_false q n (same ∙ t) in omega arith)
     (cases_Bool (p n))
 
--- two tests that agree everywhere
-pub tally_agree : (p q : ℕ → Bool) → ((k : ℕ) → q k ≡ p k) → (n : ℕ) → tally q n ≡ tally p n
-tally_agree p q same zero = tally_none q ∙ sym (tally_none p)
-tally_agree p q same (suc n) =
-    let ih = tally_agree p q same n in
-    let s = tally_step p q n (same n) 0 (omega arith) in
-    omega arith
-
 -- two tests that agree from a number on
 pub tally_shift : (p q : ℕ → Bool) (a n : ℕ) → ((k : ℕ) → k < n → p (a + k) ≡ q k) → tally p (a + n) ≡ tally p a + tally q n
 tally_shift p q a zero same = let e : a + 0 ≡ a = omega arith in let f = ap (tally p) e in let none = tally_none q in omega arith
