@@ -33,7 +33,8 @@ impl Model for EnabledSet {
 }
 
 impl EnabledSet {
-    /// The empty set, of the names 1 to `nodes`, at most 65,535: some ten kilobytes for as many.
+    /// The empty set, for the names 1 to `nodes`, at most 65,535; takes a bit a name and some two bytes for each 64
+    /// names, at most some ten kilobytes.
     pub fn new(alloc: Global, nodes: u32) -> Result<EnabledSet, Want>
         requires { nodes ≤ 65535 }
         ensures { IfOk result (λ set. set ≡ replicate (nodes + 1) false) }
@@ -79,7 +80,8 @@ impl EnabledSet {
         Node::new((64 * group.place + at) as u32)
     }
 
-    /// The members by rising names. A look at each word, and one more at each member.
+    /// The members by rising names, at most 65,535; takes two bytes a member. A look at each word, and one more at each
+    /// member.
     pub fn to_list(&self) -> Result<Vec<Node>, Want>
         ensures { IfOk result (λ list. list.items ≡ members self.now) }
     {
@@ -90,7 +92,7 @@ impl EnabledSet {
         Ok(list)
     }
 
-    /// Makes a name a member, which it may be already. Four writes.
+    /// Makes a name that has a place a member, which it may be already. Four writes at most.
     pub fn insert(&mut self, v: Node)
         requires { v < length self.old }
         ensures { self.new ≡ slice_set self.old v true }
@@ -105,7 +107,7 @@ impl EnabledSet {
         self.total += 1;
     }
 
-    /// Makes a name no member, which it may be none already. Four writes.
+    /// Makes a name that has a place no member, which it may be none already. Four writes at most.
     pub fn remove(&mut self, v: Node)
         requires { v < length self.old }
         ensures { self.new ≡ slice_set self.old v false }
