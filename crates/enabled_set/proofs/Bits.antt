@@ -1,0 +1,118 @@
+-- The bits of a word.
+use Rattle.std.proofs.Common.{◌≡◌, ℕ, zero, suc, ◌+◌, ◌-◌, ◌*◌, ◌/◌, ◌%◌, ◌^◌, ◌<◌, ◌≤◌, Bool, true, false, sym, ap, ◌∙◌, arith, ⊎_elim}
+use Rattle.std.specs.Prelude.{◌≢◌, bit_and, bit_or, count_ones, nat_eq}
+use Rattle.std.specs.Int.{bit_at, w64, trailing_zeros}
+use Rattle.std.proofs.lemmas.Bool.{cases_Bool, cases_lt}
+use Rattle.std.proofs.Math.Nat.{mod-lt}
+use Rattle.std.proofs.lemmas.Nat.{shr-shr, shr_le, mod-pow-add, ones_cat, one_shl, and_mask, pow_pos, ones_le_self, zero_from_ones}
+use Rattle.std.proofs.lemmas.Nat.Bits.{shr_and_one, bit_at-zero, bit_at_set_same, bit_at_set_other, bit_at_clear_same, bit_at_clear_other, bit_at-trailing_zeros, bit_at_above, bit_at-lt}
+use Rattle.enabled_set.specs.Words.{has_bit}
+use Rattle.enabled_set.specs.Counts.{tally}
+use Rattle.enabled_set.proofs.Tally.{tally_none, tally_true, tally_false, tally_shift}
+use Rattle.enabled_set.proofs.Steps.{tally_on, tally_off}
+
+pub has_one : (word i : ℕ) → bit_at word i ≡ 1 → has_bit word i ≡ true
+unfolding has_bit
+has_one word i h = ap (λ n. nat_eq n 1) h
+
+pub has_none : (word i : ℕ) → bit_at word i ≡ 0 → has_bit word i ≡ false
+unfolding has_bit
+has_none word i h = ap (λ n. nat_eq n 1) h
+
+pub has_same : (word other i : ℕ) → bit_at word i ≡ bit_at other i → has_bit word i ≡ has_bit other i
+unfolding has_bit
+has_same word other i h = ap (λ n. nat_eq n 1) h
+
+-- the bit that was read
+pub has_read : (word at : ℕ) → nat_eq (bit_and (word / 2 ^ at) 1) 1 ≡ has_bit word at
+unfolding has_bit
+has_read word at = ap (λ n. nat_eq n 1) (shr_and_one word at)
+
+pub with_here : (word at : ℕ) → at < 64 → has_bit (bit_or word (1 * 2 ^ at % 18446744073709551616)) at ≡ true
+with_here word at within = has_one (bit_or word (1 * 2 ^ at % 18446744073709551616)) at (bit_at_set_same w64 word at within)
+
+pub with_others : (word at i : ℕ) → at < 64 → i ≢ at → has_bit (bit_or word (1 * 2 ^ at % 18446744073709551616)) i ≡ has_bit word i
+with_others word at i within apart = has_same (bit_or word (1 * 2 ^ at % 18446744073709551616)) word i (bit_at_set_other w64 word at within i apart)
+
+pub without_here : (word at : ℕ) → at < 64 → has_bit (bit_and word (18446744073709551615 - 1 * 2 ^ at % 18446744073709551616)) at ≡ false
+without_here word at within = has_none (bit_and word (18446744073709551615 - 1 * 2 ^ at % 18446744073709551616)) at (bit_at_clear_same w64 word at within)
+
+pub without_others : (word at i : ℕ) → at < 64 → i < 64 → i ≢ at → has_bit (bit_and word (18446744073709551615 - 1 * 2 ^ at % 18446744073709551616)) i ≡ has_bit word i
+without_others word at i within inside apart = has_same (bit_and word (18446744073709551615 - 1 * 2 ^ at % 18446744073709551616)) word i (bit_at_clear_other w64 word at within i inside apart)
+
+-- the bits from a place on
+shifted : (word from i : ℕ) → bit_at (word / 2 ^ from) i ≡ bit_at word (from + i)
+shifted word from i = ap (λ n. n % 2) (shr-shr word from i)
+
+shifted_at : (word from i : ℕ) → from ≤ i → bit_at word i ≡ bit_at (word / 2 ^ from) (i - from)
+shifted_at word from i low = ap (bit_at word) (let e : i ≡ from + (i - from) = omega arith in e) ∙ sym (shifted word from (i - from))
+
+shifted_bit : (word from i : ℕ) → has_bit (word / 2 ^ from) i ≡ has_bit word (from + i)
+unfolding has_bit
+shifted_bit word from i = ap (λ n. nat_eq n 1) (shifted word from i)
+
+-- there is no bit from a place on
+pub next_none : (word from i : ℕ) → word / 2 ^ from ≡ 0 → from ≤ i → has_bit word i ≡ false
+next_none word from i none low = has_none word i (shifted_at word from i low ∙ ap (λ n. bit_at n (i - from)) none ∙ bit_at-zero (i - from))
+
+-- the next bit from a place on
+pub next_some : (word from : ℕ) → word < 18446744073709551616 → 0 < word / 2 ^ from → (from ≤ from + trailing_zeros w64 (word / 2 ^ from)) × (from + trailing_zeros w64 (word / 2 ^ from) < 64) × (has_bit word (from + trailing_zeros w64 (word / 2 ^ from)) ≡ true) × ((i : ℕ) → from ≤ i → i < from + trailing_zeros w64 (word / 2 ^ from) → has_bit word i ≡ false)
+next_some word from fits some =
+    let at : ℕ = trailing_zeros w64 (word / 2 ^ from) in
+    let less = shr_le word from in
+    let zeros = bit_at-trailing_zeros w64 (word / 2 ^ from) some (omega arith) in
+    let one : bit_at word (from + at) ≡ 1 = sym (shifted word from at) ∙ zeros.1 in
+    let within : from + at < 64 = ⊎_elim
+    (λ (lt : from + at < 64). lt)
+    (λ (le : 64 ≤ from + at). let none = bit_at_above word 64 (from + at) fits le in absurd (omega arith))
+    (cases_lt (from + at) 64) in
+    (omega arith, within, has_one word (from + at) one, λ i low high. has_none word i (shifted_at word from i low ∙ zeros.2 (i - from) (omega arith)))
+
+ones_of_0 : count_ones 0 ≡ 0
+ones_of_0 = omega (arith, ones_le_self 0)
+
+ones_of_1 : count_ones 1 ≡ 1
+ones_of_1 =
+    let most = ones_le_self 1 in
+    ⊎_elim
+    (λ (lt : count_ones 1 < 1). let none : 1 ≡ 0 = zero_from_ones 1 (omega arith) in absurd (omega arith))
+    (λ (le : 1 ≤ count_ones 1). omega arith)
+    (cases_lt (count_ones 1) 1)
+
+-- the ones below a place are as many as the tally says
+ones_low : (word n : ℕ) → count_ones (word % 2 ^ n) ≡ tally (has_bit word) n
+ones_low word zero = let e : word % 1 ≡ 0 = omega arith in ap count_ones e ∙ ones_of_0 ∙ sym (tally_none (has_bit word))
+ones_low word (suc n) =
+    let ih = ones_low word n in
+    let split = mod-pow-add word 1 n in
+    let e : suc n ≡ 1 + n = omega arith in
+    let cat = ones_cat n (bit_at word n) (word % 2 ^ n) (mod-lt word {m = 2 ^ n} (pow_pos n)) in
+    let whole : count_ones (word % 2 ^ suc n) ≡ count_ones (bit_at word n) + count_ones (word % 2 ^ n) = ap (λ m. count_ones (word % 2 ^ m)) e ∙ ap count_ones split ∙ cat in
+    let two = bit_at-lt word n in
+    ⊎_elim
+    (λ (lt : bit_at word n < 1).
+    let none : bit_at word n ≡ 0 = omega arith in
+    let t = tally_false (has_bit word) n (has_none word n none) in
+    let z : count_ones (bit_at word n) ≡ 0 = ap count_ones none ∙ ones_of_0 in
+    omega arith)
+    (λ (le : 1 ≤ bit_at word n).
+    let one : bit_at word n ≡ 1 = omega arith in
+    let t = tally_true (has_bit word) n (has_one word n one) in
+    let z : count_ones (bit_at word n) ≡ 1 = ap count_ones one ∙ ones_of_1 in
+    omega arith)
+    (cases_lt (bit_at word n) 1)
+
+-- the ones among some places from one on
+pub ones_there : (word at width : ℕ) → width < 64 → tally (has_bit word) (at + width) ≡ tally (has_bit word) at + count_ones (bit_and (word / 2 ^ at) (1 * 2 ^ width % 18446744073709551616 - 1))
+ones_there word at width less =
+    let mask : bit_and (word / 2 ^ at) (1 * 2 ^ width % 18446744073709551616 - 1) ≡ (word / 2 ^ at) % 2 ^ width = ap (λ m. bit_and (word / 2 ^ at) (m - 1)) (one_shl width 64 less) ∙ and_mask (word / 2 ^ at) width in
+    tally_shift (has_bit word) (has_bit (word / 2 ^ at)) at width (λ i low. sym (shifted_bit word at i))
+    ∙ ap (λ n. tally (has_bit word) at + n) (sym (ones_low (word / 2 ^ at) width) ∙ ap count_ones (sym mask))
+
+-- where one place has more members than are to pass, it has one and none is to pass
+pub last : (p : ℕ → Bool) (n left : ℕ) → tally p n + left < tally p (n + 1) → (p n ≡ true) × (left ≡ 0)
+last p n left less =
+    ⊎_elim
+    (λ (h : p n ≡ true). let t = tally_on p n h in (h, omega arith))
+    (λ (h : p n ≡ false). let t = tally_off p n h in absurd (omega arith))
+    (cases_Bool (p n))

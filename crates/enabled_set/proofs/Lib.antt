@@ -1,0 +1,9 @@
+pub mod Tally
+pub mod Bits
+pub mod Places
+pub mod Before
+pub mod Stretches
+pub mod Changes
+pub mod Members
+pub mod Steps
+pub mod Nth

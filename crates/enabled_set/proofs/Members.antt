@@ -1,0 +1,87 @@
+-- The members below a number, ascending.
+use Rattle.std.proofs.Common.{◌≡◌, ℕ, zero, suc, ◌+◌, ◌<◌, ◌≤◌, Bool, true, false, cond, List, [], ◌∷◌, ◌++◌, map, length, get_or, Some, refl, sym, ap, ◌∙◌, arith, ⊎_elim}
+use Rattle.std.specs.List.{filter, range_with_len}
+use Rattle.std.specs.Prelude.{slice_get}
+use Rattle.std.proofs.lemmas.Bool.{cases_Bool, cases_lt, true≢false}
+use Rattle.std.proofs.lemmas.List.{append-nil, map-id, length_push, get_or_past, get_or_push, get_or_append_left}
+use Rattle.std.proofs.lemmas.List.FromFn.{filter_of_map_range_with_len_more}
+use Rattle.std.proofs.lemmas.Option.{slice_get-get_or}
+use Rattle.enabled_set.specs.Members.{is_in, members}
+use Rattle.enabled_set.specs.Counts.{tally, below}
+use Rattle.enabled_set.proofs.Tally.{tally_none, tally_true, tally_false, tally_through}
+
+pub below_none : (p : ℕ → Bool) → below p 0 ≡ []
+unfolding below
+below_none p = refl
+
+-- one number more
+pub below_more : (p : ℕ → Bool) (n : ℕ) → below p (suc n) ≡ below p n ++ cond (p n) (n ∷ []) []
+unfolding below
+below_more p n =
+    let same : (m : ℕ) → map (λ (k : ℕ). k) (range_with_len 0 m) ≡ range_with_len 0 m = λ m. map-id (range_with_len 0 m) in
+    let e : n + 1 ≡ suc n = omega arith in
+    ap (λ m. filter p (range_with_len 0 m)) (sym e)
+    ∙ ap (filter p) (sym (same (n + 1)))
+    ∙ filter_of_map_range_with_len_more p (λ (k : ℕ). k) 0 n n (omega arith)
+    ∙ ap (λ l. filter p l ++ cond (p n) (n ∷ []) []) (same n)
+
+pub below_true : (p : ℕ → Bool) (n : ℕ) → p n ≡ true → below p (suc n) ≡ below p n ++ n ∷ []
+below_true p n h = below_more p n ∙ ap (λ b. below p n ++ cond b (n ∷ []) []) h
+
+pub below_false : (p : ℕ → Bool) (n : ℕ) → p n ≡ false → below p (suc n) ≡ below p n
+below_false p n h = below_more p n ∙ ap (λ b. below p n ++ cond b (n ∷ []) []) h ∙ append-nil (below p n)
+
+-- there are as many as the tally says
+pub length-below : (p : ℕ → Bool) (n : ℕ) → length (below p n) ≡ tally p n
+length-below p zero = ap length (below_none p) ∙ sym (tally_none p)
+length-below p (suc n) =
+    let ih = length-below p n in
+    ⊎_elim
+    (λ (h : p n ≡ true). ap length (below_true p n h) ∙ length_push (below p n) n ∙ (let t = tally_true p n h in omega arith))
+    (λ (h : p n ≡ false). ap length (below_false p n h) ∙ ih ∙ sym (tally_false p n h))
+    (cases_Bool (p n))
+
+-- the members are those below the last place
+pub members_below : (bits : List Bool) → members bits ≡ below (is_in bits) (length bits)
+unfolding below
+members_below bits = refl
+
+pub length-members : (bits : List Bool) → length (members bits) ≡ tally (is_in bits) (length bits)
+length-members bits = ap length (members_below bits) ∙ length-below (is_in bits) (length bits)
+
+-- the k-th member
+below_at : (p : ℕ → Bool) (n v k : ℕ) → p v ≡ true → tally p v ≡ k → v < n → get_or (below p n) k 0 ≡ v
+below_at p zero v k on is inside = absurd (omega arith)
+below_at p (suc n) v k on is inside =
+    let len = length-below p n in
+    ⊎_elim
+    (λ (lt : v < n).
+    let ih = below_at p n v k on is lt in
+    let room = tally_through p v v n on (omega arith) lt in
+    ⊎_elim
+    (λ (h : p n ≡ true). ap (λ l. get_or l k 0) (below_true p n h) ∙ get_or_append_left (below p n) (n ∷ []) 0 k (omega arith) ∙ ih)
+    (λ (h : p n ≡ false). ap (λ l. get_or l k 0) (below_false p n h) ∙ ih)
+    (cases_Bool (p n)))
+    (λ (le : n ≤ v).
+    let e : n ≡ v = omega arith in
+    let f = ap (tally p) e in
+    ap (λ l. get_or l k 0) (below_true p n (ap p e ∙ on)) ∙ get_or_push (below p n) n 0 k (omega arith) ∙ e)
+    (cases_lt v n)
+
+-- a member has a place
+pub inside : (bits : List Bool) (v : ℕ) → is_in bits v ≡ true → v < length bits
+inside bits v on =
+    ⊎_elim
+    (λ (lt : v < length bits). lt)
+    (λ (le : length bits ≤ v). absurd (true≢false (sym on ∙ get_or_past bits v false le)))
+    (cases_lt v (length bits))
+
+-- a member is the k-th where as many members stand before it
+pub nth_member : (bits : List Bool) (v k : ℕ) → is_in bits v ≡ true → tally (is_in bits) v ≡ k → slice_get (members bits) k ≡ Some v
+nth_member bits v k on is =
+    let there = inside bits v on in
+    let len = length-members bits in
+    let room = tally_through (is_in bits) v v (length bits) on (omega arith) there in
+    slice_get-get_or (members bits) k 0 (omega arith)
+    ∙ ap (λ l. Some (get_or l k 0)) (members_below bits)
+    ∙ ap (λ (x : ℕ). Some x) (below_at (is_in bits) (length bits) v k on is there)

@@ -1,0 +1,35 @@
+-- How many members each stretch of places has.
+use Rattle.std.specs.Prelude.{◌≡◌, ℕ, zero, suc, ◌+◌, ◌*◌, ◌≤◌, Bool, false, cond, List, length, slice_index}
+use Rattle.std.specs.List.{filter, range_with_len}
+use Rattle.enabled_set.specs.Members.{is_in}
+use Rattle.enabled_set.specs.Words.{is_on}
+
+-- how many of the numbers below the second pass
+unfoldable pub tally : (ℕ → Bool) → ℕ → ℕ
+tally p zero = 0
+tally p (suc n) = cond (p n) (suc (tally p n)) (tally p n)
+
+-- the numbers below the second that pass, ascending
+unfoldable pub below : (ℕ → Bool) → ℕ → List ℕ
+below p n = filter p (range_with_len 0 n)
+
+-- the sum of the counts before a place; nothing is counted past the end
+unfoldable pub before : List ℕ → ℕ → ℕ
+before counts zero = 0
+before counts (suc i) = before counts i + slice_index counts i
+
+-- The i-th count is how many members the i-th stretch of this many places has, and the stretches cover all places.
+pub record IsCount (bits : List Bool) (width : ℕ) (counts : List ℕ) : Type 0 where
+  pub covers : length bits ≤ width * length counts
+  pub counted : (i : ℕ) → before counts i ≡ tally (is_in bits) (width * i)
+
+-- The words have these places and at most a word's more, nobody is no member, and the counts and the total are right.
+pub record IsCounted (bits : List Bool) (words by_64 by_1024 : List ℕ) (total : ℕ) : Type 0 where
+  pub few : length bits ≤ 65536
+  pub covered : length bits ≤ 64 * length words
+  pub spare : 64 * length words ≤ length bits + 64
+  pub nobody : is_in bits 0 ≡ false
+  pub same : (v : ℕ) → is_in bits v ≡ is_on words v
+  pub in_64 : IsCount bits 64 by_64
+  pub in_1024 : IsCount bits 1024 by_1024
+  pub in_all : tally (is_in bits) (length bits) ≡ total
