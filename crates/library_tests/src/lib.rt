@@ -20,6 +20,8 @@ mod machines;
 #[cfg(test)]
 mod manne_rows;
 #[cfg(test)]
+mod name_sets;
+#[cfg(test)]
 mod plain_answers;
 #[cfg(test)]
 mod plain_types;
