@@ -1,5 +1,5 @@
 -- A fault of a register, drawn by the words of a generator: the node, the register, and what it will hold.
-use Rattle.std.specs.Prelude.{ℕ, ◌+◌, ◌-◌, ◌%◌, Bool, Option, None, Some, if◌then◌else◌, nat_eq, length, slice_get, slice_index}
+use Rattle.std.specs.Prelude.{ℕ, zero, suc, ◌+◌, ◌-◌, ◌%◌, Bool, Option, None, Some, if◌then◌else◌, nat_eq, length, slice_get, slice_index}
 use Rattle.rand_core.specs.Stream.{Stream, next_u32}
 use Rattle.rule_machine.specs.declared.event.Event.{Event}
 use Rattle.rule_machine.specs.declared.event.Event.TheVariants.{Point, Flag}
@@ -12,6 +12,11 @@ word stream = (next_u32 stream).0
 -- the stream behind its next word
 abbrev pub rest : Stream → Stream
 rest stream = (next_u32 stream).1
+
+-- the stream behind so many words
+abbrev pub behind : ℕ → Stream → Stream
+behind zero stream = stream
+behind (suc words) stream = behind words (rest stream)
 
 -- whether a word is odd
 abbrev pub is_odd : ℕ → Bool
@@ -49,3 +54,7 @@ fault_at net flags v stream = if flags then either_fault net v stream else point
 abbrev pub drawn : Network → Bool → Stream → Option Event × Stream
 drawn net flags stream =
     if nat_eq (node_count net) 0 then (None, stream) else fault_at net flags (node_at net (word stream)) (rest stream)
+
+-- how many words a fault takes, where there are flags and where not
+abbrev pub fault_words : Bool → ℕ
+fault_words flags = if flags then 3 else 2

@@ -1,9 +1,9 @@
 //! The hand that breaks registers.
 
-ghost use Rattle.std.specs.Prelude.{◌≡◌, ◌↔◌, IfSome, IsNone, None};
+ghost use Rattle.std.specs.Prelude.{◌≡◌, ◌<◌, ◌↔◌, IfSome, IsNone, None};
 ghost use Rattle.rule_machine.specs.Network.{node_count};
 ghost use Rattle.rule_machine.specs.Refuse.{refusal_of};
-ghost use Rattle.fault_injector.specs.Drawn.{drawn};
+ghost use Rattle.fault_injector.specs.Drawn.{drawn, behind, fault_words};
 
 use crate::picks::{pick_node, pick_target, pick_value};
 use rand_core::Rng;
@@ -26,7 +26,8 @@ impl<G: Rng> Injector<G> {
     }
 
     /// A fault of a register that the network accepts; `None` exactly where it has no node, and then no word is taken.
-    /// Takes no memory.
+    /// Else three words are taken where the rules use flags, and two where they do not. Takes no memory, and looks at one
+    /// neighbour at most.
     ///
     /// The words are the generator's, by `next_u32`. The first picks the node: of n nodes the one at the place
     /// `word mod n`, counted from 0 by rising names. Where the rules use flags, the next says which register: an odd
@@ -37,6 +38,7 @@ impl<G: Rng> Injector<G> {
         ensures event { (result, G.stream self.new.generator) ≡ drawn net.now.network R.table.flags (G.stream self.old.generator) }
         ensures none { IsNone result ↔ (node_count net.now.network ≡ 0) }
         ensures unused { node_count net.now.network ≡ 0 → G.stream self.new.generator ≡ G.stream self.old.generator }
+        ensures words { 0 < node_count net.now.network → G.stream self.new.generator ≡ behind (fault_words R.table.flags) (G.stream self.old.generator) }
         ensures accepted { IfSome result (λ event. refusal_of R.table net.now event ≡ None) }
     {
         let store = net.store();
