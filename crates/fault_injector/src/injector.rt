@@ -1,9 +1,9 @@
 //! The hand that breaks registers.
 
-ghost use Rattle.std.specs.Prelude.{◌≡◌, ◌<◌, ◌↔◌, IfSome, IsNone, None};
+ghost use Rattle.std.specs.Prelude.{◌≡◌, ◌<◌, ◌↔◌, IfSome, IsNone, IsTrue, None};
 ghost use Rattle.rule_machine.specs.Network.{node_count};
 ghost use Rattle.rule_machine.specs.Refuse.{refusal_of};
-ghost use Rattle.fault_injector.specs.Drawn.{drawn, behind, fault_words};
+ghost use Rattle.fault_injector.specs.Drawn.{drawn, behind, fault_words, is_register_fault};
 
 use crate::picks::{pick_node, pick_target, pick_value};
 use rand_core::Rng;
@@ -39,6 +39,7 @@ impl<G: Rng> Injector<G> {
         ensures none { IsNone result ↔ (node_count net.now.network ≡ 0) }
         ensures unused { node_count net.now.network ≡ 0 → G.stream self.new.generator ≡ G.stream self.old.generator }
         ensures words { 0 < node_count net.now.network → G.stream self.new.generator ≡ behind (fault_words R.table.flags) (G.stream self.old.generator) }
+        ensures register { IfSome result (λ event. IsTrue (is_register_fault event)) }
         ensures accepted { IfSome result (λ event. refusal_of R.table net.now event ≡ None) }
     {
         let store = net.store();
