@@ -1,0 +1,71 @@
+-- A fault of a register, drawn by the words of a generator: the node, the register, and what it will hold.
+use Rattle.std.specs.Prelude.{ℕ, zero, suc, ◌+◌, ◌-◌, ◌%◌, Bool, true, false, Option, None, Some, if◌then◌else◌, nat_eq, length, slice_get, slice_index}
+use Rattle.rand_core.specs.Stream.{Stream, next_u32}
+use Rattle.rule_machine.specs.declared.event.Event.{Event}
+use Rattle.rule_machine.specs.declared.event.Event.TheVariants.{Link, Unlink, Point, Flag, Step, Show, Enabled, Matching}
+use Rattle.rule_machine.specs.Network.{Network, names, neighbours, node_count}
+
+-- the next word of a stream
+abbrev pub word : Stream → ℕ
+word stream = (next_u32 stream).0
+
+-- the stream behind its next word
+abbrev pub rest : Stream → Stream
+rest stream = (next_u32 stream).1
+
+-- the stream behind so many words
+abbrev pub behind : ℕ → Stream → Stream
+behind zero stream = stream
+behind (suc words) stream = behind words (rest stream)
+
+-- whether a word is odd
+abbrev pub is_odd : ℕ → Bool
+is_odd w = nat_eq (w % 2) 1
+
+-- the node that a word picks, among the names ascending
+abbrev pub node_at : Network → ℕ → ℕ
+node_at net w = slice_index (names net) (w % node_count net)
+
+-- where the pointer of v goes at a number: to null for 0, else to the neighbour of that number, counted from 1
+abbrev pub pointer_at : Network → ℕ → ℕ → Option ℕ
+pointer_at net v number = if nat_eq number 0 then None else slice_get (neighbours net v) (number - 1)
+
+-- where the pointer of v goes by a word
+abbrev pub target_at : Network → ℕ → ℕ → Option ℕ
+target_at net v w = pointer_at net v (w % (length (neighbours net v) + 1))
+
+-- a fault of v's pointer, by one word
+abbrev pub pointer_fault : Network → ℕ → Stream → Option Event × Stream
+pointer_fault net v stream = (Some (Point v (target_at net v (word stream))), rest stream)
+
+-- a fault of v's flag, by one word: true for an odd one
+abbrev pub flag_fault : ℕ → Stream → Option Event × Stream
+flag_fault v stream = (Some (Flag v (is_odd (word stream))), rest stream)
+
+-- a fault at v where there are flags: of the flag for an odd word, else of the pointer
+abbrev pub either_fault : Network → ℕ → Stream → Option Event × Stream
+either_fault net v stream = if is_odd (word stream) then flag_fault v (rest stream) else pointer_fault net v (rest stream)
+
+-- a fault at v
+abbrev pub fault_at : Network → Bool → ℕ → Stream → Option Event × Stream
+fault_at net flags v stream = if flags then either_fault net v stream else pointer_fault net v stream
+
+-- the fault that a stream's words draw, and the stream behind them; none, and no word taken, where there is no node
+abbrev pub drawn : Network → Bool → Stream → Option Event × Stream
+drawn net flags stream =
+    if nat_eq (node_count net) 0 then (None, stream) else fault_at net flags (node_at net (word stream)) (rest stream)
+
+-- how many words a fault takes, where there are flags and where not
+abbrev pub fault_words : Bool → ℕ
+fault_words flags = if flags then 3 else 2
+
+-- whether an event writes a register of one node
+abbrev pub is_register_fault : Event → Bool
+is_register_fault (Link a b) = false
+is_register_fault (Unlink a b) = false
+is_register_fault (Point v target) = true
+is_register_fault (Flag v value) = true
+is_register_fault (Step items) = false
+is_register_fault (Show v) = false
+is_register_fault Enabled = false
+is_register_fault Matching = false
