@@ -10,17 +10,25 @@ use rand_core::Rng;
 use rule_engine::Net;
 use rule_machine::Event;
 use rule_set::Rules;
+use std::marker::Model;
 
 /// A hand that breaks registers at random, by the words of a generator: from the same words it breaks the same ones.
+/// Contracts see it as its generator.
 #[derive(Drop)]
 pub struct Injector<G: Rng> {
     generator: G,
 }
 
+impl<G: Rng> Model for Injector<G> {
+    ghost Value = { G };
+
+    ghost view = { λ i. i.generator };
+}
+
 impl<G: Rng> Injector<G> {
     /// The hand that takes its words from this generator. Takes no memory.
     pub fn new(generator: G) -> Injector<G>
-        ensures { result.generator ≡ generator }
+        ensures { result ≡ generator }
     {
         Injector { generator }
     }
@@ -35,10 +43,10 @@ impl<G: Rng> Injector<G> {
     /// pointer, with d neighbours, is null where `word mod (d + 1)` is 0, and else at the neighbour of that number,
     /// counted from 1 by rising names.
     pub fn draw<R: Rules>(&mut self, net: &Net<R>) -> Option<Event>
-        ensures event { (result, G.stream self.new.generator) ≡ drawn net.now.network R.table.flags (G.stream self.old.generator) }
+        ensures event { (result, G.stream self.new) ≡ drawn net.now.network R.table.flags (G.stream self.old) }
         ensures none { IsNone result ↔ (node_count net.now.network ≡ 0) }
-        ensures unused { node_count net.now.network ≡ 0 → G.stream self.new.generator ≡ G.stream self.old.generator }
-        ensures words { 0 < node_count net.now.network → G.stream self.new.generator ≡ behind (fault_words R.table.flags) (G.stream self.old.generator) }
+        ensures unused { node_count net.now.network ≡ 0 → G.stream self.new ≡ G.stream self.old }
+        ensures words { 0 < node_count net.now.network → G.stream self.new ≡ behind (fault_words R.table.flags) (G.stream self.old) }
         ensures register { IfSome result (λ event. IsTrue (is_register_fault event)) }
         ensures accepted { IfSome result (λ event. refusal_of R.table net.now event ≡ None) }
     {
