@@ -6,9 +6,13 @@ mod all_machines;
 #[cfg(test)]
 mod command_lines;
 #[cfg(test)]
+mod drawn_faults;
+#[cfg(test)]
 mod entries;
 #[cfg(test)]
 mod entry_lines;
+#[cfg(test)]
+mod given_words;
 #[cfg(test)]
 mod helpers;
 #[cfg(test)]
