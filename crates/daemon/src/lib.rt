@@ -5,3 +5,4 @@ mod choose;
 mod seeded;
 
 pub use choose::Daemon;
+pub use seeded::Seeded;
