@@ -1,2 +1,3 @@
 pub mod Climb
 pub mod Odd
+pub mod Play

@@ -1,5 +1,5 @@
 -- The names whose word is odd.
-use Rattle.std.proofs.Common.{◌≡◌, ℕ, zero, suc, ◌+◌, ◌%◌, ◌<◌, ◌≤◌, Bool, true, false, cond, List, [], ◌∷◌, ◌++◌, map, length, get_or, drop, nat_eq, IsTrue, None, refl, sym, ap, subst, ◌∙◌, arith, ⊎_elim, append_assoc}
+use Rattle.std.proofs.Common.{◌≡◌, ℕ, suc, ◌+◌, ◌%◌, ◌<◌, ◌≤◌, Bool, true, false, cond, List, [], ◌∷◌, ◌++◌, length, get_or, drop, nat_eq, None, refl, sym, ap, subst, ◌∙◌, arith, ⊎_elim, append_assoc}
 use Rattle.std.proofs.lemmas.Bool.{cases_Bool, ne_eqb, true≢false}
 use Rattle.std.proofs.lemmas.List.{get_or_read}
 use Rattle.std.proofs.Math.Seq.{drop-cons}
@@ -7,7 +7,7 @@ use Rattle.rule_machine.specs.declared.choice.Item.{Item}
 use Rattle.rand_core.specs.Stream.{Stream, next_u32}
 use Rattle.enabled_set.specs.Members.{is_in, members}
 use Rattle.daemon.specs.Lawful.{plain, IsLawful}
-use Rattle.daemon.specs.Drawn.{draw_one, keep_odd, draw_odd, or_one, draw_some, draw, drawn, as_choice}
+use Rattle.daemon.specs.Drawn.{draw_one, keep_odd, draw_odd, or_one, draw_some}
 use Rattle.daemon.proofs.Climb.{Climbs, climbs_lower, climbs_members, climbs_at, lawful_plain}
 
 climbs_kept : (p : ℕ → Bool) (low v word : ℕ) (names : List ℕ) → low ≤ v → p v ≡ true → Climbs p (suc v) names → Climbs p low (keep_odd v word names)

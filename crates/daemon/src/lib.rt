@@ -2,7 +2,10 @@
 #![tactic(auto)]
 
 mod choose;
+mod names;
+mod recorded;
 mod seeded;
 
 pub use choose::Daemon;
+pub use recorded::Recorded;
 pub use seeded::Seeded;

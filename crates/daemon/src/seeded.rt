@@ -1,14 +1,15 @@
 //! A daemon that draws its choices from a generator.
 
-ghost use Rattle.std.specs.Prelude.{◌≡◌, ◌↔◌, ◌≤◌, [], ◌∷◌, length, vec_capacity, IfOk, IfSome, IsNone, OnOk, OnErr};
+ghost use Rattle.std.specs.Prelude.{◌≡◌, ◌↔◌, ◌≤◌, [], ◌∷◌, length, vec_capacity, IfOk, IfSome, IsNone, OnErr};
 ghost use Rattle.enabled_set.specs.Members.{members};
 ghost use Rattle.daemon.specs.Lawful.{IsLawful};
 ghost use Rattle.daemon.specs.Drawn.{draw_one, draw_odd, draw_some, drawn, as_choice};
 
 use crate::Daemon;
+use crate::names::list_of;
 use enabled_set::EnabledSet;
 use rand_core::Rng;
-use rule_machine::{Choice, Item, MAX_NAME, Node, Want};
+use rule_machine::{Choice, Item, Node, Want};
 use std::alloc::Global;
 use std::marker::Model;
 
@@ -31,19 +32,6 @@ fn choose_one<G: Rng>(alloc: Global, generator: &mut G, set: &EnabledSet) -> Res
     let node = next_member(generator, set);
     items.push(Item { node, wish: None }).unwrap();
     Ok(Choice::new(items).unwrap())
-}
-
-/// The members, ascending. They are no more than there are names, since each is greater than the one before it.
-fn list_of(set: &EnabledSet) -> Result<Vec<Node>, Want>
-    ensures list { IfOk result (λ list. list.items ≡ members set.now) }
-    ensures few { OnOk result (length (members set.now) ≤ 65535) }
-{
-    let list = set.to_list()?;
-    if !list.is_empty() {
-        prove!(list[0].name() >= 1);
-        prove!(list[list.len() - 1].name() <= MAX_NAME);
-    }
-    Ok(list)
 }
 
 /// Adds an item for each node whose word is odd, by one word for each node.
@@ -88,6 +76,7 @@ fn choose_some<G: Rng>(alloc: Global, generator: &mut G, set: &EnabledSet) -> Re
 /// Where it is central, one word w picks the (w mod count)-th member, ascending from 0. Else there is one word for each
 /// member, ascending, and an odd word chooses it; where none was chosen, one word more picks a member as above. From a set
 /// without members there is no choice, and no word is drawn.
+#[derive(Drop)]
 pub struct Seeded<G: Rng> {
     alloc: Global,
     generator: G,

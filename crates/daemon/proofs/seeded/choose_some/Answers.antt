@@ -1,8 +1,7 @@
-use Rattle.std.proofs.Common.{rules, ◌≡◌, ℕ, ◌+◌, ◌≤◌, List, [], ◌∷◌, ◌++◌, None, length, ap, sym, ◌∙◌, arith}
+use Rattle.std.proofs.Common.{rules, ◌≡◌, ◌≤◌, List, [], ◌∷◌, ◌++◌, None, length, ap, ◌∙◌, arith}
 use Rattle.std.proofs.lemmas.List.{length_push}
 use Rattle.rand_core.specs.Stream.{Stream}
 use Rattle.rule_machine.specs.declared.choice.Item.{Item}
-use Rattle.enabled_set.specs.Members.{members}
 use Rattle.daemon.specs.Drawn.{draw_odd}
 use Rattle.daemon.proofs.Odd.{odd_few}
 use Rattle.daemon.proofs.Climb.{length_plain}

@@ -1,4 +1,4 @@
-use Rattle.std.proofs.Common.{◌≡◌, ◌≤◌, ◌+◌, ◌++◌, drop, length, vec_capacity}
+use Rattle.std.proofs.Common.{◌≡◌, ◌≤◌, ◌++◌, drop, length, vec_capacity}
 use Rattle.daemon.specs.Lawful.{plain}
 use Rattle.daemon.specs.Drawn.{draw_odd}
 use Rattle.daemon.proofs.seeded.push_odd.Given as goal
