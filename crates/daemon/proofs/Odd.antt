@@ -34,19 +34,19 @@ unrolled names i v word s t there is took =
 pub rest_more : (names : List ℕ) (i v word : ℕ) (s t : Stream) → i < length names → v ≡ get_or names i v → (word, t) ≡ next_u32 s → (draw_odd (drop (i + 1) names) t).1 ≡ (draw_odd (drop i names) s).1
 rest_more names i v word s t there is took = sym (ap (λ (d : List ℕ × Stream). d.1) (unrolled names i v word s t there is took))
 
-kept_odd : (v word : ℕ) (names : List ℕ) → word % 2 ≡ 1 → keep_odd v word names ≡ v ∷ names
-kept_odd v word names odd = ap (λ n. cond (nat_eq n 1) (v ∷ names) names) odd
+kept_odd : (v word : ℕ) (names : List ℕ) → nat_eq (word % 2) 1 ≡ true → keep_odd v word names ≡ v ∷ names
+kept_odd v word names odd = ap (λ b. cond b (v ∷ names) names) odd
 
-kept_even : (v word : ℕ) (names : List ℕ) → (word % 2 ≡ 1 → ⊥) → keep_odd v word names ≡ names
-kept_even v word names even = ap (λ b. cond b (v ∷ names) names) (ne_eqb (word % 2) 1 even)
+kept_even : (v word : ℕ) (names : List ℕ) → nat_eq (word % 2) 1 ≡ false → keep_odd v word names ≡ names
+kept_even v word names even = ap (λ b. cond b (v ∷ names) names) even
 
-pub odd_more : (names : List ℕ) (i v word : ℕ) (s t : Stream) (done : List Item) → i < length names → v ≡ get_or names i v → (word, t) ≡ next_u32 s → word % 2 ≡ 1 → (done ++ (record { node = v; wish = None }) ∷ []) ++ plain (draw_odd (drop (i + 1) names) t).0 ≡ done ++ plain (draw_odd (drop i names) s).0
+pub odd_more : (names : List ℕ) (i v word : ℕ) (s t : Stream) (done : List Item) → i < length names → v ≡ get_or names i v → (word, t) ≡ next_u32 s → nat_eq (word % 2) 1 ≡ true → (done ++ (record { node = v; wish = None }) ∷ []) ++ plain (draw_odd (drop (i + 1) names) t).0 ≡ done ++ plain (draw_odd (drop i names) s).0
 odd_more names i v word s t done there is took odd =
     let step = ap (λ (d : List ℕ × Stream). done ++ plain d.0) (unrolled names i v word s t there is took) in
     let keep = ap (λ l. done ++ plain l) (kept_odd v word (draw_odd (drop (i + 1) names) t).0 odd) in
     append_assoc done ((record { node = v; wish = None }) ∷ []) (plain (draw_odd (drop (i + 1) names) t).0) ∙ sym (step ∙ keep)
 
-pub even_more : (names : List ℕ) (i v word : ℕ) (s t : Stream) (done : List Item) → i < length names → v ≡ get_or names i v → (word, t) ≡ next_u32 s → (word % 2 ≡ 1 → ⊥) → done ++ plain (draw_odd (drop (i + 1) names) t).0 ≡ done ++ plain (draw_odd (drop i names) s).0
+pub even_more : (names : List ℕ) (i v word : ℕ) (s t : Stream) (done : List Item) → i < length names → v ≡ get_or names i v → (word, t) ≡ next_u32 s → nat_eq (word % 2) 1 ≡ false → done ++ plain (draw_odd (drop (i + 1) names) t).0 ≡ done ++ plain (draw_odd (drop i names) s).0
 even_more names i v word s t done there is took even =
     let step = ap (λ (d : List ℕ × Stream). done ++ plain d.0) (unrolled names i v word s t there is took) in
     let keep = ap (λ l. done ++ plain l) (kept_even v word (draw_odd (drop (i + 1) names) t).0 even) in
@@ -81,3 +81,11 @@ or_lawful bits central (v ∷ chosen) s some is climb = lawful_plain bits centra
 -- what is drawn where the daemon is not central is a lawful choice
 pub lawful_some : (bits : List Bool) (central : Bool) (s : Stream) → 1 ≤ length (members bits) → central ≡ false → IsLawful bits central (plain (draw_some (members bits) s).0)
 lawful_some bits central s some is = or_lawful bits central (draw_odd (members bits) s).0 (draw_odd (members bits) s).1 some is (climbs_odd (is_in bits) 0 (members bits) s (climbs_members bits))
+
+or_few : (names chosen : List ℕ) (s : Stream) → length chosen ≤ length names → 1 ≤ length names → length (or_one names chosen s).0 ≤ length names
+or_few names [] s few some = some
+or_few names (v ∷ chosen) s few some = few
+
+-- no more are drawn than there are, also where the daemon is not central
+pub some_few : (names : List ℕ) (s : Stream) → 1 ≤ length names → length (draw_some names s).0 ≤ length names
+some_few names s some = or_few names (draw_odd names s).0 (draw_odd names s).1 (odd_few names s) some

@@ -1,6 +1,6 @@
 //! A daemon that draws its choices from a generator.
 
-ghost use Rattle.std.specs.Prelude.{◌≡◌, ◌↔◌, ◌≤◌, [], ◌∷◌, length, vec_capacity, IfOk, IfSome, IsNone, OnErr};
+ghost use Rattle.std.specs.Prelude.{◌≡◌, ◌↔◌, ◌≤◌, ◌%◌, nat_eq, [], ◌∷◌, length, vec_capacity, IfOk, IfSome, IsNone, OnErr};
 ghost use Rattle.enabled_set.specs.Members.{members};
 ghost use Rattle.daemon.specs.Lawful.{IsLawful};
 ghost use Rattle.daemon.specs.Drawn.{draw_one, draw_odd, draw_some, drawn, as_choice};
@@ -34,6 +34,13 @@ fn choose_one<G: Rng>(alloc: Global, generator: &mut G, set: &EnabledSet) -> Res
     Ok(Choice::new(items).unwrap())
 }
 
+/// Whether a word chooses its node.
+fn is_odd(word: u32) -> bool
+    ensures { result ≡ nat_eq (word % 2) 1 }
+{
+    word % 2 == 1
+}
+
 /// Adds an item for each node whose word is odd, by one word for each node.
 fn push_odd<G: Rng>(generator: &mut G, names: &[Node], items: &mut Vec<Item>)
     requires empty { items.old.items ≡ [] }
@@ -43,7 +50,7 @@ fn push_odd<G: Rng>(generator: &mut G, names: &[Node], items: &mut Vec<Item>)
 {
     for node in names {
         let word = generator.next_u32();
-        if word % 2 == 1 {
+        if is_odd(word) {
             items
                 .push(Item {
                     node: *node,
@@ -54,20 +61,36 @@ fn push_odd<G: Rng>(generator: &mut G, names: &[Node], items: &mut Vec<Item>)
     }
 }
 
-/// A choice of the members whose words are odd, or of one member by one word more where none is; room is had before the
-/// first word is drawn.
+/// Items of the members whose words are odd, or of one member by one word more where none is; room is had before the first
+/// word is drawn.
+fn some_items<G: Rng>(
+    alloc: Global,
+    generator: &mut G,
+    set: &EnabledSet,
+    names: &[Node],
+) -> Result<Vec<Item>, Want>
+    requires some { 1 ≤ length (members set.now) }
+    requires all { names.now ≡ members set.now }
+    ensures drawn { IfOk result (λ items. (items.items, G.stream generator.new) ≡ as_choice (draw_some (members set.now) (G.stream generator.old))) }
+    ensures kept { OnErr result (generator.new ≡ generator.old) }
+{
+    let mut items = Vec::with_capacity(alloc, names.len())?;
+    push_odd(generator, names, &mut items);
+    if items.is_empty() {
+        let node = next_member(generator, set);
+        items.push(Item { node, wish: None }).unwrap();
+    }
+    Ok(items)
+}
+
+/// The choice of a daemon that is not central.
 fn choose_some<G: Rng>(alloc: Global, generator: &mut G, set: &EnabledSet) -> Result<Choice, Want>
     requires { 1 ≤ length (members set.now) }
     ensures drawn { IfOk result (λ choice. (choice, G.stream generator.new) ≡ as_choice (draw_some (members set.now) (G.stream generator.old))) }
     ensures kept { OnErr result (generator.new ≡ generator.old) }
 {
     let names = list_of(set)?;
-    let mut items = Vec::with_capacity(alloc, names.len())?;
-    push_odd(generator, &names, &mut items);
-    if items.is_empty() {
-        let node = next_member(generator, set);
-        items.push(Item { node, wish: None }).unwrap();
-    }
+    let items = some_items(alloc, generator, set, &names)?;
     Ok(Choice::new(items).unwrap())
 }
 
