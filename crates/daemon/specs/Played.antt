@@ -1,5 +1,5 @@
 -- What a recorded daemon plays: the choice, and the lists that are left, from the members of a set, ascending, and the lists.
-use Rattle.std.specs.Prelude.{ℕ, Bool, cond, List, [], ◌∷◌, take, nat_eq, Option, None, Some}
+use Rattle.std.specs.Prelude.{◌≡◌, ℕ, ◌<◌, Bool, false, cond, length, slice_index_or, List, [], ◌∷◌, take, nat_eq, Option, None, Some}
 use Rattle.std.specs.List.{filter, list_any}
 use Rattle.rule_machine.specs.declared.choice.Item.{Item}
 use Rattle.daemon.specs.Lawful.{plain}
@@ -7,6 +7,11 @@ use Rattle.daemon.specs.Lawful.{plain}
 -- whether a list names a node
 abbrev pub is_named : List ℕ → ℕ → Bool
 is_named list v = list_any (λ w. nat_eq w v) list
+
+-- A table with a place for each name, true where the list names it.
+pub record IsMarked (marks : List Bool) (list : List ℕ) : Type 0 where
+  pub covers : length marks ≡ 65536
+  pub told : (v : ℕ) → v < 65536 → slice_index_or marks v false ≡ is_named list v
 
 -- what a list stands for: those of these names that it names, in their order
 abbrev pub named_of : List ℕ → List ℕ → List ℕ

@@ -4,34 +4,34 @@ ghost use Rattle.std.specs.Prelude.{◌≡◌, ◌↔◌, ◌≤◌, [], List, m
 ghost use Rattle.enabled_set.specs.Members.{members};
 ghost use Rattle.daemon.specs.Lawful.{IsLawful, plain};
 ghost use Rattle.std.specs.List.{All};
-ghost use Rattle.daemon.specs.Played.{is_named, named_of, list_choice, played};
+ghost use Rattle.daemon.specs.Played.{IsMarked, named_of, list_choice, played};
 
 use crate::Daemon;
 use crate::names::list_of;
 use enabled_set::EnabledSet;
-use rule_machine::{Choice, Item, Node, Want};
+use rule_machine::{Choice, Item, MAX_NAME, Node, Want};
 use std::alloc::Global;
 use std::marker::Model;
 
-/// Whether a list names a node.
-fn has(list: &[Node], node: Node) -> bool
-    ensures { result ≡ is_named list.now node }
+/// A table with a place for each name, `true` where the list has it: 65,536 bytes, and one write a node.
+fn marks_of(alloc: Global, list: &[Node]) -> Result<Vec<bool>, Want>
+    ensures { IfOk result (λ marks. IsMarked marks.items list.now) }
 {
-    for other in list {
-        if *other == node {
-            return true;
-        }
+    let mut marks = vec![in alloc; false; MAX_NAME as usize + 1]?;
+    for node in list {
+        marks[node.place()] = true;
     }
-    false
+    Ok(marks)
 }
 
-/// An item for each of these nodes that the list names, in their order. As many looks as the product of the two lengths.
+/// An item for each of these nodes that the list names, in their order. One look a node, beside the table.
 fn items_of(alloc: Global, names: &[Node], list: &[Node]) -> Result<Vec<Item>, Want>
     ensures { IfOk result (λ items. items.items ≡ plain (named_of names.now list.now)) }
 {
+    let marks = marks_of(alloc, list)?;
     let mut items = Vec::with_capacity(alloc, names.len())?;
     for node in names {
-        if has(list, *node) {
+        if marks[node.place()] {
             items
                 .push(Item {
                     node: *node,

@@ -1,4 +1,4 @@
-use Rattle.std.proofs.Common.{rules, ◌≡◌, ◌≤◌, List, length, ap, ◌∙◌, arith}
+use Rattle.std.proofs.Common.{rules, ◌≤◌, List, length, ap, ◌∙◌, arith}
 use Rattle.rand_core.specs.Stream.{Stream}
 use Rattle.rule_machine.specs.declared.choice.Item.{Item}
 use Rattle.enabled_set.specs.Members.{members}
