@@ -120,7 +120,9 @@ impl Recorded {
 }
 
 impl Daemon for Recorded {
-    /// The choice of the next list that has one. At want of memory no list has been used.
+    /// The choice of the next list that has one; `None` exactly where no list that is left names a member, and all are used
+    /// up then. At want of memory no list has been used. It takes a list of the members, and for each list that it looks at
+    /// a table of 65,536 bytes, a write for each node of the list and a look at each member.
     fn choose(&mut self, set: &EnabledSet, central: bool) -> Result<Option<Choice>, Want>
         ensures lawful { IfOk result (λ choice. IfSome choice (IsLawful set.now central)) }
         ensures played { IfOk result (λ choice. (choice, self.new) ≡ played central (members set.now) self.old) }

@@ -83,7 +83,7 @@ fn some_items<G: Rng>(
     Ok(items)
 }
 
-/// The choice of a daemon that is not central.
+/// The choice of a daemon that is not central: one item at least.
 fn choose_some<G: Rng>(alloc: Global, generator: &mut G, set: &EnabledSet) -> Result<Choice, Want>
     requires { 1 ≤ length (members set.now) }
     ensures drawn { IfOk result (λ choice. (choice, G.stream generator.new) ≡ as_choice (draw_some (members set.now) (G.stream generator.old))) }
@@ -123,7 +123,9 @@ impl<G: Rng> Seeded<G> {
 }
 
 impl<G: Rng> Daemon for Seeded<G> {
-    /// The choice that the generator's next words make. At want of memory no word has been drawn.
+    /// The choice that the generator's next words make; `None` exactly where the set is empty. At want of memory no word has
+    /// been drawn. A central daemon takes one word, some 64 looks and room for one item; any other a word for each member,
+    /// and room for as many nodes and items as there are members, which are 65,535 at most.
     fn choose(&mut self, set: &EnabledSet, central: bool) -> Result<Option<Choice>, Want>
         ensures lawful { IfOk result (λ choice. IfSome choice (IsLawful set.now central)) }
         ensures drawn { IfOk result (λ choice. (choice, G.stream self.new) ≡ drawn central (members set.now) (G.stream self.old)) }
