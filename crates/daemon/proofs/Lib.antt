@@ -1,0 +1,4 @@
+pub mod Climb
+pub mod Odd
+pub mod Play
+pub mod Marks

@@ -1,0 +1,6 @@
+use Rattle.std.proofs.Common.{◌≡◌, drop, map}
+use Rattle.daemon.specs.Played.{played}
+use Rattle.daemon.proofs.recorded.play.Given as goal
+
+abbrev pub invariant-loop-place : goal.invariant-loop-place
+invariant-loop-place l = played l.central l.names (drop l.place (map (λ list. list.items) l.lists)) ≡ played l.central l.names (drop l.from (map (λ list. list.items) l.lists))

@@ -1,0 +1,18 @@
+use Rattle.std.proofs.Common.{rules, ◌≤◌, List, length, ap, ◌∙◌, arith}
+use Rattle.rand_core.specs.Stream.{Stream}
+use Rattle.rule_machine.specs.declared.choice.Item.{Item}
+use Rattle.enabled_set.specs.Members.{members}
+use Rattle.daemon.specs.Drawn.{draw_some}
+use Rattle.daemon.proofs.Odd.{some_few}
+use Rattle.daemon.proofs.Climb.{length_plain}
+use Rattle.daemon.proofs.seeded.choose_some.Goals as goal
+
+pub unwrap-requires : goal.unwrap-requires
+unwrap-requires g c =
+    let names = members c.args.set.now in
+    let stream = g.G.Rng.stream c.args.generator.now in
+    let len = ap (λ (d : List Item × Stream). length d.0) c.in_ok-items.ensures.drawn ∙ length_plain (draw_some names stream).0 in
+    let most = some_few names stream c.requires in
+    let all = c.in_ok-names.ensures.few in
+    let few : length c.in_ok-items.items.items ≤ 65535 = omega arith in
+    search rules

@@ -1,0 +1,23 @@
+-- What every daemon owes.
+use Rattle.std.specs.Prelude.{◌≡◌, ℕ, ◌≤◌, Bool, IsTrue, List, map, length, None}
+use Rattle.std.specs.List.{All}
+use Rattle.std.specs.List.Sorted.{IsStrictlyIncreasing}
+use Rattle.rule_machine.specs.declared.choice.Item.{Item}
+use Rattle.enabled_set.specs.Members.{is_in}
+
+-- the nodes that a choice names
+abbrev pub nodes_of : List Item → List ℕ
+nodes_of choice = map (λ item. item.node) choice
+
+-- an item for each of these names, with no wish
+abbrev pub plain : List ℕ → List Item
+plain names = map (λ v. record { node = v; wish = None }) names
+
+-- A choice that a daemon may make from a set: never empty, distinct members, ascending, with no wish, and one alone where
+-- the daemon is central.
+pub record IsLawful (bits : List Bool) (central : Bool) (choice : List Item) : Type 0 where
+  pub some : 1 ≤ length choice
+  pub chosen : All (λ item. IsTrue (is_in bits item.node)) choice
+  pub ascending : IsStrictlyIncreasing (nodes_of choice)
+  pub no_wish : All (λ item. item.wish ≡ None) choice
+  pub one : IsTrue central → length choice ≡ 1

@@ -1,0 +1,145 @@
+//! A daemon that draws its choices from a generator.
+
+ghost use Rattle.std.specs.Prelude.{◌≡◌, ◌↔◌, ◌≤◌, ◌%◌, nat_eq, [], ◌∷◌, length, vec_capacity, IfOk, IfSome, IsNone, OnErr};
+ghost use Rattle.enabled_set.specs.Members.{members};
+ghost use Rattle.daemon.specs.Lawful.{IsLawful};
+ghost use Rattle.daemon.specs.Drawn.{draw_one, draw_odd, draw_some, drawn, as_choice};
+
+use crate::Daemon;
+use crate::names::list_of;
+use enabled_set::EnabledSet;
+use rand_core::Rng;
+use rule_machine::{Choice, Item, Node, Want};
+use std::alloc::Global;
+use std::marker::Model;
+
+/// The member that the next word picks: the (word mod count)-th, ascending from 0. One word.
+fn next_member<G: Rng>(generator: &mut G, set: &EnabledSet) -> Node
+    requires { 1 ≤ length (members set.now) }
+    ensures { (result ∷ [], G.stream generator.new) ≡ draw_one (members set.now) (G.stream generator.old) }
+{
+    let word = generator.next_u32();
+    set.nth(word % set.count()).unwrap()
+}
+
+/// A choice of one member by one word; room is had before the word is drawn.
+fn choose_one<G: Rng>(alloc: Global, generator: &mut G, set: &EnabledSet) -> Result<Choice, Want>
+    requires { 1 ≤ length (members set.now) }
+    ensures drawn { IfOk result (λ choice. (choice, G.stream generator.new) ≡ as_choice (draw_one (members set.now) (G.stream generator.old))) }
+    ensures kept { OnErr result (generator.new ≡ generator.old) }
+{
+    let mut items = Vec::with_capacity(alloc, 1)?;
+    let node = next_member(generator, set);
+    items.push(Item { node, wish: None }).unwrap();
+    Ok(Choice::new(items).unwrap())
+}
+
+/// Whether a word chooses its node.
+fn is_odd(word: u32) -> bool
+    ensures { result ≡ nat_eq (word % 2) 1 }
+{
+    word % 2 == 1
+}
+
+/// Adds an item for each node whose word is odd, by one word for each node.
+fn push_odd<G: Rng>(generator: &mut G, names: &[Node], items: &mut Vec<Item>)
+    requires empty { items.old.items ≡ [] }
+    requires room { length names.now ≤ vec_capacity items.old }
+    ensures drawn { (items.new.items, G.stream generator.new) ≡ as_choice (draw_odd names.now (G.stream generator.old)) }
+    ensures kept { vec_capacity items.old ≤ vec_capacity items.new }
+{
+    for node in names {
+        let word = generator.next_u32();
+        if is_odd(word) {
+            items
+                .push(Item {
+                    node: *node,
+                    wish: None,
+                })
+                .unwrap();
+        }
+    }
+}
+
+/// Items of the members whose words are odd, or of one member by one word more where none is; room is had before the first
+/// word is drawn.
+fn some_items<G: Rng>(
+    alloc: Global,
+    generator: &mut G,
+    set: &EnabledSet,
+    names: &[Node],
+) -> Result<Vec<Item>, Want>
+    requires some { 1 ≤ length (members set.now) }
+    requires all { names.now ≡ members set.now }
+    ensures drawn { IfOk result (λ items. (items.items, G.stream generator.new) ≡ as_choice (draw_some (members set.now) (G.stream generator.old))) }
+    ensures kept { OnErr result (generator.new ≡ generator.old) }
+{
+    let mut items = Vec::with_capacity(alloc, names.len())?;
+    push_odd(generator, names, &mut items);
+    if items.is_empty() {
+        let node = next_member(generator, set);
+        items.push(Item { node, wish: None }).unwrap();
+    }
+    Ok(items)
+}
+
+/// The choice of a daemon that is not central: one item at least.
+fn choose_some<G: Rng>(alloc: Global, generator: &mut G, set: &EnabledSet) -> Result<Choice, Want>
+    requires { 1 ≤ length (members set.now) }
+    ensures drawn { IfOk result (λ choice. (choice, G.stream generator.new) ≡ as_choice (draw_some (members set.now) (G.stream generator.old))) }
+    ensures kept { OnErr result (generator.new ≡ generator.old) }
+{
+    let names = list_of(set)?;
+    let items = some_items(alloc, generator, set, &names)?;
+    Ok(Choice::new(items).unwrap())
+}
+
+/// A daemon that draws its choices from a generator, seen in contracts as that generator.
+///
+/// Where it is central, one word w picks the (w mod count)-th member, ascending from 0. Else there is one word for each
+/// member, ascending, and an odd word chooses it; where none was chosen, one word more picks a member as above. From a set
+/// without members there is no choice, and no word is drawn.
+#[derive(Drop)]
+pub struct Seeded<G: Rng> {
+    alloc: Global,
+    generator: G,
+}
+
+impl<G: Rng> Model for Seeded<G> {
+    ghost Value = { G };
+
+    ghost coded = { G.code };
+
+    ghost view = { λ s. s.generator };
+}
+
+impl<G: Rng> Seeded<G> {
+    /// A daemon with this generator; it takes no memory before it chooses.
+    pub fn new(alloc: Global, generator: G) -> Seeded<G>
+        ensures { result ≡ generator }
+    {
+        Seeded { alloc, generator }
+    }
+}
+
+impl<G: Rng> Daemon for Seeded<G> {
+    /// The choice that the generator's next words make; `None` exactly where the set is empty. At want of memory no word has
+    /// been drawn. A central daemon takes one word, some 64 looks and room for one item; any other a word for each member,
+    /// and room for as many nodes and items as there are members, which are 65,535 at most.
+    fn choose(&mut self, set: &EnabledSet, central: bool) -> Result<Option<Choice>, Want>
+        ensures lawful { IfOk result (λ choice. IfSome choice (IsLawful set.now central)) }
+        ensures drawn { IfOk result (λ choice. (choice, G.stream self.new) ≡ drawn central (members set.now) (G.stream self.old)) }
+        ensures none { IfOk result (λ choice. IsNone choice ↔ (members set.now ≡ [])) }
+        ensures kept { OnErr result (self.new ≡ self.old) }
+    {
+        if set.count() == 0 {
+            return Ok(None);
+        }
+        let choice = if central {
+            choose_one(self.alloc, &mut self.generator, set)?
+        } else {
+            choose_some(self.alloc, &mut self.generator, set)?
+        };
+        Ok(Some(choice))
+    }
+}
