@@ -4,6 +4,8 @@
 #[cfg(test)]
 mod all_machines;
 #[cfg(test)]
+mod chosen_nodes;
+#[cfg(test)]
 mod command_lines;
 #[cfg(test)]
 mod drawn_faults;
