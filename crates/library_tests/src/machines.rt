@@ -21,12 +21,12 @@ pub(crate) fn net_of<R: Rules>(rt: &impl Abort, alloc: Global, nodes: u32) -> Ne
     Net::new(alloc, nodes).expect(rt, "a network")
 }
 
-/// Compares the enabled nodes and their rules with these.
+/// Compares the enabled nodes, in their order, and their rules with these.
 fn expect_enabled<R: Rules>(rt: &impl Abort, net: &Net<R>, nodes: &[(Node, Act)]) {
     assert!(rt; net.is_quiet() == nodes.is_empty());
     assert!(rt; net.enabled().len() == nodes.len());
-    for (v, act) in nodes {
-        assert!(rt; net.enabled().contains(v));
+    for (listed, (v, act)) in net.enabled().iter().zip(nodes.iter()) {
+        assert!(rt; listed == v);
         assert!(rt; net.guard(*v) == Some(*act));
     }
 }
