@@ -30,7 +30,7 @@ same_on t local s u v good good' size same =
     ∙ ap (λ (g : Act → Bool). is_some (cond (present u.network v) (find g acts) None)) (λ i act. local s u v act good good' same i)
 
 -- a change that leaves a state of the same nodes, after which each node was looked at where something else is shown
-pub kept_again : (t : RuleTable) → IsLocal t → (s u : State) (looked : ℕ → Bool) (bits bits' : List Bool) → IsKept t s bits → IsState u → u.network.size ≡ s.network.size → ((v : ℕ) → looked v ≡ false → SameAt s u v) → IsLookedAt t u looked bits bits' → IsKept t u bits'
+pub kept_again : (t : RuleTable) → IsLocal t → (s u : State) (looked : ℕ → Bool) (bits bits' : List Bool) {marks : List Bool} → IsKept t s bits marks → IsState u → u.network.size ≡ s.network.size → ((v : ℕ) → looked v ≡ false → SameAt s u v) → IsLookedAt t u looked bits bits' → IsKept t u bits' marks
 kept_again t local s u looked bits bits' kept good size far done = record {
   is_state = good;
   enabled = record {
@@ -40,35 +40,36 @@ kept_again t local s u looked bits bits' kept good size far done = record {
         (λ (apart : looked v ≡ false). cond-false (looked v) (is_on t u v) (is_in bits v) apart ∙ kept.enabled.each v ∙ same_on t local s u v kept.is_state good size (far v apart))
         (cases_Bool (looked v));
   };
+  unmarked = kept.unmarked ∙ ap (λ n. replicate (n + 1) false) (sym size);
   few = omega (arith, kept.few, size);
 }
 
 -- after a link, a look at the two ends
-pub kept_linked : (t : RuleTable) → IsLocal t → (net net' : Network) (r : Registers) (a b : ℕ) (bits one two : List Bool) → IsKept t (state_of net r) bits → IsState (state_of net' r) → net' ≡ with_edge net a b → IsLookedAt t (state_of net' r) (λ w. nat_eq w a) bits one → IsLookedAt t (state_of net' r) (λ w. nat_eq w b) one two → IsKept t (state_of net' r) two
+pub kept_linked : (t : RuleTable) → IsLocal t → (net net' : Network) (r : Registers) (a b : ℕ) (bits one two : List Bool) {marks : List Bool} → IsKept t (state_of net r) bits marks → IsState (state_of net' r) → net' ≡ with_edge net a b → IsLookedAt t (state_of net' r) (λ w. nat_eq w a) bits one → IsLookedAt t (state_of net' r) (λ w. nat_eq w b) one two → IsKept t (state_of net' r) two marks
 kept_linked t local net net' r a b bits one two kept good is first next =
     kept_again t local (state_of net r) (state_of net' r) (λ w. nat_eq w a || nat_eq w b) bits two kept good (ap (λ n. n.size) is)
     (λ v far. subst (λ n. SameAt (state_of net r) (state_of n r) v) (sym is) (link_far (state_of net r) a b v far))
     (looked_both t (state_of net' r) (λ w. nat_eq w a) (λ w. nat_eq w b) bits one two first next)
 
 -- after an unlink, looks round both ends
-pub kept_unlinked : (t : RuleTable) → IsLocal t → (net net' : Network) (r r' : Registers) (a b : ℕ) (bits one two : List Bool) → IsKept t (state_of net r) bits → IsState (state_of net' r') → net' ≡ without_edge net a b → r' ≡ without_pointer (without_pointer r a b) b a → IsLookedAt t (state_of net' r') (is_near net' a) bits one → IsLookedAt t (state_of net' r') (is_near net' b) one two → IsKept t (state_of net' r') two
+pub kept_unlinked : (t : RuleTable) → IsLocal t → (net net' : Network) (r r' : Registers) (a b : ℕ) (bits one two : List Bool) {marks : List Bool} → IsKept t (state_of net r) bits marks → IsState (state_of net' r') → net' ≡ without_edge net a b → r' ≡ without_pointer (without_pointer r a b) b a → IsLookedAt t (state_of net' r') (is_near net' a) bits one → IsLookedAt t (state_of net' r') (is_near net' b) one two → IsKept t (state_of net' r') two marks
 kept_unlinked t local net net' r r' a b bits one two kept good is wrote first next =
     kept_again t local (state_of net r) (state_of net' r') (λ w. is_near net' a w || is_near net' b w) bits two kept good (ap (λ n. n.size) is)
     (λ v far. subst (λ n. SameAt (state_of net r) (state_of n r') v) (sym is) (subst (λ q. SameAt (state_of net r) (state_of (without_edge net a b) q) v) (sym wrote) (unlink_far (state_of net r) a b v (ap (λ n. is_near n a v || is_near n b v) (sym is) ∙ far))))
     (looked_both t (state_of net' r') (is_near net' a) (is_near net' b) bits one two first next)
 
 -- after a write of a register, and after the moves of a step, looks round the nodes that were written
-pub kept_pointed : (t : RuleTable) → IsLocal t → (net : Network) (r r' : Registers) (v : ℕ) (target : Option ℕ) (bits bits' : List Bool) → IsKept t (state_of net r) bits → IsState (state_of net r') → r' ≡ with_pointer r v target → IsLookedAt t (state_of net r') (is_near net v) bits bits' → IsKept t (state_of net r') bits'
+pub kept_pointed : (t : RuleTable) → IsLocal t → (net : Network) (r r' : Registers) (v : ℕ) (target : Option ℕ) (bits bits' : List Bool) {marks : List Bool} → IsKept t (state_of net r) bits marks → IsState (state_of net r') → r' ≡ with_pointer r v target → IsLookedAt t (state_of net r') (is_near net v) bits bits' → IsKept t (state_of net r') bits' marks
 kept_pointed t local net r r' v target bits bits' kept good wrote done =
     kept_again t local (state_of net r) (state_of net r') (is_near net v) bits bits' kept good refl
     (λ w far. subst (λ q. SameAt (state_of net r) (state_of net q) w) (sym wrote) (point_far (state_of net r) v target w far)) done
 
-pub kept_flagged : (t : RuleTable) → IsLocal t → (net : Network) (r r' : Registers) (v : ℕ) (value : Bool) (bits bits' : List Bool) → IsKept t (state_of net r) bits → IsState (state_of net r') → r' ≡ with_flag r v value → IsLookedAt t (state_of net r') (is_near net v) bits bits' → IsKept t (state_of net r') bits'
+pub kept_flagged : (t : RuleTable) → IsLocal t → (net : Network) (r r' : Registers) (v : ℕ) (value : Bool) (bits bits' : List Bool) {marks : List Bool} → IsKept t (state_of net r) bits marks → IsState (state_of net r') → r' ≡ with_flag r v value → IsLookedAt t (state_of net r') (is_near net v) bits bits' → IsKept t (state_of net r') bits' marks
 kept_flagged t local net r r' v value bits bits' kept good wrote done =
     kept_again t local (state_of net r) (state_of net r') (is_near net v) bits bits' kept good refl
     (λ w far. subst (λ q. SameAt (state_of net r) (state_of net q) w) (sym wrote) (flag_far (state_of net r) v value w far)) done
 
-pub kept_moved : (t : RuleTable) → IsLocal t → (net : Network) (r r' : Registers) (moves : List Moved) (bits bits' : List Bool) → IsKept t (state_of net r) bits → IsState (state_of net r') → r' ≡ registers_after (state_of net r) moves → IsLookedAt t (state_of net r') (is_near_mover net moves) bits bits' → IsKept t (state_of net r') bits'
+pub kept_moved : (t : RuleTable) → IsLocal t → (net : Network) (r r' : Registers) (moves : List Moved) (bits bits' : List Bool) {marks : List Bool} → IsKept t (state_of net r) bits marks → IsState (state_of net r') → r' ≡ registers_after (state_of net r) moves → IsLookedAt t (state_of net r') (is_near_mover net moves) bits bits' → IsKept t (state_of net r') bits' marks
 kept_moved t local net r r' moves bits bits' kept good wrote done =
     kept_again t local (state_of net r) (state_of net r') (is_near_mover net moves) bits bits' kept good refl
     (λ w far. subst (λ q. SameAt (state_of net r) (state_of net q) w) (sym wrote) (moves_far (state_of net r) moves w far)) done
@@ -89,7 +90,8 @@ members_on t s bits on =
     ∙ ap (λ a. filter (is_in bits) (range_with_len a s.network.size)) (let one : 0 + 1 ≡ 1 = omega arith in one)
     ∙ range_agree (is_in bits) (λ v. is_some (rule_at t s v)) 1 s.network.size (λ v low high. on.each v ∙ ap (λ b. is_some (cond b (rule_at t s v) None)) (present_from s.network v low (omega arith)))
 
-none_in : (n v : ℕ) → is_in (replicate n false) v ≡ false
+-- the empty set has no member
+pub none_in : (n v : ℕ) → is_in (replicate n false) v ≡ false
 none_in n v =
     ⊎_elim
     (λ (below : v < n). get_or-replicate n v false false below)
@@ -100,14 +102,15 @@ none_on : (t : RuleTable) (s : State) (v : ℕ) (b : Bool) → present s.network
 none_on t s v true has quiet = ap is_some (act_none (t.guard s v) (quiet_at t s quiet v has))
 none_on t s v false has quiet = refl
 
--- where no rule is enabled, the set is empty
-pub kept_quiet : (t : RuleTable) (s : State) (bits : List Bool) → IsState s → enabled_names t s ≡ [] → bits ≡ replicate (s.network.size + 1) false → s.network.size ≤ 65535 → IsKept t s bits
-kept_quiet t s bits good quiet empty few = record {
+-- where no rule is enabled, two empty sets are kept
+pub kept_quiet : (t : RuleTable) (s : State) (bits marks : List Bool) → IsState s → enabled_names t s ≡ [] → bits ≡ replicate (s.network.size + 1) false → marks ≡ replicate (s.network.size + 1) false → s.network.size ≤ 65535 → IsKept t s bits marks
+kept_quiet t s bits marks good quiet empty unmarked few = record {
   is_state = good;
   enabled = record {
     places = ap length empty ∙ length-replicate (s.network.size + 1) false;
     each = λ v. ap (λ l. is_in l v) empty ∙ none_in (s.network.size + 1) v ∙ sym (none_on t s v (present s.network v) refl quiet);
   };
+  unmarked = unmarked;
   few = few;
 }
 

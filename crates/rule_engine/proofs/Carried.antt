@@ -1,55 +1,22 @@
 -- What carrying out the verdicts of a choice that is not refused does.
-use Rattle.std.proofs.Common.{◌≡◌, ℕ, zero, suc, ◌+◌, ◌-◌, ◌<◌, List, [], ◌∷◌, length, get_or, fold, filter_map, Option, None, All, IsTrue, refl, sym, ap, ◌∙◌, subst, arith}
-use Rattle.std.specs.List.{range_with_len}
+use Rattle.std.proofs.Common.{◌≡◌, ℕ, ◌+◌, ◌<◌, List, [], ◌∷◌, length, get_or, fold, Option, None, All, IsTrue, refl, sym, ap, ◌∙◌, subst, arith}
 use Rattle.std.proofs.lemmas.List.Elements.{All-from_recursion}
 use Rattle.rule_machine.specs.declared.act.Act.{Act}
 use Rattle.rule_machine.specs.declared.act.Act.TheVariants.{Update, Marry, Seduce, Abandon}
 use Rattle.rule_machine.specs.declared.choice.Item.{Item}
 use Rattle.rule_machine.specs.declared.moved.Moved.{Moved}
-use Rattle.rule_machine.specs.declared.verdict.Verdict.{Verdict}
-use Rattle.rule_machine.specs.Network.{names, present}
+use Rattle.rule_machine.specs.Network.{present}
 use Rattle.rule_machine.specs.State.{State, Registers, IsState, holds_at, points, with_flag}
 use Rattle.rule_machine.specs.RuleTable.{RuleTable}
 use Rattle.rule_machine.specs.Step.{written, after_move, registers_after}
-use Rattle.rule_machine.specs.Refuse.{step_refusal}
 use Rattle.rule_machine.specs.Least.{least_moves}
 use Rattle.machine_laws.specs.Keeps.{IsMoveIn}
 use Rattle.machine_laws.specs.LeastMoves.{IsTable, least_moves_in, step_keeps}
-use Rattle.machine_laws.specs.Accepted.{choice_from_none, taken_at}
-use Rattle.rule_engine.specs.Choosing.{verdicts_from, verdicts_of, verdicts_refusal, found_move, flag_by, flag_written, flag_read_by, flag_read, pointer_by, pointer_written, AreApart}
-use Rattle.rule_engine.proofs.Judged.{found_move-verdicts_from, refusals_agree, length-verdicts_from, apart_from}
+use Rattle.rule_engine.specs.Choosing.{flag_by, flag_written, flag_read_by, flag_read, pointer_by, pointer_written}
 use Rattle.rule_engine.proofs.Keeping.{present_below}
 use Rattle.rule_engine.proofs.Partners.{married_answered}
 
-verdict_at : (t : RuleTable) (s : State) (place : ℕ) (items : List Item) (k : ℕ) (d : Verdict) (i : Item) → k < length items → (get_or (verdicts_from t s place items) k d).node ≡ (get_or items k i).node
-verdict_at t s place [] k d i below = absurd (omega arith)
-verdict_at t s place (item ∷ items) zero d i below = refl
-verdict_at t s place (item ∷ items) (suc k) d i below = verdict_at t s (place + 1) items k d i (omega arith)
-
--- each verdict is of a present node
-pub verdicts_within : (t : RuleTable) (s : State) (items : List Item) (verdicts : List Verdict) → verdicts ≡ verdicts_of t s items → step_refusal t s items ≡ None → (k : ℕ) (d : Verdict) → k < length verdicts → (get_or verdicts k d).node < s.network.size + 1
-verdicts_within t s items verdicts is none k d below =
-    let inside : k < length items = omega (arith, ap length is, length-verdicts_from t s 0 items) in
-    let item : Item = record { node = 0; wish = None } in
-    let taken = taken_at t s [] items (choice_from_none t s items none).taken k item inside in
-    let same : (get_or verdicts k d).node ≡ (get_or items k item).node = ap (λ l. (get_or l k d).node) is ∙ verdict_at t s 0 items k d item inside in
-    subst (λ v. v < s.network.size + 1) (sym same) (present_below s.network.size (get_or items k item).node taken.0.has)
-
--- and no two are of one node
-pub verdicts_apart : (t : RuleTable) (s : State) (items : List Item) (verdicts : List Verdict) → verdicts ≡ verdicts_of t s items → step_refusal t s items ≡ None → AreApart verdicts
-verdicts_apart t s items verdicts is none =
-    let judged : verdicts_refusal [] verdicts ≡ None = ap (verdicts_refusal []) is ∙ refusals_agree t s 0 items [] [] (λ v. refl) ∙ (choice_from_none t s items none).taken in
-    λ k d below. apart_from [] verdicts judged k d below
-
--- the moves that they have are those of the choice
-pub moves_found : (t : RuleTable) (s : State) (items : List Item) (verdicts : List Verdict) (places : ℕ) → verdicts ≡ verdicts_of t s items → places ≡ s.network.size + 1 → filter_map (found_move verdicts) (range_with_len 1 (places - 1)) ≡ least_moves t s items
-moves_found t s items verdicts places is count =
-    let size : places - 1 ≡ s.network.size = omega arith in
-    ap (λ vs. filter_map (found_move vs) (range_with_len 1 (places - 1))) is
-    ∙ ap (λ n. filter_map (found_move (verdicts_of t s items)) (range_with_len 1 n)) size
-    ∙ (λ i. filter_map (λ v. found_move-verdicts_from t s 0 items v i) (names s.network))
-
--- each is of a node that has a place
+-- each move of a choice is of a node that has a place
 pub moves_within : (t : RuleTable) → IsTable t → (s : State) (items : List Item) (moves : List Moved) (places : ℕ) → moves ≡ least_moves t s items → places ≡ s.network.size + 1 → (k : ℕ) (d : Moved) → k < length moves → (get_or moves k d).node < places
 moves_within t table s items moves places is count k d below =
     let all : All (IsMoveIn s.network) moves = subst (All (IsMoveIn s.network)) (sym is) (All-from_recursion (IsMoveIn s.network) (least_moves t s items) (least_moves_in t table s items)) in

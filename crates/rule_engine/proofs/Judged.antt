@@ -1,8 +1,7 @@
 -- What verdicts say of the items that they are of.
-use Rattle.std.proofs.Common.{◌≡◌, ℕ, zero, suc, ◌+◌, ◌<◌, Bool, true, false, cond, not, ◌&&◌, ◌||◌, List, [], ◌∷◌, ◌++◌, length, get_or, take, find, Option, None, Some, option_and_then, nat_eq, nat_lt, if◌then◌else◌, refl, sym, ap, ◌∙◌, arith, append_assoc}
+use Rattle.std.proofs.Common.{◌≡◌, ℕ, suc, ◌+◌, Bool, true, false, cond, not, ◌&&◌, ◌||◌, List, [], ◌∷◌, ◌++◌, length, Option, None, Some, nat_eq, nat_lt, if◌then◌else◌, refl, sym, ap, ◌∙◌}
 use Rattle.std.specs.List.{list_any}
 use Rattle.std.specs.Option.{option_or}
-use Rattle.std.proofs.lemmas.List.{append-nil}
 use Rattle.rule_machine.specs.declared.act.Act.{Act}
 use Rattle.rule_machine.specs.declared.choice.Item.{Item}
 use Rattle.rule_machine.specs.declared.refusal.Refusal.TheVariants.{UnknownNode, ChosenTwice, BadTarget, EmptyChoice, NotCentral}
@@ -12,10 +11,8 @@ use Rattle.rule_machine.specs.Network.{present}
 use Rattle.rule_machine.specs.State.{State}
 use Rattle.rule_machine.specs.RuleTable.{RuleTable, rule_at}
 use Rattle.rule_machine.specs.Refuse.{item_refusal, items_refusal, step_refusal, rule_refusal, wish_refusal}
-use Rattle.rule_machine.specs.Least.{outcome_of, outcome_at, outcome_by, item_of, move_in}
-use Rattle.machine_laws.specs.LeastMoves.{move_at}
-use Rattle.rule_engine.specs.Choosing.{verdict_of, verdicts_from, verdicts_of, refused_by, verdicts_refusal, refusal_of_verdicts, found_move}
-use Rattle.rule_engine.proofs.Found.{once_from_accepted}
+use Rattle.rule_machine.specs.Least.{outcome_of, outcome_at, outcome_by}
+use Rattle.rule_engine.specs.Choosing.{verdict_of, verdicts_from, verdicts_of, refused_by, verdicts_refusal, refusal_of_verdicts}
 
 by_wish : (t : RuleTable) (s : State) (v : ℕ) (act : Act) (wish : Option ℕ) → wish_refusal (t.allowed s v act) wish ≡ refused_by (outcome_by t s v act wish) false
 by_wish t s v act None = refl
@@ -80,30 +77,3 @@ refusals_agree t s place (item ∷ items) earlier judged same =
 pub refusal-verdicts_of : (t : RuleTable) (s : State) (items : List Item) → refusal_of_verdicts t.central (verdicts_of t s items) ≡ step_refusal t s items
 refusal-verdicts_of t s items =
     (λ i. if nat_eq (length-verdicts_from t s 0 items i) 0 then Some EmptyChoice else (if t.central && nat_lt 1 (length-verdicts_from t s 0 items i) then Some NotCentral else refusals_agree t s 0 items [] [] (λ v. refl) i))
-
--- the move that the verdicts have for a node is that of the first item that names it
-pub found_move-verdicts_from : (t : RuleTable) (s : State) (place : ℕ) (items : List Item) (v : ℕ) → found_move (verdicts_from t s place items) v ≡ move_at t s items v
-found_move-verdicts_from t s place [] v = refl
-found_move-verdicts_from t s place (item ∷ items) v =
-    elim (nat_eq item.node v) as (λ b. option_and_then (λ (d : Verdict). move_in d.outcome) (cond b (Some (verdict_of t s place item)) (find (λ d. nat_eq d.node v) (verdicts_from t s (place + 1) items))) ≡ option_and_then (λ i. move_in (outcome_of t s i)) (cond b (Some item) (item_of items v))) [
-      | true ↦ refl
-      | false ↦ found_move-verdicts_from t s (place + 1) items v
-    ]
-
--- of verdicts that are not refused no two are of one node
-pub apart_from : (judged ds : List Verdict) → verdicts_refusal judged ds ≡ None → (k : ℕ) (d : Verdict) → k < length ds → list_any (λ e. nat_eq e.node (get_or ds k d).node) (judged ++ take k ds) ≡ false
-apart_from judged [] none k d below = absurd (omega arith)
-apart_from judged (e ∷ ds) none zero d below =
-    let parts = or_none (refused_by e.outcome (list_any (λ x. nat_eq x.node e.node) judged)) (verdicts_refusal (judged ++ e ∷ []) ds) none in
-    ap (list_any (λ (x : Verdict). nat_eq x.node e.node)) (append-nil judged) ∙ once_from_accepted e.outcome _ parts.0
-  where
-    or_none : {X : Type 0} (o p : Option X) → option_or o p ≡ None → (o ≡ None) × (p ≡ None)
-    or_none None p h = (refl, h)
-    or_none (Some x) p h = absurd cc
-apart_from judged (e ∷ ds) none (suc k) d below =
-    let parts = or_none (refused_by e.outcome (list_any (λ x. nat_eq x.node e.node) judged)) (verdicts_refusal (judged ++ e ∷ []) ds) none in
-    ap (list_any (λ (x : Verdict). nat_eq x.node (get_or ds k d).node)) (sym (append_assoc judged (e ∷ []) (take k ds))) ∙ apart_from (judged ++ e ∷ []) ds parts.1 k d (omega arith)
-  where
-    or_none : {X : Type 0} (o p : Option X) → option_or o p ≡ None → (o ≡ None) × (p ≡ None)
-    or_none None p h = (refl, h)
-    or_none (Some x) p h = absurd cc

@@ -8,3 +8,5 @@ pub mod Looked
 pub mod Far
 pub mod Again
 pub mod Opening
+pub mod Marked
+pub mod Ascending

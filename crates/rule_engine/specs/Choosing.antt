@@ -1,6 +1,6 @@
 -- The moves of a choice: the verdict of each item, and what the moves write.
-use Rattle.std.specs.Prelude.{◌≡◌, ℕ, ◌+◌, ◌<◌, Bool, true, false, ◌&&◌, List, [], ◌∷◌, ◌++◌, length, take, find, Option, Some, None, option_and_then, if◌then◌else◌, nat_eq, nat_lt, slice_index_or}
-use Rattle.std.specs.List.{list_any}
+use Rattle.std.specs.Prelude.{◌≡◌, ℕ, ◌+◌, Bool, true, false, ◌&&◌, List, [], ◌∷◌, ◌++◌, length, Option, Some, None, if◌then◌else◌, nat_eq, nat_lt}
+use Rattle.std.specs.List.{list_any, filter_map}
 use Rattle.std.specs.Option.{option_or}
 use Rattle.rule_machine.specs.declared.act.Act.{Act}
 use Rattle.rule_machine.specs.declared.act.Act.TheVariants.{Update, Marry, Seduce, Abandon}
@@ -13,7 +13,8 @@ use Rattle.rule_machine.specs.declared.refusal.Refusal.{Refusal}
 use Rattle.rule_machine.specs.declared.refusal.Refusal.TheVariants.{UnknownNode, EmptyChoice, NotCentral, ChosenTwice, NotEnabled, BadTarget}
 use Rattle.rule_machine.specs.State.{State, Registers, with_pointer, with_flag, holds_at, points, pointer_of, married}
 use Rattle.rule_machine.specs.RuleTable.{RuleTable}
-use Rattle.rule_machine.specs.Least.{outcome_of, move_in}
+use Rattle.rule_machine.specs.Refuse.{step_refusal}
+use Rattle.rule_machine.specs.Least.{outcome_of, move_in, least_moves}
 
 -- what the item at a place of a choice would do alone
 abbrev pub verdict_of : RuleTable → State → ℕ → Item → Verdict
@@ -50,14 +51,14 @@ refusal_of_verdicts central verdicts =
     if nat_eq (length verdicts) 0 then Some EmptyChoice
     else (if central && nat_lt 1 (length verdicts) then Some NotCentral else verdicts_refusal [] verdicts)
 
--- no verdict is of a node that an earlier one is of
-abbrev pub AreApart : List Verdict → Type 0
-AreApart verdicts =
-    (k : ℕ) (d : Verdict) → k < length verdicts → list_any (λ e. nat_eq e.node (slice_index_or verdicts k d).node) (take k verdicts) ≡ false
+-- the moves among verdicts, in their order
+abbrev pub moves_of : List Verdict → List Moved
+moves_of verdicts = filter_map (λ d. move_in d.outcome) verdicts
 
--- the move that the verdicts have for v
-abbrev pub found_move : List Verdict → ℕ → Option Moved
-found_move verdicts v = option_and_then (λ d. move_in d.outcome) (find (λ d. nat_eq d.node v) verdicts)
+-- where these are the verdicts of a choice that is not refused, those are its moves, ascending
+abbrev pub AreLeast : List Verdict → List Moved → Type 0
+AreLeast verdicts moves =
+    (t : RuleTable) (s : State) (items : List Item) → verdicts ≡ verdicts_of t s items → step_refusal t s items ≡ None → moves ≡ least_moves t s items
 
 abbrev pub flag_by : State → Registers → ℕ → Act → Registers
 flag_by before r v Update = with_flag r v (married before v)

@@ -1,5 +1,5 @@
 -- What a network keeps beside its state.
-use Rattle.std.specs.Prelude.{◌≡◌, ℕ, ◌+◌, ◌≤◌, Bool, IfSome, IsTrue, List, length, Option, Some, None, is_some, option_and_then, option_map, if◌then◌else◌}
+use Rattle.std.specs.Prelude.{◌≡◌, ℕ, ◌+◌, ◌≤◌, Bool, false, IfSome, IsTrue, List, length, replicate, Option, Some, None, is_some, option_and_then, option_map, if◌then◌else◌}
 use Rattle.enabled_set.specs.Members.{is_in}
 use Rattle.rule_machine.specs.declared.act.Act.{Act}
 use Rattle.rule_machine.specs.Network.{Network, present}
@@ -23,10 +23,11 @@ pub record AreOn (t : RuleTable) (s : State) (bits : List Bool) : Type 0 where
   pub places : length bits ≡ s.network.size + 1
   pub each : (v : ℕ) → is_in bits v ≡ is_on t s v
 
--- the state is one, and the set is that of its enabled nodes
-pub record IsKept (t : RuleTable) (s : State) (bits : List Bool) : Type 0 where
+-- the state is one, the first set is that of its enabled nodes, and the second is empty
+pub record IsKept (t : RuleTable) (s : State) (bits marks : List Bool) : Type 0 where
   pub is_state : IsState s
   pub enabled : AreOn t s bits
+  pub unmarked : marks ≡ replicate (s.network.size + 1) false
   pub few : s.network.size ≤ 65535
 
 -- the node that v points at, if it points back

@@ -1,5 +1,6 @@
 pub mod Kept
 pub mod Looked
 pub mod Choosing
+pub mod Marks
 pub mod Refused
 pub mod Applied

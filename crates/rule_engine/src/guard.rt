@@ -1,15 +1,16 @@
 //! Guards, outcomes and refusals at the nodes of a network.
 
-ghost use Rattle.std.specs.Prelude.{◌≡◌, ◌≤◌, nat_eq, length, IfOk};
-ghost use Rattle.std.specs.List.{list_any};
+ghost use Rattle.std.specs.Prelude.{◌≡◌, ◌+◌, ◌≤◌, [], length, take, IfOk};
 ghost use Rattle.rule_machine.specs.State.{IsState};
-ghost use Rattle.rule_machine.specs.Refuse.{item_refusal, step_refusal};
+ghost use Rattle.rule_machine.specs.Refuse.{items_refusal, step_refusal};
 ghost use Rattle.rule_machine.specs.Least.{outcome_of};
 ghost use Rattle.rule_engine.specs.Kept.{state_of, guard_at};
 ghost use Rattle.rule_engine.specs.Choosing.{verdicts_of};
+ghost use Rattle.rule_engine.specs.Marks.{AreClear, AreMarks, is_named};
 
-use crate::judge::refused;
+use crate::judge::{Marked, mark};
 use crate::near::NodeView;
+use enabled_set::EnabledSet;
 use graph_store::EdgeStore;
 use registers::Registers;
 use rule_machine::{Act, Item, Moved, Node, Outcome, Refusal, Verdict, Want};
@@ -53,36 +54,60 @@ pub(crate) fn outcome<R: Rules>(store: &EdgeStore, registers: &Registers, item: 
     }
 }
 
-/// Whether one of these items names the node.
-fn is_named(items: &[Item], node: Node) -> bool
-    ensures { result ≡ list_any (λ i. nat_eq i.node node) items.now }
-{
-    items.iter().any(|item| item.node == node)
-}
-
-/// Why an item is refused behind the items that stand earlier, if it is.
-fn refused_item<R: Rules>(
+/// Marks the nodes of items up to the first that is refused.
+fn mark_items<R: Rules>(
     store: &EdgeStore,
     registers: &Registers,
-    earlier: &[Item],
-    item: Item,
-) -> Option<Refusal>
-    requires { IsState (state_of store.now registers.now) }
-    ensures { result ≡ item_refusal R.table (state_of store.now registers.now) earlier.now item }
+    chosen: &mut EnabledSet,
+    items: &[Item],
+) -> Marked
+    requires state { IsState (state_of store.now registers.now) }
+    requires places { length chosen.old ≡ store.now.size + 1 }
+    requires clear { AreClear chosen.old }
+    ensures count { result.count ≤ length items.now }
+    ensures refusal { result.refusal ≡ items_refusal R.table (state_of store.now registers.now) [] items.now }
+    ensures marks { AreMarks (is_named (take result.count items.now)) chosen.new }
+    ensures len { length chosen.new ≡ length chosen.old }
 {
-    let twice = is_named(earlier, item.node);
-    refused(outcome::<R>(store, registers, item), twice)
+    for (place, item) in items.iter().enumerate() {
+        let refusal = mark(chosen, item.node, outcome::<R>(store, registers, *item));
+        if refusal.is_some() {
+            return Marked {
+                count: place,
+                refusal,
+            };
+        }
+    }
+    Marked {
+        count: items.len(),
+        refusal: None,
+    }
 }
 
-/// Why a step of these items is refused, if it is: the first reason, item by item, without memory.
-/// Looks for each item at those before it.
+/// Clears the marks of items.
+fn unmark_items(chosen: &mut EnabledSet, items: &[Item])
+    requires { AreMarks (is_named items.now) chosen.old }
+    ensures clear { AreClear chosen.new }
+    ensures len { length chosen.new ≡ length chosen.old }
+{
+    for item in items {
+        chosen.remove(item.node);
+    }
+}
+
+/// Why a step of these items is refused, if it is: the first reason, item by item, without memory. A look at each item
+/// up to the refused one and at its node's neighbours. The marks are clear again at the end.
 pub(crate) fn refused_step<R: Rules>(
     store: &EdgeStore,
     registers: &Registers,
+    chosen: &mut EnabledSet,
     items: &[Item],
 ) -> Option<Refusal>
-    requires { IsState (state_of store.now registers.now) }
-    ensures { result ≡ step_refusal R.table (state_of store.now registers.now) items.now }
+    requires state { IsState (state_of store.now registers.now) }
+    requires places { length chosen.old ≡ store.now.size + 1 }
+    requires clear { AreClear chosen.old }
+    ensures refusal { result ≡ step_refusal R.table (state_of store.now registers.now) items.now }
+    ensures kept { chosen.new ≡ chosen.old }
 {
     if items.is_empty() {
         return Some(Refusal::EmptyChoice);
@@ -90,13 +115,9 @@ pub(crate) fn refused_step<R: Rules>(
     if R::CENTRAL && items.len() > 1 {
         return Some(Refusal::NotCentral);
     }
-    for (place, item) in items.iter().enumerate() {
-        let refusal = refused_item::<R>(store, registers, &items[..place], *item);
-        if refusal.is_some() {
-            return refusal;
-        }
-    }
-    None
+    let marked = mark_items::<R>(store, registers, chosen, items);
+    unmark_items(chosen, &items[..marked.count]);
+    marked.refusal
 }
 
 /// The verdict of each item, in order.

@@ -1,13 +1,22 @@
-//! Refusals that verdicts bring.
+//! Refusals that verdicts bring. A set of marks tells which nodes a choice has named so far.
 
-ghost use Rattle.std.specs.Prelude.{◌≡◌, nat_eq};
-ghost use Rattle.std.specs.List.{list_any};
-ghost use Rattle.rule_engine.specs.Choosing.{refused_by, refusal_of_verdicts};
+ghost use Rattle.std.specs.Prelude.{◌≡◌, ◌≤◌, [], All, if◌then◌else◌, is_some, length, slice_set, take, true};
+ghost use Rattle.enabled_set.specs.Members.{is_in};
+ghost use Rattle.rule_engine.specs.Choosing.{refused_by, verdicts_refusal, refusal_of_verdicts};
+ghost use Rattle.rule_engine.specs.Marks.{AreClear, AreMarks, HasPlace, is_judged};
 
+use enabled_set::EnabledSet;
 use rule_machine::{Node, Outcome, Refusal, Verdict};
 
+/// How many items were marked, which are those before the first that is refused, and why that one is.
+#[derive(Clone, Copy)]
+pub(crate) struct Marked {
+    pub(crate) count: usize,
+    pub(crate) refusal: Option<Refusal>,
+}
+
 /// Why an item with this outcome is refused, where it may stand in the choice before.
-pub(crate) fn refused(outcome: Outcome, twice: bool) -> Option<Refusal>
+fn refused(outcome: Outcome, twice: bool) -> Option<Refusal>
     ensures { result ≡ refused_by outcome twice }
 {
     match outcome {
@@ -19,16 +28,66 @@ pub(crate) fn refused(outcome: Outcome, twice: bool) -> Option<Refusal>
     }
 }
 
-/// Whether one of these verdicts is of the node.
-fn is_judged(verdicts: &[Verdict], node: Node) -> bool
-    ensures { result ≡ list_any (λ d. nat_eq d.node node) verdicts.now }
+/// Why an item with this outcome is refused behind those whose nodes are marked. Its node is marked if it is not
+/// refused.
+pub(crate) fn mark(chosen: &mut EnabledSet, node: Node, outcome: Outcome) -> Option<Refusal>
+    requires { HasPlace (length chosen.old) node outcome }
+    ensures refusal { result ≡ refused_by outcome (is_in chosen.old node) }
+    ensures marks { chosen.new ≡ (if is_some result then chosen.old else slice_set chosen.old node true) }
 {
-    verdicts.iter().any(|verdict| verdict.node == node)
+    let refusal = refused(outcome, chosen.contains(node));
+    if refusal.is_none() {
+        chosen.insert(node);
+    }
+    refusal
 }
 
-/// Why a step with these verdicts is refused, if it is. Looks for each verdict at those before it.
-pub(crate) fn refused_verdicts(central: bool, verdicts: &[Verdict]) -> Option<Refusal>
-    ensures { result ≡ refusal_of_verdicts central verdicts.now }
+/// Marks the nodes of verdicts up to the first that is refused.
+fn mark_verdicts(chosen: &mut EnabledSet, verdicts: &[Verdict]) -> Marked
+    requires clear { AreClear chosen.old }
+    requires placed { All (λ d. HasPlace (length chosen.old) d.node d.outcome) verdicts.now }
+    ensures count { result.count ≤ length verdicts.now }
+    ensures refusal { result.refusal ≡ verdicts_refusal [] verdicts.now }
+    ensures marks { AreMarks (is_judged (take result.count verdicts.now)) chosen.new }
+    ensures len { length chosen.new ≡ length chosen.old }
+{
+    for (place, verdict) in verdicts.iter().enumerate() {
+        let refusal = mark(chosen, verdict.node, verdict.outcome);
+        if refusal.is_some() {
+            return Marked {
+                count: place,
+                refusal,
+            };
+        }
+    }
+    Marked {
+        count: verdicts.len(),
+        refusal: None,
+    }
+}
+
+/// Clears the marks of verdicts.
+fn unmark_verdicts(chosen: &mut EnabledSet, verdicts: &[Verdict])
+    requires { AreMarks (is_judged verdicts.now) chosen.old }
+    ensures clear { AreClear chosen.new }
+    ensures len { length chosen.new ≡ length chosen.old }
+{
+    for verdict in verdicts {
+        chosen.remove(verdict.node);
+    }
+}
+
+/// Why a step with these verdicts is refused, if it is: one look at each verdict. The marks are clear again at the
+/// end.
+pub(crate) fn refused_verdicts(
+    central: bool,
+    chosen: &mut EnabledSet,
+    verdicts: &[Verdict],
+) -> Option<Refusal>
+    requires clear { AreClear chosen.old }
+    requires placed { All (λ d. HasPlace (length chosen.old) d.node d.outcome) verdicts.now }
+    ensures refusal { result ≡ refusal_of_verdicts central verdicts.now }
+    ensures kept { chosen.new ≡ chosen.old }
 {
     if verdicts.is_empty() {
         return Some(Refusal::EmptyChoice);
@@ -36,12 +95,7 @@ pub(crate) fn refused_verdicts(central: bool, verdicts: &[Verdict]) -> Option<Re
     if central && verdicts.len() > 1 {
         return Some(Refusal::NotCentral);
     }
-    for (place, verdict) in verdicts.iter().enumerate() {
-        let twice = is_judged(&verdicts[..place], verdict.node);
-        let refusal = refused(verdict.outcome, twice);
-        if refusal.is_some() {
-            return refusal;
-        }
-    }
-    None
+    let marked = mark_verdicts(chosen, verdicts);
+    unmark_verdicts(chosen, &verdicts[..marked.count]);
+    marked.refusal
 }

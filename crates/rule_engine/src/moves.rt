@@ -1,31 +1,12 @@
 //! The moves of a step, and what they write.
 
-ghost use Rattle.std.specs.Prelude.{◌≡◌, ◌-◌, ◌<◌, ℕ, All, IfOk, None, length, slice_index_or, filter_map, fold};
-ghost use Rattle.std.specs.List.{range_with_len};
+ghost use Rattle.std.specs.Prelude.{◌≡◌, ◌<◌, All, IfOk, length, fold};
 ghost use Rattle.rule_machine.specs.Least.{move_in as move_of_outcome};
-ghost use Rattle.rule_engine.specs.Choosing.{AreApart, found_move, flag_read, pointer_written};
+ghost use Rattle.rule_engine.specs.Choosing.{AreLeast, moves_of, flag_read, pointer_written};
 
 use registers::Registers;
 use rule_machine::{Act, Moved, Outcome, Verdict, Want};
 use std::alloc::Global;
-
-/// The moves of verdicts, each in the place of its node.
-fn moves_by_place(
-    alloc: Global,
-    places: usize,
-    verdicts: &[Verdict],
-) -> Result<Vec<Option<Moved>>, Want>
-    requires within { All (λ d. d.node < places) verdicts.now }
-    requires apart { AreApart verdicts.now }
-    ensures found { IfOk result (λ slots. (v : ℕ) → v < places → slice_index_or slots.items v None ≡ found_move verdicts.now v) }
-    ensures len { IfOk result (λ slots. length slots.items ≡ places) }
-{
-    let mut slots: Vec<Option<Moved>> = vec![in alloc; None; places]?;
-    for verdict in verdicts {
-        slots[verdict.node.place()] = move_in(verdict.outcome);
-    }
-    Ok(slots)
-}
 
 /// The move that an outcome is, if it is one.
 fn move_in(outcome: Outcome) -> Option<Moved>
@@ -37,26 +18,25 @@ fn move_in(outcome: Outcome) -> Option<Moved>
     }
 }
 
-/// The moves of verdicts, ascending by node, with room for `count` of them; the places are one for each name and
-/// place 0.
-pub(crate) fn ascending_moves(
-    alloc: Global,
-    places: usize,
-    count: usize,
-    verdicts: &[Verdict],
-) -> Result<Vec<Moved>, Want>
-    requires within { All (λ d. d.node < places) verdicts.now }
-    requires apart { AreApart verdicts.now }
-    requires some { 0 < places }
-    ensures { IfOk result (λ moves. moves.items ≡ filter_map (found_move verdicts.now) (range_with_len 1 (places - 1))) }
+/// The moves of verdicts, in their order.
+fn moves_in_order(alloc: Global, verdicts: &[Verdict]) -> Result<Vec<Moved>, Want>
+    ensures { IfOk result (λ moves. moves.items ≡ moves_of verdicts.now) }
 {
-    let slots = moves_by_place(alloc, places, verdicts)?;
-    let mut moves = Vec::with_capacity(alloc, count)?;
-    for place in 1..places {
-        if let Some(moved) = slots[place] {
+    let mut moves = Vec::with_capacity(alloc, verdicts.len())?;
+    for verdict in verdicts {
+        if let Some(moved) = move_in(verdict.outcome) {
             moves.push(moved)?;
         }
     }
+    Ok(moves)
+}
+
+/// The moves of verdicts, ascending by node; no memory but theirs. Moves that ascend already cost one look each.
+pub(crate) fn ascending_moves(alloc: Global, verdicts: &[Verdict]) -> Result<Vec<Moved>, Want>
+    ensures { IfOk result (λ moves. AreLeast verdicts.now moves.items) }
+{
+    let mut moves = moves_in_order(alloc, verdicts)?;
+    moves.sort_unstable_by_key(|moved| moved.node.place());
     Ok(moves)
 }
 

@@ -38,6 +38,7 @@ pub struct Net<R: Rules> {
     store: EdgeStore,
     registers: Registers,
     enabled: EnabledSet,
+    chosen: EnabledSet,
     rules: PhantomData<R>,
 }
 
@@ -51,7 +52,7 @@ impl<R: Rules> Model for Net<R> {
 
     ghost view = { λ n. state_of n.store n.registers };
 
-    ghost invariant = { λ n. IsKept R.table (state_of n.store n.registers) n.enabled };
+    ghost invariant = { λ n. IsKept R.table (state_of n.store n.registers) n.enabled n.chosen };
 }
 
 impl<R: Rules> Net<R> {
@@ -69,11 +70,15 @@ impl<R: Rules> Net<R> {
         let Ok(enabled) = EnabledSet::new(alloc, nodes) else {
             return Err(GraphFault::Memory);
         };
+        let Ok(chosen) = EnabledSet::new(alloc, nodes) else {
+            return Err(GraphFault::Memory);
+        };
         Ok(Net {
             alloc,
             store,
             registers,
             enabled,
+            chosen,
             rules: PhantomData,
         })
     }
@@ -266,7 +271,8 @@ impl<R: Rules> Net<R> {
         ensures machine { IfOk result (λ reply. Answers R.table self.old (Step choice.now) reply self.new) }
     {
         let items = choice.items();
-        if let Some(refusal) = refused_step::<R>(&self.store, &self.registers, items) {
+        let refused = refused_step::<R>(&self.store, &self.registers, &mut self.chosen, items);
+        if let Some(refusal) = refused {
             return Ok(Reply::Refused(refusal));
         }
         let verdicts = verdicts::<R>(self.alloc, &self.store, &self.registers, items)?;
@@ -278,8 +284,7 @@ impl<R: Rules> Net<R> {
         requires verdicts { verdicts.now ≡ verdicts_of R.table self.old choice.now }
         ensures { Applies R.table self.old (Step choice.now) result self.new }
     {
-        let places = self.store.nodes() as usize + 1;
-        let moves = ascending_moves(self.alloc, places, choice.items().len(), verdicts)?;
+        let moves = ascending_moves(self.alloc, verdicts)?;
         write_moves(&mut self.registers, &moves);
         look_round_movers::<R>(&self.store, &self.registers, &mut self.enabled, &moves);
         Ok(Reply::Moves(Listing::from_vec(moves)))
@@ -294,7 +299,7 @@ impl<R: Rules> Net<R> {
         ensures kept { OnErr result (self.new ≡ self.old) }
         ensures want { OnErr result (refusal_of R.table self.old (Step choice.now) ≡ None) }
     {
-        if let Some(refusal) = refused_verdicts(R::CENTRAL, verdicts) {
+        if let Some(refusal) = refused_verdicts(R::CENTRAL, &mut self.chosen, verdicts) {
             return Ok(Reply::Refused(refusal));
         }
         self.carry_out(choice, verdicts)

@@ -1,28 +1,40 @@
-use Rattle.std.proofs.Common.{◌≡◌, ap, sym, ◌∙◌}
+use Rattle.std.proofs.Common.{◌≡◌, ◌+◌, ap, sym, ◌∙◌, false, length}
+use Rattle.std.proofs.lemmas.List.{length-replicate}
 use Rattle.rule_machine.specs.declared.event.Event.TheVariants.{Step}
 use Rattle.rule_machine.specs.Refuse.{step_refusal}
 use Rattle.rule_machine.specs.Least.{reply_by, state_by}
-use Rattle.rule_engine.specs.Choosing.{refusal_of_verdicts}
+use Rattle.rule_engine.specs.Choosing.{verdicts_of, refusal_of_verdicts}
+use Rattle.rule_engine.specs.Kept.{state_of}
 use Rattle.rule_engine.proofs.Judged.{refusal-verdicts_of}
+use Rattle.rule_engine.proofs.Marked.{verdicts_placed}
 use Rattle.rule_engine.proofs.net.Net.apply_step.Goals as goal
+
+pub refused_verdicts-requires-clause-placed : goal.refused_verdicts-requires-clause-placed
+refused_verdicts-requires-clause-placed g c =
+    let t = g.R.Rules.table in
+    let s = state_of c.self.inside.store c.self.inside.registers in
+    let items = c.args.choice.now in
+    let verdicts : c.args.verdicts.now ≡ verdicts_of t s items = c.requires ∙ ap (λ u. verdicts_of t u items) (sym c.self.view_is) in
+    let places : length c.self.inside.chosen ≡ s.network.size + 1 = ap length c.self.invariant.unmarked ∙ length-replicate (s.network.size + 1) false in
+    verdicts_placed t s items c.args.verdicts.now (length c.self.inside.chosen) verdicts places
 
 pub returns-in-Some-clause-reply : goal.returns-in-Some-clause-reply
 returns-in-Some-clause-reply g c =
     let t = g.R.Rules.table in
     let s = c.args.self.now in
-    let refusal : c.refused_verdicts.result ≡ step_refusal t s c.args.choice.now = c.refused_verdicts.ensures ∙ ap (λ b. refusal_of_verdicts b c.args.verdicts.now) (c.CENTRAL.ensures ∙ sym g.met.R.Rules.is_central) ∙ ap (refusal_of_verdicts t.central) c.requires ∙ refusal-verdicts_of t s c.args.choice.now in
+    let refusal : c.refused_verdicts.result ≡ step_refusal t s c.args.choice.now = c.refused_verdicts.ensures.refusal ∙ ap (λ b. refusal_of_verdicts b c.args.verdicts.now) (c.CENTRAL.ensures ∙ sym g.met.R.Rules.is_central) ∙ ap (refusal_of_verdicts t.central) c.requires ∙ refusal-verdicts_of t s c.args.choice.now in
     ap (reply_by t s (Step c.args.choice.now)) (sym c.in-Some.is ∙ refusal)
 
 pub returns-in-Some-clause-state : goal.returns-in-Some-clause-state
 returns-in-Some-clause-state g c =
     let t = g.R.Rules.table in
     let s = c.args.self.now in
-    let refusal : c.refused_verdicts.result ≡ step_refusal t s c.args.choice.now = c.refused_verdicts.ensures ∙ ap (λ b. refusal_of_verdicts b c.args.verdicts.now) (c.CENTRAL.ensures ∙ sym g.met.R.Rules.is_central) ∙ ap (refusal_of_verdicts t.central) c.requires ∙ refusal-verdicts_of t s c.args.choice.now in
-    ap (state_by t s (Step c.args.choice.now)) (sym c.in-Some.is ∙ refusal)
+    let refusal : c.refused_verdicts.result ≡ step_refusal t s c.args.choice.now = c.refused_verdicts.ensures.refusal ∙ ap (λ b. refusal_of_verdicts b c.args.verdicts.now) (c.CENTRAL.ensures ∙ sym g.met.R.Rules.is_central) ∙ ap (refusal_of_verdicts t.central) c.requires ∙ refusal-verdicts_of t s c.args.choice.now in
+    c.self.view_is ∙ ap (state_by t s (Step c.args.choice.now)) (sym c.in-Some.is ∙ refusal)
 
 pub carry_out-requires-clause-accepted : goal.carry_out-requires-clause-accepted
 carry_out-requires-clause-accepted g c =
     let t = g.R.Rules.table in
     let s = c.args.self.now in
-    let refusal : c.refused_verdicts.result ≡ step_refusal t s c.args.choice.now = c.refused_verdicts.ensures ∙ ap (λ b. refusal_of_verdicts b c.args.verdicts.now) (c.CENTRAL.ensures ∙ sym g.met.R.Rules.is_central) ∙ ap (refusal_of_verdicts t.central) c.requires ∙ refusal-verdicts_of t s c.args.choice.now in
-    sym refusal ∙ c.in_default.is
+    let refusal : c.refused_verdicts.result ≡ step_refusal t s c.args.choice.now = c.refused_verdicts.ensures.refusal ∙ ap (λ b. refusal_of_verdicts b c.args.verdicts.now) (c.CENTRAL.ensures ∙ sym g.met.R.Rules.is_central) ∙ ap (refusal_of_verdicts t.central) c.requires ∙ refusal-verdicts_of t s c.args.choice.now in
+    ap (λ u. step_refusal t u c.args.choice.now) c.self.view_is ∙ sym refusal ∙ c.in_default.is

@@ -1,4 +1,4 @@
-use Rattle.std.proofs.Common.{◌≡◌, ◌+◌, ◌<◌, ap, sym, ◌∙◌, subst, length, get_or, None}
+use Rattle.std.proofs.Common.{◌≡◌, ap, sym, ◌∙◌, length, None}
 use Rattle.rule_machine.specs.declared.event.Event.TheVariants.{Step}
 use Rattle.rule_machine.specs.declared.reply.Reply.TheVariants.{Moves}
 use Rattle.rule_machine.specs.Refuse.{step_refusal}
@@ -8,26 +8,8 @@ use Rattle.machine_laws.specs.LeastMoves.{IsTable}
 use Rattle.rule_engine.specs.Kept.{state_of}
 use Rattle.rule_engine.specs.Choosing.{verdicts_of}
 use Rattle.rule_engine.proofs.Again.{kept_moved}
-use Rattle.rule_engine.proofs.Carried.{verdicts_within, verdicts_apart, moves_found, moves_within, moves_present, carried_state, written_in_two}
+use Rattle.rule_engine.proofs.Carried.{moves_within, moves_present, carried_state, written_in_two}
 use Rattle.rule_engine.proofs.net.Net.carry_out.Goals as goal
-
-pub ascending_moves-requires-clause-within : goal.ascending_moves-requires-clause-within
-ascending_moves-requires-clause-within g c =
-    let t = g.R.Rules.table in
-    let s = state_of c.self.inside.store c.self.inside.registers in
-    let items = c.args.choice.now in
-    let none : step_refusal t s items ≡ None = ap (λ u. step_refusal t u items) c.self.view_is ∙ c.requires.accepted in
-    let verdicts : c.args.verdicts.now ≡ verdicts_of t s items = c.requires.verdicts ∙ ap (λ u. verdicts_of t u items) (sym c.self.view_is) in
-    λ k d below. subst (λ n. (get_or c.args.verdicts.now k d).node < n + 1) (sym c.nodes.ensures.count) (verdicts_within t s items c.args.verdicts.now verdicts none k d below)
-
-pub ascending_moves-requires-clause-apart : goal.ascending_moves-requires-clause-apart
-ascending_moves-requires-clause-apart g c =
-    let t = g.R.Rules.table in
-    let s = state_of c.self.inside.store c.self.inside.registers in
-    let items = c.args.choice.now in
-    let none : step_refusal t s items ≡ None = ap (λ u. step_refusal t u items) c.self.view_is ∙ c.requires.accepted in
-    let verdicts : c.args.verdicts.now ≡ verdicts_of t s items = c.requires.verdicts ∙ ap (λ u. verdicts_of t u items) (sym c.self.view_is) in
-    verdicts_apart t s items c.args.verdicts.now verdicts none
 
 pub write_moves-requires-clause-flags_in : goal.write_moves-requires-clause-flags_in
 write_moves-requires-clause-flags_in g c =
@@ -36,9 +18,9 @@ write_moves-requires-clause-flags_in g c =
     let t = g.R.Rules.table in
     let s = state_of c.self.inside.store c.self.inside.registers in
     let items = c.args.choice.now in
+    let none : step_refusal t s items ≡ None = ap (λ u. step_refusal t u items) c.self.view_is ∙ c.requires.accepted in
     let verdicts : c.args.verdicts.now ≡ verdicts_of t s items = c.requires.verdicts ∙ ap (λ u. verdicts_of t u items) (sym c.self.view_is) in
-    let count : c.nodes.result + 1 ≡ s.network.size + 1 = ap (λ n. n + 1) c.nodes.ensures.count in
-    let found : c.in_ok-moves.moves.items ≡ least_moves t s items = c.in_ok-moves.ensures ∙ moves_found t s items c.args.verdicts.now (c.nodes.result + 1) verdicts count in
+    let found : c.in_ok-moves.moves.items ≡ least_moves t s items = c.in_ok-moves.ensures t s items verdicts none in
     let moves : c.deref.result.now ≡ least_moves t s items = c.deref.ensures.value ∙ found in
     moves_within t table s items c.deref.result.now (length c.self.inside.registers.flags) moves c.self.invariant.is_state.flags_len
 
@@ -49,9 +31,9 @@ write_moves-requires-clause-pointers_in g c =
     let t = g.R.Rules.table in
     let s = state_of c.self.inside.store c.self.inside.registers in
     let items = c.args.choice.now in
+    let none : step_refusal t s items ≡ None = ap (λ u. step_refusal t u items) c.self.view_is ∙ c.requires.accepted in
     let verdicts : c.args.verdicts.now ≡ verdicts_of t s items = c.requires.verdicts ∙ ap (λ u. verdicts_of t u items) (sym c.self.view_is) in
-    let count : c.nodes.result + 1 ≡ s.network.size + 1 = ap (λ n. n + 1) c.nodes.ensures.count in
-    let found : c.in_ok-moves.moves.items ≡ least_moves t s items = c.in_ok-moves.ensures ∙ moves_found t s items c.args.verdicts.now (c.nodes.result + 1) verdicts count in
+    let found : c.in_ok-moves.moves.items ≡ least_moves t s items = c.in_ok-moves.ensures t s items verdicts none in
     let moves : c.deref.result.now ≡ least_moves t s items = c.deref.ensures.value ∙ found in
     moves_within t table s items c.deref.result.now (length c.self.inside.registers.pointers) moves c.self.invariant.is_state.pointers_len
 
@@ -62,9 +44,9 @@ look_round_movers-requires-clause-state g c =
     let t = g.R.Rules.table in
     let s = state_of c.self.inside.store c.self.inside.registers in
     let items = c.args.choice.now in
+    let none : step_refusal t s items ≡ None = ap (λ u. step_refusal t u items) c.self.view_is ∙ c.requires.accepted in
     let verdicts : c.args.verdicts.now ≡ verdicts_of t s items = c.requires.verdicts ∙ ap (λ u. verdicts_of t u items) (sym c.self.view_is) in
-    let count : c.nodes.result + 1 ≡ s.network.size + 1 = ap (λ n. n + 1) c.nodes.ensures.count in
-    let found : c.in_ok-moves.moves.items ≡ least_moves t s items = c.in_ok-moves.ensures ∙ moves_found t s items c.args.verdicts.now (c.nodes.result + 1) verdicts count in
+    let found : c.in_ok-moves.moves.items ≡ least_moves t s items = c.in_ok-moves.ensures t s items verdicts none in
     let moves : c.deref.result.now ≡ least_moves t s items = c.deref.ensures.value ∙ found in
     carried_state t table s c.self.invariant.is_state items c.deref.result.now c.write_moves.new.registers moves c.write_moves.ensures
 
@@ -75,9 +57,9 @@ look_round_movers-requires-clause-have g c =
     let t = g.R.Rules.table in
     let s = state_of c.self.inside.store c.self.inside.registers in
     let items = c.args.choice.now in
+    let none : step_refusal t s items ≡ None = ap (λ u. step_refusal t u items) c.self.view_is ∙ c.requires.accepted in
     let verdicts : c.args.verdicts.now ≡ verdicts_of t s items = c.requires.verdicts ∙ ap (λ u. verdicts_of t u items) (sym c.self.view_is) in
-    let count : c.nodes.result + 1 ≡ s.network.size + 1 = ap (λ n. n + 1) c.nodes.ensures.count in
-    let found : c.in_ok-moves.moves.items ≡ least_moves t s items = c.in_ok-moves.ensures ∙ moves_found t s items c.args.verdicts.now (c.nodes.result + 1) verdicts count in
+    let found : c.in_ok-moves.moves.items ≡ least_moves t s items = c.in_ok-moves.ensures t s items verdicts none in
     let moves : c.deref-2.result.now ≡ least_moves t s items = c.deref-2.ensures.value ∙ found in
     moves_present t table s items c.deref-2.result.now moves
 
@@ -88,11 +70,11 @@ invariant_of-self g c =
     let t = g.R.Rules.table in
     let s = state_of c.self.inside.store c.self.inside.registers in
     let items = c.args.choice.now in
+    let none : step_refusal t s items ≡ None = ap (λ u. step_refusal t u items) c.self.view_is ∙ c.requires.accepted in
     let verdicts : c.args.verdicts.now ≡ verdicts_of t s items = c.requires.verdicts ∙ ap (λ u. verdicts_of t u items) (sym c.self.view_is) in
-    let count : c.nodes.result + 1 ≡ s.network.size + 1 = ap (λ n. n + 1) c.nodes.ensures.count in
-    let found : c.in_ok-moves.moves.items ≡ least_moves t s items = c.in_ok-moves.ensures ∙ moves_found t s items c.args.verdicts.now (c.nodes.result + 1) verdicts count in
+    let found : c.in_ok-moves.moves.items ≡ least_moves t s items = c.in_ok-moves.ensures t s items verdicts none in
     let moves : c.deref.result.now ≡ least_moves t s items = c.deref.ensures.value ∙ found in
-    let wrote = c.write_moves.ensures ∙ written_in_two s c.self.invariant.is_state c.deref.result.now in
+    let wrote : c.write_moves.new.registers ≡ registers_after s c.deref.result.now = c.write_moves.ensures ∙ written_in_two s c.self.invariant.is_state c.deref.result.now in
     let good = carried_state t table s c.self.invariant.is_state items c.deref.result.now c.write_moves.new.registers moves c.write_moves.ensures in
     let again = c.deref-2.ensures.value ∙ sym c.deref.ensures.value in
     kept_moved t laws.is_local c.self.inside.store c.self.inside.registers c.write_moves.new.registers c.deref-2.result.now _ _ c.self.invariant good (wrote ∙ ap (registers_after s) (sym again)) c.look_round_movers.ensures
@@ -104,8 +86,7 @@ returns g c =
     let items = c.args.choice.now in
     let none : step_refusal t s items ≡ None = ap (λ u. step_refusal t u items) c.self.view_is ∙ c.requires.accepted in
     let verdicts : c.args.verdicts.now ≡ verdicts_of t s items = c.requires.verdicts ∙ ap (λ u. verdicts_of t u items) (sym c.self.view_is) in
-    let count : c.nodes.result + 1 ≡ s.network.size + 1 = ap (λ n. n + 1) c.nodes.ensures.count in
-    let found : c.in_ok-moves.moves.items ≡ least_moves t s items = c.in_ok-moves.ensures ∙ moves_found t s items c.args.verdicts.now (c.nodes.result + 1) verdicts count in
+    let found : c.in_ok-moves.moves.items ≡ least_moves t s items = c.in_ok-moves.ensures t s items verdicts none in
     let moves : c.deref.result.now ≡ least_moves t s items = c.deref.ensures.value ∙ found in
     let wrote : c.write_moves.new.registers ≡ registers_after s (least_moves t s items) = c.write_moves.ensures ∙ written_in_two s c.self.invariant.is_state c.deref.result.now ∙ ap (registers_after s) moves in
     record {

@@ -14,4 +14,4 @@ invariant_of-result g c =
     let good = opening_is_state n in
     let quiet : enabled_names t (opening n) ≡ [] = g.met.R.Rules.stable_is_quiet (opening n) good (opening_is_stable t.flags n) in
     let same : state_of c.in_ok-store.store c.in-Ok.registers ≡ opening n = λ i. state_of (c.in_ok-store.ensures.ok i) (c.in-Ok.ensures i) in
-    subst (λ s. IsKept t s c.in-Ok-new.enabled) (sym same) (kept_quiet t (opening n) c.in-Ok-new.enabled good quiet c.in-Ok-new.ensures c.in_ok-store.ensures.small)
+    subst (λ s. IsKept t s c.in-Ok-new.enabled c.in-Ok-new-2.chosen) (sym same) (kept_quiet t (opening n) c.in-Ok-new.enabled c.in-Ok-new-2.chosen good quiet c.in-Ok-new.ensures c.in-Ok-new-2.ensures c.in_ok-store.ensures.small)

@@ -1,0 +1,146 @@
+-- Marks that are made and cleared one by one.
+use Rattle.std.proofs.Common.{◌≡◌, ℕ, zero, suc, ◌+◌, ◌<◌, ◌≤◌, Bool, true, false, cond, ◌||◌, List, [], ◌∷◌, ◌++◌, length, get_or, take, drop, set, All, Option, None, Some, is_some, IsSome, nat_eq, refl, sym, ap, ◌∙◌, subst, ⊎_elim, arith, eq-eqb}
+use Rattle.std.specs.List.{list_any}
+use Rattle.std.specs.Option.{option_or}
+use Rattle.std.proofs.lemmas.Bool.{cases_Bool, cases_eq, cases_lt, ne_eqb, true≢false}
+use Rattle.std.proofs.lemmas.List.{ext_get_or, get_or-set_same, get_or-set_other, get_or_past, drop_more, length-set}
+use Rattle.std.proofs.lemmas.List.Folds.{list_any_more, list_any_at}
+use Rattle.rule_machine.specs.declared.choice.Item.{Item}
+use Rattle.rule_machine.specs.declared.refusal.Refusal.{Refusal}
+use Rattle.rule_machine.specs.declared.verdict.Verdict.{Verdict}
+use Rattle.rule_machine.specs.declared.verdict.Outcome.{Outcome}
+use Rattle.rule_machine.specs.declared.verdict.Outcome.TheVariants as outcome
+use Rattle.rule_machine.specs.Network.{present}
+use Rattle.rule_machine.specs.State.{State}
+use Rattle.rule_machine.specs.RuleTable.{RuleTable, rule_at}
+use Rattle.rule_machine.specs.Refuse.{items_refusal}
+use Rattle.rule_machine.specs.Least.{move_in, outcome_of, outcome_at}
+use Rattle.enabled_set.specs.Members.{is_in}
+use Rattle.rule_engine.specs.Choosing.{refused_by, verdicts_refusal, verdicts_from, verdicts_of}
+use Rattle.rule_engine.specs.Marks.{AreClear, AreMarks, HasPlace, is_named, is_judged}
+use Rattle.rule_engine.proofs.Found.{none_from_is_some, push_is_take}
+use Rattle.rule_engine.proofs.Judged.{item_refusal-outcome}
+use Rattle.rule_engine.proofs.Keeping.{present_below}
+
+-- an outcome that is not refused is a move
+pub move_from_accepted : (o : Outcome) (twice : Bool) → refused_by o twice ≡ None → IsSome (move_in o)
+move_from_accepted outcome.Absent twice none = absurd cc
+move_from_accepted outcome.Idle true none = absurd cc
+move_from_accepted outcome.Idle false none = absurd cc
+move_from_accepted outcome.Wrong true none = absurd cc
+move_from_accepted outcome.Wrong false none = absurd cc
+move_from_accepted (outcome.Moves m) twice none = refl
+
+-- what is marked has a place
+pub marked_within : (marks : List Bool) (v : ℕ) → is_in marks v ≡ true → v < length marks
+marked_within marks v marked =
+    ⊎_elim
+    (λ (lt : v < length marks). lt)
+    (λ (le : length marks ≤ v). absurd (true≢false (sym marked ∙ get_or_past marks v false le)))
+    (cases_lt v (length marks))
+
+or_true : (b : Bool) → true ≡ (b || true)
+or_true true = refl
+or_true false = refl
+
+or_false : (b : Bool) → b ≡ (b || false)
+or_false true = refl
+or_false false = refl
+
+mark_made : (marks : List Bool) (w v : ℕ) → w < length marks → is_in (set marks w true) v ≡ (is_in marks v || nat_eq w v)
+mark_made marks w v within =
+    ⊎_elim
+    (λ (same : w ≡ v).
+    ap (is_in (set marks w true)) (sym same) ∙ get_or-set_same marks w true false within ∙ or_true (is_in marks v) ∙ ap (λ b. is_in marks v || b) (sym (eq-eqb w v same)))
+    (λ (other : w ≡ v → ⊥).
+    get_or-set_other marks w v true false (λ e. other (sym e)) ∙ or_false (is_in marks v) ∙ ap (λ b. is_in marks v || b) (sym (ne_eqb w v other)))
+    (cases_eq w v)
+
+-- the nodes of items
+abbrev pub is_among : {X : Type 0} → (X → ℕ) → List X → ℕ → Bool
+is_among node xs v = list_any (λ x. nat_eq (node x) v) xs
+
+-- the marks of one more item
+marks_more : {X : Type 0} (node : X → ℕ) (xs : List X) (i : ℕ) (x : X) (marks marks' : List Bool) → i < length xs → x ≡ get_or xs i x → node x < length marks → marks' ≡ set marks (node x) true → AreMarks (is_among node (take i xs)) marks → AreMarks (is_among node (take (i + 1) xs)) marks'
+marks_more node xs i x marks marks' within is placed made so_far = λ v.
+    ap (λ m. is_in m v) made
+    ∙ mark_made marks (node x) v placed
+    ∙ ap (λ b. b || nat_eq (node x) v) (so_far v)
+    ∙ ap (λ y. is_among node (take i xs) v || nat_eq (node y) v) is
+    ∙ sym (list_any_more (λ y. nat_eq (node y) v) xs i x within)
+
+-- what one more item that is not refused leaves: no earlier one is of its node, and it is marked
+pub record Passes {X : Type 0} (node : X → ℕ) (xs : List X) (i : ℕ) (x : X) (o : Outcome) (before after : List Bool) : Type 0 where
+  pub accepted : refused_by o (is_among node (take i xs) (node x)) ≡ None
+  pub marks : AreMarks (is_among node (take (i + 1) xs)) after
+  pub len : length after ≡ length before
+
+pub passes : {X : Type 0} (node : X → ℕ) (xs : List X) (i : ℕ) (x : X) (o : Outcome) (refusal : Option Refusal) (marks marks' : List Bool) → i < length xs → x ≡ get_or xs i x → HasPlace (length marks) (node x) o → refusal ≡ refused_by o (is_in marks (node x)) → is_some refusal ≡ false → marks' ≡ cond (is_some refusal) marks (set marks (node x) true) → AreMarks (is_among node (take i xs)) marks → Passes node xs i x o marks marks'
+passes node xs i x o refusal marks marks' within is placed judged none made so_far =
+    let accepted : refused_by o (is_in marks (node x)) ≡ None = sym judged ∙ none_from_is_some refusal none in
+    let here : node x < length marks = placed (move_from_accepted o (is_in marks (node x)) accepted) in
+    let marked : marks' ≡ set marks (node x) true = made ∙ ap (λ b. cond b marks (set marks (node x) true)) none in
+    record {
+      accepted = ap (refused_by o) (sym (so_far (node x))) ∙ accepted;
+      marks = marks_more node xs i x marks marks' within is here marked so_far;
+      len = ap length marked ∙ length-set marks (node x) true;
+    }
+
+some_or : {X : Type 0} (o p : Option X) → is_some o ≡ true → o ≡ option_or o p
+some_or None p some = absurd cc
+some_or (Some x) p some = refl
+
+-- a verdict behind those that are not refused is the one that counts, if it is refused
+pub verdict_refused : (ds : List Verdict) (k : ℕ) (d : Verdict) (marks : List Bool) (refusal : Option Refusal) → k < length ds → d ≡ get_or ds k d → refusal ≡ refused_by d.outcome (is_in marks d.node) → is_some refusal ≡ true → AreMarks (is_judged (take k ds)) marks → refusal ≡ verdicts_refusal (take k ds) (drop k ds)
+verdict_refused ds k d marks refusal within is judged some so_far =
+    some_or refusal (verdicts_refusal (take k ds ++ d ∷ []) (drop (k + 1) ds)) some
+    ∙ ap (λ o. option_or o (verdicts_refusal (take k ds ++ d ∷ []) (drop (k + 1) ds))) (judged ∙ ap (refused_by d.outcome) (so_far d.node))
+    ∙ ap (λ e. verdicts_refusal (take k ds) (e ∷ drop (k + 1) ds)) is
+    ∙ ap (verdicts_refusal (take k ds)) (sym (drop_more ds k d within))
+
+-- and so is an item
+pub item_refused : (t : RuleTable) (s : State) (items : List Item) (k : ℕ) (item : Item) (marks : List Bool) (refusal : Option Refusal) → k < length items → item ≡ get_or items k item → refusal ≡ refused_by (outcome_of t s item) (is_in marks item.node) → is_some refusal ≡ true → AreMarks (is_named (take k items)) marks → refusal ≡ items_refusal t s (take k items) (drop k items)
+item_refused t s items k item marks refusal within is judged some so_far =
+    some_or refusal (items_refusal t s (take k items ++ item ∷ []) (drop (k + 1) items)) some
+    ∙ ap (λ o. option_or o (items_refusal t s (take k items ++ item ∷ []) (drop (k + 1) items))) (judged ∙ ap (refused_by (outcome_of t s item)) (so_far item.node) ∙ sym (item_refusal-outcome t s (take k items) item))
+    ∙ ap (λ i. items_refusal t s (take k items) (i ∷ drop (k + 1) items)) is
+    ∙ ap (items_refusal t s (take k items)) (sym (drop_more items k item within))
+
+-- one more item that is not refused
+pub items_refusal_more : (t : RuleTable) (s : State) (items : List Item) (k : ℕ) (item : Item) → k < length items → item ≡ get_or items k item → refused_by (outcome_of t s item) (is_named (take k items) item.node) ≡ None → items_refusal t s (take (k + 1) items) (drop (k + 1) items) ≡ items_refusal t s (take k items) (drop k items)
+items_refusal_more t s items k item within is none =
+    ap (λ front. items_refusal t s front (drop (k + 1) items)) (sym (push_is_take items k item within is))
+    ∙ ap (λ o. option_or o (items_refusal t s (take k items ++ item ∷ []) (drop (k + 1) items))) (sym (item_refusal-outcome t s (take k items) item ∙ none))
+    ∙ ap (λ i. items_refusal t s (take k items) (i ∷ drop (k + 1) items)) is
+    ∙ ap (items_refusal t s (take k items)) (sym (drop_more items k item within))
+
+-- the node of an item that moves is present, and so has a place
+pub item_placed : (t : RuleTable) (s : State) (item : Item) (places : ℕ) → places ≡ s.network.size + 1 → HasPlace places item.node (outcome_of t s item)
+item_placed t s item places count = λ moves.
+    ⊎_elim
+    (λ (has : present s.network item.node ≡ true). let below = present_below s.network.size item.node has in omega (arith, below, count))
+    (λ (none : present s.network item.node ≡ false). absurd (true≢false (sym moves ∙ ap (λ b. is_some (move_in (cond b (outcome_at t s item (rule_at t s item.node)) outcome.Absent))) none)))
+    (cases_Bool (present s.network item.node))
+
+verdicts_placed_from : (t : RuleTable) (s : State) (place : ℕ) (items : List Item) (places : ℕ) → places ≡ s.network.size + 1 → (k : ℕ) (d : Verdict) → k < length (verdicts_from t s place items) → HasPlace places (get_or (verdicts_from t s place items) k d).node (get_or (verdicts_from t s place items) k d).outcome
+verdicts_placed_from t s place [] places count k d below = absurd (omega arith)
+verdicts_placed_from t s place (item ∷ items) places count zero d below = item_placed t s item places count
+verdicts_placed_from t s place (item ∷ items) places count (suc k) d below = verdicts_placed_from t s (place + 1) items places count k d (omega arith)
+
+-- so have those of the verdicts of a choice
+pub verdicts_placed : (t : RuleTable) (s : State) (items : List Item) (verdicts : List Verdict) (places : ℕ) → verdicts ≡ verdicts_of t s items → places ≡ s.network.size + 1 → All (λ d. HasPlace places d.node d.outcome) verdicts
+verdicts_placed t s items verdicts places is count =
+    subst (All (λ (d : Verdict). HasPlace places d.node d.outcome)) (sym is) (verdicts_placed_from t s 0 items places count)
+
+-- each of the items has a mark, and so a place
+pub marked_place : {X : Type 0} (node : X → ℕ) (xs : List X) (i : ℕ) (x : X) (marks : List Bool) → i < length xs → x ≡ get_or xs i x → AreMarks (is_among node xs) marks → node x < length marks
+marked_place node xs i x marks within is marked =
+    marked_within marks (node x) (marked (node x) ∙ list_any_at (λ y. nat_eq (node y) (node x)) xs i x within (eq-eqb (node (get_or xs i x)) (node x) (ap node (sym is))))
+
+-- marks of what is left alone
+abbrev pub AreLeft : {X : Type 0} → (X → ℕ) → List X → List Bool → Type 0
+AreLeft node xs marks = (v : ℕ) → is_in marks v ≡ true → is_among node xs v ≡ true
+
+-- clear marks of as many places are the same
+pub clear_same : (marks marks' : List Bool) → length marks' ≡ length marks → AreClear marks → AreClear marks' → marks' ≡ marks
+clear_same marks marks' len clear clear' = ext_get_or false marks' marks len (λ i below. clear' i ∙ sym (clear i))

@@ -1,0 +1,28 @@
+-- Marks of the nodes that the items so far name.
+use Rattle.std.specs.Prelude.{◌≡◌, ℕ, ◌<◌, Bool, false, List, IsSome, nat_eq}
+use Rattle.std.specs.List.{list_any}
+use Rattle.rule_machine.specs.declared.choice.Item.{Item}
+use Rattle.rule_machine.specs.declared.verdict.Verdict.{Verdict}
+use Rattle.rule_machine.specs.declared.verdict.Outcome.{Outcome}
+use Rattle.rule_machine.specs.Least.{move_in}
+use Rattle.enabled_set.specs.Members.{is_in}
+
+-- no node is marked
+abbrev pub AreClear : List Bool → Type 0
+AreClear marks = (v : ℕ) → is_in marks v ≡ false
+
+-- the nodes that pass the test are marked, and no others
+abbrev pub AreMarks : (ℕ → Bool) → List Bool → Type 0
+AreMarks test marks = (v : ℕ) → is_in marks v ≡ test v
+
+-- whether one of these items names the node
+abbrev pub is_named : List Item → ℕ → Bool
+is_named items v = list_any (λ i. nat_eq i.node v) items
+
+-- whether one of these verdicts is of the node
+abbrev pub is_judged : List Verdict → ℕ → Bool
+is_judged verdicts v = list_any (λ d. nat_eq d.node v) verdicts
+
+-- a node that moves has a place among these many
+abbrev pub HasPlace : ℕ → ℕ → Outcome → Type 0
+HasPlace places v outcome = IsSome (move_in outcome) → v < places
