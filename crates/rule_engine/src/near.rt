@@ -63,6 +63,10 @@ impl<R: Rules> Local for NodeView<'_, R> {
         self.registers.married(self.node)
     }
 
+    fn has_suitor(&self) -> bool {
+        self.first_suitor().is_some()
+    }
+
     fn first_suitor(&self) -> Option<Node> {
         scan::first_pointing_at(self.store.neighbours(self.node), self.registers, self.node)
     }
@@ -71,8 +75,16 @@ impl<R: Rules> Local for NodeView<'_, R> {
         self.store.linked(self.node, w) && self.registers.points_at(w, self.node)
     }
 
+    fn has_open(&self) -> bool {
+        self.first_open().is_some()
+    }
+
     fn first_open(&self) -> Option<Node> {
         scan::first_open::<R>(self.store.neighbours(self.node), self.registers)
+    }
+
+    fn has_open_above(&self) -> bool {
+        self.last_open_above().is_some()
     }
 
     fn last_open_above(&self) -> Option<Node> {

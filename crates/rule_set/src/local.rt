@@ -1,8 +1,8 @@
 //! What a guard may look at.
 
-ghost use Rattle.std.specs.Prelude.{◌≡◌, ℕ, Bool, Option, ◌&&◌};
+ghost use Rattle.std.specs.Prelude.{◌≡◌, ℕ, Bool, Option, ◌&&◌, is_some};
 ghost use Rattle.rule_machine.specs.Network.{linked};
-ghost use Rattle.rule_machine.specs.State.{State, IsState, pointer, flag, suits, first_suitor, married};
+ghost use Rattle.rule_machine.specs.State.{State, IsState, pointer, flag, suits, first_suitor, has_suitor, married};
 ghost use Rattle.rule_machine.specs.RuleTable.{is_open, first_open, last_open_above};
 ghost use Rattle.rule_set.specs.Near.{IsNear};
 
@@ -36,6 +36,10 @@ pub trait Local {
         requires { IsState (state self.now) }
         ensures { result ≡ married (state self.now) (at self.now) };
 
+    /// Whether a neighbour points at the node.
+    fn has_suitor(&self) -> bool
+        ensures { result ≡ has_suitor (state self.now) (at self.now) };
+
     /// The first neighbour that points at the node.
     fn first_suitor(&self) -> Option<Node>
         ensures { result ≡ first_suitor (state self.now) (at self.now) };
@@ -44,9 +48,17 @@ pub trait Local {
     fn is_suitor(&self, w: Node) -> bool
         ensures { result ≡ (linked (state self.now).network (at self.now) w && suits (state self.now) (at self.now) w) };
 
+    /// Whether a neighbour is open.
+    fn has_open(&self) -> bool
+        ensures { result ≡ is_some (first_open opens (state self.now) (at self.now)) };
+
     /// The first open neighbour.
     fn first_open(&self) -> Option<Node>
         ensures { result ≡ first_open opens (state self.now) (at self.now) };
+
+    /// Whether an open neighbour has a name above the node's.
+    fn has_open_above(&self) -> bool
+        ensures { result ≡ is_some (last_open_above opens (state self.now) (at self.now)) };
 
     /// The greatest open neighbour with a name above the node's.
     fn last_open_above(&self) -> Option<Node>

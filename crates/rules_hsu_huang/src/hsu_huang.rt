@@ -30,8 +30,8 @@ impl Rules for HsuHuang {
 
     fn guard<L: Local>(local: &L, v: Node) -> Option<Act> {
         match local.pointer(v) {
-            None if local.first_suitor().is_some() => Some(Act::Marry),
-            None if local.first_open().is_some() => Some(Act::Seduce),
+            None if local.has_suitor() => Some(Act::Marry),
+            None if local.has_open() => Some(Act::Seduce),
             None => None,
             Some(w) => match local.pointer(w) {
                 Some(x) if x != v => Some(Act::Abandon),

@@ -41,8 +41,8 @@ impl Rules for Manne {
             return Some(Act::Update);
         }
         match local.pointer(v) {
-            None if local.first_suitor().is_some() => Some(Act::Marry),
-            None if local.last_open_above().is_some() => Some(Act::Seduce),
+            None if local.has_suitor() => Some(Act::Marry),
+            None if local.has_open_above() => Some(Act::Seduce),
             None => None,
             Some(w) => match local.pointer(w) {
                 Some(x) if x == v => None,

@@ -1,5 +1,5 @@
 use Rattle.std.proofs.Common.{◌≡◌, true, false, cond, not, None, is_some, sym, ap, ap₂, ◌∙◌}
-use Rattle.rule_machine.specs.State.{pointer, first_suitor, has_suitor, married, is_settled}
+use Rattle.rule_machine.specs.State.{pointer, has_suitor, married, is_settled}
 use Rattle.rule_machine.specs.RuleTable.{last_open_above}
 use Rattle.rules_manne.specs.Greatest.{greatest}
 use Rattle.rules_manne.specs.Rule.{null_rule, settled_from_test}
@@ -11,8 +11,8 @@ returns-in-None-2 g c =
     let v = c.args.v in
     let settled : is_settled s v ≡ true = sym (ap₂ (λ f m. cond m f (not f)) c.flag.ensures (c.married.ensures ∙ ap (married s) c.requires.at)) ∙ settled_from_test c.married.result c.flag.result c.if-flag-married.false in
     let null : pointer s v ≡ None = sym c.in-None.ensures in
-    let alone : has_suitor s v ≡ false = ap is_some (sym (c.first_suitor.ensures ∙ ap (first_suitor s) c.requires.at)) ∙ sym c.if-is_some.ensures in
-    let reaches : is_some (greatest s v) ≡ true = ap is_some (sym (c.last_open_above.ensures ∙ ap₂ (λ o n. last_open_above o s n) c.requires.opens c.requires.at)) ∙ sym c.if-is_some-2.ensures in
+    let alone : has_suitor s v ≡ false = sym (c.has_suitor.ensures ∙ ap (has_suitor s) c.requires.at) ∙ c.if-has_suitor.false in
+    let reaches : is_some (greatest s v) ≡ true = sym (c.has_open_above.ensures ∙ ap₂ (λ o n. is_some (last_open_above o s n)) c.requires.opens c.requires.at) ∙ c.if-has_open_above.true in
     sym (null_rule s v false true c.requires.state settled null alone reaches)
 
 pub returns-in-None-3 : goal.returns-in-None-3
@@ -21,6 +21,6 @@ returns-in-None-3 g c =
     let v = c.args.v in
     let settled : is_settled s v ≡ true = sym (ap₂ (λ f m. cond m f (not f)) c.flag.ensures (c.married.ensures ∙ ap (married s) c.requires.at)) ∙ settled_from_test c.married.result c.flag.result c.if-flag-married.false in
     let null : pointer s v ≡ None = sym c.in-None.ensures in
-    let alone : has_suitor s v ≡ false = ap is_some (sym (c.first_suitor.ensures ∙ ap (first_suitor s) c.requires.at)) ∙ sym c.if-is_some.ensures in
-    let reaches : is_some (greatest s v) ≡ false = ap is_some (sym (c.last_open_above.ensures ∙ ap₂ (λ o n. last_open_above o s n) c.requires.opens c.requires.at)) ∙ sym c.if-is_some-2.ensures in
+    let alone : has_suitor s v ≡ false = sym (c.has_suitor.ensures ∙ ap (has_suitor s) c.requires.at) ∙ c.if-has_suitor.false in
+    let reaches : is_some (greatest s v) ≡ false = sym (c.has_open_above.ensures ∙ ap₂ (λ o n. is_some (last_open_above o s n)) c.requires.opens c.requires.at) ∙ c.if-has_open_above.false in
     sym (null_rule s v false false c.requires.state settled null alone reaches)
