@@ -1,5 +1,5 @@
 -- What carrying out the verdicts of a choice that is not refused does.
-use Rattle.std.proofs.Common.{◌≡◌, ℕ, zero, suc, ◌+◌, ◌-◌, ◌<◌, List, [], ◌∷◌, length, get_or, fold, filter_map, Option, None, All, refl, sym, ap, ◌∙◌, subst, arith}
+use Rattle.std.proofs.Common.{◌≡◌, ℕ, zero, suc, ◌+◌, ◌-◌, ◌<◌, List, [], ◌∷◌, length, get_or, fold, filter_map, Option, None, All, IsTrue, refl, sym, ap, ◌∙◌, subst, arith}
 use Rattle.std.specs.List.{range_with_len}
 use Rattle.std.proofs.lemmas.List.Elements.{All-from_recursion}
 use Rattle.rule_machine.specs.declared.act.Act.{Act}
@@ -7,7 +7,7 @@ use Rattle.rule_machine.specs.declared.act.Act.TheVariants.{Update, Marry, Seduc
 use Rattle.rule_machine.specs.declared.choice.Item.{Item}
 use Rattle.rule_machine.specs.declared.moved.Moved.{Moved}
 use Rattle.rule_machine.specs.declared.verdict.Verdict.{Verdict}
-use Rattle.rule_machine.specs.Network.{names}
+use Rattle.rule_machine.specs.Network.{names, present}
 use Rattle.rule_machine.specs.State.{State, Registers, IsState, holds_at, points, with_flag}
 use Rattle.rule_machine.specs.RuleTable.{RuleTable}
 use Rattle.rule_machine.specs.Step.{written, after_move, registers_after}
@@ -55,6 +55,12 @@ moves_within t table s items moves places is count k d below =
     let all : All (IsMoveIn s.network) moves = subst (All (IsMoveIn s.network)) (sym is) (All-from_recursion (IsMoveIn s.network) (least_moves t s items) (least_moves_in t table s items)) in
     let low = present_below s.network.size (get_or moves k d).node (all k d below).has in
     omega (arith, low, count)
+
+-- and present
+pub moves_present : (t : RuleTable) → IsTable t → (s : State) (items : List Item) (moves : List Moved) → moves ≡ least_moves t s items → (k : ℕ) (d : Moved) → k < length moves → IsTrue (present s.network (get_or moves k d).node)
+moves_present t table s items moves is k d below =
+    let all : All (IsMoveIn s.network) moves = subst (All (IsMoveIn s.network)) (sym is) (All-from_recursion (IsMoveIn s.network) (least_moves t s items) (least_moves_in t table s items)) in
+    (all k d below).has
 
 -- a move's write is that of its flag, then of its pointer
 split_write : (before : State) (r : Registers) (m : Moved) → after_move before r m ≡ pointer_written (flag_written before r m) m

@@ -1,11 +1,11 @@
 -- Searches and lists that grow by one at their end.
-use Rattle.std.proofs.Common.{◌≡◌, ℕ, ◌+◌, ◌-◌, ◌<◌, ◌≤◌, Bool, true, false, cond, List, [], ◌∷◌, ◌++◌, length, get_or, take, drop, set, find, filter, filter_map, Option, None, Some, is_some, option_and_then, option_to_list, nat_eq, refl, sym, ap, ◌∙◌, subst, ⊎_elim, arith}
+use Rattle.std.proofs.Common.{◌≡◌, ℕ, ◌+◌, ◌-◌, ◌<◌, ◌≤◌, Bool, true, false, cond, List, [], ◌∷◌, ◌++◌, length, get_or, take, drop, set, find, filter_map, Option, None, Some, is_some, option_and_then, option_to_list, nat_eq, refl, sym, ap, ◌∙◌, subst, ⊎_elim, arith}
 use Rattle.std.specs.List.{list_any, range_with_len, cons_option}
 use Rattle.std.specs.Option.{option_or}
 use Rattle.std.proofs.lemmas.Bool.{or_parts, eqb-true, ne_eqb as ne_false, eq-eqb, cases_eq}
 use Rattle.std.proofs.lemmas.List.{map-id, drop_more, take_more, get_or-set_same, get_or-set_other}
 use Rattle.std.proofs.lemmas.List.FromFn.{map-range_with_len_more}
-use Rattle.std.proofs.lemmas.List.Elements.{filter_map-append, filter-append}
+use Rattle.std.proofs.lemmas.List.Elements.{filter_map-append}
 use Rattle.rule_machine.specs.declared.verdict.Verdict.{Verdict}
 use Rattle.rule_machine.specs.declared.verdict.Outcome.{Outcome}
 use Rattle.rule_machine.specs.declared.verdict.Outcome.TheVariants as outcome
@@ -64,10 +64,6 @@ one_found (Some x) = refl
 pub filter_map_range_more : {X : Type 0} (f : ℕ → Option X) (a n : ℕ) → filter_map f (range_with_len a (n + 1)) ≡ filter_map f (range_with_len a n) ++ option_to_list (f (a + n))
 filter_map_range_more f a n =
     ap (filter_map f) (range_more a n) ∙ filter_map-append f (range_with_len a n) ((a + n) ∷ []) ∙ ap (λ l. filter_map f (range_with_len a n) ++ l) (one_found (f (a + n)))
-
--- and so goes a list of what passes
-pub filter_range_more : (p : ℕ → Bool) (a n : ℕ) → filter p (range_with_len a (n + 1)) ≡ filter p (range_with_len a n) ++ cond (p (a + n)) ((a + n) ∷ []) []
-filter_range_more p a n = ap (filter p) (range_more a n) ∙ filter-append p (range_with_len a n) ((a + n) ∷ [])
 
 -- no fact of the choice before, but one of the outcome and the choice together
 pub once_from_accepted : (o : Outcome) (twice : Bool) → refused_by o twice ≡ None → twice ≡ false

@@ -4,3 +4,7 @@ pub mod Partners
 pub mod Scanned
 pub mod Keeping
 pub mod Carried
+pub mod Looked
+pub mod Far
+pub mod Again
+pub mod Opening

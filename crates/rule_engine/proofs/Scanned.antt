@@ -1,5 +1,5 @@
 -- Lists that scans of all names, or of the enabled ones, make.
-use Rattle.std.proofs.Common.{◌≡◌, ℕ, zero, suc, ◌+◌, ◌-◌, ◌<◌, ◌≤◌, Bool, true, false, cond, List, [], ◌∷◌, ◌++◌, length, get_or, take, filter, filter_map, SomeIff, Option, None, Some, Result, Ok, is_ok, is_some, option_map, option_to_list, IsTrue, refl, sym, ap, ◌∙◌, subst, arith}
+use Rattle.std.proofs.Common.{◌≡◌, ℕ, zero, suc, ◌+◌, ◌<◌, ◌≤◌, cond, List, [], ◌∷◌, ◌++◌, length, get_or, take, filter, filter_map, SomeIff, Option, None, Some, Result, Ok, is_ok, is_some, option_map, option_to_list, IsTrue, refl, sym, ap, ◌∙◌, subst, arith}
 use Rattle.std.specs.List.{range_with_len, cons_option}
 use Rattle.std.proofs.lemmas.List.{append-nil}
 use Rattle.std.proofs.lemmas.List.Elements.{filter_map-append}
@@ -9,30 +9,11 @@ use Rattle.rule_machine.specs.State.{State}
 use Rattle.rule_machine.specs.RuleTable.{RuleTable, rule_at, enabled_names, enabled}
 use Rattle.state_lemmas.specs.Neighbours.{present_from}
 use Rattle.rule_engine.specs.Kept.{guard_at, marked_at}
-use Rattle.rule_engine.proofs.Found.{filter_range_more, push_is_take, one_found}
+use Rattle.rule_engine.proofs.Found.{push_is_take, one_found}
 
 -- at a name that is present
 pub guard_at_present : (t : RuleTable) (s : State) (v : ℕ) → IsTrue (present s.network v) → guard_at t s v ≡ rule_at t s v
 guard_at_present t s v has = ap (λ b. cond b (rule_at t s v) None) has
-
--- a filter keeps no more than it is given
-pub length-filter : (p : ℕ → Bool) (xs : List ℕ) → length (filter p xs) ≤ length xs
-length-filter p [] = omega arith
-length-filter p (x ∷ xs) =
-    elim (p x) as (λ b. length (cond b (x ∷ filter p xs) (filter p xs)) ≤ suc (length xs)) [
-      | true ↦ omega (arith, length-filter p xs)
-      | false ↦ omega (arith, length-filter p xs)
-    ]
-
--- what passes of the names below n, and at n
-pub passed_more : (p : ℕ → Bool) (n : ℕ) (before : List ℕ) → 1 ≤ n → before ≡ filter p (range_with_len 1 (n - 1)) → before ++ cond (p n) (n ∷ []) [] ≡ filter p (range_with_len 1 (n + 1 - 1))
-passed_more p n before low is =
-    let next : 1 + (n - 1) ≡ n = omega arith in
-    let count : n - 1 + 1 ≡ n + 1 - 1 = omega arith in
-    ap (λ l. l ++ cond (p n) (n ∷ []) []) is
-    ∙ ap (λ q. filter p (range_with_len 1 (n - 1)) ++ cond (p q) (q ∷ []) []) (sym next)
-    ∙ sym (filter_range_more p 1 (n - 1))
-    ∙ ap (λ m. filter p (range_with_len 1 m)) count
 
 marked_by : (f : ℕ → Option (ℕ × Act)) (v : ℕ) (act : Option Act) (rest : List ℕ) (ps : List (ℕ × Act)) → f v ≡ option_map (λ a. (v, a)) act → filter_map f rest ≡ ps → filter_map f (cond (is_some act) (v ∷ rest) rest) ≡ cons_option (option_map (λ a. (v, a)) act) ps
 marked_by f v None rest ps at is = is
@@ -66,15 +47,6 @@ pushed_found f before after xs i x y within is so_far pushed found =
 pub skipped_found : {X Y : Type 0} (f : X → Option Y) (before after : List Y) (xs : List X) (i : ℕ) (x : X) → i < length xs → x ≡ get_or xs i x → before ≡ filter_map f (take i xs) → after ≡ before → f x ≡ None → after ≡ filter_map f (take (i + 1) xs)
 skipped_found f before after xs i x within is so_far same none =
     same ∙ so_far ∙ sym (append-nil (filter_map f (take i xs))) ∙ ap (λ o. filter_map f (take i xs) ++ option_to_list o) (sym none) ∙ sym (filter_map_take_more f xs i x within is)
-
--- one more name that passes, and one that does not
-pub pushed_passed : (p : ℕ → Bool) (n v : ℕ) (before after : List ℕ) → 1 ≤ n → v ≡ n → before ≡ filter p (range_with_len 1 (n - 1)) → after ≡ before ++ v ∷ [] → p v ≡ true → after ≡ filter p (range_with_len 1 (n + 1 - 1))
-pushed_passed p n v before after low named so_far pushed passes =
-    pushed ∙ ap (λ q. before ++ q ∷ []) named ∙ ap (λ b. before ++ cond b (n ∷ []) []) (sym (sym (ap p named) ∙ passes)) ∙ passed_more p n before low so_far
-
-pub skipped_passed : (p : ℕ → Bool) (n v : ℕ) (before after : List ℕ) → 1 ≤ n → v ≡ n → before ≡ filter p (range_with_len 1 (n - 1)) → after ≡ before → p v ≡ false → after ≡ filter p (range_with_len 1 (n + 1 - 1))
-skipped_passed p n v before after low named so_far same fails =
-    same ∙ sym (append-nil before) ∙ ap (λ b. before ++ cond b (n ∷ []) []) (sym (sym (ap p named) ∙ fails)) ∙ passed_more p n before low so_far
 
 -- what a call that succeeds leaves
 pub ok_branch : {A U E : Type 0} (r : Result U E) (u : U) (x y : A) → r ≡ Ok u → cond (is_ok r) x y ≡ x

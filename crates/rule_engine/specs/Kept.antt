@@ -1,24 +1,33 @@
 -- What a network keeps beside its state.
-use Rattle.std.specs.Prelude.{◌≡◌, ℕ, ◌≤◌, Bool, IfSome, IsTrue, List, Option, Some, None, option_and_then, option_map, if◌then◌else◌}
+use Rattle.std.specs.Prelude.{◌≡◌, ℕ, ◌+◌, ◌≤◌, Bool, IfSome, IsTrue, List, length, Option, Some, None, is_some, option_and_then, option_map, if◌then◌else◌}
+use Rattle.enabled_set.specs.Members.{is_in}
 use Rattle.rule_machine.specs.declared.act.Act.{Act}
 use Rattle.rule_machine.specs.Network.{Network, present}
 use Rattle.rule_machine.specs.State.{State, Registers, IsState, points, pointer_of, pointer, flag, married}
 use Rattle.rule_machine.specs.Run.{Moment}
-use Rattle.rule_machine.specs.RuleTable.{RuleTable, rule_at, enabled_names}
+use Rattle.rule_machine.specs.RuleTable.{RuleTable, rule_at}
 
 abbrev pub state_of : Network → Registers → State
 state_of net registers = record { network = net; registers = registers }
 
--- the state is one, the list is that of its enabled nodes, and there is room for all names in it
-pub record IsKept (t : RuleTable) (s : State) (names : List ℕ) (places : ℕ) : Type 0 where
-  pub is_state : IsState s
-  pub enabled : names ≡ enabled_names t s
-  pub room : s.network.size ≤ places
-  pub few : s.network.size ≤ 65535
-
 -- the rule that is enabled at a name; at an absent one there is none
 abbrev pub guard_at : RuleTable → State → ℕ → Option Act
 guard_at t s v = if present s.network v then rule_at t s v else None
+
+-- whether a rule is enabled at a name
+abbrev pub is_on : RuleTable → State → ℕ → Bool
+is_on t s v = is_some (guard_at t s v)
+
+-- the set has a place for each name, and its members are the enabled nodes
+pub record AreOn (t : RuleTable) (s : State) (bits : List Bool) : Type 0 where
+  pub places : length bits ≡ s.network.size + 1
+  pub each : (v : ℕ) → is_in bits v ≡ is_on t s v
+
+-- the state is one, and the set is that of its enabled nodes
+pub record IsKept (t : RuleTable) (s : State) (bits : List Bool) : Type 0 where
+  pub is_state : IsState s
+  pub enabled : AreOn t s bits
+  pub few : s.network.size ≤ 65535
 
 -- the node that v points at, if it points back
 abbrev pub answered_by : Registers → ℕ → Option ℕ

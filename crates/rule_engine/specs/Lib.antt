@@ -1,4 +1,5 @@
 pub mod Kept
+pub mod Looked
 pub mod Choosing
 pub mod Refused
 pub mod Applied

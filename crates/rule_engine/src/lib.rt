@@ -5,12 +5,13 @@ mod edits;
 mod guard;
 mod judge;
 mod listing;
+mod look;
 mod moves;
 mod near;
 mod net;
-mod rescan;
 mod scan;
 
+pub use enabled_set::EnabledSet;
 pub use graph_store::{Edge, GraphFault, Node};
 pub use net::Net;
 pub use rule_machine::{

@@ -1,6 +1,7 @@
 //! A network under a rule set.
 
 ghost use Rattle.std.specs.Prelude.{◌≡◌, ◌<◌, ◌≤◌, ◌↔◌, ℕ, [], IfOk, IfErr, IfSome, OnOk, OnErr, IsTrue, None, length, take, zip, slice_get, Some};
+ghost use Rattle.enabled_set.specs.Members.{members};
 ghost use Rattle.graph_store.specs.Fault.{nodes_fault, Explains};
 ghost use Rattle.rule_machine.specs.State.{opening, IsState};
 ghost use Rattle.rule_machine.specs.RuleTable.{enabled_names};
@@ -12,15 +13,16 @@ ghost use Rattle.machine_laws.specs.Runs.{spent_after_all};
 ghost use Rattle.rule_machine.specs.Answer.{Answers};
 ghost use Rattle.rule_machine.specs.declared.event.Event.TheVariants.{Link, Unlink, Point, Flag, Step, Show, Enabled, Matching};
 ghost use Rattle.rule_engine.specs.Kept.{guard_at, IsAnswered, moment};
-ghost use Rattle.rule_engine.specs.Applied.{Applies, Answered, takes_memory};
+ghost use Rattle.rule_engine.specs.Applied.{Applies, Answered, StopsAt, takes_memory};
 ghost use Rattle.rule_engine.specs.Choosing.{verdict_of, verdicts_of};
 
 use crate::edits::{clear_pointer, refusal_of, refused_point};
 use crate::guard::{outcome, refused_step, rule_enabled, verdicts};
 use crate::judge::refused_verdicts;
 use crate::listing::{enabled_rules, mutual_edges};
+use crate::look::{look_at, look_round, look_round_movers};
 use crate::moves::{ascending_moves, write_moves};
-use crate::rescan::rescan;
+use enabled_set::EnabledSet;
 use graph_store::{EdgeStore, GraphFault};
 use registers::Registers;
 use rule_machine::{Act, Choice, Event, Listing, Node, Refusal, Reply, Verdict, Want};
@@ -35,12 +37,11 @@ pub struct Net<R: Rules> {
     alloc: Global,
     store: EdgeStore,
     registers: Registers,
-    enabled: Vec<Node>,
+    enabled: EnabledSet,
     rules: PhantomData<R>,
 }
 
 impl<R: Rules> Model for Net<R> {
-    ghost use Rattle.std.specs.Prelude.{vec_capacity};
     ghost use Rattle.rule_machine.specs.State.{State, state_code};
     ghost use Rattle.rule_engine.specs.Kept.{state_of, IsKept};
 
@@ -50,7 +51,7 @@ impl<R: Rules> Model for Net<R> {
 
     ghost view = { λ n. state_of n.store n.registers };
 
-    ghost invariant = { λ n. IsKept R.table (state_of n.store n.registers) n.enabled.items (vec_capacity n.enabled) };
+    ghost invariant = { λ n. IsKept R.table (state_of n.store n.registers) n.enabled };
 }
 
 impl<R: Rules> Net<R> {
@@ -65,10 +66,9 @@ impl<R: Rules> Net<R> {
         let Ok(registers) = Registers::new(alloc, nodes) else {
             return Err(GraphFault::Memory);
         };
-        let Ok(mut enabled) = Vec::with_capacity(alloc, nodes as usize) else {
+        let Ok(enabled) = EnabledSet::new(alloc, nodes) else {
             return Err(GraphFault::Memory);
         };
-        rescan::<R>(&store, &registers, &mut enabled);
         Ok(Net {
             alloc,
             store,
@@ -93,23 +93,23 @@ impl<R: Rules> Net<R> {
         &self.registers
     }
 
-    /// The enabled nodes, ascending.
-    pub fn enabled(&self) -> &[Node]
-        ensures { result.now ≡ enabled_names R.table self.now }
+    /// The enabled nodes.
+    pub fn enabled(&self) -> &EnabledSet
+        ensures { members result.now ≡ enabled_names R.table self.now }
     {
         &self.enabled
     }
 
-    /// Whether no rule is enabled. That is so exactly where the network is stable, and then its mutual pairs are a
-    /// maximal matching; and where every pointer is null or answered and the flags are right, they are one only if
-    /// the network is stable.
+    /// Whether no rule is enabled, which is one look. That is so exactly where the network is stable, and then its
+    /// mutual pairs are a maximal matching; and where every pointer is null or answered and the flags are right, they
+    /// are one only if the network is stable.
     pub fn is_quiet(&self) -> bool
         ensures quiet { IsTrue result ↔ (enabled_names R.table self.now ≡ []) }
         ensures stable { IsTrue result ↔ IsStable R.table.flags self.now }
         ensures matching { IsTrue result → IsMaximalMatching self.now.network (mutual_pairs self.now) }
         ensures only_stable { IsAnswered R.table.flags self.now → IsMaximalMatching self.now.network (mutual_pairs self.now) → IsTrue result }
     {
-        self.enabled.is_empty()
+        self.enabled.count() == 0
     }
 
     /// The rule that is enabled at a node, if any is; none at an absent one. Looks at the node's neighbours.
@@ -134,7 +134,8 @@ impl<R: Rules> Net<R> {
 
     /// Carries out an event: a refusal, the change of the network, the moves of a step in which each free target is
     /// the least allowed one, or an answer. Want of memory comes after every refusal and changes nothing; `Unlink`,
-    /// `Point`, `Flag` and `Show` take no memory. A step costs a look at all nodes and edges.
+    /// `Point`, `Flag` and `Show` take no memory. An accepted change looks again at guards near it alone: `Link` at its
+    /// two ends, the others at the nodes whose registers or links change and at their neighbours.
     pub fn apply(&mut self, event: &Event) -> Result<Reply, Want>
         ensures reply { IfOk result (λ reply. reply ≡ reply_of R.table self.old event.now) }
         ensures state { OnOk result (self.new ≡ state_after R.table self.old event.now) }
@@ -155,13 +156,14 @@ impl<R: Rules> Net<R> {
     }
 
     /// Carries out events one after another: a run of the rule machine from the state before to the state after. At
-    /// want of memory, the events before it have been carried out.
+    /// want of memory the events before the one that wanted it have been carried out, or none where it was wanted for
+    /// the list of the replies.
     pub fn apply_all(&mut self, events: &[Event]) -> Result<Listing<Reply>, Want>
         ensures replies { IfOk result (λ replies. replies ≡ replies_of R.table self.old events.now) }
         ensures state { OnOk result (self.new ≡ state_after_all R.table self.old events.now) }
         ensures run { IfOk result (λ replies. (n : ℕ) → Run R.table (moment self.old n) (zip events.now replies)
             (moment self.new (spent_after_all n replies))) }
-        ensures err { OnErr result ((k : ℕ) × (k ≤ length events.now) × (self.new ≡ state_after_all R.table self.old (take k events.now))) }
+        ensures err { OnErr result ((k : ℕ) × StopsAt R.table self.old events.now k self.new) }
     {
         let mut replies = Vec::with_capacity(self.alloc, events.len())?;
         for event in events {
@@ -178,7 +180,8 @@ impl<R: Rules> Net<R> {
     {
         match self.store.link(a, b) {
             Ok(()) => {
-                rescan::<R>(&self.store, &self.registers, &mut self.enabled);
+                look_at::<R>(&self.store, &self.registers, &mut self.enabled, a);
+                look_at::<R>(&self.store, &self.registers, &mut self.enabled, b);
                 Ok(Reply::Accepted)
             }
             Err(fault) => match refusal_of(fault) {
@@ -195,7 +198,8 @@ impl<R: Rules> Net<R> {
             Ok(()) => {
                 clear_pointer(&mut self.registers, a, b);
                 clear_pointer(&mut self.registers, b, a);
-                rescan::<R>(&self.store, &self.registers, &mut self.enabled);
+                look_round::<R>(&self.store, &self.registers, &mut self.enabled, a);
+                look_round::<R>(&self.store, &self.registers, &mut self.enabled, b);
                 Reply::Accepted
             }
             Err(fault) => match refusal_of(fault) {
@@ -213,7 +217,7 @@ impl<R: Rules> Net<R> {
             Some(refusal) => Reply::Refused(refusal),
             None => {
                 self.registers.set_pointer(v, target);
-                rescan::<R>(&self.store, &self.registers, &mut self.enabled);
+                look_round::<R>(&self.store, &self.registers, &mut self.enabled, v);
                 Reply::Accepted
             }
         }
@@ -229,7 +233,7 @@ impl<R: Rules> Net<R> {
             return Reply::Refused(Refusal::UnknownNode);
         }
         self.registers.set_flag(v, value);
-        rescan::<R>(&self.store, &self.registers, &mut self.enabled);
+        look_round::<R>(&self.store, &self.registers, &mut self.enabled, v);
         Reply::Accepted
     }
 
@@ -245,7 +249,8 @@ impl<R: Rules> Net<R> {
     fn list_enabled(&self) -> Result<Reply, Want>
         ensures { IfOk result (λ reply. reply ≡ reply_of R.table self.now Enabled) }
     {
-        let rules = enabled_rules::<R>(self.alloc, &self.store, &self.registers, &self.enabled)?;
+        let nodes = self.enabled.to_list()?;
+        let rules = enabled_rules::<R>(self.alloc, &self.store, &self.registers, &nodes)?;
         Ok(Reply::EnabledAre(Listing::from_vec(rules)))
     }
 
@@ -276,7 +281,7 @@ impl<R: Rules> Net<R> {
         let places = self.store.nodes() as usize + 1;
         let moves = ascending_moves(self.alloc, places, choice.items().len(), verdicts)?;
         write_moves(&mut self.registers, &moves);
-        rescan::<R>(&self.store, &self.registers, &mut self.enabled);
+        look_round_movers::<R>(&self.store, &self.registers, &mut self.enabled, &moves);
         Ok(Reply::Moves(Listing::from_vec(moves)))
     }
 

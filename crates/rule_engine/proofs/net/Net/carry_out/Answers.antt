@@ -1,4 +1,4 @@
-use Rattle.std.proofs.Common.{◌≡◌, ◌+◌, ◌<◌, ap, sym, ◌∙◌, refl, subst, length, get_or, None}
+use Rattle.std.proofs.Common.{◌≡◌, ◌+◌, ◌<◌, ap, sym, ◌∙◌, subst, length, get_or, None}
 use Rattle.rule_machine.specs.declared.event.Event.TheVariants.{Step}
 use Rattle.rule_machine.specs.declared.reply.Reply.TheVariants.{Moves}
 use Rattle.rule_machine.specs.Refuse.{step_refusal}
@@ -7,8 +7,8 @@ use Rattle.rule_machine.specs.Least.{least_moves, reply_by, state_by, reply_of, 
 use Rattle.machine_laws.specs.LeastMoves.{IsTable}
 use Rattle.rule_engine.specs.Kept.{state_of}
 use Rattle.rule_engine.specs.Choosing.{verdicts_of}
-use Rattle.rule_engine.proofs.Carried.{verdicts_within, verdicts_apart, moves_found, moves_within, carried_state, written_in_two}
-use Rattle.rule_engine.proofs.Keeping.{kept_again}
+use Rattle.rule_engine.proofs.Again.{kept_moved}
+use Rattle.rule_engine.proofs.Carried.{verdicts_within, verdicts_apart, moves_found, moves_within, moves_present, carried_state, written_in_two}
 use Rattle.rule_engine.proofs.net.Net.carry_out.Goals as goal
 
 pub ascending_moves-requires-clause-within : goal.ascending_moves-requires-clause-within
@@ -55,8 +55,8 @@ write_moves-requires-clause-pointers_in g c =
     let moves : c.deref.result.now ≡ least_moves t s items = c.deref.ensures.value ∙ found in
     moves_within t table s items c.deref.result.now (length c.self.inside.registers.pointers) moves c.self.invariant.is_state.pointers_len
 
-pub rescan-requires-clause-state : goal.rescan-requires-clause-state
-rescan-requires-clause-state g c =
+pub look_round_movers-requires-clause-state : goal.look_round_movers-requires-clause-state
+look_round_movers-requires-clause-state g c =
     let laws = g.met.R.Rules in
     let table : IsTable g.R.Rules.table = record { allowed_is_neighbour = laws.allowed_is_neighbour; allowed_takes_target = laws.allowed_takes_target; has_target = laws.has_target } in
     let t = g.R.Rules.table in
@@ -67,6 +67,19 @@ rescan-requires-clause-state g c =
     let found : c.in_ok-moves.moves.items ≡ least_moves t s items = c.in_ok-moves.ensures ∙ moves_found t s items c.args.verdicts.now (c.nodes.result + 1) verdicts count in
     let moves : c.deref.result.now ≡ least_moves t s items = c.deref.ensures.value ∙ found in
     carried_state t table s c.self.invariant.is_state items c.deref.result.now c.write_moves.new.registers moves c.write_moves.ensures
+
+pub look_round_movers-requires-clause-have : goal.look_round_movers-requires-clause-have
+look_round_movers-requires-clause-have g c =
+    let laws = g.met.R.Rules in
+    let table : IsTable g.R.Rules.table = record { allowed_is_neighbour = laws.allowed_is_neighbour; allowed_takes_target = laws.allowed_takes_target; has_target = laws.has_target } in
+    let t = g.R.Rules.table in
+    let s = state_of c.self.inside.store c.self.inside.registers in
+    let items = c.args.choice.now in
+    let verdicts : c.args.verdicts.now ≡ verdicts_of t s items = c.requires.verdicts ∙ ap (λ u. verdicts_of t u items) (sym c.self.view_is) in
+    let count : c.nodes.result + 1 ≡ s.network.size + 1 = ap (λ n. n + 1) c.nodes.ensures.count in
+    let found : c.in_ok-moves.moves.items ≡ least_moves t s items = c.in_ok-moves.ensures ∙ moves_found t s items c.args.verdicts.now (c.nodes.result + 1) verdicts count in
+    let moves : c.deref-2.result.now ≡ least_moves t s items = c.deref-2.ensures.value ∙ found in
+    moves_present t table s items c.deref-2.result.now moves
 
 pub invariant_of-self : goal.invariant_of-self
 invariant_of-self g c =
@@ -79,9 +92,10 @@ invariant_of-self g c =
     let count : c.nodes.result + 1 ≡ s.network.size + 1 = ap (λ n. n + 1) c.nodes.ensures.count in
     let found : c.in_ok-moves.moves.items ≡ least_moves t s items = c.in_ok-moves.ensures ∙ moves_found t s items c.args.verdicts.now (c.nodes.result + 1) verdicts count in
     let moves : c.deref.result.now ≡ least_moves t s items = c.deref.ensures.value ∙ found in
-    kept_again t _ _ _ _ _ _ c.self.invariant
-    (carried_state t table s c.self.invariant.is_state items c.deref.result.now c.write_moves.new.registers moves c.write_moves.ensures)
-    refl c.rescan.ensures.names c.rescan.ensures.room
+    let wrote = c.write_moves.ensures ∙ written_in_two s c.self.invariant.is_state c.deref.result.now in
+    let good = carried_state t table s c.self.invariant.is_state items c.deref.result.now c.write_moves.new.registers moves c.write_moves.ensures in
+    let again = c.deref-2.ensures.value ∙ sym c.deref.ensures.value in
+    kept_moved t laws.is_local c.self.inside.store c.self.inside.registers c.write_moves.new.registers c.deref-2.result.now _ _ c.self.invariant good (wrote ∙ ap (registers_after s) (sym again)) c.look_round_movers.ensures
 
 pub returns : goal.returns
 returns g c =

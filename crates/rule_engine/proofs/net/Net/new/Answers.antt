@@ -1,20 +1,17 @@
-use Rattle.std.proofs.Common.{ap, sym, subst, arith}
-use Rattle.rule_machine.specs.Network.{edgeless}
-use Rattle.rule_machine.specs.State.{IsState}
+use Rattle.std.proofs.Common.{◌≡◌, [], sym, subst}
+use Rattle.rule_machine.specs.State.{opening}
+use Rattle.rule_machine.specs.RuleTable.{enabled_names}
 use Rattle.machine_laws.specs.Keeps.{opening_is_state}
-use Rattle.rule_engine.specs.Kept.{state_of}
+use Rattle.rule_engine.specs.Kept.{IsKept, state_of}
+use Rattle.rule_engine.proofs.Again.{kept_quiet}
+use Rattle.rule_engine.proofs.Opening.{opening_is_stable}
 use Rattle.rule_engine.proofs.net.Net.new.Goals as goal
-
-pub rescan-requires-clause-state : goal.rescan-requires-clause-state
-rescan-requires-clause-state g c =
-    subst (λ n. IsState (state_of n c.in-Ok.registers)) (sym c.in_ok-store.ensures.ok) (subst (λ r. IsState (state_of (edgeless c.args.nodes) r)) (sym c.in-Ok.ensures) (opening_is_state c.args.nodes))
 
 pub invariant_of-result : goal.invariant_of-result
 invariant_of-result g c =
-    let size = ap (λ n. n.size) c.in_ok-store.ensures.ok in
-    record {
-      is_state = subst (λ n. IsState (state_of n c.in-Ok.registers)) (sym c.in_ok-store.ensures.ok) (subst (λ r. IsState (state_of (edgeless c.args.nodes) r)) (sym c.in-Ok.ensures) (opening_is_state c.args.nodes));
-      enabled = c.rescan.ensures.names;
-      room = omega (arith, size, c.rescan.ensures.room, c.in-Ok-with_capacity.ensures.exact);
-      few = omega (arith, size, c.in_ok-store.ensures.small);
-    }
+    let t = g.R.Rules.table in
+    let n = c.args.nodes in
+    let good = opening_is_state n in
+    let quiet : enabled_names t (opening n) ≡ [] = g.met.R.Rules.stable_is_quiet (opening n) good (opening_is_stable t.flags n) in
+    let same : state_of c.in_ok-store.store c.in-Ok.registers ≡ opening n = λ i. state_of (c.in_ok-store.ensures.ok i) (c.in-Ok.ensures i) in
+    subst (λ s. IsKept t s c.in-Ok-new.enabled) (sym same) (kept_quiet t (opening n) c.in-Ok-new.enabled good quiet c.in-Ok-new.ensures c.in_ok-store.ensures.small)

@@ -1,0 +1,117 @@
+-- The set of the enabled nodes, and that a look again near a change keeps it.
+use Rattle.std.proofs.Common.{◌≡◌, ℕ, zero, suc, ◌+◌, ◌<◌, ◌≤◌, Bool, true, false, cond, ◌||◌, List, [], ◌∷◌, length, filter, find, replicate, Option, None, is_some, nat_eq, refl, sym, ap, ◌∙◌, subst, ⊎_elim, arith}
+use Rattle.std.specs.List.{range_with_len}
+use Rattle.std.proofs.lemmas.Bool.{cases_Bool, cases_lt, cond-true, cond-false, eqb-true, eq-eqb}
+use Rattle.std.proofs.lemmas.List.{length-replicate, get_or-replicate, get_or_past, nil_from_length}
+use Rattle.rule_machine.specs.declared.act.Act.{Act}
+use Rattle.rule_machine.specs.declared.moved.Moved.{Moved}
+use Rattle.rule_machine.specs.Network.{Network, present, with_edge, without_edge}
+use Rattle.rule_machine.specs.State.{State, Registers, IsState, with_pointer, with_flag}
+use Rattle.rule_machine.specs.RuleTable.{RuleTable, acts, rule_at, enabled_names}
+use Rattle.rule_machine.specs.Disturbance.{without_pointer}
+use Rattle.rule_machine.specs.Step.{registers_after}
+use Rattle.rule_set.specs.Near.{SameAt}
+use Rattle.state_lemmas.specs.Neighbours.{present_from}
+use Rattle.state_lemmas.specs.Enabled.{quiet_at, act_none}
+use Rattle.enabled_set.specs.Members.{is_in, members}
+use Rattle.rule_engine.specs.Kept.{state_of, is_on, AreOn, IsKept}
+use Rattle.rule_engine.specs.Looked.{is_near, is_near_mover, IsLookedAt}
+use Rattle.rule_engine.proofs.Looked.{looked_both}
+use Rattle.rule_engine.proofs.Far.{link_far, unlink_far, point_far, flag_far, moves_far}
+
+-- a guard depends on nothing but what is shown at its node
+abbrev pub IsLocal : RuleTable → Type 0
+IsLocal t = (s u : State) (v : ℕ) (act : Act) → IsState s → IsState u → SameAt s u v → t.guard s v act ≡ t.guard u v act
+
+-- so two states of the same nodes that show the same at a node have the same rule enabled there
+same_on : (t : RuleTable) → IsLocal t → (s u : State) (v : ℕ) → IsState s → IsState u → u.network.size ≡ s.network.size → SameAt s u v → is_on t s v ≡ is_on t u v
+same_on t local s u v good good' size same =
+    ap (λ n. is_some (cond (present (record { size = n; edges = s.network.edges }) v) (rule_at t s v) None)) (sym size)
+    ∙ ap (λ (g : Act → Bool). is_some (cond (present u.network v) (find g acts) None)) (λ i act. local s u v act good good' same i)
+
+-- a change that leaves a state of the same nodes, after which each node was looked at where something else is shown
+pub kept_again : (t : RuleTable) → IsLocal t → (s u : State) (looked : ℕ → Bool) (bits bits' : List Bool) → IsKept t s bits → IsState u → u.network.size ≡ s.network.size → ((v : ℕ) → looked v ≡ false → SameAt s u v) → IsLookedAt t u looked bits bits' → IsKept t u bits'
+kept_again t local s u looked bits bits' kept good size far done = record {
+  is_state = good;
+  enabled = record {
+    places = done.places ∙ kept.enabled.places ∙ ap (λ n. n + 1) (sym size);
+    each = λ v. done.each v ∙ ⊎_elim
+        (λ (near : looked v ≡ true). cond-true (looked v) (is_on t u v) (is_in bits v) near)
+        (λ (apart : looked v ≡ false). cond-false (looked v) (is_on t u v) (is_in bits v) apart ∙ kept.enabled.each v ∙ same_on t local s u v kept.is_state good size (far v apart))
+        (cases_Bool (looked v));
+  };
+  few = omega (arith, kept.few, size);
+}
+
+-- after a link, a look at the two ends
+pub kept_linked : (t : RuleTable) → IsLocal t → (net net' : Network) (r : Registers) (a b : ℕ) (bits one two : List Bool) → IsKept t (state_of net r) bits → IsState (state_of net' r) → net' ≡ with_edge net a b → IsLookedAt t (state_of net' r) (λ w. nat_eq w a) bits one → IsLookedAt t (state_of net' r) (λ w. nat_eq w b) one two → IsKept t (state_of net' r) two
+kept_linked t local net net' r a b bits one two kept good is first next =
+    kept_again t local (state_of net r) (state_of net' r) (λ w. nat_eq w a || nat_eq w b) bits two kept good (ap (λ n. n.size) is)
+    (λ v far. subst (λ n. SameAt (state_of net r) (state_of n r) v) (sym is) (link_far (state_of net r) a b v far))
+    (looked_both t (state_of net' r) (λ w. nat_eq w a) (λ w. nat_eq w b) bits one two first next)
+
+-- after an unlink, looks round both ends
+pub kept_unlinked : (t : RuleTable) → IsLocal t → (net net' : Network) (r r' : Registers) (a b : ℕ) (bits one two : List Bool) → IsKept t (state_of net r) bits → IsState (state_of net' r') → net' ≡ without_edge net a b → r' ≡ without_pointer (without_pointer r a b) b a → IsLookedAt t (state_of net' r') (is_near net' a) bits one → IsLookedAt t (state_of net' r') (is_near net' b) one two → IsKept t (state_of net' r') two
+kept_unlinked t local net net' r r' a b bits one two kept good is wrote first next =
+    kept_again t local (state_of net r) (state_of net' r') (λ w. is_near net' a w || is_near net' b w) bits two kept good (ap (λ n. n.size) is)
+    (λ v far. subst (λ n. SameAt (state_of net r) (state_of n r') v) (sym is) (subst (λ q. SameAt (state_of net r) (state_of (without_edge net a b) q) v) (sym wrote) (unlink_far (state_of net r) a b v (ap (λ n. is_near n a v || is_near n b v) (sym is) ∙ far))))
+    (looked_both t (state_of net' r') (is_near net' a) (is_near net' b) bits one two first next)
+
+-- after a write of a register, and after the moves of a step, looks round the nodes that were written
+pub kept_pointed : (t : RuleTable) → IsLocal t → (net : Network) (r r' : Registers) (v : ℕ) (target : Option ℕ) (bits bits' : List Bool) → IsKept t (state_of net r) bits → IsState (state_of net r') → r' ≡ with_pointer r v target → IsLookedAt t (state_of net r') (is_near net v) bits bits' → IsKept t (state_of net r') bits'
+kept_pointed t local net r r' v target bits bits' kept good wrote done =
+    kept_again t local (state_of net r) (state_of net r') (is_near net v) bits bits' kept good refl
+    (λ w far. subst (λ q. SameAt (state_of net r) (state_of net q) w) (sym wrote) (point_far (state_of net r) v target w far)) done
+
+pub kept_flagged : (t : RuleTable) → IsLocal t → (net : Network) (r r' : Registers) (v : ℕ) (value : Bool) (bits bits' : List Bool) → IsKept t (state_of net r) bits → IsState (state_of net r') → r' ≡ with_flag r v value → IsLookedAt t (state_of net r') (is_near net v) bits bits' → IsKept t (state_of net r') bits'
+kept_flagged t local net r r' v value bits bits' kept good wrote done =
+    kept_again t local (state_of net r) (state_of net r') (is_near net v) bits bits' kept good refl
+    (λ w far. subst (λ q. SameAt (state_of net r) (state_of net q) w) (sym wrote) (flag_far (state_of net r) v value w far)) done
+
+pub kept_moved : (t : RuleTable) → IsLocal t → (net : Network) (r r' : Registers) (moves : List Moved) (bits bits' : List Bool) → IsKept t (state_of net r) bits → IsState (state_of net r') → r' ≡ registers_after (state_of net r) moves → IsLookedAt t (state_of net r') (is_near_mover net moves) bits bits' → IsKept t (state_of net r') bits'
+kept_moved t local net r r' moves bits bits' kept good wrote done =
+    kept_again t local (state_of net r) (state_of net r') (is_near_mover net moves) bits bits' kept good refl
+    (λ w far. subst (λ q. SameAt (state_of net r) (state_of net q) w) (sym wrote) (moves_far (state_of net r) moves w far)) done
+
+-- two tests that agree at the numbers of a range keep the same of them
+range_agree : (p q : ℕ → Bool) (a n : ℕ) → ((v : ℕ) → a ≤ v → v < a + n → p v ≡ q v) → filter p (range_with_len a n) ≡ filter q (range_with_len a n)
+range_agree p q a zero same = refl
+range_agree p q a (suc n) same =
+    ap (λ b. cond b (a ∷ filter p (range_with_len (a + 1) n)) (filter p (range_with_len (a + 1) n))) (same a (omega arith) (omega arith))
+    ∙ ap (λ xs. cond (q a) (a ∷ xs) xs) (range_agree p q (a + 1) n (λ v low high. same v (omega arith) (omega arith)))
+
+-- the members are the enabled nodes, since no rule is enabled at nobody's place
+pub members_on : (t : RuleTable) (s : State) (bits : List Bool) → AreOn t s bits → members bits ≡ enabled_names t s
+members_on t s bits on =
+    let count : length bits ≡ suc s.network.size = omega (arith, on.places) in
+    ap (λ n. filter (is_in bits) (range_with_len 0 n)) count
+    ∙ ap (λ b. cond b (0 ∷ filter (is_in bits) (range_with_len (0 + 1) s.network.size)) (filter (is_in bits) (range_with_len (0 + 1) s.network.size))) (on.each 0)
+    ∙ ap (λ a. filter (is_in bits) (range_with_len a s.network.size)) (let one : 0 + 1 ≡ 1 = omega arith in one)
+    ∙ range_agree (is_in bits) (λ v. is_some (rule_at t s v)) 1 s.network.size (λ v low high. on.each v ∙ ap (λ b. is_some (cond b (rule_at t s v) None)) (present_from s.network v low (omega arith)))
+
+none_in : (n v : ℕ) → is_in (replicate n false) v ≡ false
+none_in n v =
+    ⊎_elim
+    (λ (below : v < n). get_or-replicate n v false false below)
+    (λ (past : n ≤ v). get_or_past (replicate n false) v false (let k = length-replicate n false in omega (arith, k)))
+    (cases_lt v n)
+
+none_on : (t : RuleTable) (s : State) (v : ℕ) (b : Bool) → present s.network v ≡ b → enabled_names t s ≡ [] → is_some (cond b (rule_at t s v) None) ≡ false
+none_on t s v true has quiet = ap is_some (act_none (t.guard s v) (quiet_at t s quiet v has))
+none_on t s v false has quiet = refl
+
+-- where no rule is enabled, the set is empty
+pub kept_quiet : (t : RuleTable) (s : State) (bits : List Bool) → IsState s → enabled_names t s ≡ [] → bits ≡ replicate (s.network.size + 1) false → s.network.size ≤ 65535 → IsKept t s bits
+kept_quiet t s bits good quiet empty few = record {
+  is_state = good;
+  enabled = record {
+    places = ap length empty ∙ length-replicate (s.network.size + 1) false;
+    each = λ v. ap (λ l. is_in l v) empty ∙ none_in (s.network.size + 1) v ∙ sym (none_on t s v (present s.network v) refl quiet);
+  };
+  few = few;
+}
+
+-- it counts no members just where no rule is enabled
+pub quiet_by_count : (t : RuleTable) (s : State) (bits : List Bool) (count : ℕ) → AreOn t s bits → count ≡ length (members bits) → (nat_eq count 0 ≡ true → enabled_names t s ≡ []) × (enabled_names t s ≡ [] → nat_eq count 0 ≡ true)
+quiet_by_count t s bits count on is =
+    (λ none. sym (members_on t s bits on) ∙ nil_from_length (members bits) (sym is ∙ eqb-true count 0 none), λ quiet. eq-eqb count 0 (is ∙ ap length (members_on t s bits on ∙ quiet)))

@@ -1,0 +1,100 @@
+-- Looks again at nodes, one after another.
+use Rattle.std.proofs.Common.{◌≡◌, ℕ, zero, suc, ◌+◌, ◌<◌, ◌≤◌, Bool, true, false, cond, ◌||◌, List, [], ◌∷◌, length, take, set, get_or, filter, nat_eq, refl, sym, ap, ◌∙◌, ⊎_elim, arith}
+use Rattle.std.specs.List.{list_any, range_with_len}
+use Rattle.std.proofs.lemmas.Bool.{cases_Bool, cases_eq, eq-eqb, ne_eqb, or_right, true≢false, cond-true, cond-false}
+use Rattle.std.proofs.lemmas.List.{length-set, get_or-set_same, get_or-set_other}
+use Rattle.std.proofs.lemmas.List.Folds.{list_any_more}
+use Rattle.rule_machine.specs.Network.{Network, IsNetwork, linked, neighbours}
+use Rattle.rule_machine.specs.State.{State}
+use Rattle.rule_machine.specs.RuleTable.{RuleTable}
+use Rattle.state_lemmas.specs.Neighbours.{present_range, linked_present, linked_back}
+use Rattle.rule_engine.specs.Kept.{is_on}
+use Rattle.rule_engine.specs.Looked.{IsLookedAt}
+
+-- a look at one node
+pub looked_one : (t : RuleTable) (s : State) (v : ℕ) (bits : List Bool) (b : Bool) → v < length bits → b ≡ is_on t s v → IsLookedAt t s (λ w. nat_eq w v) bits (set bits v b)
+looked_one t s v bits b within is = record {
+  places = length-set bits v b;
+  each = λ w. ⊎_elim
+      (λ (same : w ≡ v). ap (λ x. get_or (set bits v b) x false) same ∙ get_or-set_same bits v b false within ∙ is ∙ ap (is_on t s) (sym same) ∙ sym (cond-true (nat_eq w v) (is_on t s w) (get_or bits w false) (eq-eqb w v same)))
+      (λ (apart : w ≡ v → ⊥). get_or-set_other bits v w b false apart ∙ sym (cond-false (nat_eq w v) (is_on t s w) (get_or bits w false) (ne_eqb w v apart)))
+      (cases_eq w v);
+}
+
+-- no look
+pub looked_none : (t : RuleTable) (s : State) (bits : List Bool) → IsLookedAt t s (λ w. false) bits bits
+looked_none t s bits = record { places = refl; each = λ w. refl }
+
+-- a look at some nodes, and then at others
+pub looked_both : (t : RuleTable) (s : State) (p q : ℕ → Bool) (a b c : List Bool) → IsLookedAt t s p a b → IsLookedAt t s q b c → IsLookedAt t s (λ w. p w || q w) a c
+looked_both t s p q a b c first next = record {
+  places = next.places ∙ first.places;
+  each = λ w. next.each w ∙ ap (cond (q w) (is_on t s w)) (first.each w) ∙ by_tests (p w) (q w) (is_on t s w) (get_or a w false);
+}
+  where
+    by_tests : (p q x y : Bool) → cond q x (cond p x y) ≡ cond (p || q) x y
+    by_tests true true x y = refl
+    by_tests true false x y = refl
+    by_tests false true x y = refl
+    by_tests false false x y = refl
+
+-- the same nodes, named by another test
+pub looked_alike : (t : RuleTable) (s : State) (p q : ℕ → Bool) (a b : List Bool) → ((w : ℕ) → p w ≡ q w) → IsLookedAt t s p a b → IsLookedAt t s q a b
+looked_alike t s p q a b agree looked = record {
+  places = looked.places;
+  each = λ w. looked.each w ∙ ap (λ x. cond x (is_on t s w) (get_or a w false)) (agree w);
+}
+
+-- a number of a range that passes is one of those that a filter keeps
+listed_in : (p : ℕ → Bool) (a n w : ℕ) → p w ≡ true → a ≤ w → w < a + n → list_any (nat_eq w) (filter p (range_with_len a n)) ≡ true
+listed_in p a zero w on low high = absurd (omega arith)
+listed_in p a (suc n) w on low high =
+    ⊎_elim
+    (λ (same : w ≡ a). ap (λ b. list_any (nat_eq w) (cond b (a ∷ filter p (range_with_len (a + 1) n)) (filter p (range_with_len (a + 1) n)))) (ap p (sym same) ∙ on) ∙ ap (λ b. b || list_any (nat_eq w) (filter p (range_with_len (a + 1) n))) (eq-eqb w a same))
+    (λ (apart : w ≡ a → ⊥). kept (p a) (listed_in p (a + 1) n w on (omega arith) (omega arith)))
+    (cases_eq w a)
+  where
+    kept : (b : Bool) → list_any (nat_eq w) (filter p (range_with_len (a + 1) n)) ≡ true → list_any (nat_eq w) (cond b (a ∷ filter p (range_with_len (a + 1) n)) (filter p (range_with_len (a + 1) n))) ≡ true
+    kept true h = or_right (nat_eq w a) (list_any (nat_eq w) (filter p (range_with_len (a + 1) n))) h
+    kept false h = h
+
+-- one that fails is none of them
+listed_out : (p : ℕ → Bool) (w : ℕ) (xs : List ℕ) → p w ≡ false → list_any (nat_eq w) (filter p xs) ≡ false
+listed_out p w [] off = refl
+listed_out p w (x ∷ xs) off =
+    ⊎_elim
+    (λ (on : p x ≡ true).
+    ap (λ b. list_any (nat_eq w) (cond b (x ∷ filter p xs) (filter p xs))) on
+    ∙ ap (λ b. b || list_any (nat_eq w) (filter p xs)) (ne_eqb w x (λ same. true≢false (sym on ∙ ap p (sym same) ∙ off)))
+    ∙ listed_out p w xs off)
+    (λ (no : p x ≡ false). ap (λ b. list_any (nat_eq w) (cond b (x ∷ filter p xs) (filter p xs))) no ∙ listed_out p w xs off)
+    (cases_Bool (p x))
+
+-- the list of a node's neighbours has just the nodes that are linked to it
+pub listed_neighbours : (net : Network) (v w : ℕ) → IsNetwork net → list_any (nat_eq w) (neighbours net v) ≡ linked net v w
+listed_neighbours net v w good =
+    ⊎_elim
+    (λ (on : linked net v w ≡ true).
+    let bounds = present_range net w (linked_present net w v good (linked_back net w v ∙ on)) in
+    listed_in (linked net v) 1 net.size w on bounds.0 (omega arith) ∙ sym on)
+    (λ (off : linked net v w ≡ false). listed_out (linked net v) w (range_with_len 1 net.size) off ∙ sym off)
+    (cases_Bool (linked net v w))
+
+-- one more of the nodes that a test names by one item of a list
+pub looked_more : {X : Type 0} (t : RuleTable) (s : State) (p : ℕ → Bool) (q : X → ℕ → Bool) (xs : List X) (i : ℕ) (x : X) (a b c : List Bool) → i < length xs → x ≡ get_or xs i x → IsLookedAt t s (λ w. p w || list_any (λ y. q y w) (take i xs)) a b → IsLookedAt t s (q x) b c → IsLookedAt t s (λ w. p w || list_any (λ y. q y w) (take (i + 1) xs)) a c
+looked_more t s p q xs i x a b c within is first next =
+    looked_alike t s (λ w. (p w || list_any (λ y. q y w) (take i xs)) || q x w) (λ w. p w || list_any (λ y. q y w) (take (i + 1) xs)) a c
+    (λ w. regroup (p w) (list_any (λ y. q y w) (take i xs)) (q x w) ∙ ap (λ y. p w || (list_any (λ z. q z w) (take i xs) || q y w)) is ∙ ap (λ o. p w || o) (sym (list_any_more (λ y. q y w) xs i x within)))
+    (looked_both t s (λ w. p w || list_any (λ y. q y w) (take i xs)) (q x) a b c first next)
+  where
+    regroup : (a b c : Bool) → ((a || b) || c) ≡ (a || (b || c))
+    regroup true b c = refl
+    regroup false b c = refl
+
+-- none of a list's nodes yet
+pub looked_first : (t : RuleTable) (s : State) (p : ℕ → Bool) (a b : List Bool) → IsLookedAt t s p a b → IsLookedAt t s (λ w. p w || false) a b
+looked_first t s p a b looked = looked_alike t s p (λ w. p w || false) a b (λ w. alone (p w)) looked
+  where
+    alone : (b : Bool) → b ≡ (b || false)
+    alone true = refl
+    alone false = refl

@@ -1,0 +1,24 @@
+-- The opening state is stable.
+use Rattle.std.proofs.Common.{◌≡◌, ℕ, ◌+◌, ◌<◌, ◌≤◌, Bool, false, None, Some, replicate, get_or, IfSome, sym, ◌∙◌, subst, ⊎_elim, arith}
+use Rattle.std.proofs.lemmas.Bool.{cases_lt, true≢false}
+use Rattle.std.proofs.lemmas.List.{length-replicate, get_or-replicate, get_or_past}
+use Rattle.rule_machine.specs.Network.{edge}
+use Rattle.rule_machine.specs.State.{opening, pointer}
+use Rattle.rule_machine.specs.Stable.{IsStable}
+use Rattle.state_lemmas.specs.Pointers.{null_unmarried}
+use Rattle.machine_laws.specs.Edges.{contains-empty}
+
+blank_at : {X : Type 0} (n v : ℕ) (x : X) → get_or (replicate n x) v x ≡ x
+blank_at n v x =
+    ⊎_elim
+    (λ (below : v < n). get_or-replicate n v x x below)
+    (λ (past : n ≤ v). get_or_past (replicate n x) v x (let k = length-replicate n x in omega (arith, k)))
+    (cases_lt v n)
+
+-- every pointer is null, there is no edge, and nobody is flagged or married
+pub opening_is_stable : (uses_flags : Bool) (size : ℕ) → IsStable uses_flags (opening size)
+opening_is_stable uses_flags size = record {
+  answered = λ v. subst (λ o. IfSome o (λ w. pointer (opening size) w ≡ Some v)) (sym (blank_at (size + 1) v None)) tt;
+  covered = λ v w linked there back. true≢false (sym linked ∙ contains-empty (edge v w));
+  flagged = λ _ v _. blank_at (size + 1) v false ∙ sym (null_unmarried (opening size) v (blank_at (size + 1) v None));
+}
