@@ -1,0 +1,21 @@
+//! What gives one event after another.
+
+ghost use Rattle.std.specs.Prelude.{◌≡◌, IfOk, OnErr};
+ghost use Rattle.rand_core.specs.Stream.{Stream};
+ghost use Rattle.seeded_turns.specs.Drawn.{Draws};
+
+use rule_engine::{Event, Net, Rules, Want};
+
+/// What gives the events of turns: each is found in the network as it stands then, by the words of a generator.
+pub trait EventSource {
+    /// The event that a state and the words to come give, and the words that are left.
+    ghost draws: { Draws };
+
+    /// The words to come.
+    ghost stream: { Self → Stream };
+
+    /// The event of the next turn; `None` where there is none. At want of memory no word has been taken.
+    fn next_event<R: Rules>(&mut self, net: &Net<R>) -> Result<Option<Event>, Want>
+        ensures event { IfOk result (λ event. (event, stream self.new) ≡ draws R.table net.now (stream self.old)) }
+        ensures kept { OnErr result (stream self.new ≡ stream self.old) };
+}
