@@ -54,15 +54,14 @@ pub near_there : (nodes : List ℕ) (i w : ℕ) → i < length nodes → w ≡ g
 near_there nodes i w inside is = list_any_at (nat_eq w) nodes i w inside (eq-eqb w (get_or nodes i w) is)
 
 -- a place that does not pass is as it was
-pub can_open_still : (p : ℕ → Bool) (v : ℕ) (start so_far : List Tally) (w : ℕ) → IsOpenTo p v start so_far → p w ≡ false → CanOpen (tally_of start w) → CanOpen (tally_of so_far w)
+pub can_open_still : (p : ℕ → Bool) (v : ℕ) (start so_far : List Tally) (w : ℕ) → IsOpenTo p v start so_far → p w ≡ false → CanOpen w v (tally_of start w) → CanOpen w v (tally_of so_far w)
 can_open_still p v start so_far w told fails room =
     let near = told.open_near w in
     let above = told.open_above w in
     let none : one_if (p w) ≡ 0 = ap one_if fails in
     let none_above : one_if (p w && nat_lt w v) ≡ 0 = ap (λ b. one_if (b && nat_lt w v)) fails in
     let one = room.open_near in
-    let two = room.open_above in
-    record { open_near = omega arith; open_above = omega arith }
+    record { open_near = omega arith; open_above = λ below. let two = room.open_above below in omega arith }
 
 pub counts_open_still : (p : ℕ → Bool) (v : ℕ) (start so_far : List Tally) (w : ℕ) → IsOpenTo p v so_far start → p w ≡ false → CountsOpen w v (tally_of start w) → CountsOpen w v (tally_of so_far w)
 counts_open_still p v start so_far w told fails counted =

@@ -18,8 +18,8 @@ use std::marker::{Model, PhantomData};
 /// gives.
 #[derive(Drop)]
 pub struct SuitorIndex<R: Rules> {
-    tallies: Vec<Tally>,
-    rules: PhantomData<R>,
+    pub(crate) tallies: Vec<Tally>,
+    pub(crate) rules: PhantomData<R>,
 }
 
 impl<R: Rules> Model for SuitorIndex<R> {

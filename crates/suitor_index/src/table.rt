@@ -4,7 +4,7 @@ ghost use Rattle.std.specs.Prelude.{◌≡◌, ℕ, ◌<◌, true, IfSome, lengt
 ghost use Rattle.std.specs.List.{list_any};
 ghost use Rattle.std.specs.List.Sorted.{IsStrictlyIncreasing};
 ghost use Rattle.suitor_index.specs.Tallies.{tally_of};
-ghost use Rattle.suitor_index.specs.Told.{IsCourted, IsOpenTo, HasSuitor, HasRoomFor, CountsOpen, CanOpen};
+ghost use Rattle.suitor_index.specs.Told.{IsCourted, IsOpenTo, HasSuitor, HasRoomFor, CountsOpen, CanOpen, CanTurn, IsTurned};
 
 use crate::Tally;
 use rule_machine::Node;
@@ -36,7 +36,7 @@ pub(crate) fn court(tallies: &mut [Tally], pointer: Option<Node>, v: Node)
 /// Counts v as open at a node.
 pub(crate) fn open_at(tallies: &mut [Tally], w: Node, v: Node)
     requires within { w < length tallies.old }
-    requires room { CanOpen (tally_of tallies.old w) }
+    requires room { CanOpen w v (tally_of tallies.old w) }
     ensures { IsOpenTo (λ k. nat_eq k w) v tallies.old tallies.new }
 {
     tallies[w.place()].open_near += 1;
@@ -61,7 +61,7 @@ pub(crate) fn close_at(tallies: &mut [Tally], w: Node, v: Node)
 pub(crate) fn open_at_all(tallies: &mut [Tally], nodes: &[Node], v: Node)
     requires rising { IsStrictlyIncreasing nodes.now }
     requires within { (k : ℕ) → list_any (nat_eq k) nodes.now ≡ true → k < length tallies.old }
-    requires room { (k : ℕ) → list_any (nat_eq k) nodes.now ≡ true → CanOpen (tally_of tallies.old k) }
+    requires room { (k : ℕ) → list_any (nat_eq k) nodes.now ≡ true → CanOpen k v (tally_of tallies.old k) }
     ensures { IsOpenTo (λ k. list_any (nat_eq k) nodes.now) v tallies.old tallies.new }
 {
     for &w in nodes {
@@ -78,5 +78,19 @@ pub(crate) fn close_at_all(tallies: &mut [Tally], nodes: &[Node], v: Node)
 {
     for &w in nodes {
         close_at(tallies, w, v);
+    }
+}
+
+/// Counts v at each of these nodes, which are by rising names, as open or not as it is now, where it was so before.
+pub(crate) fn turn(tallies: &mut [Tally], nodes: &[Node], v: Node, was: bool, is: bool)
+    requires rising { IsStrictlyIncreasing nodes.now }
+    requires within { (k : ℕ) → list_any (nat_eq k) nodes.now ≡ true → k < length tallies.old }
+    requires turns { (k : ℕ) → list_any (nat_eq k) nodes.now ≡ true → CanTurn k v was is (tally_of tallies.old k) }
+    ensures { IsTurned (λ k. list_any (nat_eq k) nodes.now) v was is tallies.old tallies.new }
+{
+    match (was, is) {
+        (false, true) => open_at_all(tallies, nodes, v),
+        (true, false) => close_at_all(tallies, nodes, v),
+        _ => {}
     }
 }
