@@ -1,0 +1,6 @@
+pub mod Loops
+pub mod Sums
+pub mod Counts
+pub mod Near
+pub mod Turned
+pub mod Changed

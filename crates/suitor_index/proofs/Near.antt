@@ -1,0 +1,123 @@
+-- Sums over the neighbours of a node.
+use Rattle.std.proofs.Common.{◌≡◌, ◌≢◌, ℕ, zero, suc, ◌+◌, ◌*◌, ◌<◌, ◌≤◌, Bool, true, false, cond, ◌&&◌, ◌||◌, List, [], ◌∷◌, length, filter, nat_eq, IsTrue, refl, sym, ap, ◌∙◌, subst, ⊎_elim, arith}
+use Rattle.std.specs.List.{sum_by, list_any, range_with_len}
+use Rattle.std.specs.Cmp.{both_ways}
+use Rattle.std.specs.List.Sorted.{IsStrictlyIncreasing}
+use Rattle.std.proofs.lemmas.Bool.{cases_eq, eqb-true, eq-eqb, ne_eqb, or_cases, or_right}
+use Rattle.std.proofs.lemmas.List.FromFn.{length-range_with_len, get_or-range_with_len}
+use Rattle.std.proofs.lemmas.List.Kept.{IsStrictlyIncreasing-filter}
+use Rattle.std.proofs.lemmas.List.Sums.{sum_by-cons}
+use Rattle.rule_machine.specs.Network.{Network, IsNetwork, linked, neighbours, names, present}
+use Rattle.state_lemmas.specs.Neighbours.{linked_back, linked_present, present_range}
+use Rattle.suitor_index.proofs.Sums.{sum_filter, sum_same, sum_turn, sum_small, sum_ones}
+
+-- the term of a name that may be a neighbour
+abbrev pub term : Network → ℕ → (ℕ → ℕ) → ℕ → ℕ
+term net k f x = cond (linked net k x) (f x) 0
+
+-- sums over the neighbours that k has in two networks whose terms differ at one name
+pub near_turn : (net net' : Network) (k v : ℕ) (f g : ℕ → ℕ) → net.size ≡ net'.size → IsTrue (present net v) → ((x : ℕ) → x ≢ v → term net k f x ≡ term net' k g x) → sum_by f (neighbours net k) + term net' k g v ≡ sum_by g (neighbours net' k) + term net k f v
+near_turn net net' k v f g size here same =
+    let bounds = present_range net v here in
+    let one = sum_filter f (linked net k) (names net) in
+    let two = sum_filter g (linked net' k) (names net') in
+    let resized : sum_by (term net' k g) (names net) ≡ sum_by (term net' k g) (names net') = ap (λ n. sum_by (term net' k g) (range_with_len 1 n)) size in
+    let turn = sum_turn (term net k f) (term net' k g) v 1 net.size bounds.0 (omega (arith, bounds.1)) (λ x low high apart. same x apart) in
+    omega (arith, one, two, resized, turn)
+
+-- and those whose terms don't differ
+pub near_same : (net net' : Network) (k : ℕ) (f g : ℕ → ℕ) → net.size ≡ net'.size → ((x : ℕ) → term net k f x ≡ term net' k g x) → sum_by f (neighbours net k) ≡ sum_by g (neighbours net' k)
+near_same net net' k f g size same =
+    sum_filter f (linked net k) (names net)
+    ∙ sum_same (term net k f) (term net' k g) 1 net.size (λ x low high. same x)
+    ∙ ap (λ n. sum_by (term net' k g) (range_with_len 1 n)) size
+    ∙ sym (sum_filter g (linked net' k) (names net'))
+
+-- no term is more than the sum
+pub near_le : (net : Network) (k v : ℕ) (f : ℕ → ℕ) → IsTrue (present net v) → term net k f v ≤ sum_by f (neighbours net k)
+near_le net k v f here =
+    let bounds = present_range net v here in
+    let one = sum_filter f (linked net k) (names net) in
+    let le = range_le (term net k f) v 1 net.size bounds.0 (omega (arith, bounds.1)) in
+    omega (arith, one, le)
+  where
+    range_le : (f : ℕ → ℕ) (b a n : ℕ) → a ≤ b → b < a + n → f b ≤ sum_by f (range_with_len a n)
+    range_le f b a zero low high = absurd (omega arith)
+    range_le f b a (suc n) low high =
+        let one = sum_by-cons f a (range_with_len (a + 1) n) in
+        ⊎_elim
+        (λ (here : a ≡ b). let e = ap f here in omega (arith, one, e))
+        (λ (apart : a ≢ b). let rest = range_le f b (a + 1) n (omega arith) (omega arith) in omega (arith, one, rest))
+        (cases_eq a b)
+
+-- a count is at most the number of names, and a sum of names at most 65,535 times as much
+pub near_ones : (net : Network) (k : ℕ) (f : ℕ → ℕ) → ((x : ℕ) → f x ≤ 1) → sum_by f (neighbours net k) ≤ net.size
+near_ones net k f few =
+    let one = sum_filter f (linked net k) (names net) in
+    let le = sum_ones (term net k f) 1 net.size (λ x low high. small (linked net k x) (f x) (few x)) in
+    omega (arith, one, le)
+  where
+    small : (b : Bool) (n : ℕ) → n ≤ 1 → cond b n 0 ≤ 1
+    small true n le = le
+    small false n le = omega arith
+
+pub near_names : (net : Network) (k : ℕ) (f : ℕ → ℕ) → net.size ≤ 65535 → ((x : ℕ) → f x ≤ x) → sum_by f (neighbours net k) ≤ net.size * 65535
+near_names net k f size few =
+    let one = sum_filter f (linked net k) (names net) in
+    let le = sum_small (term net k f) 1 net.size (λ x low high. small (linked net k x) (f x) x (few x) (omega arith)) in
+    omega (arith, one, le)
+  where
+    small : (b : Bool) (n x : ℕ) → n ≤ x → x ≤ 65535 → cond b n 0 ≤ 65535
+    small true n x le high = omega arith
+    small false n x le high = omega arith
+
+-- the neighbours rise
+pub neighbours_rise : (net : Network) (v : ℕ) → IsStrictlyIncreasing (neighbours net v)
+neighbours_rise net v = IsStrictlyIncreasing-filter (linked net v) (names net) (range_rises 1 net.size)
+  where
+    range_rises : (a n : ℕ) → IsStrictlyIncreasing (range_with_len a n)
+    range_rises a n = λ i inside.
+        let len = length-range_with_len a n in
+        let one = get_or-range_with_len a n i 0 (omega arith) in
+        let two = get_or-range_with_len a n (i + 1) 0 (omega arith) in
+        omega (arith, one, two)
+
+kept_step : (k x : ℕ) (kept : List ℕ) (p : ℕ → Bool) (b : Bool) → p x ≡ b → (list_any (nat_eq k) kept ≡ true → p k ≡ true) → list_any (nat_eq k) (cond b (x ∷ kept) kept) ≡ true → p k ≡ true
+kept_step k x kept p true at rest h =
+    ⊎_elim
+    (λ (same : nat_eq k x ≡ true). subst (λ y. p y ≡ true) (sym (eqb-true k x same)) at)
+    (λ (later : list_any (nat_eq k) kept ≡ true). rest later)
+    (or_cases (nat_eq k x) (list_any (nat_eq k) kept) h)
+kept_step k x kept p false at rest h = rest h
+
+kept_passes : (p : ℕ → Bool) (xs : List ℕ) (k : ℕ) → list_any (nat_eq k) (filter p xs) ≡ true → p k ≡ true
+kept_passes p [] k h = absurd (let e : false ≡ true = h in cc)
+kept_passes p (x ∷ xs) k h = kept_step k x (filter p xs) p (p x) refl (kept_passes p xs k) h
+
+found_step : (k x : ℕ) (kept : List ℕ) (p : ℕ → Bool) (b : Bool) → p x ≡ b → p k ≡ true → (k ≡ x → ⊥) → list_any (nat_eq k) kept ≡ true → list_any (nat_eq k) (cond b (x ∷ kept) kept) ≡ true
+found_step k x kept p true at passes apart rest = or_right (nat_eq k x) (list_any (nat_eq k) kept) rest
+found_step k x kept p false at passes apart rest = rest
+
+found_here : (k x : ℕ) (kept : List ℕ) (b : Bool) → b ≡ true → k ≡ x → list_any (nat_eq k) (cond b (x ∷ kept) kept) ≡ true
+found_here k x kept true at same = ap (λ b. b || list_any (nat_eq k) kept) (eq-eqb k x same)
+found_here k x kept false at same = absurd cc
+
+passes_kept : (p : ℕ → Bool) (k a n : ℕ) → a ≤ k → k < a + n → p k ≡ true → list_any (nat_eq k) (filter p (range_with_len a n)) ≡ true
+passes_kept p k a zero low high passes = absurd (omega arith)
+passes_kept p k a (suc n) low high passes =
+    ⊎_elim
+    (λ (here : k ≡ a). found_here k a (filter p (range_with_len (a + 1) n)) (p a) (ap p (sym here) ∙ passes) here)
+    (λ (apart : k ≢ a). found_step k a (filter p (range_with_len (a + 1) n)) p (p a) refl passes apart (passes_kept p k (a + 1) n (omega arith) (omega arith) passes))
+    (cases_eq k a)
+
+-- the names in the list of a node's neighbours are the names to which it is linked
+pub listed_linked : (net : Network) (v k : ℕ) → list_any (nat_eq k) (neighbours net v) ≡ true → IsTrue (linked net v k)
+listed_linked net v k h = kept_passes (linked net v) (names net) k h
+
+pub linked_listed : (net : Network) (v k : ℕ) → IsNetwork net → IsTrue (linked net v k) → list_any (nat_eq k) (neighbours net v) ≡ true
+linked_listed net v k is_network h =
+    let bounds = present_range net k (linked_present net k v is_network (linked_back net k v ∙ h)) in
+    passes_kept (linked net v) k 1 net.size bounds.0 (omega (arith, bounds.1)) h
+
+pub listed_is_linked : (net : Network) (v k : ℕ) → IsNetwork net → list_any (nat_eq k) (neighbours net v) ≡ linked net v k
+listed_is_linked net v k is_network = both_ways _ _ (listed_linked net v k) (linked_listed net v k is_network)

@@ -1,0 +1,39 @@
+-- What is counted at a node, and a table of it with a place for each name; place 0 is nobody's.
+use Rattle.std.specs.Prelude.{◌≡◌, ℕ, ◌+◌, Bool, cond, ◌&&◌, List, length, Option, IsTrue, nat_lt, slice_index_or}
+use Rattle.std.specs.List.{count_by, sum_by}
+use Rattle.rule_machine.specs.Network.{Network, present, neighbours}
+use Rattle.rule_machine.specs.State.{State, Registers, suits}
+use Rattle.rule_machine.specs.RuleTable.{is_open}
+use Rattle.suitor_index.specs.declared.tally.Tally.{Tally}
+
+abbrev pub state_of : Network → Registers → State
+state_of net registers = record { network = net; registers = registers }
+
+-- nothing is counted
+abbrev pub nothing : Tally
+nothing = record { suitors = 0; open_near = 0; open_above = 0; sum = 0 }
+
+abbrev pub tally_of : List Tally → ℕ → Tally
+tally_of tallies v = slice_index_or tallies v nothing
+
+-- a name that counts where it passes the test
+abbrev pub name_if : (ℕ → Bool) → ℕ → ℕ
+name_if test w = cond (test w) w 0
+
+-- whether w is open to a seduction, and above v
+abbrev pub is_open_above : (Option ℕ → Bool → Bool) → State → ℕ → ℕ → Bool
+is_open_above opens s v w = is_open opens s w && nat_lt v w
+
+-- what a scan of v's neighbours counts: its suitors, the open ones, those of them above v, and the suitors' names
+abbrev pub tally_at : (Option ℕ → Bool → Bool) → State → ℕ → Tally
+tally_at opens s v = record {
+  suitors = count_by (suits s v) (neighbours s.network v);
+  open_near = count_by (is_open opens s) (neighbours s.network v);
+  open_above = count_by (is_open_above opens s v) (neighbours s.network v);
+  sum = sum_by (name_if (suits s v)) (neighbours s.network v);
+}
+
+-- each node's place holds what a scan of its neighbours counts
+pub record IsIndexOf (opens : Option ℕ → Bool → Bool) (s : State) (tallies : List Tally) : Type 0 where
+  pub places : length tallies ≡ s.network.size + 1
+  pub counted : (v : ℕ) → IsTrue (present s.network v) → tally_of tallies v ≡ tally_at opens s v

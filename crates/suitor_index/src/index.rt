@@ -1,0 +1,138 @@
+//! The index of suitors and open neighbours.
+
+ghost use Rattle.std.specs.Prelude.{◌≡◌, ◌<◌, ◌≤◌, ◌&&◌, IsTrue, is_some, length};
+ghost use Rattle.rule_machine.specs.Network.{present, linked};
+ghost use Rattle.rule_machine.specs.State.{IsState, suits, has_suitor, first_suitor};
+ghost use Rattle.rule_machine.specs.RuleTable.{is_open, first_open, last_open_above};
+ghost use Rattle.suitor_index.specs.Tallies.{state_of, tally_of, IsIndexOf};
+
+use crate::{Tally, scan};
+use graph_store::EdgeStore;
+use registers::Registers;
+use rule_machine::Node;
+use rule_set::Rules;
+use std::marker::{Model, PhantomData};
+
+/// Who courts each node of a network and which neighbours are open to it under the rules `R`, seen in contracts as the
+/// table of what is counted at each node. It is told of each change, and each look-up is what a scan of the neighbours
+/// gives.
+#[derive(Drop)]
+pub struct SuitorIndex<R: Rules> {
+    pub(crate) tallies: Vec<Tally>,
+    pub(crate) rules: PhantomData<R>,
+}
+
+impl<R: Rules> Model for SuitorIndex<R> {
+    ghost use Rattle.std.specs.Prelude.{List, length, ◌≤◌};
+    ghost use Rattle.suitor_index.specs.declared.tally.Tally.{Tally};
+
+    ghost Value = { List Tally };
+
+    ghost view = { λ x. x.tallies.items };
+
+    ghost invariant = { λ x. length x.tallies.items ≤ 65536 };
+}
+
+impl<R: Rules> SuitorIndex<R> {
+    // What is counted at a node.
+    fn tally(&self, v: Node) -> Tally
+        requires { v < length self.now }
+        ensures value { result ≡ tally_of self.now v }
+        ensures few { length self.now ≤ 65536 }
+    {
+        self.tallies[v.place()]
+    }
+
+    /// Whether a neighbour points at the node. One look.
+    pub fn has_suitor(&self, v: Node, store: &EdgeStore, registers: &Registers) -> bool
+        requires state { IsState (state_of store.now registers.now) }
+        requires index { IsIndexOf R.table.opens (state_of store.now registers.now) self.now }
+        requires present { IsTrue (present store.now v) }
+        ensures { result ≡ has_suitor (state_of store.now registers.now) v }
+    {
+        self.tally(v).suitors > 0
+    }
+
+    /// Whether a neighbour is open. One look.
+    pub fn has_open(&self, v: Node, store: &EdgeStore, registers: &Registers) -> bool
+        requires state { IsState (state_of store.now registers.now) }
+        requires index { IsIndexOf R.table.opens (state_of store.now registers.now) self.now }
+        requires present { IsTrue (present store.now v) }
+        ensures { result ≡ is_some (first_open R.table.opens (state_of store.now registers.now) v) }
+    {
+        self.tally(v).open_near > 0
+    }
+
+    /// Whether an open neighbour has a higher name than the node. One look.
+    pub fn has_open_above(&self, v: Node, store: &EdgeStore, registers: &Registers) -> bool
+        requires state { IsState (state_of store.now registers.now) }
+        requires index { IsIndexOf R.table.opens (state_of store.now registers.now) self.now }
+        requires present { IsTrue (present store.now v) }
+        ensures { result ≡ is_some (last_open_above R.table.opens (state_of store.now registers.now) v) }
+    {
+        self.tally(v).open_above > 0
+    }
+
+    /// The first neighbour that points at the node. One look where there is none or one; else a scan of the neighbours, which
+    /// stops at the first.
+    pub fn first_suitor(&self, v: Node, store: &EdgeStore, registers: &Registers) -> Option<Node>
+        requires state { IsState (state_of store.now registers.now) }
+        requires index { IsIndexOf R.table.opens (state_of store.now registers.now) self.now }
+        requires present { IsTrue (present store.now v) }
+        ensures { result ≡ first_suitor (state_of store.now registers.now) v }
+    {
+        let tally = self.tally(v);
+        match tally.suitors {
+            0 => None,
+            1 => Node::new(tally.sum),
+            _ => scan::first_pointing_at(store.neighbours(v), registers, v),
+        }
+    }
+
+    /// The first open neighbour. One look where there is none; else a scan of the neighbours, which stops at the first.
+    pub fn first_open(&self, v: Node, store: &EdgeStore, registers: &Registers) -> Option<Node>
+        requires state { IsState (state_of store.now registers.now) }
+        requires index { IsIndexOf R.table.opens (state_of store.now registers.now) self.now }
+        requires present { IsTrue (present store.now v) }
+        ensures { result ≡ first_open R.table.opens (state_of store.now registers.now) v }
+    {
+        if !self.has_open(v, store, registers) {
+            return None;
+        }
+        scan::first_open::<R>(store.neighbours(v), registers)
+    }
+
+    /// The greatest open neighbour, where its name is above the node's. One look where there is none; else a scan of the
+    /// neighbours from the last, which stops at the first.
+    pub fn last_open_above(&self, v: Node, store: &EdgeStore, registers: &Registers) -> Option<Node>
+        requires state { IsState (state_of store.now registers.now) }
+        requires index { IsIndexOf R.table.opens (state_of store.now registers.now) self.now }
+        requires present { IsTrue (present store.now v) }
+        ensures { result ≡ last_open_above R.table.opens (state_of store.now registers.now) v }
+    {
+        if !self.has_open_above(v, store, registers) {
+            return None;
+        }
+        scan::last_open_above::<R>(store.neighbours(v), registers, v)
+    }
+
+    /// Whether a name is a neighbour that points at the node. One look.
+    pub fn is_suitor(&self, v: Node, w: Node, store: &EdgeStore, registers: &Registers) -> bool
+        requires state { IsState (state_of store.now registers.now) }
+        requires index { IsIndexOf R.table.opens (state_of store.now registers.now) self.now }
+        requires present { IsTrue (present store.now v) }
+        ensures { result ≡ (linked store.now v w && suits (state_of store.now registers.now) v w) }
+    {
+        registers.points_at(w, v)
+    }
+
+    /// Whether a name is an open neighbour. A look-up by halves among the neighbours of the node.
+    pub fn is_open(&self, v: Node, w: Node, store: &EdgeStore, registers: &Registers) -> bool
+        requires state { IsState (state_of store.now registers.now) }
+        requires index { IsIndexOf R.table.opens (state_of store.now registers.now) self.now }
+        requires present { IsTrue (present store.now v) }
+        ensures { result ≡ (linked store.now v w && is_open R.table.opens (state_of store.now registers.now) w) }
+    {
+        store.linked(v, w) && scan::is_open::<R>(registers, w)
+    }
+}

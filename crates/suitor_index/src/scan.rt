@@ -1,0 +1,62 @@
+//! Looks at a node's neighbours one after another.
+
+ghost use Rattle.std.specs.Prelude.{◌≡◌, ◌<◌, ◌&&◌, All, find, length, nat_lt, reverse};
+ghost use Rattle.rule_machine.specs.State.{points, pointer_of, flag_of};
+
+use registers::Registers;
+use rule_machine::Node;
+use rule_set::Rules;
+
+/// The first of these nodes that points at v.
+pub(crate) fn first_pointing_at(nodes: &[Node], registers: &Registers, v: Node) -> Option<Node>
+    ensures { result ≡ find (λ w. points registers.now w v) nodes.now }
+{
+    for &w in nodes {
+        if registers.points_at(w, v) {
+            return Some(w);
+        }
+    }
+    None
+}
+
+/// Whether a node's registers make it open to a seduction.
+pub(crate) fn is_open<R: Rules>(registers: &Registers, w: Node) -> bool
+    requires pointer_in { w < length registers.now.pointers }
+    requires flag_in { w < length registers.now.flags }
+    ensures { result ≡ R.table.opens (pointer_of registers.now w) (flag_of registers.now w) }
+{
+    R::opens(registers.pointer(w), registers.flag(w))
+}
+
+/// The first of these nodes that is open.
+pub(crate) fn first_open<R: Rules>(nodes: &[Node], registers: &Registers) -> Option<Node>
+    requires pointers_in { All (λ w. w < length registers.now.pointers) nodes.now }
+    requires flags_in { All (λ w. w < length registers.now.flags) nodes.now }
+    ensures { result ≡ find (λ w. R.table.opens (pointer_of registers.now w) (flag_of registers.now w)) nodes.now }
+{
+    for &w in nodes {
+        if is_open::<R>(registers, w) {
+            return Some(w);
+        }
+    }
+    None
+}
+
+/// The first of these nodes from the end that is open and has a name above v's.
+pub(crate) fn last_open_above<R: Rules>(
+    nodes: &[Node],
+    registers: &Registers,
+    v: Node,
+) -> Option<Node>
+    requires pointers_in { All (λ w. w < length registers.now.pointers) nodes.now }
+    requires flags_in { All (λ w. w < length registers.now.flags) nodes.now }
+    ensures { result ≡ find (λ w. R.table.opens (pointer_of registers.now w) (flag_of registers.now w) && nat_lt v w) (reverse nodes.now) }
+{
+    for place in (0..nodes.len()).rev() {
+        let w = nodes[place];
+        if w > v && is_open::<R>(registers, w) {
+            return Some(w);
+        }
+    }
+    None
+}
