@@ -1,0 +1,108 @@
+//! What is shown at a node.
+
+ghost use Rattle.std.specs.Prelude.{◌≡◌, ◌&&◌, IsTrue, is_some};
+ghost use Rattle.rule_machine.specs.Network.{present, linked};
+ghost use Rattle.rule_machine.specs.State.{IsState, pointer, flag, suits, first_suitor, has_suitor, married};
+ghost use Rattle.rule_machine.specs.RuleTable.{is_open, first_open, last_open_above};
+ghost use Rattle.rule_set.specs.Near.{IsNear};
+
+use crate::IndexedState;
+use rule_machine::Node;
+use rule_set::{Local, Rules};
+
+/// The registers round one node of a network, and what the index has counted there.
+#[derive(Drop)]
+pub struct NodeView<'a, R: Rules> {
+    state: &'a IndexedState<R>,
+    node: Node,
+    ghost is_present: { IsTrue (present state.now.network node) },
+}
+
+impl<'a, R: Rules> NodeView<'a, R> {
+    pub(crate) fn new(state: &'a IndexedState<R>, node: Node) -> Self
+        requires is_present { IsTrue (present state.now.network node) }
+        ensures node { result.node ≡ node }
+        ensures state { result.state.now ≡ state.now }
+    {
+        NodeView { state, node }
+    }
+}
+
+impl<R: Rules> Local for NodeView<'_, R> {
+    ghost state = { λ l. l.state.now };
+
+    ghost at = { λ l. l.node };
+
+    ghost opens = { R.table.opens };
+
+    fn pointer(&self, v: Node) -> Option<Node> {
+        let state = self.state;
+        state.registers.pointer(v)
+    }
+
+    fn flag(&self, v: Node) -> bool {
+        let state = self.state;
+        state.registers.flag(v)
+    }
+
+    fn married(&self) -> bool {
+        let state = self.state;
+        state.registers.married(self.node)
+    }
+
+    fn has_suitor(&self) -> bool {
+        let state = self.state;
+        state
+            .index
+            .has_suitor(self.node, &state.store, &state.registers)
+    }
+
+    fn first_suitor(&self) -> Option<Node> {
+        let state = self.state;
+        state
+            .index
+            .first_suitor(self.node, &state.store, &state.registers)
+    }
+
+    fn is_suitor(&self, w: Node) -> bool {
+        let state = self.state;
+        state
+            .index
+            .is_suitor(self.node, w, &state.store, &state.registers)
+    }
+
+    fn has_open(&self) -> bool {
+        let state = self.state;
+        state
+            .index
+            .has_open(self.node, &state.store, &state.registers)
+    }
+
+    fn first_open(&self) -> Option<Node> {
+        let state = self.state;
+        state
+            .index
+            .first_open(self.node, &state.store, &state.registers)
+    }
+
+    fn has_open_above(&self) -> bool {
+        let state = self.state;
+        state
+            .index
+            .has_open_above(self.node, &state.store, &state.registers)
+    }
+
+    fn last_open_above(&self) -> Option<Node> {
+        let state = self.state;
+        state
+            .index
+            .last_open_above(self.node, &state.store, &state.registers)
+    }
+
+    fn is_open(&self, w: Node) -> bool {
+        let state = self.state;
+        state
+            .index
+            .is_open(self.node, w, &state.store, &state.registers)
+    }
+}
