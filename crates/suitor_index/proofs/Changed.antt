@@ -25,7 +25,7 @@ pub record IsChange (opens : Option ℕ → Bool → Bool) (net : Network) (r q 
   pub few : net.size ≤ 65535
   pub index : IsIndexOf opens (state_of net r) start
 
-few_nodes : (opens : Option ℕ → Bool → Bool) (s : State) (kept start : List Tally) → length kept ≤ 65536 → kept ≡ start → IsIndexOf opens s start → s.network.size ≤ 65535
+pub few_nodes : (opens : Option ℕ → Bool → Bool) (s : State) (kept start : List Tally) → length kept ≤ 65536 → kept ≡ start → IsIndexOf opens s start → s.network.size ≤ 65535
 few_nodes opens s kept start few same index = let places = index.places in omega (arith, ap length same, few)
 
 pub change_of_point : (opens : Option ℕ → Bool → Bool) (net : Network) (q : Registers) (v : ℕ) (old : Option ℕ) (kept start now : List Tally) (b : IsBeforePoint opens (state_of net q) v old now) → IsState (state_of net q) → IsTrue (present net v) → length kept ≤ 65536 → kept ≡ now → start ≡ kept → IsChange opens net b.registers q v start

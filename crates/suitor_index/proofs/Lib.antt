@@ -4,3 +4,5 @@ pub mod Counts
 pub mod Near
 pub mod Turned
 pub mod Changed
+pub mod Ends
+pub mod Linked

@@ -54,8 +54,8 @@ pub near_there : (nodes : List ℕ) (i w : ℕ) → i < length nodes → w ≡ g
 near_there nodes i w inside is = list_any_at (nat_eq w) nodes i w inside (eq-eqb w (get_or nodes i w) is)
 
 -- a place that does not pass is as it was
-pub can_open_still : (p : ℕ → Bool) (v : ℕ) (start so_far : List Tally) (w : ℕ) → IsOpenTo p v start so_far → p w ≡ false → CanOpen w v (tally_of start w) → CanOpen w v (tally_of so_far w)
-can_open_still p v start so_far w told fails room =
+pub can_open_still : (p : ℕ → Bool) (v u : ℕ) (start so_far : List Tally) (w : ℕ) → IsOpenTo p v start so_far → p w ≡ false → CanOpen w u (tally_of start w) → CanOpen w u (tally_of so_far w)
+can_open_still p v u start so_far w told fails room =
     let near = told.open_near w in
     let above = told.open_above w in
     let none : one_if (p w) ≡ 0 = ap one_if fails in
@@ -63,8 +63,8 @@ can_open_still p v start so_far w told fails room =
     let one = room.open_near in
     record { open_near = omega arith; open_above = λ below. let two = room.open_above below in omega arith }
 
-pub counts_open_still : (p : ℕ → Bool) (v : ℕ) (start so_far : List Tally) (w : ℕ) → IsOpenTo p v so_far start → p w ≡ false → CountsOpen w v (tally_of start w) → CountsOpen w v (tally_of so_far w)
-counts_open_still p v start so_far w told fails counted =
+pub counts_open_still : (p : ℕ → Bool) (v u : ℕ) (start so_far : List Tally) (w : ℕ) → IsOpenTo p v so_far start → p w ≡ false → CountsOpen w u (tally_of start w) → CountsOpen w u (tally_of so_far w)
+counts_open_still p v u start so_far w told fails counted =
     let near = told.open_near w in
     let above = told.open_above w in
     let none : one_if (p w) ≡ 0 = ap one_if fails in

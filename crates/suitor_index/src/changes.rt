@@ -1,20 +1,41 @@
 //! What the index does when it is told of a change.
 
-ghost use Rattle.std.specs.Prelude.{IsTrue};
+ghost use Rattle.std.specs.Prelude.{◌≡◌, ◌<◌, ◌&&◌, true, length, nat_eq, IsTrue};
 ghost use Rattle.rule_machine.specs.Network.{present};
-ghost use Rattle.rule_machine.specs.State.{IsState};
-ghost use Rattle.suitor_index.specs.Tallies.{state_of, IsIndexOf};
-ghost use Rattle.suitor_index.specs.Before.{IsBeforePoint, IsBeforeFlag};
+ghost use Rattle.rule_machine.specs.State.{IsState, pointer_of, flag_of};
+ghost use Rattle.suitor_index.specs.Tallies.{state_of, tally_of, IsIndexOf};
+ghost use Rattle.suitor_index.specs.Before.{IsBeforeLink, IsBeforeUnlink, IsBeforePoint, IsBeforeFlag};
+ghost use Rattle.suitor_index.specs.Told.{CanOpen, CountsOpen, IsOpenTo};
 
-use crate::SuitorIndex;
 use crate::scan::is_open;
-use crate::table::{court, leave, turn};
+use crate::table::{close_at, court, leave, open_at, turn};
+use crate::{SuitorIndex, Tally};
 use graph_store::EdgeStore;
 use registers::Registers;
 use rule_machine::Node;
 use rule_set::Rules;
 
 impl<R: Rules> SuitorIndex<R> {
+    /// Takes note that an edge was put in: a write at each end, at most.
+    pub fn linked(&mut self, a: Node, b: Node, store: &EdgeStore, registers: &Registers)
+        requires { IsBeforeLink R.table.opens (state_of store.now registers.now) a b self.old }
+        ensures { IsIndexOf R.table.opens (state_of store.now registers.now) self.new }
+    {
+        let tallies = self.tallies.as_mut_slice();
+        count_end::<R>(tallies, a, b, registers);
+        count_end::<R>(tallies, b, a, registers);
+    }
+
+    /// Takes note that an edge that neither end's pointer crossed was taken out: a write at each end, at most.
+    pub fn unlinked(&mut self, a: Node, b: Node, store: &EdgeStore, registers: &Registers)
+        requires { IsBeforeUnlink R.table.opens (state_of store.now registers.now) a b self.old }
+        ensures { IsIndexOf R.table.opens (state_of store.now registers.now) self.new }
+    {
+        let tallies = self.tallies.as_mut_slice();
+        discount_end::<R>(tallies, b, a, registers);
+        discount_end::<R>(tallies, a, b, registers);
+    }
+
     /// Takes note that a node's pointer, which was `old`, was written: a write at its old target and at the new one, and
     /// one at each neighbour where the node became open or ceased to be.
     pub fn pointer_changed(
@@ -49,5 +70,31 @@ impl<R: Rules> SuitorIndex<R> {
         let was_open = R::opens(registers.pointer(v), !registers.flag(v));
         let is_open = is_open::<R>(registers, v);
         turn(&mut self.tallies, store.neighbours(v), v, was_open, is_open);
+    }
+}
+
+/// Counts v at w where it is open.
+fn count_end<R: Rules>(tallies: &mut [Tally], w: Node, v: Node, registers: &Registers)
+    requires pointer_in { v < length registers.now.pointers }
+    requires flag_in { v < length registers.now.flags }
+    requires within { w < length tallies.old }
+    requires room { R.table.opens (pointer_of registers.now v) (flag_of registers.now v) ≡ true → CanOpen w v (tally_of tallies.old w) }
+    ensures { IsOpenTo (λ k. R.table.opens (pointer_of registers.now v) (flag_of registers.now v) && nat_eq k w) v tallies.old tallies.new }
+{
+    if is_open::<R>(registers, v) {
+        open_at(tallies, w, v);
+    }
+}
+
+/// Counts v at w no longer, where it is open.
+fn discount_end<R: Rules>(tallies: &mut [Tally], w: Node, v: Node, registers: &Registers)
+    requires pointer_in { v < length registers.now.pointers }
+    requires flag_in { v < length registers.now.flags }
+    requires within { w < length tallies.old }
+    requires counted { R.table.opens (pointer_of registers.now v) (flag_of registers.now v) ≡ true → CountsOpen w v (tally_of tallies.old w) }
+    ensures { IsOpenTo (λ k. R.table.opens (pointer_of registers.now v) (flag_of registers.now v) && nat_eq k w) v tallies.new tallies.old }
+{
+    if is_open::<R>(registers, v) {
+        close_at(tallies, w, v);
     }
 }

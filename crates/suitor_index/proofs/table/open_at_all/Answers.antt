@@ -11,7 +11,7 @@ open_at-requires-clause-room c =
     let w = c.w-item.result in
     let nodes = c.args.nodes.now in
     let i = c.loop-w.w-index in
-    can_open_still (λ (k : ℕ). list_any (nat_eq k) (take i nodes)) c.args.v c.args.tallies.now c.loop-w.tallies w c.loop-w.invariant
+    can_open_still (λ (k : ℕ). list_any (nat_eq k) (take i nodes)) c.args.v c.args.v c.args.tallies.now c.loop-w.tallies w c.loop-w.invariant
     (not_before nodes i w c.requires.rising c.loop-w-test.true c.w-item.is)
     (c.requires.room w (near_there nodes i w c.loop-w-test.true c.w-item.is))
 

@@ -1,0 +1,133 @@
+-- What an edge changes in what is counted at its two ends.
+use Rattle.std.proofs.Common.{◌≡◌, ◌≢◌, ℕ, ◌+◌, ◌<◌, ◌≤◌, Bool, true, false, cond, ◌&&◌, List, length, Option, None, Some, nat_eq, nat_lt, IsTrue, refl, sym, ap, ◌∙◌, subst, ⊎_elim, arith}
+use Rattle.std.specs.List.{sum_by}
+use Rattle.std.proofs.lemmas.Bool.{cases_eq, eqb-true, eq-eqb, ne_eqb, false_from_ne_true, true≢false}
+use Rattle.rule_machine.specs.Network.{Network, linked, neighbours, present}
+use Rattle.rule_machine.specs.State.{State, Registers, IsState, points, pointer_of, flag_of}
+use Rattle.rule_machine.specs.RuleTable.{is_open}
+use Rattle.suitor_index.specs.declared.tally.Tally.{Tally}
+use Rattle.suitor_index.specs.Tallies.{state_of, tally_of, tally_at, is_open_above, IsIndexOf}
+use Rattle.suitor_index.specs.Told.{one_if, IsOpenTo}
+use Rattle.suitor_index.proofs.Near.{term, near_turn, near_same}
+use Rattle.suitor_index.proofs.Turned.{tally_is}
+
+-- the second network is the first with the edge between a and b, which no pointer crosses
+pub record IsEdgeMore (net more : Network) (r : Registers) (a b : ℕ) : Type 0 where
+  pub size : net.size ≡ more.size
+  pub has_a : IsTrue (present net a)
+  pub has_b : IsTrue (present net b)
+  pub apart : a ≢ b
+  pub absent : linked net a b ≡ false
+  pub absent_back : linked net b a ≡ false
+  pub there : linked more a b ≡ true
+  pub there_back : linked more b a ≡ true
+  pub others : (k x : ℕ) → (k ≡ a → x ≡ b → ⊥) → (k ≡ b → x ≡ a → ⊥) → linked net k x ≡ linked more k x
+  pub not_there : points r a b ≡ false
+  pub not_back : points r b a ≡ false
+
+-- at one end
+end_sum : (net more : Network) (a b : ℕ) (f : ℕ → ℕ) → net.size ≡ more.size → IsTrue (present net b) → linked net a b ≡ false → linked more a b ≡ true → ((x : ℕ) → x ≢ b → linked net a x ≡ linked more a x) → sum_by f (neighbours more a) ≡ sum_by f (neighbours net a) + f b
+end_sum net more a b f size has absent there others =
+    let turn = near_turn net more a b f f size has (λ x apart. ap (λ l. cond l (f x) 0) (others x apart)) in
+    let now : term more a f b ≡ f b = ap (λ l. cond l (f b) 0) there in
+    let was : term net a f b ≡ 0 = ap (λ l. cond l (f b) 0) absent in
+    omega (arith, turn, now, was)
+
+at_true : (x y n : ℕ) → x ≡ y → cond (nat_eq x y) n 0 ≡ n
+at_true x y n same = ap (λ l. cond l n 0) (eq-eqb x y same)
+
+at_false : (x y n : ℕ) → x ≢ y → cond (nat_eq x y) n 0 ≡ 0
+at_false x y n apart = ap (λ l. cond l n 0) (ne_eqb x y apart)
+
+-- sums over the neighbours in the two networks
+edge_sum : (net more : Network) (r : Registers) (a b k : ℕ) (f : ℕ → ℕ) → IsEdgeMore net more r a b → sum_by f (neighbours more k) ≡ sum_by f (neighbours net k) + cond (nat_eq k a) (f b) 0 + cond (nat_eq k b) (f a) 0
+edge_sum net more r a b k f e =
+    ⊎_elim
+    (λ (same : k ≡ a).
+    let sum = end_sum net more k b f e.size e.has_b (ap (λ n. linked net n b) same ∙ e.absent) (ap (λ n. linked more n b) same ∙ e.there) (λ x apart. e.others k x (λ _ xb. apart xb) (λ kb _. e.apart (sym same ∙ kb))) in
+    let one = at_true k a (f b) same in
+    let two = at_false k b (f a) (λ kb. e.apart (sym same ∙ kb)) in
+    omega (arith, sum, one, two))
+    (λ (not_a : k ≢ a).
+    ⊎_elim
+    (λ (same : k ≡ b).
+    let sum = end_sum net more k a f e.size e.has_a (ap (λ n. linked net n a) same ∙ e.absent_back) (ap (λ n. linked more n a) same ∙ e.there_back) (λ x apart. e.others k x (λ ka _. not_a ka) (λ _ xa. apart xa)) in
+    let one = at_false k a (f b) not_a in
+    let two = at_true k b (f a) same in
+    omega (arith, sum, one, two))
+    (λ (not_b : k ≢ b).
+    let sum = near_same net more k f f e.size (λ x. ap (λ l. cond l (f x) 0) (e.others k x (λ ka _. not_a ka) (λ kb _. not_b kb))) in
+    let one = at_false k a (f b) not_a in
+    let two = at_false k b (f a) not_b in
+    omega (arith, sum, one, two))
+    (cases_eq k b))
+    (cases_eq k a)
+
+-- no suitor is counted over the edge
+no_pointer : (r : Registers) (a b k n : ℕ) → points r b a ≡ false → cond (nat_eq k a) (cond (points r b k) n 0) 0 ≡ 0
+no_pointer r a b k n fails =
+    ⊎_elim
+    (λ (same : k ≡ a). at_true k a _ same ∙ ap (λ m. cond (points r b m) n 0) same ∙ ap (λ l. cond l n 0) fails)
+    (λ (apart : k ≢ a). at_false k a _ apart)
+    (cases_eq k a)
+
+open_end : (e o : Bool) → cond e (one_if o) 0 ≡ one_if (o && e)
+open_end true true = refl
+open_end true false = refl
+open_end false true = refl
+open_end false false = refl
+
+above_end : (e o c : Bool) → cond e (one_if (o && c)) 0 ≡ one_if ((o && e) && c)
+above_end true true c = refl
+above_end true false c = refl
+above_end false true c = refl
+above_end false false c = refl
+
+-- the places at which w counts as open to v, which is one of its neighbours over the edge
+abbrev pub end_of : (Option ℕ → Bool → Bool) → Registers → ℕ → ℕ → ℕ → Bool
+end_of opens r v w k = opens (pointer_of r v) (flag_of r v) && nat_eq k w
+
+-- how the tally at k in the two states is one but for the edge
+pub record IsTallyMore (opens : Option ℕ → Bool → Bool) (net more : Network) (r : Registers) (a b k : ℕ) : Type 0 where
+  pub suitors : (tally_at opens (state_of more r) k).suitors ≡ (tally_at opens (state_of net r) k).suitors
+  pub sum : (tally_at opens (state_of more r) k).sum ≡ (tally_at opens (state_of net r) k).sum
+  pub open_near : (tally_at opens (state_of more r) k).open_near ≡ (tally_at opens (state_of net r) k).open_near + one_if (end_of opens r b a k) + one_if (end_of opens r a b k)
+  pub open_above : (tally_at opens (state_of more r) k).open_above ≡ (tally_at opens (state_of net r) k).open_above + one_if (end_of opens r b a k && nat_lt k b) + one_if (end_of opens r a b k && nat_lt k a)
+
+pub tally_more : (opens : Option ℕ → Bool → Bool) (net more : Network) (r : Registers) (a b k : ℕ) → IsEdgeMore net more r a b → IsTallyMore opens net more r a b k
+tally_more opens net more r a b k e =
+    let open_at : ℕ → Bool = λ x. opens (pointer_of r x) (flag_of r x) in
+    record {
+      suitors = omega (arith, edge_sum net more r a b k (λ x. cond (points r x k) 1 0) e, no_pointer r a b k 1 e.not_back, no_pointer r b a k 1 e.not_there);
+      sum = omega (arith, edge_sum net more r a b k (λ x. cond (points r x k) x 0) e, no_pointer r a b k b e.not_back, no_pointer r b a k a e.not_there);
+      open_near = omega (arith, edge_sum net more r a b k (λ x. cond (open_at x) 1 0) e, open_end (nat_eq k a) (open_at b), open_end (nat_eq k b) (open_at a));
+      open_above = omega (arith, edge_sum net more r a b k (λ x. cond (open_at x && nat_lt k x) 1 0) e, above_end (nat_eq k a) (open_at b) (nat_lt k b), above_end (nat_eq k b) (open_at a) (nat_lt k a));
+    }
+
+-- told of the edge at both ends, the tallies are those of the state with it
+pub index_more : (opens : Option ℕ → Bool → Bool) (net more : Network) (r : Registers) (a b : ℕ) (start half done : List Tally) → IsEdgeMore net more r a b → IsIndexOf opens (state_of net r) start → IsOpenTo (end_of opens r b a) b start half → IsOpenTo (end_of opens r a b) a half done → IsIndexOf opens (state_of more r) done
+index_more opens net more r a b start half done e index one two = record {
+  places = two.places ∙ one.places ∙ index.places ∙ ap (λ n. n + 1) e.size;
+  counted = λ k has.
+      let t = tally_more opens net more r a b k e in
+      let was = index.counted k (subst (λ n. IsTrue (present (record net { size = n }) k)) (sym e.size) has) in
+      tally_is (tally_of done k) (tally_at opens (state_of more r) k)
+      (two.suitors k ∙ one.suitors k ∙ ap (λ (x : Tally). x.suitors) was ∙ sym t.suitors)
+      (let p = two.open_near k in let q = one.open_near k in let x = ap (λ (x : Tally). x.open_near) was in let y = t.open_near in omega (arith, p, q, x, y))
+      (let p = two.open_above k in let q = one.open_above k in let x = ap (λ (x : Tally). x.open_above) was in let y = t.open_above in omega (arith, p, q, x, y))
+      (two.sum k ∙ one.sum k ∙ ap (λ (x : Tally). x.sum) was ∙ sym t.sum);
+}
+
+-- and told that it went, those of the state without it
+pub index_less : (opens : Option ℕ → Bool → Bool) (net more : Network) (r : Registers) (a b : ℕ) (start half done : List Tally) → IsEdgeMore net more r a b → IsIndexOf opens (state_of more r) start → IsOpenTo (end_of opens r a b) a half start → IsOpenTo (end_of opens r b a) b done half → IsIndexOf opens (state_of net r) done
+index_less opens net more r a b start half done e index two one = record {
+  places = sym one.places ∙ sym two.places ∙ index.places ∙ ap (λ n. n + 1) (sym e.size);
+  counted = λ k has.
+      let t = tally_more opens net more r a b k e in
+      let was = index.counted k (subst (λ n. IsTrue (present (record more { size = n }) k)) e.size has) in
+      tally_is (tally_of done k) (tally_at opens (state_of net r) k)
+      (sym (one.suitors k) ∙ sym (two.suitors k) ∙ ap (λ (x : Tally). x.suitors) was ∙ t.suitors)
+      (let p = two.open_near k in let q = one.open_near k in let x = ap (λ (x : Tally). x.open_near) was in let y = t.open_near in omega (arith, p, q, x, y))
+      (let p = two.open_above k in let q = one.open_above k in let x = ap (λ (x : Tally). x.open_above) was in let y = t.open_above in omega (arith, p, q, x, y))
+      (sym (one.sum k) ∙ sym (two.sum k) ∙ ap (λ (x : Tally). x.sum) was ∙ t.sum);
+}

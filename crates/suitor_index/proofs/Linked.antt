@@ -1,0 +1,151 @@
+-- An index that is told of an edge.
+use Rattle.std.proofs.Common.{◌≡◌, ◌≢◌, ℕ, ◌+◌, ◌<◌, ◌≤◌, Bool, true, false, not, cond, ◌&&◌, ◌||◌, List, length, Option, None, Some, nat_eq, nat_lt, nat_le, IsTrue, refl, sym, ap, ◌∙◌, subst, ⊎_elim, arith}
+use Rattle.std.specs.FinMap as map
+use Rattle.std.specs.Ordering.{eq_by_cmp}
+use Rattle.std.proofs.lemmas.Bool.{and_parts, eqb-true, eq-eqb, ne_eqb, false_from_ne_true, true≢false, lt-ltb, or_left, and_right}
+use Rattle.std.proofs.lemmas.Cmp.{eq_by_cmp_equiv}
+use Rattle.std.proofs.lemmas.Map.Views.{tells_apart}
+use Rattle.rule_machine.specs.declared.refusal.Refusal.{Refusal}
+use Rattle.rule_machine.specs.Network.{Network, pair_cmp, edge, linked, present, edge_count, with_edge, without_edge}
+use Rattle.rule_machine.specs.State.{State, Registers, IsState, points, pointer_of, flag_of}
+use Rattle.rule_machine.specs.Refuse.{link_refusal, both_present, max_edges}
+use Rattle.machine_laws.specs.Edges.{pair_total, pair_exact, contains-insert, contains-remove, edge_ends, linked_comm}
+use Rattle.state_lemmas.specs.Search.{cond-none}
+use Rattle.state_lemmas.specs.Neighbours.{linked_apart, linked_present, linked_back}
+use Rattle.state_lemmas.specs.Pointers.{points_true, pointer_linked}
+use Rattle.suitor_index.specs.declared.tally.Tally.{Tally}
+use Rattle.suitor_index.specs.Tallies.{state_of, tally_of, tally_at, IsIndexOf}
+use Rattle.suitor_index.specs.Told.{one_if, IsOpenTo, CanOpen, CountsOpen}
+use Rattle.suitor_index.proofs.Loops.{can_open_still, counts_open_still}
+use Rattle.suitor_index.proofs.Turned.{IsSmall, tally_small}
+use Rattle.suitor_index.proofs.Ends.{IsEdgeMore, end_of, tally_more}
+
+same_pair : (a b : ℕ) → eq_by_cmp pair_cmp (edge a b) (edge a b) ≡ true
+same_pair a b = (eq_by_cmp_equiv pair_total).refl (edge a b)
+
+other_pair : (a b k x : ℕ) → (k ≡ a → x ≡ b → ⊥) → (k ≡ b → x ≡ a → ⊥) → eq_by_cmp pair_cmp (edge k x) (edge a b) ≡ false
+other_pair a b k x not_ab not_ba =
+    false_from_ne_true _ (
+    λ same. ⊎_elim (λ p. not_ab p.0 p.1) (λ p. not_ba p.0 p.1) (edge_ends a b k x (tells_apart pair_exact (edge k x) (edge a b) same))
+    )
+
+no_pointer_across : (net : Network) (r : Registers) (a b : ℕ) → IsState (state_of net r) → linked net a b ≡ false → points r a b ≡ false
+no_pointer_across net r a b good absent =
+    false_from_ne_true (points r a b) (λ at. true≢false (sym (pointer_linked (state_of net r) a b good (points_true (state_of net r) a b at)) ∙ absent))
+
+-- an edge that is put in
+pub edge_linked : (net more : Network) (r : Registers) (a b : ℕ) → IsState (state_of net r) → link_refusal net a b ≡ None → more ≡ with_edge net a b → IsEdgeMore net more r a b
+edge_linked net more r a b good accepted change =
+    let known = cond-none (not (both_present net a b)) _ _ accepted in
+    let two = cond-none (nat_eq a b) _ _ known.1 in
+    let new = cond-none (linked net a b) _ _ two.1 in
+    let both = and_parts (present net a) (present net b) (true_from_not (both_present net a b) known.0) in
+    let back : linked net b a ≡ false = linked_comm net b a ∙ new.0 in
+    let there : linked more a b ≡ true = ap (λ n. linked n a b) change ∙ contains-insert net.edges (edge a b) (edge a b) ∙ or_left _ _ (same_pair a b) in
+    record {
+      size = ap (λ n. n.size) (sym change);
+      has_a = both.0;
+      has_b = both.1;
+      apart = λ same. true≢false (sym (eq-eqb a b same) ∙ two.0);
+      absent = new.0;
+      absent_back = back;
+      there = there;
+      there_back = linked_comm more b a ∙ there;
+      others = λ k x not_ab not_ba. sym (ap (λ n. linked n k x) change ∙ contains-insert net.edges (edge a b) (edge k x) ∙ ap (λ t. t || linked net k x) (other_pair a b k x not_ab not_ba));
+      not_there = no_pointer_across net r a b good new.0;
+      not_back = no_pointer_across net r b a good back;
+    }
+  where
+    true_from_not : (b : Bool) → not b ≡ false → b ≡ true
+    true_from_not true e = refl
+    true_from_not false e = absurd (true≢false e)
+
+-- an edge that is taken out
+pub edge_unlinked : (net more : Network) (r : Registers) (a b : ℕ) → IsState (state_of more r) → IsTrue (linked more a b) → points r a b ≡ false → points r b a ≡ false → net ≡ without_edge more a b → IsEdgeMore net more r a b
+edge_unlinked net more r a b good there not_there not_back change =
+    let size : net.size ≡ more.size = ap (λ n. n.size) change in
+    let has_a = linked_present more a b good.is_network there in
+    let has_b = linked_present more b a good.is_network (linked_back more b a ∙ there) in
+    let absent : linked net a b ≡ false = ap (λ n. linked n a b) change ∙ contains-remove more.edges (edge a b) (edge a b) ∙ ap (λ t. not t && linked more a b) (same_pair a b) in
+    record {
+      size = size;
+      has_a = subst (λ n. IsTrue (present (record net { size = n }) a)) (sym size) has_a;
+      has_b = subst (λ n. IsTrue (present (record net { size = n }) b)) (sym size) has_b;
+      apart = linked_apart more a b good.is_network there;
+      absent = absent;
+      absent_back = linked_comm net b a ∙ absent;
+      there = there;
+      there_back = linked_comm more b a ∙ there;
+      others = λ k x not_ab not_ba. ap (λ n. linked n k x) change ∙ contains-remove more.edges (edge a b) (edge k x) ∙ ap (λ t. not t && linked more k x) (other_pair a b k x not_ab not_ba);
+      not_there = not_there;
+      not_back = not_back;
+    }
+
+-- from the other end
+pub edge_swapped : (net more : Network) (r : Registers) (a b : ℕ) → IsEdgeMore net more r a b → IsEdgeMore net more r b a
+edge_swapped net more r a b e = record {
+  size = e.size;
+  has_a = e.has_b;
+  has_b = e.has_a;
+  apart = λ same. e.apart (sym same);
+  absent = e.absent_back;
+  absent_back = e.absent;
+  there = e.there_back;
+  there_back = e.there;
+  others = λ k x not_ba not_ab. e.others k x not_ab not_ba;
+  not_there = e.not_back;
+  not_back = e.not_there;
+}
+
+end_here : (opens : Option ℕ → Bool → Bool) (r : Registers) (a b : ℕ) → opens (pointer_of r b) (flag_of r b) ≡ true → end_of opens r b a a ≡ true
+end_here opens r a b open_b = ap (λ o. o && nat_eq a a) open_b ∙ eq-eqb a a refl
+
+end_elsewhere : (opens : Option ℕ → Bool → Bool) (r : Registers) (a b k : ℕ) → k ≢ a → end_of opens r b a k ≡ false
+end_elsewhere opens r a b k apart = and_right (opens (pointer_of r b) (flag_of r b)) (nat_eq k a) (ne_eqb k a apart)
+
+-- at an end there is room to count the other
+pub end_room : (opens : Option ℕ → Bool → Bool) (net more : Network) (r : Registers) (a b : ℕ) (start : List Tally) → IsEdgeMore net more r a b → IsIndexOf opens (state_of net r) start → net.size ≤ 65535 → opens (pointer_of r b) (flag_of r b) ≡ true → CanOpen a b (tally_of start a)
+end_room opens net more r a b start e index few open_b =
+    let t = tally_more opens net more r a b a e in
+    let was = index.counted a e.has_a in
+    let small = tally_small opens (state_of more r) a (let s = e.size in omega arith) in
+    let near = t.open_near in
+    let above = t.open_above in
+    let most = small.open_near in
+    let most_above = small.open_above in
+    let one : one_if (end_of opens r b a a) ≡ 1 = ap one_if (end_here opens r a b open_b) in
+    let x = ap (λ (y : Tally). y.open_near) was in
+    let z = ap (λ (y : Tally). y.open_above) was in
+    record {
+      open_near = omega (arith, near, most, one, x);
+      open_above = λ below.
+        let two : one_if (end_of opens r b a a && nat_lt a b) ≡ 1 = ap (λ t. one_if (t && nat_lt a b)) (end_here opens r a b open_b) ∙ ap one_if (lt-ltb a b below) in
+        omega (arith, above, most_above, two, z);
+    }
+
+-- and it is counted where the edge is
+pub end_counted : (opens : Option ℕ → Bool → Bool) (net more : Network) (r : Registers) (a b : ℕ) (start : List Tally) → IsEdgeMore net more r a b → IsIndexOf opens (state_of more r) start → opens (pointer_of r b) (flag_of r b) ≡ true → CountsOpen a b (tally_of start a)
+end_counted opens net more r a b start e index open_b =
+    let t = tally_more opens net more r a b a e in
+    let was = index.counted a (subst (λ n. IsTrue (present (record more { size = n }) a)) e.size e.has_a) in
+    let near = t.open_near in
+    let above = t.open_above in
+    let one : one_if (end_of opens r b a a) ≡ 1 = ap one_if (end_here opens r a b open_b) in
+    let x = ap (λ (y : Tally). y.open_near) was in
+    let z = ap (λ (y : Tally). y.open_above) was in
+    record {
+      open_near = omega (arith, near, one, x);
+      open_above = λ below.
+        let two : one_if (end_of opens r b a a && nat_lt a b) ≡ 1 = ap (λ t. one_if (t && nat_lt a b)) (end_here opens r a b open_b) ∙ ap one_if (lt-ltb a b below) in
+        omega (arith, above, two, z);
+    }
+
+-- once the first end is told, the other is as it was
+pub second_room : (opens : Option ℕ → Bool → Bool) (net more : Network) (r : Registers) (a b : ℕ) (start half : List Tally) → IsEdgeMore net more r a b → IsIndexOf opens (state_of net r) start → net.size ≤ 65535 → IsOpenTo (end_of opens r b a) b start half → opens (pointer_of r a) (flag_of r a) ≡ true → CanOpen b a (tally_of half b)
+second_room opens net more r a b start half e index few told open_a =
+    can_open_still (end_of opens r b a) b a start half b told (end_elsewhere opens r a b b (λ same. e.apart (sym same)))
+    (end_room opens net more r b a start (edge_swapped net more r a b e) index few open_a)
+
+pub second_counted : (opens : Option ℕ → Bool → Bool) (net more : Network) (r : Registers) (a b : ℕ) (start half : List Tally) → IsEdgeMore net more r a b → IsIndexOf opens (state_of more r) start → IsOpenTo (end_of opens r a b) a half start → opens (pointer_of r b) (flag_of r b) ≡ true → CountsOpen a b (tally_of half a)
+second_counted opens net more r a b start half e index told open_b =
+    counts_open_still (end_of opens r a b) a b start half a told (end_elsewhere opens r b a a e.apart) (end_counted opens net more r a b start e index open_b)
