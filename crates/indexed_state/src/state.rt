@@ -1,8 +1,8 @@
 //! A state with its index.
 
-ghost use Rattle.std.specs.Prelude.{◌≡◌, ◌≤◌, IfOk, IfErr, IfSome, OnOk, OnErr, IsTrue, None, Some};
+ghost use Rattle.std.specs.Prelude.{◌≡◌, ◌≤◌, false, IfOk, IfErr, IfSome, OnOk, OnErr, IsTrue, None, Some};
 ghost use Rattle.graph_store.specs.Fault.{nodes_fault, link_fault, unlink_fault, Explains};
-ghost use Rattle.rule_machine.specs.Network.{present, linked};
+ghost use Rattle.rule_machine.specs.Network.{present, linked, without_edge};
 ghost use Rattle.rule_machine.specs.State.{IsState, opening, points};
 ghost use Rattle.rule_machine.specs.Disturbance.{after_link, after_unlink, after_point, after_flag, without_pointer};
 
@@ -65,6 +65,71 @@ impl<R: Rules> IndexedState<R> {
         NodeView::new(self, node)
     }
 
+    /// Adds the edge between two nodes. `UnknownNode`, `SelfLoop`, `AlreadyLinked`, `TooManyEdges`, `Memory`, in that order; at a
+    /// fault nothing has changed. A shift in two neighbour lists.
+    pub fn link(&mut self, a: Node, b: Node) -> Result<(), GraphFault>
+        ensures ok { OnOk result ((link_fault self.old.network a b ≡ None) × (self.new ≡ after_link self.old a b)) }
+        ensures fault { IfErr result (λ fault. Explains (link_fault self.old.network a b) fault) }
+        ensures kept { OnErr result (self.new ≡ self.old) }
+    {
+        match self.store.link(a, b) {
+            Ok(()) => {
+                self.index.linked(a, b, &self.store, &self.registers);
+                Ok(())
+            }
+            Err(fault) => Err(fault),
+        }
+    }
+
+    /// Sets a node's pointer to null if it is at the other node.
+    fn clear_pointer(&mut self, v: Node, w: Node)
+        requires { IsTrue (present self.old.network v) }
+        ensures registers { self.new.registers ≡ without_pointer self.old.registers v w }
+        ensures network { self.new.network ≡ self.old.network }
+    {
+        if self.registers.points_at(v, w) {
+            self.set_pointer(v, None);
+        }
+    }
+
+    /// Sets to null the pointers by which two nodes are at each other.
+    fn clear_crossing(&mut self, a: Node, b: Node)
+        requires lower { IsTrue (present self.old.network a) }
+        requires upper { IsTrue (present self.old.network b) }
+        ensures registers { self.new.registers ≡ without_pointer (without_pointer self.old.registers a b) b a }
+        ensures network { self.new.network ≡ self.old.network }
+    {
+        self.clear_pointer(a, b);
+        self.clear_pointer(b, a);
+    }
+
+    /// Removes an edge that no pointer crosses.
+    fn take_out(&mut self, a: Node, b: Node)
+        requires linked { IsTrue (linked self.old.network a b) }
+        requires not_there { points self.old.registers a b ≡ false }
+        requires not_back { points self.old.registers b a ≡ false }
+        ensures registers { self.new.registers ≡ self.old.registers }
+        ensures network { self.new.network ≡ without_edge self.old.network a b }
+    {
+        self.store.unlink(a, b).unwrap();
+        self.index.unlinked(a, b, &self.store, &self.registers);
+    }
+
+    /// Removes the edge between two nodes, and sets to null the pointers that crossed it. `UnknownNode`, `SelfLoop`, `NotLinked`, in
+    /// that order; at a fault nothing has changed. A shift in two neighbour lists; takes no memory.
+    pub fn unlink(&mut self, a: Node, b: Node) -> Result<(), GraphFault>
+        ensures ok { OnOk result ((unlink_fault self.old.network a b ≡ None) × (self.new ≡ after_unlink self.old a b)) }
+        ensures fault { IfErr result (λ fault. unlink_fault self.old.network a b ≡ Some fault) }
+        ensures kept { OnErr result (self.new ≡ self.old) }
+    {
+        if let Some(fault) = missing_edge(&self.store, a, b) {
+            return Err(fault);
+        }
+        self.clear_crossing(a, b);
+        self.take_out(a, b);
+        Ok(())
+    }
+
     /// Writes a node's pointer, to null or to a neighbour. Looks at the node's neighbours only where that makes it open or not
     /// open any more, and at the old and the new target. Takes no memory.
     pub fn set_pointer(&mut self, v: Node, target: Option<Node>)
@@ -88,5 +153,22 @@ impl<R: Rules> IndexedState<R> {
         }
         self.registers.set_flag(v, value);
         self.index.flag_changed(v, &self.store, &self.registers);
+    }
+}
+
+/// Why there is no edge between two nodes to remove, if there is none.
+fn missing_edge(store: &EdgeStore, a: Node, b: Node) -> Option<GraphFault>
+    ensures { result ≡ unlink_fault store.now a b }
+{
+    if !store.has(a) || !store.has(b) {
+        return Some(GraphFault::UnknownNode);
+    }
+    if a == b {
+        return Some(GraphFault::SelfLoop);
+    }
+    if store.linked(a, b) {
+        None
+    } else {
+        Some(GraphFault::NotLinked)
     }
 }

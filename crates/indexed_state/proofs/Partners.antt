@@ -1,0 +1,31 @@
+-- Partners and marriages, read off the registers.
+use Rattle.std.proofs.Common.{◌≡◌, ℕ, Bool, true, false, cond, Option, None, Some, is_some, option_and_then, refl, sym, ap, ◌∙◌, ⊎_elim}
+use Rattle.std.proofs.lemmas.Bool.{true≢false}
+use Rattle.rule_machine.specs.State.{State, Registers, IsState, pointer, pointer_of, points, partner, married, holds_at}
+use Rattle.state_lemmas.specs.Neighbours.{option_cases}
+use Rattle.state_lemmas.specs.Pointers.{none_is, partner_from, null_unmarried, unanswered_unmarried, points_true, points_from}
+
+
+-- the node that v points at, if it points back
+abbrev pub answered_by : Registers → ℕ → Option ℕ
+answered_by r v = option_and_then (λ w. cond (points r w v) (Some w) None) (pointer_of r v)
+
+at_pointer : (s : State) (v w : ℕ) → IsState s → pointer s v ≡ Some w → (b : Bool) → points s.registers w v ≡ b → partner s v ≡ cond b (Some w) None
+at_pointer s v w good at true back = partner_from s v w good at (points_true s w v back)
+at_pointer s v w good at false back = none_is (partner s v) (unanswered_unmarried s v w at (λ e. true≢false (sym (points_from s w v e) ∙ back)))
+
+-- a node's partner is the node that it points at, where that one points back
+pub partner_answered : (s : State) (v : ℕ) → IsState s → partner s v ≡ answered_by s.registers v
+partner_answered s v good =
+    ⊎_elim
+    (λ null. none_is (partner s v) (null_unmarried s v null) ∙ sym (ap (option_and_then (λ w. cond (points s.registers w v) (Some w) None)) null))
+    (λ at. at_pointer s v at.0 good at.1 (points s.registers at.0 v) refl ∙ sym (ap (option_and_then (λ w. cond (points s.registers w v) (Some w) None)) at.1))
+    (option_cases (pointer s v))
+
+some_answered : (o : Option ℕ) (test : ℕ → Bool) → is_some (option_and_then (λ w. cond (test w) (Some w) None) o) ≡ holds_at test o
+some_answered None test = refl
+some_answered (Some w) test = elim (test w) as (λ b. is_some (cond b (Some w) None) ≡ b) [ true ↦ refl | false ↦ refl ]
+
+-- it is married where the node that it points at points back
+pub married_answered : (s : State) (v : ℕ) → IsState s → married s v ≡ holds_at (λ w. points s.registers w v) (pointer s v)
+married_answered s v good = ap is_some (partner_answered s v good) ∙ some_answered (pointer s v) (λ w. points s.registers w v)
