@@ -1,10 +1,9 @@
 -- An index that is told of one node's change.
-use Rattle.std.proofs.Common.{◌≡◌, ◌≢◌, ℕ, ◌+◌, ◌<◌, ◌≤◌, ◌++◌, Bool, true, false, not, List, length, take, drop, Option, None, Some, IfSome, nat_eq, IsTrue, refl, sym, ap, ap₂, ◌∙◌, subst, arith}
+use Rattle.std.proofs.Common.{◌≡◌, ℕ, ◌<◌, ◌≤◌, ◌++◌, Bool, true, List, length, take, Option, IfSome, nat_eq, IsTrue, refl, sym, ap, ◌∙◌, subst, arith}
 use Rattle.std.specs.List.{list_any}
-use Rattle.std.specs.List.Sorted.{IsStrictlyIncreasing}
 use Rattle.std.proofs.Math.Seq.{take-append_seam}
 use Rattle.rule_machine.specs.Network.{Network, linked, neighbours, present}
-use Rattle.rule_machine.specs.State.{State, Registers, IsState, pointer, flag, pointer_of, flag_of, with_pointer, with_flag}
+use Rattle.rule_machine.specs.State.{State, Registers, IsState, pointer_of, flag_of}
 use Rattle.rule_machine.specs.RuleTable.{is_open}
 use Rattle.machine_laws.specs.Writes.{pointer-with_pointer_other, flag-with_flag_other, if_some_from}
 use Rattle.state_lemmas.specs.Neighbours.{linked_back, linked_present, present_range}
@@ -13,7 +12,7 @@ use Rattle.suitor_index.specs.declared.tally.Tally.{Tally}
 use Rattle.suitor_index.specs.Tallies.{state_of, tally_of, IsIndexOf}
 use Rattle.suitor_index.specs.Told.{IsCourted, IsRepointed, IsTurned, HasSuitor, HasRoomFor, CanTurn}
 use Rattle.suitor_index.specs.Before.{IsBeforePoint, IsBeforeFlag}
-use Rattle.suitor_index.proofs.Near.{neighbours_rise, listed_linked}
+use Rattle.suitor_index.proofs.Near.{listed_linked}
 use Rattle.suitor_index.proofs.Turned.{AreAlike, near, has_suitor, has_room, can_turn, index_turned}
 
 -- v's registers went from those of the first table to those of the second, and the tallies are of the first

@@ -1,13 +1,12 @@
 -- What is counted at a node says what a search among its neighbours finds.
-use Rattle.std.proofs.Common.{◌≡◌, ℕ, ◌+◌, ◌≤◌, Bool, true, false, cond, ◌&&◌, List, length, reverse, filter, find, Option, Some, None, SomeIff, is_some, nat_lt, IsTrue, refl, sym, ap, ◌∙◌, subst, arith}
-use Rattle.std.specs.List.{count_by, sum_by}
-use Rattle.rule_machine.specs.Network.{present, linked, neighbours}
+use Rattle.std.proofs.Common.{◌≡◌, ℕ, ◌≤◌, Bool, List, length, reverse, Option, Some, None, SomeIff, is_some, nat_lt, IsTrue, sym, ap, ◌∙◌, arith}
+use Rattle.std.specs.List.{sum_by}
+use Rattle.rule_machine.specs.Network.{present, neighbours}
 use Rattle.rule_machine.specs.State.{State, IsState, suits, has_suitor, first_suitor}
 use Rattle.rule_machine.specs.RuleTable.{is_open, first_open, last_open_above}
 use Rattle.state_lemmas.specs.Neighbours.{near_some, linked_back, linked_present, present_range}
-use Rattle.state_lemmas.specs.Pointers.{points_true, suitor_linked, none_is}
 use Rattle.suitor_index.specs.declared.tally.Tally.{Tally}
-use Rattle.suitor_index.specs.Tallies.{tally_of, tally_at, is_open_above, name_if, IsIndexOf}
+use Rattle.suitor_index.specs.Tallies.{tally_of, is_open_above, name_if, IsIndexOf}
 use Rattle.suitor_index.proofs.Sums.{count_some, count_none, count_one, count_reverse}
 
 pub suitors_counted : (opens : Option ℕ → Bool → Bool) (s : State) (ts : List Tally) (v : ℕ) (t : Tally) → IsIndexOf opens s ts → IsTrue (present s.network v) → t ≡ tally_of ts v → nat_lt 0 t.suitors ≡ has_suitor s v

@@ -1,12 +1,11 @@
 -- What an edge changes in what is counted at its two ends.
-use Rattle.std.proofs.Common.{◌≡◌, ◌≢◌, ℕ, ◌+◌, ◌<◌, ◌≤◌, Bool, true, false, cond, ◌&&◌, List, length, Option, None, Some, nat_eq, nat_lt, IsTrue, refl, sym, ap, ◌∙◌, subst, ⊎_elim, arith}
+use Rattle.std.proofs.Common.{◌≡◌, ◌≢◌, ℕ, ◌+◌, Bool, true, false, cond, ◌&&◌, List, Option, nat_eq, nat_lt, IsTrue, refl, sym, ap, ◌∙◌, subst, ⊎_elim, arith}
 use Rattle.std.specs.List.{sum_by}
-use Rattle.std.proofs.lemmas.Bool.{cases_eq, eqb-true, eq-eqb, ne_eqb, false_from_ne_true, true≢false}
+use Rattle.std.proofs.lemmas.Bool.{cases_eq, eq-eqb, ne_eqb}
 use Rattle.rule_machine.specs.Network.{Network, linked, neighbours, present}
-use Rattle.rule_machine.specs.State.{State, Registers, IsState, points, pointer_of, flag_of}
-use Rattle.rule_machine.specs.RuleTable.{is_open}
+use Rattle.rule_machine.specs.State.{Registers, points, pointer_of, flag_of}
 use Rattle.suitor_index.specs.declared.tally.Tally.{Tally}
-use Rattle.suitor_index.specs.Tallies.{state_of, tally_of, tally_at, is_open_above, IsIndexOf}
+use Rattle.suitor_index.specs.Tallies.{state_of, tally_of, tally_at, IsIndexOf}
 use Rattle.suitor_index.specs.Told.{one_if, IsOpenTo}
 use Rattle.suitor_index.proofs.Near.{term, near_turn, near_same}
 use Rattle.suitor_index.proofs.Turned.{tally_is}

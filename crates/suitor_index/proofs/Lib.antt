@@ -6,3 +6,4 @@ pub mod Turned
 pub mod Changed
 pub mod Ends
 pub mod Linked
+pub mod Built

@@ -1,23 +1,21 @@
 -- An index that is told of an edge.
-use Rattle.std.proofs.Common.{◌≡◌, ◌≢◌, ℕ, ◌+◌, ◌<◌, ◌≤◌, Bool, true, false, not, cond, ◌&&◌, ◌||◌, List, length, Option, None, Some, nat_eq, nat_lt, nat_le, IsTrue, refl, sym, ap, ◌∙◌, subst, ⊎_elim, arith}
-use Rattle.std.specs.FinMap as map
+use Rattle.std.proofs.Common.{◌≡◌, ◌≢◌, ℕ, ◌≤◌, Bool, true, false, not, ◌&&◌, ◌||◌, List, Option, None, nat_eq, nat_lt, IsTrue, refl, sym, ap, ◌∙◌, subst, ⊎_elim, arith}
 use Rattle.std.specs.Ordering.{eq_by_cmp}
-use Rattle.std.proofs.lemmas.Bool.{and_parts, eqb-true, eq-eqb, ne_eqb, false_from_ne_true, true≢false, lt-ltb, or_left, and_right}
+use Rattle.std.proofs.lemmas.Bool.{and_parts, eq-eqb, ne_eqb, false_from_ne_true, true≢false, lt-ltb, or_left, and_right}
 use Rattle.std.proofs.lemmas.Cmp.{eq_by_cmp_equiv}
 use Rattle.std.proofs.lemmas.Map.Views.{tells_apart}
-use Rattle.rule_machine.specs.declared.refusal.Refusal.{Refusal}
-use Rattle.rule_machine.specs.Network.{Network, pair_cmp, edge, linked, present, edge_count, with_edge, without_edge}
-use Rattle.rule_machine.specs.State.{State, Registers, IsState, points, pointer_of, flag_of}
-use Rattle.rule_machine.specs.Refuse.{link_refusal, both_present, max_edges}
+use Rattle.rule_machine.specs.Network.{Network, pair_cmp, edge, linked, present, with_edge, without_edge}
+use Rattle.rule_machine.specs.State.{Registers, IsState, points, pointer_of, flag_of}
+use Rattle.rule_machine.specs.Refuse.{link_refusal, both_present}
 use Rattle.machine_laws.specs.Edges.{pair_total, pair_exact, contains-insert, contains-remove, edge_ends, linked_comm}
 use Rattle.state_lemmas.specs.Search.{cond-none}
 use Rattle.state_lemmas.specs.Neighbours.{linked_apart, linked_present, linked_back}
 use Rattle.state_lemmas.specs.Pointers.{points_true, pointer_linked}
 use Rattle.suitor_index.specs.declared.tally.Tally.{Tally}
-use Rattle.suitor_index.specs.Tallies.{state_of, tally_of, tally_at, IsIndexOf}
+use Rattle.suitor_index.specs.Tallies.{state_of, tally_of, IsIndexOf}
 use Rattle.suitor_index.specs.Told.{one_if, IsOpenTo, CanOpen, CountsOpen}
 use Rattle.suitor_index.proofs.Loops.{can_open_still, counts_open_still}
-use Rattle.suitor_index.proofs.Turned.{IsSmall, tally_small}
+use Rattle.suitor_index.proofs.Turned.{tally_small}
 use Rattle.suitor_index.proofs.Ends.{IsEdgeMore, end_of, tally_more}
 
 same_pair : (a b : ℕ) → eq_by_cmp pair_cmp (edge a b) (edge a b) ≡ true
@@ -119,8 +117,8 @@ end_room opens net more r a b start e index few open_b =
     record {
       open_near = omega (arith, near, most, one, x);
       open_above = λ below.
-        let two : one_if (end_of opens r b a a && nat_lt a b) ≡ 1 = ap (λ t. one_if (t && nat_lt a b)) (end_here opens r a b open_b) ∙ ap one_if (lt-ltb a b below) in
-        omega (arith, above, most_above, two, z);
+          let two : one_if (end_of opens r b a a && nat_lt a b) ≡ 1 = ap (λ t. one_if (t && nat_lt a b)) (end_here opens r a b open_b) ∙ ap one_if (lt-ltb a b below) in
+          omega (arith, above, most_above, two, z);
     }
 
 -- and it is counted where the edge is
@@ -136,8 +134,8 @@ end_counted opens net more r a b start e index open_b =
     record {
       open_near = omega (arith, near, one, x);
       open_above = λ below.
-        let two : one_if (end_of opens r b a a && nat_lt a b) ≡ 1 = ap (λ t. one_if (t && nat_lt a b)) (end_here opens r a b open_b) ∙ ap one_if (lt-ltb a b below) in
-        omega (arith, above, two, z);
+          let two : one_if (end_of opens r b a a && nat_lt a b) ≡ 1 = ap (λ t. one_if (t && nat_lt a b)) (end_here opens r a b open_b) ∙ ap one_if (lt-ltb a b below) in
+          omega (arith, above, two, z);
     }
 
 -- once the first end is told, the other is as it was

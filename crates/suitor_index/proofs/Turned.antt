@@ -1,16 +1,16 @@
 -- What one node's registers change in what is counted at the others.
-use Rattle.std.proofs.Common.{◌≡◌, ◌≢◌, ℕ, ◌+◌, ◌*◌, ◌<◌, ◌≤◌, Bool, true, false, cond, ◌&&◌, List, length, Option, None, Some, nat_eq, nat_lt, IsTrue, refl, sym, ap, ap₂, ◌∙◌, subst, arith}
-use Rattle.std.specs.List.{sum_by, count_by, list_any}
+use Rattle.std.proofs.Common.{◌≡◌, ◌≢◌, ℕ, ◌+◌, ◌<◌, ◌≤◌, Bool, true, false, cond, ◌&&◌, List, Option, Some, nat_eq, nat_lt, IsTrue, refl, sym, ap, ap₂, ◌∙◌, subst, arith}
+use Rattle.std.specs.List.{sum_by, list_any}
 use Rattle.std.proofs.lemmas.Bool.{lt-ltb}
 use Rattle.rule_machine.specs.Network.{Network, IsNetwork, linked, neighbours, present}
 use Rattle.rule_machine.specs.State.{State, Registers, IsState, is_at, points, pointer_of, flag_of}
 use Rattle.rule_machine.specs.RuleTable.{is_open}
-use Rattle.state_lemmas.specs.Neighbours.{linked_back, linked_present, present_range}
-use Rattle.state_lemmas.specs.Pointers.{points_true, points_from, suitor_linked, at_from}
+use Rattle.state_lemmas.specs.Neighbours.{linked_back}
+use Rattle.state_lemmas.specs.Pointers.{points_true, suitor_linked, at_from}
 use Rattle.suitor_index.specs.declared.tally.Tally.{Tally}
-use Rattle.suitor_index.specs.Tallies.{state_of, tally_of, tally_at, is_open_above, name_if, IsIndexOf}
-use Rattle.suitor_index.specs.Told.{one_if, IsCourted, IsRepointed, IsTurned, HasSuitor, HasRoomFor, CountsOpen, CanOpen, CanTurn}
-use Rattle.suitor_index.proofs.Near.{term, near_turn, near_le, near_ones, near_names, listed_is_linked}
+use Rattle.suitor_index.specs.Tallies.{state_of, tally_of, tally_at, is_open_above, IsIndexOf}
+use Rattle.suitor_index.specs.Told.{one_if, IsCourted, IsRepointed, IsTurned, HasSuitor, HasRoomFor, CanTurn}
+use Rattle.suitor_index.proofs.Near.{near_turn, near_le, near_ones, near_names, listed_is_linked}
 
 -- two tables of registers that differ at v alone
 pub record AreAlike (v : ℕ) (r q : Registers) : Type 0 where

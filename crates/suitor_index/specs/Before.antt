@@ -1,5 +1,5 @@
 -- What an index was of before a change of which it is told.
-use Rattle.std.specs.Prelude.{◌≡◌, ℕ, Bool, false, true, not, List, Option, None, IsTrue}
+use Rattle.std.specs.Prelude.{◌≡◌, ℕ, Bool, false, not, List, Option, None, IsTrue}
 use Rattle.rule_machine.specs.Network.{Network, linked, with_edge, without_edge}
 use Rattle.rule_machine.specs.State.{State, Registers, IsState, pointer, flag, pointer_of, points, with_pointer, with_flag}
 use Rattle.rule_machine.specs.Refuse.{link_refusal}

@@ -64,3 +64,10 @@ pub record IsRepointed (was is : Option ℕ) (v : ℕ) (before after : List Tall
   pub sum : (k : ℕ) → (tally_of after k).sum + cond (is_at was k) v 0 ≡ (tally_of before k).sum + cond (is_at is k) v 0
   pub open_near : (k : ℕ) → (tally_of after k).open_near ≡ (tally_of before k).open_near
   pub open_above : (k : ℕ) → (tally_of after k).open_above ≡ (tally_of before k).open_above
+
+-- one more neighbour can be counted, whatever it is
+pub record HasRoomForAll (t : Tally) : Type 0 where
+  pub suitors : t.suitors < 65535
+  pub open_near : t.open_near < 65535
+  pub open_above : t.open_above < 65535
+  pub sum : t.sum < 4294901760

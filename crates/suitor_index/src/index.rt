@@ -1,16 +1,18 @@
 //! The index of suitors and open neighbours.
 
-ghost use Rattle.std.specs.Prelude.{◌≡◌, ◌<◌, ◌≤◌, ◌&&◌, IsTrue, is_some, length};
+ghost use Rattle.std.specs.Prelude.{◌≡◌, ◌<◌, ◌≤◌, ◌&&◌, IfOk, IsTrue, is_some, length};
 ghost use Rattle.rule_machine.specs.Network.{present, linked};
 ghost use Rattle.rule_machine.specs.State.{IsState, suits, has_suitor, first_suitor};
 ghost use Rattle.rule_machine.specs.RuleTable.{is_open, first_open, last_open_above};
 ghost use Rattle.suitor_index.specs.Tallies.{state_of, tally_of, IsIndexOf};
 
+use crate::tally::NOTHING;
 use crate::{Tally, scan};
 use graph_store::EdgeStore;
 use registers::Registers;
-use rule_machine::Node;
+use rule_machine::{Node, Want};
 use rule_set::Rules;
+use std::alloc::Global;
 use std::marker::{Model, PhantomData};
 
 /// Who courts each node of a network and which neighbours are open to it under the rules `R`, seen in contracts as the
@@ -34,6 +36,26 @@ impl<R: Rules> Model for SuitorIndex<R> {
 }
 
 impl<R: Rules> SuitorIndex<R> {
+    /// The index of a network, by a look at each node's neighbours. Takes ten bytes or so a node; `Err` if memory runs out.
+    pub fn build(
+        alloc: Global,
+        store: &EdgeStore,
+        registers: &Registers,
+    ) -> Result<SuitorIndex<R>, Want>
+        requires { IsState (state_of store.now registers.now) }
+        ensures { IfOk result (λ index. IsIndexOf R.table.opens (state_of store.now registers.now) index) }
+    {
+        let mut tallies = vec![in alloc; NOTHING; store.nodes() as usize + 1]?;
+        for name in 1..store.nodes() + 1 {
+            let v = Node::new(name).unwrap();
+            tallies[v.place()] = scan::count::<R>(store.neighbours(v), registers, v);
+        }
+        Ok(SuitorIndex {
+            tallies,
+            rules: PhantomData,
+        })
+    }
+
     // What is counted at a node.
     fn tally(&self, v: Node) -> Tally
         requires { v < length self.now }

@@ -1,8 +1,12 @@
 //! Looks at a node's neighbours one after another.
 
-ghost use Rattle.std.specs.Prelude.{◌≡◌, ◌<◌, ◌&&◌, All, find, length, nat_lt, reverse};
+ghost use Rattle.std.specs.Prelude.{◌≡◌, ◌<◌, ◌≤◌, ◌&&◌, All, find, length, nat_lt, reverse};
+ghost use Rattle.std.specs.List.{count_by, sum_by};
+ghost use Rattle.suitor_index.specs.Tallies.{name_if};
 ghost use Rattle.rule_machine.specs.State.{points, pointer_of, flag_of};
 
+use crate::Tally;
+use crate::tally::NOTHING;
 use registers::Registers;
 use rule_machine::Node;
 use rule_set::Rules;
@@ -59,4 +63,22 @@ pub(crate) fn last_open_above<R: Rules>(
         }
     }
     None
+}
+
+/// What is counted at v, whose neighbours these nodes are.
+pub(crate) fn count<R: Rules>(nodes: &[Node], registers: &Registers, v: Node) -> Tally
+    requires few { length nodes.now ≤ 65535 }
+    requires pointers_in { All (λ w. w < length registers.now.pointers) nodes.now }
+    requires flags_in { All (λ w. w < length registers.now.flags) nodes.now }
+    ensures suitors { result.suitors ≡ count_by (λ w. points registers.now w v) nodes.now }
+    ensures open_near { result.open_near ≡ count_by (λ w. R.table.opens (pointer_of registers.now w) (flag_of registers.now w)) nodes.now }
+    ensures open_above { result.open_above ≡ count_by (λ w. R.table.opens (pointer_of registers.now w) (flag_of registers.now w) && nat_lt v w) nodes.now }
+    ensures sum { result.sum ≡ sum_by (name_if (λ w. points registers.now w v)) nodes.now }
+{
+    let mut tally = NOTHING;
+    for &w in nodes {
+        let is_suitor = registers.points_at(w, v);
+        tally = tally.with_neighbour(v, w, is_suitor, is_open::<R>(registers, w));
+    }
+    tally
 }

@@ -1,6 +1,6 @@
 use Rattle.std.proofs.Common.{◌≡◌, not, ap, ap₂, sym, subst, ◌∙◌, length, refl}
 use Rattle.std.specs.List.Sorted.{IsStrictlyIncreasing}
-use Rattle.rule_machine.specs.State.{flag_of, pointer_of}
+use Rattle.rule_machine.specs.State.{pointer_of}
 use Rattle.rule_machine.specs.RuleTable.{is_open}
 use Rattle.suitor_index.specs.Tallies.{state_of}
 use Rattle.suitor_index.proofs.Near.{neighbours_rise}

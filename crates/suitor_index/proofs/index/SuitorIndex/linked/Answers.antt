@@ -1,4 +1,4 @@
-use Rattle.std.proofs.Common.{◌≤◌, ap, sym, subst, ◌∙◌, length}
+use Rattle.std.proofs.Common.{ap, sym, subst, ◌∙◌, length}
 use Rattle.suitor_index.specs.Tallies.{state_of, IsIndexOf}
 use Rattle.suitor_index.proofs.Changed.{few_nodes, written_whole}
 use Rattle.suitor_index.proofs.Ends.{index_more}
