@@ -12,6 +12,7 @@ use Rattle.graph_store.specs.Fault.{link_fault, unlink_fault}
 use Rattle.graph_store.specs.declared.fault.GraphFault.TheVariants as fault
 use Rattle.machine_laws.specs.LeastMoves.{IsTable}
 use Rattle.machine_laws.specs.Accepted.{accepted_keeps}
+use Rattle.machine_laws.specs.Keeps.{unlink_keeps}
 use Rattle.rule_machine.specs.declared.event.Event.{Event}
 use Rattle.rule_machine.specs.declared.reply.Reply.{Reply}
 use Rattle.rule_machine.specs.declared.reply.Reply.TheVariants.{Accepted}
@@ -50,10 +51,9 @@ pub link_leaves_state : (t : RuleTable) → IsTable t → (net net' : Network) (
 link_leaves_state t table net net' r a b good none is =
     subst (λ n. IsState (state_of n r)) (sym is) (accepted_keeps t table (state_of net r) good (Link a b) (link_refusal-fault net a b ∙ ap (option_and_then refused_as) none))
 
-pub unlink_leaves_state : (t : RuleTable) → IsTable t → (net net' : Network) (r r' : Registers) (a b : ℕ) → IsState (state_of net r) → unlink_fault net a b ≡ None → net' ≡ without_edge net a b → r' ≡ without_pointer (without_pointer r a b) b a → IsState (state_of net' r')
-unlink_leaves_state t table net net' r r' a b good none is written =
-    subst (λ q. IsState (state_of net' q)) (sym written)
-    (subst (λ n. IsState (state_of n (without_pointer (without_pointer r a b) b a))) (sym is) (accepted_keeps t table (state_of net r) good (Unlink a b) (unlink_refusal-fault net a b ∙ ap (option_and_then refused_as) none)))
+pub unlink_leaves_state : (net net' : Network) (r r' : Registers) (a b : ℕ) → IsState (state_of net r) → net' ≡ without_edge net a b → r' ≡ without_pointer (without_pointer r a b) b a → IsState (state_of net' r')
+unlink_leaves_state net net' r r' a b good is written =
+    subst IsState (λ i. state_of (sym is i) (sym written i)) (unlink_keeps (state_of net r) a b good)
 
 -- what an unlink that is not refused answers
 pub unlinked_answer : (t : RuleTable) (s : State) (net net' : Network) (r r' : Registers) (a b : ℕ) → state_of net r ≡ s → unlink_fault net a b ≡ None → net' ≡ without_edge net a b → r' ≡ without_pointer (without_pointer r a b) b a → Answered t s (Unlink a b) Accepted (state_of net' r')
