@@ -24,8 +24,9 @@ pub(crate) fn net_of<R: Rules>(rt: &impl Abort, alloc: Global, nodes: u32) -> Ne
 /// Compares the enabled nodes, in their order, and their rules with these.
 fn expect_enabled<R: Rules>(rt: &impl Abort, net: &Net<R>, nodes: &[(Node, Act)]) {
     assert!(rt; net.is_quiet() == nodes.is_empty());
-    assert!(rt; net.enabled().len() == nodes.len());
-    for (listed, (v, act)) in net.enabled().iter().zip(nodes.iter()) {
+    let enabled = net.enabled().to_list().expect(rt, "memory");
+    assert!(rt; enabled.len() == nodes.len());
+    for (listed, (v, act)) in enabled.iter().zip(nodes.iter()) {
         assert!(rt; listed == v);
         assert!(rt; net.guard(*v) == Some(*act));
     }

@@ -1,5 +1,5 @@
 -- What a network keeps after a change.
-use Rattle.std.proofs.Common.{◌≡◌, ℕ, ◌+◌, ◌<◌, Bool, true, false, cond, not, ◌&&◌, List, [], ◌∷◌, ◌++◌, length, take, drop, get_or, zip, None, Some, option_and_then, Result, Ok, Err, IfOk, IsTrue, nat_eq, nat_le, refl, sym, ap, ◌∙◌, subst, arith}
+use Rattle.std.proofs.Common.{◌≡◌, ℕ, ◌+◌, ◌<◌, Bool, true, false, cond, not, ◌&&◌, List, [], ◌∷◌, ◌++◌, length, take, drop, get_or, zip, None, Some, option_and_then, Result, Ok, Err, IfOk, OnErr, IsSomeAnd, IsTrue, inl, inr, nat_eq, nat_le, refl, sym, ap, ◌∙◌, subst, arith}
 use Rattle.std.proofs.lemmas.Bool.{and_parts, leb-true}
 use Rattle.rule_machine.specs.declared.refusal.Refusal.TheVariants.{UnknownNode, SelfLoop, AlreadyLinked, NotLinked, TooManyEdges}
 use Rattle.rule_machine.specs.declared.event.Event.TheVariants.{Link, Unlink}
@@ -7,21 +7,23 @@ use Rattle.rule_machine.specs.Network.{Network, linked, edge_count, with_edge, w
 use Rattle.rule_machine.specs.State.{State, Registers, IsState}
 use Rattle.rule_machine.specs.RuleTable.{RuleTable}
 use Rattle.rule_machine.specs.Disturbance.{without_pointer}
-use Rattle.rule_machine.specs.Refuse.{both_present, link_refusal, unlink_refusal, max_edges}
+use Rattle.rule_machine.specs.Refuse.{both_present, link_refusal, unlink_refusal, refusal_of, max_edges}
 use Rattle.graph_store.specs.Fault.{link_fault, unlink_fault}
 use Rattle.graph_store.specs.declared.fault.GraphFault.TheVariants as fault
 use Rattle.machine_laws.specs.LeastMoves.{IsTable}
 use Rattle.machine_laws.specs.Accepted.{accepted_keeps}
+use Rattle.machine_laws.specs.Keeps.{unlink_keeps}
 use Rattle.rule_machine.specs.declared.event.Event.{Event}
 use Rattle.rule_machine.specs.declared.reply.Reply.{Reply}
 use Rattle.rule_machine.specs.declared.reply.Reply.TheVariants.{Accepted}
 use Rattle.rule_machine.specs.Answer.{Answers}
 use Rattle.rule_machine.specs.Least.{reply_by, state_by, reply_of, state_after, replies_of, state_after_all}
 use Rattle.rule_machine.specs.Run.{Run}
+use Rattle.std.proofs.lemmas.Option.{slice_get-get_or}
 use Rattle.std.proofs.lemmas.List.{take_more, drop_more, append_assoc}
 use Rattle.machine_laws.specs.LeastAnswers.{least_answers}
 use Rattle.machine_laws.specs.Runs.{spent_after_all, least_run}
-use Rattle.rule_engine.specs.Applied.{Applies, Answered}
+use Rattle.rule_engine.specs.Applied.{Applies, Answered, StopsAt, takes_memory}
 use Rattle.rule_engine.specs.Kept.{state_of, moment}
 use Rattle.rule_engine.specs.Refused.{refused_as}
 
@@ -49,10 +51,9 @@ pub link_leaves_state : (t : RuleTable) → IsTable t → (net net' : Network) (
 link_leaves_state t table net net' r a b good none is =
     subst (λ n. IsState (state_of n r)) (sym is) (accepted_keeps t table (state_of net r) good (Link a b) (link_refusal-fault net a b ∙ ap (option_and_then refused_as) none))
 
-pub unlink_leaves_state : (t : RuleTable) → IsTable t → (net net' : Network) (r r' : Registers) (a b : ℕ) → IsState (state_of net r) → unlink_fault net a b ≡ None → net' ≡ without_edge net a b → r' ≡ without_pointer (without_pointer r a b) b a → IsState (state_of net' r')
-unlink_leaves_state t table net net' r r' a b good none is written =
-    subst (λ q. IsState (state_of net' q)) (sym written)
-    (subst (λ n. IsState (state_of n (without_pointer (without_pointer r a b) b a))) (sym is) (accepted_keeps t table (state_of net r) good (Unlink a b) (unlink_refusal-fault net a b ∙ ap (option_and_then refused_as) none)))
+pub unlink_leaves_state : (net net' : Network) (r r' : Registers) (a b : ℕ) → IsState (state_of net r) → net' ≡ without_edge net a b → r' ≡ without_pointer (without_pointer r a b) b a → IsState (state_of net' r')
+unlink_leaves_state net net' r r' a b good is written =
+    subst IsState (λ i. state_of (sym is i) (sym written i)) (unlink_keeps (state_of net r) a b good)
 
 -- what an unlink that is not refused answers
 pub unlinked_answer : (t : RuleTable) (s : State) (net net' : Network) (r r' : Registers) (a b : ℕ) → state_of net r ≡ s → unlink_fault net a b ≡ None → net' ≡ without_edge net a b → r' ≡ without_pointer (without_pointer r a b) b a → Answered t s (Unlink a b) Accepted (state_of net' r')
@@ -105,3 +106,19 @@ rest_more t here next end events i event within is step so_far =
     ap (λ u. state_after_all t u (drop (i + 1) events)) step
     ∙ ap (state_after_all t here) (sym (drop_more events i event within ∙ ap (λ e. e ∷ drop (i + 1) events) (sym is)))
     ∙ so_far
+
+-- where an event that could not be had leaves the events before it
+pub stopped_at : (t : RuleTable) (s here s' : State) (events : List Event) (i : ℕ) (event : Event) → i < length events → event ≡ get_or events i event → here ≡ state_after_all t s (take i events) → s' ≡ here → (refusal_of t here event ≡ None) × IsTrue (takes_memory event) → StopsAt t s events i s'
+stopped_at t s here s' events i event within is so_far kept want = record {
+  next = within;
+  state = kept ∙ so_far;
+  cause = inr (subst (λ o. IsSomeAnd o (λ e. (refusal_of t s' e ≡ None) × IsTrue (takes_memory e))) (sym (slice_get-get_or events i event within ∙ ap Some (sym is))) (subst (λ u. (refusal_of t u event ≡ None) × IsTrue (takes_memory event)) (sym kept) want));
+}
+
+-- with no list for the replies, which could not be had, no event was carried out
+pub stopped_first : (t : RuleTable) (s : State) (events : List Event) → (length events ≡ 0 → ⊥) → StopsAt t s events 0 s
+stopped_first t s events some = record { next = omega arith; state = refl; cause = inl refl }
+
+pub on_err : {T E P : Type 0} (r : Result T E) → P → OnErr r P
+on_err (Ok x) p = tt
+on_err (Err e) p = p

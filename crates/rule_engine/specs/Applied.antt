@@ -1,12 +1,12 @@
 -- What carrying out an event brings.
-use Rattle.std.specs.Prelude.{◌≡◌, Bool, true, false, None, Result, IfOk, OnOk, OnErr, IsTrue}
+use Rattle.std.specs.Prelude.{◌≡◌, ℕ, ◌<◌, ◌⊎◌, Bool, true, false, List, length, take, slice_get, IsSomeAnd, None, Result, IfOk, OnOk, OnErr, IsTrue}
 use Rattle.rule_machine.specs.declared.event.Event.{Event}
 use Rattle.rule_machine.specs.declared.event.Event.TheVariants.{Link, Unlink, Point, Flag, Step, Show, Enabled, Matching}
 use Rattle.rule_machine.specs.declared.reply.Reply.{Reply}
 use Rattle.rule_machine.specs.State.{State}
 use Rattle.rule_machine.specs.RuleTable.{RuleTable}
 use Rattle.rule_machine.specs.Refuse.{refusal_of}
-use Rattle.rule_machine.specs.Least.{reply_of, state_after}
+use Rattle.rule_machine.specs.Least.{reply_of, state_after, state_after_all}
 
 -- whether an event may take memory where it is not refused
 abbrev pub takes_memory : Event → Bool
@@ -31,3 +31,10 @@ pub record Applies {E : Type 0} (t : RuleTable) (s : State) (event : Event) (res
 pub record Answered (t : RuleTable) (s : State) (event : Event) (answer : Reply) (s' : State) : Type 0 where
   pub reply : answer ≡ reply_of t s event
   pub state : s' ≡ state_after t s event
+
+-- Of events the first k were carried out, and then there was no memory: for the next one, which is not refused and may
+-- take some, or, before the first, for the list of the replies.
+pub record StopsAt (t : RuleTable) (s : State) (events : List Event) (k : ℕ) (s' : State) : Type 0 where
+  pub next : k < length events
+  pub state : s' ≡ state_after_all t s (take k events)
+  pub cause : (k ≡ 0) ⊎ IsSomeAnd (slice_get events k) (λ event. (refusal_of t s' event ≡ None) × IsTrue (takes_memory event))

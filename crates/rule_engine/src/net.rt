@@ -13,7 +13,7 @@ ghost use Rattle.machine_laws.specs.Runs.{spent_after_all};
 ghost use Rattle.rule_machine.specs.Answer.{Answers};
 ghost use Rattle.rule_machine.specs.declared.event.Event.TheVariants.{Link, Unlink, Point, Flag, Step, Show, Enabled, Matching};
 ghost use Rattle.rule_engine.specs.Kept.{guard_at, IsAnswered, moment};
-ghost use Rattle.rule_engine.specs.Applied.{Applies, Answered, takes_memory};
+ghost use Rattle.rule_engine.specs.Applied.{Applies, Answered, StopsAt, takes_memory};
 ghost use Rattle.rule_engine.specs.Choosing.{verdict_of, verdicts_of};
 
 use crate::edits::{clear_pointer, refusal_of, refused_point};
@@ -161,13 +161,14 @@ impl<R: Rules> Net<R> {
     }
 
     /// Carries out events one after another: a run of the rule machine from the state before to the state after. At
-    /// want of memory, the events before it have been carried out.
+    /// want of memory the events before the one that wanted it have been carried out, or none where it was wanted for
+    /// the list of the replies.
     pub fn apply_all(&mut self, events: &[Event]) -> Result<Listing<Reply>, Want>
         ensures replies { IfOk result (λ replies. replies ≡ replies_of R.table self.old events.now) }
         ensures state { OnOk result (self.new ≡ state_after_all R.table self.old events.now) }
         ensures run { IfOk result (λ replies. (n : ℕ) → Run R.table (moment self.old n) (zip events.now replies)
             (moment self.new (spent_after_all n replies))) }
-        ensures err { OnErr result ((k : ℕ) × (k ≤ length events.now) × (self.new ≡ state_after_all R.table self.old (take k events.now))) }
+        ensures err { OnErr result ((k : ℕ) × StopsAt R.table self.old events.now k self.new) }
     {
         let mut replies = Vec::with_capacity(self.alloc, events.len())?;
         for event in events {

@@ -1,9 +1,10 @@
 use Rattle.std.proofs.Common.{◌≡◌, ◌++◌, ◌+◌, ap, sym, subst, ◌∙◌, arith}
 use Rattle.rule_machine.specs.State.{IsState}
 use Rattle.rule_machine.specs.Least.{replies_of, state_after_all}
+use Rattle.std.proofs.lemmas.Bool.{true≢false}
 use Rattle.std.proofs.lemmas.List.{drop_all, append-nil}
 use Rattle.machine_laws.specs.LeastMoves.{IsTable}
-use Rattle.rule_engine.proofs.Keeping.{state_after_more, replies_more, rest_more, run_from}
+use Rattle.rule_engine.proofs.Keeping.{state_after_more, replies_more, rest_more, run_from, stopped_at, stopped_first, on_err}
 use Rattle.rule_engine.proofs.Scanned.{ok_branch}
 use Rattle.rule_engine.proofs.net.Net.apply_all.Goals as goal
 
@@ -31,3 +32,11 @@ loop-event-preserved g c =
       count = c.push.ensures.len ∙ ok_branch _ _ _ _ c.unwrap.ensures ∙ ap (λ n. n + 1) inv.count;
       room = omega (arith, c.push.ensures.capacity, inv.room);
     }
+
+pub returns-in-Err-clause-err : goal.returns-in-Err-clause-err
+returns-in-Err-clause-err g c =
+    (c.loop-event.event-index, stopped_at g.R.Rules.table c.args.self.now c.loop-event.self c.apply.new.self c.args.events.now c.loop-event.event-index c.event-item.result c.loop-event-test.true c.event-item.is c.loop-event.invariant.here c.in-Err.ensures.kept c.in-Err.ensures.want)
+
+pub returns-in_err-replies-clause-err : goal.returns-in_err-replies-clause-err
+returns-in_err-replies-clause-err g c =
+    on_err c.from_residual.result (0, stopped_first g.R.Rules.table c.args.self.now c.args.events.now (λ none. true≢false (sym (c.in_err-replies.ensures.succeeds none))))
