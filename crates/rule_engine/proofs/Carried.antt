@@ -5,18 +5,24 @@ use Rattle.rule_machine.specs.declared.act.Act.{Act}
 use Rattle.rule_machine.specs.declared.act.Act.TheVariants.{Update, Marry, Seduce, Abandon}
 use Rattle.rule_machine.specs.declared.choice.Item.{Item}
 use Rattle.rule_machine.specs.declared.moved.Moved.{Moved}
+use Rattle.rule_machine.specs.declared.verdict.Verdict.{Verdict}
 use Rattle.rule_machine.specs.Network.{present}
 use Rattle.rule_machine.specs.State.{State, Registers, IsState, holds_at, points, with_flag}
 use Rattle.rule_machine.specs.RuleTable.{RuleTable}
 use Rattle.rule_machine.specs.Step.{written, after_move, registers_after}
+use Rattle.rule_machine.specs.Refuse.{step_refusal}
 use Rattle.rule_machine.specs.Least.{least_moves}
 use Rattle.machine_laws.specs.Keeps.{IsMoveIn}
 use Rattle.machine_laws.specs.LeastMoves.{IsTable, least_moves_in, step_keeps}
-use Rattle.rule_engine.specs.Choosing.{flag_by, flag_written, flag_read_by, flag_read, pointer_by, pointer_written}
+use Rattle.rule_engine.specs.Choosing.{AreLeast, verdicts_of, flag_by, flag_written, flag_read_by, flag_read, pointer_by, pointer_written}
 use Rattle.rule_engine.proofs.Keeping.{present_below}
 use Rattle.rule_engine.proofs.Partners.{married_answered}
 
--- each move of a choice is of a node that has a place
+-- the moves from verdicts are the least moves of the choice, in a state that is the one that the verdicts are of
+pub least_carried : (t : RuleTable) (s seen : State) (items : List Item) (verdicts : List Verdict) (moves : List Moved) → s ≡ seen → verdicts ≡ verdicts_of t seen items → step_refusal t seen items ≡ None → AreLeast verdicts moves → moves ≡ least_moves t s items
+least_carried t s seen items verdicts moves same is none least = least t seen items is none ∙ ap (λ u. least_moves t u items) (sym same)
+
+-- each of them is of a node that has a place
 pub moves_within : (t : RuleTable) → IsTable t → (s : State) (items : List Item) (moves : List Moved) (places : ℕ) → moves ≡ least_moves t s items → places ≡ s.network.size + 1 → (k : ℕ) (d : Moved) → k < length moves → (get_or moves k d).node < places
 moves_within t table s items moves places is count k d below =
     let all : All (IsMoveIn s.network) moves = subst (All (IsMoveIn s.network)) (sym is) (All-from_recursion (IsMoveIn s.network) (least_moves t s items) (least_moves_in t table s items)) in

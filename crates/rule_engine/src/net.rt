@@ -140,7 +140,8 @@ impl<R: Rules> Net<R> {
     /// Carries out an event: a refusal, the change of the network, the moves of a step in which each free target is
     /// the least allowed one, or an answer. Want of memory comes after every refusal and changes nothing; `Unlink`,
     /// `Point`, `Flag` and `Show` take no memory. An accepted change looks again at guards near it alone: `Link` at its
-    /// two ends, the others at the nodes whose registers or links change and at their neighbours.
+    /// two ends, the others at the nodes whose registers or links change and at their neighbours. A step costs two looks
+    /// at each chosen node beside that, and a sort of its moves where they don't ascend.
     pub fn apply(&mut self, event: &Event) -> Result<Reply, Want>
         ensures reply { IfOk result (λ reply. reply ≡ reply_of R.table self.old event.now) }
         ensures state { OnOk result (self.new ≡ state_after R.table self.old event.now) }

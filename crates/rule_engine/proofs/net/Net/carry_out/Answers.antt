@@ -6,9 +6,8 @@ use Rattle.rule_machine.specs.Step.{registers_after}
 use Rattle.rule_machine.specs.Least.{least_moves, reply_by, state_by, reply_of, state_after}
 use Rattle.machine_laws.specs.LeastMoves.{IsTable}
 use Rattle.rule_engine.specs.Kept.{state_of}
-use Rattle.rule_engine.specs.Choosing.{verdicts_of}
 use Rattle.rule_engine.proofs.Again.{kept_moved}
-use Rattle.rule_engine.proofs.Carried.{moves_within, moves_present, carried_state, written_in_two}
+use Rattle.rule_engine.proofs.Carried.{least_carried, moves_within, moves_present, carried_state, written_in_two}
 use Rattle.rule_engine.proofs.net.Net.carry_out.Goals as goal
 
 pub write_moves-requires-clause-flags_in : goal.write_moves-requires-clause-flags_in
@@ -18,9 +17,7 @@ write_moves-requires-clause-flags_in g c =
     let t = g.R.Rules.table in
     let s = state_of c.self.inside.store c.self.inside.registers in
     let items = c.args.choice.now in
-    let none : step_refusal t s items ≡ None = ap (λ u. step_refusal t u items) c.self.view_is ∙ c.requires.accepted in
-    let verdicts : c.args.verdicts.now ≡ verdicts_of t s items = c.requires.verdicts ∙ ap (λ u. verdicts_of t u items) (sym c.self.view_is) in
-    let found : c.in_ok-moves.moves.items ≡ least_moves t s items = c.in_ok-moves.ensures t s items verdicts none in
+    let found : c.in_ok-moves.moves.items ≡ least_moves t s items = least_carried t s c.args.self.now items c.args.verdicts.now c.in_ok-moves.moves.items c.self.view_is c.requires.verdicts c.requires.accepted c.in_ok-moves.ensures in
     let moves : c.deref.result.now ≡ least_moves t s items = c.deref.ensures.value ∙ found in
     moves_within t table s items c.deref.result.now (length c.self.inside.registers.flags) moves c.self.invariant.is_state.flags_len
 
@@ -31,9 +28,7 @@ write_moves-requires-clause-pointers_in g c =
     let t = g.R.Rules.table in
     let s = state_of c.self.inside.store c.self.inside.registers in
     let items = c.args.choice.now in
-    let none : step_refusal t s items ≡ None = ap (λ u. step_refusal t u items) c.self.view_is ∙ c.requires.accepted in
-    let verdicts : c.args.verdicts.now ≡ verdicts_of t s items = c.requires.verdicts ∙ ap (λ u. verdicts_of t u items) (sym c.self.view_is) in
-    let found : c.in_ok-moves.moves.items ≡ least_moves t s items = c.in_ok-moves.ensures t s items verdicts none in
+    let found : c.in_ok-moves.moves.items ≡ least_moves t s items = least_carried t s c.args.self.now items c.args.verdicts.now c.in_ok-moves.moves.items c.self.view_is c.requires.verdicts c.requires.accepted c.in_ok-moves.ensures in
     let moves : c.deref.result.now ≡ least_moves t s items = c.deref.ensures.value ∙ found in
     moves_within t table s items c.deref.result.now (length c.self.inside.registers.pointers) moves c.self.invariant.is_state.pointers_len
 
@@ -44,9 +39,7 @@ look_round_movers-requires-clause-state g c =
     let t = g.R.Rules.table in
     let s = state_of c.self.inside.store c.self.inside.registers in
     let items = c.args.choice.now in
-    let none : step_refusal t s items ≡ None = ap (λ u. step_refusal t u items) c.self.view_is ∙ c.requires.accepted in
-    let verdicts : c.args.verdicts.now ≡ verdicts_of t s items = c.requires.verdicts ∙ ap (λ u. verdicts_of t u items) (sym c.self.view_is) in
-    let found : c.in_ok-moves.moves.items ≡ least_moves t s items = c.in_ok-moves.ensures t s items verdicts none in
+    let found : c.in_ok-moves.moves.items ≡ least_moves t s items = least_carried t s c.args.self.now items c.args.verdicts.now c.in_ok-moves.moves.items c.self.view_is c.requires.verdicts c.requires.accepted c.in_ok-moves.ensures in
     let moves : c.deref.result.now ≡ least_moves t s items = c.deref.ensures.value ∙ found in
     carried_state t table s c.self.invariant.is_state items c.deref.result.now c.write_moves.new.registers moves c.write_moves.ensures
 
@@ -57,9 +50,7 @@ look_round_movers-requires-clause-have g c =
     let t = g.R.Rules.table in
     let s = state_of c.self.inside.store c.self.inside.registers in
     let items = c.args.choice.now in
-    let none : step_refusal t s items ≡ None = ap (λ u. step_refusal t u items) c.self.view_is ∙ c.requires.accepted in
-    let verdicts : c.args.verdicts.now ≡ verdicts_of t s items = c.requires.verdicts ∙ ap (λ u. verdicts_of t u items) (sym c.self.view_is) in
-    let found : c.in_ok-moves.moves.items ≡ least_moves t s items = c.in_ok-moves.ensures t s items verdicts none in
+    let found : c.in_ok-moves.moves.items ≡ least_moves t s items = least_carried t s c.args.self.now items c.args.verdicts.now c.in_ok-moves.moves.items c.self.view_is c.requires.verdicts c.requires.accepted c.in_ok-moves.ensures in
     let moves : c.deref-2.result.now ≡ least_moves t s items = c.deref-2.ensures.value ∙ found in
     moves_present t table s items c.deref-2.result.now moves
 
@@ -70,9 +61,7 @@ invariant_of-self g c =
     let t = g.R.Rules.table in
     let s = state_of c.self.inside.store c.self.inside.registers in
     let items = c.args.choice.now in
-    let none : step_refusal t s items ≡ None = ap (λ u. step_refusal t u items) c.self.view_is ∙ c.requires.accepted in
-    let verdicts : c.args.verdicts.now ≡ verdicts_of t s items = c.requires.verdicts ∙ ap (λ u. verdicts_of t u items) (sym c.self.view_is) in
-    let found : c.in_ok-moves.moves.items ≡ least_moves t s items = c.in_ok-moves.ensures t s items verdicts none in
+    let found : c.in_ok-moves.moves.items ≡ least_moves t s items = least_carried t s c.args.self.now items c.args.verdicts.now c.in_ok-moves.moves.items c.self.view_is c.requires.verdicts c.requires.accepted c.in_ok-moves.ensures in
     let moves : c.deref.result.now ≡ least_moves t s items = c.deref.ensures.value ∙ found in
     let wrote : c.write_moves.new.registers ≡ registers_after s c.deref.result.now = c.write_moves.ensures ∙ written_in_two s c.self.invariant.is_state c.deref.result.now in
     let good = carried_state t table s c.self.invariant.is_state items c.deref.result.now c.write_moves.new.registers moves c.write_moves.ensures in
@@ -85,8 +74,7 @@ returns g c =
     let s = state_of c.self.inside.store c.self.inside.registers in
     let items = c.args.choice.now in
     let none : step_refusal t s items ≡ None = ap (λ u. step_refusal t u items) c.self.view_is ∙ c.requires.accepted in
-    let verdicts : c.args.verdicts.now ≡ verdicts_of t s items = c.requires.verdicts ∙ ap (λ u. verdicts_of t u items) (sym c.self.view_is) in
-    let found : c.in_ok-moves.moves.items ≡ least_moves t s items = c.in_ok-moves.ensures t s items verdicts none in
+    let found : c.in_ok-moves.moves.items ≡ least_moves t s items = least_carried t s c.args.self.now items c.args.verdicts.now c.in_ok-moves.moves.items c.self.view_is c.requires.verdicts c.requires.accepted c.in_ok-moves.ensures in
     let moves : c.deref.result.now ≡ least_moves t s items = c.deref.ensures.value ∙ found in
     let wrote : c.write_moves.new.registers ≡ registers_after s (least_moves t s items) = c.write_moves.ensures ∙ written_in_two s c.self.invariant.is_state c.deref.result.now ∙ ap (registers_after s) moves in
     record {
