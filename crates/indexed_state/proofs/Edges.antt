@@ -44,9 +44,9 @@ new_edge net a b none =
     let ends = both (present net a) (present net b) p.present in
     record {
       accepted = ap (λ t. cond t (Some UnknownNode) (cond (nat_eq a b) (Some SelfLoop) (cond (linked net a b) (Some AlreadyLinked) (cond (nat_le max_edges (edge_count net)) (Some TooManyEdges) None)))) p.present
-        ∙ ap (λ t. cond t (Some SelfLoop) (cond (linked net a b) (Some AlreadyLinked) (cond (nat_le max_edges (edge_count net)) (Some TooManyEdges) None))) p.apart
-        ∙ ap (λ t. cond t (Some AlreadyLinked) (cond (nat_le max_edges (edge_count net)) (Some TooManyEdges) None)) p.fresh
-        ∙ ap (λ t. cond t (Some TooManyEdges) None) p.room;
+          ∙ ap (λ t. cond t (Some SelfLoop) (cond (linked net a b) (Some AlreadyLinked) (cond (nat_le max_edges (edge_count net)) (Some TooManyEdges) None))) p.apart
+          ∙ ap (λ t. cond t (Some AlreadyLinked) (cond (nat_le max_edges (edge_count net)) (Some TooManyEdges) None)) p.fresh
+          ∙ ap (λ t. cond t (Some TooManyEdges) None) p.room;
       lower = ends.0;
       upper = ends.1;
       apart = p.apart;

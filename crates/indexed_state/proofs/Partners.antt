@@ -5,7 +5,6 @@ use Rattle.rule_machine.specs.State.{State, Registers, IsState, pointer, pointer
 use Rattle.state_lemmas.specs.Neighbours.{option_cases}
 use Rattle.state_lemmas.specs.Pointers.{none_is, partner_from, null_unmarried, unanswered_unmarried, points_true, points_from}
 
-
 -- the node that v points at, if it points back
 abbrev pub answered_by : Registers → ℕ → Option ℕ
 answered_by r v = option_and_then (λ w. cond (points r w v) (Some w) None) (pointer_of r v)

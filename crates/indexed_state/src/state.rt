@@ -39,6 +39,27 @@ impl<R: Rules> Model for IndexedState<R> {
 }
 
 impl<R: Rules> IndexedState<R> {
+    /// The state of the nodes 1 to `nodes` with no edges, all pointers null and all flags false. `TooManyNodes` above 65,535, and
+    /// `Memory` if memory runs out.
+    pub fn new(alloc: Global, nodes: u32) -> Result<IndexedState<R>, GraphFault>
+        ensures ok { IfOk result (λ state. state ≡ opening nodes) }
+        ensures small { OnOk result (nodes ≤ 65535) }
+        ensures fault { IfErr result (λ fault. Explains (nodes_fault nodes) fault) }
+    {
+        let store = EdgeStore::new(alloc, nodes)?;
+        let Ok(registers) = Registers::new(alloc, nodes) else {
+            return Err(GraphFault::Memory);
+        };
+        let Ok(index) = SuitorIndex::build(alloc, &store, &registers) else {
+            return Err(GraphFault::Memory);
+        };
+        Ok(IndexedState {
+            store,
+            registers,
+            index,
+        })
+    }
+
     /// The edges.
     pub fn store(&self) -> &EdgeStore
         ensures value { result.now ≡ self.now.network }

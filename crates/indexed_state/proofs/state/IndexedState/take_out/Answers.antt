@@ -11,7 +11,7 @@ use Rattle.indexed_state.proofs.state.IndexedState.take_out.Goals as goal
 pub unlinked-requires : goal.unlinked-requires
 unlinked-requires g c =
     let done : (unlink_fault c.self.inside.store c.args.a c.args.b ≡ None) × (c.unlink.new.self ≡ without_edge c.self.inside.store c.args.a c.args.b) =
-      subst (λ r. OnOk r ((unlink_fault c.self.inside.store c.args.a c.args.b ≡ None) × (c.unlink.new.self ≡ without_edge c.self.inside.store c.args.a c.args.b))) c.unwrap.ensures c.unlink.ensures.ok in
+    subst (λ r. OnOk r ((unlink_fault c.self.inside.store c.args.a c.args.b ≡ None) × (c.unlink.new.self ≡ without_edge c.self.inside.store c.args.a c.args.b))) c.unwrap.ensures c.unlink.ensures.ok in
     record {
       network = c.self.inside.store;
       is_state = c.self.invariant.is_state;
@@ -25,7 +25,7 @@ unlinked-requires g c =
 pub invariant_of-self : goal.invariant_of-self
 invariant_of-self g c =
     let done : (unlink_fault c.self.inside.store c.args.a c.args.b ≡ None) × (c.unlink.new.self ≡ without_edge c.self.inside.store c.args.a c.args.b) =
-      subst (λ r. OnOk r ((unlink_fault c.self.inside.store c.args.a c.args.b ≡ None) × (c.unlink.new.self ≡ without_edge c.self.inside.store c.args.a c.args.b))) c.unwrap.ensures c.unlink.ensures.ok in
+    subst (λ r. OnOk r ((unlink_fault c.self.inside.store c.args.a c.args.b ≡ None) × (c.unlink.new.self ≡ without_edge c.self.inside.store c.args.a c.args.b))) c.unwrap.ensures c.unlink.ensures.ok in
     let r : Registers = c.self.inside.registers in
     let there = ap (λ (s : State). points s.registers c.args.a c.args.b) c.self.view_is ∙ c.requires.not_there in
     let back = ap (λ (s : State). points s.registers c.args.b c.args.a) c.self.view_is ∙ c.requires.not_back in

@@ -1,0 +1,20 @@
+use Rattle.std.proofs.Common.{◌≡◌, ◌≤◌, ◌∙◌, sym, ap, ap₂, subst}
+use Rattle.rule_machine.specs.Network.{Network, edgeless}
+use Rattle.rule_machine.specs.State.{State, Registers, IsState, opening, blank}
+use Rattle.machine_laws.specs.Keeps.{opening_is_state}
+use Rattle.suitor_index.specs.Tallies.{state_of}
+use Rattle.indexed_state.proofs.state.IndexedState.new.Goals as goal
+
+pub build-requires : goal.build-requires
+build-requires g c =
+    let is : state_of c.in_ok-store.store c.in-Ok.registers ≡ opening c.args.nodes = ap₂ state_of c.in_ok-store.ensures.ok c.in-Ok.ensures in
+    subst (λ (s : State). IsState s) (sym is) (opening_is_state c.args.nodes)
+
+pub invariant_of-result : goal.invariant_of-result
+invariant_of-result g c =
+    let is : state_of c.in_ok-store.store c.in-Ok.registers ≡ opening c.args.nodes = ap₂ state_of c.in_ok-store.ensures.ok c.in-Ok.ensures in
+    record {
+      is_state = subst (λ (s : State). IsState s) (sym is) (opening_is_state c.args.nodes);
+      index = c.in-Ok-build.ensures;
+      few = subst (λ (n : Network). n.size ≤ 65535) (sym c.in_ok-store.ensures.ok) c.in_ok-store.ensures.small;
+    }
