@@ -1,3 +1,4 @@
 pub mod Tallies
 pub mod Told
 pub mod Before
+pub mod Events

@@ -36,7 +36,7 @@ impl<R: Rules> Model for SuitorIndex<R> {
 }
 
 impl<R: Rules> SuitorIndex<R> {
-    /// The index of a network, by a look at each node's neighbours. Takes ten bytes or so a node; `Err` if memory runs out.
+    /// The index of a network, by a look at each node's neighbours. Takes twelve bytes a node; `Err` if memory runs out.
     pub fn build(
         alloc: Global,
         store: &EdgeStore,

@@ -1,0 +1,68 @@
+-- The changes that events make are changes of which an index of the state before can be told.
+use Rattle.std.proofs.Common.{◌≡◌, ℕ, ◌+◌, ◌<◌, Bool, false, true, not, List, length, Option, None, IsTrue, refl, sym, ap, ◌∙◌, arith}
+use Rattle.rule_machine.specs.Network.{Network, linked, present, without_edge}
+use Rattle.rule_machine.specs.State.{State, Registers, IsState, pointer, flag, pointer_of, flag_of, points}
+use Rattle.rule_machine.specs.Refuse.{link_refusal}
+use Rattle.rule_machine.specs.Disturbance.{after_link, after_point, after_flag}
+use Rattle.machine_laws.specs.Writes.{pointer-with_pointer_same, flag-with_flag_same}
+use Rattle.state_lemmas.specs.Neighbours.{present_range}
+use Rattle.suitor_index.specs.declared.tally.Tally.{Tally}
+use Rattle.suitor_index.specs.Tallies.{IsIndexOf}
+use Rattle.suitor_index.specs.Before.{IsBeforeLink, IsBeforeUnlink, IsBeforePoint, IsBeforeFlag}
+
+-- an edge is put in
+pub before_link : (opens : Option ℕ → Bool → Bool) (s : State) (a b : ℕ) (tallies : List Tally) → IsState s → link_refusal s.network a b ≡ None → IsIndexOf opens s tallies → IsBeforeLink opens (after_link s a b) a b tallies
+before_link opens s a b tallies good accepted index = record {
+  network = s.network;
+  is_state = good;
+  accepted = accepted;
+  change = refl;
+  index = index;
+}
+
+-- an edge that no pointer crosses is taken out
+pub before_unlink : (opens : Option ℕ → Bool → Bool) (s : State) (a b : ℕ) (tallies : List Tally) → IsState s → IsTrue (linked s.network a b) → points s.registers a b ≡ false → points s.registers b a ≡ false → IsIndexOf opens s tallies → IsBeforeUnlink opens (record s { network = without_edge s.network a b }) a b tallies
+before_unlink opens s a b tallies good there not_there not_back index = record {
+  network = s.network;
+  is_state = good;
+  was_linked = there;
+  not_there = not_there;
+  not_back = not_back;
+  change = refl;
+  index = index;
+}
+
+-- a pointer is written, with whatever it held before
+pub before_point : (opens : Option ℕ → Bool → Bool) (s : State) (v : ℕ) (target : Option ℕ) (tallies : List Tally) → IsState s → IsTrue (present s.network v) → IsIndexOf opens s tallies → IsBeforePoint opens (after_point s v target) v (pointer s v) tallies
+before_point opens s v target tallies good here index =
+    let bounds = present_range s.network v here in
+    let places = good.pointers_len in
+    let high = bounds.1 in
+    let inside : v < length s.registers.pointers = omega arith in
+    record {
+      registers = s.registers;
+      is_state = good;
+      was = refl;
+      change = ap (λ t. (after_point s v t).registers) (sym (pointer-with_pointer_same s.registers v target inside));
+      index = index;
+    }
+
+-- a flag is turned
+pub before_flag : (opens : Option ℕ → Bool → Bool) (s : State) (v : ℕ) (tallies : List Tally) → IsState s → IsTrue (present s.network v) → IsIndexOf opens s tallies → IsBeforeFlag opens (after_flag s v (not (flag s v))) v tallies
+before_flag opens s v tallies good here index =
+    let bounds = present_range s.network v here in
+    let places = good.flags_len in
+    let high = bounds.1 in
+    let inside : v < length s.registers.flags = omega arith in
+    let same : flag_of (after_flag s v (not (flag s v))).registers v ≡ not (flag s v) = flag-with_flag_same s.registers v (not (flag s v)) inside in
+    record {
+      registers = s.registers;
+      is_state = good;
+      change = ap (λ t. (after_flag s v t).registers) (sym same);
+      was = sym (not_not (flag s v)) ∙ ap not (sym same);
+      index = index;
+    }
+  where
+    not_not : (b : Bool) → not (not b) ≡ b
+    not_not true = refl
+    not_not false = refl
