@@ -6,5 +6,5 @@ pub mod Keeping
 pub mod Carried
 pub mod Looked
 pub mod Far
-pub mod Again
 pub mod Opening
+pub mod Again
