@@ -1,16 +1,14 @@
 -- What a new edge says of its ends, and pointers that do not cross.
-use Rattle.std.proofs.Common.{◌≡◌, ℕ, Bool, true, false, cond, not, ◌&&◌, Some, None, IsTrue, nat_eq, nat_le, refl, sym, ap, subst, ◌∙◌}
-use Rattle.std.proofs.lemmas.Bool.{and_parts, true≢false}
+use Rattle.std.proofs.Common.{◌≡◌, ℕ, Bool, true, false, cond, not, ◌&&◌, Some, None, IsTrue, nat_eq, nat_le, refl, sym, ap, ◌∙◌}
+use Rattle.std.proofs.lemmas.Bool.{true≢false}
 use Rattle.std.proofs.lemmas.Option.{none-some}
 use Rattle.rule_machine.specs.declared.refusal.Refusal.TheVariants.{UnknownNode, SelfLoop, AlreadyLinked, TooManyEdges}
 use Rattle.rule_machine.specs.Network.{Network, present, linked, edge_count}
-use Rattle.rule_machine.specs.State.{Registers, points, pointer_of, with_pointer}
+use Rattle.rule_machine.specs.State.{Registers, points, with_pointer}
 use Rattle.rule_machine.specs.Disturbance.{without_pointer}
 use Rattle.rule_machine.specs.Refuse.{both_present, link_refusal, max_edges}
-use Rattle.graph_store.specs.Fault.{link_fault, unlink_fault}
-use Rattle.graph_store.specs.declared.fault.GraphFault.{GraphFault}
+use Rattle.graph_store.specs.Fault.{link_fault}
 use Rattle.graph_store.specs.declared.fault.GraphFault.TheVariants as fault
-use Rattle.machine_laws.specs.Writes.{some_from_is_at, without_pointer_was, without_pointer_gone}
 
 -- what two names are that an edge may be put between
 pub record IsNewEdge (net : Network) (a b : ℕ) : Type 0 where

@@ -1,6 +1,6 @@
-use Rattle.std.proofs.Common.{◌≡◌, ◌≤◌, ◌∙◌, sym, ap, ap₂, subst}
-use Rattle.rule_machine.specs.Network.{Network, edgeless}
-use Rattle.rule_machine.specs.State.{State, Registers, IsState, opening, blank}
+use Rattle.std.proofs.Common.{◌≡◌, ◌≤◌, sym, ap₂, subst}
+use Rattle.rule_machine.specs.Network.{Network}
+use Rattle.rule_machine.specs.State.{State, IsState, opening}
 use Rattle.machine_laws.specs.Keeps.{opening_is_state}
 use Rattle.suitor_index.specs.Tallies.{state_of}
 use Rattle.indexed_state.proofs.state.IndexedState.new.Goals as goal

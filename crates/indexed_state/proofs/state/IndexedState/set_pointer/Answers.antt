@@ -1,4 +1,4 @@
-use Rattle.std.proofs.Common.{◌≡◌, ℕ, Option, Some, IfSome, IsTrue, sym, subst}
+use Rattle.std.proofs.Common.{IfSome, IsTrue, sym, subst}
 use Rattle.rule_machine.specs.Network.{linked}
 use Rattle.rule_machine.specs.State.{State, Registers, IsState}
 use Rattle.machine_laws.specs.Keeps.{point_keeps}

@@ -1,4 +1,4 @@
-use Rattle.std.proofs.Common.{◌≡◌, ◌≤◌, Bool, false, None, OnOk, IsTrue, ℕ, sym, ap, subst, ◌∙◌}
+use Rattle.std.proofs.Common.{◌≡◌, ◌≤◌, None, OnOk, IsTrue, sym, ap, subst, ◌∙◌}
 use Rattle.rule_machine.specs.Network.{Network, linked, without_edge}
 use Rattle.rule_machine.specs.State.{State, Registers, IsState, points}
 use Rattle.rule_machine.specs.Disturbance.{without_pointer}

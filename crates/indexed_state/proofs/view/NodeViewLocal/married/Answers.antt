@@ -1,6 +1,11 @@
-use Rattle.std.proofs.Common.{sym, ◌∙◌}
+use Rattle.std.proofs.Common.{sym, ap, ◌∙◌}
+use Rattle.rule_machine.specs.State.{State, married}
+use Rattle.suitor_index.specs.Tallies.{state_of}
 use Rattle.indexed_state.proofs.Partners.{married_answered}
 use Rattle.indexed_state.proofs.view.NodeViewLocal.married.Goals as goal
 
 pub returns : goal.returns
-returns g c = c.married.ensures ∙ sym (married_answered _ _ c.requires)
+returns g c =
+    let s : State = state_of c.state.inside.store c.state.inside.registers in
+    let v = c.args.self.now.node in
+    c.married.ensures ∙ sym (married_answered s v c.state.invariant.is_state) ∙ ap (λ (z : State). married z v) c.state.view_is
