@@ -1,7 +1,7 @@
 -- Counting and summing over a list: counts that are compared element by element, or by taking each element of one list to
 -- its own element of another.
-use Rattle.std.proofs.Common.{◌≡◌, ℕ, ◌+◌, ◌*◌, ◌≤◌, Bool, true, false, cond, List, [], ◌∷◌, length, count_by, sum_by, IsTrue, refl, sym, ap, ◌∙◌, subst, inl, inr, ⊎_elim, ◌⊎◌, arith}
-use Rattle.std.proofs.lemmas.Bool.{cases_Bool, cond-true, cond-false}
+use Rattle.std.proofs.Common.{◌≡◌, ℕ, ◌+◌, ◌*◌, ◌≤◌, Bool, true, false, cond, not, ◌&&◌, List, [], ◌∷◌, length, count_by, sum_by, IsTrue, refl, sym, ap, ◌∙◌, subst, inl, inr, ⊎_elim, ◌⊎◌, arith}
+use Rattle.std.proofs.lemmas.Bool.{cases_Bool, cond-true, cond-false, true≢false}
 use Rattle.std.proofs.lemmas.List.Sums.{sum_by-cons}
 
 -- y is in the list
@@ -73,6 +73,29 @@ count_none p xs e x h = not_one (p x) (sum_zero (λ x. cond (p x) 1 0) xs e x h)
 pub count_all : {X : Type 0} (xs : List X) → count_by (λ x. true) xs ≡ length xs
 count_all [] = refl
 count_all {X = X} (x ∷ xs) = sum_by-cons {X = X} (λ x. 1) x xs ∙ (let rest = count_all xs in omega (arith, rest))
+
+-- two tests that agree count the same
+pub count_agree : {X : Type 0} (p q : X → Bool) → ((x : X) → p x ≡ q x) → (xs : List X) → count_by p xs ≡ count_by q xs
+count_agree p q same [] = refl
+count_agree p q same (x ∷ xs) =
+    let left = sum_by-cons (λ x. cond (p x) 1 0) x xs in
+    let right = sum_by-cons (λ x. cond (q x) 1 0) x xs in
+    let here : ◌≡◌ {A = ℕ} (cond (p x) 1 0) (cond (q x) 1 0) = ap (λ b. cond b 1 0) (same x) in
+    let rest = count_agree p q same xs in
+    omega (arith, left, right, here, rest)
+
+-- Where what is closed stays closed, what is open falls by the number of those that close.
+pub open_falls : {X : Type 0} (closed closed' : X → Bool) (xs : List X) → ((x : X) → IsIn x xs → IsTrue (closed x) → IsTrue (closed' x)) → count_by (λ x. not (closed' x)) xs + count_by (λ x. not (closed x) && closed' x) xs ≤ count_by (λ x. not (closed x)) xs
+open_falls closed closed' xs stays =
+    let sum = sum_add (λ x. cond (not (closed' x)) 1 0) (λ x. cond (not (closed x) && closed' x) 1 0) xs in
+    let le = sum_le (λ x. cond (not (closed' x)) 1 0 + cond (not (closed x) && closed' x) 1 0) (λ x. cond (not (closed x)) 1 0) xs (λ x there. one (closed x) (closed' x) (stays x there)) in
+    omega (arith, sum, le)
+  where
+    one : (b c : Bool) → (IsTrue b → IsTrue c) → ◌≤◌ (cond (not c) 1 0 + cond (not b && c) 1 0) (cond (not b) 1 0)
+    one true true h = omega arith
+    one true false h = absurd (true≢false (sym (h refl)))
+    one false true h = omega arith
+    one false false h = omega arith
 
 -- the list without one of its elements
 abbrev without : {X : Type 0} (xs : List X) (y : X) → IsIn y xs → List X
