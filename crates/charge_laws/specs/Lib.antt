@@ -6,3 +6,5 @@ pub mod Turns
 pub mod Writes
 pub mod Deeds
 pub mod Inside
+pub mod HsuHuangTurns
+pub mod HsuHuangFalls

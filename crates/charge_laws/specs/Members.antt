@@ -1,14 +1,14 @@
 -- What is in the lists of a network's names and edges.
-use Rattle.std.proofs.Common.{◌≡◌, ℕ, zero, suc, ◌+◌, ◌<◌, ◌≤◌, true, List, [], ◌∷◌, length, IsTrue, sym, ap, ◌∙◌, inl, inr, ⊎_elim, arith}
+use Rattle.std.proofs.Common.{◌≡◌, ℕ, zero, suc, ◌+◌, ◌<◌, ◌≤◌, min, max, Bool, true, false, ◌||◌, List, [], ◌∷◌, length, IsTrue, refl, sym, ap, ap₂, ◌∙◌, subst, inl, inr, ⊎_elim, ◌⊎◌, arith}
 use Rattle.std.specs.List.{range_with_len, list_any}
 use Rattle.std.specs.Ordering.{eq_by_cmp}
 use Rattle.std.specs.FinMap as map
-use Rattle.std.proofs.lemmas.Bool.{cases_eq, or_cases, or_left, or_right}
+use Rattle.std.proofs.lemmas.Bool.{cases_eq, cases_lt, or_cases, or_left, or_right}
 use Rattle.std.proofs.lemmas.Map.Views.{tells_apart}
 use Rattle.std.proofs.lemmas.List.{length-map}
 use Rattle.std.proofs.lemmas.List.FromFn.{length-range_with_len}
 use Rattle.std.proofs.lemmas.Cmp.{eq_by_cmp_equiv}
-use Rattle.rule_machine.specs.Network.{Network, pair_cmp, names, present, edge_list, node_count, edge_count}
+use Rattle.rule_machine.specs.Network.{Network, pair_cmp, edge, names, present, edge_list, node_count, edge_count}
 use Rattle.state_lemmas.specs.Neighbours.{present_range, present_from}
 use Rattle.machine_laws.specs.Edges.{pair_total, pair_exact}
 use Rattle.charge_laws.specs.Counting.{IsIn, IsWithoutRepeats}
@@ -60,3 +60,17 @@ edges_contain net e h = map.contains_key-keys net.edges e ∙ in_any e (edge_lis
 
 pub edges_len : (net : Network) → length (edge_list net) ≡ edge_count net
 edges_len net = length-map (map.entries net.edges) (λ e. e.0) ∙ sym (map.len-entries net.edges)
+
+-- what holds of both orders of the ends holds of the edge
+pub edge_either : (P : ℕ × ℕ → Type 0) (v w : ℕ) → P (v, w) → P (w, v) → P (edge v w)
+edge_either P v w h k =
+    ⊎_elim
+    (λ (below : v < w).
+    let low : min v w ≡ v = omega arith in
+    let high : max v w ≡ w = omega arith in
+    subst P (sym (ap₂ (λ (a b : ℕ). (a, b)) low high)) h)
+    (λ (above : w ≤ v).
+    let low : min v w ≡ w = omega arith in
+    let high : max v w ≡ v = omega arith in
+    subst P (sym (ap₂ (λ (a b : ℕ). (a, b)) low high)) k)
+    (cases_lt v w)
