@@ -1,6 +1,6 @@
 -- Counting and summing over a list: counts that are compared element by element, or by taking each element of one list to
 -- its own element of another.
-use Rattle.std.proofs.Common.{◌≡◌, ℕ, ◌+◌, ◌*◌, ◌≤◌, Bool, true, false, cond, not, ◌&&◌, List, [], ◌∷◌, length, count_by, sum_by, IsTrue, refl, sym, ap, ◌∙◌, subst, inl, inr, ⊎_elim, ◌⊎◌, arith}
+use Rattle.std.proofs.Common.{◌≡◌, ◌≢◌, ℕ, ◌+◌, ◌*◌, ◌≤◌, Bool, true, false, cond, not, ◌&&◌, List, [], ◌∷◌, length, count_by, sum_by, IsTrue, refl, sym, ap, ap₂, ◌∙◌, subst, inl, inr, ⊎_elim, ◌⊎◌, arith}
 use Rattle.std.proofs.lemmas.Bool.{cases_Bool, cond-true, cond-false, true≢false}
 use Rattle.std.proofs.lemmas.List.Sums.{sum_by-cons}
 
@@ -74,15 +74,13 @@ pub count_all : {X : Type 0} (xs : List X) → count_by (λ x. true) xs ≡ leng
 count_all [] = refl
 count_all {X = X} (x ∷ xs) = sum_by-cons {X = X} (λ x. 1) x xs ∙ (let rest = count_all xs in omega (arith, rest))
 
--- two tests that agree count the same
+-- terms that agree have the same sum, and tests that agree the same count
+pub sum_agree : {X : Type 0} (f g : X → ℕ) → ((x : X) → f x ≡ g x) → (xs : List X) → sum_by f xs ≡ sum_by g xs
+sum_agree f g same [] = refl
+sum_agree f g same (x ∷ xs) = sum_by-cons f x xs ∙ ap₂ ◌+◌ (same x) (sum_agree f g same xs) ∙ sym (sum_by-cons g x xs)
+
 pub count_agree : {X : Type 0} (p q : X → Bool) → ((x : X) → p x ≡ q x) → (xs : List X) → count_by p xs ≡ count_by q xs
-count_agree p q same [] = refl
-count_agree p q same (x ∷ xs) =
-    let left = sum_by-cons (λ x. cond (p x) 1 0) x xs in
-    let right = sum_by-cons (λ x. cond (q x) 1 0) x xs in
-    let here : ◌≡◌ {A = ℕ} (cond (p x) 1 0) (cond (q x) 1 0) = ap (λ b. cond b 1 0) (same x) in
-    let rest = count_agree p q same xs in
-    omega (arith, left, right, here, rest)
+count_agree p q same xs = sum_agree (λ x. cond (p x) 1 0) (λ x. cond (q x) 1 0) (λ x. ap (λ b. cond b 1 0) (same x)) xs
 
 -- Where what is closed stays closed, what is open falls by the number of those that close.
 pub open_falls : {X : Type 0} (closed closed' : X → Bool) (xs : List X) → ((x : X) → IsIn x xs → IsTrue (closed x) → IsTrue (closed' x)) → count_by (λ x. not (closed' x)) xs + count_by (λ x. not (closed x) && closed' x) xs ≤ count_by (λ x. not (closed x)) xs

@@ -15,24 +15,14 @@ use Rattle.state_lemmas.specs.Neighbours.{linked_apart}
 use Rattle.state_lemmas.specs.Pointers.{points_true, points_from, pointer_linked, no_suitor, suitor_some, suitor_from}
 use Rattle.charge_laws.specs.Counting.{IsIn, count_into, count_agree, open_falls}
 use Rattle.charge_laws.specs.Members.{in_names, names_without_repeats, in_edges, edge_either}
-use Rattle.charge_laws.specs.Stances.{stance, is_waiting, is_paired, unanswered_is, married_is}
+use Rattle.charge_laws.specs.Stances.{stance, is_waiting, is_paired, null_from, null_is, not_null, unanswered_is, married_is}
 use Rattle.charge_laws.specs.Turns.{climbs, bit, IsRound, round_pays, written_by}
 use Rattle.charge_laws.specs.Writes.{is_moved}
 use Rattle.charge_laws.specs.Deeds.{Deed, idles, updates, marries, seduces, abandons, IsDone, step_done}
-use Rattle.charge_laws.specs.Inside.{holds_is, suitor_present, hsu_huang_inside}
+use Rattle.charge_laws.specs.Inside.{holds_is, near_names, hsu_huang_inside}
 use Rattle.charge_laws.specs.HsuHuangTurns.{SoloTurn, takes, courts, leaves, IsSolo, solo_turn, no_solo_duel, IsClosed, low_paired, high_paired, low_awaits, high_awaits, courted, closed_swap, closed_stays, Courts, climber_courts, courting_was_open, courting_closes}
 
 -- ---- the step in pointers
-
-null_from : (o : Option ℕ) → IsTrue (is_none o) → o ≡ None
-null_from None h = refl
-null_from (Some w) h = absurd (true≢false (sym h))
-
-null_is : (o : Option ℕ) → o ≡ None → IsTrue (is_none o)
-null_is o e = ap is_none e
-
-not_null : (o : Option ℕ) → IsTrue (is_some o) → o ≢ None
-not_null o h e = true≢false (sym h ∙ ap is_some e)
 
 -- one move is of one node
 one_mover : (moves : List Moved) → length moves ≡ 1 → (x : ℕ) × ((v : ℕ) → IsTrue (is_moved moves v) → v ≡ x) × IsTrue (is_moved moves x)
@@ -133,14 +123,11 @@ record IsSoloStep (s s' : State) (moves : List Moved) (x : ℕ) : Type 0 where
   only : (v : ℕ) → IsTrue (is_moved moves v) → v ≡ x
   solo : IsSolo (pointer s) (pointer s') x
 
-near_names : (s s' : State) (moves : List Moved) → IsDone hsu_huang s s' moves → (v w : ℕ) → pointer s' v ≡ Some w → IsIn w (names s.network)
-near_names s s' moves done v w now = in_names s.network w (subst (λ net. IsTrue (present net w)) done.network (suitor_present s' w v done.is_state now))
-
 abbrev solo_round : (s s' : State) (moves : List Moved) (x : ℕ) → IsSoloStep s s' moves x → IsRound (pointer s) (pointer s') (names s.network)
 solo_round s s' moves x step = record {
   turns = λ v. (solo_turn (pointer s) (pointer s') x step.solo v).turn;
   no_duel = no_solo_duel (pointer s) (pointer s') x step.solo;
-  near = near_names s s' moves step.done;
+  near = near_names hsu_huang s s' moves step.done;
   single = names_without_repeats s.network;
 }
 

@@ -1,25 +1,29 @@
 -- Only present nodes have an enabled rule: one that is not present has no neighbour, points nowhere and is not flagged.
-use Rattle.std.proofs.Common.{◌≡◌, ℕ, Bool, true, false, cond, not, Option, None, Some, is_some, find, IsTrue, refl, sym, ap, ◌∙◌}
+use Rattle.std.proofs.Common.{◌≡◌, ℕ, Bool, true, false, cond, not, List, Option, None, Some, is_some, find, IsTrue, refl, sym, ap, ◌∙◌, subst}
 use Rattle.std.proofs.lemmas.Bool.{and_parts, true≢false}
 use Rattle.rule_machine.specs.declared.act.Act.{Act}
 use Rattle.rule_machine.specs.declared.act.Act.TheVariants.{Update, Marry, Seduce, Abandon}
-use Rattle.rule_machine.specs.Network.{Network, IsNetwork, linked, present, neighbours}
+use Rattle.rule_machine.specs.declared.moved.Moved.{Moved}
+use Rattle.rule_machine.specs.Network.{Network, IsNetwork, linked, present, names, neighbours}
 use Rattle.rule_machine.specs.State.{State, IsState, pointer, flag, married, holds_at, has_suitor}
+use Rattle.rule_machine.specs.RuleTable.{RuleTable}
 use Rattle.rule_machine.specs.HsuHuang.{hsu_huang}
 use Rattle.rule_machine.specs.Manne.{manne}
 use Rattle.state_lemmas.specs.Neighbours.{linked_present, near_some}
 use Rattle.state_lemmas.specs.Pointers.{some_is, pointer_linked, suitor_linked, suitor_some, married_some}
-use Rattle.charge_laws.specs.Deeds.{IsInside}
+use Rattle.charge_laws.specs.Counting.{IsIn}
+use Rattle.charge_laws.specs.Members.{in_names}
+use Rattle.charge_laws.specs.Deeds.{IsInside, IsDone}
 
 -- a pointer that passes a test is at a name that passes it
 pub holds_is : (test : ℕ → Bool) (o : Option ℕ) → IsTrue (holds_at test o) → (w : ℕ) × (o ≡ Some w) × IsTrue (test w)
 holds_is test None h = absurd (true≢false (sym h))
 holds_is test (Some w) h = (w, refl, h)
 
-pub pointer_present : (s : State) (v w : ℕ) → IsState s → pointer s v ≡ Some w → IsTrue (present s.network v)
+pointer_present : (s : State) (v w : ℕ) → IsState s → pointer s v ≡ Some w → IsTrue (present s.network v)
 pointer_present s v w good e = linked_present s.network v w good.is_network (pointer_linked s v w good e)
 
-pub suitor_present : (s : State) (v w : ℕ) → IsState s → pointer s w ≡ Some v → IsTrue (present s.network v)
+suitor_present : (s : State) (v w : ℕ) → IsState s → pointer s w ≡ Some v → IsTrue (present s.network v)
 suitor_present s v w good e = linked_present s.network v w good.is_network (suitor_linked s v w good e)
 
 found_present : (net : Network) (p : ℕ → Bool) (v : ℕ) → IsNetwork net → IsTrue (is_some (find p (neighbours net v))) → IsTrue (present net v)
@@ -74,3 +78,7 @@ manne_inside = record {
     near s v Marry w h = (and_parts (linked s.network v w) _ h).0
     near s v Seduce w h = (and_parts (linked s.network v w) _ (and_parts _ _ h).0).0
     near s v Abandon w h = absurd (true≢false (sym h))
+
+-- after a step each pointer is at one of the names
+pub near_names : (t : RuleTable) (s s' : State) (moves : List Moved) → IsDone t s s' moves → (v w : ℕ) → pointer s' v ≡ Some w → IsIn w (names s.network)
+near_names t s s' moves done v w now = in_names s.network w (subst (λ net. IsTrue (present net w)) done.network (suitor_present s' w v done.is_state now))

@@ -8,3 +8,5 @@ pub mod Deeds
 pub mod Inside
 pub mod HsuHuangTurns
 pub mod HsuHuangFalls
+pub mod ManneTurns
+pub mod ManneFalls

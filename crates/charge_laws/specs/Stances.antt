@@ -1,5 +1,5 @@
 -- How a node stands to its neighbours: its pointer is null, or at a node that does not point back, or at one that does.
-use Rattle.std.proofs.Common.{◌≡◌, ◌≢◌, ℕ, Bool, true, false, cond, not, Option, None, Some, IsTrue, refl, sym, ap, ◌∙◌, true≢false}
+use Rattle.std.proofs.Common.{◌≡◌, ◌≢◌, ℕ, Bool, true, false, cond, not, Option, None, Some, is_some, is_none, IsTrue, refl, sym, ap, ◌∙◌, true≢false}
 use Rattle.std.proofs.lemmas.Bool.{cond-true, cond-false, false_from_ne_true}
 use Rattle.rule_machine.specs.State.{State, IsState, is_at, holds_at, pointer, is_unanswered, married}
 use Rattle.state_lemmas.specs.Pointers.{at_true, at_from, married_from, null_unmarried, unanswered_unmarried}
@@ -32,6 +32,18 @@ is_paired Free = false
 is_paired Waiting = false
 is_paired Paired = true
 
+-- tests of a pointer
+pub null_from : (o : Option ℕ) → IsTrue (is_none o) → o ≡ None
+null_from None h = refl
+null_from (Some w) h = absurd (true≢false (sym h))
+
+pub null_is : (o : Option ℕ) → o ≡ None → IsTrue (is_none o)
+null_is o e = ap is_none e
+
+pub not_null : (o : Option ℕ) → IsTrue (is_some o) → o ≢ None
+not_null o h e = true≢false (sym h ∙ ap is_some e)
+
+-- how a node stands whose pointers are these
 pub free_from : (p : ℕ → Option ℕ) (v : ℕ) → p v ≡ None → stance p v ≡ Free
 free_from p v e = ap (stance_by p v) e
 
