@@ -20,7 +20,7 @@ pub holds_is : (test : ℕ → Bool) (o : Option ℕ) → IsTrue (holds_at test 
 holds_is test None h = absurd (true≢false (sym h))
 holds_is test (Some w) h = (w, refl, h)
 
-pointer_present : (s : State) (v w : ℕ) → IsState s → pointer s v ≡ Some w → IsTrue (present s.network v)
+pub pointer_present : (s : State) (v w : ℕ) → IsState s → pointer s v ≡ Some w → IsTrue (present s.network v)
 pointer_present s v w good e = linked_present s.network v w good.is_network (pointer_linked s v w good e)
 
 suitor_present : (s : State) (v w : ℕ) → IsState s → pointer s w ≡ Some v → IsTrue (present s.network v)

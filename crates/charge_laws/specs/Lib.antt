@@ -10,3 +10,5 @@ pub mod HsuHuangTurns
 pub mod HsuHuangFalls
 pub mod ManneTurns
 pub mod ManneFalls
+pub mod Spent
+pub mod Tables
