@@ -1,5 +1,5 @@
 -- What each node does in a step, in the words of its rules, with what its registers hold before and after.
-use Rattle.std.proofs.Common.{◌≡◌, ℕ, ◌+◌, ◌<◌, ◌≤◌, Bool, true, false, List, [], ◌∷◌, length, map, count_by, All, Any, Option, None, Some, IsSome, IsSomeAnd, IsTrue, refl, sym, ap, ◌∙◌, subst, inl, inr, ⊎_elim, ◌⊎◌, arith}
+use Rattle.std.proofs.Common.{◌≡◌, ℕ, ◌+◌, ◌<◌, ◌≤◌, false, List, [], ◌∷◌, length, map, count_by, Any, Option, None, Some, IsSomeAnd, IsTrue, refl, sym, ap, ◌∙◌, subst, inl, inr, arith}
 use Rattle.std.specs.List.{AllByRecursion}
 use Rattle.std.proofs.lemmas.List.Elements.{recursion_from_All}
 use Rattle.std.proofs.lemmas.Option.{none-some, same_Some}
@@ -8,7 +8,7 @@ use Rattle.rule_machine.specs.declared.act.Act.TheVariants.{Update, Marry, Seduc
 use Rattle.rule_machine.specs.declared.choice.Item.{Item}
 use Rattle.rule_machine.specs.declared.moved.Moved.{Moved}
 use Rattle.rule_machine.specs.Network.{linked, present, names}
-use Rattle.rule_machine.specs.State.{State, Registers, IsState, pointer, flag, pointer_of, flag_of, married}
+use Rattle.rule_machine.specs.State.{State, IsState, pointer, flag, married}
 use Rattle.rule_machine.specs.RuleTable.{RuleTable, acts, rule_at}
 use Rattle.rule_machine.specs.Step.{IsTarget, IsMoveOf, IsStep, registers_after, after_moves}
 use Rattle.state_lemmas.specs.Neighbours.{present_range}

@@ -1,12 +1,9 @@
 -- Under Hsu and Huang's rules the charge falls with every move.
-use Rattle.std.proofs.Common.{◌≡◌, ◌≢◌, ℕ, ◌+◌, ◌*◌, ◌<◌, ◌≤◌, Bool, true, false, cond, not, ◌&&◌, ◌||◌, List, [], ◌∷◌, length, count_by, sum_by, Option, None, Some, is_some, is_none, unwrap_or, IsTrue, nat_eq, refl, sym, ap, ◌∙◌, subst, inl, inr, ⊎_elim, ◌⊎◌, arith}
-use Rattle.std.specs.FinMap as map
+use Rattle.std.proofs.Common.{◌≡◌, ℕ, ◌+◌, ◌*◌, ◌≤◌, Bool, false, not, ◌&&◌, ◌||◌, List, [], ◌∷◌, length, count_by, Some, is_some, is_none, unwrap_or, IsTrue, nat_eq, refl, sym, ap, ◌∙◌, subst, ⊎_elim, arith}
 use Rattle.std.proofs.lemmas.Bool.{and_parts, and_from, or_cases, or_left, or_right, not-true, not_from_false, false_from_ne_true, true≢false, cases_Bool, eqb-true, eq-eqb}
-use Rattle.std.proofs.lemmas.Option.{none-some}
-use Rattle.rule_machine.specs.declared.act.Act.TheVariants.{Update, Marry, Seduce, Abandon}
 use Rattle.rule_machine.specs.declared.choice.Item.{Item}
 use Rattle.rule_machine.specs.declared.moved.Moved.{Moved}
-use Rattle.rule_machine.specs.Network.{Network, edge, linked, present, names, edge_list}
+use Rattle.rule_machine.specs.Network.{edge, linked, names, edge_list}
 use Rattle.rule_machine.specs.State.{State, IsState, pointer, points, married, has_suitor, is_unanswered}
 use Rattle.rule_machine.specs.Charge.{awaits, is_courted, hsu_huang_closed, hsu_huang_charge}
 use Rattle.rule_machine.specs.HsuHuang.{hsu_huang}
@@ -14,8 +11,8 @@ use Rattle.rule_machine.specs.Step.{IsStep}
 use Rattle.state_lemmas.specs.Neighbours.{linked_apart}
 use Rattle.state_lemmas.specs.Pointers.{points_true, points_from, pointer_linked, no_suitor, suitor_some, suitor_from}
 use Rattle.charge_laws.specs.Counting.{IsIn, count_into, count_agree, open_falls}
-use Rattle.charge_laws.specs.Members.{in_names, names_without_repeats, in_edges, edge_either}
-use Rattle.charge_laws.specs.Stances.{stance, is_waiting, is_paired, null_from, null_is, not_null, unanswered_is, married_is}
+use Rattle.charge_laws.specs.Members.{names_without_repeats, in_edges, edge_either}
+use Rattle.charge_laws.specs.Stances.{stance, is_waiting, null_from, null_is, not_null, unanswered_is, married_is}
 use Rattle.charge_laws.specs.Turns.{climbs, bit, IsRound, round_pays, written_by}
 use Rattle.charge_laws.specs.Writes.{is_moved}
 use Rattle.charge_laws.specs.Deeds.{Deed, idles, updates, marries, seduces, abandons, IsDone, step_done}
@@ -181,7 +178,7 @@ solo_falls s s' moves x step =
     let edges = ap (λ net. count_by (λ e. not (hsu_huang_closed s' e)) (edge_list net)) step.done.network in
     let nodes = ap (λ net. count_by (is_unanswered s') (names net)) step.done.network in
     let open_edges = open_falls (hsu_huang_closed s) (hsu_huang_closed s') (edge_list s.network)
-      (λ e there h. closed_from s' e.0 e.1 step.done.is_state (closed_stays (pointer s) (pointer s') x step.solo e.0 e.1 (closed_is s e.0 e.1 step.before h))) in
+    (λ e there h. closed_from s' e.0 e.1 step.done.is_state (closed_stays (pointer s) (pointer s') x step.solo e.0 e.1 (closed_is s e.0 e.1 step.before h))) in
     omega (arith, edges, nodes, open_edges, solo_closes s s' moves x step, solo_names s s' moves x step)
 
 -- the charge falls by the one move of a step

@@ -12,3 +12,4 @@ pub mod ManneTurns
 pub mod ManneFalls
 pub mod Spent
 pub mod Tables
+pub mod Runs

@@ -1,6 +1,5 @@
 -- Under the rules of Manne and others the charge falls by the moves of a step, however many nodes move at once.
-use Rattle.std.proofs.Common.{◌≡◌, ◌≢◌, ℕ, ◌+◌, ◌*◌, ◌<◌, ◌≤◌, Bool, true, false, cond, not, ◌&&◌, ◌||◌, List, length, count_by, sum_by, Option, None, Some, is_none, unwrap_or, IsTrue, nat_lt, nat_le, refl, sym, ap, ap₂, ◌∙◌, subst, inl, inr, ⊎_elim, ◌⊎◌, arith}
-use Rattle.std.specs.FinMap as map
+use Rattle.std.proofs.Common.{◌≡◌, ◌≢◌, ℕ, ◌+◌, ◌*◌, ◌≤◌, Bool, true, false, cond, not, ◌&&◌, ◌||◌, List, length, count_by, sum_by, Some, is_none, unwrap_or, IsTrue, nat_lt, nat_le, refl, sym, ap, ◌∙◌, subst, inl, inr, ⊎_elim, arith}
 use Rattle.std.proofs.lemmas.Bool.{and_parts, and_from, or_cases, or_left, or_right, not-true, not_from_false, false_from_ne_true, true≢false, ltb-true, leb-true}
 use Rattle.rule_machine.specs.declared.choice.Item.{Item}
 use Rattle.rule_machine.specs.declared.moved.Moved.{Moved}
@@ -107,9 +106,9 @@ joint_names s s' moves step =
     let cost_after = sum_agree (manne_node_charge s') (λ v. node_cost (is_paired (stance (pointer s') v)) (flag s' v)) (node_cost_is s' step.done.is_state) (names s.network) in
     let cost_before = sum_agree (manne_node_charge s) (λ v. node_cost (is_paired (stance (pointer s) v)) (flag s v)) (node_cost_is s step.before) (names s.network) in
     let paid = round_pays (pointer s) (pointer s') (names s.network) (joint_round s s' moves step) (is_moved moves)
-      (λ v. node_cost (is_paired (stance (pointer s) v)) (flag s v))
-      (λ v. node_cost (is_paired (stance (pointer s') v)) (flag s' v))
-      (flags_pay (pointer s) (pointer s') (flag s) (flag s') (is_moved moves) (turns_of s s' moves step)) in
+    (λ v. node_cost (is_paired (stance (pointer s) v)) (flag s v))
+    (λ v. node_cost (is_paired (stance (pointer s') v)) (flag s' v))
+    (flags_pay (pointer s) (pointer s') (flag s) (flag s') (is_moved moves) (turns_of s s' moves step)) in
     omega (arith, after, before, cost_after, cost_before, paid, step.done.counted)
 
 -- each climber closes the edge to its target, of which it is the lower end

@@ -1,9 +1,9 @@
 -- A step of the rules of Manne and others in pointers and flags alone: any nodes move at once, closed edges stay closed,
 -- who climbs closes one, and each update is paid by its own node.
-use Rattle.std.proofs.Common.{◌≡◌, ◌≢◌, ℕ, ◌+◌, ◌<◌, ◌≤◌, Bool, true, false, cond, not, Option, None, Some, IsTrue, refl, sym, ap, ap₂, ◌∙◌, subst, subst₂, inl, inr, ⊎_elim, ◌⊎◌, arith}
-use Rattle.std.proofs.lemmas.Bool.{and_parts, cases_eq, cases_Bool, true≢false}
+use Rattle.std.proofs.Common.{◌≡◌, ◌≢◌, ℕ, ◌+◌, ◌<◌, ◌≤◌, Bool, true, false, cond, not, Option, None, Some, IsTrue, refl, sym, ap, ◌∙◌, subst, inl, inr, ⊎_elim, ◌⊎◌, arith}
+use Rattle.std.proofs.lemmas.Bool.{and_parts, cases_Bool, true≢false}
 use Rattle.std.proofs.lemmas.Option.{none-some, same_Some}
-use Rattle.charge_laws.specs.Stances.{stance, is_free, is_waiting, is_paired, free_from, free_is, waiting_is, paired_is}
+use Rattle.charge_laws.specs.Stances.{stance, is_free, is_waiting, is_paired, free_is, waiting_is, paired_is}
 use Rattle.charge_laws.specs.Turns.{Turn, stays, marries, seduces, abandons, written_by, paired_stays, climbs, bit}
 
 -- What v does. Who updates has a wrong flag; who writes its pointer has a right one, which is false, since it is in no pair.

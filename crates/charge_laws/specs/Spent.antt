@@ -1,10 +1,10 @@
 -- Where the charge is zero the network is stable.
-use Rattle.std.proofs.Common.{◌≡◌, ℕ, ◌+◌, ◌*◌, Bool, true, false, cond, not, count_by, sum_by, Option, None, Some, IfSome, IsTrue, refl, sym, ap, ◌∙◌, arith}
+use Rattle.std.proofs.Common.{◌≡◌, ℕ, Bool, true, false, cond, not, count_by, sum_by, None, Some, IsTrue, refl, sym, ap, ◌∙◌, arith}
 use Rattle.std.proofs.lemmas.Bool.{not-false, true≢false}
 use Rattle.std.proofs.lemmas.Option.{none-some, same_Some}
 use Rattle.rule_machine.specs.Network.{edge, linked, present, names, edge_list}
 use Rattle.rule_machine.specs.State.{State, IsState, pointer, flag, married, is_unanswered}
-use Rattle.rule_machine.specs.Charge.{hsu_huang_closed, hsu_huang_charge, manne_closed, manne_node_charge, manne_charge}
+use Rattle.rule_machine.specs.Charge.{hsu_huang_closed, hsu_huang_charge, manne_node_charge, manne_charge}
 use Rattle.rule_machine.specs.Stable.{IsStable}
 use Rattle.state_lemmas.specs.Neighbours.{linked_present}
 use Rattle.state_lemmas.specs.Pointers.{if_some_from, null_unmarried}

@@ -1,11 +1,11 @@
 -- Both tables have the laws that a run needs: targets are neighbours, of rules that take one, and are there where such a
 -- rule is enabled.
-use Rattle.std.proofs.Common.{◌≡◌, ℕ, zero, suc, ◌+◌, ◌<◌, ◌≤◌, Bool, true, false, not, ◌&&◌, Option, None, Some, is_some, is_none, IsSome, find, nat_lt, IsTrue, refl, sym, ap, ◌∙◌, subst, inl, inr, ⊎_elim, ◌⊎◌, arith}
-use Rattle.std.proofs.lemmas.Bool.{and_parts, and_from, cases_Bool, cases_eq, true≢false, not_from_false, ltb-true, false_from_ne_true}
+use Rattle.std.proofs.Common.{◌≡◌, ℕ, zero, suc, ◌<◌, ◌≤◌, Bool, false, not, ◌&&◌, is_some, IsSome, find, nat_lt, IsTrue, refl, sym, ap, ◌∙◌, subst, ⊎_elim, arith}
+use Rattle.std.proofs.lemmas.Bool.{and_parts, and_from, cases_Bool, cases_eq, true≢false, ltb-true, false_from_ne_true}
 use Rattle.rule_machine.specs.declared.act.Act.{Act}
 use Rattle.rule_machine.specs.declared.act.Act.TheVariants.{Update, Marry, Seduce, Abandon}
-use Rattle.rule_machine.specs.Network.{Network, IsNetwork, linked, present, neighbours}
-use Rattle.rule_machine.specs.State.{State, IsState, suits, first_suitor, has_suitor}
+use Rattle.rule_machine.specs.Network.{linked, neighbours}
+use Rattle.rule_machine.specs.State.{State, IsState, suits, has_suitor}
 use Rattle.rule_machine.specs.RuleTable.{RuleTable, is_open, least_target}
 use Rattle.rule_machine.specs.HsuHuang.{hsu_huang, hsu_huang_opens}
 use Rattle.rule_machine.specs.Manne.{manne, may_court}
@@ -60,7 +60,7 @@ court_found s v good h =
     by_greatest : (g : ℕ) × IsTrue (courted g) × ((y : ℕ) → g < y → y ≤ s.network.size → courted y ≡ false) → IsSome (least_target manne s v Seduce)
     by_greatest (g, passes, above) =
         ap is_some (near_found s.network (manne.allowed s v Seduce) v g good.is_network (and_parts (linked s.network v g) (may_court s v g) passes).0
-          (greatest_allowed s v g passes (λ x up near. false_from_ne_true (may_court s v x) (λ may. true≢false (sym (and_from (linked s.network v x) (may_court s v x) near may) ∙ above x up (neighbour_within s v x good near)))))).1
+        (greatest_allowed s v g passes (λ x up near. false_from_ne_true (may_court s v x) (λ may. true≢false (sym (and_from (linked s.network v x) (may_court s v x) near may) ∙ above x up (neighbour_within s v x good near)))))).1
 
 pub hsu_huang_table : IsTable hsu_huang
 hsu_huang_table = record {

@@ -1,5 +1,5 @@
 -- What the registers of each node hold after the moves of a step.
-use Rattle.std.proofs.Common.{◌≡◌, ◌≢◌, ℕ, ◌<◌, ◌≤◌, Bool, true, false, ◌||◌, List, [], ◌∷◌, length, map, fold, count_by, Option, None, Some, IsTrue, nat_eq, refl, sym, ap, ◌∙◌, subst, inl, inr, ⊎_elim, ◌⊎◌, arith}
+use Rattle.std.proofs.Common.{◌≡◌, ℕ, ◌<◌, ◌≤◌, Bool, true, false, List, [], ◌∷◌, length, map, fold, count_by, Option, None, IsTrue, nat_eq, refl, sym, ap, ◌∙◌, subst, inl, inr, ◌⊎◌, arith}
 use Rattle.std.specs.Cmp.{nat_cmp_total}
 use Rattle.std.specs.List.{AllByRecursion, IsDistinct, list_any}
 use Rattle.std.specs.List.Sorted.{IsStrictlyIncreasing}
@@ -11,8 +11,7 @@ use Rattle.std.proofs.lemmas.Map.Keys.{IsDistinct-from_sorted, IsDistinct-head, 
 use Rattle.rule_machine.specs.declared.act.Act.{Act}
 use Rattle.rule_machine.specs.declared.act.Act.TheVariants.{Update, Marry, Seduce, Abandon}
 use Rattle.rule_machine.specs.declared.moved.Moved.{Moved}
-use Rattle.rule_machine.specs.Network.{names}
-use Rattle.rule_machine.specs.State.{State, Registers, pointer_of, flag_of, with_pointer, with_flag, married}
+use Rattle.rule_machine.specs.State.{State, Registers, pointer_of, flag_of, married}
 use Rattle.rule_machine.specs.Step.{written, after_move}
 use Rattle.machine_laws.specs.Writes.{pointer-with_pointer_other, pointer-with_pointer_same, flag-with_flag_other, flag-with_flag_same}
 use Rattle.charge_laws.specs.Counting.{IsIn, IsWithoutRepeats, count_into, count_all}
