@@ -1,3 +1,5 @@
+pub mod Laws
+pub mod Charged
 pub mod Counting
 pub mod Members
 pub mod Bounds
@@ -10,6 +12,6 @@ pub mod HsuHuangTurns
 pub mod HsuHuangFalls
 pub mod ManneTurns
 pub mod ManneFalls
-pub mod Spent
+pub mod Zero
 pub mod Tables
 pub mod Runs

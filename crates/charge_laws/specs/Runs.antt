@@ -1,5 +1,5 @@
 -- What the charge says of runs, for any rule set whose steps lower it.
-use Rattle.std.proofs.Common.{◌≡◌, ◌≢◌, ℕ, ◌+◌, ◌*◌, ◌≤◌, List, [], ◌∷◌, length, sum_by, All, Option, None, Some, refl, sym, ap, ◌∙◌, subst, arith}
+use Rattle.std.proofs.Common.{◌≡◌, ◌≢◌, ℕ, ◌+◌, ◌≤◌, List, [], ◌∷◌, Option, None, Some, refl, sym, ap, ◌∙◌, subst, arith}
 use Rattle.std.proofs.lemmas.List.Elements.{All-head, All-tail}
 use Rattle.std.proofs.lemmas.List.Sums.{sum_by-cons}
 use Rattle.rule_machine.specs.declared.choice.Item.{Item}
@@ -9,49 +9,20 @@ use Rattle.rule_machine.specs.declared.event.Event.TheVariants.{Link, Unlink, Po
 use Rattle.rule_machine.specs.declared.refusal.Refusal.{Refusal}
 use Rattle.rule_machine.specs.declared.reply.Reply.{Reply}
 use Rattle.rule_machine.specs.declared.reply.Reply.TheVariants.{Accepted, Refused, Moves, Shown, EnabledAre, Pairs}
-use Rattle.rule_machine.specs.Network.{Network, node_count, edge_count}
 use Rattle.rule_machine.specs.State.{State, IsState}
 use Rattle.rule_machine.specs.RuleTable.{RuleTable}
 use Rattle.rule_machine.specs.Step.{IsStep}
-use Rattle.rule_machine.specs.Stable.{IsStable}
 use Rattle.rule_machine.specs.Refuse.{refusal_of}
 use Rattle.rule_machine.specs.Answer.{Does, AnswersBy, Answers}
 use Rattle.rule_machine.specs.Run.{Entry, Moment, Run, spent_after}
 use Rattle.machine_laws.specs.LeastMoves.{IsTable}
 use Rattle.machine_laws.specs.Runs.{answers_keep}
-
--- twice the edges of a network, and a weight for each of its nodes
-abbrev pub charge_bound : ℕ → Network → ℕ
-charge_bound weight net = 2 * edge_count net + weight * node_count net
-
--- the charge of a rule set falls by the moves of each step, is bounded by edges and nodes, and is zero only where the
--- network is stable
-pub record IsCharged (t : RuleTable) (weight : ℕ) : Type 0 where
-  pub falls : (s : State) → IsState s → (items : List Item) (moves : List Moved) (s' : State) → IsStep t s items moves s' → t.charge s' + length moves ≤ t.charge s
-  pub bounded : (s : State) → IsState s → t.charge s ≤ charge_bound weight s.network
-  pub spent_is_stable : (s : State) → IsState s → t.charge s ≡ 0 → IsStable t.flags s
-
--- the moves that a reply tells of
-abbrev pub moves_of : Reply → ℕ
-moves_of (Moves moves) = length moves
-moves_of reply = 0
-
--- the moves of a log
-abbrev pub moves_in : List Entry → ℕ
-moves_in log = sum_by (λ entry. moves_of entry.1) log
-
--- no entry of the log is an accepted disturbance
-abbrev pub IsUndisturbed : List Entry → Type 0
-IsUndisturbed log = All (λ entry. entry.1 ≢ Accepted) log
-
--- what is spent and the charge that is left are within the bound of the network
-abbrev pub IsWithinBound : RuleTable → ℕ → Moment → Type 0
-IsWithinBound t weight m = m.spent + t.charge m.state ≤ charge_bound weight m.state.network
+use Rattle.charge_laws.specs.Charged.{charge_bound, IsCharged, moves_of, moves_in, IsUndisturbed, IsWithinBound}
 
 -- ---- one answer
 
 -- what an answer does: nothing, a step, or a disturbance
-data Effect (t : RuleTable) (s : State) (reply : Reply) (s' : State) : Type 0 where
+pub data Effect (t : RuleTable) (s : State) (reply : Reply) (s' : State) : Type 0 where
   rests : s' ≡ s → moves_of reply ≡ 0 → ((n : ℕ) → spent_after n reply ≡ n) → Effect t s reply s'
   steps : (items : List Item) (moves : List Moved) → reply ≡ Moves moves → IsStep t s items moves s' → Effect t s reply s'
   disturbs : reply ≡ Accepted → Effect t s reply s'
@@ -71,10 +42,10 @@ effect_by : (t : RuleTable) (s : State) (event : Event) (r : Option Refusal) (re
 effect_by t s event None reply s' does = does_effect t s event reply s' does
 effect_by t s event (Some refusal) reply s' does = rests does.1 (ap moves_of does.0) (λ n. ap (spent_after n) does.0)
 
-effect : (t : RuleTable) (s : State) (event : Event) (reply : Reply) (s' : State) → Answers t s event reply s' → Effect t s reply s'
+pub effect : (t : RuleTable) (s : State) (event : Event) (reply : Reply) (s' : State) → Answers t s event reply s' → Effect t s reply s'
 effect t s event reply s' answers = effect_by t s event (refusal_of t s event) reply s' answers
 
-step_network : (t : RuleTable) (s : State) (items : List Item) (moves : List Moved) (s' : State) → IsStep t s items moves s' → s'.network ≡ s.network
+pub step_network : (t : RuleTable) (s : State) (items : List Item) (moves : List Moved) (s' : State) → IsStep t s items moves s' → s'.network ≡ s.network
 step_network t s items moves s' step = ap (λ u. u.network) step.after
 
 -- an answer that is no accepted disturbance lowers the charge by its moves, and keeps the network

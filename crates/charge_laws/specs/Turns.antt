@@ -1,4 +1,20 @@
--- What the pointers of a step do, whatever the rules: who stays, marries, seduces or abandons, and what that pays.
+-- Why a step's moves are paid by the charge, as far as it is the same under all rules.
+--
+-- A node is free (its pointer is null), waits (its pointer is not answered) or is paired (it is). In a step it stays,
+-- marries, seduces or abandons. A pair stays a pair, since only a pointer that is not answered is given up. So besides by
+-- an abandonment a stance changes in three ways: a free node comes to wait (it climbs) or to be paired (it answers), and a
+-- waiting one comes to be paired (it wins), without a move of its own.
+--
+-- For each node: waits after + wins + writes its pointer <= waits before + answers + 2 * climbs. An abandonment pays with
+-- the pointer that it gives up, and who wins stops waiting. Who points from null and is answered at once is paid by the
+-- one that wins by it; who climbs has to be paid two, one for the move and one for its waiting afterwards.
+--
+-- Over all names no more nodes answer than win: who answers has taken a suitor, which waited for it and is now paired with
+-- it, and a suitor waits for one node only. So what waits after and the pointers written are paid by what waited before
+-- and by two for each climb.
+--
+-- The open edges pay these two: a closed edge stays closed, and each node that climbs closes an open edge of its own. That
+-- is shown for each table of rules: HsuHuangTurns, ManneTurns. There too an update is paid, by its own node's part.
 use Rattle.std.proofs.Common.{◌≡◌, ◌≢◌, ℕ, ◌+◌, ◌*◌, ◌≤◌, Bool, cond, ◌&&◌, List, Option, None, Some, count_by, sum_by, unwrap_or, IsTrue, sym, ap, ◌∙◌, subst, subst₂, arith}
 use Rattle.std.proofs.lemmas.Bool.{and_parts, and_from}
 use Rattle.std.proofs.lemmas.Option.{none-some, same_Some}

@@ -35,8 +35,8 @@ null_ends_open s answered a b null other (low_awaits at void) = none-some b (sym
 null_ends_open s answered a b null other (high_awaits at void) = none-some a (sym other ∙ at)
 null_ends_open s answered a b null other (courted low high u v at also) = none-some u (sym null ∙ answered u a at)
 
-pub hsu_huang_spent : (s : State) → IsState s → hsu_huang_charge s ≡ 0 → IsStable false s
-hsu_huang_spent s good e = record {
+pub hsu_huang_zero_is_stable : (s : State) → IsState s → hsu_huang_charge s ≡ 0 → IsStable false s
+hsu_huang_zero_is_stable s good e = record {
   answered = λ v. if_some_from (pointer s v) (λ w. pointer s w ≡ Some v) (λ w at. answered v w at);
   covered = λ v w h null other. covered v w h null other;
   flagged = λ h. absurd (true≢false (sym h));
@@ -55,8 +55,8 @@ hsu_huang_spent s good e = record {
         (λ closed. null_ends_open s answered w v other null (closed_is s w v good closed))
         (not-false (hsu_huang_closed s (edge v w)) (count_none (λ e. not (hsu_huang_closed s e)) (edge_list s.network) none_open (edge v w) (in_edges s.network (edge v w) h)))
 
-pub manne_spent : (s : State) → IsState s → manne_charge s ≡ 0 → IsStable true s
-manne_spent s good e = record {
+pub manne_zero_is_stable : (s : State) → IsState s → manne_charge s ≡ 0 → IsStable true s
+manne_zero_is_stable s good e = record {
   answered = λ v. if_some_from (pointer s v) (λ w. pointer s w ≡ Some v) (λ w at. all_answered s good (omega (arith, e)) v w at);
   covered = λ v w h null other. true≢false (sym (both_true v (linked_present s.network v w good.is_network h)).0 ∙ null_unmarried s v null);
   flagged = λ h v has. let both = both_true v has in both.1 ∙ sym both.0;
