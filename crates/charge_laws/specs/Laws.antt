@@ -1,7 +1,7 @@
 -- The charge pays for moves, under both tables of rules: each move lowers it by one at least, twice the edges and a weight
 -- for each node bound it, and where it is zero the network is stable. So between two disturbances no more moves come than
 -- the charge was, whatever the daemon chooses and whatever allowed targets are taken; and when as many have come, the
--- network is stable. Why a step's moves are paid is told in Turns.
+-- network is stable. Why a step's moves are paid is told in Turns; Epochs has the bound for each epoch of a run.
 use Rattle.std.proofs.Common.{ℕ, ◌+◌, ◌*◌, ◌≤◌, true, false, List, arith}
 use Rattle.rule_machine.specs.Network.{node_count, edge_count}
 use Rattle.rule_machine.specs.State.{IsState, opening}

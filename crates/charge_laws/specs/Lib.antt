@@ -15,3 +15,4 @@ pub mod ManneFalls
 pub mod Zero
 pub mod Tables
 pub mod Runs
+pub mod Epochs
