@@ -18,7 +18,7 @@ charge_bound weight net = 2 * edge_count net + weight * node_count net
 -- the charge of a rule set falls by the moves of each step, is bounded by edges and nodes, and is zero only where the
 -- network is stable
 pub record IsCharged (t : RuleTable) (weight : ℕ) : Type 0 where
-  pub falls : (s : State) → IsState s → (items : List Item) (moves : List Moved) (s' : State) → IsStep t s items moves s' → t.charge s' + length moves ≤ t.charge s
+  pub falls : (s : State) (items : List Item) (moves : List Moved) (s' : State) → IsState s → IsStep t s items moves s' → t.charge s' + length moves ≤ t.charge s
   pub bounded : (s : State) → IsState s → t.charge s ≤ charge_bound weight s.network
   pub zero_is_stable : (s : State) → IsState s → t.charge s ≡ 0 → IsStable t.flags s
 

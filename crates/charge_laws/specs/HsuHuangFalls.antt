@@ -182,8 +182,8 @@ solo_falls s s' moves x step =
     omega (arith, edges, nodes, open_edges, solo_closes s s' moves x step, solo_names s s' moves x step)
 
 -- the charge falls by the one move of a step
-pub hsu_huang_falls : (s : State) → IsState s → (items : List Item) (moves : List Moved) (s' : State) → IsStep hsu_huang s items moves s' → hsu_huang_charge s' + length moves ≤ hsu_huang_charge s
-hsu_huang_falls s good items moves s' step =
+pub hsu_huang_falls : (s : State) (items : List Item) (moves : List Moved) (s' : State) → IsState s → IsStep hsu_huang s items moves s' → hsu_huang_charge s' + length moves ≤ hsu_huang_charge s
+hsu_huang_falls s items moves s' good step =
     let done = step_done hsu_huang hsu_huang_inside s good items moves s' step in
     let one = one_mover moves (step.alone refl) in
     solo_falls s s' moves one.0 (record { before = good; done = done; only = one.1; solo = solo_from s s' moves one.0 good done one.1 one.2 })

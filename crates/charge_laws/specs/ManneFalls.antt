@@ -153,6 +153,6 @@ joint_falls s s' moves step =
     omega (arith, edges, nodes, costs, open_edges, joint_closes s s' moves step, joint_names s s' moves step)
 
 -- the charge falls by the moves of a step
-pub manne_falls : (s : State) → IsState s → (items : List Item) (moves : List Moved) (s' : State) → IsStep manne s items moves s' → manne_charge s' + length moves ≤ manne_charge s
-manne_falls s good items moves s' step =
+pub manne_falls : (s : State) (items : List Item) (moves : List Moved) (s' : State) → IsState s → IsStep manne s items moves s' → manne_charge s' + length moves ≤ manne_charge s
+manne_falls s items moves s' good step =
     joint_falls s s' moves (record { before = good; done = step_done manne manne_inside s good items moves s' step })

@@ -56,7 +56,7 @@ answer_lowers t weight charged s good event reply s' answers calm = by_effect (e
     by_effect (rests same none keeps) = let charge_is = ap t.charge same in (omega (arith, none, charge_is), ap (λ u. u.network) same)
     by_effect (steps items moves is step) =
         let count = ap moves_of is in
-        let less = charged.falls s good items moves s' step in
+        let less = charged.falls s items moves s' good step in
         (omega (arith, count, less), step_network t s items moves s' step)
     by_effect (disturbs is) = absurd (calm is)
 
@@ -72,7 +72,7 @@ answer_within t weight table charged m good within event reply s answers = by_ef
         omega (arith, spent, charge_is, bound, within)
     by_effect (steps items moves is step) =
         let spent = ap (spent_after m.spent) is in
-        let less = charged.falls m.state good items moves s step in
+        let less = charged.falls m.state items moves s good step in
         let bound = ap (charge_bound weight) (step_network t m.state items moves s step) in
         omega (arith, spent, less, bound, within)
     by_effect (disturbs is) =
