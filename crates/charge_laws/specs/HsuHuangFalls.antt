@@ -17,7 +17,7 @@ use Rattle.charge_laws.specs.Turns.{climbs, bit, IsRound, round_pays, written_by
 use Rattle.charge_laws.specs.Writes.{is_moved}
 use Rattle.charge_laws.specs.Deeds.{Deed, idles, updates, marries, seduces, abandons, IsDone, step_done}
 use Rattle.charge_laws.specs.Inside.{holds_is, near_names, hsu_huang_inside}
-use Rattle.charge_laws.specs.HsuHuangTurns.{SoloTurn, takes, courts, leaves, IsSolo, solo_turn, no_solo_duel, IsClosed, low_paired, high_paired, low_awaits, high_awaits, courted, closed_swap, closed_stays, Courts, climber_courts, courting_was_open, courting_closes}
+use Rattle.charge_laws.specs.HsuHuangTurns.{SoloTurn, takes, courts, leaves, IsSolo, solo_turn, seductions_not_mutual, IsClosed, low_paired, high_paired, low_awaits, high_awaits, courted, closed_swap, closed_stays, Courts, climber_courts, courting_was_open, courting_closes}
 
 -- ---- the step in pointers
 
@@ -123,7 +123,7 @@ record IsSoloStep (s s' : State) (moves : List Moved) (x : ℕ) : Type 0 where
 abbrev solo_round : (s s' : State) (moves : List Moved) (x : ℕ) → IsSoloStep s s' moves x → IsRound (pointer s) (pointer s') (names s.network)
 solo_round s s' moves x step = record {
   turns = λ v. (solo_turn (pointer s) (pointer s') x step.solo v).turn;
-  no_duel = no_solo_duel (pointer s) (pointer s') x step.solo;
+  no_mutual_seduction = seductions_not_mutual (pointer s) (pointer s') x step.solo;
   near = near_names hsu_huang s s' moves step.done;
   single = names_without_repeats s.network;
 }

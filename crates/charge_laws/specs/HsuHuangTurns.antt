@@ -1,4 +1,9 @@
 -- A step of Hsu and Huang's rules in pointers alone: one node moves, closed edges stay closed, and who climbs closes one.
+--
+-- A null node with a suitor moves only by taking one, and then the two are paired, since nobody else moves; and its suitor,
+-- whose target is null, can't move. So an edge that is closed by such nodes stays so. Who climbs is the mover; it has no
+-- suitor, since one that it took would answer, and points at a null node: the edge between them was open, and is closed by
+-- this pointer.
 use Rattle.std.proofs.Common.{◌≡◌, ◌≢◌, ℕ, Option, None, Some, IsTrue, refl, sym, ap, ◌∙◌, subst, inl, inr, ⊎_elim, ◌⊎◌}
 use Rattle.std.proofs.lemmas.Bool.{and_parts, cases_eq}
 use Rattle.std.proofs.lemmas.Option.{none-some, same_Some}
@@ -38,8 +43,9 @@ from_null : (p p' : ℕ → Option ℕ) (x : ℕ) → IsSolo p p' x → (v w : �
 from_null p p' x solo v w null now =
     ⊎_elim (λ same. same) (λ apart. absurd (none-some w (sym null ∙ sym (solo.others v apart) ∙ now))) (cases_eq v x)
 
-pub no_solo_duel : (p p' : ℕ → Option ℕ) (x : ℕ) → IsSolo p p' x → (v w : ℕ) → p v ≡ None → p w ≡ None → p' v ≡ Some w → p' w ≡ Some v → ⊥
-no_solo_duel p p' x solo v w null other now back = by_turn solo.turn
+-- only one node moves, and not to itself
+pub seductions_not_mutual : (p p' : ℕ → Option ℕ) (x : ℕ) → IsSolo p p' x → (v w : ℕ) → p v ≡ None → p w ≡ None → p' v ≡ Some w → p' w ≡ Some v → ⊥
+seductions_not_mutual p p' x solo v w null other now back = by_turn solo.turn
   where
     here : v ≡ x
     here = from_null p p' x solo v w null now

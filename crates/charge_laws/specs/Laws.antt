@@ -2,7 +2,7 @@
 -- for each node bound it, and where it is zero the network is stable. So between two disturbances no more moves come than
 -- the charge was, whatever the daemon chooses and whatever allowed targets are taken; and when as many have come, the
 -- network is stable. Why a step's moves are paid is told in Turns; Epochs has the bound for each epoch of a run.
-use Rattle.std.proofs.Common.{ℕ, ◌+◌, ◌*◌, ◌≤◌, true, false, List, arith}
+use Rattle.std.proofs.Common.{◌≡◌, ℕ, ◌+◌, ◌*◌, ◌≤◌, true, false, List, arith}
 use Rattle.rule_machine.specs.Network.{node_count, edge_count}
 use Rattle.rule_machine.specs.State.{IsState, opening}
 use Rattle.rule_machine.specs.RuleTable.{RuleTable}
@@ -57,11 +57,12 @@ moves_are_bounded t weight table charged start good log end run calm =
     let most = charged.bounded start.state good in
     omega (arith, paid, most)
 
--- When as many moves have come as the charge was, the network is stable.
-pub enough_moves_settle : (t : RuleTable) (weight : ℕ) → IsTable t → IsCharged t weight → (start : Moment) → IsState start.state → (log : List Entry) (end : Moment) → Run t start log end → IsUndisturbed log → t.charge start.state ≤ moves_in log → IsStable t.flags end.state
+-- When as many moves have come as the charge was, it is zero and the network is stable.
+pub enough_moves_settle : (t : RuleTable) (weight : ℕ) → IsTable t → IsCharged t weight → (start : Moment) → IsState start.state → (log : List Entry) (end : Moment) → Run t start log end → IsUndisturbed log → t.charge start.state ≤ moves_in log → (t.charge end.state ≡ 0) × IsStable t.flags end.state
 enough_moves_settle t weight table charged start good log end run calm enough =
     let paid = moves_are_paid t weight table charged start good log end run calm in
-    charged.zero_is_stable end.state (runs_end_in_states t table start good log end run) (omega (arith, paid, enough))
+    let zero : t.charge end.state ≡ 0 = omega (arith, paid, enough) in
+    (zero, charged.zero_is_stable end.state (runs_end_in_states t table start good log end run) zero)
 
 -- where every journal begins nothing is spent, and the charge is within the bound
 pub beginning_is_within : (t : RuleTable) (weight : ℕ) → IsCharged t weight → (size : ℕ) → IsWithinBound t weight (beginning size)
@@ -86,10 +87,10 @@ manne_moves_are_bounded start good log end run calm = moves_are_bounded manne 3 
 
 -- and when as many moves have come as the charge was, the network is stable
 pub hsu_huang_settles : (start : Moment) → IsState start.state → (log : List Entry) (end : Moment) → Run hsu_huang start log end → IsUndisturbed log → hsu_huang.charge start.state ≤ moves_in log → IsStable false end.state
-hsu_huang_settles start good log end run calm enough = enough_moves_settle hsu_huang 1 hsu_huang_table hsu_huang_charged start good log end run calm enough
+hsu_huang_settles start good log end run calm enough = (enough_moves_settle hsu_huang 1 hsu_huang_table hsu_huang_charged start good log end run calm enough).1
 
 pub manne_settles : (start : Moment) → IsState start.state → (log : List Entry) (end : Moment) → Run manne start log end → IsUndisturbed log → manne.charge start.state ≤ moves_in log → IsStable true end.state
-manne_settles start good log end run calm enough = enough_moves_settle manne 3 manne_table manne_charged start good log end run calm enough
+manne_settles start good log end run calm enough = (enough_moves_settle manne 3 manne_table manne_charged start good log end run calm enough).1
 
 -- a journal's spending is bounded by its network, at any moment
 pub hsu_huang_spending_is_bounded : (size : ℕ) (log : List Entry) (end : Moment) → Run hsu_huang (beginning size) log end → end.spent + hsu_huang.charge end.state ≤ 2 * edge_count end.state.network + node_count end.state.network

@@ -17,7 +17,7 @@ use Rattle.charge_laws.specs.Turns.{climbs, IsRound, round_pays}
 use Rattle.charge_laws.specs.Writes.{is_moved}
 use Rattle.charge_laws.specs.Deeds.{Deed, idles, updates, marries, seduces, abandons, IsDone, step_done}
 use Rattle.charge_laws.specs.Inside.{holds_is, near_names, manne_inside}
-use Rattle.charge_laws.specs.ManneTurns.{FlagTurn, idles, updates, takes, courts, leaves, pointer_turn, no_flag_duel, node_cost, flags_pay, IsClosed, low_paired, high_paired, points_up, closed_stays, Reaches, climber_reaches, reached_was_open, reaching_closes}
+use Rattle.charge_laws.specs.ManneTurns.{FlagTurn, idles, updates, takes, courts, leaves, pointer_turn, seductions_not_mutual, node_cost, flags_pay, IsClosed, low_paired, high_paired, points_up, closed_stays, Reaches, climber_reaches, reached_was_open, reaching_closes}
 
 -- ---- the step in pointers and flags
 
@@ -90,7 +90,7 @@ turns_of s s' moves step v = own_turn s s' moves v step.before (step.done.deeds 
 abbrev joint_round : (s s' : State) (moves : List Moved) → IsJointStep s s' moves → IsRound (pointer s) (pointer s') (names s.network)
 joint_round s s' moves step = record {
   turns = λ v. pointer_turn (turns_of s s' moves step v);
-  no_duel = no_flag_duel (pointer s) (pointer s') (flag s) (flag s') (is_moved moves) (turns_of s s' moves step);
+  no_mutual_seduction = seductions_not_mutual (pointer s) (pointer s') (flag s) (flag s') (is_moved moves) (turns_of s s' moves step);
   near = near_names manne s s' moves step.done;
   single = names_without_repeats s.network;
 }

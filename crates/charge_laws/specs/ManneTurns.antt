@@ -1,5 +1,11 @@
 -- A step of the rules of Manne and others in pointers and flags alone: any nodes move at once, closed edges stay closed,
 -- who climbs closes one, and each update is paid by its own node.
+--
+-- Who moves its pointer has a right flag, and is in no pair: its flag is false. So a pointer up to an unflagged node is not
+-- given up, and a flag becomes true only at a node that was paired: a closed edge stays closed. Who climbs points up: it
+-- courts a node above it, or it takes a suitor that leaves it in the same step, and an unflagged node is left only by one
+-- above it. The target is in no pair, so its flag stays false in that step: the edge was open, and is closed.
+-- An update lowers what its node adds by one at least, whether or not its pointer is answered in the same step.
 use Rattle.std.proofs.Common.{◌≡◌, ◌≢◌, ℕ, ◌+◌, ◌<◌, ◌≤◌, Bool, true, false, cond, not, Option, None, Some, IsTrue, refl, sym, ap, ◌∙◌, subst, inl, inr, ⊎_elim, ◌⊎◌, arith}
 use Rattle.std.proofs.lemmas.Bool.{and_parts, cases_Bool, true≢false}
 use Rattle.std.proofs.lemmas.Option.{none-some, same_Some}
@@ -24,8 +30,8 @@ pointer_turn (courts w null other now below open_flag plain kept) = seduces w nu
 pointer_turn (leaves w at alone now lost plain kept) = abandons w at alone now
 
 -- two nodes that court each other would each be above the other
-pub no_flag_duel : (p p' : ℕ → Option ℕ) (m m' moved : ℕ → Bool) → ((v : ℕ) → FlagTurn p p' m m' moved v) → (v w : ℕ) → p v ≡ None → p w ≡ None → p' v ≡ Some w → p' w ≡ Some v → ⊥
-no_flag_duel p p' m m' moved turns v w null other now back =
+pub seductions_not_mutual : (p p' : ℕ → Option ℕ) (m m' moved : ℕ → Bool) → ((v : ℕ) → FlagTurn p p' m m' moved v) → (v w : ℕ) → p v ≡ None → p w ≡ None → p' v ≡ Some w → p' w ≡ Some v → ⊥
+seductions_not_mutual p p' m m' moved turns v w null other now back =
     let up = rises v w null other now (turns v) in
     let down = rises w v other null back (turns w) in
     omega arith

@@ -96,7 +96,7 @@ turn_pays p p' turns v = by_turn (turns v)
 -- the turns of one step among these names, where no two seduce each other
 pub record IsRound (p p' : ℕ → Option ℕ) (xs : List ℕ) : Type 0 where
   pub turns : (v : ℕ) → Turn p p' v
-  pub no_duel : (v w : ℕ) → p v ≡ None → p w ≡ None → p' v ≡ Some w → p' w ≡ Some v → ⊥
+  pub no_mutual_seduction : (v w : ℕ) → p v ≡ None → p w ≡ None → p' v ≡ Some w → p' w ≡ Some v → ⊥
   pub near : (v w : ℕ) → p' v ≡ Some w → IsIn w xs
   pub single : IsWithoutRepeats xs
 
@@ -107,7 +107,7 @@ suitor_answered p p' xs round v w null now back = by_turn (round.turns w)
     by_turn : Turn p p' w → p w ≡ Some v
     by_turn (stays kept) = sym kept ∙ back
     by_turn (marries x void suitor at) = absurd (none-some w (sym null ∙ ap p (same_Some v x (sym back ∙ at)) ∙ suitor))
-    by_turn (seduces x void other at) = absurd (round.no_duel v w null void now back)
+    by_turn (seduces x void other at) = absurd (round.no_mutual_seduction v w null void now back)
     by_turn (abandons x was alone at) = absurd (none-some v (sym at ∙ back))
 
 -- Each pointer from null that is answered answers one that was not: that of its target, which names it.
