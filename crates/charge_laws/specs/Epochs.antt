@@ -1,0 +1,81 @@
+-- The epochs of a run: none has more moves than twice its edges and the weight for each of its nodes.
+use Rattle.std.proofs.Common.{◌≡◌, ◌≢◌, ℕ, ◌+◌, ◌*◌, ◌≤◌, List, [], ◌∷◌, length, map, All, refl, sym, ap, ◌∙◌, arith}
+use Rattle.std.proofs.lemmas.List.Elements.{All-nil, All-cons, All-append}
+use Rattle.rule_machine.specs.declared.reply.Reply.{Reply}
+use Rattle.rule_machine.specs.declared.reply.Reply.TheVariants.{Accepted, Refused, Moves, Shown, EnabledAre, Pairs}
+use Rattle.rule_machine.specs.Network.{node_count, edge_count}
+use Rattle.rule_machine.specs.State.{State, IsState, opening}
+use Rattle.rule_machine.specs.RuleTable.{RuleTable}
+use Rattle.rule_machine.specs.Answer.{Answers}
+use Rattle.rule_machine.specs.Run.{Entry, Moment, Run, spent_after, beginning, Epoch, epoch_at, epochs_by, epochs_from}
+use Rattle.machine_laws.specs.Keeps.{opening_is_state}
+use Rattle.machine_laws.specs.LeastMoves.{IsTable}
+use Rattle.machine_laws.specs.Runs.{answers_keep}
+use Rattle.charge_laws.specs.Charged.{IsCharged, IsWithinBound}
+use Rattle.charge_laws.specs.Runs.{answer_lowers, answer_within}
+use Rattle.charge_laws.specs.Laws.{beginning_is_within}
+
+-- From a moment on, the machine may give these entries, each with the state after it.
+abbrev pub IsPath : RuleTable → Moment → List (Entry × State) → Type 0
+IsPath t start [] = Unit {0}
+IsPath t start (step ∷ path) =
+    Answers t start.state step.0.0 step.0.1 step.1 × IsPath t (record { state = step.1; spent = spent_after start.spent step.0.1 }) path
+
+-- every run has such states
+pub path_from_run : (t : RuleTable) (start : Moment) (log : List Entry) (end : Moment) → Run t start log end → (path : List (Entry × State)) × (map (λ step. step.0) path ≡ log) × IsPath t start path
+path_from_run t start [] end run = ([], refl, tt)
+path_from_run t start (entry ∷ log) end (next, answers, run) =
+    let rest = path_from_run t (record { state = next; spent = spent_after start.spent entry.1 }) log end run in
+    ((entry, next) ∷ rest.0, ap (λ l. entry ∷ l) rest.1, (answers, rest.2))
+
+-- the epoch that has come to this moment
+pub record IsEpochAt (m : Moment) (epoch : Epoch) : Type 0 where
+  pub moves : epoch.moves ≡ m.spent
+  pub edges : epoch.edges ≡ edge_count m.state.network
+  pub nodes : epoch.nodes ≡ node_count m.state.network
+
+-- an epoch with no more moves than its bound
+abbrev pub IsBounded : ℕ → Epoch → Type 0
+IsBounded weight epoch = epoch.moves ≤ 2 * epoch.edges + weight * epoch.nodes
+
+bounded_at : (t : RuleTable) (weight : ℕ) (m : Moment) (epoch : Epoch) → IsEpochAt m epoch → IsWithinBound t weight m → IsBounded weight epoch
+bounded_at t weight m epoch at within =
+    let weights = ap (λ n. weight * n) at.nodes in omega (arith, at.moves, at.edges, weights, within)
+
+-- the same epoch goes on where the network is the same
+goes_on : (m : Moment) (epoch : Epoch) (s : State) (moved : ℕ) → IsEpochAt m epoch → s.network ≡ m.state.network → IsEpochAt (record { state = s; spent = m.spent + moved }) (record epoch { moves = epoch.moves + moved })
+goes_on m epoch s moved at same = record {
+  moves = ap (λ n. n + moved) at.moves;
+  edges = at.edges ∙ sym (ap edge_count same);
+  nodes = at.nodes ∙ sym (ap node_count same);
+}
+
+keeps_on : (m : Moment) (epoch : Epoch) (s : State) → IsEpochAt m epoch → s.network ≡ m.state.network → IsEpochAt (record { state = s; spent = m.spent }) epoch
+keeps_on m epoch s at same = record { moves = at.moves; edges = at.edges ∙ sym (ap edge_count same); nodes = at.nodes ∙ sym (ap node_count same) }
+
+-- An answer ends a bounded epoch and begins one, or goes on in the one that there is.
+epoch_turns : (t : RuleTable) (weight : ℕ) (m : Moment) (epoch : Epoch) (number : ℕ) (reply : Reply) (s : State) → IsEpochAt m epoch → IsWithinBound t weight m → (reply ≢ Accepted → s.network ≡ m.state.network) → All (IsBounded weight) (epochs_by reply number s epoch).0 × IsEpochAt (record { state = s; spent = spent_after m.spent reply }) (epochs_by reply number s epoch).1
+epoch_turns t weight m epoch number Accepted s at within same =
+    (All-cons (IsBounded weight) epoch [] (bounded_at t weight m epoch at within) (All-nil (IsBounded weight)), record { moves = refl; edges = refl; nodes = refl })
+epoch_turns t weight m epoch number (Moves moves) s at within same = (All-nil (IsBounded weight), goes_on m epoch s (length moves) at (same (λ e. cc)))
+epoch_turns t weight m epoch number (Refused refusal) s at within same = (All-nil (IsBounded weight), keeps_on m epoch s at (same (λ e. cc)))
+epoch_turns t weight m epoch number (Shown target) s at within same = (All-nil (IsBounded weight), keeps_on m epoch s at (same (λ e. cc)))
+epoch_turns t weight m epoch number (EnabledAre nodes) s at within same = (All-nil (IsBounded weight), keeps_on m epoch s at (same (λ e. cc)))
+epoch_turns t weight m epoch number (Pairs pairs) s at within same = (All-nil (IsBounded weight), keeps_on m epoch s at (same (λ e. cc)))
+
+-- From a moment within the bound, each epoch is bounded.
+pub epochs_are_bounded : (t : RuleTable) (weight : ℕ) → IsTable t → IsCharged t weight → (start : Moment) → IsState start.state → IsWithinBound t weight start → (number : ℕ) (epoch : Epoch) → IsEpochAt start epoch → (path : List (Entry × State)) → IsPath t start path → All (IsBounded weight) (epochs_from number epoch path)
+epochs_are_bounded t weight table charged start good within number epoch at [] path =
+    All-cons (IsBounded weight) epoch [] (bounded_at t weight start epoch at within) (All-nil (IsBounded weight))
+epochs_are_bounded t weight table charged start good within number epoch at (((event, reply), s) ∷ steps) (answers, path) =
+    let turn = epoch_turns t weight start epoch number reply s at within (λ calm. (answer_lowers t weight charged start.state good event reply s answers calm).1) in
+    All-append (IsBounded weight) (epochs_by reply number s epoch).0 (epochs_from (number + 1) (epochs_by reply number s epoch).1 steps) turn.0
+    (epochs_are_bounded t weight table charged (record { state = s; spent = spent_after start.spent reply })
+    (answers_keep t table start.state good event reply s answers)
+    (answer_within t weight table charged start good within event reply s answers)
+    (number + 1) (epochs_by reply number s epoch).1 turn.1 steps path)
+
+-- In a run from the opening state each epoch is bounded, the first and the last included.
+pub opening_epochs_are_bounded : (t : RuleTable) (weight : ℕ) → IsTable t → IsCharged t weight → (size number : ℕ) (path : List (Entry × State)) → IsPath t (beginning size) path → All (λ epoch. epoch.moves ≤ 2 * epoch.edges + weight * epoch.nodes) (epochs_from number (epoch_at 0 (opening size)) path)
+opening_epochs_are_bounded t weight table charged size number path steps =
+    epochs_are_bounded t weight table charged (beginning size) (opening_is_state size) (beginning_is_within t weight charged size) number (epoch_at 0 (opening size)) (record { moves = refl; edges = refl; nodes = refl }) path steps

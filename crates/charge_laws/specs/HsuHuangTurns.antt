@@ -1,0 +1,153 @@
+-- A step of Hsu and Huang's rules in pointers alone: one node moves, closed edges stay closed, and who climbs closes one.
+--
+-- A null node with a suitor moves only by taking one, and then the two are paired, since nobody else moves; and its suitor,
+-- whose target is null, can't move. So an edge that is closed by such nodes stays so. Who climbs is the mover; it has no
+-- suitor, since one that it took would answer, and points at a null node: the edge between them was open, and is closed by
+-- this pointer.
+use Rattle.std.proofs.Common.{◌≡◌, ◌≢◌, ℕ, Option, None, Some, IsTrue, refl, sym, ap, ◌∙◌, subst, inl, inr, ⊎_elim, ◌⊎◌}
+use Rattle.std.proofs.lemmas.Bool.{and_parts, cases_eq}
+use Rattle.std.proofs.lemmas.Option.{none-some, same_Some}
+use Rattle.charge_laws.specs.Stances.{stance, is_free, is_waiting, is_paired, paired_from, free_is, waiting_is, paired_is}
+use Rattle.charge_laws.specs.Turns.{Turn, stays, marries, seduces, abandons, written_by, paired_stays, climbs}
+
+-- what the mover does: it takes a suitor; with no suitor, it courts a null node; or it leaves one that points at a third
+pub data SoloTurn (p p' : ℕ → Option ℕ) (x : ℕ) : Type 0 where
+  takes : (w : ℕ) → p x ≡ None → p w ≡ Some x → p' x ≡ Some w → SoloTurn p p' x
+  courts : (w : ℕ) → p x ≡ None → ((u : ℕ) → p u ≡ Some x → ⊥) → p w ≡ None → (x ≡ w → ⊥) → p' x ≡ Some w → SoloTurn p p' x
+  leaves : (w : ℕ) → p x ≡ Some w → p w ≢ Some x → p w ≢ None → p' x ≡ None → SoloTurn p p' x
+
+-- x moves alone
+pub record IsSolo (p p' : ℕ → Option ℕ) (x : ℕ) : Type 0 where
+  pub others : (v : ℕ) → (v ≡ x → ⊥) → p' v ≡ p v
+  pub turn : SoloTurn p p' x
+
+-- v's turn, which writes a pointer where v is the mover
+pub record MoverTurn (p p' : ℕ → Option ℕ) (x v : ℕ) : Type 0 where
+  pub turn : Turn p p' v
+  pub writes : v ≡ x → written_by turn ≡ 1
+
+mover_turn : (p p' : ℕ → Option ℕ) (x : ℕ) → SoloTurn p p' x → MoverTurn p p' x x
+mover_turn p p' x (takes w null suitor now) = record { turn = marries w null suitor now; writes = λ e. refl }
+mover_turn p p' x (courts w null none other apart now) = record { turn = seduces w null other now; writes = λ e. refl }
+mover_turn p p' x (leaves w at alone busy now) = record { turn = abandons w at alone now; writes = λ e. refl }
+
+pub solo_turn : (p p' : ℕ → Option ℕ) (x : ℕ) → IsSolo p p' x → (v : ℕ) → MoverTurn p p' x v
+solo_turn p p' x solo v =
+    ⊎_elim
+    (λ same. subst (MoverTurn p p' x) (sym same) (mover_turn p p' x solo.turn))
+    (λ apart. record { turn = stays (solo.others v apart); writes = λ same. absurd (apart same) })
+    (cases_eq v x)
+
+-- who points anew from null is the mover
+from_null : (p p' : ℕ → Option ℕ) (x : ℕ) → IsSolo p p' x → (v w : ℕ) → p v ≡ None → p' v ≡ Some w → v ≡ x
+from_null p p' x solo v w null now =
+    ⊎_elim (λ same. same) (λ apart. absurd (none-some w (sym null ∙ sym (solo.others v apart) ∙ now))) (cases_eq v x)
+
+-- only one node moves, and not to itself
+pub seductions_not_mutual : (p p' : ℕ → Option ℕ) (x : ℕ) → IsSolo p p' x → (v w : ℕ) → p v ≡ None → p w ≡ None → p' v ≡ Some w → p' w ≡ Some v → ⊥
+seductions_not_mutual p p' x solo v w null other now back = by_turn solo.turn
+  where
+    here : v ≡ x
+    here = from_null p p' x solo v w null now
+
+    there : w ≡ x
+    there = from_null p p' x solo w v other back
+
+    itself : (u : ℕ) → p' x ≡ Some u → x ≡ u
+    itself u at = sym there ∙ same_Some w u (sym (ap p' (sym here) ∙ now) ∙ at)
+
+    by_turn : SoloTurn p p' x → ⊥
+    by_turn (takes u void suitor at) = none-some x (sym void ∙ ap p (itself u at) ∙ suitor)
+    by_turn (courts u void none free apart at) = apart (itself u at)
+    by_turn (leaves u was alone busy at) = none-some u (sym null ∙ ap p here ∙ was)
+
+-- a taken suitor stays, so that the two are a pair
+taken_pairs : (p p' : ℕ → Option ℕ) (x : ℕ) → IsSolo p p' x → (w : ℕ) → p x ≡ None → p w ≡ Some x → p' w ≡ Some x
+taken_pairs p p' x solo w null suitor = solo.others w (λ same. none-some x (sym null ∙ ap p (sym same) ∙ suitor)) ∙ suitor
+
+-- A null node with a suitor moves only by taking one, and then is paired; and its suitor can't move.
+courted_stays : (p p' : ℕ → Option ℕ) (x : ℕ) → IsSolo p p' x → (v u : ℕ) → p v ≡ None → p u ≡ Some v → IsTrue (is_paired (stance p' v)) ⊎ ((p' v ≡ None) × (p' u ≡ Some v))
+courted_stays p p' x solo v u null suitor =
+    ⊎_elim
+    (λ same. inl (subst (λ y. IsTrue (is_paired (stance p' y))) (sym same) (by_own (ap p (sym same) ∙ null) (suitor ∙ ap Some same) solo.turn)))
+    (λ apart. inr (solo.others v apart ∙ null, ⊎_elim (λ same. absurd (by_suitor (ap p (sym same) ∙ suitor) solo.turn)) (λ also. solo.others u also ∙ suitor) (cases_eq u x)))
+    (cases_eq v x)
+  where
+    by_own : p x ≡ None → p u ≡ Some x → SoloTurn p p' x → IsTrue (is_paired (stance p' x))
+    by_own void at (takes w free other now) = ap is_paired (paired_from p' x w now (taken_pairs p p' x solo w free other))
+    by_own void at (courts w free none other apart now) = absurd (none u at)
+    by_own void at (leaves w was alone busy now) = absurd (none-some w (sym void ∙ was))
+
+    by_suitor : p x ≡ Some v → SoloTurn p p' x → ⊥
+    by_suitor at (takes w free other now) = none-some v (sym free ∙ at)
+    by_suitor at (courts w free none other apart now) = none-some v (sym free ∙ at)
+    by_suitor at (leaves w was alone busy now) = busy (ap p (same_Some w v (sym was ∙ at)) ∙ null)
+
+-- Closed: an end is paired, or one end points at the other, which is null, or both are null with a suitor each.
+pub data IsClosed (p : ℕ → Option ℕ) (a b : ℕ) : Type 0 where
+  low_paired : IsTrue (is_paired (stance p a)) → IsClosed p a b
+  high_paired : IsTrue (is_paired (stance p b)) → IsClosed p a b
+  low_awaits : p a ≡ Some b → p b ≡ None → IsClosed p a b
+  high_awaits : p b ≡ Some a → p a ≡ None → IsClosed p a b
+  courted : p a ≡ None → p b ≡ None → (u v : ℕ) → p u ≡ Some a → p v ≡ Some b → IsClosed p a b
+
+pub closed_swap : (p : ℕ → Option ℕ) (a b : ℕ) → IsClosed p a b → IsClosed p b a
+closed_swap p a b (low_paired h) = high_paired h
+closed_swap p a b (high_paired h) = low_paired h
+closed_swap p a b (low_awaits at null) = high_awaits at null
+closed_swap p a b (high_awaits at null) = low_awaits at null
+closed_swap p a b (courted null other u v at also) = courted other null v u also at
+
+pub closed_stays : (p p' : ℕ → Option ℕ) (x : ℕ) → IsSolo p p' x → (a b : ℕ) → IsClosed p a b → IsClosed p' a b
+closed_stays p p' x solo a b (low_paired h) = low_paired (ap is_paired (paired_stays p p' (λ v. (solo_turn p p' x solo v).turn) a h))
+closed_stays p p' x solo a b (high_paired h) = high_paired (ap is_paired (paired_stays p p' (λ v. (solo_turn p p' x solo v).turn) b h))
+closed_stays p p' x solo a b (low_awaits at null) = ⊎_elim (λ h. high_paired h) (λ both. low_awaits both.1 both.0) (courted_stays p p' x solo b a null at)
+closed_stays p p' x solo a b (high_awaits at null) = ⊎_elim (λ h. low_paired h) (λ both. high_awaits both.1 both.0) (courted_stays p p' x solo a b null at)
+closed_stays p p' x solo a b (courted null other u v at also) =
+    ⊎_elim
+    (λ h. low_paired h)
+    (λ low. ⊎_elim (λ h. high_paired h) (λ high. courted low.0 high.0 u v low.1 high.1) (courted_stays p p' x solo b v other also))
+    (courted_stays p p' x solo a u null at)
+
+-- v, null and without a suitor, points at w, which is and stays null
+pub record Courts (p p' : ℕ → Option ℕ) (v w : ℕ) : Type 0 where
+  pub was : p v ≡ None
+  pub unsuited : (u : ℕ) → p u ≡ Some v → ⊥
+  pub other : p w ≡ None
+  pub now : p' v ≡ Some w
+  pub kept : p' w ≡ None
+
+-- who climbs is the mover, and courts: a taken suitor answers
+pub climber_courts : (p p' : ℕ → Option ℕ) (x : ℕ) → IsSolo p p' x → (v : ℕ) → IsTrue (climbs (stance p v) (stance p' v)) → (v ≡ x) × ((w : ℕ) × Courts p p' v w)
+climber_courts p p' x solo v h = (here, subst (λ y. (w : ℕ) × Courts p p' y w) (sym here) (by_turn solo.turn))
+  where
+    both : IsTrue (is_free (stance p v)) × IsTrue (is_waiting (stance p' v))
+    both = and_parts (is_free (stance p v)) (is_waiting (stance p' v)) h
+
+    null : p v ≡ None
+    null = free_is p v both.0
+
+    aim : (w : ℕ) × (p' v ≡ Some w) × (p' w ≢ Some v)
+    aim = waiting_is p' v both.1
+
+    here : v ≡ x
+    here = from_null p p' x solo v aim.0 null aim.1
+
+    by_turn : SoloTurn p p' x → (w : ℕ) × Courts p p' x w
+    by_turn (takes w void suitor now) =
+        let same = same_Some w aim.0 (sym now ∙ ap p' (sym here) ∙ aim.1) in
+        absurd (aim.2 (ap p' (sym same) ∙ taken_pairs p p' x solo w void suitor ∙ ap Some (sym here)))
+    by_turn (courts w void none other apart now) =
+        (w, record { was = void; unsuited = none; other = other; now = now; kept = solo.others w (λ same. apart (sym same)) ∙ other })
+    by_turn (leaves w at alone busy now) = absurd (none-some w (sym null ∙ ap p here ∙ at))
+
+-- the edge to the courted node was open, and is closed
+pub courting_was_open : (p p' : ℕ → Option ℕ) (v w : ℕ) → Courts p p' v w → IsClosed p v w → ⊥
+courting_was_open p p' v w it (low_paired h) = let pair = paired_is p v h in none-some pair.0 (sym it.was ∙ pair.1)
+courting_was_open p p' v w it (high_paired h) = let pair = paired_is p w h in none-some pair.0 (sym it.other ∙ pair.1)
+courting_was_open p p' v w it (low_awaits at null) = none-some w (sym it.was ∙ at)
+courting_was_open p p' v w it (high_awaits at null) = none-some v (sym it.other ∙ at)
+courting_was_open p p' v w it (courted null other u y at also) = it.unsuited u at
+
+pub courting_closes : (p p' : ℕ → Option ℕ) (v w : ℕ) → Courts p p' v w → IsClosed p' v w
+courting_closes p p' v w it = low_awaits it.now it.kept

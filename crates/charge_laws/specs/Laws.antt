@@ -1,0 +1,101 @@
+-- The charge pays for moves, under both tables of rules: each move lowers it by one at least, twice the edges and a weight
+-- for each node bound it, and where it is zero the network is stable. So between two disturbances no more moves come than
+-- the charge was, whatever the daemon chooses and whatever allowed targets are taken; and when as many have come, the
+-- network is stable. Why a step's moves are paid is told in Turns; Epochs has the bound for each epoch of a run.
+use Rattle.std.proofs.Common.{◌≡◌, ℕ, ◌+◌, ◌*◌, ◌≤◌, true, false, List, arith}
+use Rattle.rule_machine.specs.Network.{node_count, edge_count}
+use Rattle.rule_machine.specs.State.{IsState, opening}
+use Rattle.rule_machine.specs.RuleTable.{RuleTable}
+use Rattle.rule_machine.specs.HsuHuang.{hsu_huang}
+use Rattle.rule_machine.specs.Manne.{manne}
+use Rattle.rule_machine.specs.Stable.{IsStable}
+use Rattle.rule_machine.specs.Run.{Entry, Moment, Run, beginning}
+use Rattle.machine_laws.specs.Keeps.{opening_is_state}
+use Rattle.machine_laws.specs.LeastMoves.{IsTable}
+use Rattle.machine_laws.specs.Runs.{runs_end_in_states}
+use Rattle.charge_laws.specs.Charged.{IsCharged, moves_in, IsUndisturbed, IsWithinBound}
+use Rattle.charge_laws.specs.Bounds.{hsu_huang_bounded, manne_bounded}
+use Rattle.charge_laws.specs.HsuHuangFalls.{hsu_huang_falls}
+use Rattle.charge_laws.specs.ManneFalls.{manne_falls}
+use Rattle.charge_laws.specs.Zero.{hsu_huang_zero_is_stable, manne_zero_is_stable}
+use Rattle.charge_laws.specs.Tables.{hsu_huang_table, manne_table}
+use Rattle.charge_laws.specs.Runs.{run_spends, run_lowers, run_within}
+
+-- Hsu and Huang: one node moves at a time, and each node weighs 1
+pub hsu_huang_charged : IsCharged hsu_huang 1
+hsu_huang_charged = record {
+  falls = hsu_huang_falls;
+  bounded = λ s good. hsu_huang_bounded s;
+  zero_is_stable = hsu_huang_zero_is_stable;
+}
+
+-- Manne and others: any nodes move at once, and each node weighs 3
+pub manne_charged : IsCharged manne 3
+manne_charged = record {
+  falls = manne_falls;
+  bounded = λ s good. manne_bounded s;
+  zero_is_stable = manne_zero_is_stable;
+}
+
+-- ---- runs
+
+-- From any state: the moves of a run without an accepted disturbance are paid by the charge at its start.
+pub moves_are_paid : (t : RuleTable) (weight : ℕ) → IsTable t → IsCharged t weight → (start : Moment) → IsState start.state → (log : List Entry) (end : Moment) → Run t start log end → IsUndisturbed log → moves_in log + t.charge end.state ≤ t.charge start.state
+moves_are_paid t weight table charged start good log end run calm = (run_lowers t weight table charged start good log end run calm).0
+
+-- so is what it spends
+pub spending_is_paid : (t : RuleTable) (weight : ℕ) → IsTable t → IsCharged t weight → (start : Moment) → IsState start.state → (log : List Entry) (end : Moment) → Run t start log end → IsUndisturbed log → end.spent + t.charge end.state ≤ start.spent + t.charge start.state
+spending_is_paid t weight table charged start good log end run calm =
+    let paid = moves_are_paid t weight table charged start good log end run calm in
+    let spends = run_spends t start log end run calm in
+    omega (arith, paid, spends)
+
+-- There are no more of them than twice the edges and the weight for each node.
+pub moves_are_bounded : (t : RuleTable) (weight : ℕ) → IsTable t → IsCharged t weight → (start : Moment) → IsState start.state → (log : List Entry) (end : Moment) → Run t start log end → IsUndisturbed log → moves_in log ≤ 2 * edge_count start.state.network + weight * node_count start.state.network
+moves_are_bounded t weight table charged start good log end run calm =
+    let paid = moves_are_paid t weight table charged start good log end run calm in
+    let most = charged.bounded start.state good in
+    omega (arith, paid, most)
+
+-- When as many moves have come as the charge was, it is zero and the network is stable.
+pub enough_moves_settle : (t : RuleTable) (weight : ℕ) → IsTable t → IsCharged t weight → (start : Moment) → IsState start.state → (log : List Entry) (end : Moment) → Run t start log end → IsUndisturbed log → t.charge start.state ≤ moves_in log → (t.charge end.state ≡ 0) × IsStable t.flags end.state
+enough_moves_settle t weight table charged start good log end run calm enough =
+    let paid = moves_are_paid t weight table charged start good log end run calm in
+    let zero : t.charge end.state ≡ 0 = omega (arith, paid, enough) in
+    (zero, charged.zero_is_stable end.state (runs_end_in_states t table start good log end run) zero)
+
+-- where every journal begins nothing is spent, and the charge is within the bound
+pub beginning_is_within : (t : RuleTable) (weight : ℕ) → IsCharged t weight → (size : ℕ) → IsWithinBound t weight (beginning size)
+beginning_is_within t weight charged size = let most = charged.bounded (opening size) (opening_is_state size) in omega (arith, most)
+
+-- From the opening state, disturbances included: the moves since the last accepted one, with the charge, are within the
+-- bound of the network as it is now.
+pub opening_runs_are_bounded : (t : RuleTable) (weight : ℕ) → IsTable t → IsCharged t weight → (size : ℕ) (log : List Entry) (end : Moment) → Run t (beginning size) log end → end.spent + t.charge end.state ≤ 2 * edge_count end.state.network + weight * node_count end.state.network
+opening_runs_are_bounded t weight table charged size log end run =
+    run_within t weight table charged (beginning size) (opening_is_state size) (beginning_is_within t weight charged size) log end run
+
+-- ---- the two tables
+
+-- Hsu and Huang: between two disturbances at most 2m + n moves, from whatever state
+pub hsu_huang_moves_are_bounded : (start : Moment) → IsState start.state → (log : List Entry) (end : Moment) → Run hsu_huang start log end → IsUndisturbed log → moves_in log ≤ 2 * edge_count start.state.network + node_count start.state.network
+hsu_huang_moves_are_bounded start good log end run calm =
+    let bounded = moves_are_bounded hsu_huang 1 hsu_huang_table hsu_huang_charged start good log end run calm in omega (arith, bounded)
+
+-- Manne and others: at most 2m + 3n, however many nodes move at once
+pub manne_moves_are_bounded : (start : Moment) → IsState start.state → (log : List Entry) (end : Moment) → Run manne start log end → IsUndisturbed log → moves_in log ≤ 2 * edge_count start.state.network + 3 * node_count start.state.network
+manne_moves_are_bounded start good log end run calm = moves_are_bounded manne 3 manne_table manne_charged start good log end run calm
+
+-- and when as many moves have come as the charge was, the network is stable
+pub hsu_huang_settles : (start : Moment) → IsState start.state → (log : List Entry) (end : Moment) → Run hsu_huang start log end → IsUndisturbed log → hsu_huang.charge start.state ≤ moves_in log → IsStable false end.state
+hsu_huang_settles start good log end run calm enough = (enough_moves_settle hsu_huang 1 hsu_huang_table hsu_huang_charged start good log end run calm enough).1
+
+pub manne_settles : (start : Moment) → IsState start.state → (log : List Entry) (end : Moment) → Run manne start log end → IsUndisturbed log → manne.charge start.state ≤ moves_in log → IsStable true end.state
+manne_settles start good log end run calm enough = (enough_moves_settle manne 3 manne_table manne_charged start good log end run calm enough).1
+
+-- a journal's spending is bounded by its network, at any moment
+pub hsu_huang_spending_is_bounded : (size : ℕ) (log : List Entry) (end : Moment) → Run hsu_huang (beginning size) log end → end.spent + hsu_huang.charge end.state ≤ 2 * edge_count end.state.network + node_count end.state.network
+hsu_huang_spending_is_bounded size log end run =
+    let bounded = opening_runs_are_bounded hsu_huang 1 hsu_huang_table hsu_huang_charged size log end run in omega (arith, bounded)
+
+pub manne_spending_is_bounded : (size : ℕ) (log : List Entry) (end : Moment) → Run manne (beginning size) log end → end.spent + manne.charge end.state ≤ 2 * edge_count end.state.network + 3 * node_count end.state.network
+manne_spending_is_bounded size log end run = opening_runs_are_bounded manne 3 manne_table manne_charged size log end run

@@ -1,0 +1,76 @@
+-- What is in the lists of a network's names and edges.
+use Rattle.std.proofs.Common.{◌≡◌, ℕ, zero, suc, ◌+◌, ◌<◌, ◌≤◌, min, max, true, List, [], ◌∷◌, length, IsTrue, sym, ap, ap₂, ◌∙◌, subst, inl, inr, ⊎_elim, arith}
+use Rattle.std.specs.List.{range_with_len, list_any}
+use Rattle.std.specs.Ordering.{eq_by_cmp}
+use Rattle.std.specs.FinMap as map
+use Rattle.std.proofs.lemmas.Bool.{cases_eq, cases_lt, or_cases, or_left, or_right}
+use Rattle.std.proofs.lemmas.Map.Views.{tells_apart}
+use Rattle.std.proofs.lemmas.List.{length-map}
+use Rattle.std.proofs.lemmas.List.FromFn.{length-range_with_len}
+use Rattle.std.proofs.lemmas.Cmp.{eq_by_cmp_equiv}
+use Rattle.rule_machine.specs.Network.{Network, pair_cmp, edge, names, present, edge_list, node_count, edge_count}
+use Rattle.state_lemmas.specs.Neighbours.{present_range, present_from}
+use Rattle.machine_laws.specs.Edges.{pair_total, pair_exact}
+use Rattle.charge_laws.specs.Counting.{IsIn, IsWithoutRepeats}
+
+in_range : (a n v : ℕ) → a ≤ v → v < a + n → IsIn v (range_with_len a n)
+in_range a zero v low high = absurd (omega arith)
+in_range a (suc n) v low high = ⊎_elim (λ same. inl same) (λ apart. inr (in_range (a + 1) n v (omega arith) (omega arith))) (cases_eq a v)
+
+range_bounds : (a n v : ℕ) → IsIn v (range_with_len a n) → (a ≤ v) × (v < a + n)
+range_bounds a zero v h = absurd h
+range_bounds a (suc n) v (inl same) = (omega arith, omega arith)
+range_bounds a (suc n) v (inr there) = let rest = range_bounds (a + 1) n v there in (omega arith, omega arith)
+
+range_without_repeats : (a n : ℕ) → IsWithoutRepeats (range_with_len a n)
+range_without_repeats a zero = tt
+range_without_repeats a (suc n) = (λ h. let below = range_bounds (a + 1) n a h in omega arith, range_without_repeats (a + 1) n)
+
+-- the names are the present nodes, each once
+pub in_names : (net : Network) (v : ℕ) → IsTrue (present net v) → IsIn v (names net)
+in_names net v has = let bounds = present_range net v has in in_range 1 net.size v bounds.0 (omega arith)
+
+pub names_present : (net : Network) (v : ℕ) → IsIn v (names net) → IsTrue (present net v)
+names_present net v h = let bounds = range_bounds 1 net.size v h in present_from net v bounds.0 (omega arith)
+
+pub names_without_repeats : (net : Network) → IsWithoutRepeats (names net)
+names_without_repeats net = range_without_repeats 1 net.size
+
+pub names_len : (net : Network) → length (names net) ≡ node_count net
+names_len net = length-range_with_len 1 net.size
+
+any_in : (e : ℕ × ℕ) (pairs : List (ℕ × ℕ)) → list_any (eq_by_cmp pair_cmp e) pairs ≡ true → IsIn e pairs
+any_in e [] h = absurd cc
+any_in e (pair ∷ pairs) h =
+    ⊎_elim (λ same. inl (sym (tells_apart pair_exact e pair same))) (λ there. inr (any_in e pairs there)) (or_cases (eq_by_cmp pair_cmp e pair) (list_any (eq_by_cmp pair_cmp e) pairs) h)
+
+in_any : (e : ℕ × ℕ) (pairs : List (ℕ × ℕ)) → IsIn e pairs → list_any (eq_by_cmp pair_cmp e) pairs ≡ true
+in_any e [] h = absurd h
+in_any e (pair ∷ pairs) (inl same) =
+    or_left (eq_by_cmp pair_cmp e pair) (list_any (eq_by_cmp pair_cmp e) pairs) (ap (eq_by_cmp pair_cmp e) same ∙ (eq_by_cmp_equiv pair_total).refl e)
+in_any e (pair ∷ pairs) (inr there) =
+    or_right (eq_by_cmp pair_cmp e pair) (list_any (eq_by_cmp pair_cmp e) pairs) (in_any e pairs there)
+
+-- the listed edges are those of the set
+pub in_edges : (net : Network) (e : ℕ × ℕ) → IsTrue (map.contains_key net.edges e) → IsIn e (edge_list net)
+in_edges net e h = any_in e (edge_list net) (sym (map.contains_key-keys net.edges e) ∙ h)
+
+pub edges_contain : (net : Network) (e : ℕ × ℕ) → IsIn e (edge_list net) → IsTrue (map.contains_key net.edges e)
+edges_contain net e h = map.contains_key-keys net.edges e ∙ in_any e (edge_list net) h
+
+pub edges_len : (net : Network) → length (edge_list net) ≡ edge_count net
+edges_len net = length-map (map.entries net.edges) (λ e. e.0) ∙ sym (map.len-entries net.edges)
+
+-- what holds of both orders of the ends holds of the edge
+pub edge_either : (P : ℕ × ℕ → Type 0) (v w : ℕ) → P (v, w) → P (w, v) → P (edge v w)
+edge_either P v w h k =
+    ⊎_elim
+    (λ (below : v < w).
+    let low : min v w ≡ v = omega arith in
+    let high : max v w ≡ w = omega arith in
+    subst P (sym (ap₂ (λ (a b : ℕ). (a, b)) low high)) h)
+    (λ (above : w ≤ v).
+    let low : min v w ≡ w = omega arith in
+    let high : max v w ≡ v = omega arith in
+    subst P (sym (ap₂ (λ (a b : ℕ). (a, b)) low high)) k)
+    (cases_lt v w)

@@ -1,0 +1,160 @@
+-- Why a step's moves are paid by the charge, as far as it is the same under all rules.
+--
+-- A node is free (its pointer is null), waits (its pointer is not answered) or is paired (it is). In a step it stays,
+-- marries, seduces or abandons. A pair stays a pair, since only a pointer that is not answered is given up. So besides by
+-- an abandonment a stance changes in three ways: a free node comes to wait (it climbs) or to be paired (it answers), and a
+-- waiting one comes to be paired (it wins), without a move of its own.
+--
+-- For each node: waits after + wins + writes its pointer <= waits before + answers + 2 * climbs. An abandonment pays with
+-- the pointer that it gives up, and who wins stops waiting. Who points from null and is answered at once is paid by the
+-- one that wins by it; who climbs has to be paid two, one for the move and one for its waiting afterwards.
+--
+-- Over all names no more nodes answer than win: who answers has taken a suitor, which waited for it and is now paired with
+-- it, and a suitor waits for one node only. So what waits after and the pointers written are paid by what waited before
+-- and by two for each climb.
+--
+-- The open edges pay these two: a closed edge stays closed, and each node that climbs closes an open edge of its own. That
+-- is shown for each table of rules: HsuHuangTurns, ManneTurns. There too an update is paid, by its own node's part.
+use Rattle.std.proofs.Common.{◌≡◌, ◌≢◌, ℕ, ◌+◌, ◌*◌, ◌≤◌, Bool, cond, ◌&&◌, List, Option, None, Some, count_by, sum_by, unwrap_or, IsTrue, sym, ap, ◌∙◌, subst, subst₂, arith}
+use Rattle.std.proofs.lemmas.Bool.{and_parts, and_from}
+use Rattle.std.proofs.lemmas.Option.{none-some, same_Some}
+use Rattle.charge_laws.specs.Counting.{IsIn, IsWithoutRepeats, sum_four_le, sum_twice, count_into}
+use Rattle.charge_laws.specs.Stances.{Stance, Free, Waiting, Paired, stance, is_free, is_waiting, is_paired, Standing, standing, free, waiting, paired, free_from, waiting_from, paired_from, free_is, paired_is}
+
+-- What v does where the pointers p become p': nothing, or it takes a suitor, or points from null at a null one, or gives up
+-- a node that does not point back.
+pub data Turn (p p' : ℕ → Option ℕ) (v : ℕ) : Type 0 where
+  stays : p' v ≡ p v → Turn p p' v
+  marries : (w : ℕ) → p v ≡ None → p w ≡ Some v → p' v ≡ Some w → Turn p p' v
+  seduces : (w : ℕ) → p v ≡ None → p w ≡ None → p' v ≡ Some w → Turn p p' v
+  abandons : (w : ℕ) → p v ≡ Some w → p w ≢ Some v → p' v ≡ None → Turn p p' v
+
+-- how many pointers are written
+abbrev pub written_by : {p p' : ℕ → Option ℕ} {v : ℕ} → Turn p p' v → ℕ
+written_by (stays now) = 0
+written_by (marries w null suitor now) = 1
+written_by (seduces w null other now) = 1
+written_by (abandons w at alone now) = 1
+
+-- the changes of a stance that pay or have to be paid: from null to unanswered, from null to answered, from unanswered to
+-- answered
+abbrev pub climbs : Stance → Stance → Bool
+climbs before after = is_free before && is_waiting after
+
+abbrev pub answers : Stance → Stance → Bool
+answers before after = is_free before && is_paired after
+
+abbrev pub wins : Stance → Stance → Bool
+wins before after = is_waiting before && is_paired after
+
+abbrev pub bit : Bool → ℕ
+bit b = cond b 1 0
+
+-- what a node has afterwards and has done is paid by what it had and by the two changes from null
+abbrev pub Pays : Stance → Stance → ℕ → Type 0
+Pays before after done =
+    bit (is_waiting after) + bit (wins before after) + done ≤ bit (is_waiting before) + bit (answers before after) + 2 * bit (climbs before after)
+
+-- a pair stays one, since neither end gives up the other
+pub pair_stays : (p p' : ℕ → Option ℕ) (v w : ℕ) → Turn p p' v → p v ≡ Some w → p w ≡ Some v → p' v ≡ Some w
+pair_stays p p' v w (stays now) at back = now ∙ at
+pair_stays p p' v w (marries x null suitor now) at back = absurd (none-some w (sym null ∙ at))
+pair_stays p p' v w (seduces x null other now) at back = absurd (none-some w (sym null ∙ at))
+pair_stays p p' v w (abandons x also alone now) at back = absurd (alone (ap p (same_Some x w (sym also ∙ at)) ∙ back))
+
+pub paired_stays : (p p' : ℕ → Option ℕ) → ((v : ℕ) → Turn p p' v) → (v : ℕ) → IsTrue (is_paired (stance p v)) → stance p' v ≡ Paired
+paired_stays p p' turns v h =
+    let pair = paired_is p v h in
+    paired_from p' v pair.0 (pair_stays p p' v pair.0 (turns v) pair.1 pair.2) (pair_stays p p' pair.0 v (turns pair.0) pair.2 pair.1)
+
+-- The inequality of one name, by what it does. Who points from null either is answered or climbs; who gives up a node was
+-- unanswered; and who stays is as before, unless it is answered now.
+pub turn_pays : (p p' : ℕ → Option ℕ) (turns : (v : ℕ) → Turn p p' v) (v : ℕ) → Pays (stance p v) (stance p' v) (written_by (turns v))
+turn_pays p p' turns v = by_turn (turns v)
+  where
+    pays : (before after : Stance) (done : ℕ) → stance p v ≡ before → stance p' v ≡ after → Pays before after done → Pays (stance p v) (stance p' v) done
+    pays before after done e f h = subst₂ (λ b a. Pays b a done) (sym e) (sym f) h
+
+    points : p v ≡ None → (w : ℕ) → p' v ≡ Some w → Standing p' v → Pays (stance p v) (stance p' v) 1
+    points null w now (free e is) = absurd (none-some w (sym e ∙ now))
+    points null w now (waiting x e apart is) = pays Free Waiting 1 (free_from p v null) is (omega arith)
+    points null w now (paired x e back is) = pays Free Paired 1 (free_from p v null) is (omega arith)
+
+    rests : p' v ≡ p v → Standing p v → Standing p' v → Pays (stance p v) (stance p' v) 0
+    rests now (free e is) then = pays Free Free 0 is (free_from p' v (now ∙ e)) (omega arith)
+    rests now (waiting w e apart is) (free f was) = absurd (none-some w (sym f ∙ now ∙ e))
+    rests now (waiting w e apart is) (waiting x f alone was) = pays Waiting Waiting 0 is was (omega arith)
+    rests now (waiting w e apart is) (paired x f back was) = pays Waiting Paired 0 is was (omega arith)
+    rests now (paired w e back is) then = pays Paired Paired 0 is (paired_stays p p' turns v (ap is_paired is)) (omega arith)
+
+    by_turn : (t : Turn p p' v) → Pays (stance p v) (stance p' v) (written_by t)
+    by_turn (stays now) = rests now (standing p v) (standing p' v)
+    by_turn (marries w null suitor now) = points null w now (standing p' v)
+    by_turn (seduces w null other now) = points null w now (standing p' v)
+    by_turn (abandons w at alone now) = pays Waiting Free 1 (waiting_from p v w at alone) (free_from p' v now) (omega arith)
+
+-- the turns of one step among these names, where no two seduce each other
+pub record IsRound (p p' : ℕ → Option ℕ) (xs : List ℕ) : Type 0 where
+  pub turns : (v : ℕ) → Turn p p' v
+  pub no_mutual_seduction : (v w : ℕ) → p v ≡ None → p w ≡ None → p' v ≡ Some w → p' w ≡ Some v → ⊥
+  pub near : (v w : ℕ) → p' v ≡ Some w → IsIn w xs
+  pub single : IsWithoutRepeats xs
+
+-- who points from null at a node that points back has taken a suitor
+suitor_answered : (p p' : ℕ → Option ℕ) (xs : List ℕ) → IsRound p p' xs → (v w : ℕ) → p v ≡ None → p' v ≡ Some w → p' w ≡ Some v → p w ≡ Some v
+suitor_answered p p' xs round v w null now back = by_turn (round.turns w)
+  where
+    by_turn : Turn p p' w → p w ≡ Some v
+    by_turn (stays kept) = sym kept ∙ back
+    by_turn (marries x void suitor at) = absurd (none-some w (sym null ∙ ap p (same_Some v x (sym back ∙ at)) ∙ suitor))
+    by_turn (seduces x void other at) = absurd (round.no_mutual_seduction v w null void now back)
+    by_turn (abandons x was alone at) = absurd (none-some v (sym at ∙ back))
+
+-- Each pointer from null that is answered answers one that was not: that of its target, which names it.
+pub answers_win : (p p' : ℕ → Option ℕ) (xs : List ℕ) → IsRound p p' xs → count_by (λ v. answers (stance p v) (stance p' v)) xs ≤ count_by (λ v. wins (stance p v) (stance p' v)) xs
+answers_win p p' xs round =
+    count_into (λ v. answers (stance p v) (stance p' v)) xs target (λ v. wins (stance p v) (stance p' v)) xs round.single (record {
+      lands = λ v there h. let pair = answered v h in subst (λ w. IsIn w xs) (sym (target_is v pair.0 pair.2)) (round.near v pair.0 pair.2);
+      passes = λ v there h. let pair = answered v h in
+          subst (λ w. IsTrue (wins (stance p w) (stance p' w))) (sym (target_is v pair.0 pair.2)) (
+          and_from (is_waiting (stance p pair.0)) (is_paired (stance p' pair.0))
+          (ap is_waiting (waiting_from p pair.0 v pair.4 (λ back. none-some pair.0 (sym pair.1 ∙ back))))
+          (ap is_paired (paired_from p' pair.0 v pair.3 pair.2))
+          );
+      apart = λ v w there also h k same.
+          let first = answered v h in
+          let second = answered w k in
+          let one = sym (target_is v first.0 first.2) ∙ same ∙ target_is w second.0 second.2 in
+          same_Some v w (sym first.4 ∙ ap p one ∙ second.4);
+    })
+  where
+    target : ℕ → ℕ
+    target v = unwrap_or (p' v) 0
+
+    target_is : (v w : ℕ) → p' v ≡ Some w → target v ≡ w
+    target_is v w e = ap (λ o. unwrap_or o 0) e
+
+    answered : (v : ℕ) → IsTrue (answers (stance p v) (stance p' v)) → (w : ℕ) × (p v ≡ None) × (p' v ≡ Some w) × (p' w ≡ Some v) × (p w ≡ Some v)
+    answered v h =
+        let both = and_parts (is_free (stance p v)) (is_paired (stance p' v)) h in
+        let null = free_is p v both.0 in
+        let pair = paired_is p' v both.1 in
+        (pair.0, null, pair.1, pair.2, suitor_answered p p' xs round v pair.0 null pair.1 pair.2)
+
+-- Over all names: the unanswered pointers afterwards and what else was done are paid by those before, by what each name
+-- has to pay with, and twice by those that climb.
+pub round_pays : (p p' : ℕ → Option ℕ) (xs : List ℕ) (round : IsRound p p' xs) (moved : ℕ → Bool) (had has : ℕ → ℕ) → ((v : ℕ) → bit (moved v) + has v ≤ written_by (round.turns v) + had v) → count_by (λ v. is_waiting (stance p' v)) xs + count_by moved xs + sum_by has xs ≤ count_by (λ v. is_waiting (stance p v)) xs + sum_by had xs + 2 * count_by (λ v. climbs (stance p v) (stance p' v)) xs
+round_pays p p' xs round moved had has pays =
+    let names = sum_four_le
+    (λ v. bit (is_waiting (stance p' v)))
+    (λ v. bit (wins (stance p v) (stance p' v)))
+    (λ v. bit (moved v))
+    has
+    (λ v. bit (is_waiting (stance p v)))
+    (λ v. bit (answers (stance p v) (stance p' v)))
+    (λ v. 2 * bit (climbs (stance p v) (stance p' v)))
+    had
+    xs
+    (λ v there. let turn = turn_pays p p' round.turns v in omega (arith, turn, pays v)) in
+    let twice = sum_twice (λ v. bit (climbs (stance p v) (stance p' v))) xs in
+    omega (arith, names, twice, answers_win p p' xs round)

@@ -1,0 +1,142 @@
+-- What the registers of each node hold after the moves of a step.
+use Rattle.std.proofs.Common.{◌≡◌, ℕ, ◌<◌, ◌≤◌, Bool, true, false, List, [], ◌∷◌, length, map, fold, count_by, Option, None, IsTrue, nat_eq, refl, sym, ap, ◌∙◌, subst, inl, inr, ◌⊎◌, arith}
+use Rattle.std.specs.Cmp.{nat_cmp_total}
+use Rattle.std.specs.List.{AllByRecursion, IsDistinct, list_any}
+use Rattle.std.specs.List.Sorted.{IsStrictlyIncreasing}
+use Rattle.std.specs.Ordering.{nat_cmp, eq_by_cmp}
+use Rattle.std.proofs.lemmas.Bool.{cases_eq, or_from, or_left, or_right, eq-eqb, ne_eqb, true≢false}
+use Rattle.std.proofs.lemmas.Cmp.{eq_by_cmp_equiv}
+use Rattle.std.proofs.lemmas.List.{length-map, length-set}
+use Rattle.std.proofs.lemmas.Map.Keys.{IsDistinct-from_sorted, IsDistinct-head, IsDistinct-tail, sorted_from_strictly_increasing}
+use Rattle.rule_machine.specs.declared.act.Act.{Act}
+use Rattle.rule_machine.specs.declared.act.Act.TheVariants.{Update, Marry, Seduce, Abandon}
+use Rattle.rule_machine.specs.declared.moved.Moved.{Moved}
+use Rattle.rule_machine.specs.State.{State, Registers, pointer_of, flag_of, married}
+use Rattle.rule_machine.specs.Step.{written, after_move}
+use Rattle.machine_laws.specs.Writes.{pointer-with_pointer_other, pointer-with_pointer_same, flag-with_flag_other, flag-with_flag_same}
+use Rattle.charge_laws.specs.Counting.{IsIn, IsWithoutRepeats, count_into, count_all}
+
+-- what a move leaves in its node's pointer, and in its flag
+abbrev pub pointer_by : Act → Option ℕ → Option ℕ → Option ℕ
+pointer_by Update target old = old
+pointer_by Marry target old = target
+pointer_by Seduce target old = target
+pointer_by Abandon target old = None
+
+abbrev pub flag_by : Act → Bool → Bool → Bool
+flag_by Update married old = married
+flag_by Marry married old = old
+flag_by Seduce married old = old
+flag_by Abandon married old = old
+
+pointer_here : (before : State) (r : Registers) (v : ℕ) (act : Act) (target : Option ℕ) → v < length r.pointers → pointer_of (written before r v act target) v ≡ pointer_by act target (pointer_of r v)
+pointer_here before r v Update target below = refl
+pointer_here before r v Marry target below = pointer-with_pointer_same r v target below
+pointer_here before r v Seduce target below = pointer-with_pointer_same r v target below
+pointer_here before r v Abandon target below = pointer-with_pointer_same r v None below
+
+flag_here : (before : State) (r : Registers) (v : ℕ) (act : Act) (target : Option ℕ) → v < length r.flags → flag_of (written before r v act target) v ≡ flag_by act (married before v) (flag_of r v)
+flag_here before r v Update target below = flag-with_flag_same r v (married before v) below
+flag_here before r v Marry target below = refl
+flag_here before r v Seduce target below = refl
+flag_here before r v Abandon target below = refl
+
+pointer_elsewhere : (before : State) (r : Registers) (v : ℕ) (act : Act) (target : Option ℕ) (w : ℕ) → (w ≡ v → ⊥) → pointer_of (written before r v act target) w ≡ pointer_of r w
+pointer_elsewhere before r v Update target w apart = refl
+pointer_elsewhere before r v Marry target w apart = pointer-with_pointer_other r v target w apart
+pointer_elsewhere before r v Seduce target w apart = pointer-with_pointer_other r v target w apart
+pointer_elsewhere before r v Abandon target w apart = pointer-with_pointer_other r v None w apart
+
+flag_elsewhere : (before : State) (r : Registers) (v : ℕ) (act : Act) (target : Option ℕ) (w : ℕ) → (w ≡ v → ⊥) → flag_of (written before r v act target) w ≡ flag_of r w
+flag_elsewhere before r v Update target w apart = flag-with_flag_other r v (married before v) w apart
+flag_elsewhere before r v Marry target w apart = refl
+flag_elsewhere before r v Seduce target w apart = refl
+flag_elsewhere before r v Abandon target w apart = refl
+
+pointers_kept : (before : State) (r : Registers) (v : ℕ) (act : Act) (target : Option ℕ) → length (written before r v act target).pointers ≡ length r.pointers
+pointers_kept before r v Update target = refl
+pointers_kept before r v Marry target = length-set r.pointers v target
+pointers_kept before r v Seduce target = length-set r.pointers v target
+pointers_kept before r v Abandon target = length-set r.pointers v None
+
+flags_kept : (before : State) (r : Registers) (v : ℕ) (act : Act) (target : Option ℕ) → length (written before r v act target).flags ≡ length r.flags
+flags_kept before r v Update target = length-set r.flags v (married before v)
+flags_kept before r v Marry target = refl
+flags_kept before r v Seduce target = refl
+flags_kept before r v Abandon target = refl
+
+-- whether one of the moves is v's
+abbrev pub is_moved : List Moved → ℕ → Bool
+is_moved moves v = list_any (λ m. nat_eq m.node v) moves
+
+-- v's registers after the moves: as before where none is v's, else what its move leaves
+pub data Left (before : State) (r r' : Registers) (moves : List Moved) (v : ℕ) : Type 0 where
+  still : is_moved moves v ≡ false → pointer_of r' v ≡ pointer_of r v → flag_of r' v ≡ flag_of r v → Left before r r' moves v
+  moved : (m : Moved) → IsIn m moves → m.node ≡ v → pointer_of r' v ≡ pointer_by m.act m.target (pointer_of r v) → flag_of r' v ≡ flag_by m.act (married before v) (flag_of r v) → Left before r r' moves v
+
+pub in_nodes : (moves : List Moved) (m : Moved) → IsIn m moves → IsIn m.node (map (λ m. m.node) moves)
+in_nodes [] m h = absurd h
+in_nodes (x ∷ moves) m (inl same) = inl (ap (λ m. m.node) same)
+in_nodes (x ∷ moves) m (inr there) = inr (in_nodes moves m there)
+
+-- One move after another: each is of another node, so that a later one leaves alone what an earlier one wrote.
+pub moves_leave : (before : State) (r : Registers) (moves : List Moved) (n v : ℕ) → length r.pointers ≡ n → length r.flags ≡ n → AllByRecursion (λ m. m.node < n) moves → IsWithoutRepeats (map (λ m. m.node) moves) → Left before r (fold (after_move before) r moves) moves v
+moves_leave before r [] n v pointers flags within single = still refl refl refl
+moves_leave before r (m ∷ moves) n v pointers flags within single =
+    join (cases_eq m.node v)
+    (moves_leave before first moves n v (pointers_kept before r m.node m.act m.target ∙ pointers) (flags_kept before r m.node m.act m.target ∙ flags) within.1 single.1)
+  where
+    first : Registers
+    first = after_move before r m
+
+    last : Registers
+    last = fold (after_move before) r (m ∷ moves)
+
+    join : (m.node ≡ v) ⊎ (m.node ≡ v → ⊥) → Left before first last moves v → Left before r last (m ∷ moves) v
+    join (inl same) (still none e f) =
+        moved m (inl refl) same
+        (e ∙ subst (λ x. pointer_of first x ≡ pointer_by m.act m.target (pointer_of r x)) same (pointer_here before r m.node m.act m.target (omega (arith, within.0, pointers))))
+        (f ∙ subst (λ x. flag_of first x ≡ flag_by m.act (married before x) (flag_of r x)) same (flag_here before r m.node m.act m.target (omega (arith, within.0, flags))))
+    join (inl same) (moved x there at e f) = absurd (single.0 (subst (λ y. IsIn y (map (λ m. m.node) moves)) (at ∙ sym same) (in_nodes moves x there)))
+    join (inr apart) (still none e f) =
+        still (or_from (nat_eq m.node v) (is_moved moves v) (ne_eqb m.node v apart) none)
+        (e ∙ pointer_elsewhere before r m.node m.act m.target v (λ k. apart (sym k)))
+        (f ∙ flag_elsewhere before r m.node m.act m.target v (λ k. apart (sym k)))
+    join (inr apart) (moved x there at e f) =
+        moved x (inr there) at
+        (e ∙ ap (pointer_by x.act x.target) (pointer_elsewhere before r m.node m.act m.target v (λ k. apart (sym k))))
+        (f ∙ ap (flag_by x.act (married before v)) (flag_elsewhere before r m.node m.act m.target v (λ k. apart (sym k))))
+
+-- ---- how many moves there are
+
+single_from_distinct : (ks : List ℕ) → IsDistinct (eq_by_cmp nat_cmp) ks → IsWithoutRepeats ks
+single_from_distinct [] distinct = tt
+single_from_distinct (k ∷ ks) distinct =
+    (λ there. true≢false (sym ((eq_by_cmp_equiv nat_cmp_total).refl k) ∙ differs ks k (IsDistinct-head (eq_by_cmp nat_cmp) k ks distinct) there), single_from_distinct ks (IsDistinct-tail (eq_by_cmp nat_cmp) k ks distinct))
+  where
+    differs : (xs : List ℕ) (y : ℕ) → AllByRecursion (λ x. eq_by_cmp nat_cmp k x ≡ false) xs → IsIn y xs → eq_by_cmp nat_cmp k y ≡ false
+    differs [] y all h = absurd h
+    differs (x ∷ xs) y all (inl same) = subst (λ z. eq_by_cmp nat_cmp k z ≡ false) same all.0
+    differs (x ∷ xs) y all (inr there) = differs xs y all.1 there
+
+-- names that rise are without repeats
+pub single_from_increasing : (ks : List ℕ) → IsStrictlyIncreasing ks → IsWithoutRepeats ks
+single_from_increasing ks up = single_from_distinct ks (IsDistinct-from_sorted nat_cmp ks (sorted_from_strictly_increasing ks up))
+
+pub node_is_moved : (moves : List Moved) (v : ℕ) → IsIn v (map (λ m. m.node) moves) → IsTrue (is_moved moves v)
+node_is_moved [] v h = absurd h
+node_is_moved (m ∷ moves) v (inl same) = or_left (nat_eq m.node v) (is_moved moves v) (eq-eqb m.node v same)
+node_is_moved (m ∷ moves) v (inr there) = or_right (nat_eq m.node v) (is_moved moves v) (node_is_moved moves v there)
+
+-- there are no more moves than names that move
+pub moves_counted : (moves : List Moved) (xs : List ℕ) → IsWithoutRepeats (map (λ m. m.node) moves) → ((v : ℕ) → IsIn v (map (λ m. m.node) moves) → IsIn v xs) → length moves ≤ count_by (is_moved moves) xs
+moves_counted moves xs single within =
+    let nodes = map (λ (m : Moved). m.node) moves in
+    let all = count_all nodes in
+    let len = length-map moves (λ (m : Moved). m.node) in
+    let into = count_into (λ v. true) nodes (λ v. v) (is_moved moves) xs single (record {
+      lands = λ v there h. within v there;
+      passes = λ v there h. node_is_moved moves v there;
+      apart = λ v w there also h k same. same;
+    }) in
+    omega (arith, all, len, into)
