@@ -1,2 +1,6 @@
 //! Laws of the charge: every move lowers it, edges and nodes bound it, and where there is none the network is stable.
 #![tactic(auto)]
+
+mod law;
+
+pub use law::{enough_moves_settle, epochs_are_bounded, moves_are_bounded, spending_is_bounded};

@@ -1,11 +1,14 @@
 //! A set of rules.
 
-ghost use Rattle.std.specs.Prelude.{◌≡◌, ℕ, Bool, List, [], IsTrue, IsSome};
+ghost use Rattle.std.specs.Prelude.{◌≡◌, ℕ, ◌+◌, ◌*◌, ◌≤◌, Bool, List, [], length, IsTrue, IsSome};
 ghost use Rattle.std.specs.Result.{result_ok};
 ghost use Rattle.rule_machine.specs.declared.act.Act.{Act};
+ghost use Rattle.rule_machine.specs.declared.choice.Item.{Item};
+ghost use Rattle.rule_machine.specs.declared.moved.Moved.{Moved};
 ghost use Rattle.rule_machine.specs.State.{State, IsState};
 ghost use Rattle.rule_machine.specs.RuleTable.{RuleTable, rule_at, enabled_names, least_target};
-ghost use Rattle.rule_machine.specs.Network.{linked};
+ghost use Rattle.rule_machine.specs.Network.{linked, node_count, edge_count};
+ghost use Rattle.rule_machine.specs.Step.{IsStep};
 ghost use Rattle.rule_machine.specs.Stable.{IsStable};
 ghost use Rattle.rule_set.specs.Near.{SameAt};
 ghost use Rattle.rule_set.specs.Target.{target_at, takes_target};
@@ -28,11 +31,16 @@ pub trait Rules {
 
     ghost FLAGS: { Bool };
 
+    ghost NODE_WEIGHT: { ℕ };
+
     /// Whether its daemon is central, so that one node moves at a time.
     const CENTRAL: bool;
 
     /// Whether it uses the married flags.
     const FLAGS: bool;
+
+    /// What each node adds to the bound of the charge.
+    const NODE_WEIGHT: u64;
 
     /// Whether a neighbour with this pointer and this flag is open to a seduction.
     fn opens(pointer: Option<Node>, flag: bool) -> bool
@@ -80,4 +88,13 @@ pub trait Rules {
 
     /// Where the network is stable no rule is enabled.
     ghost stable_is_quiet: { (s : State) → IsState s → IsStable table.flags s → enabled_names table s ≡ [] };
+
+    /// The charge falls by the moves of a step.
+    ghost charge_falls: { (s : State) (items : List Item) (moves : List Moved) (s' : State) → IsState s → IsStep table s items moves s' → table.charge s' + length moves ≤ table.charge s };
+
+    /// It is at most twice the edges and the weight for each node.
+    ghost charge_is_bounded: { (s : State) → IsState s → table.charge s ≤ 2 * edge_count s.network + NODE_WEIGHT * node_count s.network };
+
+    /// Where it is zero the network is stable.
+    ghost no_charge_is_stable: { (s : State) → IsState s → table.charge s ≡ 0 → IsStable table.flags s };
 }

@@ -9,6 +9,7 @@ pub struct HsuHuang;
 
 impl Rules for HsuHuang {
     ghost use Rattle.std.specs.Prelude.{true, false, refl};
+    ghost use Rattle.charge_laws.specs.Laws.{hsu_huang_charged};
     ghost use Rattle.rule_machine.specs.HsuHuang.{hsu_huang};
     ghost use Rattle.rules_hsu_huang.specs.Rule.{guard_is_local, one_rule_at};
     ghost use Rattle.rules_hsu_huang.specs.Target.{allowed_near, allowed_takes, target_from_guard};
@@ -20,9 +21,13 @@ impl Rules for HsuHuang {
 
     ghost FLAGS = { false };
 
+    ghost NODE_WEIGHT = { 1 };
+
     const CENTRAL: bool = true;
 
     const FLAGS: bool = false;
+
+    const NODE_WEIGHT: u64 = 1;
 
     fn opens(pointer: Option<Node>, _flag: bool) -> bool {
         pointer.is_none()
@@ -75,4 +80,10 @@ impl Rules for HsuHuang {
     ghost quiet_is_stable = { stable_from_quiet };
 
     ghost stable_is_quiet = { quiet_from_stable };
+
+    ghost charge_falls = { hsu_huang_charged.falls };
+
+    ghost charge_is_bounded = { hsu_huang_charged.bounded };
+
+    ghost no_charge_is_stable = { hsu_huang_charged.zero_is_stable };
 }

@@ -17,6 +17,7 @@ pub struct Manne;
 
 impl Rules for Manne {
     ghost use Rattle.std.specs.Prelude.{true, false, refl};
+    ghost use Rattle.charge_laws.specs.Laws.{manne_charged};
     ghost use Rattle.rule_machine.specs.Manne.{manne};
     ghost use Rattle.rules_manne.specs.Rule.{guard_is_local, one_rule_at};
     ghost use Rattle.rules_manne.specs.Target.{allowed_near, allowed_takes, target_from_guard};
@@ -28,9 +29,13 @@ impl Rules for Manne {
 
     ghost FLAGS = { true };
 
+    ghost NODE_WEIGHT = { 3 };
+
     const CENTRAL: bool = false;
 
     const FLAGS: bool = true;
+
+    const NODE_WEIGHT: u64 = 3;
 
     fn opens(pointer: Option<Node>, flag: bool) -> bool {
         pointer.is_none() && !flag
@@ -80,6 +85,12 @@ impl Rules for Manne {
     ghost quiet_is_stable = { stable_from_quiet };
 
     ghost stable_is_quiet = { quiet_from_stable };
+
+    ghost charge_falls = { manne_charged.falls };
+
+    ghost charge_is_bounded = { manne_charged.bounded };
+
+    ghost no_charge_is_stable = { manne_charged.zero_is_stable };
 }
 
 // Whether the node may marry or seduce: it points nowhere, so it is unmarried, and its flag says so.

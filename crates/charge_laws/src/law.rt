@@ -1,0 +1,46 @@
+//! The bounds on moves, as laws of all runs.
+
+ghost use Rattle.std.specs.Prelude.{ℕ, ◌+◌, ◌*◌, ◌≤◌, List, All, true, false};
+ghost use Rattle.rule_machine.specs.Network.{node_count, edge_count};
+ghost use Rattle.rule_machine.specs.State.{State, IsState, opening};
+ghost use Rattle.rule_machine.specs.HsuHuang.{hsu_huang};
+ghost use Rattle.rule_machine.specs.Manne.{manne};
+ghost use Rattle.rule_machine.specs.Stable.{IsStable};
+ghost use Rattle.rule_machine.specs.Run.{Entry, Moment, Run, beginning, epoch_at, epochs_from};
+ghost use Rattle.charge_laws.specs.Charged.{moves_in, IsUndisturbed};
+ghost use Rattle.charge_laws.specs.Epochs.{IsPath, IsBounded};
+
+/// Between two disturbances, from whatever state and whatever the daemon chooses: at most 2m + n moves by the rules of Hsu and
+/// Huang, and at most 2m + 3n by those of Manne and others, however many nodes move at once.
+pub fn moves_are_bounded()
+    ensures hsu_huang { (start : Moment) → IsState start.state → (log : List Entry) (end : Moment) → Run hsu_huang start log end → IsUndisturbed log
+        → moves_in log ≤ 2 * edge_count start.state.network + node_count start.state.network }
+    ensures manne { (start : Moment) → IsState start.state → (log : List Entry) (end : Moment) → Run manne start log end → IsUndisturbed log
+        → moves_in log ≤ 2 * edge_count start.state.network + 3 * node_count start.state.network }
+{}
+
+/// A run without a disturbance that has as many moves as the charge was at its start ends in a stable state.
+pub fn enough_moves_settle()
+    ensures hsu_huang { (start : Moment) → IsState start.state → (log : List Entry) (end : Moment) → Run hsu_huang start log end → IsUndisturbed log
+        → hsu_huang.charge start.state ≤ moves_in log → IsStable false end.state }
+    ensures manne { (start : Moment) → IsState start.state → (log : List Entry) (end : Moment) → Run manne start log end → IsUndisturbed log
+        → manne.charge start.state ≤ moves_in log → IsStable true end.state }
+{}
+
+/// At the end of every run from the opening state, disturbances included: the moves since the last accepted one and the charge
+/// that is left are together within the bound of the network as it is.
+pub fn spending_is_bounded()
+    ensures hsu_huang { (size : ℕ) (log : List Entry) (end : Moment) → Run hsu_huang (beginning size) log end
+        → end.spent + hsu_huang.charge end.state ≤ 2 * edge_count end.state.network + node_count end.state.network }
+    ensures manne { (size : ℕ) (log : List Entry) (end : Moment) → Run manne (beginning size) log end
+        → end.spent + manne.charge end.state ≤ 2 * edge_count end.state.network + 3 * node_count end.state.network }
+{}
+
+/// Every epoch of a run from the opening state has at most 2m + n moves by the rules of Hsu and Huang, and at most 2m + 3n by those
+/// of Manne and others, where m and n are the edges and nodes that it began with.
+pub fn epochs_are_bounded()
+    ensures hsu_huang { (size : ℕ) (path : List (Entry × State)) → IsPath hsu_huang (beginning size) path
+        → All (IsBounded 1) (epochs_from 1 (epoch_at 0 (opening size)) path) }
+    ensures manne { (size : ℕ) (path : List (Entry × State)) → IsPath manne (beginning size) path
+        → All (IsBounded 3) (epochs_from 1 (epoch_at 0 (opening size)) path) }
+{}
