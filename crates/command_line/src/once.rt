@@ -1,5 +1,8 @@
 //! Text that is handed over as it is made, where nothing is tried twice.
 
+ghost use Rattle.std.specs.Prelude.{◌≡◌};
+ghost use Rattle.std.specs.Io.KnownBytes.{Appends};
+
 use byte_output::{OutputFault, flush_once, write_whole};
 use clap::Error;
 use std::fmt::{self, Write as _};
@@ -12,6 +15,9 @@ struct Once<'a, Out: Write> {
 }
 
 impl<Out: Write> fmt::Write for Once<'_, Out> {
+    ghost write_str_gives = { λ before text after. (after.writer.ghost_name ≡ before.writer.ghost_name)
+        × Appends (Out.contents before.writer.now) (Out.contents after.writer.now) text };
+
     fn write_str(&mut self, text: &str) -> fmt::Result {
         match write_whole(self.writer, text.as_bytes()) {
             Ok(()) => Ok(()),

@@ -8,7 +8,6 @@ use auditor::{AuditFault, Summary, audit};
 use byte_output::finish;
 use script_run::RunFault;
 use std::alloc::Global;
-use std::fmt::{self, Display, Formatter};
 use std::io::{Read, Write};
 
 /// What an audit found.
@@ -28,19 +27,6 @@ impl CheckEnd {
         match self {
             CheckEnd::Accepted(_) => 0,
             CheckEnd::Refused(_) => 1,
-        }
-    }
-}
-
-impl Display for CheckEnd {
-    fn fmt<W: fmt::Write>(&self, f: &mut Formatter<W>) -> fmt::Result {
-        match self {
-            CheckEnd::Accepted(counted) => write!(
-                f,
-                "accepted: {} entries, {} epochs, {} moves",
-                counted.entries, counted.epochs, counted.moves
-            ),
-            CheckEnd::Refused(fault) => write!(f, "{fault}"),
         }
     }
 }
