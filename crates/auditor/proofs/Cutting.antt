@@ -4,7 +4,7 @@ use Rattle.std.proofs.lemmas.Option.{none-some, same_Some}
 use Rattle.auditor.specs.Damage.{first_line, onto_line}
 
 -- a byte that is no LF goes onto what was found behind it
-onto_line-front : (b : ℕ) (bs : List ℕ) (found : Option (List ℕ × List ℕ)) → ((b == 10) ≡ true → ⊥) → first_line bs ≡ found → first_line (b ∷ bs) ≡ onto_line b found
+pub onto_line-front : (b : ℕ) (bs : List ℕ) (found : Option (List ℕ × List ℕ)) → ((b == 10) ≡ true → ⊥) → first_line bs ≡ found → first_line (b ∷ bs) ≡ onto_line b found
 onto_line-front b bs found other e =
     let P : Bool → Type 0 = λ v. ((v ≡ true → ⊥) → (if v then Some ([], bs) else onto_line b (first_line bs)) ≡ onto_line b found) in
     (elim (b == 10) as P [ true ↦ (λ no. absurd (no refl)) | false ↦ (λ _. ap (onto_line b) e) ]) other

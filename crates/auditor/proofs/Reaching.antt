@@ -11,13 +11,15 @@ use Rattle.rule_machine.specs.Tables.{table_of}
 use Rattle.machine_laws.specs.Runs.{run_add}
 use Rattle.line_text.specs.EntryText.{header_text, header_line, entry_text, entry_line}
 use Rattle.entry_grammar.specs.Spelling.{SpellsEntry, SpellsHeader}
-use Rattle.auditor.specs.declared.fault.AuditFault.{AuditFault}
-use Rattle.auditor.specs.declared.fault.AuditFault.TheVariants.{BadHeader, NotALine, OutOfOrder, NotTheMachines, Read, Memory}
+use Rattle.auditor.specs.declared.damage.Damage.TheVariants.{BadHeader, NotALine, OutOfOrder, NotTheMachines}
+use Rattle.auditor.specs.declared.damage.JudgeFault.{JudgeFault}
+use Rattle.auditor.specs.declared.damage.JudgeFault.TheVariants.{Damaged, Memory}
 use Rattle.auditor.specs.declared.summary.Summary.{Summary}
 use Rattle.auditor.specs.Transcript.{IsEntry, IsTranscript, entry_lines, transcript, disturbances_in, moves_in}
-use Rattle.auditor.specs.Damage.{Follows, EndsInNoLine, EndsOutOfOrder, EndsNotTheMachines, HasNoEntry, IsDamage, first_line}
+use Rattle.auditor.specs.Damage.{Follows, EndsInNoLine, EndsOutOfOrder, EndsNotTheMachines, HasNoEntry, first_line}
 use Rattle.auditor.specs.Position.{Position, opening_position, counted_more, GoodLine, BadNumber, BadReply, IsNext, LineJudged}
 use Rattle.auditor.specs.Accepted.{Counts, IsAccepted, IsReached}
+use Rattle.auditor.specs.Verdict.{IsJudged}
 use Rattle.auditor.proofs.Cutting.{first_line-splits}
 
 -- ---- lists
@@ -40,24 +42,26 @@ lines_push number (first ∷ log) entry =
 
 -- ---- the header
 
+pub follows_start : (bytes line rest : List ℕ) (rules : RuleSet) (nodes : ℕ) → first_line bytes ≡ Some (line, rest) → SpellsHeader line rules nodes → Follows bytes rules [] (beginning nodes) rest
+follows_start bytes line rest rules nodes cut spells = record {
+  nodes = nodes;
+  good = header_line rules nodes;
+  transcript = record {
+    few = spells.few;
+    text = sym (append-nil (header_line rules nodes));
+    entries = tt;
+    not_too_many = omega arith;
+    run = refl;
+  };
+  splits = first_line-splits bytes line rest cut ∙ ap (λ (z : List ℕ). z ++ 10 ∷ rest) spells.is ∙ sym (append_assoc (header_text rules nodes) (10 ∷ []) rest);
+}
+
 pub reached_start : (bytes line rest : List ℕ) (rules : RuleSet) (nodes : ℕ) → first_line bytes ≡ Some (line, rest) → SpellsHeader line rules nodes → IsReached bytes rules (opening_position nodes) rest
 reached_start bytes line rest rules nodes cut spells =
-    let begin = beginning nodes in
     record {
       log = [];
-      end = begin;
-      follows = record {
-        nodes = nodes;
-        good = header_line rules nodes;
-        transcript = record {
-          few = spells.few;
-          text = sym (append-nil (header_line rules nodes));
-          entries = tt;
-          not_too_many = omega arith;
-          run = refl;
-        };
-        splits = first_line-splits bytes line rest cut ∙ ap (λ (z : List ℕ). z ++ 10 ∷ rest) spells.is ∙ sym (append_assoc (header_text rules nodes) (10 ∷ []) rest);
-      };
+      end = beginning nodes;
+      follows = follows_start bytes line rest rules nodes cut spells;
       state = refl;
       counts = record { entries = refl; epochs = refl; moves = refl };
     }
@@ -82,26 +86,30 @@ more_counts c d log entry counts is =
       moves = ap (λ (s : Summary). s.moves) is ∙ omega (arith, counts.moves, m);
     }
 
-more_entry : (rules : RuleSet) (p q : Position) (bytes line rest behind : List ℕ) (entry : Entry) (log : List Entry) (end : Moment) → Follows bytes rules log end rest → p.state ≡ end.state → Counts p.counted log → first_line rest ≡ Some (line, behind) → SpellsEntry line (length log + 1) entry → Answers (table_of rules) end.state entry.0 entry.1 q.state → q.counted ≡ counted_more p.counted entry.1 → IsReached bytes rules q behind
-more_entry rules p q bytes line rest behind entry log end follows state counts cut spells answers counted =
+-- one more entry of which the machine may give the reply
+pub follows_more : (bytes line rest behind : List ℕ) (rules : RuleSet) (log : List Entry) (end : Moment) (entry : Entry) (s : State) → Follows bytes rules log end rest → first_line rest ≡ Some (line, behind) → SpellsEntry line (length log + 1) entry → Answers (table_of rules) end.state entry.0 entry.1 s → Follows bytes rules (log ++ entry ∷ []) (record { state = s; spent = spent_after end.spent entry.1 }) behind
+follows_more bytes line rest behind rules log end entry s follows cut spells answers =
     let good = follows.transcript in
     let l = length-append log (entry ∷ []) in
-    let next : Moment = record { state = q.state; spent = spent_after end.spent entry.1 } in
+    record {
+      nodes = follows.nodes;
+      good = transcript rules follows.nodes (log ++ entry ∷ []);
+      transcript = record {
+        few = good.few;
+        text = refl;
+        entries = all_push log entry good.entries (record { event = spells.event; reply = spells.reply; fits = spells.fits });
+        not_too_many = omega (arith, l, spells.numbered.1);
+        run = run_add (table_of rules) (beginning follows.nodes) end log entry s good.run answers;
+      };
+      splits = log_text bytes follows.good line rest behind rules follows.nodes log entry follows.splits good.text (first_line-splits rest line behind cut) spells.is;
+    }
+
+more_entry : (rules : RuleSet) (p q : Position) (bytes line rest behind : List ℕ) (entry : Entry) (log : List Entry) (end : Moment) → Follows bytes rules log end rest → p.state ≡ end.state → Counts p.counted log → first_line rest ≡ Some (line, behind) → SpellsEntry line (length log + 1) entry → Answers (table_of rules) end.state entry.0 entry.1 q.state → q.counted ≡ counted_more p.counted entry.1 → IsReached bytes rules q behind
+more_entry rules p q bytes line rest behind entry log end follows state counts cut spells answers counted =
     record {
       log = log ++ entry ∷ [];
-      end = next;
-      follows = record {
-        nodes = follows.nodes;
-        good = transcript rules follows.nodes (log ++ entry ∷ []);
-        transcript = record {
-          few = good.few;
-          text = refl;
-          entries = all_push log entry good.entries (record { event = spells.event; reply = spells.reply; fits = spells.fits });
-          not_too_many = omega (arith, l, spells.numbered.1);
-          run = run_add (table_of rules) (beginning follows.nodes) end log entry q.state good.run answers;
-        };
-        splits = log_text bytes follows.good line rest behind rules follows.nodes log entry follows.splits good.text (first_line-splits rest line behind cut) spells.is;
-      };
+      end = record { state = q.state; spent = spent_after end.spent entry.1 };
+      follows = follows_more bytes line rest behind rules log end entry q.state follows cut spells answers;
       state = refl;
       counts = more_counts p.counted q.counted log entry counts counted;
     }
@@ -161,13 +169,12 @@ damaged_reply bytes line behind rules p rest number r next cut bad =
     }
 
 -- what the check of a line finds is the damage of the bytes
-pub damaged : (bytes line behind : List ℕ) (rules : RuleSet) (p q : Position) (rest : List ℕ) (fault : AuditFault) → IsReached bytes rules p rest → first_line rest ≡ Some (line, behind) → LineJudged (table_of rules) line p q (Err fault) → IsDamage bytes fault
-damaged bytes line behind rules p q rest BadHeader r cut judged = absurd judged
-damaged bytes line behind rules p q rest (NotALine number) r cut judged =
+pub damaged : (bytes line behind : List ℕ) (rules : RuleSet) (p q : Position) (rest : List ℕ) (fault : JudgeFault) → IsReached bytes rules p rest → first_line rest ≡ Some (line, behind) → LineJudged (table_of rules) line p q (Err fault) → IsJudged bytes (Err fault)
+damaged bytes line behind rules p q rest (Damaged BadHeader) r cut judged = absurd judged
+damaged bytes line behind rules p q rest (Damaged (NotALine number)) r cut judged =
     damaged_line bytes rules p rest number r judged.0 (subst (λ (found : Option (List ℕ × List ℕ)). HasNoEntry rest found) (sym cut) judged.1)
-damaged bytes line behind rules p q rest (OutOfOrder number) r cut judged =
+damaged bytes line behind rules p q rest (Damaged (OutOfOrder number)) r cut judged =
     damaged_number bytes line behind rules p rest number r judged.0 cut judged.1
-damaged bytes line behind rules p q rest (NotTheMachines number) r cut judged =
+damaged bytes line behind rules p q rest (Damaged (NotTheMachines number)) r cut judged =
     damaged_reply bytes line behind rules p rest number r judged.0 cut judged.1
-damaged bytes line behind rules p q rest Read r cut judged = absurd judged
 damaged bytes line behind rules p q rest Memory r cut judged = tt

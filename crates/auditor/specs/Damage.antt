@@ -6,10 +6,8 @@ use Rattle.rule_machine.specs.Run.{Entry, Moment}
 use Rattle.rule_machine.specs.Answer.{Answers}
 use Rattle.rule_machine.specs.Tables.{table_of}
 use Rattle.entry_grammar.specs.Spelling.{SpellsEntry, SpellsHeader}
-use Rattle.byte_input.specs.declared.fault.InputFault.{InputFault}
-use Rattle.byte_input.specs.declared.fault.InputFault.TheVariants as input
-use Rattle.auditor.specs.declared.fault.AuditFault.{AuditFault}
-use Rattle.auditor.specs.declared.fault.AuditFault.TheVariants.{BadHeader, NotALine, OutOfOrder, NotTheMachines, Read, Memory}
+use Rattle.auditor.specs.declared.damage.Damage.{Damage}
+use Rattle.auditor.specs.declared.damage.Damage.TheVariants.{BadHeader, NotALine, OutOfOrder, NotTheMachines}
 use Rattle.auditor.specs.Transcript.{IsTranscript}
 
 -- a byte in front of the first line, where there is one
@@ -91,16 +89,9 @@ pub record EndsNotTheMachines (bytes : List ℕ) (line : ℕ) : Type 0 where
   pub comes : EntryComes rest (length log + 1) entry
   pub damage : (s : State) → Answers (table_of rules) end.state entry.0 entry.1 s → ⊥
 
--- what each fault says of the bytes; of a fault of the reader or of memory nothing is said
-abbrev pub IsDamage : List ℕ → AuditFault → Type 0
+-- The bytes have this damage: what stands before the line is a transcript, and the line fails this check first.
+abbrev pub IsDamage : List ℕ → Damage → Type 0
 IsDamage bytes BadHeader = HasBadHeader (first_line bytes)
 IsDamage bytes (NotALine line) = EndsInNoLine bytes line
 IsDamage bytes (OutOfOrder line) = EndsOutOfOrder bytes line
 IsDamage bytes (NotTheMachines line) = EndsNotTheMachines bytes line
-IsDamage bytes Read = Unit {0}
-IsDamage bytes Memory = Unit {0}
-
--- what a fault of the input is in an audit
-abbrev pub fault_of : InputFault → AuditFault
-fault_of input.Read = Read
-fault_of input.Memory = Memory

@@ -2,3 +2,5 @@ pub mod Transcript
 pub mod Damage
 pub mod Position
 pub mod Accepted
+pub mod Verdict
+pub mod Once

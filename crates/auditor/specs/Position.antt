@@ -6,8 +6,9 @@ use Rattle.rule_machine.specs.RuleTable.{RuleTable}
 use Rattle.rule_machine.specs.Run.{Entry}
 use Rattle.rule_machine.specs.Answer.{Answers}
 use Rattle.entry_grammar.specs.Spelling.{SpellsEntry, max_entries}
-use Rattle.auditor.specs.declared.fault.AuditFault.{AuditFault}
-use Rattle.auditor.specs.declared.fault.AuditFault.TheVariants.{BadHeader, NotALine, OutOfOrder, NotTheMachines, Read, Memory}
+use Rattle.auditor.specs.declared.damage.Damage.TheVariants.{BadHeader, NotALine, OutOfOrder, NotTheMachines}
+use Rattle.auditor.specs.declared.damage.JudgeFault.{JudgeFault}
+use Rattle.auditor.specs.declared.damage.JudgeFault.TheVariants.{Damaged, Memory}
 use Rattle.auditor.specs.declared.summary.Summary.{Summary}
 use Rattle.auditor.specs.Transcript.{disturbances_in, moves_in}
 use Rattle.auditor.specs.Damage.{SpellsNoEntry}
@@ -56,12 +57,11 @@ pub record BadReply (t : RuleTable) (line : List ℕ) (before : Position) : Type
 abbrev pub IsNext : ℕ → Position → Type 0
 IsNext number before = number ≡ before.counted.entries + 2
 
--- what the check of the next line says of it; of want of memory nothing is said, and other faults don't come
-abbrev pub LineJudged : RuleTable → List ℕ → Position → Position → Result Unit AuditFault → Type 0
+-- what the check of the next line says of it; of want of memory nothing is said, and a bad header doesn't come
+abbrev pub LineJudged : RuleTable → List ℕ → Position → Position → Result Unit JudgeFault → Type 0
 LineJudged t line before after (Ok done) = GoodLine t line before after
-LineJudged t line before after (Err BadHeader) = ⊥
-LineJudged t line before after (Err (NotALine number)) = IsNext number before × SpellsNoEntry line
-LineJudged t line before after (Err (OutOfOrder number)) = IsNext number before × BadNumber line before
-LineJudged t line before after (Err (NotTheMachines number)) = IsNext number before × BadReply t line before
-LineJudged t line before after (Err Read) = ⊥
+LineJudged t line before after (Err (Damaged BadHeader)) = ⊥
+LineJudged t line before after (Err (Damaged (NotALine number))) = IsNext number before × SpellsNoEntry line
+LineJudged t line before after (Err (Damaged (OutOfOrder number))) = IsNext number before × BadNumber line before
+LineJudged t line before after (Err (Damaged (NotTheMachines number))) = IsNext number before × BadReply t line before
 LineJudged t line before after (Err Memory) = Unit {0}

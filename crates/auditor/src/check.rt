@@ -4,7 +4,7 @@ ghost use Rattle.std.specs.Prelude.{◌≡◌, ◌≤◌, IfOk};
 ghost use Rattle.rule_machine.specs.Tables.{table_of};
 ghost use Rattle.auditor.specs.Position.{opening_position, IsNext, LineJudged};
 
-use crate::{AuditFault, Summary};
+use crate::{Damage, JudgeFault, Summary};
 use entry_grammar::{EntryFault, read_entry};
 use plain_machine::PlainNet;
 use rule_machine::{RuleSet, Want};
@@ -68,23 +68,25 @@ impl Audit {
         alloc: Global,
         rules: RuleSet,
         line: &[u8],
-    ) -> Result<(), AuditFault>
+    ) -> Result<(), JudgeFault>
         ensures { LineJudged (table_of rules) line.now self.old self.new result }
     {
         let number = self.next_line();
         let (seq, entry) = match read_entry(alloc, line) {
             Ok(found) => found,
-            Err(EntryFault::NotALine) => return Err(AuditFault::NotALine { line: number }),
-            Err(EntryFault::Memory) => return Err(AuditFault::Memory),
+            Err(EntryFault::NotALine) => {
+                return Err(JudgeFault::Damaged(Damage::NotALine { line: number }));
+            }
+            Err(EntryFault::Memory) => return Err(JudgeFault::Memory),
         };
         if seq != self.counted.entries + 1 {
-            return Err(AuditFault::OutOfOrder { line: number });
+            return Err(JudgeFault::Damaged(Damage::OutOfOrder { line: number }));
         }
         let Ok(right) = self.net.replay(alloc, rules, entry.event(), entry.reply()) else {
-            return Err(AuditFault::Memory);
+            return Err(JudgeFault::Memory);
         };
         if !right {
-            return Err(AuditFault::NotTheMachines { line: number });
+            return Err(JudgeFault::Damaged(Damage::NotTheMachines { line: number }));
         }
         self.counted = self.counted.with_reply(entry.reply());
         Ok(())

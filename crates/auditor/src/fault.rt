@@ -1,7 +1,7 @@
 //! Why bytes are no transcript.
 
+use crate::damage::{Damage, JudgeFault};
 use byte_input::InputFault;
-use std::alloc::AllocError;
 use thiserror::Error;
 
 /// Why bytes were not accepted: the first line that fails, and the first check that it fails. Lines count from 1.
@@ -27,27 +27,46 @@ pub enum AuditFault {
     Memory,
 }
 
-impl From<AllocError> for AuditFault {
-    ghost use Rattle.std.specs.Prelude.{◌≡◌};
-    ghost use Rattle.auditor.specs.declared.fault.AuditFault.TheVariants.{Memory};
-
-    ghost from_gives = { λ _ fault. fault ≡ Memory };
-
-    fn from(_: AllocError) -> AuditFault {
-        AuditFault::Memory
-    }
-}
-
 impl From<InputFault> for AuditFault {
     ghost use Rattle.std.specs.Prelude.{◌≡◌};
-    ghost use Rattle.auditor.specs.Damage.{fault_of};
+    ghost use Rattle.auditor.specs.Verdict.{of_input};
 
-    ghost from_gives = { λ input fault. fault ≡ fault_of input };
+    ghost from_gives = { λ input fault. fault ≡ of_input input };
 
     fn from(input: InputFault) -> AuditFault {
         match input {
             InputFault::Read => AuditFault::Read,
             InputFault::Memory => AuditFault::Memory,
+        }
+    }
+}
+
+impl From<Damage> for AuditFault {
+    ghost use Rattle.std.specs.Prelude.{◌≡◌};
+    ghost use Rattle.auditor.specs.Verdict.{of_damage};
+
+    ghost from_gives = { λ damage fault. fault ≡ of_damage damage };
+
+    fn from(damage: Damage) -> AuditFault {
+        match damage {
+            Damage::BadHeader => AuditFault::BadHeader,
+            Damage::NotALine { line } => AuditFault::NotALine { line },
+            Damage::OutOfOrder { line } => AuditFault::OutOfOrder { line },
+            Damage::NotTheMachines { line } => AuditFault::NotTheMachines { line },
+        }
+    }
+}
+
+impl From<JudgeFault> for AuditFault {
+    ghost use Rattle.std.specs.Prelude.{◌≡◌};
+    ghost use Rattle.auditor.specs.Verdict.{of_judge};
+
+    ghost from_gives = { λ fault told. told ≡ of_judge fault };
+
+    fn from(fault: JudgeFault) -> AuditFault {
+        match fault {
+            JudgeFault::Damaged(damage) => AuditFault::from(damage),
+            JudgeFault::Memory => AuditFault::Memory,
         }
     }
 }

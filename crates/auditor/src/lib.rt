@@ -2,11 +2,17 @@
 #![tactic(auto)]
 
 mod check;
+mod damage;
 mod fault;
+mod laws;
 mod lines;
 mod summary;
 mod transcript;
 
+pub use damage::{Damage, JudgeFault};
 pub use fault::AuditFault;
+pub use laws::{
+    one_count, one_damage, one_run, transcript_has_no_damage, undamaged_is_a_transcript,
+};
 pub use summary::Summary;
 pub use transcript::{audit, audit_bytes};

@@ -1,16 +1,39 @@
 -- What a check of a transcript says.
-use Rattle.std.specs.Prelude.{◌≢◌, ℕ, List}
+use Rattle.std.specs.Prelude.{◌≢◌, ℕ, List, Option, Result, Ok, Err}
+use Rattle.std.specs.Io.KnownBytes.{Appends, Keeps}
+use Rattle.byte_output.specs.Beginning.{AppendsBeginning}
+use Rattle.script_run.specs.declared.fault.RunFault.{RunFault}
+use Rattle.script_run.specs.declared.fault.RunFault.TheVariants.{BadLine, LogFull, Read, Write, Memory}
 use Rattle.auditor.specs.declared.fault.AuditFault.TheVariants as fault
+use Rattle.auditor.specs.declared.fault.AuditFault.{AuditFault}
+use Rattle.auditor.specs.declared.summary.Summary.{Summary}
 use Rattle.auditor.specs.Accepted.{IsAccepted}
-use Rattle.auditor.specs.Damage.{IsDamage}
+use Rattle.auditor.specs.Verdict.{IsFault}
 use Rattle.command_line.specs.declared.verdict.CheckEnd.{CheckEnd}
 use Rattle.command_line.specs.declared.verdict.CheckEnd.TheVariants.{Accepted, Refused}
+use Rattle.command_line.specs.VerdictText.{verdict_line}
 
 -- the bytes are the transcript of a run with these counts, or they are damaged so: a failed read and want of memory are
 -- no verdict
 abbrev pub IsVerdict : List ℕ → CheckEnd → Type 0
 IsVerdict bytes (Accepted counted) = IsAccepted bytes counted
-IsVerdict bytes (Refused f) = IsDamage bytes f × (f ≢ fault.Read) × (f ≢ fault.Memory)
+IsVerdict bytes (Refused f) = IsFault bytes f × (f ≢ fault.Read) × (f ≢ fault.Memory)
+
+-- an audit as a check takes it
+abbrev pub verdict_of : Result Summary AuditFault → Result CheckEnd RunFault
+verdict_of (Ok counted) = Ok (Accepted counted)
+verdict_of (Err fault.Read) = Err Read
+verdict_of (Err fault.Memory) = Err Memory
+verdict_of (Err f) = Ok (Refused f)
+
+-- what a writer has got: the one line of the verdict, a beginning of one where a write failed, else nothing
+abbrev pub TellsVerdict : Option (List ℕ) → Option (List ℕ) → Result CheckEnd RunFault → Type 0
+TellsVerdict old new (Ok end) = Appends old new (verdict_line end)
+TellsVerdict old new (Err Write) = (end : CheckEnd) × AppendsBeginning old new (verdict_line end)
+TellsVerdict old new (Err Read) = Keeps old new
+TellsVerdict old new (Err Memory) = Keeps old new
+TellsVerdict old new (Err LogFull) = ⊥
+TellsVerdict old new (Err (BadLine line)) = ⊥
 
 -- the exit status
 abbrev pub verdict_status : CheckEnd → ℕ

@@ -1,16 +1,55 @@
--- How a program that runs a script ends.
-use Rattle.std.specs.Prelude.{◌≡◌, ℕ, List, Option, Result, Ok, Err}
+-- How the program ends: what the writers have got, and the exit status.
+use Rattle.std.specs.Prelude.{◌≡◌, ◌⊎◌, ℕ, List, Option, Result, Ok, Err, IfOk}
+use Rattle.std.specs.Io.KnownBytes.{Keeps}
+use Rattle.clap.specs.Words.{kind_of}
+use Rattle.clap.specs.declared.error.Error.{Error}
 use Rattle.rule_machine.specs.declared.rules.RuleSet.{RuleSet}
+use Rattle.byte_output.specs.Beginning.{AppendsBeginning}
 use Rattle.script_run.specs.declared.fault.RunFault.{RunFault}
 use Rattle.script_run.specs.Outcome.{IsOutcome}
-use Rattle.command_line.specs.Status.{status_of}
+use Rattle.command_words.specs.declared.words.Task.{Task}
+use Rattle.command_words.specs.declared.words.Task.TheVariants.{Run, Audit, Show}
+use Rattle.command_line.specs.declared.verdict.CheckEnd.{CheckEnd}
+use Rattle.command_line.specs.Status.{status_of, words_status}
+use Rattle.command_line.specs.FaultText.{fault_line}
+use Rattle.command_line.specs.Checked.{IsVerdict, TellsVerdict, verdict_status}
+
+-- what a writer has got
+abbrev pub Known : Type 0
+Known = Option (List ℕ)
+
+-- the line of the fault, or a beginning of it where a write failed; nothing where there is no fault
+abbrev pub TellsFault : {X : Type 0} → Known → Known → Result X RunFault → Type 0
+TellsFault old new (Ok _) = Keeps old new
+TellsFault old new (Err fault) = AppendsBeginning old new (fault_line fault)
 
 -- the exit status of a run that ended so
 abbrev pub ended_status : Result Unit RunFault → ℕ
 ended_status (Ok _) = 0
 ended_status (Err fault) = status_of fault
 
--- the script was run, the writer has its transcript, and the status tells how it ended
-abbrev pub TellsOutcome : RuleSet → ℕ → ℕ → List ℕ → Option (List ℕ) → Option (List ℕ) → ℕ → Type 0
-TellsOutcome rules nodes limit script old new status =
-    (ended : Result Unit RunFault) × IsOutcome rules nodes limit script old new ended × (status ≡ ended_status ended)
+-- and of an audit
+abbrev pub checked_status : Result CheckEnd RunFault → ℕ
+checked_status (Ok end) = verdict_status end
+checked_status (Err fault) = status_of fault
+
+-- the script was run, the writer has its transcript, a fault was told, and the status tells how it ended
+abbrev pub TellsOutcome : RuleSet → ℕ → ℕ → List ℕ → Known → Known → Known → Known → ℕ → Type 0
+TellsOutcome rules nodes limit script old new before after status =
+    (ended : Result Unit RunFault) × IsOutcome rules nodes limit script old new ended × TellsFault before after ended × (status ≡ ended_status ended)
+
+-- the transcript was judged, the writer has the line of its verdict, a fault was told, and the status tells how it ended
+abbrev pub TellsCheck : List ℕ → Known → Known → Known → Known → ℕ → Type 0
+TellsCheck bytes old new before after status =
+    (ended : Result CheckEnd RunFault) × IfOk ended (IsVerdict bytes) × TellsVerdict old new ended × TellsFault before after ended × (status ≡ checked_status ended)
+
+-- what is done for a task: where the help or the version is asked for, it is shown, or a write failed
+abbrev pub DoesTask : Task → List ℕ → Known → Known → Known → Known → ℕ → Type 0
+DoesTask (Run rules nodes) input old new before after status = TellsOutcome rules nodes 16777216 input old new before after status
+DoesTask Audit input old new before after status = TellsCheck input old new before after status
+DoesTask (Show text) input old new before after status = (status ≡ 0) ⊎ (status ≡ 3)
+
+-- the task is done; for bad words, or where memory ran out as they were read, the writer gets nothing
+abbrev pub Does : Result Task Error → List ℕ → Known → Known → Known → Known → ℕ → Type 0
+Does (Ok task) input old new before after status = DoesTask task input old new before after status
+Does (Err e) input old new before after status = Keeps old new × (status ≡ words_status (kind_of e))

@@ -1,3 +1,5 @@
 pub mod Status
-pub mod Ended
+pub mod VerdictText
+pub mod FaultText
 pub mod Checked
+pub mod Ended

@@ -1,8 +1,13 @@
 //! From the words of a command line to the exit status: a script is run, or a transcript judged.
 #![tactic(auto)]
 
+mod fault_line;
+mod law;
+mod once;
 mod program;
 mod verdict;
+mod verdict_line;
 
+pub use law::one_verdict;
 pub use program::{start, status, tell, tell_no_words};
 pub use verdict::{CheckEnd, check};

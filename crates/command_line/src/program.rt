@@ -1,11 +1,18 @@
 //! From the words to the exit status.
 
-ghost use Rattle.std.specs.Prelude.{◌≡◌, ◌⊎◌, IfSome};
+ghost use Rattle.std.specs.Prelude.{◌≡◌, ◌⊎◌, IfSome, Result};
+ghost use Rattle.command_words.specs.declared.words.Task.{Task};
+ghost use Rattle.clap.specs.declared.error.Error.{Error};
 ghost use Rattle.clap.specs.Words.{kind_of};
-ghost use Rattle.command_line.specs.Ended.{TellsOutcome};
+ghost use Rattle.byte_output.specs.Beginning.{AppendsBeginning};
+ghost use Rattle.command_line.specs.FaultText.{fault_line, no_words_line};
+ghost use Rattle.command_line.specs.Ended.{TellsOutcome, TellsCheck, Does};
 ghost use Rattle.command_line.specs.Status.{IsRunStatus, IsStatus, status_of, no_words_status, words_status};
 
+use crate::fault_line::write_fault;
+use crate::once::write_text;
 use crate::verdict::check;
+use byte_output::finish;
 use clap::Error;
 use clap::error::ErrorKind;
 use command_words::{Task, read_words};
@@ -27,23 +34,25 @@ pub fn status(fault: RunFault) -> u8
 }
 
 /// Tells why a run ended early, in one line, and gives the exit status. The status is the same where the line cannot
-/// be written.
+/// be written, or only a beginning of it.
 pub fn tell<Faults: Write>(fault: RunFault, faults: &mut Faults) -> u8
-    ensures { result ≡ status_of fault }
+    ensures status { result ≡ status_of fault }
+    ensures told { AppendsBeginning (Faults.contents faults.old) (Faults.contents faults.new) (fault_line fault) }
 {
-    let _ = writeln!(faults, "! {fault}");
+    let _ = write_fault(fault, faults);
     status(fault)
 }
 
 /// Tells why the words could not be had, in one line, and gives the exit status: 2 for a word that is not UTF-8, else 4.
 pub fn tell_no_words<Faults: Write>(kind: io::ErrorKind, faults: &mut Faults) -> u8
-    ensures { result ≡ no_words_status kind }
+    ensures status { result ≡ no_words_status kind }
+    ensures told { AppendsBeginning (Faults.contents faults.old) (Faults.contents faults.new) (no_words_line kind) }
 {
-    if kind != io::ErrorKind::InvalidData {
-        return tell(RunFault::Memory, faults);
+    if kind == io::ErrorKind::InvalidData {
+        let _ = finish(faults, b"! a word is not UTF-8\n");
+        return 2;
     }
-    let _ = writeln!(faults, "! a word is not UTF-8");
-    2
+    tell(RunFault::Memory, faults)
 }
 
 // Tells what is wrong with the words, in clap's text, and gives the exit status: 2, or 4 for want of memory.
@@ -53,7 +62,7 @@ fn refuse<Faults: Write>(error: Error, faults: &mut Faults) -> u8
     if error.kind() == ErrorKind::OutOfMemory {
         return tell(RunFault::Memory, faults);
     }
-    let _ = write!(faults, "{error}");
+    let _ = write_text(error, faults);
     2
 }
 
@@ -61,7 +70,7 @@ fn refuse<Faults: Write>(error: Error, faults: &mut Faults) -> u8
 fn show<Out: Write, Faults: Write>(text: Error, writer: &mut Out, faults: &mut Faults) -> u8
     ensures { (result ≡ 0) ⊎ (result ≡ 3) }
 {
-    match write!(writer, "{text}") {
+    match write_text(text, writer) {
         Ok(()) => 0,
         Err(_) => tell(RunFault::Write, faults),
     }
@@ -76,7 +85,8 @@ fn run_script<In: Read, Out: Write, Faults: Write>(
     faults: &mut Faults,
 ) -> u8
     ensures outcome { IfSome (In.remaining reader.old) (λ script.
-        TellsOutcome options.now.rules options.now.nodes options.now.limit script (Out.contents writer.old) (Out.contents writer.new) result) }
+        TellsOutcome options.now.rules options.now.nodes options.now.limit script
+        (Out.contents writer.old) (Out.contents writer.new) (Faults.contents faults.old) (Faults.contents faults.new) result) }
     ensures status { IsRunStatus result }
 {
     match run(alloc, reader, writer, options) {
@@ -92,7 +102,9 @@ fn check_transcript<In: Read, Out: Write, Faults: Write>(
     writer: &mut Out,
     faults: &mut Faults,
 ) -> u8
-    ensures { IsStatus result }
+    ensures verdict { IfSome (In.remaining reader.old) (λ bytes.
+        TellsCheck bytes (Out.contents writer.old) (Out.contents writer.new) (Faults.contents faults.old) (Faults.contents faults.new) result) }
+    ensures status { IsStatus result }
 {
     match check(alloc, reader, writer) {
         Ok(end) => end.status(),
@@ -111,7 +123,9 @@ pub fn start<S: AsStr, In: Read, Out: Write, Faults: Write>(
     writer: &mut Out,
     faults: &mut Faults,
 ) -> u8
-    ensures { IsStatus result }
+    ensures does { IfSome (In.remaining reader.old) (λ input. (asked : Result Task Error)
+        × Does asked input (Out.contents writer.old) (Out.contents writer.new) (Faults.contents faults.old) (Faults.contents faults.new) result) }
+    ensures status { IsStatus result }
 {
     match read_words(alloc, words) {
         Ok(Task::Run { rules, nodes }) => {

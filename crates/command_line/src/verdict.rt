@@ -1,12 +1,13 @@
 //! The audit of a transcript, told in one line.
 
 ghost use Rattle.std.specs.Prelude.{◌≡◌, IfOk, IfSome};
-ghost use Rattle.command_line.specs.Checked.{IsVerdict, verdict_status};
+ghost use Rattle.command_line.specs.Checked.{IsVerdict, TellsVerdict, verdict_of, verdict_status};
 
+use crate::verdict_line::verdict_line;
 use auditor::{AuditFault, Summary, audit};
+use byte_output::finish;
 use script_run::RunFault;
 use std::alloc::Global;
-use std::fmt::{self, Display, Formatter};
 use std::io::{Read, Write};
 
 /// What an audit found.
@@ -30,36 +31,48 @@ impl CheckEnd {
     }
 }
 
-impl Display for CheckEnd {
-    fn fmt<W: fmt::Write>(&self, f: &mut Formatter<W>) -> fmt::Result {
-        match self {
-            CheckEnd::Accepted(counted) => write!(
-                f,
-                "accepted: {} entries, {} epochs, {} moves",
-                counted.entries, counted.epochs, counted.moves
-            ),
-            CheckEnd::Refused(fault) => write!(f, "{fault}"),
-        }
+// What an audit found, or why it found nothing.
+fn verdict_of(audited: Result<Summary, AuditFault>) -> Result<CheckEnd, RunFault>
+    ensures { result ≡ verdict_of audited }
+{
+    match audited {
+        Ok(counted) => Ok(CheckEnd::Accepted(counted)),
+        Err(AuditFault::Read) => Err(RunFault::Read),
+        Err(AuditFault::Memory) => Err(RunFault::Memory),
+        Err(fault) => Ok(CheckEnd::Refused(fault)),
     }
 }
 
-/// Judges a transcript and tells the verdict in one line. `Read` and `Write` at the first error of the reader or the
-/// writer, and `Memory` if memory runs out.
+// Writes the line of a verdict.
+fn tell_verdict<Out: Write>(
+    alloc: Global,
+    end: CheckEnd,
+    writer: &mut Out,
+) -> Result<CheckEnd, RunFault>
+    ensures told { TellsVerdict (Out.contents writer.old) (Out.contents writer.new) result }
+    ensures same { IfOk result (λ said. said ≡ end) }
+{
+    let Ok(line) = verdict_line(alloc, end) else {
+        return Err(RunFault::Memory);
+    };
+    if finish(writer, &line).is_err() {
+        return Err(RunFault::Write);
+    }
+    Ok(end)
+}
+
+/// Judges a transcript and tells the verdict in one line, which is written once. `Read` and `Write` at the first error
+/// of the reader or the writer, and `Memory` if memory runs out; but for `Write`, nothing is written then.
 pub fn check<In: Read, Out: Write>(
     alloc: Global,
     reader: &mut In,
     writer: &mut Out,
 ) -> Result<CheckEnd, RunFault>
-    ensures { IfSome (In.remaining reader.old) (λ bytes. IfOk result (IsVerdict bytes)) }
+    ensures verdict { IfSome (In.remaining reader.old) (λ bytes. IfOk result (IsVerdict bytes)) }
+    ensures told { TellsVerdict (Out.contents writer.old) (Out.contents writer.new) result }
 {
-    let end = match audit(alloc, reader) {
-        Ok(counted) => CheckEnd::Accepted(counted),
-        Err(AuditFault::Read) => return Err(RunFault::Read),
-        Err(AuditFault::Memory) => return Err(RunFault::Memory),
-        Err(fault) => CheckEnd::Refused(fault),
-    };
-    match writeln!(writer, "{end}") {
-        Ok(()) => Ok(end),
-        Err(_) => Err(RunFault::Write),
+    match verdict_of(audit(alloc, reader)) {
+        Ok(end) => tell_verdict(alloc, end, writer),
+        Err(fault) => Err(fault),
     }
 }

@@ -1,0 +1,91 @@
+-- What was judged is the one verdict of the text.
+use Rattle.std.proofs.Common.{◌≡◌, ℕ, ◌⊎◌, inl, inr, List, Option, None, Some, IfSome, Result, Ok, Err, IfOk, IfErr, OnOk, refl, sym, ap, subst}
+use Rattle.std.specs.Io.KnownBytes.{Consumes, IsAtEnd}
+use Rattle.std.proofs.KnownBytes.{Consumes-whole}
+use Rattle.byte_input.specs.declared.fault.InputFault.{InputFault}
+use Rattle.byte_input.specs.declared.fault.InputFault.TheVariants as input
+use Rattle.auditor.specs.declared.damage.Damage.{Damage}
+use Rattle.auditor.specs.declared.damage.Damage.TheVariants.{BadHeader, NotALine, OutOfOrder, NotTheMachines}
+use Rattle.auditor.specs.declared.damage.JudgeFault.{JudgeFault}
+use Rattle.auditor.specs.declared.damage.JudgeFault.TheVariants.{Damaged, Memory}
+use Rattle.auditor.specs.declared.fault.AuditFault.{AuditFault}
+use Rattle.auditor.specs.declared.summary.Summary.{Summary}
+use Rattle.auditor.specs.Accepted.{IsAccepted}
+use Rattle.auditor.specs.Damage.{IsDamage}
+use Rattle.auditor.specs.Verdict.{IsJudged, IsAudited, IsFault, AcceptsRuns, NamesDamage, told, of_damage, of_input}
+use Rattle.auditor.proofs.Ending.{damage_once, count_once, accepted_no_damage}
+
+pub judged_accepts : (bytes : List ℕ) (result : Result Summary JudgeFault) → IsJudged bytes result → (counted : Summary) → IsAccepted bytes counted → (result ≡ Ok counted) ⊎ (result ≡ Err Memory)
+judged_accepts bytes (Ok c) judged counted is = inl (ap (λ (x : Summary). Ok x) (count_once bytes c counted judged is))
+judged_accepts bytes (Err (Damaged d)) judged counted is = absurd (accepted_no_damage bytes counted d is judged)
+judged_accepts bytes (Err Memory) judged counted is = inr refl
+
+pub judged_names : (bytes : List ℕ) (result : Result Summary JudgeFault) → IsJudged bytes result → (damage : Damage) → IsDamage bytes damage → (result ≡ Err (Damaged damage)) ⊎ (result ≡ Err Memory)
+judged_names bytes (Ok c) judged damage is = absurd (accepted_no_damage bytes c damage judged is)
+judged_names bytes (Err (Damaged d)) judged damage is = inl (ap (λ (x : Damage). Err (Damaged x)) (damage_once bytes d damage judged is))
+judged_names bytes (Err Memory) judged damage is = inr refl
+
+-- ---- what the judge found, as it is told
+
+told_accepted : (bytes : List ℕ) (judged : Result Summary JudgeFault) → IsJudged bytes judged → IfOk (told judged) (IsAccepted bytes)
+told_accepted bytes (Ok c) is = is
+told_accepted bytes (Err fault) is = tt
+
+told_damage : (bytes : List ℕ) (judged : Result Summary JudgeFault) → IsJudged bytes judged → IfErr (told judged) (IsFault bytes)
+told_damage bytes (Ok c) is = tt
+told_damage bytes (Err (Damaged BadHeader)) is = is
+told_damage bytes (Err (Damaged (NotALine line))) is = is
+told_damage bytes (Err (Damaged (OutOfOrder line))) is = is
+told_damage bytes (Err (Damaged (NotTheMachines line))) is = is
+told_damage bytes (Err Memory) is = tt
+
+told_accepts : (bytes : List ℕ) (judged : Result Summary JudgeFault) → IsJudged bytes judged → AcceptsRuns bytes (told judged)
+told_accepts bytes (Ok c) is counted accepted = inl (ap (λ (x : Summary). Ok x) (count_once bytes c counted is accepted))
+told_accepts bytes (Err (Damaged d)) is counted accepted = absurd (accepted_no_damage bytes counted d accepted is)
+told_accepts bytes (Err Memory) is counted accepted = inr (inr refl)
+
+told_names : (bytes : List ℕ) (judged : Result Summary JudgeFault) → IsJudged bytes judged → NamesDamage bytes (told judged)
+told_names bytes (Ok c) is damage damaged = absurd (accepted_no_damage bytes c damage is damaged)
+told_names bytes (Err (Damaged d)) is damage damaged = inl (ap (λ (x : Damage). Err (of_damage x)) (damage_once bytes d damage is damaged))
+told_names bytes (Err Memory) is damage damaged = inr (inr refl)
+
+-- ---- the same of an audit, which has read the text
+
+pub audited_accepted : (bytes : List ℕ) (result : Result Summary AuditFault) → IsAudited bytes result → IfOk result (IsAccepted bytes)
+audited_accepted bytes result (judged, is, e) = subst (λ (r : Result Summary AuditFault). IfOk r (IsAccepted bytes)) (sym e) (told_accepted bytes judged is)
+
+pub audited_damage : (bytes : List ℕ) (result : Result Summary AuditFault) → IsAudited bytes result → IfErr result (IsFault bytes)
+audited_damage bytes result (judged, is, e) = subst (λ (r : Result Summary AuditFault). IfErr r (IsFault bytes)) (sym e) (told_damage bytes judged is)
+
+pub audited_accepts : (bytes : List ℕ) (result : Result Summary AuditFault) → IsAudited bytes result → AcceptsRuns bytes result
+audited_accepts bytes result (judged, is, e) = subst (λ (r : Result Summary AuditFault). AcceptsRuns bytes r) (sym e) (told_accepts bytes judged is)
+
+pub audited_names : (bytes : List ℕ) (result : Result Summary AuditFault) → IsAudited bytes result → NamesDamage bytes result
+audited_names bytes result (judged, is, e) = subst (λ (r : Result Summary AuditFault). NamesDamage bytes r) (sym e) (told_names bytes judged is)
+
+-- a text that was not read has neither verdict
+pub unread_accepts : (bytes : List ℕ) (fault : InputFault) → AcceptsRuns bytes (Err (of_input fault))
+unread_accepts bytes input.Read counted is = inr (inl refl)
+unread_accepts bytes input.Memory counted is = inr (inr refl)
+
+pub unread_names : (bytes : List ℕ) (fault : InputFault) → NamesDamage bytes (Err (of_input fault))
+unread_names bytes input.Read damage is = inr (inl refl)
+unread_names bytes input.Memory damage is = inr (inr refl)
+
+abbrev pub unread : InputFault → Result Summary AuditFault
+unread fault = Err (of_input fault)
+
+pub unread_damage : (bytes : List ℕ) (fault : InputFault) → IfErr (unread fault) (IsFault bytes)
+unread_damage bytes input.Read = tt
+unread_damage bytes input.Memory = tt
+
+-- what holds of every text that was read to its end and judged, and of any text where the reading failed, holds of what
+-- the reader had
+pub from_reading : {V : Type 0} (items : V → List ℕ) (old new : Option (List ℕ)) (read : Result V InputFault) (result : Result Summary AuditFault) (Q : List ℕ → Result Summary AuditFault → Type 0)
+    → IfOk read (λ v. Consumes old new (items v)) → OnOk read (IsAtEnd new) → IfOk read (λ v. IsAudited (items v) result) → IfErr read (λ f. result ≡ Err (of_input f))
+    → ((bytes : List ℕ) → IsAudited bytes result → Q bytes result) → ((bytes : List ℕ) (fault : InputFault) → Q bytes (Err (of_input fault))) → IfSome old (λ bytes. Q bytes result)
+from_reading items None new read result Q consumes end audited unread whole none = tt
+from_reading items (Some xs) new (Ok v) result Q consumes end audited unread whole none =
+    Consumes-whole (Some xs) new (items v) (λ (bytes : List ℕ). Q bytes result) consumes end (whole (items v) audited)
+from_reading items (Some xs) new (Err fault) result Q consumes end audited unread whole none =
+    subst (λ (r : Result Summary AuditFault). Q xs r) (sym unread) (none xs fault)

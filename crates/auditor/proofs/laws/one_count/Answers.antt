@@ -1,0 +1,5 @@
+use Rattle.auditor.proofs.Ending.{count_once}
+use Rattle.auditor.proofs.laws.one_count.Goals as goal
+
+pub returns : goal.returns
+returns c = count_once

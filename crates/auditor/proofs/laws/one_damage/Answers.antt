@@ -1,0 +1,5 @@
+use Rattle.auditor.proofs.Ending.{damage_once}
+use Rattle.auditor.proofs.laws.one_damage.Goals as goal
+
+pub returns : goal.returns
+returns c = damage_once

@@ -1,0 +1,5 @@
+use Rattle.auditor.proofs.Undamaged.{undamaged_accepted}
+use Rattle.auditor.proofs.laws.undamaged_is_a_transcript.Goals as goal
+
+pub returns : goal.returns
+returns c = undamaged_accepted

@@ -1,0 +1,60 @@
+-- What the answers of an audit say of the bytes that were judged.
+use Rattle.std.specs.Prelude.{◌≡◌, ℕ, List, Result, Ok, Err, ◌⊎◌}
+use Rattle.byte_input.specs.declared.fault.InputFault.{InputFault}
+use Rattle.byte_input.specs.declared.fault.InputFault.TheVariants as input
+use Rattle.auditor.specs.declared.damage.Damage.{Damage}
+use Rattle.auditor.specs.declared.damage.Damage.TheVariants as damage
+use Rattle.auditor.specs.declared.damage.JudgeFault.{JudgeFault}
+use Rattle.auditor.specs.declared.damage.JudgeFault.TheVariants as judge
+use Rattle.auditor.specs.declared.fault.AuditFault.{AuditFault}
+use Rattle.auditor.specs.declared.fault.AuditFault.TheVariants.{BadHeader, NotALine, OutOfOrder, NotTheMachines, Read, Memory}
+use Rattle.auditor.specs.declared.summary.Summary.{Summary}
+use Rattle.auditor.specs.Accepted.{IsAccepted}
+use Rattle.auditor.specs.Damage.{IsDamage}
+
+-- what a damage, a fault of the judge and one of the input are called in an audit
+abbrev pub of_damage : Damage → AuditFault
+of_damage damage.BadHeader = BadHeader
+of_damage (damage.NotALine line) = NotALine line
+of_damage (damage.OutOfOrder line) = OutOfOrder line
+of_damage (damage.NotTheMachines line) = NotTheMachines line
+
+abbrev pub of_judge : JudgeFault → AuditFault
+of_judge (judge.Damaged d) = of_damage d
+of_judge judge.Memory = Memory
+
+abbrev pub of_input : InputFault → AuditFault
+of_input input.Read = Read
+of_input input.Memory = Memory
+
+-- what was judged: the transcript of a run with these counts, or a text with this damage; of want of memory nothing is
+-- said
+abbrev pub IsJudged : List ℕ → Result Summary JudgeFault → Type 0
+IsJudged bytes (Ok counted) = IsAccepted bytes counted
+IsJudged bytes (Err (judge.Damaged d)) = IsDamage bytes d
+IsJudged bytes (Err judge.Memory) = Unit {0}
+
+-- what the judge found, as an audit tells it: a failed read is none of it
+abbrev pub told : Result Summary JudgeFault → Result Summary AuditFault
+told (Ok counted) = Ok counted
+told (Err fault) = Err (of_judge fault)
+
+abbrev pub IsAudited : List ℕ → Result Summary AuditFault → Type 0
+IsAudited bytes result = (judged : Result Summary JudgeFault) × IsJudged bytes judged × (result ≡ told judged)
+
+-- the bytes have the damage that the fault names; of a failed read and want of memory nothing is said
+abbrev pub IsFault : List ℕ → AuditFault → Type 0
+IsFault bytes BadHeader = IsDamage bytes damage.BadHeader
+IsFault bytes (NotALine line) = IsDamage bytes (damage.NotALine line)
+IsFault bytes (OutOfOrder line) = IsDamage bytes (damage.OutOfOrder line)
+IsFault bytes (NotTheMachines line) = IsDamage bytes (damage.NotTheMachines line)
+IsFault bytes Read = Unit {0}
+IsFault bytes Memory = Unit {0}
+
+-- a transcript is accepted with its counts, if no read fails and memory is there
+abbrev pub AcceptsRuns : List ℕ → Result Summary AuditFault → Type 0
+AcceptsRuns bytes result = (counted : Summary) → IsAccepted bytes counted → (result ≡ Ok counted) ⊎ (result ≡ Err Read) ⊎ (result ≡ Err Memory)
+
+-- a damage is named, if no read fails and memory is there
+abbrev pub NamesDamage : List ℕ → Result Summary AuditFault → Type 0
+NamesDamage bytes result = (d : Damage) → IsDamage bytes d → (result ≡ Err (of_damage d)) ⊎ (result ≡ Err Read) ⊎ (result ≡ Err Memory)

@@ -1,0 +1,38 @@
+//! Laws of transcripts and their damages: each function does nothing, and its contract is the law.
+
+ghost use Rattle.std.specs.Prelude.{◌≡◌, ℕ, List};
+ghost use Rattle.rule_machine.specs.declared.rules.RuleSet.{RuleSet};
+ghost use Rattle.rule_machine.specs.Run.{Entry, Moment};
+ghost use Rattle.auditor.specs.declared.damage.Damage.{Damage};
+ghost use Rattle.auditor.specs.declared.summary.Summary.{Summary};
+ghost use Rattle.auditor.specs.Transcript.{IsTranscript};
+ghost use Rattle.auditor.specs.Damage.{IsDamage};
+ghost use Rattle.auditor.specs.Accepted.{IsAccepted};
+ghost use Rattle.auditor.specs.Once.{SameRun};
+
+/// A text is the transcript of one run at most: the rule set, the number of nodes, the entries and where the machine is
+/// at the end are determined by the bytes.
+pub fn one_run()
+    ensures { (bytes : List ℕ) (r q : RuleSet) (m n : ℕ) (log also : List Entry) (end last : Moment)
+        → IsTranscript bytes r m log end → IsTranscript bytes q n also last → SameRun r q m n log also end last }
+{}
+
+/// A text that is accepted is accepted with one summary.
+pub fn one_count()
+    ensures { (bytes : List ℕ) (c d : Summary) → IsAccepted bytes c → IsAccepted bytes d → c ≡ d }
+{}
+
+/// A text has one damage at most: the first line that fails, and its first check that does.
+pub fn one_damage()
+    ensures { (bytes : List ℕ) (d e : Damage) → IsDamage bytes d → IsDamage bytes e → d ≡ e }
+{}
+
+/// The transcript of a run has no damage.
+pub fn transcript_has_no_damage()
+    ensures { (bytes : List ℕ) (counted : Summary) (damage : Damage) → IsAccepted bytes counted → IsDamage bytes damage → ⊥ }
+{}
+
+/// A text that has no damage cannot fail to be the transcript of a run.
+pub fn undamaged_is_a_transcript()
+    ensures { (bytes : List ℕ) → ((damage : Damage) → IsDamage bytes damage → ⊥) → ((counted : Summary) → IsAccepted bytes counted → ⊥) → ⊥ }
+{}

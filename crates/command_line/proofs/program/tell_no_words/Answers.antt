@@ -1,0 +1,16 @@
+use Rattle.std.proofs.Common.{rules, ◌≡◌, codes, sym, subst}
+use Rattle.std.specs.declared.io.ErrorKind as io
+use Rattle.std.specs.declared.io.ErrorKind.TheVariants.{InvalidData}
+use Rattle.std.specs.contracts.io.ErrorKind.{the_type}
+use denote.Enum.Bare.{same_true}
+use Rattle.byte_output.specs.Beginning.{AppendsBeginning}
+use Rattle.command_line.specs.FaultText.{no_words_line}
+use Rattle.command_line.proofs.Telling.{either_begins}
+use Rattle.command_line.proofs.program.tell_no_words.Goals as goal
+
+pub returns-then-eq-clause-told : goal.returns-then-eq-clause-told
+returns-then-eq-clause-told g c =
+    let known = g.Faults.Write.contents in
+    let same : c.args.kind ≡ InvalidData = same_true the_type (search rules) _ _ (sym c.if-eq.ensures) in
+    subst (λ (k : io.ErrorKind). AppendsBeginning (known c.args.faults.now) (known c.finish.new.writer) (no_words_line k)) (sym same)
+    (either_begins (known c.args.faults.now) (known c.finish.new.writer) (codes "! a word is not UTF-8\n") c.finish.result c.finish.ensures.ok c.finish.ensures.fault)

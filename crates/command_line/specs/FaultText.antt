@@ -1,0 +1,20 @@
+-- The lines that tell why the program ended early.
+use Rattle.std.specs.Prelude.{ℕ, List, ◌++◌, codes}
+use Rattle.std.specs.declared.io.ErrorKind as io
+use Rattle.std.specs.declared.io.ErrorKind.TheVariants.{InvalidData}
+use Rattle.line_text.specs.Words.{number_text}
+use Rattle.script_run.specs.declared.fault.RunFault.{RunFault}
+use Rattle.script_run.specs.declared.fault.RunFault.TheVariants.{BadLine, LogFull, Read, Write, Memory}
+
+-- a fault of a run, with the LF that ends its line
+abbrev pub fault_line : RunFault → List ℕ
+fault_line (BadLine line) = codes "! line " ++ (number_text line ++ codes ": not a command\n")
+fault_line LogFull = codes "! log full\n"
+fault_line Read = codes "! read failed\n"
+fault_line Write = codes "! write failed\n"
+fault_line Memory = codes "! out of memory\n"
+
+-- words that could not be had
+abbrev pub no_words_line : io.ErrorKind → List ℕ
+no_words_line InvalidData = codes "! a word is not UTF-8\n"
+no_words_line _ = fault_line Memory
