@@ -113,6 +113,7 @@ impl<R: Rules> Journal<R> {
     /// At a fault nothing has changed. Copies nothing: takes the memory of the reply, and the log's as it doubles.
     pub fn log(&mut self, event: Event) -> Result<u32, RecordFault>
         ensures number { IfOk result (λ number. number ≡ length self.old.entries + 1) }
+        ensures below { OnOk result (length self.old.entries < self.old.limit) }
         ensures entry { OnOk result (slice_get self.new.entries (length self.old.entries) ≡ Some (entry_of R.table self.old event)) }
         ensures log { OnOk result (self.new ≡ recorded R.table self.old event) }
         ensures full { length self.old.entries ≡ self.old.limit → IsErrOf result LogFull }
