@@ -203,8 +203,9 @@ entry_read entries number count entry logged is here read =
     let at : number - 1 ≡ count = omega (arith, is) in
     let both : Some entry ≡ Some logged = sym read ∙ ap (slice_get entries) at ∙ here in cc
 
-pub same_text : {n k : ℕ} {a b : Event} {x y : Reply} (text : List ℕ) → n ≡ k → a ≡ b → x ≡ y → text ++ entry_line n a x ≡ text ++ entry_line k b y
-same_text text p q r = cc
+-- the text of the entry that was logged was added
+pub text_added : {n k : ℕ} {a b : Event} {x y : Reply} (old new : List ℕ) → new ≡ old ++ entry_line n a x → n ≡ k → a ≡ b → x ≡ y → new ≡ old ++ entry_line k b y
+text_added old new e p q r = cc
 
 pub OnErr-holds : {T E P : Type 0} (result : Result T E) → P → OnErr result P
 OnErr-holds (Ok x) p = tt

@@ -6,7 +6,7 @@ use Rattle.rule_machine.specs.Run.{Entry}
 use Rattle.line_text.specs.EventText.{Spells, NotACommand}
 use Rattle.step_log.specs.Log.{Log, entry_of}
 use Rattle.script_run.specs.Line.{progress}
-use Rattle.script_run.proofs.Running.{LineDoes-entry, entry_read, same_text}
+use Rattle.script_run.proofs.Running.{LineDoes-entry, entry_read, text_added}
 use Rattle.script_run.proofs.runner.Run.carry_out.Goals as goal
 
 pub returns-clause-ends : goal.returns-clause-ends
@@ -24,5 +24,5 @@ returns-clause-ends g c =
     (record {
       state = ap (λ (l : Log). l.state) logged.log;
       count = ap (λ (l : Log). length l.entries) logged.log ∙ length-append run.journal.entries _;
-      text = c.in_ok-put_entry.ensures.ok ∙ same_text run.text.items logged.number (c.event.ensures.value ∙ ap (λ (e : Entry). e.0) same) (c.reply.ensures.value ∙ ap (λ (e : Entry). e.1) same);
+      text = text_added run.text.items c.put_entry.new.out.items c.in_ok-put_entry.ensures.ok logged.number (c.event.ensures.value ∙ ap (λ (e : Entry). e.0) same) (c.reply.ensures.value ∙ ap (λ (e : Entry). e.1) same);
     })
