@@ -1,6 +1,6 @@
 //! When the text of a run is written.
 
-ghost use Rattle.std.specs.Prelude.{OnOk, OnErr};
+ghost use Rattle.std.specs.Prelude.{◌<◌, length, OnOk, OnErr};
 ghost use Rattle.byte_output.specs.Beginning.{AppendsLess};
 ghost use Rattle.script_run.specs.Halted.{Hands};
 
@@ -13,6 +13,7 @@ const CHUNK: usize = 65_536;
 /// Writes the text and empties it, if it has grown long.
 pub fn hand_over<Out: Write>(writer: &mut Out, text: &mut Vec<u8>) -> Result<(), OutputFault>
     ensures ok { OnOk result (Hands (Out.contents writer.old) (Out.contents writer.new) text.old.items text.new.items) }
+    ensures short { OnOk result (length text.new.items < 65536) }
     ensures fault { OnErr result (AppendsLess (Out.contents writer.old) (Out.contents writer.new) text.old.items) }
 {
     if text.len() < CHUNK {
