@@ -1,35 +1,47 @@
 -- How far the run of a script has come.
-use Rattle.std.proofs.Common.{◌≡◌, ◌∙◌, ◌⊎◌, inl, inr, ℕ, ◌+◌, ◌<◌, ◌≤◌, List, [], ◌∷◌, ◌++◌, length, Option, Result, Ok, Err, refl, sym, ap, subst, append_assoc, append-nil, length-append, arith}
-use Rattle.std.specs.Io.KnownBytes.{Appends, Keeps, append_known}
-use Rattle.std.proofs.KnownBytes.{Appends-trans, Appends-kept}
+use Rattle.std.proofs.Common.{◌≡◌, ◌∙◌, ℕ, ◌+◌, ◌<◌, ◌≤◌, List, [], ◌∷◌, ◌++◌, length, take, Option, None, Some, Result, Ok, Err, refl, sym, ap, subst, append_assoc, append-nil, length-append, arith}
+use Rattle.std.proofs.lemmas.Bool.{true≢false}
+use Rattle.std.proofs.Math.Seq.{take-append_seam, take-append-add, take-length}
+use Rattle.std.specs.Io.KnownBytes.{Appends}
+use Rattle.std.proofs.KnownBytes.{Appends-nil, Appends-trans}
 use Rattle.rule_machine.specs.State.{State}
 use Rattle.rule_machine.specs.RuleTable.{RuleTable}
 use Rattle.rule_machine.specs.Least.{reply_of}
+use Rattle.rule_machine.specs.Run.{Entry}
+use Rattle.std.specs.Prelude.{slice_get, ◌-◌, OnErr, IsErr, IsErrAnd, IfSome}
 use Rattle.line_text.specs.EntryText.{entry_line}
-use Rattle.line_text.specs.Script.{Progress, LineDoes, LinesDo, IsBadLine, MeetsFullLog, lines_of}
-use Rattle.script_run.specs.declared.fault.RunFault.{RunFault}
-use Rattle.script_run.specs.declared.fault.RunFault.TheVariants.{BadLine, LogFull, Read, Write, Memory}
-use Rattle.script_run.specs.Outcome.{Ends, StopsAt}
+use Rattle.line_text.specs.EventText.{Spells}
+use Rattle.rule_machine.specs.declared.event.Event.{Event}
+use Rattle.rule_machine.specs.declared.reply.Reply.{Reply}
+use Rattle.line_text.specs.Script.{Progress, LineDoes, LinesDo, IsEntry, lines_of}
+use Rattle.byte_output.specs.Beginning.{AppendsBeginning, AppendsLess}
+use Rattle.byte_input.specs.declared.fault.InputFault.{InputFault}
+use Rattle.byte_input.specs.declared.fault.InputFault.TheVariants as input
+use Rattle.script_run.specs.Input.{fault_of}
 use Rattle.script_run.specs.declared.stop.Stop.{Stop}
-use Rattle.script_run.specs.declared.stop.Stop.TheVariants as stop
-use Rattle.script_run.specs.Line.{progress, LineEnds}
-use Rattle.std.proofs.KnownBytes.{Consumes-whole}
-use Rattle.std.specs.Io.KnownBytes.{Consumes, IsAtEnd}
-use Rattle.std.specs.Prelude.{IfSome}
+use Rattle.script_run.specs.declared.stop.Stop.TheVariants.{BadLine, LogFull}
+use Rattle.script_run.specs.declared.stop.End.{End}
+use Rattle.script_run.specs.declared.stop.End.TheVariants.{Whole, Stopped, Memory}
 use Rattle.rule_machine.specs.declared.rules.RuleSet.{RuleSet}
 use Rattle.rule_machine.specs.Tables.{table_of}
-use Rattle.script_run.specs.Outcome.{IsOutcome, beginning}
-use Rattle.script_run.proofs.Handing.{Appends-grown, Appends-begun, Appends-finished}
+use Rattle.script_run.specs.declared.fault.RunFault.{RunFault}
+use Rattle.script_run.specs.Outcome.{Ends, IsOutcome, StopsAt, LeadsTo, beginning}
+use Rattle.script_run.specs.Halted.{Hands, Halts, ended, answered}
+use Rattle.script_run.specs.Line.{LineEnds}
 
--- the lines before the rest are done, and what is known of the writer and of the text before it is what they make
-pub record SoFar (t : RuleTable) (limit : ℕ) (script : List ℕ) (start : Progress) (old : Option (List ℕ)) (rest : List ℕ) (n : ℕ) (state : State) (count : ℕ) (known : Option (List ℕ)) : Type 0 where
+-- where a run stands
+abbrev pub at_line : State → ℕ → List ℕ → Progress
+at_line s count text = record { state = s; count = count; text = text }
+
+-- the lines before the rest are done, and of the text that they make the writer has what stands before the held one
+pub record SoFar (t : RuleTable) (limit : ℕ) (script : List ℕ) (start : Progress) (old : Option (List ℕ)) (rest : List ℕ) (n : ℕ) (state : State) (count : ℕ) (known : Option (List ℕ)) (held : List ℕ) : Type 0 where
   pub before : List (List ℕ)
   pub text : List ℕ
   pub splits : lines_of script ≡ before ++ lines_of rest
   pub number : n ≡ length before
   pub room : n + length rest ≤ length script
-  pub does : LinesDo t limit before start (progress state count text)
-  pub wrote : Appends old known text
+  pub does : LinesDo t limit before start (at_line state count text)
+  pub handed : Hands old known text held
 
 -- one line more
 LinesDo-more : (t : RuleTable) (limit : ℕ) (lines : List (List ℕ)) (line : List ℕ) (start mid after : Progress) → LinesDo t limit lines start mid → LineDoes t limit line mid after → LinesDo t limit (lines ++ line ∷ []) start after
@@ -40,13 +52,13 @@ LinesDo-more t limit (l ∷ lines) line start mid after p q = (p.0, p.1, LinesDo
 record Adds (t : RuleTable) (limit : ℕ) (line : List ℕ) (s s' : State) (n n' : ℕ) (old new : List ℕ) : Type 0 where
   more : List ℕ
   grown : new ≡ old ++ more
-  does : (text : List ℕ) → LineDoes t limit line (progress s n text) (progress s' n' (text ++ more))
+  does : (text : List ℕ) → LineDoes t limit line (at_line s n text) (at_line s' n' (text ++ more))
 
-Adds-from : (t : RuleTable) (limit : ℕ) (line : List ℕ) (s s' : State) (n n' : ℕ) (old new : List ℕ) → LineDoes t limit line (progress s n old) (progress s' n' new) → Adds t limit line s s' n n' old new
+Adds-from : (t : RuleTable) (limit : ℕ) (line : List ℕ) (s s' : State) (n n' : ℕ) (old new : List ℕ) → LineDoes t limit line (at_line s n old) (at_line s' n' new) → Adds t limit line s s' n n' old new
 Adds-from t limit [] s s' n n' old new same = record {
   more = [];
   grown = ap (λ (p : Progress). p.text) same ∙ sym (append-nil old);
-  does = λ text. ap (λ (p : Progress). progress p.state p.count (text ++ [])) same ∙ ap (λ l. progress s n l) (append-nil text);
+  does = λ text. ap (λ (p : Progress). at_line p.state p.count (text ++ [])) same ∙ ap (λ l. at_line s n l) (append-nil text);
 }
 Adds-from t limit (b ∷ line) s s' n n' old new (event, spells, below, entry) = record {
   more = entry_line (n + 1) event (reply_of t s event);
@@ -54,8 +66,20 @@ Adds-from t limit (b ∷ line) s s' n n' old new (event, spells, below, entry) =
   does = λ text. (event, spells, below, record { state = entry.state; count = entry.count; text = refl });
 }
 
+-- the lines before some others are the first so many of all
+LeadsTo-before : (t : RuleTable) (limit : ℕ) (before behind lines : List (List ℕ)) (start end : Progress) → lines ≡ before ++ behind → LinesDo t limit before start end → LeadsTo t limit lines start end
+LeadsTo-before t limit before behind lines start end splits does =
+    (length before, subst (λ l. LinesDo t limit l start end) (sym (ap (take (length before)) splits ∙ take-append_seam before behind)) does)
+
+-- less than what is held was written
+Hands-less : (old known new : Option (List ℕ)) (text held : List ℕ) → Hands old known text held → AppendsLess known new held → AppendsLess old new text
+Hands-less old known new text held h (n, less, wrote) =
+    let long : length text ≡ length h.sent + length held = ap length h.splits ∙ length-append h.sent held in
+    let front : take (length h.sent + n) text ≡ h.sent ++ take n held = ap (take (length h.sent + n)) h.splits ∙ take-append-add h.sent held n in
+    (length h.sent + n, omega (arith, long, less), subst (Appends old new) (sym front) (Appends-trans old known new h.sent (take n held) h.wrote wrote))
+
 module _ (t : RuleTable) (limit : ℕ) (script : List ℕ) (start : Progress) (old : Option (List ℕ)) where
-  pub SoFar-none : (s : State) (count : ℕ) (text : List ℕ) → start ≡ progress s count text → SoFar t limit script start old script 0 s count (append_known old text)
+  pub SoFar-none : (s : State) (count : ℕ) (text : List ℕ) → start ≡ at_line s count text → SoFar t limit script start old script 0 s count old text
   SoFar-none s count text e = record {
     before = [];
     text = text;
@@ -63,46 +87,62 @@ module _ (t : RuleTable) (limit : ℕ) (script : List ℕ) (start : Progress) (o
     number = refl;
     room = omega arith;
     does = sym e;
-    wrote = Appends-begun old text;
+    handed = record { sent = []; wrote = Appends-nil old; splits = refl };
   }
 
-  pub SoFar-line : (rest behind line : List ℕ) (n : ℕ) (s s' : State) (count count' : ℕ) (held : Option (List ℕ)) (text text' : List ℕ)
-      → SoFar t limit script start old rest n s count (append_known held text)
+  pub SoFar-line : (rest behind line : List ℕ) (n : ℕ) (s s' : State) (count count' : ℕ) (known : Option (List ℕ)) (held held' : List ℕ)
+      → SoFar t limit script start old rest n s count known held
       → lines_of rest ≡ line ∷ lines_of behind → length behind < length rest
-      → LineDoes t limit line (progress s count text) (progress s' count' text')
-      → SoFar t limit script start old behind (n + 1) s' count' (append_known held text')
-  SoFar-line rest behind line n s s' count count' held text text' h first shorter line_does =
-      let adds : Adds t limit line s s' count count' text text' = Adds-from t limit line s s' count count' text text' line_does in record {
+      → LineDoes t limit line (at_line s count held) (at_line s' count' held')
+      → SoFar t limit script start old behind (n + 1) s' count' known held'
+  SoFar-line rest behind line n s s' count count' known held held' h first shorter line_does =
+      let adds : Adds t limit line s s' count count' held held' = Adds-from t limit line s s' count count' held held' line_does in record {
         before = h.before ++ line ∷ [];
         text = h.text ++ adds.more;
         splits = h.splits ∙ ap (λ l. h.before ++ l) first ∙ sym (append_assoc h.before (line ∷ []) (lines_of behind));
         number = ap (λ m. m + 1) h.number ∙ sym (length-append h.before (line ∷ []));
         room = omega (arith, h.room, shorter);
-        does = LinesDo-more t limit h.before line start (progress s count h.text) _ h.does (adds.does h.text);
-        wrote = Appends-trans old (append_known held text) (append_known held text') h.text adds.more h.wrote (Appends-grown held text text' adds.more adds.grown);
+        does = LinesDo-more t limit h.before line start (at_line s count h.text) _ h.does (adds.does h.text);
+        handed = record {
+          sent = h.handed.sent;
+          wrote = h.handed.wrote;
+          splits = ap (λ l. l ++ adds.more) h.handed.splits ∙ append_assoc h.handed.sent held adds.more ∙ ap (λ l. h.handed.sent ++ l) (sym adds.grown);
+        };
       }
 
-  pub SoFar-kept : (rest : List ℕ) (n : ℕ) (s : State) (count : ℕ) (known known' : Option (List ℕ))
-      → SoFar t limit script start old rest n s count known → Keeps known known' → SoFar t limit script start old rest n s count known'
-  SoFar-kept rest n s count known known' h keeps = record {
+  -- some of what was held is written
+  pub SoFar-handed : (rest : List ℕ) (n : ℕ) (s : State) (count : ℕ) (known known' : Option (List ℕ)) (held held' : List ℕ)
+      → SoFar t limit script start old rest n s count known held → Hands known known' held held' → SoFar t limit script start old rest n s count known' held'
+  SoFar-handed rest n s count known known' held held' h more = record {
     before = h.before;
     text = h.text;
     splits = h.splits;
     number = h.number;
     room = h.room;
     does = h.does;
-    wrote = Appends-kept old known known' h.text h.wrote keeps;
+    handed = record {
+      sent = h.handed.sent ++ more.sent;
+      wrote = Appends-trans old known known' h.handed.sent more.sent h.handed.wrote more.wrote;
+      splits = h.handed.splits ∙ ap (λ l. h.handed.sent ++ l) more.splits ∙ sym (append_assoc h.handed.sent more.sent held');
+    };
   }
 
-  -- no line is left
-  pub Ends-ok : (rest : List ℕ) (n : ℕ) (s : State) (count : ℕ) (known : Option (List ℕ))
-      → SoFar t limit script start old rest n s count known → lines_of rest ≡ [] → Ends t limit (lines_of script) start (Ok tt) (λ end. Appends old known end.text)
-  Ends-ok rest n s count known h none =
-      (progress s count h.text, subst (λ l. LinesDo t limit l start (progress s count h.text)) (sym (h.splits ∙ ap (λ l. h.before ++ l) none ∙ append-nil h.before)) h.does, h.wrote)
+  -- what was held could not be written
+  pub SoFar-failed : (rest : List ℕ) (n : ℕ) (s : State) (count : ℕ) (known known' : Option (List ℕ)) (held : List ℕ)
+      → SoFar t limit script start old rest n s count known held → AppendsLess known known' held
+      → (end : Progress) × LeadsTo t limit (lines_of script) start end × AppendsLess old known' end.text
+  SoFar-failed rest n s count known known' held h less =
+      (at_line s count h.text, LeadsTo-before t limit h.before (lines_of rest) (lines_of script) start (at_line s count h.text) h.splits h.does, Hands-less old known known' h.text held h.handed less)
 
-  stops : (rest line : List ℕ) (behind : List (List ℕ)) (n : ℕ) (s : State) (count : ℕ) (known : Option (List ℕ))
-      → (h : SoFar t limit script start old rest n s count known) → lines_of rest ≡ line ∷ behind → StopsAt t limit (lines_of script) start (n + 1) line (progress s count h.text)
-  stops rest line behind n s count known h first = record {
+  -- no line is left
+  pub Halts-whole : (rest : List ℕ) (n : ℕ) (s : State) (count : ℕ) (known : Option (List ℕ)) (held : List ℕ)
+      → SoFar t limit script start old rest n s count known held → lines_of rest ≡ [] → Halts t limit (lines_of script) start Whole (λ text. Hands old known text held)
+  Halts-whole rest n s count known held h none =
+      (at_line s count h.text, subst (λ l. LinesDo t limit l start (at_line s count h.text)) (sym (h.splits ∙ ap (λ l. h.before ++ l) none ∙ append-nil h.before)) h.does, h.handed)
+
+  stops : (rest line : List ℕ) (behind : List (List ℕ)) (n : ℕ) (s : State) (count : ℕ) (known : Option (List ℕ)) (held : List ℕ)
+      → (h : SoFar t limit script start old rest n s count known held) → lines_of rest ≡ line ∷ behind → StopsAt t limit (lines_of script) start (n + 1) line (at_line s count h.text)
+  stops rest line behind n s count known held h first = record {
     before = h.before;
     behind = behind;
     splits = h.splits ∙ ap (λ l. h.before ++ l) first;
@@ -110,55 +150,129 @@ module _ (t : RuleTable) (limit : ℕ) (script : List ℕ) (start : Progress) (o
     does = h.does;
   }
 
-  -- the next line is bad
-  pub Ends-bad : (rest line : List ℕ) (behind : List (List ℕ)) (n : ℕ) (s : State) (count : ℕ) (held : Option (List ℕ)) (text text' : List ℕ)
-      → SoFar t limit script start old rest n s count (append_known held text) → lines_of rest ≡ line ∷ behind → IsBadLine line → text' ≡ text
-      → Ends t limit (lines_of script) start (Err (BadLine (n + 1))) (λ end. Appends old (append_known held text') end.text)
-  Ends-bad rest line behind n s count held text text' h first bad same =
-      (progress s count h.text, (line, stops rest line behind n s count _ h first, bad), subst (λ l. Appends old (append_known held l) h.text) (sym same) h.wrote)
+  Halts-at : (E : Type 0) (rest line : List ℕ) (behind : List (List ℕ)) (n number : ℕ) (s : State) (count : ℕ) (known : Option (List ℕ)) (held : List ℕ) (after : Progress) (stop : Stop)
+      → SoFar t limit script start old rest n s count known held → lines_of rest ≡ line ∷ behind → number ≡ n + 1
+      → LineEnds {E = E} t limit number line (at_line s count held) after (Ok (Some stop))
+      → Halts t limit (lines_of script) start (Stopped stop) (λ text. Hands old known text after.text)
+  Halts-at E rest line behind n number s count known held after (BadLine m) h first next (same, bad, kept) = (
+    at_line s count h.text,
+    (line, subst (λ k. StopsAt t limit (lines_of script) start k line (at_line s count h.text)) (sym (same ∙ next)) (stops rest line behind n s count known held h first), bad),
+    subst (Hands old known h.text) (sym (ap (λ (p : Progress). p.text) kept)) h.handed,
+  )
+  Halts-at E rest line behind n number s count known held after LogFull h first next (full, kept) = (
+    at_line s count h.text,
+    (n + 1, line, stops rest line behind n s count known held h first, full),
+    subst (Hands old known h.text) (sym (ap (λ (p : Progress). p.text) kept)) h.handed,
+  )
 
-  -- the next line meets a full log
-  pub Ends-full : (rest line : List ℕ) (behind : List (List ℕ)) (n : ℕ) (s : State) (count : ℕ) (held : Option (List ℕ)) (text text' : List ℕ)
-      → SoFar t limit script start old rest n s count (append_known held text) → lines_of rest ≡ line ∷ behind → MeetsFullLog limit line (progress s count text) → text' ≡ text
-      → Ends t limit (lines_of script) start (Err LogFull) (λ end. Appends old (append_known held text') end.text)
-  Ends-full rest line behind n s count held text text' h first full same =
-      (progress s count h.text, (n + 1, line, stops rest line behind n s count _ h first, full), subst (λ l. Appends old (append_known held l) h.text) (sym same) h.wrote)
+  -- the next line stops the run
+  pub Halts-stopped : {E : Type 0} (rest line : List ℕ) (behind : List (List ℕ)) (n number : ℕ) (s : State) (count : ℕ) (known : Option (List ℕ)) (held : List ℕ) (after : Progress) (stop : Stop) (result : Result (Option Stop) E)
+      → SoFar t limit script start old rest n s count known held → lines_of rest ≡ line ∷ behind → number ≡ n + 1
+      → LineEnds t limit number line (at_line s count held) after result → result ≡ Ok (Some stop)
+      → Halts t limit (lines_of script) start (Stopped stop) (λ text. Hands old known text after.text)
+  Halts-stopped {E} rest line behind n number s count known held after stop result h first next ends is =
+      Halts-at E rest line behind n number s count known held after stop h first next (subst (LineEnds t limit number line (at_line s count held) after) is ends)
 
--- what holds of the end may be replaced by what follows from it
-pub Ends-map : (t : RuleTable) (limit : ℕ) (lines : List (List ℕ)) (start : Progress) (result : Result Unit RunFault) (P Q : Progress → Type 0) → Ends t limit lines start result P → ((end : Progress) → P end → Q end) → Ends t limit lines start result Q
-Ends-map t limit lines start (Ok done) P Q p f = (p.0, p.1, f p.0 p.2)
-Ends-map t limit lines start (Err (BadLine number)) P Q p f = (p.0, p.1, f p.0 p.2)
-Ends-map t limit lines start (Err LogFull) P Q p f = (p.0, p.1, f p.0 p.2)
-Ends-map t limit lines start (Err Read) P Q p f = tt
-Ends-map t limit lines start (Err Write) P Q p f = tt
-Ends-map t limit lines start (Err Memory) P Q p f = tt
+  -- memory was refused at the next line
+  pub Halts-memory : {E : Type 0} (rest line : List ℕ) (n number : ℕ) (s : State) (count : ℕ) (known : Option (List ℕ)) (held : List ℕ) (after : Progress) (want : E) (result : Result (Option Stop) E)
+      → SoFar t limit script start old rest n s count known held
+      → LineEnds t limit number line (at_line s count held) after result → result ≡ Err want
+      → Halts t limit (lines_of script) start Memory (λ text. Hands old known text after.text)
+  Halts-memory rest line n number s count known held after want result h ends is =
+      let kept : after.text ≡ held = subst (LineEnds t limit number line (at_line s count held) after) is ends in
+      (at_line s count h.text, LeadsTo-before t limit h.before (lines_of rest) (lines_of script) start (at_line s count h.text) h.splits h.does, subst (Hands old known h.text) (sym kept) h.handed)
 
--- of the other faults nothing is said
-pub Ends-fault : (t : RuleTable) (limit : ℕ) (lines : List (List ℕ)) (start : Progress) (fault : RunFault) (P : Progress → Type 0) → (fault ≡ Read) ⊎ (fault ≡ Memory) → Ends t limit lines start (Err fault) P
-Ends-fault t limit lines start fault P (inl e) = subst (λ f. Ends t limit lines start (Err f) P) (sym e) tt
-Ends-fault t limit lines start fault P (inr e) = subst (λ f. Ends t limit lines start (Err f) P) (sym e) tt
+-- what was held is written at last
+Hands-all : (old known new : Option (List ℕ)) (text held : List ℕ) → Hands old known text held → Appends known new held → Appends old new text
+Hands-all old known new text held h wrote = subst (Appends old new) (sym h.splits) (Appends-trans old known new h.sent held h.wrote wrote)
 
--- what was held back is written at last
-pub Ends-finished : (t : RuleTable) (limit : ℕ) (limit' : ℕ) (lines : List (List ℕ)) (start start' : Progress) (result : Result Unit RunFault) (old held new : Option (List ℕ)) (text text' : List ℕ)
-    → limit ≡ limit' → start ≡ start' → Ends t limit lines start result (λ end. Appends old (append_known held text) end.text) → text' ≡ text → Appends held new text'
-    → Ends t limit' lines start' result (λ end. Appends old new end.text)
-Ends-finished t limit limit' lines start start' result old held new text text' f e ends same wrote =
-    subst (λ n. Ends t n lines start' result (λ end. Appends old new end.text)) f
-    (subst (λ s. Ends t limit lines s result (λ end. Appends old new end.text)) e
-    (Ends-map t limit lines start result (λ end. Appends old (append_known held text) end.text) (λ end. Appends old new end.text) ends (λ end p. Appends-finished old held new text end.text p (subst (Appends held new) same wrote))))
+-- or a beginning of it
+Hands-begun : (old known new : Option (List ℕ)) (text held : List ℕ) → Hands old known text held → AppendsBeginning known new held → AppendsBeginning old new text
+Hands-begun old known new text held h (n, wrote) =
+    let front : take (length h.sent + n) text ≡ h.sent ++ take n held = ap (take (length h.sent + n)) h.splits ∙ take-append-add h.sent held n in
+    (length h.sent + n, subst (Appends old new) (sym front) (Appends-trans old known new h.sent (take n held) h.wrote wrote))
 
--- the bytes that were read are the script
-pub IsOutcome-read : (t : RuleTable) (rules : RuleSet) (nodes limit : ℕ) (a b : Option (List ℕ)) (read script : List ℕ) (old new : Option (List ℕ)) (result : Result Unit RunFault)
-    → Consumes a b read → IsAtEnd b → script ≡ read → table_of rules ≡ t → Ends t limit (lines_of script) (beginning rules nodes) result (λ end. Appends old new end.text)
-    → IfSome a (λ script. IsOutcome rules nodes limit script old new result)
-IsOutcome-read t rules nodes limit a b read script old new result consumes ended same table ends =
-    let turned : Ends (table_of rules) limit (lines_of script) (beginning rules nodes) result (λ end. Appends old new end.text) =
-    subst (λ x. Ends x limit (lines_of script) (beginning rules nodes) result (λ end. Appends old new end.text)) (sym table) ends in
-    Consumes-whole a b read (λ s. IsOutcome rules nodes limit s old new result) consumes ended (subst (λ s. IsOutcome rules nodes limit s old new result) same turned)
+-- a command that was logged, and whose entry's text was added
+pub LineDoes-entry : (t : RuleTable) (limit : ℕ) (line : List ℕ) (event : Event) (before after : Progress) → (line ≡ [] → ⊥) → Spells line event → before.count < limit → IsEntry t event before after → LineDoes t limit line before after
+LineDoes-entry t limit [] event before after some spells below entry = absurd (some refl)
+LineDoes-entry t limit (b ∷ line) event before after some spells below entry = (event, spells, below, entry)
 
--- a result that is known to be a bad line, or a full log
-pub LineEnds-bad : (t : RuleTable) (limit : ℕ) (line : List ℕ) (before after : Progress) (result : Result Unit Stop) → LineEnds t limit line before after result → result ≡ Err stop.BadLine → IsBadLine line × (after ≡ before)
-LineEnds-bad t limit line before after result h e = subst (LineEnds t limit line before after) e h
+-- the entry with the number is the one that was logged
+pub entry_read : (entries : List Entry) (number count : ℕ) (entry logged : Entry) → number ≡ count + 1 → slice_get entries count ≡ Some logged → slice_get entries (number - 1) ≡ Some entry → entry ≡ logged
+entry_read entries number count entry logged is here read =
+    let at : number - 1 ≡ count = omega (arith, is) in
+    let both : Some entry ≡ Some logged = sym read ∙ ap (slice_get entries) at ∙ here in cc
 
-pub LineEnds-full : (t : RuleTable) (limit : ℕ) (line : List ℕ) (before after : Progress) (result : Result Unit Stop) → LineEnds t limit line before after result → result ≡ Err stop.LogFull → MeetsFullLog limit line before × (after ≡ before)
-LineEnds-full t limit line before after result h e = subst (LineEnds t limit line before after) e h
+-- the text of the entry that was logged was added
+pub text_added : {n k : ℕ} {a b : Event} {x y : Reply} (old new : List ℕ) → new ≡ old ++ entry_line n a x → n ≡ k → a ≡ b → x ≡ y → new ≡ old ++ entry_line k b y
+text_added old new e p q r = cc
+
+pub OnErr-holds : {T E P : Type 0} (result : Result T E) → P → OnErr result P
+OnErr-holds (Ok x) p = tt
+OnErr-holds (Err e) p = p
+
+pub LineEnds-done : {E : Type 0} (t : RuleTable) (limit number : ℕ) (line : List ℕ) (before after : Progress) (result : Result (Option Stop) E) → LineEnds t limit number line before after result → result ≡ Ok None → LineDoes t limit line before after
+LineEnds-done t limit number line before after result ends is = subst (LineEnds t limit number line before after) is ends
+
+-- how far a run came, and that a beginning of its text was written
+abbrev pub WritesPart : RuleTable → ℕ → List (List ℕ) → Progress → Option (List ℕ) → Option (List ℕ) → Type 0
+WritesPart t limit lines start old new = (end : Progress) × LeadsTo t limit lines start end × AppendsBeginning old new end.text
+
+-- nothing was written yet
+pub WritesPart-none : (t : RuleTable) (limit : ℕ) (lines : List (List ℕ)) (start : Progress) (old : Option (List ℕ)) → WritesPart t limit lines start old old
+WritesPart-none t limit lines start old = (start, (0, refl), (0, Appends-nil old))
+
+-- less than the text was written
+pub WritesPart-less : (t : RuleTable) (limit : ℕ) (lines : List (List ℕ)) (start : Progress) (old new : Option (List ℕ)) → (end : Progress) × LeadsTo t limit lines start end × AppendsLess old new end.text → WritesPart t limit lines start old new
+WritesPart-less t limit lines start old new (end, leads, (n, less, wrote)) = (end, leads, (n, wrote))
+
+-- a beginning of what was held was written
+pub WritesPart-halted : (t : RuleTable) (limit : ℕ) (lines : List (List ℕ)) (start : Progress) (end : End) (old known new : Option (List ℕ)) (held : List ℕ)
+    → Halts t limit lines start end (λ text. Hands old known text held) → AppendsBeginning known new held → WritesPart t limit lines start old new
+WritesPart-halted t limit lines start Whole old known new held (end, does, handed) begun =
+    (end, LeadsTo-before t limit lines [] lines start end (sym (append-nil lines)) does, Hands-begun old known new end.text held handed begun)
+WritesPart-halted t limit lines start (Stopped (BadLine number)) old known new held (end, (line, stops, bad), handed) begun =
+    (end, LeadsTo-before t limit stops.before (line ∷ stops.behind) lines start end stops.splits stops.does, Hands-begun old known new end.text held handed begun)
+WritesPart-halted t limit lines start (Stopped LogFull) old known new held (end, (number, line, stops, full), handed) begun =
+    (end, LeadsTo-before t limit stops.before (line ∷ stops.behind) lines start end stops.splits stops.does, Hands-begun old known new end.text held handed begun)
+WritesPart-halted t limit lines start Memory old known new held (end, leads, handed) begun = (end, leads, Hands-begun old known new end.text held handed begun)
+
+-- the writer failed
+pub Ends-failed : {E : Type 0} (t : RuleTable) (limit limit' : ℕ) (lines : List (List ℕ)) (start start' : Progress) (result : Result End E) (old new : Option (List ℕ))
+    → limit ≡ limit' → start ≡ start' → IsErr result → WritesPart t limit lines start old new
+    → Ends t limit' lines start' (answered result) (Appends old new) (AppendsBeginning old new)
+Ends-failed t limit limit' lines start start' (Ok end) old new f e is part = absurd (true≢false (sym is))
+Ends-failed t limit limit' lines start start' (Err failed) old new f e is part =
+    subst (λ n. WritesPart t n lines start' old new) f (subst (λ s. WritesPart t limit lines s old new) e part)
+
+-- all that was held was written
+Ends-written : (t : RuleTable) (limit : ℕ) (lines : List (List ℕ)) (start : Progress) (end : End) (old known new : Option (List ℕ)) (held : List ℕ)
+    → Halts t limit lines start end (λ text. Hands old known text held) → Appends known new held → Ends t limit lines start (ended end) (Appends old new) (AppendsBeginning old new)
+Ends-written t limit lines start Whole old known new held (end, does, handed) wrote = (end, does, Hands-all old known new end.text held handed wrote)
+Ends-written t limit lines start (Stopped (BadLine number)) old known new held (end, stops, handed) wrote = (end, stops, Hands-all old known new end.text held handed wrote)
+Ends-written t limit lines start (Stopped LogFull) old known new held (end, stops, handed) wrote = (end, stops, Hands-all old known new end.text held handed wrote)
+Ends-written t limit lines start Memory old known new held (end, leads, handed) wrote =
+    (end, leads, (length end.text, subst (Appends old new) (sym (take-length end.text)) (Hands-all old known new end.text held handed wrote)))
+
+pub Ends-finished : (t : RuleTable) (limit limit' : ℕ) (lines : List (List ℕ)) (start start' : Progress) (end : End) (old known new : Option (List ℕ)) (held held' : List ℕ)
+    → limit ≡ limit' → start ≡ start' → Halts t limit lines start end (λ text. Hands old known text held) → held' ≡ held → Appends known new held'
+    → Ends t limit' lines start' (ended end) (Appends old new) (AppendsBeginning old new)
+Ends-finished t limit limit' lines start start' end old known new held held' f e halts same wrote =
+    subst (λ n. Ends t n lines start' (ended end) (Appends old new) (AppendsBeginning old new)) f
+    (subst (λ s. Ends t limit lines s (ended end) (Appends old new) (AppendsBeginning old new)) e
+    (Ends-written t limit lines start end old known new held halts (subst (Appends known new) same wrote)))
+
+Ends-unread : (t : RuleTable) (limit : ℕ) (lines : List (List ℕ)) (start : Progress) (old : Option (List ℕ)) (fault : InputFault) → Ends t limit lines start (Err (fault_of fault)) (Appends old old) (AppendsBeginning old old)
+Ends-unread t limit lines start old input.Read = (0, Appends-nil old)
+Ends-unread t limit lines start old input.Memory = WritesPart-none t limit lines start old
+
+IsOutcome-fault : (rules : RuleSet) (nodes limit : ℕ) (script : List ℕ) (old : Option (List ℕ)) (result : Result Unit RunFault) (fault : InputFault) → IsErr result → IsErrAnd result (λ run. run ≡ fault_of fault) → IsOutcome rules nodes limit script old old result
+IsOutcome-fault rules nodes limit script old (Ok done) fault is gives = absurd (true≢false (sym is))
+IsOutcome-fault rules nodes limit script old (Err run) fault is gives =
+    subst (λ f. IsOutcome rules nodes limit script old old (Err f)) (sym gives) (Ends-unread (table_of rules) limit (lines_of script) (beginning rules nodes) old fault)
+
+-- the script could not be read, and nothing was written
+pub IsOutcome-unread : (rules : RuleSet) (nodes limit : ℕ) (a old : Option (List ℕ)) (result : Result Unit RunFault) (fault : InputFault) → IsErr result → IsErrAnd result (λ run. run ≡ fault_of fault)
+    → IfSome a (λ script. IsOutcome rules nodes limit script old old result)
+IsOutcome-unread rules nodes limit None old result fault is gives = tt
+IsOutcome-unread rules nodes limit (Some script) old result fault is gives = IsOutcome-fault rules nodes limit script old result fault is gives

@@ -1,3 +1,4 @@
 pub mod Outcome
 pub mod Line
+pub mod Halted
 pub mod Input

@@ -1,17 +1,18 @@
 -- How one line ends.
-use Rattle.std.specs.Prelude.{◌≡◌, ℕ, List, Result, Ok, Err}
-use Rattle.rule_machine.specs.State.{State}
+use Rattle.std.specs.Prelude.{◌≡◌, ℕ, List, length, Option, None, Some, Result, Ok, Err}
 use Rattle.rule_machine.specs.RuleTable.{RuleTable}
+use Rattle.step_log.specs.Log.{Log}
 use Rattle.line_text.specs.Script.{Progress, LineDoes, IsBadLine, MeetsFullLog}
 use Rattle.script_run.specs.declared.stop.Stop.{Stop}
-use Rattle.script_run.specs.declared.stop.Stop.TheVariants.{BadLine, LogFull, Memory}
+use Rattle.script_run.specs.declared.stop.Stop.TheVariants.{BadLine, LogFull}
 
-abbrev pub progress : State → ℕ → List ℕ → Progress
-progress state count text = record { state = state; count = count; text = text }
+-- where a run stands: what its journal holds, and a text
+abbrev pub progress : Log → List ℕ → Progress
+progress log text = record { state = log.state; count = length log.entries; text = text }
 
--- the line was carried out, or it is bad, or it meets a full log; of want of memory nothing is said
-abbrev pub LineEnds : RuleTable → ℕ → List ℕ → Progress → Progress → Result Unit Stop → Type 0
-LineEnds t limit line before after (Ok done) = LineDoes t limit line before after
-LineEnds t limit line before after (Err BadLine) = IsBadLine line × (after ≡ before)
-LineEnds t limit line before after (Err LogFull) = MeetsFullLog limit line before × (after ≡ before)
-LineEnds t limit line before after (Err Memory) = Unit {0}
+-- the line with this number was carried out, or it is bad, or it meets a full log; at want of memory it has added no text
+abbrev pub LineEnds : {E : Type 0} → RuleTable → ℕ → ℕ → List ℕ → Progress → Progress → Result (Option Stop) E → Type 0
+LineEnds t limit number line before after (Ok None) = LineDoes t limit line before after
+LineEnds t limit number line before after (Ok (Some (BadLine n))) = (n ≡ number) × IsBadLine line × (after ≡ before)
+LineEnds t limit number line before after (Ok (Some LogFull)) = MeetsFullLog limit line before × (after ≡ before)
+LineEnds t limit number line before after (Err want) = after.text ≡ before.text

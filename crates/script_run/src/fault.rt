@@ -1,6 +1,7 @@
 //! Why a run ends early.
 
 use byte_input::InputFault;
+use byte_output::OutputFault;
 use thiserror::Error;
 
 /// Why a run did not come to the end of its script.
@@ -34,5 +35,16 @@ impl From<InputFault> for RunFault {
             InputFault::Read => RunFault::Read,
             InputFault::Memory => RunFault::Memory,
         }
+    }
+}
+
+impl From<OutputFault> for RunFault {
+    ghost use Rattle.std.specs.Prelude.{◌≡◌};
+    ghost use Rattle.script_run.specs.declared.fault.RunFault.TheVariants.{Write};
+
+    ghost from_gives = { λ _ run. run ≡ Write };
+
+    fn from(_: OutputFault) -> RunFault {
+        RunFault::Write
     }
 }

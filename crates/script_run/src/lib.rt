@@ -10,6 +10,7 @@ mod stop;
 mod writing;
 
 pub use fault::RunFault;
-pub use options::{MAX_ENTRIES, Options};
+pub use options::Options;
 pub use rule_machine::RuleSet;
 pub use script::run;
+pub use step_log::MAX_ENTRIES;

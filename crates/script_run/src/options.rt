@@ -3,12 +3,10 @@
 ghost use Rattle.std.specs.Prelude.{◌≡◌, ◌<◌, ◌≤◌, ◌↔◌, min, IsNone, IfSome};
 
 use rule_machine::RuleSet;
+use step_log::MAX_ENTRIES;
 
 /// The most nodes of a network.
 const MAX_NODES: u32 = 65_535;
-
-/// The most entries of a transcript.
-pub const MAX_ENTRIES: u32 = 16_777_216;
 
 /// The rule set, how many nodes there are, and how many entries there may be.
 #[derive(Clone, Copy, Debug, PartialEq, Eq)]

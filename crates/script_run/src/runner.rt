@@ -1,102 +1,92 @@
 //! A run under one set of rules.
 
-ghost use Rattle.std.specs.Prelude.{◌≡◌, IfOk, IfErr};
-ghost use Rattle.std.specs.Io.KnownBytes.{Appends, append_known};
-ghost use Rattle.rule_machine.specs.State.{opening};
-ghost use Rattle.line_text.specs.EntryText.{header_line};
-ghost use Rattle.line_text.specs.Script.{lines_of};
-ghost use Rattle.script_run.specs.Outcome.{Ends, beginning};
+ghost use Rattle.std.specs.Prelude.{◌≡◌, IfOk, OnErr};
+ghost use Rattle.std.specs.Io.KnownBytes.{Appends};
+ghost use Rattle.line_text.specs.Script.{Progress, lines_of};
+ghost use Rattle.byte_output.specs.Beginning.{AppendsBeginning, AppendsLess};
+ghost use Rattle.script_run.specs.Halted.{Halts, Hands, answered};
 ghost use Rattle.script_run.specs.Line.{progress, LineEnds};
+ghost use Rattle.script_run.specs.Outcome.{Ends, LeadsTo, beginning};
 
+use crate::Options;
 use crate::lines::next_line;
-use crate::stop::Stop;
-use crate::writing::{finish, hand_over};
-use crate::{Options, RunFault};
+use crate::stop::{End, Stop};
+use crate::writing::hand_over;
+use byte_output::{OutputFault, finish};
 use line_text::{put_entry, put_header, read_command};
-use rule_engine::Net;
+use rule_machine::Want;
 use rule_set::Rules;
-use std::alloc::Global;
+use std::alloc::{AllocError, Global};
 use std::io::Write;
+use step_log::{Journal, RecordFault};
 
-/// A network, how many entries there are, and the text that is not written yet.
+/// A journal, and the text that is not written yet.
 #[derive(Drop)]
 struct Run<R: Rules> {
-    net: Net<R>,
-    count: u32,
+    journal: Journal<R>,
     text: Vec<u8>,
 }
 
 impl<R: Rules> Run<R> {
-    fn new(alloc: Global, options: &Options) -> Result<Run<R>, RunFault>
-        ensures begins { IfOk result (λ run. progress run.net run.count run.text.items ≡ beginning options.now.rules options.now.nodes) }
-        ensures fault { IfErr result (λ fault. fault ≡ RunFault.Memory) }
+    fn new(alloc: Global, options: &Options) -> Result<Run<R>, Want>
+        ensures begins { IfOk result (λ run. progress run.journal run.text.items ≡ beginning options.now.rules options.now.nodes) }
+        ensures limit { IfOk result (λ run. run.journal.limit ≡ options.now.limit) }
     {
-        let Ok(net) = Net::new(alloc, options.nodes()) else {
-            return Err(RunFault::Memory);
+        let Ok(journal) = Journal::with_limit(alloc, options.nodes(), options.limit()) else {
+            return Err(AllocError);
         };
         let mut text = Vec::new(alloc);
-        if put_header(&mut text, options.rules(), options.nodes()).is_err() {
-            return Err(RunFault::Memory);
-        }
-        Ok(Run {
-            net,
-            count: 0,
-            text,
-        })
+        put_header(&mut text, options.rules(), options.nodes())?;
+        Ok(Run { journal, text })
     }
 
-    // Carries out one line.
-    fn carry_out(&mut self, alloc: Global, limit: u32, line: &[u8]) -> Result<(), Stop>
-        ensures { LineEnds R.table limit line.now (progress self.old.net self.old.count self.old.text.items) (progress self.new.net self.new.count self.new.text.items) result }
+    // Carries out the line with this number: what in it stops the run, if anything does.
+    fn carry_out(&mut self, alloc: Global, number: u64, line: &[u8]) -> Result<Option<Stop>, Want>
+        ensures ends { LineEnds R.table self.old.journal.limit number line.now (progress self.old.journal self.old.text.items) (progress self.new.journal self.new.text.items) result }
+        ensures limit { self.new.journal.limit ≡ self.old.journal.limit }
     {
         if line.is_empty() {
-            return Ok(());
+            return Ok(None);
         }
-        let Ok(found) = read_command(alloc, line) else {
-            return Err(Stop::Memory);
+        let Some(event) = read_command(alloc, line)? else {
+            return Ok(Some(Stop::BadLine { line: number }));
         };
-        let Some(event) = found else {
-            return Err(Stop::BadLine);
+        let seq = match self.journal.log(event) {
+            Ok(seq) => seq,
+            Err(RecordFault::LogFull) => return Ok(Some(Stop::LogFull)),
+            Err(RecordFault::Memory) => return Err(AllocError),
         };
-        if self.count >= limit {
-            return Err(Stop::LogFull);
-        }
-        let Ok(reply) = self.net.apply(&event) else {
-            return Err(Stop::Memory);
-        };
-        let number = self.count + 1;
-        if put_entry(&mut self.text, number, &event, &reply).is_err() {
-            return Err(Stop::Memory);
-        }
-        self.count = number;
-        Ok(())
+        let entry = self.journal.entry(seq).unwrap();
+        put_entry(&mut self.text, seq, entry.event(), entry.reply())?;
+        Ok(None)
     }
 
     // Carries out the lines of a script in turn, and hands over the text as it grows.
     fn carry_out_all<Out: Write>(
         &mut self,
         alloc: Global,
-        limit: u32,
         script: &[u8],
         writer: &mut Out,
-    ) -> Result<(), RunFault>
-        ensures { Ends R.table limit (lines_of script.now) (progress self.old.net self.old.count self.old.text.items) result
-            (λ end. Appends (Out.contents writer.old) (append_known (Out.contents writer.new) self.new.text.items) end.text) }
+    ) -> Result<End, OutputFault>
+        ensures ok { IfOk result (λ end. Halts R.table self.old.journal.limit (lines_of script.now) (progress self.old.journal self.old.text.items) end
+            (λ text. Hands (Out.contents writer.old) (Out.contents writer.new) text self.new.text.items)) }
+        ensures fault { OnErr result ((end : Progress)
+            × LeadsTo R.table self.old.journal.limit (lines_of script.now) (progress self.old.journal self.old.text.items) end
+            × AppendsLess (Out.contents writer.old) (Out.contents writer.new) end.text) }
     {
         let mut rest = script;
         let mut number: u64 = 0;
         while let Some((line, behind)) = next_line(rest) {
             number += 1;
-            match self.carry_out(alloc, limit, line) {
-                Ok(()) => {}
-                Err(Stop::BadLine) => return Err(RunFault::BadLine { line: number }),
-                Err(Stop::LogFull) => return Err(RunFault::LogFull),
-                Err(Stop::Memory) => return Err(RunFault::Memory),
+            match self.carry_out(alloc, number, line) {
+                Ok(None) => {}
+                Ok(Some(stop)) => return Ok(End::Stopped(stop)),
+                Err(_) => return Ok(End::Memory),
             }
             hand_over(writer, &mut self.text)?;
             rest = behind;
         }
-        Ok(())
+        Ok(End::Whole)
     }
 }
 
@@ -106,15 +96,14 @@ pub fn run_on<R: Rules, Out: Write>(
     script: &[u8],
     writer: &mut Out,
     options: &Options,
-) -> Result<(), RunFault>
-    ensures { Ends R.table options.now.limit (lines_of script.now) (beginning options.now.rules options.now.nodes) result
-        (λ end. Appends (Out.contents writer.old) (Out.contents writer.new) end.text) }
+) -> Result<End, OutputFault>
+    ensures { Ends R.table options.now.limit (lines_of script.now) (beginning options.now.rules options.now.nodes) (answered result)
+        (Appends (Out.contents writer.old) (Out.contents writer.new)) (AppendsBeginning (Out.contents writer.old) (Out.contents writer.new)) }
 {
-    let mut run = Run::<R>::new(alloc, options)?;
-    let done = run.carry_out_all(alloc, options.limit(), script, writer);
-    if let Err(RunFault::Write) = done {
-        return done;
-    }
+    let Ok(mut run) = Run::<R>::new(alloc, options) else {
+        return Ok(End::Memory);
+    };
+    let end = run.carry_out_all(alloc, script, writer)?;
     finish(writer, &run.text)?;
-    done
+    Ok(end)
 }

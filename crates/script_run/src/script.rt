@@ -15,8 +15,10 @@ use std::io::{Read, Write};
 
 /// Reads a script to its end, carries out its lines in turn, and writes the transcript: a header, and an entry for each
 /// command. `BadLine` at the first line that is neither empty nor a command, `LogFull` at a command beyond the limit,
-/// both after the entries before were written; `Read` and `Write` at the first error of the reader or the writer, and
-/// `Memory` if memory runs out.
+/// both after the entries before were written; `Read` at the first error of the reader, before anything is written;
+/// `Write` at the first error of the writer, and `Memory` if memory runs out, after a beginning of the transcript was
+/// written. The journal of the run is held in memory: an entry takes 64 bytes and its lists, and the log doubles as it
+/// grows.
 pub fn run<In: Read, Out: Write>(
     alloc: Global,
     reader: &mut In,
@@ -28,8 +30,9 @@ pub fn run<In: Read, Out: Write>(
     ensures read { OnOk result (IsAtEnd (In.remaining reader.new)) }
 {
     let script = read_whole(alloc, reader)?;
-    match options.rules() {
-        RuleSet::Hh => run_on::<HsuHuang, Out>(alloc, &script, writer, options),
-        RuleSet::Manne => run_on::<Manne, Out>(alloc, &script, writer, options),
-    }
+    let end = match options.rules() {
+        RuleSet::Hh => run_on::<HsuHuang, Out>(alloc, &script, writer, options)?,
+        RuleSet::Manne => run_on::<Manne, Out>(alloc, &script, writer, options)?,
+    };
+    end.told()
 }

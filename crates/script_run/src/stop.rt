@@ -1,12 +1,40 @@
-//! Why a line was not carried out.
+//! What ends the run of a script.
 
-/// Why a line was not carried out.
-#[derive(Clone, Copy, Debug, PartialEq, Eq)]
+ghost use Rattle.std.specs.Prelude.{◌≡◌};
+ghost use Rattle.script_run.specs.Halted.{ended};
+
+use crate::RunFault;
+
+/// What in a script ends its run.
+#[derive(Clone, Copy)]
 pub enum Stop {
-    /// It is neither empty nor a command.
-    BadLine,
-    /// It is a command, and there are as many entries as there may be.
+    /// The line with this number, from 1, is neither empty nor a command.
+    BadLine { line: u64 },
+    /// A command came when there were as many entries as there may be.
     LogFull,
-    /// A growth of memory was refused.
+}
+
+/// How far a script was carried out.
+#[derive(Clone, Copy)]
+pub enum End {
+    /// To its end.
+    Whole,
+    /// Up to what stopped it.
+    Stopped(Stop),
+    /// Up to a growth of memory that was refused.
     Memory,
+}
+
+impl End {
+    /// How a run ends that came so far.
+    pub fn told(self) -> Result<(), RunFault>
+        ensures { result ≡ ended self }
+    {
+        match self {
+            End::Whole => Ok(()),
+            End::Stopped(Stop::BadLine { line }) => Err(RunFault::BadLine { line }),
+            End::Stopped(Stop::LogFull) => Err(RunFault::LogFull),
+            End::Memory => Err(RunFault::Memory),
+        }
+    }
 }

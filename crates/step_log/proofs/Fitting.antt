@@ -23,7 +23,7 @@ use Rattle.rule_machine.specs.Stable.{mutual_pairs, pair_above}
 use Rattle.rule_machine.specs.Refuse.{refusal_of}
 use Rattle.rule_machine.specs.Answer.{Does, AnswersBy, Answers}
 use Rattle.log_entry.specs.Kinds.{takes_target, is_move, are_moves, fits}
-use Rattle.step_log.specs.Copies.{most_moves, moves_len}
+use Rattle.step_log.specs.Draft.{most_moves, moves_len}
 use Rattle.step_log.proofs.Rising.{rising_few}
 
 -- ---- the moves of a step

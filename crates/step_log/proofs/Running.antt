@@ -18,7 +18,7 @@ use Rattle.machine_laws.specs.LeastAnswers.{least_answers}
 use Rattle.machine_laws.specs.Keeps.{opening_is_state}
 use Rattle.machine_laws.specs.Runs.{run_add, runs_end_in_states}
 use Rattle.step_log.specs.Log.{Log, IsLog}
-use Rattle.step_log.specs.Copies.{is_listed}
+use Rattle.step_log.specs.Draft.{is_listed}
 
 abbrev moment_of : State → ℕ → Moment
 moment_of s n = record { state = s; spent = n }

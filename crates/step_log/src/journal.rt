@@ -1,22 +1,28 @@
 //! A network with its log.
 
-ghost use Rattle.std.specs.Prelude.{◌≡◌, ◌<◌, ◌≤◌, ◌-◌, ◌⊎◌, ◌++◌, ◌∷◌, [], ℕ, length, min, IfOk, IfErr, OnOk, OnErr, IsErrOf, IsTrue, Option, Some, MatchOption, slice_get, vec_capacity};
+ghost use Rattle.std.specs.Prelude.{◌≡◌, ◌<◌, ◌≤◌, ◌+◌, ◌-◌, ◌⊎◌, ◌↔◌, ◌++◌, ◌∷◌, [], ℕ, length, min, IfOk, IfErr, OnOk, OnErr, IsErrOf, IsTrue, Option, Some, MatchOption, slice_get, vec_capacity};
 ghost use Rattle.log_entry.specs.Kinds.{fits};
 ghost use Rattle.graph_store.specs.Fault.{nodes_fault, Explains};
 ghost use Rattle.rule_machine.specs.declared.event.Event.TheVariants.{Step};
 ghost use Rattle.rule_engine.specs.Choosing.{verdicts_of};
 ghost use Rattle.step_log.specs.declared.fault.RecordFault.TheVariants.{LogFull};
-ghost use Rattle.step_log.specs.Log.{max_entries, IsLog, empty_log, recorded, receipt_of};
+ghost use Rattle.step_log.specs.Draft.{most_moves};
+ghost use Rattle.step_log.specs.Log.{max_entries, IsLog, empty_log, entry_of, recorded, receipt_of};
 
-use crate::copies::{copied, room_for, room_for_moves};
+use crate::draft::{Draft, item_count};
 use crate::{Receipt, RecordFault};
 use log_entry::Entry;
 use rule_engine::{Choice, Event, GraphFault, Net, Reply, Rules, Verdict};
+use rule_machine::MAX_ITEMS;
 use std::alloc::Global;
 use std::marker::Model;
+use std::mem::size_of;
 
 /// The most entries that a log may hold.
 pub const MAX_ENTRIES: u32 = 16_777_216;
+
+// What an entry takes in the log, beside its lists.
+const _: () = prove!(size_of::<Entry>() <= 64);
 
 /// A network under the rules `R` and the log of its events, each with the reply to it: a run of the rule machine from
 /// the opening state to where the network is.
@@ -95,8 +101,32 @@ impl<R: Rules> Journal<R> {
         &self.net
     }
 
-    /// Carries out an event and adds it to the log with the reply to it. `LogFull` exactly where the log holds as many
-    /// entries as it may, which comes before all else; `Memory` if memory runs out. At a fault nothing has changed.
+    /// Whether there are as many entries as there may be.
+    pub fn is_full(&self) -> bool
+        ensures { IsTrue result ↔ (length self.now.entries ≡ self.now.limit) }
+    {
+        self.len() >= self.limit
+    }
+
+    /// Carries out an event, adds it to the log with the reply to it, and gives the entry's number, from 1. `LogFull`
+    /// exactly where the log holds as many entries as it may, which comes before all else; `Memory` if memory runs out.
+    /// At a fault nothing has changed. Copies nothing: takes the memory of the reply, and the log's as it doubles.
+    pub fn log(&mut self, event: Event) -> Result<u32, RecordFault>
+        ensures number { IfOk result (λ number. number ≡ length self.old.entries + 1) }
+        ensures below { OnOk result (length self.old.entries < self.old.limit) }
+        ensures entry { OnOk result (slice_get self.new.entries (length self.old.entries) ≡ Some (entry_of R.table self.old event)) }
+        ensures log { OnOk result (self.new ≡ recorded R.table self.old event) }
+        ensures full { length self.old.entries ≡ self.old.limit → IsErrOf result LogFull }
+        ensures not_full { IsErrOf result LogFull → length self.old.entries ≡ self.old.limit }
+        ensures kept { OnErr result (self.new ≡ self.old) }
+    {
+        let number = make_room(&mut self.entries, self.limit)?;
+        let reply = self.net.apply(&event)?;
+        add_entry(&mut self.entries, event, reply);
+        Ok(number)
+    }
+
+    /// The same, and gives a receipt of the entry, which has copies of the event and the reply.
     pub fn record(&mut self, event: Event) -> Result<Receipt, RecordFault>
         ensures receipt { IfOk result (λ receipt. receipt ≡ receipt_of R.table self.old event) }
         ensures log { OnOk result (self.new ≡ recorded R.table self.old event) }
@@ -104,21 +134,12 @@ impl<R: Rules> Journal<R> {
         ensures not_full { IsErrOf result LogFull → length self.old.entries ≡ self.old.limit }
         ensures kept { OnErr result (self.new ≡ self.old) }
     {
-        let len = self.len();
-        if len >= self.limit {
-            return Err(RecordFault::LogFull);
-        }
-        self.entries.reserve(1)?;
-        let told = event.clone()?;
-        let room = room_for(self.alloc, &event)?;
+        let seq = make_room(&mut self.entries, self.limit)?;
+        let draft = Draft::new(self.alloc, &event)?;
         let reply = self.net.apply(&event)?;
-        let copy = copied(&reply, room)?;
+        let receipt = draft.receipt(seq, &reply)?;
         add_entry(&mut self.entries, event, reply);
-        Ok(Receipt {
-            seq: len + 1,
-            event: told,
-            reply: copy,
-        })
+        Ok(receipt)
     }
 
     /// The same for a step, from the verdicts of its items: what `record` of the step would do, without a second look
@@ -135,29 +156,40 @@ impl<R: Rules> Journal<R> {
         ensures not_full { IsErrOf result LogFull → length self.old.entries ≡ self.old.limit }
         ensures kept { OnErr result (self.new ≡ self.old) }
     {
-        let len = self.len();
-        if len >= self.limit {
-            return Err(RecordFault::LogFull);
-        }
-        self.entries.reserve(1)?;
-        let told = choice.clone()?;
-        let room = room_for_moves(self.alloc, &choice)?;
+        let seq = make_room(&mut self.entries, self.limit)?;
+        let draft = Draft::of_step(self.alloc, &choice)?;
         let reply = self.net.apply_step(&choice, verdicts)?;
-        let copy = copied(&reply, room)?;
+        let receipt = draft.receipt(seq, &reply)?;
         add_entry(&mut self.entries, Event::Step(choice), reply);
-        Ok(Receipt {
-            seq: len + 1,
-            event: Event::Step(told),
-            reply: copy,
-        })
+        Ok(receipt)
     }
+}
+
+/// Makes room for one more entry, and gives its number.
+fn make_room(entries: &mut Vec<Entry>, limit: u32) -> Result<u32, RecordFault>
+    requires { length entries.old.items ≤ limit }
+    ensures number { IfOk result (λ number. number ≡ length entries.old.items + 1) }
+    ensures below { OnOk result (length entries.old.items < limit) }
+    ensures room { OnOk result (length entries.new.items < vec_capacity entries.new) }
+    ensures items { entries.new.items ≡ entries.old.items }
+    ensures full { length entries.old.items ≡ limit → IsErrOf result LogFull }
+    ensures not_full { IsErrOf result LogFull → length entries.old.items ≡ limit }
+{
+    let len = entries.len() as u32;
+    if len >= limit {
+        return Err(RecordFault::LogFull);
+    }
+    entries.reserve(1)?;
+    Ok(len + 1)
 }
 
 /// Adds an entry for which there is room.
 fn add_entry(entries: &mut Vec<Entry>, event: Event, reply: Reply)
-    requires fits { IsTrue (fits event reply) }
+    requires fits { most_moves event ≤ 65535 → IsTrue (fits event reply) }
     requires room { length entries.old.items < vec_capacity entries.old }
     ensures { entries.new.items ≡ entries.old.items ++ (event, reply) ∷ [] }
 {
+    let items = item_count(&event);
+    prove!(items <= MAX_ITEMS);
     entries.push(Entry::new(event, reply).unwrap()).unwrap();
 }

@@ -1,7 +1,7 @@
 //! The journal: a network with the log of all that it was asked and has answered.
 #![tactic(auto)]
 
-mod copies;
+mod draft;
 mod fault;
 mod journal;
 mod receipt;

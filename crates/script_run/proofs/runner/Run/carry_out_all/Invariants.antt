@@ -1,5 +1,4 @@
-use Rattle.std.proofs.Common.{length}
-use Rattle.std.specs.Io.KnownBytes.{append_known}
+use Rattle.std.proofs.Common.{◌≡◌, length}
 use Rattle.script_run.specs.Line.{progress}
 use Rattle.script_run.proofs.Running.{SoFar}
 use Rattle.script_run.proofs.runner.Run.carry_out_all.Given as goal
@@ -7,7 +6,10 @@ use Rattle.script_run.proofs.runner.Run.carry_out_all.Given as goal
 abbrev pub invariant-loop-line : goal.invariant-loop-line
 invariant-loop-line g l =
     let begun = l.fn.self in
-    SoFar g.R.Rules.table l.limit l.script (progress begun.net begun.count begun.text.items) (g.Out.Write.contents l.fn.writer) l.rest l.number l.self.net l.self.count (append_known (g.Out.Write.contents l.writer) l.self.text.items)
+    let run = l.self in record {
+      limit : run.journal.limit ≡ begun.journal.limit;
+      so_far : SoFar g.R.Rules.table begun.journal.limit l.script (progress begun.journal begun.text.items) (g.Out.Write.contents l.fn.writer) l.rest l.number run.journal.state (length run.journal.entries) (g.Out.Write.contents l.writer) run.text.items;
+    }
 
 abbrev pub decreases-loop-line : goal.decreases-loop-line
 decreases-loop-line g l = length l.rest

@@ -1,4 +1,4 @@
--- The memory for a copy of a reply that is not there yet.
+-- The memory for a receipt whose reply is not there yet.
 use Rattle.std.specs.Prelude.{ℕ, Bool, true, false, length}
 use Rattle.rule_machine.specs.declared.event.Event.{Event}
 use Rattle.rule_machine.specs.declared.event.Event.TheVariants.{Step}
