@@ -6,15 +6,15 @@ ghost use Rattle.auditor.specs.Position.{opening_position, IsNext, LineJudged};
 
 use crate::{Damage, JudgeFault, Summary};
 use entry_grammar::{EntryFault, read_entry};
-use plain_machine::PlainNet;
+use judge::Judge;
 use rule_machine::{RuleSet, Want};
 use std::alloc::Global;
 use std::marker::Model;
 
-/// How far an audit has come: the network as the entries so far have left it, and what was counted.
+/// How far an audit has come: the judge in the state to which the entries so far have led, and what was counted.
 #[derive(Drop)]
 pub(crate) struct Audit {
-    net: PlainNet,
+    judge: Judge,
     counted: Summary,
 }
 
@@ -27,7 +27,7 @@ impl Model for Audit {
 
     ghost coded = { Prim.hlevel (codes, state_code) };
 
-    ghost view = { λ a. record { state = a.net; counted = a.counted } };
+    ghost view = { λ a. record { state = a.judge; counted = a.counted } };
 
     ghost invariant = { λ a. IsCounted a.counted };
 }
@@ -39,7 +39,7 @@ impl Audit {
         ensures { IfOk result (λ audit. audit ≡ opening_position nodes) }
     {
         Ok(Audit {
-            net: PlainNet::new(alloc, nodes)?,
+            judge: Judge::new(alloc, nodes)?,
             counted: Summary {
                 entries: 0,
                 epochs: 1,
@@ -82,7 +82,7 @@ impl Audit {
         if seq != self.counted.entries + 1 {
             return Err(JudgeFault::Damaged(Damage::OutOfOrder { line: number }));
         }
-        let Ok(right) = self.net.replay(alloc, rules, entry.event(), entry.reply()) else {
+        let Ok(right) = self.judge.replay(rules, entry.event(), entry.reply()) else {
             return Err(JudgeFault::Memory);
         };
         if !right {

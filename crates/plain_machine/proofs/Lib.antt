@@ -1,3 +1,2 @@
 pub mod PairSets
 pub mod Names
-pub mod StepTests

@@ -5,7 +5,7 @@ ghost use Rattle.std.specs.List.{list_all};
 ghost use Rattle.std.specs.List.Sorted.{IsStrictlyIncreasing};
 ghost use Rattle.rule_machine.specs.Step.{IsStep, after_moves};
 ghost use Rattle.rule_machine.specs.Tables.{table_of};
-ghost use Rattle.plain_machine.specs.Judged as judged;
+ghost use Rattle.replay_laws.specs.Judged as judged;
 
 use crate::PlainNet;
 use rule_machine::{Act, Item, Moved, Node, RuleSet};

@@ -6,7 +6,7 @@ ghost use Rattle.rule_machine.specs.RuleTable.{enabled};
 ghost use Rattle.rule_machine.specs.Stable.{mutual_pairs};
 ghost use Rattle.rule_machine.specs.Step.{IsStep, after_moves};
 ghost use Rattle.rule_machine.specs.Tables.{table_of};
-ghost use Rattle.plain_machine.specs.Followed.{followed};
+ghost use Rattle.replay_laws.specs.Followed.{followed};
 
 use crate::PlainNet;
 use rule_machine::{Act, Edge, Event, Item, Node, Refusal, Reply, RuleSet, Want};

@@ -1,7 +1,7 @@
 use Rattle.std.proofs.Common.{◌≡◌, true, take}
 use Rattle.std.specs.List.{list_all}
 use Rattle.rule_machine.specs.Tables.{table_of}
-use Rattle.plain_machine.specs.Judged.{is_asked}
+use Rattle.replay_laws.specs.Judged.{is_asked}
 use Rattle.plain_machine.proofs.plain_net.PlainNet.are_asked.Given as goal
 
 abbrev pub invariant-loop-made : goal.invariant-loop-made

@@ -1,7 +1,7 @@
 use Rattle.std.proofs.Common.{sym, ◌∙◌}
 use Rattle.std.proofs.lemmas.Bool.{false≢true}
 use Rattle.rule_machine.specs.Tables.{table_of}
-use Rattle.plain_machine.proofs.StepTests.{step_from_tests, tests_from_step}
+use Rattle.replay_laws.specs.StepTests.{step_from_tests, tests_from_step}
 use Rattle.plain_machine.proofs.plain_net.PlainNet.is_step.Goals as goal
 
 pub returns-then-are_ascending : goal.returns-then-are_ascending

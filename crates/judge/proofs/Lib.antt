@@ -1,0 +1,4 @@
+pub mod Keeping
+pub mod Moving
+pub mod Listed
+pub mod Table

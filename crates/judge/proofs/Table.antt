@@ -1,0 +1,235 @@
+-- A table of the items of a choice.
+use Rattle.std.proofs.Common.{◌≡◌, ℕ, zero, suc, ◌+◌, ◌<◌, Bool, true, false, cond, not, ◌&&◌, ◌||◌, List, [], ◌∷◌, ◌++◌, length, get_or, take, drop, set, find, Option, None, Some, is_some, is_none, nat_eq, IfSome, IsTrue, refl, sym, ap, ◌∙◌, subst, ⊎_elim, arith, eq-eqb, eqb-true}
+use Rattle.std.specs.List.{list_any, list_all}
+use Rattle.std.specs.Option.{option_or}
+use Rattle.std.proofs.lemmas.Bool.{or_parts, cases_eq, cases_Bool, ne_eqb, and_parts}
+use Rattle.std.proofs.lemmas.List.{get_or-set_same, get_or-set_other, take_more, drop_more}
+use Rattle.std.proofs.lemmas.List.Folds.{find-append}
+use Rattle.rule_machine.specs.declared.choice.Item.{Item}
+use Rattle.rule_machine.specs.declared.moved.Moved.{Moved}
+use Rattle.rule_machine.specs.Network.{Network, present}
+use Rattle.rule_machine.specs.State.{State}
+use Rattle.rule_machine.specs.RuleTable.{RuleTable, rule_at}
+use Rattle.rule_machine.specs.declared.refusal.Refusal.{Refusal}
+use Rattle.rule_machine.specs.declared.refusal.Refusal.TheVariants.{UnknownNode, ChosenTwice}
+use Rattle.rule_machine.specs.Refuse.{step_refusal, items_refusal, rule_refusal}
+use Rattle.rule_machine.specs.Least.{item_of}
+use Rattle.machine_laws.specs.Accepted.{choice_from_none, taken_at}
+use Rattle.state_lemmas.specs.Pointers.{none_is}
+use Rattle.replay_laws.specs.Judged.{is_move_of, is_asked, is_answered}
+use Rattle.judge.specs.Choices.{item_at, Holds, is_named, is_mover, IsWithin, IsClear, ArePresent, refused_item, is_move_by}
+
+-- ---- searches
+
+pub found_any : {X : Type 0} (p : X → Bool) (xs : List X) → is_some (find p xs) ≡ list_any p xs
+found_any p [] = refl
+found_any p (x ∷ xs) = elim (p x) as (λ b. is_some (cond b (Some x) (find p xs)) ≡ (b || list_any p xs)) [ true ↦ refl | false ↦ found_any p xs ]
+
+not_found : {X : Type 0} (p : X → Bool) (xs : List X) → list_any p xs ≡ false → find p xs ≡ None
+not_found p xs e = none_is (find p xs) (found_any p xs ∙ e)
+
+beginning_fails : {X : Type 0} (p : X → Bool) (xs : List X) (k : ℕ) → list_any p xs ≡ false → list_any p (take k xs) ≡ false
+beginning_fails p xs zero e = refl
+beginning_fails p [] (suc k) e = refl
+beginning_fails p (x ∷ xs) (suc k) e =
+    let parts = or_parts (p x) (list_any p xs) e in
+    ap (λ b. b || list_any p (take k xs)) parts.0 ∙ beginning_fails p xs k parts.1
+
+-- ---- items that are put into the table
+
+-- why the next item is refused
+pub item_refused : (t : RuleTable) (s : State) (items : List Item) (k : ℕ) (item : Item) (table : List (Option Item)) → Holds table (take k items) → refused_item t s item (is_some (item_at table item.node)) ≡ refused_item t s item (is_named (take k items) item.node)
+item_refused t s items k item table held =
+    ap (refused_item t s item) (ap is_some (held item.node) ∙ found_any (λ i. nat_eq i.node item.node) (take k items))
+
+-- one more item that is not refused
+pub refusal_more : (t : RuleTable) (s : State) (items : List Item) (k : ℕ) (item : Item) → k < length items → item ≡ get_or items k item → refused_item t s item (is_named (take k items) item.node) ≡ None → items_refusal t s (take (k + 1) items) (drop (k + 1) items) ≡ items_refusal t s (take k items) (drop k items)
+refusal_more t s items k item within is none =
+    ap (λ front. items_refusal t s front (drop (k + 1) items)) (take_more items k item within ∙ ap (λ i. take k items ++ i ∷ []) (sym is))
+    ∙ ap (λ o. option_or o (items_refusal t s (take k items ++ item ∷ []) (drop (k + 1) items))) (sym none)
+    ∙ ap (λ i. items_refusal t s (take k items) (i ∷ drop (k + 1) items)) is
+    ∙ ap (items_refusal t s (take k items)) (sym (drop_more items k item within))
+
+-- the next item that is refused
+pub refusal_here : (t : RuleTable) (s : State) (items : List Item) (k : ℕ) (item : Item) (refusal : Option Refusal) → k < length items → item ≡ get_or items k item → refused_item t s item (is_named (take k items) item.node) ≡ refusal → is_some refusal ≡ true → items_refusal t s (take k items) (drop k items) ≡ refusal
+refusal_here t s items k item None within is same some = cc
+refusal_here t s items k item (Some r) within is same some =
+    ap (items_refusal t s (take k items)) (drop_more items k item within)
+    ∙ ap (λ i. items_refusal t s (take k items) (i ∷ drop (k + 1) items)) (sym is)
+    ∙ ap (λ o. option_or o (items_refusal t s (take k items ++ item ∷ []) (drop (k + 1) items))) same
+
+-- the node of an item that is not refused is present, and no earlier item names it
+pub item_taken : (t : RuleTable) (s : State) (item : Item) (twice : Bool) → refused_item t s item twice ≡ None → IsTrue (present s.network item.node) × (twice ≡ false)
+item_taken t s item twice none = by_tests (present s.network item.node) twice (rule_refusal t s item (rule_at t s item.node)) none
+  where
+    by_tests : (b c : Bool) (o : Option Refusal) → cond (not b) (Some UnknownNode) (cond c (Some ChosenTwice) o) ≡ None → (b ≡ true) × (c ≡ false)
+    by_tests true false o e = (refl, refl)
+    by_tests true true o e = cc
+    by_tests false c o e = cc
+
+option_or-none : {X : Type 0} (o : Option X) → option_or o None ≡ o
+option_or-none None = refl
+option_or-none (Some x) = refl
+
+-- the table holds one more item, at a place that it has
+pub held_more : (table : List (Option Item)) (items : List Item) (k : ℕ) (item : Item) → Holds table (take k items) → k < length items → item ≡ get_or items k item → item.node < length table → is_named (take k items) item.node ≡ false → Holds (set table item.node (Some item)) (take (k + 1) items)
+held_more table items k item held within is place fresh v =
+    let front = take k items in
+    let more : take (k + 1) items ≡ front ++ item ∷ [] = take_more items k item within ∙ ap (λ i. front ++ i ∷ []) (sym is) in
+    let apart : item_of (take (k + 1) items) v ≡ option_or (item_of front v) (cond (nat_eq item.node v) (Some item) None) = ap (λ l. item_of l v) more ∙ find-append (λ i. nat_eq i.node v) front (item ∷ []) in
+    ⊎_elim
+    (λ (same : v ≡ item.node).
+    let none : item_of front v ≡ None = ap (item_of front) same ∙ not_found (λ i. nat_eq i.node item.node) front fresh in
+    ap (λ w. get_or (set table item.node (Some item)) w None) same ∙ get_or-set_same table item.node (Some item) None place
+    ∙ sym (apart ∙ ap (λ b. option_or (item_of front v) (cond b (Some item) None)) (eq-eqb item.node v (sym same)) ∙ ap (λ o. option_or o (Some item)) none))
+    (λ (other : v ≡ item.node → ⊥).
+    get_or-set_other table item.node v (Some item) None other ∙ held v ∙ sym (option_or-none (item_of front v))
+    ∙ sym (apart ∙ ap (λ b. option_or (item_of front v) (cond b (Some item) None)) (ne_eqb item.node v (λ e. other (sym e)))))
+    (cases_eq v item.node)
+
+-- a table of the first items has nothing where no item names the node
+pub within_from_held : (table : List (Option Item)) (items : List Item) (k : ℕ) → Holds table (take k items) → IsWithin table items
+within_from_held table items k held v none =
+    held v ∙ not_found (λ i. nat_eq i.node v) (take k items) (beginning_fails (λ i. nat_eq i.node v) items k none)
+
+pub within_from_all : (table : List (Option Item)) (items : List Item) → Holds table items → IsWithin table items
+within_from_all table items held v none = held v ∙ not_found (λ i. nat_eq i.node v) items none
+
+pub within_from_clear : (table : List (Option Item)) (items : List Item) → IsClear table → IsWithin table items
+within_from_clear table items clear v none = clear v
+
+-- ---- moves of a choice that is not refused
+
+-- each item is the one at its node
+own_item : (t : RuleTable) (s : State) (items : List Item) → step_refusal t s items ≡ None → (k : ℕ) (d : Item) → k < length items → IsTrue (present s.network (get_or items k d).node) × (item_of items (get_or items k d).node ≡ Some (get_or items k d))
+own_item t s items none k d below =
+    let taken = taken_at t s [] items (choice_from_none t s items none).taken k d below in
+    (taken.0.has, taken.1)
+
+-- what holds of each item holds of those in the rest
+pub record Own (items : List Item) (all : List Item) : Type 0 where
+  pub own : (k : ℕ) (d : Item) → k < length items → item_of all (get_or items k d).node ≡ Some (get_or items k d)
+
+own_rest : (item : Item) (items all : List Item) → Own (item ∷ items) all → Own items all
+own_rest item items all o = record { own = λ k d below. o.own (suc k) d (omega (arith, below)) }
+
+found_present : (net : Network) (items : List Item) → ((k : ℕ) (d : Item) → k < length items → IsTrue (present net (get_or items k d).node)) → (v : ℕ) → IfSome (item_of items v) (λ i. IsTrue (present net i.node))
+found_present net [] all v = tt
+found_present net (item ∷ items) all v =
+    elim (nat_eq item.node v) as (λ b. IfSome (cond b (Some item) (item_of items v)) (λ i. IsTrue (present net i.node))) [
+      | true ↦ all 0 item (omega arith)
+      | false ↦ found_present net items (λ k d below. all (suc k) d (omega (arith, below))) v
+    ]
+
+-- the items of a choice that is not refused are at present nodes
+pub held_present : (t : RuleTable) (s : State) (items : List Item) (table : List (Option Item)) → step_refusal t s items ≡ None → Holds table items → ArePresent s.network table
+held_present t s items table none held v =
+    subst (λ o. IfSome o (λ i. IsTrue (present s.network i.node))) (sym (held v)) (found_present s.network items (λ k d below. (own_item t s items none k d below).0) v)
+
+-- a move that an item asks for is of its node
+of_node : (t : RuleTable) (s : State) (item : Item) (m : Moved) → is_move_of t s item m ≡ true → item.node ≡ m.node
+of_node t s item m e = sym (eqb-true m.node item.node (and_parts _ _ e).0)
+
+-- no item of the rest is the one at the move's node, or it is what is asked
+asked_in : (t : RuleTable) (s : State) (m : Moved) (items all : List Item) → Own items all → list_any (λ i. is_move_of t s i m) items ≡ true → is_move_by t s (item_of all m.node) m ≡ true
+asked_in t s m [] all own e = cc
+asked_in t s m (item ∷ items) all own e =
+    ⊎_elim
+    (λ yes. ap (λ o. is_move_by t s o m) (ap (item_of all) (sym (of_node t s item m yes)) ∙ own.own 0 item (omega arith)) ∙ yes)
+    (λ no. asked_in t s m items all (own_rest item items all own) (sym (ap (λ b. b || list_any (λ i. is_move_of t s i m) items) no) ∙ e))
+    (cases_Bool (is_move_of t s item m))
+
+any_found : (t : RuleTable) (s : State) (m : Moved) (items : List Item) → is_move_by t s (item_of items m.node) m ≡ true → list_any (λ i. is_move_of t s i m) items ≡ true
+any_found t s m [] e = cc
+any_found t s m (item ∷ items) e =
+    (elim (nat_eq item.node m.node) as (λ b. is_move_by t s (cond b (Some item) (item_of items m.node)) m ≡ true → (is_move_of t s item m || list_any (λ i. is_move_of t s i m) items) ≡ true) [
+      | true ↦ λ yes. ap (λ b. b || list_any (λ i. is_move_of t s i m) items) yes
+      | false ↦ λ later. ap (λ b. is_move_of t s item m || b) (any_found t s m items later) ∙ or_true (is_move_of t s item m)
+    ]) e
+  where
+    or_true : (b : Bool) → (b || true) ≡ true
+    or_true true = refl
+    or_true false = refl
+
+same_tests : (a b : Bool) → (a ≡ true → b ≡ true) → (b ≡ true → a ≡ true) → a ≡ b
+same_tests true b f g = sym (f refl)
+same_tests false true f g = g refl
+same_tests false false f g = refl
+
+all_agree : {X : Type 0} (p q : X → Bool) (xs : List X) → ((x : X) → p x ≡ q x) → list_all p xs ≡ list_all q xs
+all_agree p q [] h = refl
+all_agree p q (x ∷ xs) h = ap (λ b. b && list_all p xs) (h x) ∙ ap (λ b. q x && b) (all_agree p q xs h)
+
+pub own_items : (t : RuleTable) (s : State) (items : List Item) → step_refusal t s items ≡ None → Own items items
+own_items t s items none = record { own = λ k d below. (own_item t s items none k d below).1 }
+
+-- the moves are asked for just where each is asked for by the item at its node
+pub asked_by : (t : RuleTable) (s : State) (items : List Item) (moves : List Moved) (table : List (Option Item)) → step_refusal t s items ≡ None → Holds table items → list_all (λ m. is_move_by t s (item_at table m.node) m) moves ≡ list_all (λ m. is_asked t s items m) moves
+asked_by t s items moves table none held =
+    all_agree _ _ moves (λ m.
+    ap (λ o. is_move_by t s o m) (held m.node)
+    ∙ same_tests _ _ (any_found t s m items) (asked_in t s m items items (own_items t s items none)))
+
+-- where each move is asked for by the item at its node, a mover is answered
+mover_answered : (t : RuleTable) (s : State) (item : Item) (all : List Item) (moves : List Moved) → item_of all item.node ≡ Some item → list_all (λ m. is_move_by t s (item_of all m.node) m) moves ≡ true → is_mover moves item.node ≡ true → is_answered t s moves item ≡ true
+mover_answered t s item all [] own asked e = cc
+mover_answered t s item all (m ∷ moves) own asked e =
+    let parts = and_parts (is_move_by t s (item_of all m.node) m) (list_all (λ m. is_move_by t s (item_of all m.node) m) moves) asked in
+    ⊎_elim
+    (λ here. ap (λ b. b || is_answered t s moves item) (sym (ap (λ o. is_move_by t s o m) (ap (item_of all) (eqb-true m.node item.node here) ∙ own)) ∙ parts.0))
+    (λ later. ap (λ b. is_move_of t s item m || b) (mover_answered t s item all moves own parts.1 (sym (ap (λ b. b || is_mover moves item.node) later) ∙ e)) ∙ or_true (is_move_of t s item m))
+    (cases_Bool (nat_eq m.node item.node))
+  where
+    or_true : (b : Bool) → (b || true) ≡ true
+    or_true true = refl
+    or_true false = refl
+
+answered_mover : (t : RuleTable) (s : State) (item : Item) (moves : List Moved) → is_answered t s moves item ≡ true → is_mover moves item.node ≡ true
+answered_mover t s item [] e = cc
+answered_mover t s item (m ∷ moves) e =
+    ⊎_elim
+    (λ yes. ap (λ b. b || is_mover moves item.node) (and_parts _ _ yes).0)
+    (λ no. ap (λ b. nat_eq m.node item.node || b) (answered_mover t s item moves (sym (ap (λ b. b || is_answered t s moves item) no) ∙ e)) ∙ or_true (nat_eq m.node item.node))
+    (cases_Bool (is_move_of t s item m))
+  where
+    or_true : (b : Bool) → (b || true) ≡ true
+    or_true true = refl
+    or_true false = refl
+
+none_left : (b : Bool) (o : Option Item) (item : Item) → o ≡ Some item → is_none (cond b None o) ≡ b
+none_left true o item e = refl
+none_left false o item e = ap is_none e
+
+left_in : (t : RuleTable) (s : State) (items all : List Item) (moves : List Moved) (left : List (Option Item)) → Own items all → list_all (λ m. is_move_by t s (item_of all m.node) m) moves ≡ true → ((v : ℕ) → item_at left v ≡ cond (is_mover moves v) None (item_of all v)) → list_all (λ i. is_none (item_at left i.node)) items ≡ list_all (λ i. is_answered t s moves i) items
+left_in t s [] all moves left own asked out = refl
+left_in t s (item ∷ items) all moves left own asked out =
+    let mine = own.own 0 item (omega arith) in
+    let here : is_none (item_at left item.node) ≡ is_answered t s moves item =
+    ap is_none (out item.node) ∙ none_left (is_mover moves item.node) (item_of all item.node) item mine
+    ∙ same_tests _ _ (mover_answered t s item all moves mine asked) (answered_mover t s item moves) in
+    ap (λ b. b && list_all (λ i. is_none (item_at left i.node)) items) here
+    ∙ ap (λ b. is_answered t s moves item && b) (left_in t s items all moves left (own_rest item items all own) asked out)
+
+-- once the movers' items are taken out, each item has a move just where none is left
+pub left_answered : (t : RuleTable) (s : State) (items : List Item) (moves : List Moved) (table left : List (Option Item)) → step_refusal t s items ≡ None → Holds table items → list_all (λ m. is_move_by t s (item_at table m.node) m) moves ≡ true → ((v : ℕ) → item_at left v ≡ cond (is_mover moves v) None (item_at table v)) → list_all (λ i. is_none (item_at left i.node)) items ≡ list_all (λ i. is_answered t s moves i) items
+left_answered t s items moves table left none held asked out =
+    left_in t s items items moves left (own_items t s items none)
+    (sym (all_agree _ _ moves (λ m. ap (λ o. is_move_by t s o m) (held m.node))) ∙ asked)
+    (λ v. out v ∙ ap (cond (is_mover moves v) None) (held v))
+
+-- what is left stands at nodes of items
+pub within_left : (items : List Item) (moves : List Moved) (table left : List (Option Item)) → Holds table items → ((v : ℕ) → item_at left v ≡ cond (is_mover moves v) None (item_at table v)) → IsWithin left items
+within_left items moves table left held out v none =
+    out v ∙ ap (cond (is_mover moves v) None) (within_from_all table items held v none) ∙ same_none (is_mover moves v)
+  where
+    same_none : (b : Bool) → cond {A = Option Item} b None None ≡ None
+    same_none true = refl
+    same_none false = refl
+
+-- a table that was cleared at all items is clear
+pub cleared_all : (items : List Item) (table left : List (Option Item)) → IsWithin table items → ((v : ℕ) → item_at left v ≡ cond (is_named items v) None (item_at table v)) → IsClear left
+cleared_all items table left within out v =
+    ⊎_elim
+    (λ yes. out v ∙ ap (λ b. cond b None (item_at table v)) yes)
+    (λ no. out v ∙ ap (λ b. cond b None (item_at table v)) no ∙ within v no)
+    (cases_Bool (is_named items v))

@@ -1,0 +1,37 @@
+-- What a judge says of an event and its reply beside whether it is right.
+use Rattle.std.specs.Prelude.{◌≡◌, Bool, true, false, List, [], None, IsTrue}
+use Rattle.rule_machine.specs.declared.choice.Item.{Item}
+use Rattle.rule_machine.specs.declared.event.Event.{Event}
+use Rattle.rule_machine.specs.declared.event.Event.TheVariants.{Link, Unlink, Point, Flag, Step, Show, Enabled, Matching}
+use Rattle.rule_machine.specs.declared.reply.Reply.{Reply}
+use Rattle.rule_machine.specs.declared.reply.Reply.TheVariants.{Accepted}
+use Rattle.rule_machine.specs.State.{State}
+use Rattle.rule_machine.specs.RuleTable.{RuleTable}
+use Rattle.rule_machine.specs.Refuse.{refusal_of}
+
+abbrev pub is_link : Event → Bool
+is_link (Link a b) = true
+is_link (Unlink a b) = false
+is_link (Point v target) = false
+is_link (Flag v value) = false
+is_link (Step items) = false
+is_link (Show v) = false
+is_link Enabled = false
+is_link Matching = false
+
+-- a link that is not refused, and a reply that accepts it
+pub record TakesMemory (t : RuleTable) (s : State) (event : Event) (reply : Reply) : Type 0 where
+  pub link : IsTrue (is_link event)
+  pub accepted : refusal_of t s event ≡ None
+  pub reply_is : reply ≡ Accepted
+
+-- the items of a step
+abbrev pub items_of : Event → List Item
+items_of (Link a b) = []
+items_of (Unlink a b) = []
+items_of (Point v target) = []
+items_of (Flag v value) = []
+items_of (Step items) = items
+items_of (Show v) = []
+items_of Enabled = []
+items_of Matching = []

@@ -1,0 +1,182 @@
+//! A network with its registers.
+
+ghost use Rattle.std.specs.Prelude.{◌≡◌, ◌≤◌, All, IfOk, IsTrue, None, OnOk, OnErr};
+ghost use Rattle.std.specs.List.{AllByRecursion};
+ghost use Rattle.rule_machine.specs.Network as network;
+ghost use Rattle.rule_machine.specs.State as state;
+ghost use Rattle.rule_machine.specs.Refuse.{link_refusal, unlink_refusal, point_refusal};
+ghost use Rattle.rule_machine.specs.Disturbance.{after_link, after_unlink, after_point, after_flag};
+ghost use Rattle.rule_machine.specs.Step.{after_moves};
+ghost use Rattle.machine_laws.specs.Keeps.{IsMoveIn};
+
+use crate::moves::{clear_pointer, write_moves};
+use graph_store::EdgeStore;
+use registers::Registers;
+use rule_machine::{Moved, Node, Want};
+use std::alloc::{AllocError, Global};
+use std::marker::Model;
+
+/// The neighbour lists and the registers of a network, seen in contracts as a state. Nothing else is kept.
+#[derive(Drop)]
+pub(crate) struct NetState {
+    store: EdgeStore,
+    registers: Registers,
+}
+
+impl Model for NetState {
+    ghost use Rattle.rule_machine.specs.State.{State, state_code, IsState};
+    ghost use Rattle.judge.specs.States.{state_of};
+
+    ghost Value = { State };
+
+    ghost coded = { state_code };
+
+    ghost view = { λ n. state_of n.store n.registers };
+
+    ghost invariant = { λ n. IsState (state_of n.store n.registers) };
+}
+
+impl NetState {
+    /// The nodes 1 to `nodes` without an edge, all pointers null and all flags false.
+    pub(crate) fn new(alloc: Global, nodes: u32) -> Result<NetState, Want>
+        requires { nodes ≤ 65535 }
+        ensures { IfOk result (λ net. net ≡ state.opening nodes) }
+    {
+        let Ok(store) = EdgeStore::new(alloc, nodes) else {
+            return Err(AllocError);
+        };
+        let registers = Registers::new(alloc, nodes)?;
+        Ok(NetState { store, registers })
+    }
+
+    /// How many nodes there are, at most 65,535.
+    pub(crate) fn nodes(&self) -> u32
+        ensures count { result ≡ network.node_count self.now.network }
+        ensures few { result ≤ 65535 }
+    {
+        self.store.nodes()
+    }
+
+    /// How many edges there are, at most 1,048,576.
+    pub(crate) fn edges(&self) -> u32
+        ensures { result ≡ network.edge_count self.now.network }
+    {
+        self.store.edges()
+    }
+
+    /// Whether a node has this name.
+    pub(crate) fn has(&self, v: Node) -> bool
+        ensures { result ≡ network.present self.now.network v }
+    {
+        self.store.has(v)
+    }
+
+    /// Whether there is an edge between two names.
+    pub(crate) fn linked(&self, a: Node, b: Node) -> bool
+        ensures value { result ≡ network.linked self.now.network a b }
+        ensures present { IsTrue result → IsTrue (network.present self.now.network a) }
+    {
+        self.store.linked(a, b)
+    }
+
+    /// A node's neighbours, ascending.
+    pub(crate) fn neighbours(&self, v: Node) -> &[Node]
+        requires { IsTrue (network.present self.now.network v) }
+        ensures { result.now ≡ network.neighbours self.now.network v }
+    {
+        self.store.neighbours(v)
+    }
+
+    /// Where a node points, if anywhere.
+    pub(crate) fn pointer(&self, v: Node) -> Option<Node>
+        ensures { result ≡ state.pointer self.now v }
+    {
+        if self.store.has(v) {
+            self.registers.pointer(v)
+        } else {
+            None
+        }
+    }
+
+    /// A node's flag.
+    pub(crate) fn flag(&self, v: Node) -> bool
+        ensures { result ≡ state.flag self.now v }
+    {
+        self.store.has(v) && self.registers.flag(v)
+    }
+
+    /// Whether a node points at another.
+    pub(crate) fn points(&self, v: Node, w: Node) -> bool
+        ensures { result ≡ state.points self.now.registers v w }
+    {
+        self.registers.points_at(v, w)
+    }
+
+    /// The neighbour with which a node is a mutual pair, if there is one.
+    pub(crate) fn partner(&self, v: Node) -> Option<Node>
+        requires { IsTrue (network.present self.now.network v) }
+        ensures { result ≡ state.partner self.now v }
+    {
+        match self.registers.pointer(v) {
+            Some(w) if self.registers.points_at(w, v) => Some(w),
+            Some(_) => None,
+            None => None,
+        }
+    }
+
+    /// Whether a node is in a mutual pair.
+    pub(crate) fn married(&self, v: Node) -> bool
+        requires { IsTrue (network.present self.now.network v) }
+        ensures { result ≡ state.married self.now v }
+    {
+        self.partner(v).is_some()
+    }
+
+    /// Adds the edge between two nodes.
+    pub(crate) fn link(&mut self, a: Node, b: Node) -> Result<(), Want>
+        requires { link_refusal self.old.network a b ≡ None }
+        ensures ok { OnOk result (self.new ≡ after_link self.old a b) }
+        ensures err { OnErr result (self.new ≡ self.old) }
+    {
+        let Ok(()) = self.store.link(a, b) else {
+            return Err(AllocError);
+        };
+        Ok(())
+    }
+
+    /// Removes the edge between two nodes, and the pointers that cross it.
+    pub(crate) fn unlink(&mut self, a: Node, b: Node)
+        requires { unlink_refusal self.old.network a b ≡ None }
+        ensures { self.new ≡ after_unlink self.old a b }
+    {
+        let Ok(()) = self.store.unlink(a, b) else {
+            return;
+        };
+        clear_pointer(&mut self.registers, a, b);
+        clear_pointer(&mut self.registers, b, a);
+    }
+
+    /// Writes a node's pointer.
+    pub(crate) fn point(&mut self, v: Node, target: Option<Node>)
+        requires { point_refusal self.old.network v target ≡ None }
+        ensures { self.new ≡ after_point self.old v target }
+    {
+        self.registers.set_pointer(v, target);
+    }
+
+    /// Writes a node's flag.
+    pub(crate) fn set_flag(&mut self, v: Node, value: bool)
+        requires { IsTrue (network.present self.old.network v) }
+        ensures { self.new ≡ after_flag self.old v value }
+    {
+        self.registers.set_flag(v, value);
+    }
+
+    /// Makes these moves of one step.
+    pub(crate) fn make_moves(&mut self, moves: &[Moved])
+        requires { All (IsMoveIn self.old.network) moves.now }
+        ensures { self.new ≡ after_moves self.old moves.now }
+    {
+        write_moves(&mut self.registers, moves);
+    }
+}

@@ -1,0 +1,84 @@
+//! The targets that a rule allows.
+
+ghost use Rattle.std.specs.Prelude.{◌≡◌};
+ghost use Rattle.rule_machine.specs.HsuHuang.{hsu_huang_allowed};
+ghost use Rattle.rule_machine.specs.Manne.{manne_allowed};
+ghost use Rattle.rule_machine.specs.Tables.{table_of};
+ghost use Rattle.replay_laws.specs.Judged as judged;
+
+use crate::NetState;
+use rule_machine::{Act, Item, Node, RuleSet};
+
+impl NetState {
+    /// Whether a node may point at another by a rule.
+    pub(crate) fn is_allowed(&self, rules: RuleSet, v: Node, act: Act, w: Node) -> bool
+        ensures { result ≡ (table_of rules).allowed self.now v act w }
+    {
+        match rules {
+            RuleSet::Hh => self.hsu_huang_allows(v, act, w),
+            RuleSet::Manne => self.manne_allows(v, act, w),
+        }
+    }
+
+    fn hsu_huang_allows(&self, v: Node, act: Act, w: Node) -> bool
+        ensures { result ≡ hsu_huang_allowed self.now v act w }
+    {
+        match act {
+            Act::Marry => self.linked(v, w) && self.points(w, v),
+            Act::Seduce => self.linked(v, w) && self.pointer(w).is_none(),
+            Act::Update | Act::Abandon => false,
+        }
+    }
+
+    fn manne_allows(&self, v: Node, act: Act, w: Node) -> bool
+        ensures { result ≡ manne_allowed self.now v act w }
+    {
+        match act {
+            Act::Marry => self.linked(v, w) && self.points(w, v),
+            Act::Seduce => {
+                self.linked(v, w) && self.may_court(v, w) && self.courted_above(v, w).is_none()
+            }
+            Act::Update | Act::Abandon => false,
+        }
+    }
+
+    /// Whether a move that an item asks for, by a rule, may have this target.
+    pub(crate) fn is_target(
+        &self,
+        rules: RuleSet,
+        act: Act,
+        item: Item,
+        target: Option<Node>,
+    ) -> bool
+        ensures { result ≡ judged.is_target (table_of rules) self.now item.node act item.wish target }
+    {
+        match target {
+            Some(w) => {
+                takes_target(act)
+                    && self.is_allowed(rules, item.node, act, w)
+                    && suits_wish(item.wish, w)
+            }
+            None => !takes_target(act),
+        }
+    }
+}
+
+/// Whether a rule takes a target.
+fn takes_target(act: Act) -> bool
+    ensures { result ≡ judged.takes_target act }
+{
+    match act {
+        Act::Marry | Act::Seduce => true,
+        Act::Update | Act::Abandon => false,
+    }
+}
+
+/// Whether a wish, if there is one, is for a node.
+fn suits_wish(wish: Option<Node>, w: Node) -> bool
+    ensures { result ≡ judged.suits_wish wish w }
+{
+    match wish {
+        Some(x) => x == w,
+        None => true,
+    }
+}

@@ -1,0 +1,5 @@
+pub mod Judged
+pub mod Followed
+pub mod StepTests
+pub mod AscendingMoves
+pub mod Passes
