@@ -46,7 +46,7 @@ impl Word for Item {
 }
 
 /// Writes an event's script line, without its LF.
-pub fn put_event(out: &mut Vec<u8>, event: &Event) -> Result<(), Want>
+pub(crate) fn put_event(out: &mut Vec<u8>, event: &Event) -> Result<(), Want>
     ensures ok { OnOk result (out.new.items ≡ out.old.items ++ event_text event.now) }
     ensures err { OnErr result (Extends out.old.items out.new.items) }
 {

@@ -9,7 +9,7 @@ use itoa::Buffer;
 use rule_machine::{Node, Want};
 
 /// Writes a number in decimal.
-pub fn put_number(out: &mut Vec<u8>, number: u32) -> Result<(), Want>
+pub(crate) fn put_number(out: &mut Vec<u8>, number: u32) -> Result<(), Want>
     ensures ok { OnOk result (out.new.items ≡ out.old.items ++ number_text number) }
     ensures err { OnErr result (out.new.items ≡ out.old.items) }
 {
@@ -18,7 +18,7 @@ pub fn put_number(out: &mut Vec<u8>, number: u32) -> Result<(), Want>
 }
 
 /// Writes a node's name.
-pub fn put_name(out: &mut Vec<u8>, node: Node) -> Result<(), Want>
+pub(crate) fn put_name(out: &mut Vec<u8>, node: Node) -> Result<(), Want>
     ensures ok { OnOk result (out.new.items ≡ out.old.items ++ number_text node) }
     ensures err { OnErr result (out.new.items ≡ out.old.items) }
 {
@@ -26,7 +26,7 @@ pub fn put_name(out: &mut Vec<u8>, node: Node) -> Result<(), Want>
 }
 
 /// Writes a name, or a dash for null.
-pub fn put_target(out: &mut Vec<u8>, target: Option<Node>) -> Result<(), Want>
+pub(crate) fn put_target(out: &mut Vec<u8>, target: Option<Node>) -> Result<(), Want>
     ensures ok { OnOk result (out.new.items ≡ out.old.items ++ target_text target) }
     ensures err { OnErr result (out.new.items ≡ out.old.items) }
 {
@@ -37,7 +37,7 @@ pub fn put_target(out: &mut Vec<u8>, target: Option<Node>) -> Result<(), Want>
 }
 
 /// Writes a `>` and a name, where there is one.
-pub fn put_marked(out: &mut Vec<u8>, target: Option<Node>) -> Result<(), Want>
+pub(crate) fn put_marked(out: &mut Vec<u8>, target: Option<Node>) -> Result<(), Want>
     ensures ok { OnOk result (out.new.items ≡ out.old.items ++ marked_text (codes ">") target) }
     ensures err { OnErr result (Extends out.old.items out.new.items) }
 {

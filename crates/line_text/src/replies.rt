@@ -61,7 +61,7 @@ impl Word for Edge {
 }
 
 /// Writes a reply as a transcript spells it.
-pub fn put_reply(out: &mut Vec<u8>, reply: &Reply) -> Result<(), Want>
+pub(crate) fn put_reply(out: &mut Vec<u8>, reply: &Reply) -> Result<(), Want>
     ensures ok { OnOk result (out.new.items ≡ out.old.items ++ reply_text reply.now) }
     ensures err { OnErr result (Extends out.old.items out.new.items) }
 {

@@ -7,7 +7,7 @@ ghost use Rattle.line_text.specs.Growth.{Extends};
 use rule_machine::Want;
 
 /// What stands in a line as one word.
-pub trait Word {
+pub(crate) trait Word {
     // The word's text.
     ghost text: { Self → List ℕ };
 
@@ -18,7 +18,7 @@ pub trait Word {
 }
 
 /// Writes each word behind one space.
-pub fn put_spaced<W: Word>(out: &mut Vec<u8>, words: &[W]) -> Result<(), Want>
+pub(crate) fn put_spaced<W: Word>(out: &mut Vec<u8>, words: &[W]) -> Result<(), Want>
     ensures ok { OnOk result (out.new.items ≡ out.old.items ++ spaced W.text words.now) }
     ensures err { OnErr result (Extends out.old.items out.new.items) }
 {
@@ -30,7 +30,7 @@ pub fn put_spaced<W: Word>(out: &mut Vec<u8>, words: &[W]) -> Result<(), Want>
 }
 
 /// Writes the words, joined by one space.
-pub fn put_joined<W: Word>(out: &mut Vec<u8>, words: &[W]) -> Result<(), Want>
+pub(crate) fn put_joined<W: Word>(out: &mut Vec<u8>, words: &[W]) -> Result<(), Want>
     ensures ok { OnOk result (out.new.items ≡ out.old.items ++ joined W.text words.now) }
     ensures err { OnErr result (Extends out.old.items out.new.items) }
 {
@@ -44,7 +44,11 @@ pub fn put_joined<W: Word>(out: &mut Vec<u8>, words: &[W]) -> Result<(), Want>
 }
 
 /// Writes the words, joined by one space, or another text where there is none.
-pub fn put_joined_or<W: Word>(out: &mut Vec<u8>, none: &[u8], words: &[W]) -> Result<(), Want>
+pub(crate) fn put_joined_or<W: Word>(
+    out: &mut Vec<u8>,
+    none: &[u8],
+    words: &[W],
+) -> Result<(), Want>
     ensures ok { OnOk result (out.new.items ≡ out.old.items ++ joined_or none.now W.text words.now) }
     ensures err { OnErr result (Extends out.old.items out.new.items) }
 {
