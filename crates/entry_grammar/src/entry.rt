@@ -41,10 +41,11 @@ fn parts(line: &[u8]) -> Option<(&[u8], &[u8], &[u8])>
     Some((number, event, reply))
 }
 
-/// The line of the entry with this number, without an LF.
+/// The line of the entry with this number, without an LF: the one spelling, by which `read_entry` finds it again.
 pub fn entry_text(alloc: Global, number: u32, entry: &Entry) -> Result<Vec<u8>, Want>
     requires { (1 ≤ number) × (number ≤ max_entries) }
-    ensures { IfOk result (λ text. text.items ≡ entry_text number entry.now.0 entry.now.1) }
+    ensures text { IfOk result (λ text. text.items ≡ entry_text number entry.now.0 entry.now.1) }
+    ensures spelled { IfOk result (λ text. SpellsEntry text.items number entry.now) }
 {
     let mut text = Vec::new(alloc);
     put_entry(&mut text, number, entry.event(), entry.reply())?;
