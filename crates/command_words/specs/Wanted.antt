@@ -1,6 +1,7 @@
 -- What the words of the command line ask for, by clap's account of what a command makes of words.
-use Rattle.std.specs.Prelude.{◌≡◌, ◌⊎◌, ℕ, ◌<◌, ◌^◌, List, [], ◌∷◌, map, Option, Some, pos, true, codes}
+use Rattle.std.specs.Prelude.{◌≡◌, ◌⊎◌, ℕ, ◌<◌, ◌^◌, List, [], ◌∷◌, ◌++◌, map, Option, Some, pos, true, codes}
 use Rattle.std.specs.Borrow.{Bor}
+use Rattle.std.specs.Fmt.{decimal}
 use Rattle.std.specs.Str.Parse.{IsNumeral, digits_value, without_leading_plus}
 use Rattle.clap.specs.Words.{App, Row, Rule, Text, first_of, kind_of, new_app, new_rule, one_of, subcommand_of, takes, with_rule, with_subcommand}
 use Rattle.clap.specs.declared.builder.value_parser.ValueParser.TheVariants as vp
@@ -70,3 +71,12 @@ Answers words task = Asks words task
 abbrev pub Wants : List Text → Task → Type 0
 Wants words task =
     (names : Names) → AreRules names → (takes (console_app names) words ≡ true) × Holds (subcommand_of (console_app names) words) task
+
+-- the usual words for a run
+abbrev pub run_words : Text → RuleSet → ℕ → List Text
+run_words program rules nodes =
+    program ∷ codes "run" ∷ (codes "--rules=" ++ rules_word rules) ∷ (codes "--nodes=" ++ decimal nodes) ∷ []
+
+-- the words for an audit
+abbrev pub audit_words : Text → List Text
+audit_words program = program ∷ codes "audit" ∷ []

@@ -3,7 +3,9 @@
 
 mod command;
 mod task;
+mod usual;
 mod words;
 
 pub use task::Task;
+pub use usual::usual_words;
 pub use words::read_words;

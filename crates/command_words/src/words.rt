@@ -14,8 +14,9 @@ use clap::error::ErrorKind;
 use std::alloc::Global;
 use std::convert::AsStr;
 
-/// Reads the words of the command line, of which the first is the program's name. The error is clap's, for bad words
-/// or for want of memory.
+/// Reads the words of the command line, of which the first is the program's name: the answer is what clap's account of
+/// the command makes of them. The error is clap's, for bad words or for want of memory; words that are good and ask for
+/// a task are refused for want of memory alone.
 pub fn read_words<'a, S: AsStr>(alloc: Global, words: &'a [S]) -> Result<Task, Error>
     ensures answers { IfOk result (λ task. Answers (map S.text words.entry.now) task) }
     ensures mistake { IfErr result (λ e. IsMistake (kind_of e)) }
