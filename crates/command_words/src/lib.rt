@@ -1,6 +1,11 @@
 //! The words of the command line, and what they ask for.
 #![tactic(auto)]
 
+mod command;
+mod task;
+mod usual;
 mod words;
 
-pub use words::{Task, read_words};
+pub use task::Task;
+pub use usual::usual_words;
+pub use words::read_words;

@@ -1,15 +1,16 @@
 -- A line spells at most one entry.
-use Rattle.std.proofs.Common.{◌≡◌, ℕ, ◌<◌, ◌≤◌, List, refl, sym, ap, subst, ◌∙◌, arith}
-use Rattle.std.specs.Prelude.{IsTrue}
+use Rattle.std.proofs.Common.{◌≡◌, ℕ, ◌<◌, ◌≤◌, List, ◌++◌, refl, sym, ap, subst, ◌∙◌, arith}
+use Rattle.std.specs.Prelude.{IsTrue, Result, Ok, Err, IfErr, codes}
 use Rattle.std.proofs.lemmas.Fmt.{decimal_injective}
 use Rattle.rule_machine.specs.declared.event.Event.{Event}
+use Rattle.rule_machine.specs.declared.event.Event.TheVariants.{Step}
 use Rattle.rule_machine.specs.declared.reply.Reply.{Reply}
 use Rattle.log_entry.specs.Kinds.{fits}
 use Rattle.line_text.specs.Words.{number_text}
-use Rattle.line_text.specs.EventText.{IsEvent, event_text, Spells, NotACommand}
+use Rattle.line_text.specs.EventText.{IsEvent, event_text, Spells, SpellsStep, NotACommand}
 use Rattle.line_text.specs.ReplyText.{reply_text}
 use Rattle.line_text.proofs.EventsOnce.{spells_once}
-use Rattle.entry_grammar.specs.Spelling.{IsReply, SpellsEntry}
+use Rattle.entry_grammar.specs.Spelling.{IsReply, SpellsEntry, AsksForList, has_list}
 use Rattle.entry_grammar.specs.Reading.{PartsOf, suits}
 use Rattle.entry_grammar.proofs.Free.{free_number}
 use Rattle.entry_grammar.proofs.Parts.{parts_of, parts_once}
@@ -64,3 +65,30 @@ no_fit line number event reply n entry asked answered p s r none h =
     let t = pair_is asked answered entry s.0 r.0.1 r.0.0 h.event h.reply (fits_suits entry.0 entry.1 h.fits) (sym s.1 ∙ q.1) (sym r.1 ∙ q.2) in
     let one = subst (λ (z : Event). IsTrue (fits z entry.1)) (sym t.0) h.fits in
     none (subst (λ (z : Reply). IsTrue (fits asked z)) (sym t.1) one)
+
+-- the line of a step goes with a list
+pub step_asks : (line number event reply : List ℕ) → PartsOf line number event reply → SpellsStep event → AsksForList line
+step_asks line number event reply p s = record {
+  number = number;
+  asked = Step s.0;
+  reply = reply;
+  fits = s.1.0;
+  listed = refl;
+  is = subst (λ (z : List ℕ). line ≡ number ++ codes " " ++ z ++ codes " = " ++ reply) s.1.1 p.is;
+}
+
+-- the line of an event that goes with a list
+pub event_asks : (line number event reply : List ℕ) (asked : Event) → PartsOf line number event reply → Spells event asked → IsTrue (has_list asked) → AsksForList line
+event_asks line number event reply asked p s listed = record {
+  number = number;
+  asked = asked;
+  reply = reply;
+  fits = s.0;
+  listed = listed;
+  is = subst (λ (z : List ℕ). line ≡ number ++ codes " " ++ z ++ codes " = " ++ reply) s.1 p.is;
+}
+
+-- what holds of whatever error
+pub of_error : {T E : Type 0} (r : Result T E) (P : E → Type 0) → ((e : E) → P e) → IfErr r P
+of_error (Ok x) P h = tt
+of_error (Err e) P h = h e

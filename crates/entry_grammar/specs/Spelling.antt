@@ -1,39 +1,17 @@
 -- Which lines of a transcript are a header, and which an entry. Lines are without the LF that ends them.
-use Rattle.std.specs.Prelude.{◌≡◌, ℕ, ◌<◌, ◌≤◌, List, IfSome, IsTrue}
-use Rattle.std.specs.List.{AllByRecursion}
-use Rattle.rule_machine.specs.declared.act.Act.{Act}
-use Rattle.rule_machine.specs.declared.moved.Moved.{Moved}
+use Rattle.std.specs.Prelude.{◌≡◌, ℕ, ◌≤◌, Bool, true, false, List, ◌++◌, IsTrue, codes}
 use Rattle.rule_machine.specs.declared.event.Event.{Event}
+use Rattle.rule_machine.specs.declared.event.Event.TheVariants.{Step, Enabled, Matching}
 use Rattle.rule_machine.specs.declared.reply.Reply.{Reply}
-use Rattle.rule_machine.specs.declared.reply.Reply.TheVariants.{Accepted, Refused, Moves, Shown, EnabledAre, Pairs}
 use Rattle.rule_machine.specs.declared.rules.RuleSet.{RuleSet}
 use Rattle.log_entry.specs.Kinds.{fits}
-use Rattle.line_text.specs.Words.{IsName}
-use Rattle.line_text.specs.EventText.{IsEvent}
+pub use Rattle.line_text.specs.ReplyText.{IsMoved, IsEnabled, IsPair, IsReply}
+use Rattle.line_text.specs.EventText.{IsEvent, event_text}
 use Rattle.line_text.specs.EntryText.{header_text, entry_text}
 
 -- the most entries that a log holds
 abbrev pub max_entries : ℕ
 max_entries = 16777216
-
-abbrev pub IsMoved : Moved → Type 0
-IsMoved m = IsName m.node × IfSome m.target IsName
-
-abbrev pub IsEnabled : ℕ × Act → Type 0
-IsEnabled e = IsName e.0
-
--- two names, the lower first
-abbrev pub IsPair : ℕ × ℕ → Type 0
-IsPair p = IsName p.0 × IsName p.1 × (p.0 < p.1)
-
--- what each value of the program's type of replies meets
-abbrev pub IsReply : Reply → Type 0
-IsReply Accepted = Unit {0}
-IsReply (Refused refusal) = Unit {0}
-IsReply (Moves moves) = AllByRecursion IsMoved moves
-IsReply (Shown target) = IfSome target IsName
-IsReply (EnabledAre nodes) = AllByRecursion IsEnabled nodes
-IsReply (Pairs pairs) = AllByRecursion IsPair pairs
 
 -- the line is the one spelling of the entry with this number: an event, and a reply of its kind
 pub record SpellsEntry (line : List ℕ) (number : ℕ) (entry : Event × Reply) : Type 0 where
@@ -42,6 +20,22 @@ pub record SpellsEntry (line : List ℕ) (number : ℕ) (entry : Event × Reply)
   pub reply : IsReply entry.1
   pub fits : IsTrue (fits entry.0 entry.1)
   pub is : line ≡ entry_text number entry.0 entry.1
+
+-- the events that have a list, or whose reply may have one
+abbrev pub has_list : Event → Bool
+has_list (Step items) = true
+has_list Enabled = true
+has_list Matching = true
+has_list event = false
+
+-- between the number and the reply of the line, whatever these are, stands an event that goes with a list
+pub record AsksForList (line : List ℕ) : Type 0 where
+  pub number : List ℕ
+  pub asked : Event
+  pub reply : List ℕ
+  pub fits : IsEvent asked
+  pub listed : IsTrue (has_list asked)
+  pub is : line ≡ number ++ codes " " ++ event_text asked ++ codes " = " ++ reply
 
 -- the line is the one spelling of the header for these rules and so many nodes
 pub record SpellsHeader (line : List ℕ) (rules : RuleSet) (nodes : ℕ) : Type 0 where

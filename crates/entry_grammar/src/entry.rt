@@ -4,9 +4,9 @@ ghost use Rattle.std.specs.Prelude.{◌≡◌, ℕ, ◌<◌, ◌≤◌, List, If
 ghost use Rattle.rule_machine.specs.declared.event.Event.{Event};
 ghost use Rattle.rule_machine.specs.declared.reply.Reply.{Reply};
 ghost use Rattle.line_text.specs.EntryText.{entry_text};
-ghost use Rattle.entry_grammar.specs.Spelling.{max_entries, SpellsEntry};
+ghost use Rattle.entry_grammar.specs.Spelling.{max_entries, AsksForList, SpellsEntry};
 ghost use Rattle.entry_grammar.specs.Reading.{PartsOf};
-ghost use Rattle.entry_grammar.specs.declared.fault.EntryFault.TheVariants.{NotALine};
+ghost use Rattle.entry_grammar.specs.declared.fault.EntryFault.TheVariants.{Memory, NotALine};
 
 use crate::cut::{before, cut};
 use crate::fault::EntryFault;
@@ -41,10 +41,11 @@ fn parts(line: &[u8]) -> Option<(&[u8], &[u8], &[u8])>
     Some((number, event, reply))
 }
 
-/// The line of the entry with this number, without an LF.
+/// The line of the entry with this number, without an LF: the one spelling, by which `read_entry` finds it again.
 pub fn entry_text(alloc: Global, number: u32, entry: &Entry) -> Result<Vec<u8>, Want>
     requires { (1 ≤ number) × (number ≤ max_entries) }
-    ensures { IfOk result (λ text. text.items ≡ entry_text number entry.now.0 entry.now.1) }
+    ensures text { IfOk result (λ text. text.items ≡ entry_text number entry.now.0 entry.now.1) }
+    ensures spelled { IfOk result (λ text. SpellsEntry text.items number entry.now) }
 {
     let mut text = Vec::new(alloc);
     put_entry(&mut text, number, entry.event(), entry.reply())?;
@@ -52,11 +53,13 @@ pub fn entry_text(alloc: Global, number: u32, entry: &Entry) -> Result<Vec<u8>, 
     Ok(text)
 }
 
-/// Reads an entry and its number from a line without its LF. Memory is for the items of a step and for lists.
+/// Reads an entry and its number from a line without its LF. `Memory` is answered at most where the line's event is a step,
+/// `enabled` or `matching`, which go with lists: every other line, a bad one too, is read without memory.
 pub fn read_entry(alloc: Global, line: &[u8]) -> Result<(u32, Entry), EntryFault>
     ensures ok { IfOk result (λ found. SpellsEntry line.now found.0 found.1) }
     ensures not_a_line { IfErr result (λ fault. fault ≡ NotALine
         → (number : ℕ) (entry : Event × Reply) → SpellsEntry line.now number entry → ⊥) }
+    ensures memory { IfErr result (λ fault. fault ≡ Memory → AsksForList line.now) }
 {
     let Some((number, event, reply)) = parts(line) else {
         return Err(EntryFault::NotALine);

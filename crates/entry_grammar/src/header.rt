@@ -53,10 +53,11 @@ fn find_header(line: &[u8]) -> Option<(RuleSet, u32)>
     Some((rules, nodes))
 }
 
-/// The header for these rules and so many nodes, without an LF.
+/// The header for these rules and so many nodes, without an LF: the one spelling, by which `read_header` finds it again.
 pub fn header_text(alloc: Global, rules: RuleSet, nodes: u32) -> Result<Vec<u8>, Want>
     requires { nodes ≤ 65535 }
-    ensures { IfOk result (λ text. text.items ≡ header_text rules nodes) }
+    ensures text { IfOk result (λ text. text.items ≡ header_text rules nodes) }
+    ensures spelled { IfOk result (λ text. SpellsHeader text.items rules nodes) }
 {
     let mut text = Vec::new(alloc);
     put_header(&mut text, rules, nodes)?;

@@ -1,6 +1,7 @@
 //! Replies, which are read by the kind of the event that they answer.
 
-ghost use Rattle.std.specs.Prelude.{◌≡◌, IfOk};
+ghost use Rattle.std.specs.Prelude.{◌≡◌, IfOk, IsTrue, OnErr};
+ghost use Rattle.entry_grammar.specs.Spelling.{has_list};
 ghost use Rattle.entry_grammar.specs.Reading.{ReadsReply, is_done, is_moved, is_shown, suits};
 
 use crate::refusals::read_refusal;
@@ -50,7 +51,8 @@ fn read_shown(bytes: &[u8]) -> Option<Reply>
 
 /// Reads a reply to the event; `None` where the bytes spell none of its kind. Memory is for lists alone.
 pub fn read_reply(alloc: Global, event: &Event, bytes: &[u8]) -> Result<Option<Reply>, Want>
-    ensures { IfOk result (ReadsReply (suits event.now) bytes.now) }
+    ensures reply { IfOk result (ReadsReply (suits event.now) bytes.now) }
+    ensures memory { OnErr result (IsTrue (has_list event.now)) }
 {
     match event {
         Event::Step(_) => read_moved(alloc, bytes),

@@ -1,14 +1,14 @@
 -- Items at the front of a text.
-use Rattle.std.proofs.Common.{◌≡◌, ◌≢◌, ℕ, List, [], ◌∷◌, ◌++◌, Option, None, Some, refl, sym, ap, ◌∙◌, append_assoc, arith}
+use Rattle.std.proofs.Common.{◌≡◌, ◌≢◌, ℕ, ◌+◌, ◌<◌, ◌≤◌, List, [], ◌∷◌, ◌++◌, length, Option, None, Some, refl, sym, ap, ◌∙◌, append_assoc, arith}
 use Rattle.std.specs.Prelude.{slice_index, IfSome}
 use Rattle.std.specs.Int.{IsInRange}
 use Rattle.std.specs.List.{AllByRecursion}
-use Rattle.std.proofs.lemmas.List.{append-nil, append_cancel_left}
+use Rattle.std.proofs.lemmas.List.{append-nil, append_cancel_left, length-append}
 use Rattle.std.proofs.lemmas.List.Concat.{flat_map-append}
 use Rattle.rule_machine.specs.declared.choice.Item.{Item}
 use Rattle.line_text.specs.Words.{number_text, IsName, marked_text, spaced}
 use Rattle.line_text.specs.EventText.{IsItem, IsChoice, item_text}
-use Rattle.line_text.specs.Reading.{NoDigit, NameThen, ItemEnds, ItemThen}
+use Rattle.line_text.specs.Reading.{NoDigit, NameThen, ItemEnds, ItemThen, SpellsChoice, HasItems}
 use Rattle.line_text.proofs.Digits.{name_once}
 
 -- nothing is no text that has a byte
@@ -132,3 +132,59 @@ pub SoFar-stuck : (bytes : List ℕ) (items : List Item) (rest : List ℕ) → S
 SoFar-stuck bytes items rest s some none all f e =
     let l = s.left all f.1 e in
     stuck rest l.0 some none l.2 l.3
+
+-- Some items were counted, and the rest is left.
+pub record Counted (bytes : List ℕ) (count : ℕ) (rest : List ℕ) : Type 0 where
+  pub items : List Item
+  pub so_far : SoFar bytes items rest
+  pub many : length items ≡ count
+  pub few : count ≤ 65535
+
+-- before the first item
+pub Counted-none : (bytes : List ℕ) → Counted bytes 0 bytes
+Counted-none bytes = record {
+  items = [];
+  so_far = record { fits = tt; read = refl; left = λ all f e. (all, refl, f, e) };
+  many = refl;
+  few = omega arith;
+}
+
+-- one more item was counted
+pub Counted-more : (bytes : List ℕ) (count : ℕ) (rest : List ℕ) (item : Item) (behind : List ℕ) → Counted bytes count rest → count < 65535 → ItemThen rest item behind → Counted bytes (count + 1) behind
+Counted-more bytes count rest item behind c few h =
+    let many = c.many in
+    record {
+      items = c.items ++ item ∷ [];
+      so_far = SoFar-more bytes c.items rest item behind c.so_far h;
+      many = length-append c.items (item ∷ []) ∙ ap (λ (n : ℕ). n + 1) many;
+      few = omega arith;
+    }
+
+-- all items were counted
+pub Counted-all : (bytes : List ℕ) (count : ℕ) → Counted bytes count [] → HasItems bytes count
+Counted-all bytes count c =
+    let many = c.many in
+    let few = c.few in
+    (c.items, (omega (arith, many, few), c.so_far.fits), c.so_far.read ∙ append-nil (spaced item_text c.items), c.many)
+
+-- so many items are a choice
+pub HasItems-choice : (bytes : List ℕ) (count : ℕ) → HasItems bytes count → SpellsChoice bytes
+HasItems-choice bytes count h = (h.0, h.1, h.2)
+
+-- no choice is spelled where the rest begins with no item
+pub Counted-stuck : (bytes : List ℕ) (count : ℕ) (rest : List ℕ) → Counted bytes count rest → rest ≢ [] → ((item : Item) (end : List ℕ) → ItemThen rest item end → ⊥) → SpellsChoice bytes → ⊥
+Counted-stuck bytes count rest c some none s = SoFar-stuck bytes c.items rest c.so_far some none s.0 s.1 s.2
+
+-- what is left is more than nothing
+some_more : (rest : List ℕ) (more : List Item) → rest ≢ [] → rest ≡ spaced item_text more → 1 ≤ length more
+some_more rest [] some e = absurd (some e)
+some_more rest (i ∷ is) some e = omega arith
+
+-- no choice is spelled where something is left behind as many items as a choice holds
+pub Counted-full : (bytes : List ℕ) (rest : List ℕ) → Counted bytes 65535 rest → rest ≢ [] → SpellsChoice bytes → ⊥
+Counted-full bytes rest c some s =
+    let l = c.so_far.left s.0 s.1.1 s.2 in
+    let more : 1 ≤ length l.0 = some_more rest l.0 some l.3 in
+    let all : length s.0 ≡ length c.items + length l.0 = ap length l.1 ∙ length-append c.items l.0 in
+    let few : length s.0 ≤ 65535 = s.1.0 in
+    omega (arith, c.many, more, all, few)

@@ -67,3 +67,7 @@ IsCommand line = (event : Event) × Spells line event
 
 abbrev pub NotACommand : List ℕ → Type 0
 NotACommand line = (event : Event) → Spells line event → ⊥
+
+-- the line is a step, the one event that has a list
+abbrev pub SpellsStep : List ℕ → Type 0
+SpellsStep line = (items : List Item) × Spells line (Step items)

@@ -1,9 +1,9 @@
 -- What the readers of a line's parts say of the bytes that they are given.
-use Rattle.std.specs.Prelude.{◌≡◌, ◌≢◌, ℕ, List, ◌++◌, Option, None, Some, MatchOption, slice_index, codes}
+use Rattle.std.specs.Prelude.{◌≡◌, ◌≢◌, ℕ, List, ◌++◌, length, Option, None, Some, MatchOption, slice_index, codes}
 use Rattle.std.specs.Int.{IsInRange}
 use Rattle.rule_machine.specs.declared.choice.Item.{Item}
-use Rattle.line_text.specs.Words.{number_text, IsName}
-use Rattle.line_text.specs.EventText.{IsItem, item_text}
+use Rattle.line_text.specs.Words.{number_text, IsName, spaced}
+use Rattle.line_text.specs.EventText.{IsItem, IsChoice, item_text}
 
 -- the bytes are the text of what was found, or of nothing that might be found
 abbrev pub Reads : {X : Type 0} → (X → Type 0) → (X → List ℕ) → List ℕ → Option X → Type 0
@@ -39,3 +39,11 @@ pub record ItemThen (bytes : List ℕ) (item : Item) (rest : List ℕ) : Type 0 
   pub fits : IsItem item
   pub ends : ItemEnds item.wish rest
   pub is : bytes ≡ codes " " ++ (item_text item ++ rest)
+
+-- the bytes are the items of a choice, each behind one space
+abbrev pub SpellsChoice : List ℕ → Type 0
+SpellsChoice bytes = (items : List Item) × IsChoice items × (bytes ≡ spaced item_text items)
+
+-- the same, and how many items there are
+abbrev pub HasItems : List ℕ → ℕ → Type 0
+HasItems bytes count = (items : List Item) × IsChoice items × (bytes ≡ spaced item_text items) × (length items ≡ count)

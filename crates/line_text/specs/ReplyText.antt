@@ -1,5 +1,6 @@
 -- How a transcript spells a reply.
-use Rattle.std.specs.Prelude.{ℕ, List, ◌++◌, codes}
+use Rattle.std.specs.Prelude.{ℕ, ◌<◌, List, ◌++◌, IfSome, codes}
+use Rattle.std.specs.List.{AllByRecursion}
 use Rattle.rule_machine.specs.declared.act.Act.{Act}
 use Rattle.rule_machine.specs.declared.act.Act.TheVariants.{Update, Marry, Seduce, Abandon}
 use Rattle.rule_machine.specs.declared.moved.Moved.{Moved}
@@ -7,7 +8,7 @@ use Rattle.rule_machine.specs.declared.refusal.Refusal.{Refusal}
 use Rattle.rule_machine.specs.declared.reply.Reply.{Reply}
 use Rattle.rule_machine.specs.declared.reply.Reply.TheVariants.{Accepted, Refused, Moves, Shown, EnabledAre, Pairs}
 use Rattle.rule_machine.specs.Refuse.{refusal_number, refusal_text}
-use Rattle.line_text.specs.Words.{number_text, marked_text, joined, joined_or}
+use Rattle.line_text.specs.Words.{number_text, IsName, marked_text, joined, joined_or}
 use Rattle.line_text.specs.EventText.{target_text}
 
 abbrev pub act_word : Act → List ℕ
@@ -39,3 +40,22 @@ reply_text (Moves moves) = joined move_text moves
 reply_text (Shown target) = target_text target
 reply_text (EnabledAre nodes) = joined_or (codes "none") enabled_text nodes
 reply_text (Pairs pairs) = joined_or (codes "none") mutual_text pairs
+
+abbrev pub IsMoved : Moved → Type 0
+IsMoved m = IsName m.node × IfSome m.target IsName
+
+abbrev pub IsEnabled : ℕ × Act → Type 0
+IsEnabled e = IsName e.0
+
+-- two names, the lower first
+abbrev pub IsPair : ℕ × ℕ → Type 0
+IsPair p = IsName p.0 × IsName p.1 × (p.0 < p.1)
+
+-- what each value of the program's type of replies meets
+abbrev pub IsReply : Reply → Type 0
+IsReply Accepted = Unit {0}
+IsReply (Refused refusal) = Unit {0}
+IsReply (Moves moves) = AllByRecursion IsMoved moves
+IsReply (Shown target) = IfSome target IsName
+IsReply (EnabledAre nodes) = AllByRecursion IsEnabled nodes
+IsReply (Pairs pairs) = AllByRecursion IsPair pairs

@@ -1,8 +1,8 @@
 //! Commands: the lines of a script.
 
-ghost use Rattle.std.specs.Prelude.{◌≡◌, ℕ, List, Option, Bool, ⊤, IfOk, IfSome, MatchOption};
+ghost use Rattle.std.specs.Prelude.{◌≡◌, ℕ, List, Option, Bool, ⊤, IfOk, IfSome, OnErr, MatchOption};
 ghost use Rattle.line_text.specs.Words.{IsName, spaced};
-ghost use Rattle.line_text.specs.EventText.{IsChoice, Spells, NotACommand, pair_text, point_text, flag_text, bool_text, target_text, item_text};
+ghost use Rattle.line_text.specs.EventText.{IsChoice, Spells, SpellsStep, NotACommand, pair_text, point_text, flag_text, bool_text, target_text, item_text};
 ghost use Rattle.line_text.specs.Reading.{Reads, ReadsTwo};
 
 use crate::front::after;
@@ -10,9 +10,6 @@ use crate::items::read_items;
 use crate::names::{read_last, read_word};
 use rule_machine::{Event, Node, Want};
 use std::alloc::Global;
-
-/// The most bytes of a command, without its LF: no event's line is longer.
-pub const MAX_LINE: usize = 1_048_576;
 
 // Reads two names.
 fn read_pair(bytes: &[u8]) -> Option<(Node, Node)>
@@ -79,10 +76,12 @@ fn read_flag(bytes: &[u8]) -> Option<(Node, bool)>
     Some((node, value))
 }
 
-/// Reads the command that a line is; `None` where it is none. Memory is for the items of a step alone.
+/// Reads the command that a line is; `None` where it is none. Memory is for the items of a step alone: every other line,
+/// a bad one too, is read without.
 pub fn read_command(alloc: Global, line: &[u8]) -> Result<Option<Event>, Want>
     ensures command { IfOk result
         (λ found. MatchOption found (NotACommand line.now) (λ event. Spells line.now event)) }
+    ensures memory { OnErr result (SpellsStep line.now) }
 {
     if let Some(rest) = after(line, b"show ") {
         return Ok(read_last(rest).map(|node| Event::Show(node)));

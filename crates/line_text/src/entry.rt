@@ -1,6 +1,8 @@
 //! The lines of a transcript.
 
 ghost use Rattle.std.specs.Prelude.{◌≡◌, ◌++◌, OnOk, OnErr};
+ghost use Rattle.line_text.specs.EventText.{IsEvent};
+ghost use Rattle.line_text.specs.ReplyText.{IsReply};
 ghost use Rattle.line_text.specs.EntryText.{header_line, entry_line};
 ghost use Rattle.line_text.specs.Growth.{Extends};
 
@@ -23,6 +25,7 @@ fn append_header(out: &mut Vec<u8>, rules: RuleSet, nodes: u32) -> Result<(), Wa
 fn append_entry(out: &mut Vec<u8>, number: u32, event: &Event, reply: &Reply) -> Result<(), Want>
     ensures ok { OnOk result (out.new.items ≡ out.old.items ++ entry_line number event.now reply.now) }
     ensures err { OnErr result (Extends out.old.items out.new.items) }
+    ensures named { OnOk result (IsEvent event.now × IsReply reply.now) }
 {
     put_number(out, number)?;
     out.push(b' ')?;
@@ -46,10 +49,12 @@ pub fn put_header(out: &mut Vec<u8>, rules: RuleSet, nodes: u32) -> Result<(), W
     done
 }
 
-/// Writes the entry with this number, with its LF: the event, and the reply to it.
+/// Writes the entry with this number, with its LF: the event, and the reply to it. What was written are names, as each
+/// value of these types has them.
 pub fn put_entry(out: &mut Vec<u8>, number: u32, event: &Event, reply: &Reply) -> Result<(), Want>
     ensures ok { OnOk result (out.new.items ≡ out.old.items ++ entry_line number event.now reply.now) }
     ensures err { OnErr result (out.new.items ≡ out.old.items) }
+    ensures named { OnOk result (IsEvent event.now × IsReply reply.now) }
 {
     let len = out.len();
     let done = append_entry(out, number, event, reply);

@@ -1,7 +1,8 @@
 //! Script lines at the end of a text.
 
-ghost use Rattle.std.specs.Prelude.{◌≡◌, ◌++◌, OnOk, OnErr};
-ghost use Rattle.line_text.specs.EventText.{event_text, item_text, pair_text, point_text, flag_text};
+ghost use Rattle.std.specs.Prelude.{◌≡◌, ◌++◌, IfSome, OnOk, OnErr};
+ghost use Rattle.line_text.specs.Words.{IsName};
+ghost use Rattle.line_text.specs.EventText.{IsEvent, IsItem, event_text, item_text, pair_text, point_text, flag_text};
 ghost use Rattle.line_text.specs.Growth.{Extends};
 
 use crate::numbers::{put_marked, put_name, put_target};
@@ -11,6 +12,7 @@ use rule_machine::{Event, Item, Node, Want};
 fn put_pair(out: &mut Vec<u8>, a: Node, b: Node) -> Result<(), Want>
     ensures ok { OnOk result (out.new.items ≡ out.old.items ++ pair_text a b) }
     ensures err { OnErr result (Extends out.old.items out.new.items) }
+    ensures named { OnOk result (IsName a × IsName b) }
 {
     put_name(out, a)?;
     out.push(b' ')?;
@@ -20,6 +22,7 @@ fn put_pair(out: &mut Vec<u8>, a: Node, b: Node) -> Result<(), Want>
 fn put_point(out: &mut Vec<u8>, node: Node, target: Option<Node>) -> Result<(), Want>
     ensures ok { OnOk result (out.new.items ≡ out.old.items ++ point_text node target) }
     ensures err { OnErr result (Extends out.old.items out.new.items) }
+    ensures named { OnOk result (IsName node × IfSome target IsName) }
 {
     put_name(out, node)?;
     out.push(b' ')?;
@@ -29,6 +32,7 @@ fn put_point(out: &mut Vec<u8>, node: Node, target: Option<Node>) -> Result<(), 
 fn put_flag(out: &mut Vec<u8>, node: Node, value: bool) -> Result<(), Want>
     ensures ok { OnOk result (out.new.items ≡ out.old.items ++ flag_text node value) }
     ensures err { OnErr result (Extends out.old.items out.new.items) }
+    ensures named { OnOk result (IsName node) }
 {
     put_name(out, node)?;
     out.push(b' ')?;
@@ -39,6 +43,8 @@ fn put_flag(out: &mut Vec<u8>, node: Node, value: bool) -> Result<(), Want>
 impl Word for Item {
     ghost text = { item_text };
 
+    ghost fits = { IsItem };
+
     fn put(&self, out: &mut Vec<u8>) -> Result<(), Want> {
         put_name(out, self.node)?;
         put_marked(out, self.wish)
@@ -46,9 +52,10 @@ impl Word for Item {
 }
 
 /// Writes an event's script line, without its LF.
-pub fn put_event(out: &mut Vec<u8>, event: &Event) -> Result<(), Want>
+pub(crate) fn put_event(out: &mut Vec<u8>, event: &Event) -> Result<(), Want>
     ensures ok { OnOk result (out.new.items ≡ out.old.items ++ event_text event.now) }
     ensures err { OnErr result (Extends out.old.items out.new.items) }
+    ensures named { OnOk result (IsEvent event.now) }
 {
     match event {
         Event::Link(a, b) => {

@@ -1,10 +1,10 @@
 //! The items of a step.
 
-ghost use Rattle.std.specs.Prelude.{◌≡◌, ℕ, List, IfOk, MatchOption};
+ghost use Rattle.std.specs.Prelude.{◌≡◌, ℕ, List, IfOk, OnErr, MatchOption};
 ghost use Rattle.rule_machine.specs.declared.choice.Item.{Item};
 ghost use Rattle.line_text.specs.Words.{spaced};
 ghost use Rattle.line_text.specs.EventText.{IsChoice, item_text};
-ghost use Rattle.line_text.specs.Reading.{Reads, ItemThen};
+ghost use Rattle.line_text.specs.Reading.{Reads, ItemThen, SpellsChoice, HasItems};
 
 use crate::front::after;
 use crate::names::read_name;
@@ -38,12 +38,37 @@ fn read_item(bytes: &[u8]) -> Option<(Item, &[u8])>
     ))
 }
 
-/// Reads items, each behind one space; `None` where anything else stands there, or more items than a choice holds.
-pub fn read_items(alloc: Global, bytes: &[u8]) -> Result<Option<Choice>, Want>
-    ensures { IfOk result (Reads IsChoice (spaced item_text) bytes.now) }
+// How many items stand there, each behind one space; `None` where they are no choice.
+fn count_items(bytes: &[u8]) -> Option<usize>
+    ensures { MatchOption result
+        (SpellsChoice bytes.now → ⊥)
+        (λ count. HasItems bytes.now count) }
 {
-    let spaces = bytes.iter().filter(|byte| **byte == b' ').count();
-    let mut items = Vec::with_capacity(alloc, spaces.min(MAX_ITEMS))?;
+    let mut count = 0;
+    let mut rest = bytes;
+    while !rest.is_empty() {
+        let Some((_, behind)) = read_item(rest) else {
+            return None;
+        };
+        if count == MAX_ITEMS {
+            return None;
+        }
+        count += 1;
+        rest = behind;
+    }
+    Some(count)
+}
+
+/// Reads items, each behind one space; `None` where anything else stands there, or more items than a choice holds.
+/// Memory is for the items alone, once it is sure that they are a choice.
+pub(crate) fn read_items(alloc: Global, bytes: &[u8]) -> Result<Option<Choice>, Want>
+    ensures items { IfOk result (Reads IsChoice (spaced item_text) bytes.now) }
+    ensures memory { OnErr result (SpellsChoice bytes.now) }
+{
+    let Some(count) = count_items(bytes) else {
+        return Ok(None);
+    };
+    let mut items = Vec::with_capacity(alloc, count)?;
     let mut rest = bytes;
     while !rest.is_empty() {
         let Some((item, behind)) = read_item(rest) else {

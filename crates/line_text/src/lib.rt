@@ -12,8 +12,8 @@ mod numbers;
 mod replies;
 mod word;
 
-pub use command::{MAX_LINE, read_command, read_target};
+pub use command::{read_command, read_target};
 pub use entry::{put_entry, put_header};
 pub use front::after;
 pub use law::one_reading;
-pub use names::{read_last, read_name, read_word, value_of};
+pub use names::{read_last, value_of};

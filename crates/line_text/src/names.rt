@@ -39,7 +39,7 @@ pub fn value_of(digits: &[u8]) -> u32
 }
 
 /// Reads the name at the front, and gives what follows it; `None` where there is no name, or one with a leading zero.
-pub fn read_name(bytes: &[u8]) -> Option<(Node, &[u8])>
+pub(crate) fn read_name(bytes: &[u8]) -> Option<(Node, &[u8])>
     ensures { MatchOption result
         ((name : ℕ) (rest : List ℕ) → NameThen bytes.now name rest → ⊥)
         (λ found. NameThen bytes.now found.0 found.1.now) }
@@ -69,7 +69,7 @@ pub fn read_last(bytes: &[u8]) -> Option<Node>
 }
 
 /// Reads the name at the front and the space behind it, and gives what follows the space.
-pub fn read_word(bytes: &[u8]) -> Option<(Node, &[u8])>
+pub(crate) fn read_word(bytes: &[u8]) -> Option<(Node, &[u8])>
     ensures { MatchOption result
         ((name : ℕ) (rest : List ℕ) → WordThen bytes.now name rest → ⊥)
         (λ found. WordThen bytes.now found.0 found.1.now) }

@@ -1,7 +1,7 @@
 //! Numbers and names at the end of a text.
 
-ghost use Rattle.std.specs.Prelude.{◌≡◌, ◌++◌, codes, OnOk, OnErr};
-ghost use Rattle.line_text.specs.Words.{number_text, marked_text};
+ghost use Rattle.std.specs.Prelude.{◌≡◌, ◌++◌, IfSome, codes, OnOk, OnErr};
+ghost use Rattle.line_text.specs.Words.{number_text, IsName, marked_text};
 ghost use Rattle.line_text.specs.EventText.{target_text};
 ghost use Rattle.line_text.specs.Growth.{Extends};
 
@@ -9,7 +9,7 @@ use itoa::Buffer;
 use rule_machine::{Node, Want};
 
 /// Writes a number in decimal.
-pub fn put_number(out: &mut Vec<u8>, number: u32) -> Result<(), Want>
+pub(crate) fn put_number(out: &mut Vec<u8>, number: u32) -> Result<(), Want>
     ensures ok { OnOk result (out.new.items ≡ out.old.items ++ number_text number) }
     ensures err { OnErr result (out.new.items ≡ out.old.items) }
 {
@@ -18,17 +18,19 @@ pub fn put_number(out: &mut Vec<u8>, number: u32) -> Result<(), Want>
 }
 
 /// Writes a node's name.
-pub fn put_name(out: &mut Vec<u8>, node: Node) -> Result<(), Want>
+pub(crate) fn put_name(out: &mut Vec<u8>, node: Node) -> Result<(), Want>
     ensures ok { OnOk result (out.new.items ≡ out.old.items ++ number_text node) }
     ensures err { OnErr result (out.new.items ≡ out.old.items) }
+    ensures named { IsName node }
 {
     put_number(out, node.name())
 }
 
 /// Writes a name, or a dash for null.
-pub fn put_target(out: &mut Vec<u8>, target: Option<Node>) -> Result<(), Want>
+pub(crate) fn put_target(out: &mut Vec<u8>, target: Option<Node>) -> Result<(), Want>
     ensures ok { OnOk result (out.new.items ≡ out.old.items ++ target_text target) }
     ensures err { OnErr result (out.new.items ≡ out.old.items) }
+    ensures named { IfSome target IsName }
 {
     match target {
         None => out.extend_from_slice(b"-"),
@@ -37,9 +39,10 @@ pub fn put_target(out: &mut Vec<u8>, target: Option<Node>) -> Result<(), Want>
 }
 
 /// Writes a `>` and a name, where there is one.
-pub fn put_marked(out: &mut Vec<u8>, target: Option<Node>) -> Result<(), Want>
+pub(crate) fn put_marked(out: &mut Vec<u8>, target: Option<Node>) -> Result<(), Want>
     ensures ok { OnOk result (out.new.items ≡ out.old.items ++ marked_text (codes ">") target) }
     ensures err { OnErr result (Extends out.old.items out.new.items) }
+    ensures named { OnOk result (IfSome target IsName) }
 {
     if let Some(node) = target {
         out.push(b'>')?;

@@ -1,7 +1,7 @@
 //! Replies at the end of a text.
 
 ghost use Rattle.std.specs.Prelude.{◌≡◌, ◌++◌, OnOk, OnErr};
-ghost use Rattle.line_text.specs.ReplyText.{act_word, enabled_text, move_text, mutual_text, refusal_words, reply_text};
+ghost use Rattle.line_text.specs.ReplyText.{IsEnabled, IsMoved, IsPair, IsReply, act_word, enabled_text, move_text, mutual_text, refusal_words, reply_text};
 ghost use Rattle.line_text.specs.Growth.{Extends};
 
 use crate::numbers::{put_marked, put_name, put_number, put_target};
@@ -32,6 +32,8 @@ fn put_refusal(out: &mut Vec<u8>, refusal: Refusal) -> Result<(), Want>
 impl Word for Moved {
     ghost text = { move_text };
 
+    ghost fits = { IsMoved };
+
     fn put(&self, out: &mut Vec<u8>) -> Result<(), Want> {
         put_name(out, self.node)?;
         out.push(b':')?;
@@ -43,6 +45,8 @@ impl Word for Moved {
 impl Word for (Node, Act) {
     ghost text = { enabled_text };
 
+    ghost fits = { IsEnabled };
+
     fn put(&self, out: &mut Vec<u8>) -> Result<(), Want> {
         put_name(out, self.0)?;
         out.push(b':')?;
@@ -53,6 +57,8 @@ impl Word for (Node, Act) {
 impl Word for Edge {
     ghost text = { mutual_text };
 
+    ghost fits = { IsPair };
+
     fn put(&self, out: &mut Vec<u8>) -> Result<(), Want> {
         put_name(out, self.low())?;
         out.push(b'-')?;
@@ -61,9 +67,10 @@ impl Word for Edge {
 }
 
 /// Writes a reply as a transcript spells it.
-pub fn put_reply(out: &mut Vec<u8>, reply: &Reply) -> Result<(), Want>
+pub(crate) fn put_reply(out: &mut Vec<u8>, reply: &Reply) -> Result<(), Want>
     ensures ok { OnOk result (out.new.items ≡ out.old.items ++ reply_text reply.now) }
     ensures err { OnErr result (Extends out.old.items out.new.items) }
+    ensures named { OnOk result (IsReply reply.now) }
 {
     match reply {
         Reply::Accepted => out.extend_from_slice(b"ok"),

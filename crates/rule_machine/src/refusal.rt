@@ -30,7 +30,8 @@ pub enum Refusal {
 }
 
 impl Refusal {
-    ghost use Rattle.std.specs.Prelude.{◌≡◌};
+    ghost use Rattle.std.specs.Prelude.{◌≡◌, MatchOption};
+    ghost use Rattle.rule_machine.specs.declared.refusal.Refusal.{Refusal};
     ghost use Rattle.rule_machine.specs.Refuse.{refusal_number, refusal_text};
 
     /// The number by which transcripts name it, 1 to 12.
@@ -51,6 +52,29 @@ impl Refusal {
             Refusal::NotEnabled => 11,
             Refusal::BadTarget => 12,
         }
+    }
+
+    /// The refusal with this number; `None` for 0 and above 12.
+    pub fn from_number(number: u32) -> Option<Refusal>
+        ensures { MatchOption result
+            ((refusal : Refusal) → refusal_number refusal ≡ number → ⊥)
+            (λ refusal. refusal_number refusal ≡ number) }
+    {
+        Some(match number {
+            1 => Refusal::UnknownNode,
+            2 => Refusal::SelfLoop,
+            3 => Refusal::AlreadyLinked,
+            4 => Refusal::NotLinked,
+            5 => Refusal::TooManyEdges,
+            6 => Refusal::NotNeighbour,
+            7 => Refusal::NoFlag,
+            8 => Refusal::EmptyChoice,
+            9 => Refusal::NotCentral,
+            10 => Refusal::ChosenTwice,
+            11 => Refusal::NotEnabled,
+            12 => Refusal::BadTarget,
+            _ => return None,
+        })
     }
 
     /// Its text in transcripts, in lower case with dashes.

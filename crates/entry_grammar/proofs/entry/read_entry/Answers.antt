@@ -2,7 +2,7 @@ use Rattle.std.proofs.Common.{◌≡◌, arith}
 use Rattle.line_text.specs.Words.{number_text}
 use Rattle.line_text.specs.EventText.{event_text}
 use Rattle.line_text.specs.ReplyText.{reply_text}
-use Rattle.entry_grammar.proofs.Entries.{spelled_parts, spelled_same, number_is, no_command, no_reply, no_fit}
+use Rattle.entry_grammar.proofs.Entries.{spelled_parts, spelled_same, number_is, no_command, no_reply, no_fit, step_asks, of_error}
 use Rattle.entry_grammar.proofs.entry.read_entry.Goals as goal
 use Rattle.entry_grammar.proofs.entry.read_entry.Goals.{then-number-eq0-via-then-number-eq0, then-number-eq0-via-else-number-eq0+then-number-gt-MAX_ENTRIES}
 
@@ -34,8 +34,12 @@ returns-in_default-2-clause-not_a_line c is n entry h =
 
 pub returns-in_default-3-clause-not_a_line : goal.returns-in_default-3-clause-not_a_line
 returns-in_default-3-clause-not_a_line c is n entry h =
-    no_reply c.args.line.now c.in-Some.number.now c.in-Some.event.now c.in-Some.reply.now n entry c.in-Some-2.event c.in-Some.ensures (rw c.in-Some-2.is at c.in_ok-event.ensures.command) (rw c.in_default-3.is at c.in_ok-reply.ensures) h
+    no_reply c.args.line.now c.in-Some.number.now c.in-Some.event.now c.in-Some.reply.now n entry c.in-Some-2.event c.in-Some.ensures (rw c.in-Some-2.is at c.in_ok-event.ensures.command) (rw c.in_default-3.is at c.in_ok-reply.ensures.reply) h
 
 pub returns-in_default-new-clause-not_a_line : goal.returns-in_default-new-clause-not_a_line
 returns-in_default-new-clause-not_a_line c is n entry h =
-    no_fit c.args.line.now c.in-Some.number.now c.in-Some.event.now c.in-Some.reply.now n entry c.in-Some-2.event c.in-Some-3.reply c.in-Some.ensures (rw c.in-Some-2.is at c.in_ok-event.ensures.command) (rw c.in-Some-3.is at c.in_ok-reply.ensures) c.in_default-new.ensures h
+    no_fit c.args.line.now c.in-Some.number.now c.in-Some.event.now c.in-Some.reply.now n entry c.in-Some-2.event c.in-Some-3.reply c.in-Some.ensures (rw c.in-Some-2.is at c.in_ok-event.ensures.command) (rw c.in-Some-3.is at c.in_ok-reply.ensures.reply) c.in_default-new.ensures h
+
+pub returns-in_err-event-clause-memory : goal.returns-in_err-event-clause-memory
+returns-in_err-event-clause-memory c =
+    of_error c.from_residual.result _ (λ fault is. step_asks c.args.line.now c.in-Some.number.now c.in-Some.event.now c.in-Some.reply.now c.in-Some.ensures c.in_err-event.ensures.memory)

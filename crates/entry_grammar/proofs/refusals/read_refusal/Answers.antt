@@ -15,24 +15,24 @@ returns-in_default-read_number c r u e =
     let p = cut_once 32 c.args.bytes.now c.in-Some.number.now (number_text (refusal_number r)) c.in-Some.text.now (refusal_text r) c.in-Some.ensures (refusal_cut c.args.bytes.now r e) in
     c.in_default-read_number.ensures (refusal_number r) (refusal_small r) p.0
 
-pub returns-in_default-numbered : goal.returns-in_default-numbered
-returns-in_default-numbered c r u e =
+pub returns-in_default-from_number : goal.returns-in_default-from_number
+returns-in_default-from_number c r u e =
     let p = cut_once 32 c.args.bytes.now c.in-Some.number.now (number_text (refusal_number r)) c.in-Some.text.now (refusal_text r) c.in-Some.ensures (refusal_cut c.args.bytes.now r e) in
     let n = c.in-Some-read_number.ensures in
-    c.in_default-numbered.ensures r (number_same c.in-Some.number.now r c.in-Some-read_number.number n.0 p.0 n.1)
+    c.in_default-from_number.ensures r (number_same c.in-Some.number.now r c.in-Some-read_number.number n.0 p.0 n.1)
 
 pub returns-then-ne : goal.returns-then-ne
 returns-then-ne c r u e =
     let p = cut_once 32 c.args.bytes.now c.in-Some.number.now (number_text (refusal_number r)) c.in-Some.text.now (refusal_text r) c.in-Some.ensures (refusal_cut c.args.bytes.now r e) in
     let n = c.in-Some-read_number.ensures in
-    let same = refusal_once r c.in-Some-numbered.refusal (number_same c.in-Some.number.now r c.in-Some-read_number.number n.0 p.0 n.1 ∙ sym c.in-Some-numbered.ensures) in
-    let text : c.in-Some.text.now ≡ refusal_text c.in-Some-numbered.refusal = p.1 ∙ ap refusal_text same in
+    let same = refusal_once r c.in-Some-from_number.refusal (number_same c.in-Some.number.now r c.in-Some-read_number.number n.0 p.0 n.1 ∙ sym c.in-Some-from_number.ensures) in
+    let text : c.in-Some.text.now ≡ refusal_text c.in-Some-from_number.refusal = p.1 ∙ ap refusal_text same in
     let is : c.in-Some.text.now ≡ c.as_bytes.result.now = text ∙ sym c.text.ensures ∙ sym c.as_bytes.ensures.value in
     grind (arith, common_steps)
 
 pub returns : goal.returns
 returns c =
     let n = c.in-Some-read_number.ensures in
-    let r = c.in-Some-numbered.refusal in
+    let r = c.in-Some-from_number.refusal in
     let text : c.in-Some.text.now ≡ c.as_bytes.result.now = search rules in
-    (tt, refusal_read c.args.bytes.now c.in-Some.number.now c.in-Some.text.now c.in-Some-read_number.number r c.in-Some.ensures n.1 c.in-Some-numbered.ensures (text ∙ c.as_bytes.ensures.value ∙ c.text.ensures))
+    (tt, refusal_read c.args.bytes.now c.in-Some.number.now c.in-Some.text.now c.in-Some-read_number.number r c.in-Some.ensures n.1 c.in-Some-from_number.ensures (text ∙ c.as_bytes.ensures.value ∙ c.text.ensures))

@@ -1,0 +1,65 @@
+-- What the getters of matches read, by the rows that were found.
+use Rattle.std.proofs.Common.{◌≡◌, ℕ, List, Option, None, Some, get_or, refl, sym, ap, subst, ◌∙◌, option_map, arith}
+use Rattle.std.specs.Prelude.{MatchOption, codes}
+use Rattle.clap.specs.Words.{Row, Text, first_value, one_text, rows_of}
+use Rattle.clap.specs.declared.parser.matches.Found.{Found}
+use Rattle.clap.proofs.WalkLemmas.{first_value-rows, one_text-rows}
+use Rattle.rule_machine.specs.declared.rules.RuleSet.{RuleSet}
+use Rattle.rule_machine.specs.Tables.{rules_word}
+use Rattle.command_words.specs.declared.task.Task.{Task}
+use Rattle.command_words.specs.declared.task.Task.TheVariants.{Run, Audit, Show}
+use Rattle.command_words.specs.Wanted.{Holds, HoldsRun, IsCount}
+
+-- no run is held where no rule set was given
+pub no_rules : (f : Found) (r : RuleSet) (n : ℕ) → None ≡ first_value f (codes "rules") → HoldsRun (rows_of f) r n → ⊥
+no_rules f r n e h =
+    let a = first_value-rows f (codes "rules") in
+    let b = h.rules_is in
+    cc
+
+-- the word that was given is that of the rule set
+pub rules_are : (f : Found) (word : Text) (r : RuleSet) (n : ℕ) → Some word ≡ first_value f (codes "rules") → HoldsRun (rows_of f) r n → word ≡ rules_word r
+rules_are f word r n e h =
+    let a = first_value-rows f (codes "rules") in
+    let b = h.rules_is in
+    cc
+
+-- the text of the number of nodes that was given
+pub nodes_are : (f : Found) (r : RuleSet) (n : ℕ) (h : HoldsRun (rows_of f) r n) → one_text f (codes "nodes") ≡ Some h.nodes_text
+nodes_are f r n h = one_text-rows f (codes "nodes") ∙ h.nodes_given
+
+-- a text was given where a number was read
+pub text_given : (o : Option Text) (n : ℕ) (P : Text → Type 0) → (o ≡ None → Some n ≡ None) → ((t : Text) → o ≡ Some t → P t) → (t : Text) × (o ≡ Some t) × P t
+text_given None n P none value =
+    let e = none refl in
+    cc
+text_given (Some t) n P none value = (t, refl, value t refl)
+
+-- what was read makes a run
+pub run_held : (f : Found) (word : Text) (r : RuleSet) (text : Text) (n : ℕ) → Some word ≡ first_value f (codes "rules") → word ≡ rules_word r → one_text f (codes "nodes") ≡ Some text → IsCount text n → HoldsRun (rows_of f) r n
+run_held f word r text n e w t count = record {
+  rules_is = sym (first_value-rows f (codes "rules")) ∙ sym e ∙ ap (λ (z : Text). Some z) w;
+  nodes_text = text;
+  nodes_given = sym (one_text-rows f (codes "nodes")) ∙ t;
+  nodes_is = count;
+}
+
+-- what was found for two parts of one thing, put together
+pub parts_are : {X A B : Type 0} (f : X → A) (g : X → B) (o : Option X) (a : A) (b : B) → Some a ≡ option_map f o → Some b ≡ option_map (λ (p : A × B). p.1) (option_map {U = A × B} (λ x. (f x, g x)) o) → option_map {U = A × B} (λ x. (f x, g x)) o ≡ Some (a, b)
+parts_are f g None a b d e = cc
+parts_are f g (Some x) a b d e = cc
+
+-- `run` is not `audit`
+run_audit : codes "run" ≡ codes "audit" → ⊥
+run_audit e = omega (arith, ap (λ (z : Text). get_or z 0 0) e)
+
+-- no task is held where no run is
+no_task : (rows : List Row) → ((r : RuleSet) (n : ℕ) → HoldsRun rows r n → ⊥) → (task : Task) → Holds (Some (codes "run", rows)) task → ⊥
+no_task rows none (Run r n) h = none r n h.1
+no_task rows none Audit h = run_audit h
+no_task rows none (Show text) h = h
+
+-- what was found for `run` is what was asked
+pub run_asked : (o : Option (Text × List Row)) (rows : List Row) (found : Option Task) → o ≡ Some (codes "run", rows) → MatchOption found ((r : RuleSet) (n : ℕ) → HoldsRun rows r n → ⊥) (λ task. Holds (Some (codes "run", rows)) task) → MatchOption found ((task : Task) → Holds o task → ⊥) (λ task. Holds o task)
+run_asked o rows None e none = λ task h. no_task rows none task (subst (λ (z : Option (Text × List Row)). Holds z task) e h)
+run_asked o rows (Some task) e held = subst (λ (z : Option (Text × List Row)). Holds z task) (sym e) held

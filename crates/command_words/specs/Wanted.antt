@@ -1,0 +1,82 @@
+-- What the words of the command line ask for, by clap's account of what a command makes of words.
+use Rattle.std.specs.Prelude.{◌≡◌, ◌⊎◌, ℕ, ◌<◌, ◌^◌, List, [], ◌∷◌, ◌++◌, map, Option, Some, pos, true, codes}
+use Rattle.std.specs.Borrow.{Bor}
+use Rattle.std.specs.Fmt.{decimal}
+use Rattle.std.specs.Str.Parse.{IsNumeral, digits_value, without_leading_plus}
+use Rattle.clap.specs.Words.{App, Row, Rule, Text, first_of, kind_of, new_app, new_rule, one_of, subcommand_of, takes, with_rule, with_subcommand}
+use Rattle.clap.specs.declared.builder.value_parser.ValueParser.TheVariants as vp
+use Rattle.clap.specs.declared.error.kind.ErrorKind.TheVariants.{DisplayHelp, DisplayVersion}
+use Rattle.rule_machine.specs.declared.rules.RuleSet.{RuleSet}
+use Rattle.rule_machine.specs.Tables.{rules_word}
+use Rattle.command_words.specs.declared.task.Task.{Task}
+use Rattle.command_words.specs.declared.task.Task.TheVariants.{Run, Audit, Show}
+
+-- texts, as a parser of values refers to them
+abbrev pub Names : Type 0
+Names = Bor (List (Bor Text))
+
+-- the texts are the words for the rule sets
+abbrev pub AreRules : Names → Type 0
+AreRules names = map (λ s. s.now) names.now ≡ codes "hh" ∷ codes "manne" ∷ []
+
+-- `--rules` and one of the names, which is required
+abbrev pub rules_rule : Names → Rule
+rules_rule names = record (new_rule (codes "rules")) { long = Some (codes "rules"); value_names = 1; parser = Some (vp.Names names); required = true }
+
+-- `--nodes` and a number from 0 to 65,535, which is required
+abbrev pub nodes_rule : Rule
+nodes_rule = record (new_rule (codes "nodes")) { long = Some (codes "nodes"); value_names = 1; parser = Some (vp.Signed (pos 0) (pos 65535)); required = true }
+
+-- the subcommand `run`
+abbrev pub run_app : Names → App
+run_app names = with_rule (with_rule (new_app (codes "run")) (rules_rule names)) nodes_rule
+
+-- a command with a version, which needs a subcommand, and shows its help where there is none
+abbrev pub top_app : App
+top_app = record (new_app (codes "console")) {
+  top = record (new_app (codes "console")).top { has_version = true; subcommand_required = true; arg_required_else_help = true };
+}
+
+-- the command with both subcommands
+abbrev pub console_app : Names → App
+console_app names = with_subcommand (with_subcommand top_app (run_app names).top) (new_app (codes "audit")).top
+
+-- the text is a number below 65,536 in decimal; a plus and zeros may stand in front
+abbrev pub IsCount : Text → ℕ → Type 0
+IsCount text n = (IsNumeral 10 (without_leading_plus text) × (digits_value 10 (without_leading_plus text) < 2 ^ 16)) × (n ≡ digits_value 10 (without_leading_plus text))
+
+-- what was found for `run` are this rule set and this number of nodes
+pub record HoldsRun (found : List Row) (rules : RuleSet) (nodes : ℕ) : Type 0 where
+  pub rules_is : first_of (codes "rules") found ≡ Some (rules_word rules)
+  pub nodes_text : Text
+  pub nodes_given : one_of (codes "nodes") found ≡ Some nodes_text
+  pub nodes_is : IsCount nodes_text nodes
+
+-- the subcommand, and what was found for it, are the task's
+abbrev pub Holds : Option (Text × List Row) → Task → Type 0
+Holds (Some p) (Run rules nodes) = (p.0 ≡ codes "run") × HoldsRun p.1 rules nodes
+Holds (Some p) Audit = p.0 ≡ codes "audit"
+Holds found task = ⊥
+
+-- the words are read as the task
+abbrev pub Asks : List Text → Task → Type 0
+Asks words task = (names : Names) × AreRules names × Holds (subcommand_of (console_app names) words) task
+
+-- what is answered for the words: the help or the version where that is asked for, or what they are read as
+abbrev pub Answers : List Text → Task → Type 0
+Answers words (Show text) = (kind_of text ≡ DisplayHelp) ⊎ (kind_of text ≡ DisplayVersion)
+Answers words task = Asks words task
+
+-- the words are good, and are read as the task
+abbrev pub Wants : List Text → Task → Type 0
+Wants words task =
+    (names : Names) → AreRules names → (takes (console_app names) words ≡ true) × Holds (subcommand_of (console_app names) words) task
+
+-- the usual words for a run
+abbrev pub run_words : Text → RuleSet → ℕ → List Text
+run_words program rules nodes =
+    program ∷ codes "run" ∷ (codes "--rules=" ++ rules_word rules) ∷ (codes "--nodes=" ++ decimal nodes) ∷ []
+
+-- the words for an audit
+abbrev pub audit_words : Text → List Text
+audit_words program = program ∷ codes "audit" ∷ []

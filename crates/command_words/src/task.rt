@@ -1,0 +1,73 @@
+//! What words ask for.
+
+ghost use Rattle.std.specs.Prelude.{◌≡◌, ℕ, Some, MatchOption, codes};
+ghost use Rattle.clap.specs.Words.{found_of, rows_of, subcommand_rows_of};
+ghost use Rattle.rule_machine.specs.declared.rules.RuleSet.{RuleSet};
+ghost use Rattle.rule_machine.specs.Tables.{rules_word};
+ghost use Rattle.command_words.specs.declared.task.Task.{Task};
+ghost use Rattle.command_words.specs.Wanted.{HoldsRun, Holds};
+
+use clap::{ArgMatches, Error};
+use rule_machine::RuleSet;
+
+/// What good words ask for.
+#[derive(Debug, Drop)]
+pub enum Task {
+    /// To run a script under a rule set, on the nodes 1 to `nodes`.
+    Run { rules: RuleSet, nodes: u16 },
+    /// To judge a transcript.
+    Audit,
+    /// To show the help or the version, of which this is the text.
+    Show(Error),
+}
+
+// The rule set with this word.
+fn rules_named(word: &str) -> Option<RuleSet>
+    ensures { MatchOption result
+        ((rules : RuleSet) → word.now ≡ rules_word rules → ⊥)
+        (λ rules. word.now ≡ rules_word rules) }
+{
+    if word == RuleSet::Hh.word() {
+        return Some(RuleSet::Hh);
+    }
+    if word == RuleSet::Manne.word() {
+        return Some(RuleSet::Manne);
+    }
+    None
+}
+
+// What was found for `run`; `None` where a value is missing, or is none of its argument's.
+fn run_task(run: &ArgMatches<'_>) -> Option<Task>
+    ensures { MatchOption result
+        ((rules : RuleSet) (nodes : ℕ) → HoldsRun (rows_of (found_of run.now)) rules nodes → ⊥)
+        (λ task. Holds (Some (codes "run", rows_of (found_of run.now))) task) }
+{
+    let Some(word) = run.get_str("rules") else {
+        return None;
+    };
+    let Some(rules) = rules_named(word) else {
+        return None;
+    };
+    let Some(nodes) = run.get_one::<u16>("nodes") else {
+        return None;
+    };
+    Some(Task::Run { rules, nodes })
+}
+
+/// What was found in the words; `None` where it is no task.
+pub(crate) fn asked(found: &ArgMatches<'_>) -> Option<Task>
+    ensures { MatchOption result
+        ((task : Task) → Holds (subcommand_rows_of found.now) task → ⊥)
+        (λ task. Holds (subcommand_rows_of found.now) task) }
+{
+    let Some((name, inner)) = found.subcommand() else {
+        return None;
+    };
+    if name == "run" {
+        return run_task(inner);
+    }
+    if name == "audit" {
+        return Some(Task::Audit);
+    }
+    None
+}
