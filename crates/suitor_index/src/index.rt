@@ -21,7 +21,7 @@ use std::marker::{Model, PhantomData};
 #[derive(Drop)]
 pub struct SuitorIndex<R: Rules> {
     pub(crate) tallies: Vec<Tally>,
-    pub(crate) rules: PhantomData<R>,
+    rules: PhantomData<R>,
 }
 
 impl<R: Rules> Model for SuitorIndex<R> {
