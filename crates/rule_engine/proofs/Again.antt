@@ -1,8 +1,8 @@
 -- The set of the enabled nodes, and that a look again near a change keeps it.
 use Rattle.std.proofs.Common.{◌≡◌, ℕ, zero, suc, ◌+◌, ◌<◌, ◌≤◌, Bool, true, false, cond, ◌||◌, List, [], ◌∷◌, length, filter, find, replicate, Option, None, is_some, nat_eq, refl, sym, ap, ◌∙◌, subst, ⊎_elim, arith}
 use Rattle.std.specs.List.{range_with_len}
-use Rattle.std.proofs.lemmas.Bool.{cases_Bool, cases_lt, cond-true, cond-false, eqb-true, eq-eqb}
-use Rattle.std.proofs.lemmas.List.{length-replicate, get_or-replicate, get_or_past, nil_from_length}
+use Rattle.std.proofs.lemmas.Bool.{cases_Bool, cond-true, cond-false, eqb-true, eq-eqb}
+use Rattle.std.proofs.lemmas.List.{length-replicate, nil_from_length}
 use Rattle.rule_machine.specs.declared.act.Act.{Act}
 use Rattle.rule_machine.specs.declared.moved.Moved.{Moved}
 use Rattle.rule_machine.specs.Network.{Network, present, with_edge, without_edge}
@@ -17,6 +17,7 @@ use Rattle.enabled_set.specs.Members.{is_in, members}
 use Rattle.rule_engine.specs.Kept.{state_of, is_on, AreOn, IsKept}
 use Rattle.rule_engine.specs.Looked.{is_near, is_near_mover, IsLookedAt}
 use Rattle.rule_engine.proofs.Looked.{looked_both}
+use Rattle.rule_engine.proofs.Opening.{blank_at}
 use Rattle.rule_engine.proofs.Far.{link_far, unlink_far, point_far, flag_far, moves_far}
 
 -- a guard depends on nothing but what is shown at its node
@@ -90,14 +91,6 @@ members_on t s bits on =
     ∙ ap (λ a. filter (is_in bits) (range_with_len a s.network.size)) (let one : 0 + 1 ≡ 1 = omega arith in one)
     ∙ range_agree (is_in bits) (λ v. is_some (rule_at t s v)) 1 s.network.size (λ v low high. on.each v ∙ ap (λ b. is_some (cond b (rule_at t s v) None)) (present_from s.network v low (omega arith)))
 
--- the empty set has no member
-pub none_in : (n v : ℕ) → is_in (replicate n false) v ≡ false
-none_in n v =
-    ⊎_elim
-    (λ (below : v < n). get_or-replicate n v false false below)
-    (λ (past : n ≤ v). get_or_past (replicate n false) v false (let k = length-replicate n false in omega (arith, k)))
-    (cases_lt v n)
-
 none_on : (t : RuleTable) (s : State) (v : ℕ) (b : Bool) → present s.network v ≡ b → enabled_names t s ≡ [] → is_some (cond b (rule_at t s v) None) ≡ false
 none_on t s v true has quiet = ap is_some (act_none (t.guard s v) (quiet_at t s quiet v has))
 none_on t s v false has quiet = refl
@@ -108,7 +101,7 @@ kept_quiet t s bits marks good quiet empty unmarked few = record {
   is_state = good;
   enabled = record {
     places = ap length empty ∙ length-replicate (s.network.size + 1) false;
-    each = λ v. ap (λ l. is_in l v) empty ∙ none_in (s.network.size + 1) v ∙ sym (none_on t s v (present s.network v) refl quiet);
+    each = λ v. ap (λ l. is_in l v) empty ∙ blank_at (s.network.size + 1) v false ∙ sym (none_on t s v (present s.network v) refl quiet);
   };
   unmarked = unmarked;
   few = few;

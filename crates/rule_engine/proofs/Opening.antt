@@ -8,7 +8,8 @@ use Rattle.rule_machine.specs.Stable.{IsStable}
 use Rattle.state_lemmas.specs.Pointers.{null_unmarried}
 use Rattle.machine_laws.specs.Edges.{contains-empty}
 
-blank_at : {X : Type 0} (n v : ℕ) (x : X) → get_or (replicate n x) v x ≡ x
+-- a table of one value
+pub blank_at : {X : Type 0} (n v : ℕ) (x : X) → get_or (replicate n x) v x ≡ x
 blank_at n v x =
     ⊎_elim
     (λ (below : v < n). get_or-replicate n v x x below)
