@@ -6,7 +6,7 @@ pub mod Keeping
 pub mod Carried
 pub mod Looked
 pub mod Far
+pub mod Again
 pub mod Opening
 pub mod Marked
 pub mod Ascending
-pub mod Again
