@@ -53,11 +53,11 @@ pub fn audit_bytes(alloc: Global, bytes: &[u8]) -> Result<Summary, JudgeFault>
     ensures accepts_runs { (counted : Summary) → IsAccepted bytes.now counted → (result ≡ Ok counted) ⊎ (result ≡ Err Memory) }
     ensures names_damage { (damage : Damage) → IsDamage bytes.now damage → (result ≡ Err (Damaged damage)) ⊎ (result ≡ Err Memory) }
 {
-    judge(alloc, bytes)
+    judge_lines(alloc, bytes)
 }
 
 // Judges the lines in turn.
-fn judge(alloc: Global, bytes: &[u8]) -> Result<Summary, JudgeFault>
+fn judge_lines(alloc: Global, bytes: &[u8]) -> Result<Summary, JudgeFault>
     ensures { IsJudged bytes.now result }
 {
     let Some((line, behind)) = split_line(bytes) else {

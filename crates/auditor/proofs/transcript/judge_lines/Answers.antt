@@ -5,7 +5,7 @@ use Rattle.auditor.specs.Damage.{HasNoEntry}
 use Rattle.auditor.specs.Position.{Position}
 use Rattle.auditor.specs.Accepted.{IsReached, IsAccepted}
 use Rattle.auditor.proofs.Reaching.{reached_start, reached_more, reached_end, damaged_line, damaged}
-use Rattle.auditor.proofs.transcript.judge.Goals as goal
+use Rattle.auditor.proofs.transcript.judge_lines.Goals as goal
 
 pub loop-rest-init : goal.loop-rest-init
 loop-rest-init c =
