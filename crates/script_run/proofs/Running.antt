@@ -6,7 +6,6 @@ use Rattle.std.specs.Io.KnownBytes.{Appends}
 use Rattle.std.proofs.KnownBytes.{Appends-nil, Appends-trans}
 use Rattle.rule_machine.specs.State.{State}
 use Rattle.rule_machine.specs.RuleTable.{RuleTable}
-use Rattle.rule_machine.specs.Least.{reply_of}
 use Rattle.rule_machine.specs.Run.{Entry}
 use Rattle.std.specs.Prelude.{slice_get, ◌-◌, OnErr, IsErr, IsErrAnd, IfSome}
 use Rattle.line_text.specs.EntryText.{entry_line}

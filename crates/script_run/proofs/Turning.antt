@@ -1,5 +1,5 @@
 -- How far the turns of a line have come.
-use Rattle.std.proofs.Common.{◌≡◌, ◌∙◌, ℕ, zero, suc, ◌+◌, ◌-◌, ◌<◌, ◌≤◌, List, [], ◌++◌, Option, None, Some, inl, inr, refl, sym, ap, subst, append_assoc, append-nil, true, false, ⊎_elim, Bool, Result, Ok, arith}
+use Rattle.std.proofs.Common.{◌≡◌, ◌∙◌, ℕ, suc, ◌+◌, ◌-◌, ◌<◌, ◌≤◌, List, [], ◌++◌, Option, None, Some, inl, inr, refl, sym, ap, subst, append_assoc, append-nil, true, false, ⊎_elim, Bool, Result, Ok, arith}
 use Rattle.std.proofs.lemmas.Bool.{true≢false, cases_lt}
 use Rattle.rand_core.specs.Stream.{Stream}
 use Rattle.rule_machine.specs.declared.event.Event.{Event}
@@ -33,12 +33,12 @@ module _ (draws : Draws) (t : RuleTable) (limit count taken : ℕ) (first stream
       → Turned draws t limit count (taken + 1) first rest begun next
   turned_more event rest next below drawn entry = record {
     does = λ after d. so_far.does after (subst (λ n. TurnsDo draws t limit n stream now after) (sym one_more)
-      (below, subst (λ (p : Option Event × Stream). TurnDoes t p.0 (λ mid. TurnsDo draws t limit (count - (taken + 1)) p.1 mid after) now after) (sym drawn) (next, entry, d)));
+        (below, subst (λ (p : Option Event × Stream). TurnDoes t p.0 (λ mid. TurnsDo draws t limit (count - (taken + 1)) p.1 mid after) now after) (sym drawn) (next, entry, d)));
     fills = λ after f. so_far.fills after (subst (λ n. TurnsFill draws t limit n stream now after) (sym one_more)
-      (inr (below, subst (λ (p : Option Event × Stream). TurnFills t p.0 (λ mid. TurnsFill draws t limit (count - (taken + 1)) p.1 mid after) now) (sym drawn) (next, entry, f))));
+        (inr (below, subst (λ (p : Option Event × Stream). TurnFills t p.0 (λ mid. TurnsFill draws t limit (count - (taken + 1)) p.1 mid after) now) (sym drawn) (next, entry, f))));
     grown =
-      let line : List ℕ = entry_line (now.count + 1) event (reply_of t now.state event) in
-      (so_far.grown.0 ++ line, entry.text ∙ ap (λ l. l ++ line) so_far.grown.1 ∙ append_assoc begun.text so_far.grown.0 line);
+        let line : List ℕ = entry_line (now.count + 1) event (reply_of t now.state event) in
+        (so_far.grown.0 ++ line, entry.text ∙ ap (λ l. l ++ line) so_far.grown.1 ∙ append_assoc begun.text so_far.grown.0 line);
   }
 
   -- a turn that draws nothing is the last

@@ -1,5 +1,4 @@
-use Rattle.std.proofs.Common.{◌≡◌, ◌∙◌, ◌<◌, ◌≤◌, ℕ, Bool, true, false, Option, None, Some, Ok, length, refl, sym, ap, subst, arith}
-use Rattle.rand_core.specs.Stream.{Stream}
+use Rattle.std.proofs.Common.{◌≡◌, ◌∙◌, ◌<◌, ◌≤◌, Option, None, Some, length, refl, sym, ap, arith}
 use Rattle.rule_machine.specs.declared.event.Event.{Event}
 use Rattle.rule_machine.specs.State.{State}
 use Rattle.script_run.specs.Line.{progress}
@@ -16,10 +15,10 @@ pub returns-in_default-clause-ends : goal.returns-in_default-clause-ends
 returns-in_default-clause-ends g c =
     let run = c.loop.self in
     let below : length run.journal.entries < c.args.self.now.journal.limit =
-      omega (arith, below_limit (length run.journal.entries) run.journal.limit c.net.ensures.run.room c.if-is_full.ensures.1, c.loop.invariant.limit) in
+    omega (arith, below_limit (length run.journal.entries) run.journal.limit c.net.ensures.run.room c.if-is_full.ensures.1, c.loop.invariant.limit) in
     let drawn : g.S.EventSource.draws g.R.Rules.table run.journal.state (g.S.EventSource.stream c.loop.source) ≡ (None, g.S.EventSource.stream c.next_event.new.self) =
-      ap (λ (s : State). g.S.EventSource.draws g.R.Rules.table s (g.S.EventSource.stream c.loop.source)) (sym c.net.ensures.state) ∙ sym c.in_ok-event.ensures.event
-      ∙ ap (λ (o : Option Event). (o, g.S.EventSource.stream c.next_event.new.self)) c.in_default.is in
+    ap (λ (s : State). g.S.EventSource.draws g.R.Rules.table s (g.S.EventSource.stream c.loop.source)) (sym c.net.ensures.state) ∙ sym c.in_ok-event.ensures.event
+    ∙ ap (λ (o : Option Event). (o, g.S.EventSource.stream c.next_event.new.self)) c.in_default.is in
     turned_last _ _ _ _ _ _ _ _ _ c.loop.invariant.turned c.loop-test.true (g.S.EventSource.stream c.next_event.new.self) below drawn
 
 pub loop-preserved : goal.loop-preserved
@@ -28,8 +27,8 @@ loop-preserved g c =
     let done = logged g.R.Rules.table run.journal.limit c.in-Some.event (progress run.journal run.text.items) (progress c.log.new.self.journal c.log.new.self.text.items) c.log.result c.in_ok-log.field-0 c.log.ensures.ends c.in_ok-log.was c.if-not-branch.false in
     let below : length run.journal.entries < c.args.self.now.journal.limit = omega (arith, done.0, c.loop.invariant.limit) in
     let drawn : g.S.EventSource.draws g.R.Rules.table run.journal.state (g.S.EventSource.stream c.loop.source) ≡ (Some c.in-Some.event, g.S.EventSource.stream c.next_event.new.self) =
-      ap (λ (s : State). g.S.EventSource.draws g.R.Rules.table s (g.S.EventSource.stream c.loop.source)) (sym c.net.ensures.state) ∙ sym c.in_ok-event.ensures.event
-      ∙ ap (λ (o : Option Event). (o, g.S.EventSource.stream c.next_event.new.self)) c.in-Some.is in
+    ap (λ (s : State). g.S.EventSource.draws g.R.Rules.table s (g.S.EventSource.stream c.loop.source)) (sym c.net.ensures.state) ∙ sym c.in_ok-event.ensures.event
+    ∙ ap (λ (o : Option Event). (o, g.S.EventSource.stream c.next_event.new.self)) c.in-Some.is in
     record {
       limit = c.log.ensures.limit ∙ c.loop.invariant.limit;
       turned = turned_more _ _ _ _ _ _ _ _ _ c.loop.invariant.turned c.loop-test.true c.in-Some.event (g.S.EventSource.stream c.next_event.new.self) _ below drawn done.1;
