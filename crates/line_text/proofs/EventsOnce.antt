@@ -7,11 +7,8 @@ use Rattle.std.proofs.lemmas.Fmt.{decimal_injective, first_decimal}
 use Rattle.rule_machine.specs.declared.choice.Item.{Item}
 use Rattle.rule_machine.specs.declared.event.Event.{Event}
 use Rattle.rule_machine.specs.declared.event.Event.TheVariants.{Link, Unlink, Point, Flag, Step, Show, Enabled, Matching}
-use Rattle.rule_machine.specs.State.{State}
-use Rattle.rule_machine.specs.RuleTable.{RuleTable}
 use Rattle.line_text.specs.Words.{number_text, IsName, spaced}
 use Rattle.line_text.specs.EventText.{IsItem, IsEvent, Spells, event_text, pair_text, point_text, flag_text, bool_text, target_text, item_text}
-use Rattle.line_text.specs.Script.{Progress, IsEntry, LineDoes, LinesDo}
 use Rattle.line_text.proofs.Digits.{word_once, WordThen-from}
 use Rattle.line_text.proofs.ItemsOnce.{item_once, first_item, nil_cons}
 
@@ -80,30 +77,3 @@ event_once d c f g e = absurd (omega (arith, ap head_of e))
 -- a line spells one event
 pub spells_once : (line : List ℕ) (e f : Event) → Spells line e → Spells line f → e ≡ f
 spells_once line e f p q = event_once e f p.0 q.0 (sym p.1 ∙ q.1)
-
--- the parts of a progress
-progress_of : State → ℕ → List ℕ → Progress
-progress_of s n x = record { state = s; count = n; text = x }
-
-same_progress : (p q : Progress) → p.state ≡ q.state → p.count ≡ q.count → p.text ≡ q.text → p ≡ q
-unfolding progress_of
-same_progress p q s n x =
-    ap (λ (z : State). progress_of z p.count p.text) s ∙ ap (λ (z : ℕ). progress_of q.state z p.text) n ∙ ap (λ (z : List ℕ). progress_of q.state q.count z) x
-
--- an event leads to one progress
-entry_once : (t : RuleTable) (e f : Event) (before after other : Progress) → e ≡ f → IsEntry t e before after → IsEntry t f before other → after ≡ other
-entry_once t e f before after other same p q =
-    let r = subst (λ (x : Event). IsEntry t x before after) same p in
-    same_progress after other (r.state ∙ sym q.state) (r.count ∙ sym q.count) (r.text ∙ sym q.text)
-
--- a line leads to one progress
-line_once : (t : RuleTable) (limit : ℕ) (line : List ℕ) (before after other : Progress) → LineDoes t limit line before after → LineDoes t limit line before other → after ≡ other
-line_once t limit [] before after other p q = p ∙ sym q
-line_once t limit (b ∷ line) before after other p q = entry_once t p.0 q.0 before after other (spells_once (b ∷ line) p.0 q.0 p.1 q.1) p.3 q.3
-
--- lines lead to one progress
-pub lines_once : (t : RuleTable) (limit : ℕ) (lines : List (List ℕ)) (before after other : Progress) → LinesDo t limit lines before after → LinesDo t limit lines before other → after ≡ other
-lines_once t limit [] before after other p q = p ∙ sym q
-lines_once t limit (line ∷ lines) before after other p q =
-    let same = line_once t limit line before p.0 q.0 p.1 q.1 in
-    lines_once t limit lines q.0 after other (subst (λ (x : Progress). LinesDo t limit lines x after) same p.2) q.2

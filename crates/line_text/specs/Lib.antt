@@ -4,4 +4,3 @@ pub mod ReplyText
 pub mod EntryText
 pub mod Growth
 pub mod Reading
-pub mod Script

@@ -1,6 +1,6 @@
 -- The first line of a script.
 use Rattle.std.proofs.Common.{◌≡◌, ℕ, zero, suc, ◌+◌, ◌<◌, ◌==◌, Bool, true, false, if◌then◌else◌, List, [], ◌∷◌, length, take, drop, slice_index, refl, sym, ap, subst, add-one, arith}
-use Rattle.line_text.specs.Script.{lines_of, onto_first}
+use Rattle.script_machine.specs.Script.{lines_of, onto_first}
 
 -- a byte that is no LF goes onto the first line
 onto_first-front : (b : ℕ) (bs line : List ℕ) (lines : List (List ℕ)) → ((b == 10) ≡ true → ⊥) → lines_of bs ≡ line ∷ lines → lines_of (b ∷ bs) ≡ (b ∷ line) ∷ lines

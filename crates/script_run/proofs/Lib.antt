@@ -1,2 +1,4 @@
+pub mod Turning
+pub mod Shifting
 pub mod Cutting
 pub mod Running

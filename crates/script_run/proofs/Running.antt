@@ -1,19 +1,19 @@
 -- How far the run of a script has come.
-use Rattle.std.proofs.Common.{◌≡◌, ◌∙◌, ℕ, ◌+◌, ◌<◌, ◌≤◌, List, [], ◌∷◌, ◌++◌, length, take, Option, None, Some, Result, Ok, Err, refl, sym, ap, subst, append_assoc, append-nil, length-append, arith}
+use Rattle.std.proofs.Common.{◌≡◌, ◌∙◌, ℕ, ◌+◌, ◌<◌, ◌≤◌, List, [], ◌∷◌, ◌++◌, length, take, Option, None, Some, Result, Ok, Err, inl, inr, refl, sym, ap, subst, append_assoc, append-nil, length-append, arith}
 use Rattle.std.proofs.lemmas.Bool.{true≢false}
 use Rattle.std.proofs.Math.Seq.{take-append_seam, take-append-add, take-length}
 use Rattle.std.specs.Io.KnownBytes.{Appends}
 use Rattle.std.proofs.KnownBytes.{Appends-nil, Appends-trans}
 use Rattle.rule_machine.specs.State.{State}
 use Rattle.rule_machine.specs.RuleTable.{RuleTable}
-use Rattle.rule_machine.specs.Least.{reply_of}
 use Rattle.rule_machine.specs.Run.{Entry}
 use Rattle.std.specs.Prelude.{slice_get, ◌-◌, OnErr, IsErr, IsErrAnd, IfSome}
 use Rattle.line_text.specs.EntryText.{entry_line}
-use Rattle.line_text.specs.EventText.{Spells}
+use Rattle.script_line.specs.declared.command.Command.{Command}
+use Rattle.script_line.specs.Command.{Says}
 use Rattle.rule_machine.specs.declared.event.Event.{Event}
 use Rattle.rule_machine.specs.declared.reply.Reply.{Reply}
-use Rattle.line_text.specs.Script.{Progress, LineDoes, LinesDo, IsEntry, lines_of}
+use Rattle.script_machine.specs.Script.{Progress, CommandDoes, LineDoes, LinesDo, lines_of}
 use Rattle.byte_output.specs.Beginning.{AppendsBeginning, AppendsLess}
 use Rattle.byte_input.specs.declared.fault.InputFault.{InputFault}
 use Rattle.byte_input.specs.declared.fault.InputFault.TheVariants as input
@@ -25,13 +25,10 @@ use Rattle.script_run.specs.declared.stop.End.TheVariants.{Whole, Stopped, Memor
 use Rattle.rule_machine.specs.declared.rules.RuleSet.{RuleSet}
 use Rattle.rule_machine.specs.Tables.{table_of}
 use Rattle.script_run.specs.declared.fault.RunFault.{RunFault}
-use Rattle.script_run.specs.Outcome.{Ends, IsOutcome, StopsAt, LeadsTo, beginning}
+use Rattle.script_run.specs.Outcome.{Ends, IsOutcome, StopsAt, LeadsTo, Reaches, beginning}
 use Rattle.script_run.specs.Halted.{Hands, Halts, ended, answered}
 use Rattle.script_run.specs.Line.{LineEnds}
-
--- where a run stands
-abbrev pub at_line : State → ℕ → List ℕ → Progress
-at_line s count text = record { state = s; count = count; text = text }
+use Rattle.script_run.proofs.Shifting.{at_line, line_adds, meeting_adds}
 
 -- the lines before the rest are done, and of the text that they make the writer has what stands before the held one
 pub record SoFar (t : RuleTable) (limit : ℕ) (script : List ℕ) (start : Progress) (old : Option (List ℕ)) (rest : List ℕ) (n : ℕ) (state : State) (count : ℕ) (known : Option (List ℕ)) (held : List ℕ) : Type 0 where
@@ -47,24 +44,6 @@ pub record SoFar (t : RuleTable) (limit : ℕ) (script : List ℕ) (start : Prog
 LinesDo-more : (t : RuleTable) (limit : ℕ) (lines : List (List ℕ)) (line : List ℕ) (start mid after : Progress) → LinesDo t limit lines start mid → LineDoes t limit line mid after → LinesDo t limit (lines ++ line ∷ []) start after
 LinesDo-more t limit [] line start mid after p q = (after, subst (λ x. LineDoes t limit line x after) p q, refl)
 LinesDo-more t limit (l ∷ lines) line start mid after p q = (p.0, p.1, LinesDo-more t limit lines line p.0 mid after p.2 q)
-
--- what a line adds to the text, it adds to any
-record Adds (t : RuleTable) (limit : ℕ) (line : List ℕ) (s s' : State) (n n' : ℕ) (old new : List ℕ) : Type 0 where
-  more : List ℕ
-  grown : new ≡ old ++ more
-  does : (text : List ℕ) → LineDoes t limit line (at_line s n text) (at_line s' n' (text ++ more))
-
-Adds-from : (t : RuleTable) (limit : ℕ) (line : List ℕ) (s s' : State) (n n' : ℕ) (old new : List ℕ) → LineDoes t limit line (at_line s n old) (at_line s' n' new) → Adds t limit line s s' n n' old new
-Adds-from t limit [] s s' n n' old new same = record {
-  more = [];
-  grown = ap (λ (p : Progress). p.text) same ∙ sym (append-nil old);
-  does = λ text. ap (λ (p : Progress). at_line p.state p.count (text ++ [])) same ∙ ap (λ l. at_line s n l) (append-nil text);
-}
-Adds-from t limit (b ∷ line) s s' n n' old new (event, spells, below, entry) = record {
-  more = entry_line (n + 1) event (reply_of t s event);
-  grown = entry.text;
-  does = λ text. (event, spells, below, record { state = entry.state; count = entry.count; text = refl });
-}
 
 -- the lines before some others are the first so many of all
 LeadsTo-before : (t : RuleTable) (limit : ℕ) (before behind lines : List (List ℕ)) (start end : Progress) → lines ≡ before ++ behind → LinesDo t limit before start end → LeadsTo t limit lines start end
@@ -96,13 +75,13 @@ module _ (t : RuleTable) (limit : ℕ) (script : List ℕ) (start : Progress) (o
       → LineDoes t limit line (at_line s count held) (at_line s' count' held')
       → SoFar t limit script start old behind (n + 1) s' count' known held'
   SoFar-line rest behind line n s s' count count' known held held' h first shorter line_does =
-      let adds : Adds t limit line s s' count count' held held' = Adds-from t limit line s s' count count' held held' line_does in record {
+      let adds = line_adds t limit line s s' count count' held held' line_does in record {
         before = h.before ++ line ∷ [];
         text = h.text ++ adds.more;
         splits = h.splits ∙ ap (λ l. h.before ++ l) first ∙ sym (append_assoc h.before (line ∷ []) (lines_of behind));
         number = ap (λ m. m + 1) h.number ∙ sym (length-append h.before (line ∷ []));
         room = omega (arith, h.room, shorter);
-        does = LinesDo-more t limit h.before line start (at_line s count h.text) _ h.does (adds.does h.text);
+        does = LinesDo-more t limit h.before line start (at_line s count h.text) _ h.does (adds.leads h.text);
         handed = record {
           sent = h.handed.sent;
           wrote = h.handed.wrote;
@@ -159,11 +138,16 @@ module _ (t : RuleTable) (limit : ℕ) (script : List ℕ) (start : Progress) (o
     (line, subst (λ k. StopsAt t limit (lines_of script) start k line (at_line s count h.text)) (sym (same ∙ next)) (stops rest line behind n s count known held h first), bad),
     subst (Hands old known h.text) (sym (ap (λ (p : Progress). p.text) kept)) h.handed,
   )
-  Halts-at E rest line behind n number s count known held after LogFull h first next (full, kept) = (
-    at_line s count h.text,
-    (n + 1, line, stops rest line behind n s count known held h first, full),
-    subst (Hands old known h.text) (sym (ap (λ (p : Progress). p.text) kept)) h.handed,
-  )
+  Halts-at E rest line behind n number s count known held after LogFull h first next meets =
+      let adds = meeting_adds t limit line s after.state count after.count held after.text meets in (
+        at_line after.state after.count (h.text ++ adds.more),
+        (n + 1, line, at_line s count h.text, stops rest line behind n s count known held h first, adds.leads h.text),
+        record {
+          sent = h.handed.sent;
+          wrote = h.handed.wrote;
+          splits = ap (λ l. l ++ adds.more) h.handed.splits ∙ append_assoc h.handed.sent held adds.more ∙ ap (λ l. h.handed.sent ++ l) (sym adds.grown);
+        },
+      )
 
   -- the next line stops the run
   pub Halts-stopped : {E : Type 0} (rest line : List ℕ) (behind : List (List ℕ)) (n number : ℕ) (s : State) (count : ℕ) (known : Option (List ℕ)) (held : List ℕ) (after : Progress) (stop : Stop) (result : Result (Option Stop) E)
@@ -192,10 +176,10 @@ Hands-begun old known new text held h (n, wrote) =
     let front : take (length h.sent + n) text ≡ h.sent ++ take n held = ap (take (length h.sent + n)) h.splits ∙ take-append-add h.sent held n in
     (length h.sent + n, subst (Appends old new) (sym front) (Appends-trans old known new h.sent (take n held) h.wrote wrote))
 
--- a command that was logged, and whose entry's text was added
-pub LineDoes-entry : (t : RuleTable) (limit : ℕ) (line : List ℕ) (event : Event) (before after : Progress) → (line ≡ [] → ⊥) → Spells line event → before.count < limit → IsEntry t event before after → LineDoes t limit line before after
-LineDoes-entry t limit [] event before after some spells below entry = absurd (some refl)
-LineDoes-entry t limit (b ∷ line) event before after some spells below entry = (event, spells, below, entry)
+-- a command that was followed
+pub LineDoes-command : (t : RuleTable) (limit : ℕ) (line : List ℕ) (command : Command) (before after : Progress) → (line ≡ [] → ⊥) → Says line command → CommandDoes t limit command before after → LineDoes t limit line before after
+LineDoes-command t limit [] command before after some says does = absurd (some refl)
+LineDoes-command t limit (b ∷ line) command before after some says does = (command, says, does)
 
 -- the entry with the number is the one that was logged
 pub entry_read : (entries : List Entry) (number count : ℕ) (entry logged : Entry) → number ≡ count + 1 → slice_get entries count ≡ Some logged → slice_get entries (number - 1) ≡ Some entry → entry ≡ logged
@@ -216,26 +200,25 @@ LineEnds-done t limit number line before after result ends is = subst (LineEnds 
 
 -- how far a run came, and that a beginning of its text was written
 abbrev pub WritesPart : RuleTable → ℕ → List (List ℕ) → Progress → Option (List ℕ) → Option (List ℕ) → Type 0
-WritesPart t limit lines start old new = (end : Progress) × LeadsTo t limit lines start end × AppendsBeginning old new end.text
+WritesPart t limit lines start old new = (end : Progress) × Reaches t limit lines start end × AppendsBeginning old new end.text
 
 -- nothing was written yet
 pub WritesPart-none : (t : RuleTable) (limit : ℕ) (lines : List (List ℕ)) (start : Progress) (old : Option (List ℕ)) → WritesPart t limit lines start old old
-WritesPart-none t limit lines start old = (start, (0, refl), (0, Appends-nil old))
+WritesPart-none t limit lines start old = (start, inl (0, refl), (0, Appends-nil old))
 
 -- less than the text was written
 pub WritesPart-less : (t : RuleTable) (limit : ℕ) (lines : List (List ℕ)) (start : Progress) (old new : Option (List ℕ)) → (end : Progress) × LeadsTo t limit lines start end × AppendsLess old new end.text → WritesPart t limit lines start old new
-WritesPart-less t limit lines start old new (end, leads, (n, less, wrote)) = (end, leads, (n, wrote))
+WritesPart-less t limit lines start old new (end, leads, (n, less, wrote)) = (end, inl leads, (n, wrote))
 
 -- a beginning of what was held was written
 pub WritesPart-halted : (t : RuleTable) (limit : ℕ) (lines : List (List ℕ)) (start : Progress) (end : End) (old known new : Option (List ℕ)) (held : List ℕ)
     → Halts t limit lines start end (λ text. Hands old known text held) → AppendsBeginning known new held → WritesPart t limit lines start old new
 WritesPart-halted t limit lines start Whole old known new held (end, does, handed) begun =
-    (end, LeadsTo-before t limit lines [] lines start end (sym (append-nil lines)) does, Hands-begun old known new end.text held handed begun)
+    (end, inl (LeadsTo-before t limit lines [] lines start end (sym (append-nil lines)) does), Hands-begun old known new end.text held handed begun)
 WritesPart-halted t limit lines start (Stopped (BadLine number)) old known new held (end, (line, stops, bad), handed) begun =
-    (end, LeadsTo-before t limit stops.before (line ∷ stops.behind) lines start end stops.splits stops.does, Hands-begun old known new end.text held handed begun)
-WritesPart-halted t limit lines start (Stopped LogFull) old known new held (end, (number, line, stops, full), handed) begun =
-    (end, LeadsTo-before t limit stops.before (line ∷ stops.behind) lines start end stops.splits stops.does, Hands-begun old known new end.text held handed begun)
-WritesPart-halted t limit lines start Memory old known new held (end, leads, handed) begun = (end, leads, Hands-begun old known new end.text held handed begun)
+    (end, inl (LeadsTo-before t limit stops.before (line ∷ stops.behind) lines start end stops.splits stops.does), Hands-begun old known new end.text held handed begun)
+WritesPart-halted t limit lines start (Stopped LogFull) old known new held (end, full, handed) begun = (end, inr full, Hands-begun old known new end.text held handed begun)
+WritesPart-halted t limit lines start Memory old known new held (end, leads, handed) begun = (end, inl leads, Hands-begun old known new end.text held handed begun)
 
 -- the writer failed
 pub Ends-failed : {E : Type 0} (t : RuleTable) (limit limit' : ℕ) (lines : List (List ℕ)) (start start' : Progress) (result : Result End E) (old new : Option (List ℕ))
@@ -252,7 +235,7 @@ Ends-written t limit lines start Whole old known new held (end, does, handed) wr
 Ends-written t limit lines start (Stopped (BadLine number)) old known new held (end, stops, handed) wrote = (end, stops, Hands-all old known new end.text held handed wrote)
 Ends-written t limit lines start (Stopped LogFull) old known new held (end, stops, handed) wrote = (end, stops, Hands-all old known new end.text held handed wrote)
 Ends-written t limit lines start Memory old known new held (end, leads, handed) wrote =
-    (end, leads, (length end.text, subst (Appends old new) (sym (take-length end.text)) (Hands-all old known new end.text held handed wrote)))
+    (end, inl leads, (length end.text, subst (Appends old new) (sym (take-length end.text)) (Hands-all old known new end.text held handed wrote)))
 
 pub Ends-finished : (t : RuleTable) (limit limit' : ℕ) (lines : List (List ℕ)) (start start' : Progress) (end : End) (old known new : Option (List ℕ)) (held held' : List ℕ)
     → limit ≡ limit' → start ≡ start' → Halts t limit lines start end (λ text. Hands old known text held) → held' ≡ held → Appends known new held'

@@ -1,8 +1,12 @@
--- How one line ends.
-use Rattle.std.specs.Prelude.{◌≡◌, ℕ, List, length, Option, None, Some, Result, Ok, Err}
+-- How one line ends, and its parts.
+use Rattle.std.specs.Prelude.{◌≡◌, ℕ, Bool, true, false, List, ◌++◌, length, Option, None, Some, Result, Ok, Err}
+use Rattle.rand_core.specs.Stream.{Stream}
+use Rattle.rule_machine.specs.declared.event.Event.{Event}
 use Rattle.rule_machine.specs.RuleTable.{RuleTable}
 use Rattle.step_log.specs.Log.{Log}
-use Rattle.line_text.specs.Script.{Progress, LineDoes, IsBadLine, MeetsFullLog}
+use Rattle.script_line.specs.declared.command.Command.{Command}
+use Rattle.seeded_turns.specs.Drawn.{Draws}
+use Rattle.script_machine.specs.Script.{Progress, EventDoes, TurnsDo, TurnsFill, CommandDoes, CommandFills, LineDoes, IsBadLine, MeetsFullLog}
 use Rattle.script_run.specs.declared.stop.Stop.{Stop}
 use Rattle.script_run.specs.declared.stop.Stop.TheVariants.{BadLine, LogFull}
 
@@ -10,9 +14,31 @@ use Rattle.script_run.specs.declared.stop.Stop.TheVariants.{BadLine, LogFull}
 abbrev pub progress : Log → List ℕ → Progress
 progress log text = record { state = log.state; count = length log.entries; text = text }
 
+-- a text has grown
+abbrev pub Grows : List ℕ → List ℕ → Type 0
+Grows old new = (more : List ℕ) × (new ≡ old ++ more)
+
+-- the event is an entry; or the log was full, and nothing was done; at want of memory no text was added
+abbrev pub EventEnds : {E : Type 0} → RuleTable → ℕ → Event → Progress → Progress → Result Bool E → Type 0
+EventEnds t limit event before after (Ok true) = EventDoes t limit event before after
+EventEnds t limit event before after (Ok false) = (before.count ≡ limit) × (after ≡ before)
+EventEnds t limit event before after (Err want) = after.text ≡ before.text
+
+-- the turns were taken, or one of them met a full log; at want of memory the text of some was added
+abbrev pub TurnsEnd : {E : Type 0} → Draws → RuleTable → ℕ → ℕ → Stream → Progress → Progress → Result Bool E → Type 0
+TurnsEnd draws t limit turns stream before after (Ok true) = TurnsDo draws t limit turns stream before after
+TurnsEnd draws t limit turns stream before after (Ok false) = TurnsFill draws t limit turns stream before after
+TurnsEnd draws t limit turns stream before after (Err want) = Grows before.text after.text
+
+-- the command was followed, or met a full log; at want of memory some text was added
+abbrev pub CommandEnds : {E : Type 0} → RuleTable → ℕ → Command → Progress → Progress → Result Bool E → Type 0
+CommandEnds t limit command before after (Ok true) = CommandDoes t limit command before after
+CommandEnds t limit command before after (Ok false) = CommandFills t limit command before after
+CommandEnds t limit command before after (Err want) = Grows before.text after.text
+
 -- the line with this number was carried out, or it is bad, or it meets a full log; at want of memory it has added no text
 abbrev pub LineEnds : {E : Type 0} → RuleTable → ℕ → ℕ → List ℕ → Progress → Progress → Result (Option Stop) E → Type 0
 LineEnds t limit number line before after (Ok None) = LineDoes t limit line before after
 LineEnds t limit number line before after (Ok (Some (BadLine n))) = (n ≡ number) × IsBadLine line × (after ≡ before)
-LineEnds t limit number line before after (Ok (Some LogFull)) = MeetsFullLog limit line before × (after ≡ before)
+LineEnds t limit number line before after (Ok (Some LogFull)) = MeetsFullLog t limit line before after
 LineEnds t limit number line before after (Err want) = after.text ≡ before.text

@@ -1,12 +1,12 @@
 -- How the run of a script ends.
-use Rattle.std.specs.Prelude.{◌≡◌, ℕ, ◌+◌, List, [], ◌∷◌, ◌++◌, length, take, Option, Result, Ok, Err}
+use Rattle.std.specs.Prelude.{◌≡◌, ℕ, ◌+◌, ◌⊎◌, List, [], ◌∷◌, ◌++◌, length, take, Option, Result, Ok, Err}
 use Rattle.std.specs.Io.KnownBytes.{Appends}
 use Rattle.rule_machine.specs.declared.rules.RuleSet.{RuleSet}
 use Rattle.rule_machine.specs.State.{opening}
 use Rattle.rule_machine.specs.RuleTable.{RuleTable}
 use Rattle.rule_machine.specs.Tables.{table_of}
 use Rattle.line_text.specs.EntryText.{header_line}
-use Rattle.line_text.specs.Script.{Progress, LinesDo, IsBadLine, MeetsFullLog, lines_of}
+use Rattle.script_machine.specs.Script.{Progress, LinesDo, IsBadLine, MeetsFullLog, lines_of}
 use Rattle.byte_output.specs.Beginning.{AppendsBeginning}
 use Rattle.script_run.specs.declared.fault.RunFault.{RunFault}
 use Rattle.script_run.specs.declared.fault.RunFault.TheVariants.{BadLine, LogFull, Read, Write, Memory}
@@ -28,24 +28,28 @@ abbrev pub StopsAtBadLine : RuleTable → ℕ → List (List ℕ) → Progress �
 StopsAtBadLine t limit lines start number end =
     (line : List ℕ) × StopsAt t limit lines start number line end × IsBadLine line
 
--- some line is a command that meets a full log
+-- some line is a command that meets a full log, which is the end
 abbrev pub StopsAtFullLog : RuleTable → ℕ → List (List ℕ) → Progress → Progress → Type 0
 StopsAtFullLog t limit lines start end =
-    (number : ℕ) × (line : List ℕ) × StopsAt t limit lines start number line end × MeetsFullLog limit line end
+    (number : ℕ) × (line : List ℕ) × (before : Progress) × StopsAt t limit lines start number line before × MeetsFullLog t limit line before end
 
 -- so many lines, from the first on, lead to the end
 abbrev pub LeadsTo : RuleTable → ℕ → List (List ℕ) → Progress → Progress → Type 0
 LeadsTo t limit lines start end = (n : ℕ) × LinesDo t limit (take n lines) start end
 
+-- some first lines lead to the end, or a line behind them that meets a full log
+abbrev pub Reaches : RuleTable → ℕ → List (List ℕ) → Progress → Progress → Type 0
+Reaches t limit lines start end = LeadsTo t limit lines start end ⊎ StopsAtFullLog t limit lines start end
+
 -- all lines were carried out, or those before a bad line or a full log, and P holds of the text to which they lead; where the reader
--- failed, Q holds of no text; where the writer failed or memory was refused, Q holds of the text to which some first lines lead
+-- failed, Q holds of no text; where the writer failed or memory was refused, Q holds of the text that some first lines reach
 abbrev pub Ends : RuleTable → ℕ → List (List ℕ) → Progress → Result Unit RunFault → (List ℕ → Type 0) → (List ℕ → Type 0) → Type 0
 Ends t limit lines start (Ok done) P Q = (end : Progress) × LinesDo t limit lines start end × P end.text
 Ends t limit lines start (Err (BadLine number)) P Q = (end : Progress) × StopsAtBadLine t limit lines start number end × P end.text
 Ends t limit lines start (Err LogFull) P Q = (end : Progress) × StopsAtFullLog t limit lines start end × P end.text
 Ends t limit lines start (Err Read) P Q = Q []
-Ends t limit lines start (Err Write) P Q = (end : Progress) × LeadsTo t limit lines start end × Q end.text
-Ends t limit lines start (Err Memory) P Q = (end : Progress) × LeadsTo t limit lines start end × Q end.text
+Ends t limit lines start (Err Write) P Q = (end : Progress) × Reaches t limit lines start end × Q end.text
+Ends t limit lines start (Err Memory) P Q = (end : Progress) × Reaches t limit lines start end × Q end.text
 
 -- the script was run, and the writer has got the header and the entries that the machine makes, and nothing else; at a fault of the
 -- writer or of memory a beginning of them, and none at a fault of the reader

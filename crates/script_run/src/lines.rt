@@ -1,7 +1,7 @@
 //! The lines of a script.
 
 ghost use Rattle.std.specs.Prelude.{◌≡◌, ◌<◌, [], ◌∷◌, length, MatchOption, IfSome};
-ghost use Rattle.line_text.specs.Script.{lines_of};
+ghost use Rattle.script_machine.specs.Script.{lines_of};
 
 use memchr::memchr;
 

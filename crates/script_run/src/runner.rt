@@ -2,10 +2,10 @@
 
 ghost use Rattle.std.specs.Prelude.{◌≡◌, IfOk, OnErr};
 ghost use Rattle.std.specs.Io.KnownBytes.{Appends};
-ghost use Rattle.line_text.specs.Script.{Progress, lines_of};
+ghost use Rattle.script_machine.specs.Script.{Progress, lines_of};
 ghost use Rattle.byte_output.specs.Beginning.{AppendsBeginning, AppendsLess};
 ghost use Rattle.script_run.specs.Halted.{Halts, Hands, answered};
-ghost use Rattle.script_run.specs.Line.{progress, LineEnds};
+ghost use Rattle.script_run.specs.Line.{progress, EventEnds, TurnsEnd, CommandEnds, LineEnds};
 ghost use Rattle.script_run.specs.Outcome.{Ends, LeadsTo, beginning};
 
 use crate::Options;
@@ -13,9 +13,11 @@ use crate::lines::next_line;
 use crate::stop::{End, Stop};
 use crate::writing::hand_over;
 use byte_output::{OutputFault, finish};
-use line_text::{put_entry, put_header, read_command};
-use rule_machine::Want;
+use line_text::{put_entry, put_header};
+use rule_machine::{Event, Want};
 use rule_set::Rules;
+use script_line::{Command, read_line};
+use seeded_turns::{DaemonTurns, EventSource, FaultTurns};
 use std::alloc::{AllocError, Global};
 use std::io::Write;
 use step_log::{Journal, RecordFault};
@@ -40,6 +42,59 @@ impl<R: Rules> Run<R> {
         Ok(Run { journal, text })
     }
 
+    // Logs an event and adds the text of its entry; false where the log is full.
+    fn log(&mut self, event: Event) -> Result<bool, Want>
+        ensures ends { EventEnds R.table self.old.journal.limit event (progress self.old.journal self.old.text.items) (progress self.new.journal self.new.text.items) result }
+        ensures limit { self.new.journal.limit ≡ self.old.journal.limit }
+    {
+        let seq = match self.journal.log(event) {
+            Ok(seq) => seq,
+            Err(RecordFault::LogFull) => return Ok(false),
+            Err(RecordFault::Memory) => return Err(AllocError),
+        };
+        let entry = self.journal.entry(seq).unwrap();
+        put_entry(&mut self.text, seq, entry.event(), entry.reply())?;
+        Ok(true)
+    }
+
+    // Logs the events of so many turns, or of those up to one that has none; false where a turn meets a full log, before
+    // it is asked for.
+    fn take_turns<S: EventSource>(&mut self, source: &mut S, count: u32) -> Result<bool, Want>
+        ensures ends { TurnsEnd S.draws R.table self.old.journal.limit count (S.stream source.old) (progress self.old.journal self.old.text.items) (progress self.new.journal self.new.text.items) result }
+        ensures limit { self.new.journal.limit ≡ self.old.journal.limit }
+    {
+        for _ in 0..count {
+            if self.journal.is_full() {
+                return Ok(false);
+            }
+            let Some(event) = source.next_event(self.journal.net())? else {
+                return Ok(true);
+            };
+            if !self.log(event)? {
+                return Ok(false);
+            }
+        }
+        Ok(true)
+    }
+
+    // Follows a command; false where it meets a full log.
+    fn follow(&mut self, alloc: Global, command: Command) -> Result<bool, Want>
+        ensures ends { CommandEnds R.table self.old.journal.limit command (progress self.old.journal self.old.text.items) (progress self.new.journal self.new.text.items) result }
+        ensures limit { self.new.journal.limit ≡ self.old.journal.limit }
+    {
+        match command {
+            Command::Tell(event) => self.log(event),
+            Command::Drive(turns) => {
+                let mut daemon = DaemonTurns::new(alloc, turns.seed);
+                self.take_turns(&mut daemon, turns.count)
+            }
+            Command::Scramble(turns) => {
+                let mut injector = FaultTurns::new(turns.seed);
+                self.take_turns(&mut injector, turns.count)
+            }
+        }
+    }
+
     // Carries out the line with this number: what in it stops the run, if anything does.
     fn carry_out(&mut self, alloc: Global, number: u64, line: &[u8]) -> Result<Option<Stop>, Want>
         ensures ends { LineEnds R.table self.old.journal.limit number line.now (progress self.old.journal self.old.text.items) (progress self.new.journal self.new.text.items) result }
@@ -48,17 +103,18 @@ impl<R: Rules> Run<R> {
         if line.is_empty() {
             return Ok(None);
         }
-        let Some(event) = read_command(alloc, line)? else {
+        let Some(command) = read_line(alloc, line)? else {
             return Ok(Some(Stop::BadLine { line: number }));
         };
-        let seq = match self.journal.log(event) {
-            Ok(seq) => seq,
-            Err(RecordFault::LogFull) => return Ok(Some(Stop::LogFull)),
-            Err(RecordFault::Memory) => return Err(AllocError),
-        };
-        let entry = self.journal.entry(seq).unwrap();
-        put_entry(&mut self.text, seq, entry.event(), entry.reply())?;
-        Ok(None)
+        let len = self.text.len();
+        match self.follow(alloc, command) {
+            Ok(true) => Ok(None),
+            Ok(false) => Ok(Some(Stop::LogFull)),
+            Err(want) => {
+                self.text.truncate(len);
+                Err(want)
+            }
+        }
     }
 
     // Carries out the lines of a script in turn, and hands over the text as it grows.

@@ -1,3 +1,4 @@
+pub mod Opening
 pub mod Rising
 pub mod Fitting
 pub mod Running

@@ -1,6 +1,6 @@
 use Rattle.std.proofs.Common.{◌≡◌, ◌+◌, [], ◌∷◌, take, sym, subst, arith}
 use Rattle.std.proofs.lemmas.List.{take_rest}
-use Rattle.line_text.specs.Script.{lines_of}
+use Rattle.script_machine.specs.Script.{lines_of}
 use Rattle.script_run.proofs.Cutting.{lines_of-cut, lines_of-whole}
 use Rattle.script_run.proofs.lines.next_line.Goals as goal
 

@@ -1,5 +1,5 @@
 use Rattle.std.proofs.Common.{subst}
-use Rattle.line_text.specs.Script.{lines_of}
+use Rattle.script_machine.specs.Script.{lines_of}
 use Rattle.byte_output.specs.Beginning.{AppendsBeginning}
 use Rattle.script_run.specs.Line.{progress}
 use Rattle.script_run.specs.Outcome.{beginning}

@@ -1,0 +1,12 @@
+use Rattle.std.proofs.Common.{◌≡◌}
+use Rattle.script_run.specs.Line.{progress}
+use Rattle.script_run.proofs.Turning.{Turned}
+use Rattle.script_run.proofs.runner.Run.take_turns.Given as goal
+
+abbrev pub invariant-loop : goal.invariant-loop
+invariant-loop g l =
+    let begun = l.fn.self in
+    let run = l.self in record {
+      limit : run.journal.limit ≡ begun.journal.limit;
+      turned : Turned g.S.EventSource.draws g.R.Rules.table begun.journal.limit l.count l.counter (g.S.EventSource.stream l.fn.source) (g.S.EventSource.stream l.source) (progress begun.journal begun.text.items) (progress run.journal run.text.items);
+    }
