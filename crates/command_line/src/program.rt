@@ -1,7 +1,9 @@
 //! From the words to the exit status.
 
-ghost use Rattle.std.specs.Prelude.{◌≡◌, ◌⊎◌, IfSome, Result};
-ghost use Rattle.command_words.specs.declared.words.Task.{Task};
+ghost use Rattle.std.specs.Prelude.{◌≡◌, ◌⊎◌, IfErr, IfOk, IfSome, Result, map};
+ghost use Rattle.clap.specs.declared.error.kind.ErrorKind.TheVariants.{OutOfMemory};
+ghost use Rattle.command_words.specs.declared.task.Task.{Task};
+ghost use Rattle.command_words.specs.Wanted.{Answers, Wants};
 ghost use Rattle.clap.specs.declared.error.Error.{Error};
 ghost use Rattle.clap.specs.Words.{kind_of};
 ghost use Rattle.byte_output.specs.Beginning.{AppendsBeginning};
@@ -124,6 +126,8 @@ pub fn start<S: AsStr, In: Read, Out: Write, Faults: Write>(
     faults: &mut Faults,
 ) -> u8
     ensures does { IfSome (In.remaining reader.old) (λ input. (asked : Result Task Error)
+        × IfOk asked (Answers (map S.text words.entry.now))
+        × IfErr asked (λ e. (task : Task) → Wants (map S.text words.entry.now) task → kind_of e ≡ OutOfMemory)
         × Does asked input (Out.contents writer.old) (Out.contents writer.new) (Faults.contents faults.old) (Faults.contents faults.new) result) }
     ensures status { IsStatus result }
 {
