@@ -1,4 +1,4 @@
-use Rattle.std.proofs.Common.{◌≤◌, rules, sym, subst, ◌∙◌}
+use Rattle.std.proofs.Common.{◌≤◌, sym, subst, ◌∙◌}
 use Rattle.std.proofs.lemmas.Bool.{true≢false, eq-eqb}
 use Rattle.rule_machine.specs.Network.{Network}
 use Rattle.rule_machine.specs.State.{State, IsState}
@@ -26,6 +26,6 @@ invariant_of-self g c =
     let ends = new_edge c.self.inside.store c.args.a c.args.b done.0 in
     record {
       is_state = subst (λ (n : Network). IsState (state_of n c.self.inside.registers)) (sym done.1) (link_keeps s c.args.a c.args.b c.self.invariant.is_state ends.lower ends.upper (λ same. true≢false (sym (eq-eqb c.args.a c.args.b same) ∙ ends.apart)));
-      index = search rules;
+      index = c.linked.ensures;
       few = subst (λ (n : Network). n.size ≤ 65535) (sym done.1) c.self.invariant.few;
     }
