@@ -5,16 +5,16 @@ use Rattle.std.proofs.lemmas.Bool.{cases_Bool, cond-true, cond-false, eqb-true, 
 use Rattle.std.proofs.lemmas.List.{length-replicate, nil_from_length}
 use Rattle.rule_machine.specs.declared.act.Act.{Act}
 use Rattle.rule_machine.specs.declared.moved.Moved.{Moved}
-use Rattle.rule_machine.specs.Network.{Network, present, with_edge, without_edge}
-use Rattle.rule_machine.specs.State.{State, Registers, IsState, with_pointer, with_flag}
+use Rattle.rule_machine.specs.Network.{present}
+use Rattle.rule_machine.specs.State.{State, IsState}
 use Rattle.rule_machine.specs.RuleTable.{RuleTable, acts, rule_at, enabled_names}
-use Rattle.rule_machine.specs.Disturbance.{without_pointer}
-use Rattle.rule_machine.specs.Step.{registers_after}
+use Rattle.rule_machine.specs.Disturbance.{after_link, after_unlink, after_point, after_flag}
+use Rattle.rule_machine.specs.Step.{after_moves}
 use Rattle.rule_set.specs.Near.{SameAt}
 use Rattle.state_lemmas.specs.Neighbours.{present_from}
 use Rattle.state_lemmas.specs.Enabled.{quiet_at, act_none}
 use Rattle.enabled_set.specs.Members.{is_in, members}
-use Rattle.rule_engine.specs.Kept.{state_of, is_on, AreOn, IsKept}
+use Rattle.rule_engine.specs.Kept.{is_on, AreOn, IsKept}
 use Rattle.rule_engine.specs.Looked.{is_near, is_near_mover, IsLookedAt}
 use Rattle.rule_engine.proofs.Looked.{looked_both}
 use Rattle.rule_engine.proofs.Opening.{blank_at}
@@ -46,34 +46,34 @@ kept_again t local s u looked bits bits' kept good size far done = record {
 }
 
 -- after a link, a look at the two ends
-pub kept_linked : (t : RuleTable) → IsLocal t → (net net' : Network) (r : Registers) (a b : ℕ) (bits one two : List Bool) {marks : List Bool} → IsKept t (state_of net r) bits marks → IsState (state_of net' r) → net' ≡ with_edge net a b → IsLookedAt t (state_of net' r) (λ w. nat_eq w a) bits one → IsLookedAt t (state_of net' r) (λ w. nat_eq w b) one two → IsKept t (state_of net' r) two marks
-kept_linked t local net net' r a b bits one two kept good is first next =
-    kept_again t local (state_of net r) (state_of net' r) (λ w. nat_eq w a || nat_eq w b) bits two kept good (ap (λ n. n.size) is)
-    (λ v far. subst (λ n. SameAt (state_of net r) (state_of n r) v) (sym is) (link_far (state_of net r) a b v far))
-    (looked_both t (state_of net' r) (λ w. nat_eq w a) (λ w. nat_eq w b) bits one two first next)
+pub kept_linked : (t : RuleTable) → IsLocal t → (s u : State) (a b : ℕ) (bits one two : List Bool) {marks : List Bool} → IsKept t s bits marks → IsState u → u ≡ after_link s a b → IsLookedAt t u (λ w. nat_eq w a) bits one → IsLookedAt t u (λ w. nat_eq w b) one two → IsKept t u two marks
+kept_linked t local s u a b bits one two kept good is first next =
+    kept_again t local s u (λ w. nat_eq w a || nat_eq w b) bits two kept good (ap (λ q. q.network.size) is)
+    (λ v far. subst (λ q. SameAt s q v) (sym is) (link_far s a b v far))
+    (looked_both t u (λ w. nat_eq w a) (λ w. nat_eq w b) bits one two first next)
 
 -- after an unlink, looks round both ends
-pub kept_unlinked : (t : RuleTable) → IsLocal t → (net net' : Network) (r r' : Registers) (a b : ℕ) (bits one two : List Bool) {marks : List Bool} → IsKept t (state_of net r) bits marks → IsState (state_of net' r') → net' ≡ without_edge net a b → r' ≡ without_pointer (without_pointer r a b) b a → IsLookedAt t (state_of net' r') (is_near net' a) bits one → IsLookedAt t (state_of net' r') (is_near net' b) one two → IsKept t (state_of net' r') two marks
-kept_unlinked t local net net' r r' a b bits one two kept good is wrote first next =
-    kept_again t local (state_of net r) (state_of net' r') (λ w. is_near net' a w || is_near net' b w) bits two kept good (ap (λ n. n.size) is)
-    (λ v far. subst (λ n. SameAt (state_of net r) (state_of n r') v) (sym is) (subst (λ q. SameAt (state_of net r) (state_of (without_edge net a b) q) v) (sym wrote) (unlink_far (state_of net r) a b v (ap (λ n. is_near n a v || is_near n b v) (sym is) ∙ far))))
-    (looked_both t (state_of net' r') (is_near net' a) (is_near net' b) bits one two first next)
+pub kept_unlinked : (t : RuleTable) → IsLocal t → (s u : State) (a b : ℕ) (bits one two : List Bool) {marks : List Bool} → IsKept t s bits marks → IsState u → u ≡ after_unlink s a b → IsLookedAt t u (is_near u.network a) bits one → IsLookedAt t u (is_near u.network b) one two → IsKept t u two marks
+kept_unlinked t local s u a b bits one two kept good is first next =
+    kept_again t local s u (λ w. is_near u.network a w || is_near u.network b w) bits two kept good (ap (λ q. q.network.size) is)
+    (λ v far. subst (λ q. SameAt s q v) (sym is) (unlink_far s a b v (ap (λ q. is_near q.network a v || is_near q.network b v) (sym is) ∙ far)))
+    (looked_both t u (is_near u.network a) (is_near u.network b) bits one two first next)
 
 -- after a write of a register, and after the moves of a step, looks round the nodes that were written
-pub kept_pointed : (t : RuleTable) → IsLocal t → (net : Network) (r r' : Registers) (v : ℕ) (target : Option ℕ) (bits bits' : List Bool) {marks : List Bool} → IsKept t (state_of net r) bits marks → IsState (state_of net r') → r' ≡ with_pointer r v target → IsLookedAt t (state_of net r') (is_near net v) bits bits' → IsKept t (state_of net r') bits' marks
-kept_pointed t local net r r' v target bits bits' kept good wrote done =
-    kept_again t local (state_of net r) (state_of net r') (is_near net v) bits bits' kept good refl
-    (λ w far. subst (λ q. SameAt (state_of net r) (state_of net q) w) (sym wrote) (point_far (state_of net r) v target w far)) done
+pub kept_pointed : (t : RuleTable) → IsLocal t → (s u : State) (v : ℕ) (target : Option ℕ) (bits bits' : List Bool) {marks : List Bool} → IsKept t s bits marks → IsState u → u ≡ after_point s v target → IsLookedAt t u (is_near u.network v) bits bits' → IsKept t u bits' marks
+kept_pointed t local s u v target bits bits' kept good is done =
+    kept_again t local s u (is_near u.network v) bits bits' kept good (ap (λ q. q.network.size) is)
+    (λ w far. subst (λ q. SameAt s q w) (sym is) (point_far s v target w (ap (λ q. is_near q.network v w) (sym is) ∙ far))) done
 
-pub kept_flagged : (t : RuleTable) → IsLocal t → (net : Network) (r r' : Registers) (v : ℕ) (value : Bool) (bits bits' : List Bool) {marks : List Bool} → IsKept t (state_of net r) bits marks → IsState (state_of net r') → r' ≡ with_flag r v value → IsLookedAt t (state_of net r') (is_near net v) bits bits' → IsKept t (state_of net r') bits' marks
-kept_flagged t local net r r' v value bits bits' kept good wrote done =
-    kept_again t local (state_of net r) (state_of net r') (is_near net v) bits bits' kept good refl
-    (λ w far. subst (λ q. SameAt (state_of net r) (state_of net q) w) (sym wrote) (flag_far (state_of net r) v value w far)) done
+pub kept_flagged : (t : RuleTable) → IsLocal t → (s u : State) (v : ℕ) (value : Bool) (bits bits' : List Bool) {marks : List Bool} → IsKept t s bits marks → IsState u → u ≡ after_flag s v value → IsLookedAt t u (is_near u.network v) bits bits' → IsKept t u bits' marks
+kept_flagged t local s u v value bits bits' kept good is done =
+    kept_again t local s u (is_near u.network v) bits bits' kept good (ap (λ q. q.network.size) is)
+    (λ w far. subst (λ q. SameAt s q w) (sym is) (flag_far s v value w (ap (λ q. is_near q.network v w) (sym is) ∙ far))) done
 
-pub kept_moved : (t : RuleTable) → IsLocal t → (net : Network) (r r' : Registers) (moves : List Moved) (bits bits' : List Bool) {marks : List Bool} → IsKept t (state_of net r) bits marks → IsState (state_of net r') → r' ≡ registers_after (state_of net r) moves → IsLookedAt t (state_of net r') (is_near_mover net moves) bits bits' → IsKept t (state_of net r') bits' marks
-kept_moved t local net r r' moves bits bits' kept good wrote done =
-    kept_again t local (state_of net r) (state_of net r') (is_near_mover net moves) bits bits' kept good refl
-    (λ w far. subst (λ q. SameAt (state_of net r) (state_of net q) w) (sym wrote) (moves_far (state_of net r) moves w far)) done
+pub kept_moved : (t : RuleTable) → IsLocal t → (s u : State) (moves : List Moved) (bits bits' : List Bool) {marks : List Bool} → IsKept t s bits marks → IsState u → u ≡ after_moves s moves → IsLookedAt t u (is_near_mover u.network moves) bits bits' → IsKept t u bits' marks
+kept_moved t local s u moves bits bits' kept good is done =
+    kept_again t local s u (is_near_mover u.network moves) bits bits' kept good (ap (λ q. q.network.size) is)
+    (λ w far. subst (λ q. SameAt s q w) (sym is) (moves_far s moves w (ap (λ q. is_near_mover q.network moves w) (sym is) ∙ far))) done
 
 -- two tests that agree at the numbers of a range keep the same of them
 range_agree : (p q : ℕ → Bool) (a n : ℕ) → ((v : ℕ) → a ≤ v → v < a + n → p v ≡ q v) → filter p (range_with_len a n) ≡ filter q (range_with_len a n)

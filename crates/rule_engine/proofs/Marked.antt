@@ -1,5 +1,5 @@
 -- Marks that are made and cleared one by one.
-use Rattle.std.proofs.Common.{◌≡◌, ℕ, zero, suc, ◌+◌, ◌<◌, ◌≤◌, Bool, true, false, cond, ◌||◌, List, [], ◌∷◌, ◌++◌, length, get_or, take, drop, set, All, Option, None, Some, is_some, IsSome, nat_eq, refl, sym, ap, ◌∙◌, subst, ⊎_elim, arith, eq-eqb}
+use Rattle.std.proofs.Common.{◌≡◌, ℕ, zero, suc, ◌+◌, ◌<◌, ◌≤◌, Bool, true, false, cond, ◌||◌, List, [], ◌∷◌, ◌++◌, length, get_or, replicate, take, drop, set, All, Option, None, Some, is_some, IsSome, nat_eq, refl, sym, ap, ◌∙◌, subst, ⊎_elim, arith, eq-eqb}
 use Rattle.std.specs.List.{list_any}
 use Rattle.std.specs.Option.{option_or}
 use Rattle.std.proofs.lemmas.Bool.{cases_Bool, cases_eq, cases_lt, ne_eqb, true≢false}
@@ -18,6 +18,7 @@ use Rattle.rule_machine.specs.Least.{move_in, outcome_of, outcome_at}
 use Rattle.enabled_set.specs.Members.{is_in}
 use Rattle.rule_engine.specs.Choosing.{refused_by, verdicts_refusal, verdicts_from, verdicts_of}
 use Rattle.rule_engine.specs.Marks.{AreClear, AreMarks, HasPlace, is_named, is_judged}
+use Rattle.rule_engine.proofs.Opening.{blank_at}
 use Rattle.rule_engine.proofs.Found.{none_from_is_some, push_is_take}
 use Rattle.rule_engine.proofs.Judged.{item_refusal-outcome}
 use Rattle.rule_engine.proofs.Keeping.{present_below}
@@ -140,6 +141,10 @@ marked_place node xs i x marks within is marked =
 -- marks of what is left alone
 abbrev pub AreLeft : {X : Type 0} → (X → ℕ) → List X → List Bool → Type 0
 AreLeft node xs marks = (v : ℕ) → is_in marks v ≡ true → is_among node xs v ≡ true
+
+-- where every place is false, no node is marked
+pub blank_clear : (places : ℕ) (marks : List Bool) → marks ≡ replicate places false → AreClear marks
+blank_clear places marks is v = ap (λ l. is_in l v) is ∙ blank_at places v false
 
 -- clear marks of as many places are the same
 pub clear_same : (marks marks' : List Bool) → length marks' ≡ length marks → AreClear marks → AreClear marks' → marks' ≡ marks

@@ -1,12 +1,10 @@
-//! Refusals and writes of edits and faults.
+//! Refusals of edits and faults.
 
-ghost use Rattle.std.specs.Prelude.{◌≡◌, ◌<◌, length};
+ghost use Rattle.std.specs.Prelude.{◌≡◌};
 ghost use Rattle.rule_machine.specs.Refuse.{point_refusal};
-ghost use Rattle.rule_machine.specs.Disturbance.{without_pointer};
 ghost use Rattle.rule_engine.specs.Refused.{refused_as};
 
 use graph_store::{EdgeStore, GraphFault};
-use registers::Registers;
 use rule_machine::{Node, Refusal};
 
 /// The refusal for which a fault of the edge store stands; none for want of memory.
@@ -37,15 +35,5 @@ pub(crate) fn refused_point(store: &EdgeStore, v: Node, target: Option<Node>) ->
         None
     } else {
         Some(Refusal::NotNeighbour)
-    }
-}
-
-/// Sets a node's pointer to null if it is at the other node.
-pub(crate) fn clear_pointer(registers: &mut Registers, v: Node, w: Node)
-    requires { v < length registers.old.pointers }
-    ensures { registers.new ≡ without_pointer registers.old v w }
-{
-    if registers.points_at(v, w) {
-        registers.set_pointer(v, None);
     }
 }

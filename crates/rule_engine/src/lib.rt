@@ -7,9 +7,7 @@ mod judge;
 mod listing;
 mod look;
 mod moves;
-mod near;
 mod net;
-mod scan;
 
 pub use enabled_set::EnabledSet;
 pub use graph_store::{Edge, GraphFault, Node};

@@ -8,6 +8,7 @@ ghost use Rattle.rule_engine.specs.Kept.{state_of, answered_by};
 
 use crate::guard::rule_enabled;
 use graph_store::EdgeStore;
+use indexed_state::IndexedState;
 use registers::Registers;
 use rule_machine::{Act, Edge, Node, Want};
 use rule_set::Rules;
@@ -16,17 +17,15 @@ use std::alloc::Global;
 /// The enabled nodes, which are given, each with its rule.
 pub(crate) fn enabled_rules<R: Rules>(
     alloc: Global,
-    store: &EdgeStore,
-    registers: &Registers,
+    state: &IndexedState<R>,
     nodes: &[Node],
 ) -> Result<Vec<(Node, Act)>, Want>
-    requires state { IsState (state_of store.now registers.now) }
-    requires nodes { nodes.now ≡ enabled_names R.table (state_of store.now registers.now) }
-    ensures { IfOk result (λ v. v.items ≡ enabled R.table (state_of store.now registers.now)) }
+    requires { nodes.now ≡ enabled_names R.table state.now }
+    ensures { IfOk result (λ v. v.items ≡ enabled R.table state.now) }
 {
     let mut rules = Vec::with_capacity(alloc, nodes.len())?;
     for &v in nodes {
-        if let Some(act) = rule_enabled::<R>(store, registers, v) {
+        if let Some(act) = rule_enabled(state, v) {
             rules.push((v, act))?;
         }
     }

@@ -1,11 +1,13 @@
 //! The moves of a step, and what they write.
 
-ghost use Rattle.std.specs.Prelude.{◌≡◌, ◌<◌, All, IfOk, length, fold};
+ghost use Rattle.std.specs.Prelude.{◌≡◌, All, IfOk, fold};
+ghost use Rattle.machine_laws.specs.Keeps.{IsMoveIn};
 ghost use Rattle.rule_machine.specs.Least.{move_in as move_of_outcome};
 ghost use Rattle.rule_engine.specs.Choosing.{AreLeast, moves_of, flag_read, pointer_written};
 
-use registers::Registers;
+use indexed_state::IndexedState;
 use rule_machine::{Act, Moved, Outcome, Verdict, Want};
+use rule_set::Rules;
 use std::alloc::Global;
 
 /// The move that an outcome is, if it is one.
@@ -41,40 +43,40 @@ pub(crate) fn ascending_moves(alloc: Global, verdicts: &[Verdict]) -> Result<Vec
 }
 
 /// Writes the flags of moves that update, from the pointers as they are.
-fn write_flags(registers: &mut Registers, moves: &[Moved])
-    requires within { All (λ m. m.node < length registers.old.flags) moves.now }
-    requires pointers_in { All (λ m. m.node < length registers.old.pointers) moves.now }
-    ensures written { registers.new ≡ fold flag_read registers.old moves.now }
-    ensures pointers_len { length registers.new.pointers ≡ length registers.old.pointers }
+fn write_flags<R: Rules>(state: &mut IndexedState<R>, moves: &[Moved])
+    requires { All (IsMoveIn state.old.network) moves.now }
+    ensures registers { state.new.registers ≡ fold flag_read state.old.registers moves.now }
+    ensures network { state.new.network ≡ state.old.network }
 {
     for moved in moves {
         if moved.act == Act::Update {
-            let married = registers.married(moved.node);
-            registers.set_flag(moved.node, married);
+            let married = state.registers().married(moved.node);
+            state.set_flag(moved.node, married);
         }
     }
 }
 
 /// Writes the pointers of moves.
-fn write_pointers(registers: &mut Registers, moves: &[Moved])
-    requires { All (λ m. m.node < length registers.old.pointers) moves.now }
-    ensures { registers.new ≡ fold pointer_written registers.old moves.now }
+fn write_pointers<R: Rules>(state: &mut IndexedState<R>, moves: &[Moved])
+    requires { All (IsMoveIn state.old.network) moves.now }
+    ensures registers { state.new.registers ≡ fold pointer_written state.old.registers moves.now }
+    ensures network { state.new.network ≡ state.old.network }
 {
     for moved in moves {
         match moved.act {
             Act::Update => {}
-            Act::Marry | Act::Seduce => registers.set_pointer(moved.node, moved.target),
-            Act::Abandon => registers.set_pointer(moved.node, None),
+            Act::Marry | Act::Seduce => state.set_pointer(moved.node, moved.target),
+            Act::Abandon => state.set_pointer(moved.node, None),
         }
     }
 }
 
 /// Writes all moves of one step: flags first, since they are read from the pointers of before.
-pub(crate) fn write_moves(registers: &mut Registers, moves: &[Moved])
-    requires flags_in { All (λ m. m.node < length registers.old.flags) moves.now }
-    requires pointers_in { All (λ m. m.node < length registers.old.pointers) moves.now }
-    ensures { registers.new ≡ fold pointer_written (fold flag_read registers.old moves.now) moves.now }
+pub(crate) fn write_moves<R: Rules>(state: &mut IndexedState<R>, moves: &[Moved])
+    requires { All (IsMoveIn state.old.network) moves.now }
+    ensures registers { state.new.registers ≡ fold pointer_written (fold flag_read state.old.registers moves.now) moves.now }
+    ensures network { state.new.network ≡ state.old.network }
 {
-    write_flags(registers, moves);
-    write_pointers(registers, moves);
+    write_flags(state, moves);
+    write_pointers(state, moves);
 }

@@ -16,7 +16,7 @@ ghost use Rattle.rule_engine.specs.Kept.{guard_at, IsAnswered, moment};
 ghost use Rattle.rule_engine.specs.Applied.{Applies, Answered, StopsAt, takes_memory};
 ghost use Rattle.rule_engine.specs.Choosing.{verdict_of, verdicts_of};
 
-use crate::edits::{clear_pointer, refusal_of, refused_point};
+use crate::edits::{refusal_of, refused_point};
 use crate::guard::{outcome, refused_step, rule_enabled, verdicts};
 use crate::judge::refused_verdicts;
 use crate::listing::{enabled_rules, mutual_edges};
@@ -24,35 +24,34 @@ use crate::look::{look_at, look_round, look_round_movers};
 use crate::moves::{ascending_moves, write_moves};
 use enabled_set::EnabledSet;
 use graph_store::{EdgeStore, GraphFault};
+use indexed_state::IndexedState;
 use registers::Registers;
 use rule_machine::{Act, Choice, Event, Listing, Node, Refusal, Reply, Verdict, Want};
 use rule_set::Rules;
 use std::alloc::{AllocError, Global};
-use std::marker::{Model, PhantomData};
+use std::marker::Model;
 
 /// A network under the rules `R`: its edges, its registers and who is enabled, seen in contracts as the state of the
 /// rule machine.
 #[derive(Drop)]
 pub struct Net<R: Rules> {
     alloc: Global,
-    store: EdgeStore,
-    registers: Registers,
+    state: IndexedState<R>,
     enabled: EnabledSet,
     chosen: EnabledSet,
-    rules: PhantomData<R>,
 }
 
 impl<R: Rules> Model for Net<R> {
     ghost use Rattle.rule_machine.specs.State.{State, state_code};
-    ghost use Rattle.rule_engine.specs.Kept.{state_of, IsKept};
+    ghost use Rattle.rule_engine.specs.Kept.{IsKept};
 
     ghost Value = { State };
 
     ghost coded = { state_code };
 
-    ghost view = { λ n. state_of n.store n.registers };
+    ghost view = { λ n. n.state };
 
-    ghost invariant = { λ n. IsKept R.table (state_of n.store n.registers) n.enabled n.chosen };
+    ghost invariant = { λ n. IsKept R.table n.state n.enabled n.chosen };
 }
 
 impl<R: Rules> Net<R> {
@@ -63,10 +62,7 @@ impl<R: Rules> Net<R> {
         ensures small { OnOk result (nodes ≤ 65535) }
         ensures fault { IfErr result (λ fault. Explains (nodes_fault nodes) fault) }
     {
-        let store = EdgeStore::new(alloc, nodes)?;
-        let Ok(registers) = Registers::new(alloc, nodes) else {
-            return Err(GraphFault::Memory);
-        };
+        let state = IndexedState::new(alloc, nodes)?;
         let Ok(enabled) = EnabledSet::new(alloc, nodes) else {
             return Err(GraphFault::Memory);
         };
@@ -75,11 +71,9 @@ impl<R: Rules> Net<R> {
         };
         Ok(Net {
             alloc,
-            store,
-            registers,
+            state,
             enabled,
             chosen,
-            rules: PhantomData,
         })
     }
 
@@ -87,7 +81,7 @@ impl<R: Rules> Net<R> {
     pub fn store(&self) -> &EdgeStore
         ensures { result.now ≡ self.now.network }
     {
-        &self.store
+        self.state.store()
     }
 
     /// The registers.
@@ -95,7 +89,7 @@ impl<R: Rules> Net<R> {
         ensures value { result.now ≡ self.now.registers }
         ensures state { IsState self.now }
     {
-        &self.registers
+        self.state.registers()
     }
 
     /// The enabled nodes.
@@ -121,7 +115,7 @@ impl<R: Rules> Net<R> {
     pub fn guard(&self, v: Node) -> Option<Act>
         ensures { result ≡ guard_at R.table self.now v }
     {
-        rule_enabled::<R>(&self.store, &self.registers, v)
+        rule_enabled(&self.state, v)
     }
 
     /// What the item at a place of a choice, from 0, would do alone. Looks at its node's neighbours.
@@ -133,7 +127,7 @@ impl<R: Rules> Net<R> {
         Verdict {
             place,
             node: item.node,
-            outcome: outcome::<R>(&self.store, &self.registers, item),
+            outcome: outcome(&self.state, item),
         }
     }
 
@@ -184,10 +178,10 @@ impl<R: Rules> Net<R> {
     fn link(&mut self, a: Node, b: Node) -> Result<Reply, Want>
         ensures { Applies R.table self.old (Link a b) result self.new }
     {
-        match self.store.link(a, b) {
+        match self.state.link(a, b) {
             Ok(()) => {
-                look_at::<R>(&self.store, &self.registers, &mut self.enabled, a);
-                look_at::<R>(&self.store, &self.registers, &mut self.enabled, b);
+                look_at(&self.state, &mut self.enabled, a);
+                look_at(&self.state, &mut self.enabled, b);
                 Ok(Reply::Accepted)
             }
             Err(fault) => match refusal_of(fault) {
@@ -200,12 +194,10 @@ impl<R: Rules> Net<R> {
     fn unlink(&mut self, a: Node, b: Node) -> Reply
         ensures { Answered R.table self.old (Unlink a b) result self.new }
     {
-        match self.store.unlink(a, b) {
+        match self.state.unlink(a, b) {
             Ok(()) => {
-                clear_pointer(&mut self.registers, a, b);
-                clear_pointer(&mut self.registers, b, a);
-                look_round::<R>(&self.store, &self.registers, &mut self.enabled, a);
-                look_round::<R>(&self.store, &self.registers, &mut self.enabled, b);
+                look_round(&self.state, &mut self.enabled, a);
+                look_round(&self.state, &mut self.enabled, b);
                 Reply::Accepted
             }
             Err(fault) => match refusal_of(fault) {
@@ -219,11 +211,11 @@ impl<R: Rules> Net<R> {
         ensures { Answered R.table self.old (Point v target) result self.new }
     {
         let wanted = target;
-        match refused_point(&self.store, v, wanted) {
+        match refused_point(self.state.store(), v, wanted) {
             Some(refusal) => Reply::Refused(refusal),
             None => {
-                self.registers.set_pointer(v, target);
-                look_round::<R>(&self.store, &self.registers, &mut self.enabled, v);
+                self.state.set_pointer(v, target);
+                look_round(&self.state, &mut self.enabled, v);
                 Reply::Accepted
             }
         }
@@ -235,35 +227,35 @@ impl<R: Rules> Net<R> {
         if !R::FLAGS {
             return Reply::Refused(Refusal::NoFlag);
         }
-        if !self.store.has(v) {
+        if !self.state.store().has(v) {
             return Reply::Refused(Refusal::UnknownNode);
         }
-        self.registers.set_flag(v, value);
-        look_round::<R>(&self.store, &self.registers, &mut self.enabled, v);
+        self.state.set_flag(v, value);
+        look_round(&self.state, &mut self.enabled, v);
         Reply::Accepted
     }
 
     fn show(&self, v: Node) -> Reply
         ensures { result ≡ reply_of R.table self.now (Show v) }
     {
-        if !self.store.has(v) {
+        if !self.state.store().has(v) {
             return Reply::Refused(Refusal::UnknownNode);
         }
-        Reply::Shown(self.registers.pointer(v))
+        Reply::Shown(self.state.registers().pointer(v))
     }
 
     fn list_enabled(&self) -> Result<Reply, Want>
         ensures { IfOk result (λ reply. reply ≡ reply_of R.table self.now Enabled) }
     {
         let nodes = self.enabled.to_list()?;
-        let rules = enabled_rules::<R>(self.alloc, &self.store, &self.registers, &nodes)?;
+        let rules = enabled_rules(self.alloc, &self.state, &nodes)?;
         Ok(Reply::EnabledAre(Listing::from_vec(rules)))
     }
 
     fn list_pairs(&self) -> Result<Reply, Want>
         ensures { IfOk result (λ reply. reply ≡ reply_of R.table self.now Matching) }
     {
-        let pairs = mutual_edges(self.alloc, &self.store, &self.registers)?;
+        let pairs = mutual_edges(self.alloc, self.state.store(), self.state.registers())?;
         Ok(Reply::Pairs(Listing::from_vec(pairs)))
     }
 
@@ -272,11 +264,11 @@ impl<R: Rules> Net<R> {
         ensures machine { IfOk result (λ reply. Answers R.table self.old (Step choice.now) reply self.new) }
     {
         let items = choice.items();
-        let refused = refused_step::<R>(&self.store, &self.registers, &mut self.chosen, items);
+        let refused = refused_step(&self.state, &mut self.chosen, items);
         if let Some(refusal) = refused {
             return Ok(Reply::Refused(refusal));
         }
-        let verdicts = verdicts::<R>(self.alloc, &self.store, &self.registers, items)?;
+        let verdicts = verdicts(self.alloc, &self.state, items)?;
         self.carry_out(choice, &verdicts)
     }
 
@@ -286,8 +278,8 @@ impl<R: Rules> Net<R> {
         ensures { Applies R.table self.old (Step choice.now) result self.new }
     {
         let moves = ascending_moves(self.alloc, verdicts)?;
-        write_moves(&mut self.registers, &moves);
-        look_round_movers::<R>(&self.store, &self.registers, &mut self.enabled, &moves);
+        write_moves(&mut self.state, &moves);
+        look_round_movers(&self.state, &mut self.enabled, &moves);
         Ok(Reply::Moves(Listing::from_vec(moves)))
     }
 

@@ -1,13 +1,12 @@
 use Rattle.std.proofs.Common.{◌≡◌, [], take, drop, length}
 use Rattle.rule_machine.specs.Refuse.{items_refusal}
-use Rattle.rule_engine.specs.Kept.{state_of}
 use Rattle.rule_engine.specs.Marks.{AreMarks, is_named}
 use Rattle.rule_engine.proofs.guard.mark_items.Given as goal
 
 abbrev pub invariant-loop-place : goal.invariant-loop-place
 invariant-loop-place g l =
     let t = g.R.Rules.table in
-    let s = state_of l.store l.registers in
+    let s = l.state in
     record {
       rest : items_refusal t s (take l.place l.items) (drop l.place l.items) ≡ items_refusal t s [] l.items;
       marks : AreMarks (is_named (take l.place l.items)) l.chosen;

@@ -1,13 +1,13 @@
 use Rattle.std.proofs.Common.{◌∙◌, ap, sym, filter_map, option_map, arith}
 use Rattle.std.proofs.lemmas.List.{take_all}
-use Rattle.rule_engine.specs.Kept.{state_of, marked_at}
+use Rattle.rule_engine.specs.Kept.{marked_at}
 use Rattle.rule_engine.proofs.Scanned.{pushed_found, skipped_found, enabled_listed}
 use Rattle.rule_engine.proofs.listing.enabled_rules.Goals as goal
 use Rattle.rule_engine.proofs.listing.enabled_rules.Goals.{in-Some+in_ok-push, in_default}
 
 pub loop-v-preserved : goal.loop-v-preserved
 loop-v-preserved g c =
-    let f = marked_at g.R.Rules.table (state_of c.args.store.now c.args.registers.now) in
+    let f = marked_at g.R.Rules.table c.args.state.now in
     let v = c.v-item.result in
     let rule = c.rule_enabled.ensures in
     elim c.match-rule_enabled.branch [
@@ -20,5 +20,5 @@ loop-v-preserved g c =
 pub returns : goal.returns
 returns g c =
     let t = g.R.Rules.table in
-    let s = state_of c.args.store.now c.args.registers.now in
-    c.loop-v.invariant ∙ ap (filter_map (marked_at t s)) (take_all c.loop-v.v-index c.args.nodes.now (omega arith) ∙ c.requires.nodes) ∙ enabled_listed t s
+    let s = c.args.state.now in
+    c.loop-v.invariant ∙ ap (filter_map (marked_at t s)) (take_all c.loop-v.v-index c.args.nodes.now (omega arith) ∙ c.requires) ∙ enabled_listed t s

@@ -4,7 +4,7 @@ use Rattle.std.proofs.lemmas.Grind.{common_steps}
 use Rattle.rule_machine.specs.Stable.{pair_above}
 use Rattle.rule_engine.specs.Kept.{state_of, answered_by}
 use Rattle.rule_engine.proofs.Found.{found_more}
-use Rattle.rule_engine.proofs.Partners.{partner_answered}
+use Rattle.indexed_state.proofs.Partners.{partner_answered}
 use Rattle.rule_engine.proofs.Scanned.{some_iff_at}
 use Rattle.rule_engine.proofs.listing.mutual_edges.Goals as goal
 use Rattle.rule_engine.proofs.listing.mutual_edges.Goals.{in-Some+in_ok-push, in_default}

@@ -1,20 +1,19 @@
 use Rattle.std.proofs.Common.{false, take, ap, arith}
 use Rattle.std.proofs.lemmas.List.{take_all}
-use Rattle.rule_engine.specs.Kept.{state_of}
 use Rattle.rule_engine.specs.Looked.{is_near, is_near_mover}
 use Rattle.rule_engine.proofs.Looked.{looked_alike, looked_more, looked_none}
 use Rattle.rule_engine.proofs.look.look_round_movers.Goals as goal
 
 pub loop-moved-init : goal.loop-moved-init
-loop-moved-init g c = looked_none g.R.Rules.table (state_of c.args.store.now c.args.registers.now) _
+loop-moved-init g c = looked_none g.R.Rules.table c.args.state.now _
 
 pub loop-moved-preserved : goal.loop-moved-preserved
 loop-moved-preserved g c =
-    looked_more g.R.Rules.table (state_of c.args.store.now c.args.registers.now) (λ x. false) (λ m. is_near c.args.store.now m.node) c.args.moves.now c.loop-moved.moved-index c.moved-item.result _ _ _ c.loop-moved-test.true c.moved-item.is c.loop-moved.invariant c.look_round.ensures
+    looked_more g.R.Rules.table c.args.state.now (λ x. false) (λ m. is_near c.args.state.now.network m.node) c.args.moves.now c.loop-moved.moved-index c.moved-item.result _ _ _ c.loop-moved-test.true c.moved-item.is c.loop-moved.invariant c.look_round.ensures
 
 pub returns : goal.returns
 returns g c =
-    let net = c.args.store.now in
+    let net = c.args.state.now.network in
     let moves = c.args.moves.now in
     let all = take_all c.loop-moved.moved-index moves (omega arith) in
-    looked_alike g.R.Rules.table (state_of net c.args.registers.now) (is_near_mover net (take c.loop-moved.moved-index moves)) (is_near_mover net moves) _ _ (λ x. ap (λ l. is_near_mover net l x) all) c.loop-moved.invariant
+    looked_alike g.R.Rules.table c.args.state.now (is_near_mover net (take c.loop-moved.moved-index moves)) (is_near_mover net moves) _ _ (λ x. ap (λ l. is_near_mover net l x) all) c.loop-moved.invariant

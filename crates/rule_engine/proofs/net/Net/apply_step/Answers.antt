@@ -4,15 +4,17 @@ use Rattle.rule_machine.specs.declared.event.Event.TheVariants.{Step}
 use Rattle.rule_machine.specs.Refuse.{step_refusal}
 use Rattle.rule_machine.specs.Least.{reply_by, state_by}
 use Rattle.rule_engine.specs.Choosing.{verdicts_of, refusal_of_verdicts}
-use Rattle.rule_engine.specs.Kept.{state_of}
 use Rattle.rule_engine.proofs.Judged.{refusal-verdicts_of}
-use Rattle.rule_engine.proofs.Marked.{verdicts_placed}
+use Rattle.rule_engine.proofs.Marked.{blank_clear, verdicts_placed}
 use Rattle.rule_engine.proofs.net.Net.apply_step.Goals as goal
+
+pub refused_verdicts-requires-clause-clear : goal.refused_verdicts-requires-clause-clear
+refused_verdicts-requires-clause-clear g c = blank_clear (c.self.inside.state.network.size + 1) c.self.inside.chosen c.self.invariant.unmarked
 
 pub refused_verdicts-requires-clause-placed : goal.refused_verdicts-requires-clause-placed
 refused_verdicts-requires-clause-placed g c =
     let t = g.R.Rules.table in
-    let s = state_of c.self.inside.store c.self.inside.registers in
+    let s = c.self.inside.state in
     let items = c.args.choice.now in
     let verdicts : c.args.verdicts.now ≡ verdicts_of t s items = c.requires ∙ ap (λ u. verdicts_of t u items) (sym c.self.view_is) in
     let places : length c.self.inside.chosen ≡ s.network.size + 1 = ap length c.self.invariant.unmarked ∙ length-replicate (s.network.size + 1) false in

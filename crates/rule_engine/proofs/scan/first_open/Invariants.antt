@@ -1,8 +1,0 @@
-use Rattle.std.proofs.Common.{◌≡◌, ℕ, find, drop}
-use Rattle.rule_machine.specs.State.{pointer_of, flag_of}
-use Rattle.rule_engine.proofs.scan.first_open.Given as goal
-
-abbrev pub invariant-loop-w : goal.invariant-loop-w
-invariant-loop-w g l =
-    let test = λ (w : ℕ). g.R.Rules.table.opens (pointer_of l.registers w) (flag_of l.registers w) in
-    find test (drop l.w-index l.nodes) ≡ find test l.nodes

@@ -1,6 +1,0 @@
-use Rattle.std.proofs.Common.{◌≡◌, find, drop}
-use Rattle.rule_machine.specs.State.{points}
-use Rattle.rule_engine.proofs.scan.first_pointing_at.Given as goal
-
-abbrev pub invariant-loop-w : goal.invariant-loop-w
-invariant-loop-w l = find (λ w. points l.registers w l.v) (drop l.w-index l.nodes) ≡ find (λ w. points l.registers w l.v) l.nodes
