@@ -1,7 +1,7 @@
 -- The changes that events make are changes of which an index of the state before can be told.
-use Rattle.std.proofs.Common.{◌≡◌, ℕ, ◌+◌, ◌<◌, Bool, false, true, not, List, length, Option, None, IsTrue, refl, sym, ap, ◌∙◌, arith}
-use Rattle.rule_machine.specs.Network.{Network, linked, present, without_edge}
-use Rattle.rule_machine.specs.State.{State, Registers, IsState, pointer, flag, pointer_of, flag_of, points}
+use Rattle.std.proofs.Common.{◌≡◌, ℕ, ◌<◌, Bool, false, true, not, List, length, Option, None, IsTrue, refl, sym, ap, ◌∙◌, arith}
+use Rattle.rule_machine.specs.Network.{linked, present, without_edge}
+use Rattle.rule_machine.specs.State.{State, IsState, pointer, flag, flag_of, points}
 use Rattle.rule_machine.specs.Refuse.{link_refusal}
 use Rattle.rule_machine.specs.Disturbance.{after_link, after_point, after_flag}
 use Rattle.machine_laws.specs.Writes.{pointer-with_pointer_same, flag-with_flag_same}

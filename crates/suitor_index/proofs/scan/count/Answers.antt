@@ -1,6 +1,6 @@
-use Rattle.std.proofs.Common.{ℕ, Bool, ap, ◌&&◌, nat_lt, arith}
+use Rattle.std.proofs.Common.{ℕ, Bool, ◌&&◌, nat_lt, arith}
 use Rattle.rule_machine.specs.State.{points, pointer_of, flag_of}
-use Rattle.suitor_index.proofs.Sums.{count_take_more, names_take_more, one_if_small}
+use Rattle.suitor_index.proofs.Sums.{count_take_more, names_take_more, one_if_small, same_and}
 use Rattle.suitor_index.proofs.scan.count.Goals as goal
 
 pub with_neighbour-tally-requires : goal.with_neighbour-tally-requires
@@ -34,7 +34,7 @@ loop-w-preserved g c =
     record {
       suitors = count_take_more suits nodes i w _ c.loop-w.tally.suitors _ c.loop-w-test.true c.w-item.is inv.suitors t.suitors c.points_at-is_suitor.ensures;
       open_near = count_take_more opens nodes i w _ c.loop-w.tally.open_near _ c.loop-w-test.true c.w-item.is inv.open_near t.open_near c.is_open.ensures;
-      open_above = count_take_more (λ x. opens x && nat_lt c.args.v x) nodes i w _ c.loop-w.tally.open_above _ c.loop-w-test.true c.w-item.is inv.open_above t.open_above (ap (λ o. o && nat_lt c.args.v w) c.is_open.ensures);
+      open_above = count_take_more (λ x. opens x && nat_lt c.args.v x) nodes i w _ c.loop-w.tally.open_above _ c.loop-w-test.true c.w-item.is inv.open_above t.open_above (same_and c.is_open.result (opens w) (nat_lt c.args.v w) c.is_open.ensures);
       sum = names_take_more suits nodes i w _ c.loop-w.tally.sum _ c.loop-w-test.true c.w-item.is inv.sum t.sum c.points_at-is_suitor.ensures;
       few_suitors = omega (arith, suitors, one_if_small c.points_at-is_suitor.result);
       few_open = omega (arith, near, one_if_small c.is_open.result);
