@@ -3,6 +3,7 @@
 ghost use Rattle.std.specs.Prelude.{◌≡◌};
 ghost use Rattle.rule_machine.specs.HsuHuang.{hsu_huang_allowed};
 ghost use Rattle.rule_machine.specs.Manne.{manne_allowed};
+ghost use Rattle.rule_machine.specs.Step.{takes_target};
 ghost use Rattle.rule_machine.specs.Tables.{table_of};
 ghost use Rattle.replay_laws.specs.Judged as judged;
 
@@ -65,7 +66,7 @@ impl NetState {
 
 /// Whether a rule takes a target.
 fn takes_target(act: Act) -> bool
-    ensures { result ≡ judged.takes_target act }
+    ensures { result ≡ takes_target act }
 {
     match act {
         Act::Marry | Act::Seduce => true,

@@ -1,20 +1,12 @@
 -- Which replies are of an event's kind, whatever they say.
-use Rattle.std.specs.Prelude.{ℕ, Bool, true, false, cond, ◌&&◌, List, [], ◌∷◌, Option, is_some, is_none, length, nat_le}
+use Rattle.std.specs.Prelude.{Bool, true, false, cond, ◌&&◌, List, is_some, is_none, length, nat_le}
 use Rattle.std.specs.List.{list_all}
-use Rattle.rule_machine.specs.declared.act.Act.{Act}
-use Rattle.rule_machine.specs.declared.act.Act.TheVariants.{Update, Marry, Seduce, Abandon}
 use Rattle.rule_machine.specs.declared.moved.Moved.{Moved}
 use Rattle.rule_machine.specs.declared.event.Event.{Event}
 use Rattle.rule_machine.specs.declared.event.Event.TheVariants.{Link, Unlink, Point, Flag, Step, Show, Enabled, Matching}
 use Rattle.rule_machine.specs.declared.reply.Reply.{Reply}
 use Rattle.rule_machine.specs.declared.reply.Reply.TheVariants.{Accepted, Refused, Moves, Shown, EnabledAre, Pairs}
-
--- only to marry and to seduce takes a target
-abbrev pub takes_target : Act → Bool
-takes_target Update = false
-takes_target Marry = true
-takes_target Seduce = true
-takes_target Abandon = false
+pub use Rattle.rule_machine.specs.Step.{takes_target}
 
 -- a move has a target exactly where its rule takes one
 abbrev pub is_move : Moved → Bool

@@ -3,7 +3,7 @@
 ghost use Rattle.std.specs.Prelude.{◌≡◌, ◌↔◌, IsTrue, map};
 ghost use Rattle.std.specs.List.{list_all};
 ghost use Rattle.std.specs.List.Sorted.{IsStrictlyIncreasing};
-ghost use Rattle.rule_machine.specs.Step.{IsStep, after_moves};
+ghost use Rattle.rule_machine.specs.Step.{takes_target, IsStep, after_moves};
 ghost use Rattle.rule_machine.specs.Tables.{table_of};
 ghost use Rattle.replay_laws.specs.Judged as judged;
 
@@ -103,7 +103,7 @@ fn is_rule(rule: Option<Act>, act: Act) -> bool
 
 /// Whether a rule takes a target.
 fn takes_target(act: Act) -> bool
-    ensures { result ≡ judged.takes_target act }
+    ensures { result ≡ takes_target act }
 {
     match act {
         Act::Marry | Act::Seduce => true,

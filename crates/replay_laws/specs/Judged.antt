@@ -7,6 +7,7 @@ use Rattle.rule_machine.specs.declared.choice.Item.{Item}
 use Rattle.rule_machine.specs.declared.moved.Moved.{Moved}
 use Rattle.rule_machine.specs.State.{State}
 use Rattle.rule_machine.specs.RuleTable.{RuleTable, rule_at}
+use Rattle.rule_machine.specs.Step.{takes_target}
 
 -- whether two rules are one
 abbrev pub same_act : Act → Act → Bool
@@ -25,13 +26,6 @@ is_rule (Some own) act = same_act own act
 abbrev pub suits_wish : Option ℕ → ℕ → Bool
 suits_wish None w = true
 suits_wish (Some x) w = nat_eq x w
-
--- only to marry and to seduce take a target
-abbrev pub takes_target : Act → Bool
-takes_target Update = false
-takes_target Marry = true
-takes_target Seduce = true
-takes_target Abandon = false
 
 -- whether a move of v by the rule may have this target: none, or an allowed one that suits the wish
 abbrev pub is_target : RuleTable → State → ℕ → Act → Option ℕ → Option ℕ → Bool

@@ -1,5 +1,5 @@
 -- A step: the chosen nodes move at once, each by what its rule says of the state before.
-use Rattle.std.specs.Prelude.{◌≡◌, ◌≢◌, ℕ, List, [], length, map, fold, Option, None, Some, IsSome, IsSomeAnd, IsTrue, All, Any}
+use Rattle.std.specs.Prelude.{◌≡◌, ◌≢◌, ℕ, Bool, true, false, List, [], length, map, fold, Option, None, Some, IsSome, IsSomeAnd, IsTrue, All, Any}
 use Rattle.std.specs.List.Sorted.{IsStrictlyIncreasing}
 use Rattle.rule_machine.specs.declared.act.Act.{Act}
 use Rattle.rule_machine.specs.declared.act.Act.TheVariants.{Update, Marry, Seduce, Abandon}
@@ -7,6 +7,13 @@ use Rattle.rule_machine.specs.declared.choice.Item.{Item}
 use Rattle.rule_machine.specs.declared.moved.Moved.{Moved}
 use Rattle.rule_machine.specs.State.{State, Registers, with_pointer, with_flag, married}
 use Rattle.rule_machine.specs.RuleTable.{RuleTable, rule_at}
+
+-- whether a rule points its node at a target: only to marry and to seduce takes one
+abbrev pub takes_target : Act → Bool
+takes_target Update = false
+takes_target Marry = true
+takes_target Seduce = true
+takes_target Abandon = false
 
 -- an allowed target, and the wished one where there is a wish
 abbrev pub IsAllowedTarget : RuleTable → State → ℕ → Act → Option ℕ → Option ℕ → Type 0

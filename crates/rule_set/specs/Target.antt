@@ -1,9 +1,9 @@
 -- The target that a node's rule takes.
-use Rattle.std.specs.Prelude.{ℕ, Bool, true, false, Option, None, Some, option_and_then, if◌then◌else◌}
+use Rattle.std.specs.Prelude.{ℕ, Option, None, Some, option_and_then, if◌then◌else◌}
 use Rattle.rule_machine.specs.declared.act.Act.{Act}
-use Rattle.rule_machine.specs.declared.act.Act.TheVariants.{Update, Marry, Seduce, Abandon}
 use Rattle.rule_machine.specs.State.{State}
 use Rattle.rule_machine.specs.RuleTable.{RuleTable, rule_at, least_target}
+pub use Rattle.rule_machine.specs.Step.{takes_target}
 
 -- the wish if the rule allows it, and else none; with no wish the least allowed target, if the rule takes one
 abbrev pub target_by : RuleTable → State → ℕ → Option ℕ → Act → Option (Option ℕ)
@@ -13,10 +13,3 @@ target_by t s v (Some w) act = if t.allowed s v act w then Some (Some w) else No
 -- the target of the rule that is enabled at v
 abbrev pub target_at : RuleTable → State → ℕ → Option ℕ → Option (Option ℕ)
 target_at t s v wish = option_and_then (target_by t s v wish) (rule_at t s v)
-
--- whether a rule points its node at a target
-abbrev pub takes_target : Act → Bool
-takes_target Update = false
-takes_target Marry = true
-takes_target Seduce = true
-takes_target Abandon = false
