@@ -27,6 +27,7 @@ mod machines;
 mod manne_rows;
 #[cfg(test)]
 mod name_sets;
+#[cfg(test)]
 mod outputs;
 #[cfg(test)]
 mod plain_answers;
