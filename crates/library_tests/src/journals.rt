@@ -94,3 +94,15 @@ fn a_journal_has_at_most_65535_nodes(rt: HostRuntime) {
     let fault = Journal::<HsuHuang>::new(rt.alloc(), 65_536).err();
     assert!(rt; fault == Some(GraphFault::TooManyNodes));
 }
+
+#[test]
+fn an_entry_is_logged_without_a_receipt(rt: HostRuntime) {
+    let mut journal = journal_of::<HsuHuang>(&rt, rt.alloc(), 2, 1);
+    assert!(rt; !journal.is_full());
+    let link = Event::Link(named(&rt, 1), named(&rt, 2));
+    assert!(rt; journal.log(link) == Ok(1));
+    assert!(rt; has(&rt, rt.alloc(), &journal, 1, "link 1 2 = ok"));
+    assert!(rt; journal.is_full());
+    assert!(rt; journal.log(Event::Enabled) == Err(RecordFault::LogFull));
+    assert!(rt; journal.len() == 1);
+}

@@ -20,6 +20,8 @@ mod helpers;
 #[cfg(test)]
 mod hsu_huang_rows;
 #[cfg(test)]
+mod indexed_states;
+#[cfg(test)]
 mod journals;
 #[cfg(test)]
 mod machines;

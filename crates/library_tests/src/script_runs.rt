@@ -50,6 +50,24 @@ fn a_bad_line_ends_a_run(rt: HostRuntime) {
 }
 
 #[test]
+fn a_full_log_ends_turns(rt: HostRuntime) {
+    let one = "matching hh 1\n1 show 1 = -\n";
+    for (script, end) in [
+        ("show 1\ndrive 1 1\n", Err(RunFault::LogFull)),
+        ("show 1\ndrive 1 0\n", Ok(())),
+        ("show 1\nscramble 1 1\n", Err(RunFault::LogFull)),
+        ("show 1\nscramble 1 0\n", Ok(())),
+    ] {
+        ends(&rt, rt.alloc(), options(&rt, 1, 1), script, (one, end));
+    }
+    let script = "link 1 2\nstep 1\ndrive 7 5\n";
+    let three = "matching hh 2\n1 link 1 2 = ok\n2 step 1 = 1:seduce>2\n3 step 2 = 2:marry>1\n";
+    for (limit, end) in [(3, Err(RunFault::LogFull)), (4, Ok(()))] {
+        ends(&rt, rt.alloc(), options(&rt, 2, limit), script, (three, end));
+    }
+}
+
+#[test]
 fn a_full_log_ends_a_run(rt: HostRuntime) {
     let two = "matching hh 1\n1 show 1 = -\n2 show 1 = -\n";
     for (script, end) in [
