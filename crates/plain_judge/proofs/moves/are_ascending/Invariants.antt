@@ -1,5 +1,5 @@
 use Rattle.std.proofs.Common.{ℕ, ◌+◌, ◌<◌, map, get_or}
-use Rattle.plain_machine.proofs.judged.are_ascending.Given as goal
+use Rattle.plain_judge.proofs.moves.are_ascending.Given as goal
 
 abbrev pub invariant-loop-place : goal.invariant-loop-place
 invariant-loop-place l =

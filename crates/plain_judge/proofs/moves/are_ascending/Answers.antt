@@ -1,7 +1,7 @@
 use Rattle.std.proofs.Common.{◌-◌, get_or, arith}
 use Rattle.std.proofs.lemmas.Bool.{false≢true}
 use Rattle.replay_laws.specs.AscendingMoves.{above, not_above, one_more, not_here}
-use Rattle.plain_machine.proofs.judged.are_ascending.Goals as goal
+use Rattle.plain_judge.proofs.moves.are_ascending.Goals as goal
 
 pub returns-then-le : goal.returns-then-le
 returns-then-le c =

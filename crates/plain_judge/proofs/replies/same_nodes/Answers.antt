@@ -5,7 +5,7 @@ use Rattle.rule_machine.specs.declared.act.Act.{Act}
 use Rattle.rule_machine.specs.declared.act.Act.TheVariants.{Update, Marry, Seduce, Abandon}
 use Rattle.rule_machine.specs.contracts.act.Act.{the_type}
 use denote.Enum.Bare.{sameb, same_true}
-use Rattle.plain_machine.proofs.replies.same_nodes.Goals as goal
+use Rattle.plain_judge.proofs.replies.same_nodes.Goals as goal
 
 own_act : (a : Act) → sameb the_type a a ≡ true
 own_act Update = refl

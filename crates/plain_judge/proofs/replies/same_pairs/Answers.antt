@@ -1,7 +1,7 @@
 use Rattle.std.proofs.Common.{◌≡◌, ◌&&◌, Decides, ℕ, nat_eq}
 use Rattle.std.proofs.lemmas.Bool.Decides.{Decides-and, Decides-eqb}
 use Rattle.std.proofs.lemmas.Slice.Eq.{slice_eq-Decides}
-use Rattle.plain_machine.proofs.replies.same_pairs.Goals as goal
+use Rattle.plain_judge.proofs.replies.same_pairs.Goals as goal
 
 same_pair_decides : (p q : ℕ × ℕ) → Decides (nat_eq p.0 q.0 && nat_eq p.1 q.1) (p ≡ q)
 same_pair_decides p q =
