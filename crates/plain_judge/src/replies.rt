@@ -1,12 +1,13 @@
 //! Whether the machine may give a reply.
 
-ghost use Rattle.std.specs.Prelude.{◌≡◌, ◌↔◌, IsTrue, IfOk};
+ghost use Rattle.std.specs.Prelude.{◌≡◌, ◌↔◌, IsTrue, IfOk, OnErr};
 ghost use Rattle.rule_machine.specs.Answer.{Does};
 ghost use Rattle.rule_machine.specs.RuleTable.{enabled};
 ghost use Rattle.rule_machine.specs.Stable.{mutual_pairs};
 ghost use Rattle.rule_machine.specs.Step.{IsStep, after_moves};
 ghost use Rattle.rule_machine.specs.Tables.{table_of};
 ghost use Rattle.replay_laws.specs.Followed.{followed};
+ghost use Rattle.plain_judge.specs.Memory.{takes_memory};
 
 use crate::moves::is_step;
 use plain_machine::PlainNet;
@@ -21,7 +22,8 @@ pub(crate) fn may_accept(
     event: &Event,
     reply: &Reply,
 ) -> Result<bool, Want>
-    ensures { IfOk result (λ right. IsTrue right ↔ Does (table_of rules) net.now event.now reply.now (followed net.now event.now reply.now)) }
+    ensures right { IfOk result (λ right. IsTrue right ↔ Does (table_of rules) net.now event.now reply.now (followed net.now event.now reply.now)) }
+    ensures want { OnErr result (IsTrue (takes_memory event.now reply.now)) }
 {
     match event {
         Event::Link(_, _) | Event::Unlink(_, _) | Event::Point(_, _) | Event::Flag(_, _) => {
@@ -46,7 +48,8 @@ fn may_move(net: &PlainNet, rules: RuleSet, items: &[Item], reply: &Reply) -> bo
 
 /// Whether a reply has the enabled nodes.
 fn are_enabled(net: &PlainNet, alloc: Global, rules: RuleSet, reply: &Reply) -> Result<bool, Want>
-    ensures { IfOk result (λ right. IsTrue right ↔ (reply.now ≡ Reply.EnabledAre (enabled (table_of rules) net.now))) }
+    ensures right { IfOk result (λ right. IsTrue right ↔ (reply.now ≡ Reply.EnabledAre (enabled (table_of rules) net.now))) }
+    ensures want { OnErr result (IsTrue (takes_memory Event.Enabled reply.now)) }
 {
     match reply {
         Reply::EnabledAre(given) => {
@@ -59,7 +62,8 @@ fn are_enabled(net: &PlainNet, alloc: Global, rules: RuleSet, reply: &Reply) -> 
 
 /// Whether a reply has the mutual pairs.
 fn are_mutual(net: &PlainNet, alloc: Global, reply: &Reply) -> Result<bool, Want>
-    ensures { IfOk result (λ right. IsTrue right ↔ (reply.now ≡ Reply.Pairs (mutual_pairs net.now))) }
+    ensures right { IfOk result (λ right. IsTrue right ↔ (reply.now ≡ Reply.Pairs (mutual_pairs net.now))) }
+    ensures want { OnErr result (IsTrue (takes_memory Event.Matching reply.now)) }
 {
     match reply {
         Reply::Pairs(given) => {
