@@ -2,6 +2,7 @@
 
 use crate::helpers::entry_of;
 use log_entry::Entry;
+use plain_judge::replay;
 use plain_machine::PlainNet;
 use rule_engine::{Act, Net, Node, Reply, RuleSet, Rules};
 use std::alloc::Global;
@@ -80,10 +81,9 @@ pub(crate) struct Judge(pub(crate) Plain);
 
 impl Machine for Judge {
     fn answers(&mut self, rt: &impl Abort, alloc: Global, entry: &Entry) -> bool {
-        self.0
-            .net
-            .replay(alloc, self.0.rules, entry.event(), entry.reply())
-            .expect(rt, "memory")
+        let rules = self.0.rules;
+        let right = replay(&mut self.0.net, alloc, rules, entry.event(), entry.reply());
+        right.expect(rt, "memory")
     }
 
     fn charge(&self) -> Option<u64> {

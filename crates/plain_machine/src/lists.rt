@@ -10,8 +10,9 @@ use rule_machine::{Act, Edge, Node, RuleSet, Want};
 use std::alloc::Global;
 
 impl PlainNet {
-    /// The enabled nodes, ascending, each with its rule.
-    pub(crate) fn enabled(&self, alloc: Global, rules: RuleSet) -> Result<Vec<(Node, Act)>, Want>
+    /// The enabled nodes, ascending, each with its rule. Fails only for want of memory. Takes some n·n·m steps, with n
+    /// nodes and m edges.
+    pub fn enabled(&self, alloc: Global, rules: RuleSet) -> Result<Vec<(Node, Act)>, Want>
         ensures { IfOk result (λ nodes. nodes.items ≡ enabled (table_of rules) self.now) }
     {
         self.names()
@@ -21,8 +22,9 @@ impl PlainNet {
             .collect(alloc)
     }
 
-    /// The mutual pairs, ascending by lower end.
-    pub(crate) fn mutual_pairs(&self, alloc: Global) -> Result<Vec<Edge>, Want>
+    /// The mutual pairs, ascending by lower end. Fails only for want of memory. Takes some n·n·m steps, with n nodes and
+    /// m edges.
+    pub fn mutual_pairs(&self, alloc: Global) -> Result<Vec<Edge>, Want>
         ensures { IfOk result (λ pairs. pairs.items ≡ mutual_pairs self.now) }
     {
         self.names()

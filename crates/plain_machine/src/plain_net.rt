@@ -90,8 +90,8 @@ impl PlainNet {
         self.edges.contains(a, b)
     }
 
-    /// Where a node points, if anywhere.
-    pub(crate) fn pointer(&self, v: Node) -> Option<Node>
+    /// Where a node points, if anywhere; a name that is not present points nowhere.
+    pub fn pointer(&self, v: Node) -> Option<Node>
         ensures { result ≡ pointer_of self.now.registers v }
     {
         self.registers.pointer(v)
@@ -111,8 +111,8 @@ impl PlainNet {
         self.registers.points(v, w)
     }
 
-    /// Adds the edge between two nodes.
-    pub(crate) fn link(&mut self, a: Node, b: Node) -> Result<(), Want>
+    /// Adds the edge between two nodes. Want of memory changes nothing.
+    pub fn link(&mut self, a: Node, b: Node) -> Result<(), Want>
         requires { link_refusal self.old.network a b ≡ None }
         ensures ok { OnOk result (self.new ≡ after_link self.old a b) }
         ensures err { OnErr result (self.new ≡ self.old) }
@@ -124,7 +124,7 @@ impl PlainNet {
     }
 
     /// Removes the edge between two nodes, and the pointers that cross it.
-    pub(crate) fn unlink(&mut self, a: Node, b: Node)
+    pub fn unlink(&mut self, a: Node, b: Node)
         requires { unlink_refusal self.old.network a b ≡ None }
         ensures { self.new ≡ after_unlink self.old a b }
     {
@@ -136,14 +136,14 @@ impl PlainNet {
     }
 
     /// Writes a node's pointer.
-    pub(crate) fn point(&mut self, v: Node, target: Option<Node>)
+    pub fn point(&mut self, v: Node, target: Option<Node>)
         ensures { self.new ≡ after_point self.old v target }
     {
         self.registers.set_pointer(v, target);
     }
 
     /// Writes a node's flag.
-    pub(crate) fn set_flag(&mut self, v: Node, value: bool)
+    pub fn set_flag(&mut self, v: Node, value: bool)
         ensures { self.new ≡ after_flag self.old v value }
     {
         self.registers.set_flag(v, value);

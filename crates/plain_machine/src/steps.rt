@@ -26,8 +26,9 @@ impl PlainNet {
         Ok(moves)
     }
 
-    /// Makes these moves of one step.
-    pub(crate) fn make_moves(&mut self, alloc: Global, moves: &[Moved]) -> Result<(), Want>
+    /// Makes these moves of one step, whether or not a rule allows them. Want of memory changes nothing. Takes some n·m
+    /// steps for each move, with n nodes and m edges.
+    pub fn make_moves(&mut self, alloc: Global, moves: &[Moved]) -> Result<(), Want>
         ensures ok { OnOk result (self.new ≡ after_moves self.old moves.now) }
         ensures err { OnErr result (self.new ≡ self.old) }
     {
