@@ -81,7 +81,8 @@ fn unmark_items(chosen: &mut EnabledSet, items: &[Item])
 }
 
 /// Why a step of these items is refused, if it is: the first reason, item by item, without memory. A look at each item
-/// up to the refused one and at its node's neighbours. The marks are clear again at the end.
+/// up to the refused one, and a search of its node's neighbours where its target is free. The marks are clear again at
+/// the end.
 pub(crate) fn refused_step<R: Rules>(
     state: &IndexedState<R>,
     chosen: &mut EnabledSet,

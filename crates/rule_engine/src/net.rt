@@ -31,8 +31,8 @@ use rule_set::Rules;
 use std::alloc::{AllocError, Global};
 use std::marker::Model;
 
-/// A network under the rules `R`: its edges, its registers and who is enabled, seen in contracts as the state of the
-/// rule machine.
+/// A network under the rules `R`: its edges and registers with their index, and who is enabled, seen in contracts as the
+/// state of the rule machine.
 #[derive(Drop)]
 pub struct Net<R: Rules> {
     alloc: Global,
@@ -111,14 +111,16 @@ impl<R: Rules> Net<R> {
         self.enabled.count() == 0
     }
 
-    /// The rule that is enabled at a node, if any is; none at an absent one. Looks at the node's neighbours.
+    /// The rule that is enabled at a node, if any is; none at an absent one. A few looks, however many neighbours the
+    /// node has.
     pub fn guard(&self, v: Node) -> Option<Act>
         ensures { result ≡ guard_at R.table self.now v }
     {
         rule_enabled(&self.state, v)
     }
 
-    /// What the item at a place of a choice, from 0, would do alone. Looks at its node's neighbours.
+    /// What the item at a place of a choice, from 0, would do alone. Goes through its node's neighbours only where a
+    /// target has to be found.
     pub fn verdict(&self, choice: &Choice, place: u32) -> Verdict
         requires { place < length choice.now }
         ensures { IfSome (slice_get choice.now place) (λ item. result ≡ verdict_of R.table self.now place item) }
