@@ -63,7 +63,13 @@ fn a_full_log_ends_turns(rt: HostRuntime) {
     let script = "link 1 2\nstep 1\ndrive 7 5\n";
     let three = "matching hh 2\n1 link 1 2 = ok\n2 step 1 = 1:seduce>2\n3 step 2 = 2:marry>1\n";
     for (limit, end) in [(3, Err(RunFault::LogFull)), (4, Ok(()))] {
-        ends(&rt, rt.alloc(), options(&rt, 2, limit), script, (three, end));
+        ends(
+            &rt,
+            rt.alloc(),
+            options(&rt, 2, limit),
+            script,
+            (three, end),
+        );
     }
 }
 

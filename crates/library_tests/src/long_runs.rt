@@ -1,0 +1,100 @@
+//! Long runs of drawn events on the engine, beside the plain machine.
+
+use crate::machines::net_of;
+use plain_machine::PlainNet;
+use rand_core::{Rng, SeedableRng};
+use rand_pcg::Pcg32;
+use rule_engine::{Choice, Event, Item, Net, Node, RuleSet, Rules};
+use rules_hsu_huang::HsuHuang;
+use rules_manne::Manne;
+use std::alloc::Global;
+use std::process::Abort;
+
+/// A name, which may be the one above the last.
+fn drawn_name(rt: &impl Abort, generator: &mut Pcg32, nodes: u16) -> Node {
+    let most = u32::from(nodes) + 1;
+    Node::new(generator.next_u32() % most + 1).expect(rt, "a name")
+}
+
+/// An enabled node, if there is one.
+fn drawn_mover<R: Rules>(generator: &mut Pcg32, net: &Net<R>) -> Option<Node> {
+    let count = net.enabled().count().max(1);
+    net.enabled().nth(generator.next_u32() % count)
+}
+
+/// A choice of up to so many enabled nodes; one may stand in it twice.
+fn drawn_choice<R: Rules>(
+    rt: &impl Abort,
+    alloc: Global,
+    generator: &mut Pcg32,
+    net: &Net<R>,
+    most: u32,
+) -> Choice {
+    let mut items = Vec::new(alloc);
+    for _ in 0..most {
+        if let Some(node) = drawn_mover(generator, net) {
+            items.push(Item { node, wish: None }).expect(rt, "memory");
+        }
+    }
+    Choice::new(items).expect(rt, "a choice")
+}
+
+fn drawn_event<R: Rules>(
+    rt: &impl Abort,
+    alloc: Global,
+    generator: &mut Pcg32,
+    net: &Net<R>,
+    nodes: u16,
+) -> Event {
+    let (v, w) = (
+        drawn_name(rt, generator, nodes),
+        drawn_name(rt, generator, nodes),
+    );
+    match generator.next_u32() % 8 {
+        0 | 1 => Event::Link(v, w),
+        2 => Event::Unlink(v, w),
+        3 => Event::Point(v, Some(w)),
+        4 => Event::Flag(v, w < v),
+        5 => Event::Step(drawn_choice(rt, alloc, generator, net, 3)),
+        _ => Event::Step(drawn_choice(rt, alloc, generator, net, 1)),
+    }
+}
+
+/// Both answer an event alike, and list the same enabled nodes then.
+fn agree<R: Rules>(
+    rt: &impl Abort,
+    alloc: Global,
+    net: &mut Net<R>,
+    plain: (&mut PlainNet, RuleSet),
+    event: &Event,
+) {
+    for asked in [event, &Event::Enabled] {
+        let reply = net.apply(asked).expect(rt, "memory");
+        let wanted = plain.0.answer(alloc, plain.1, asked).expect(rt, "memory");
+        assert!(rt; reply == wanted);
+    }
+}
+
+fn agree_along<R: Rules>(rt: &impl Abort, alloc: Global, rules: RuleSet, nodes: u16, seed: u64) {
+    let mut net = net_of::<R>(rt, alloc, u32::from(nodes));
+    let mut plain = PlainNet::new(alloc, u32::from(nodes)).expect(rt, "memory");
+    let mut generator = Pcg32::seed_from_u64(seed);
+    for _ in 0..600 {
+        let event = drawn_event(rt, alloc, &mut generator, &net, nodes);
+        agree(rt, alloc, &mut net, (&mut plain, rules), &event);
+    }
+}
+
+#[test]
+fn the_engine_agrees_along_runs_of_hsu_huang(rt: HostRuntime) {
+    for (nodes, seed) in [(20, 1), (50, 2)] {
+        agree_along::<HsuHuang>(&rt, rt.alloc(), RuleSet::Hh, nodes, seed);
+    }
+}
+
+#[test]
+fn the_engine_agrees_along_runs_of_manne(rt: HostRuntime) {
+    for (nodes, seed) in [(20, 3), (50, 4)] {
+        agree_along::<Manne>(&rt, rt.alloc(), RuleSet::Manne, nodes, seed);
+    }
+}
