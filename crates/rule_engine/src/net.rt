@@ -111,8 +111,8 @@ impl<R: Rules> Net<R> {
         self.enabled.count() == 0
     }
 
-    /// The rule that is enabled at a node, if any is; none at an absent one. A few looks, however many neighbours the
-    /// node has.
+    /// The rule that is enabled at a node, if any is; none at an absent one. What the guard asks about all neighbours is
+    /// counted at the node, so that it looks at no list of them.
     pub fn guard(&self, v: Node) -> Option<Act>
         ensures { result ≡ guard_at R.table self.now v }
     {
