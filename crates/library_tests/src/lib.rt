@@ -24,6 +24,8 @@ mod indexed_states;
 #[cfg(test)]
 mod journals;
 #[cfg(test)]
+mod long_path;
+#[cfg(test)]
 mod long_runs;
 #[cfg(test)]
 mod machines;

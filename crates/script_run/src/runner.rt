@@ -1,6 +1,6 @@
 //! A run under one set of rules.
 
-ghost use Rattle.std.specs.Prelude.{◌≡◌, IfOk, OnErr};
+ghost use Rattle.std.specs.Prelude.{◌≡◌, IfOk, OnErr, length};
 ghost use Rattle.std.specs.Io.KnownBytes.{Appends};
 ghost use Rattle.script_machine.specs.Script.{Progress, lines_of};
 ghost use Rattle.byte_output.specs.Beginning.{AppendsBeginning, AppendsLess};
@@ -61,6 +61,7 @@ impl<R: Rules> Run<R> {
     // it is asked for.
     fn take_turns<S: EventSource>(&mut self, source: &mut S, count: u32) -> Result<bool, Want>
         ensures ends { TurnsEnd S.draws R.table self.old.journal.limit count (S.stream source.old) (progress self.old.journal self.old.text.items) (progress self.new.journal self.new.text.items) result }
+        ensures unasked { length self.old.journal.entries ≡ self.old.journal.limit → S.stream source.new ≡ S.stream source.old }
         ensures limit { self.new.journal.limit ≡ self.old.journal.limit }
     {
         for _ in 0..count {

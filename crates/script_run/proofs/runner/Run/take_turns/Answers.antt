@@ -32,4 +32,5 @@ loop-preserved g c =
     record {
       limit = c.log.ensures.limit ∙ c.loop.invariant.limit;
       turned = turned_more _ _ _ _ _ _ _ _ _ c.loop.invariant.turned c.loop-test.true c.in-Some.event (g.S.EventSource.stream c.next_event.new.self) _ below drawn done.1;
+      unasked = λ full. absurd (let same = (c.loop.invariant.unasked full).1 in omega (arith, below, same));
     }

@@ -1,4 +1,4 @@
-use Rattle.std.proofs.Common.{◌≡◌}
+use Rattle.std.proofs.Common.{◌≡◌, length}
 use Rattle.script_run.specs.Line.{progress}
 use Rattle.script_run.proofs.Turning.{Turned}
 use Rattle.script_run.proofs.runner.Run.take_turns.Given as goal
@@ -9,4 +9,5 @@ invariant-loop g l =
     let run = l.self in record {
       limit : run.journal.limit ≡ begun.journal.limit;
       turned : Turned g.S.EventSource.draws g.R.Rules.table begun.journal.limit l.count l.counter (g.S.EventSource.stream l.fn.source) (g.S.EventSource.stream l.source) (progress begun.journal begun.text.items) (progress run.journal run.text.items);
+      unasked : length begun.journal.entries ≡ begun.journal.limit → (g.S.EventSource.stream l.source ≡ g.S.EventSource.stream l.fn.source) × (length run.journal.entries ≡ begun.journal.limit);
     }
