@@ -1,12 +1,14 @@
 -- Runs: what a log of events and replies says of the machine.
-use Rattle.std.specs.Prelude.{◌≡◌, ℕ, ◌+◌, List, [], ◌∷◌, ◌++◌, length}
+use Rattle.std.specs.Prelude.{◌≡◌, ℕ, ◌+◌, List, [], ◌∷◌, ◌++◌, length, refl}
+use Rattle.std.specs.Coded.{Coded, code_by, coded×, coded_ℕ}
 use Rattle.rule_machine.specs.declared.event.Event.{Event}
 use Rattle.rule_machine.specs.declared.reply.Reply.{Reply}
 use Rattle.rule_machine.specs.declared.reply.Reply.TheVariants.{Accepted, Refused, Moves, Shown, EnabledAre, Pairs, Counts}
 use Rattle.rule_machine.specs.Network.{node_count, edge_count}
-use Rattle.rule_machine.specs.State.{State, opening}
+use Rattle.rule_machine.specs.State.{State, state_code, opening}
 use Rattle.rule_machine.specs.RuleTable.{RuleTable}
 use Rattle.rule_machine.specs.Answer.{Answers, spent_after}
+use Rattle.rule_machine.specs.Least.{state_after, spent_by}
 
 -- an event, and the reply to it
 abbrev pub Entry : Type 0
@@ -16,6 +18,14 @@ Entry = Event × Reply
 pub record Moment : Type 0 where
   pub state : State
   pub spent : ℕ
+
+abbrev pub moment_code : Coded Moment
+moment_code =
+    code_by (State × ℕ) (coded× state_code coded_ℕ) (λ m. (m.state, m.spent)) (λ p. record { state = p.0; spent = p.1 }) (λ _. refl)
+
+-- where the reply with the least targets leaves the machine
+abbrev pub moment_after : RuleTable → Moment → Event → Moment
+moment_after t m event = record { state = state_after t m.state event; spent = spent_by t m.state m.spent event }
 
 -- From one moment to another, the machine may answer the log's events by its replies, one after another.
 abbrev pub Run : RuleTable → Moment → List Entry → Moment → Type 0
