@@ -9,6 +9,7 @@ use rules_hsu_huang::HsuHuang;
 const NO_NODE: &str = "\
 enabled = none
 matching = none
+status = nodes=0 edges=0 pairs=0 enabled=0 charge=0 spent=0
 charge 0
 ";
 
@@ -22,6 +23,7 @@ charge 1
 step 2 = 2:marry>1
 matching = 1-2
 enabled = none
+status = nodes=2 edges=1 pairs=1 enabled=0 charge=0 spent=2
 charge 0
 ";
 
@@ -34,6 +36,7 @@ show 1 = -
 show 2 = -
 enabled = none
 matching = none
+status = nodes=2 edges=0 pairs=0 enabled=0 charge=0 spent=0
 charge 0
 ";
 
@@ -107,6 +110,7 @@ step 9 8 = refused 9 not-central
 step 1 = 1:seduce>2
 point 1 2 = ok
 enabled = 2:marry
+status = nodes=3 edges=1 pairs=0 enabled=1 charge=1 spent=0
 charge 1
 ";
 

@@ -19,7 +19,7 @@ impl<R: Rules> Machine for Journal<R> {
     }
 
     fn charge(&self) -> Option<u64> {
-        None
+        Machine::charge(self.net())
     }
 }
 
@@ -61,8 +61,9 @@ fn an_event_is_an_entry_and_a_receipt(rt: HostRuntime) {
 fn a_full_log_takes_no_event(rt: HostRuntime) {
     let mut journal = journal_of::<HsuHuang>(&rt, rt.alloc(), 2, 1);
     play(&rt, rt.alloc(), &mut journal, "link 1 2 = ok");
-    let enabled = journal.record(Event::Enabled).err();
-    assert!(rt; enabled == Some(RecordFault::LogFull));
+    let status = journal.record(Event::Status).err();
+    assert!(rt; status == Some(RecordFault::LogFull));
+    assert!(rt; journal.is_full());
     let unlink = Event::Unlink(named(&rt, 1), named(&rt, 2));
     assert!(rt; journal.record(unlink).err() == Some(RecordFault::LogFull));
     assert!(rt; journal.len() == 1);
@@ -95,14 +96,3 @@ fn a_journal_has_at_most_65535_nodes(rt: HostRuntime) {
     assert!(rt; fault == Some(GraphFault::TooManyNodes));
 }
 
-#[test]
-fn an_entry_is_logged_without_a_receipt(rt: HostRuntime) {
-    let mut journal = journal_of::<HsuHuang>(&rt, rt.alloc(), 2, 1);
-    assert!(rt; !journal.is_full());
-    let link = Event::Link(named(&rt, 1), named(&rt, 2));
-    assert!(rt; journal.log(link) == Ok(1));
-    assert!(rt; has(&rt, rt.alloc(), &journal, 1, "link 1 2 = ok"));
-    assert!(rt; journal.is_full());
-    assert!(rt; journal.log(Event::Enabled) == Err(RecordFault::LogFull));
-    assert!(rt; journal.len() == 1);
-}

@@ -4,6 +4,8 @@
 #[cfg(test)]
 mod all_machines;
 #[cfg(test)]
+mod budgets;
+#[cfg(test)]
 mod chosen_nodes;
 #[cfg(test)]
 mod command_lines;

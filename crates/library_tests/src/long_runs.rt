@@ -1,7 +1,6 @@
 //! Long runs of drawn events on the engine, beside the plain machine.
 
-use crate::machines::net_of;
-use plain_machine::PlainNet;
+use crate::machines::{Plain, net_of, plain_of};
 use rand_core::{Rng, SeedableRng};
 use rand_pcg::Pcg32;
 use rule_engine::{Choice, Event, Item, Net, Node, RuleSet, Rules};
@@ -64,25 +63,24 @@ fn drawn_event<R: Rules>(
 fn agree<R: Rules>(
     rt: &impl Abort,
     alloc: Global,
-    rules: RuleSet,
     net: &mut Net<R>,
-    plain: &mut PlainNet,
+    plain: &mut Plain,
     event: &Event,
 ) {
     let reply = net.apply(event).expect(rt, "memory");
-    let wanted = plain.answer(alloc, rules, event).expect(rt, "memory");
-    assert!(rt; reply == wanted);
+    assert!(rt; reply == plain.answer(rt, alloc, event));
 }
 
-/// They answer drawn events alike, and list the same enabled nodes after each.
+/// They answer drawn events alike, and list the same enabled nodes and say the same numbers after each.
 fn agree_along<R: Rules>(rt: &impl Abort, alloc: Global, rules: RuleSet, nodes: u16, seed: u64) {
     let mut net = net_of::<R>(rt, alloc, u32::from(nodes));
-    let mut plain = PlainNet::new(alloc, u32::from(nodes)).expect(rt, "memory");
+    let mut plain = plain_of(rt, alloc, rules, nodes);
     let mut generator = Pcg32::seed_from_u64(seed);
     for _ in 0..600 {
         let event = drawn_event(rt, alloc, &mut generator, &net, nodes);
-        agree(rt, alloc, rules, &mut net, &mut plain, &event);
-        agree(rt, alloc, rules, &mut net, &mut plain, &Event::Enabled);
+        agree(rt, alloc, &mut net, &mut plain, &event);
+        agree(rt, alloc, &mut net, &mut plain, &Event::Enabled);
+        agree(rt, alloc, &mut net, &mut plain, &Event::Status);
     }
 }
 

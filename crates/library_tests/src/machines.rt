@@ -4,7 +4,7 @@ use crate::helpers::entry_of;
 use log_entry::Entry;
 use plain_judge::replay;
 use plain_machine::PlainNet;
-use rule_engine::{Act, Net, Node, Reply, RuleSet, Rules};
+use rule_engine::{Act, Event, Net, Node, Reply, RuleSet, Rules};
 use std::alloc::Global;
 use std::process::Abort;
 
@@ -42,21 +42,52 @@ impl<R: Rules> Machine for Net<R> {
     }
 
     fn charge(&self) -> Option<u64> {
-        None
+        Some(u64::from(Net::charge(self)))
     }
 }
 
-/// A plain network with its rules, which answers events.
+/// A plain network with its rules and the moves since it was last disturbed, which answers events.
 #[derive(Drop)]
 pub(crate) struct Plain {
     pub(crate) net: PlainNet,
     pub(crate) rules: RuleSet,
+    pub(crate) spent: u32,
+}
+
+/// How many moves a reply tells of.
+pub(crate) fn moves_in(reply: &Reply) -> u32 {
+    match reply {
+        Reply::Moves(moves) => u32::try_from(moves.as_slice().len()).unwrap_or(u32::MAX),
+        _ => 0,
+    }
+}
+
+impl Plain {
+    /// The reply to an event.
+    pub(crate) fn answer(&mut self, rt: &impl Abort, alloc: Global, event: &Event) -> Reply {
+        let answer = self.net.answer(alloc, self.rules, self.spent, event);
+        let reply = answer.expect(rt, "memory");
+        self.spend(&reply);
+        reply
+    }
+
+    /// Counts what a reply spends.
+    fn spend(&mut self, reply: &Reply) {
+        self.spent = match reply {
+            Reply::Accepted => 0,
+            other => self.spent.saturating_add(moves_in(other)),
+        };
+    }
 }
 
 /// The plain network of the nodes 1 to `nodes` without an edge.
 pub(crate) fn plain_of(rt: &impl Abort, alloc: Global, rules: RuleSet, nodes: u16) -> Plain {
     let net = PlainNet::new(alloc, u32::from(nodes)).expect(rt, "memory");
-    Plain { net, rules }
+    Plain {
+        net,
+        rules,
+        spent: 0,
+    }
 }
 
 impl Machine for Plain {
@@ -66,8 +97,7 @@ impl Machine for Plain {
                 assert!(rt; self.net.rule_at(self.rules, *v) == Some(*act));
             }
         }
-        let reply = self.net.answer(alloc, self.rules, entry.event());
-        reply.expect(rt, "memory") == *entry.reply()
+        self.answer(rt, alloc, entry.event()) == *entry.reply()
     }
 
     fn charge(&self) -> Option<u64> {
@@ -81,9 +111,20 @@ pub(crate) struct Judge(pub(crate) Plain);
 
 impl Machine for Judge {
     fn answers(&mut self, rt: &impl Abort, alloc: Global, entry: &Entry) -> bool {
-        let rules = self.0.rules;
-        let right = replay(&mut self.0.net, alloc, rules, entry.event(), entry.reply());
-        right.expect(rt, "memory")
+        let (rules, spent) = (self.0.rules, u64::from(self.0.spent));
+        let judged = replay(
+            &mut self.0.net,
+            alloc,
+            rules,
+            spent,
+            entry.event(),
+            entry.reply(),
+        );
+        let right = judged.expect(rt, "memory");
+        if right {
+            self.0.spend(entry.reply());
+        }
+        right
     }
 
     fn charge(&self) -> Option<u64> {

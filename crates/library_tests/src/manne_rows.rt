@@ -20,11 +20,13 @@ enabled = 1:update 2:update
 step 2 1 = 1:update 2:update
 matching = 1-2
 enabled = none
+status = nodes=2 edges=1 pairs=1 enabled=0 charge=0 spent=4
 charge 0
 unlink 1 2 = ok
 show 1 = -
 show 2 = -
 enabled = 1:update 2:update
+status = nodes=2 edges=0 pairs=0 enabled=2 charge=4 spent=0
 charge 4
 ";
 

@@ -58,6 +58,13 @@ wrong enabled = 1:seduce 2:marry 3:seduce
 wrong enabled = 2:seduce 1:seduce 3:seduce
 wrong matching = 1-2
 matching = none
+wrong status = nodes=2 edges=2 pairs=0 enabled=3 charge=4 spent=0
+wrong status = nodes=3 edges=1 pairs=0 enabled=3 charge=4 spent=0
+wrong status = nodes=3 edges=2 pairs=1 enabled=3 charge=4 spent=0
+wrong status = nodes=3 edges=2 pairs=0 enabled=2 charge=4 spent=0
+wrong status = nodes=3 edges=2 pairs=0 enabled=3 charge=5 spent=0
+wrong status = nodes=3 edges=2 pairs=0 enabled=3 charge=4 spent=1
+status = nodes=3 edges=2 pairs=0 enabled=3 charge=4 spent=0
 ";
 
 const DISTURBANCES: &str = "\

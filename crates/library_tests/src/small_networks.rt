@@ -8,8 +8,7 @@
 //! each counts twice for each node.
 
 use crate::helpers::named;
-use crate::machines::net_of;
-use plain_machine::PlainNet;
+use crate::machines::{Plain, moves_in, net_of, plain_of};
 use rule_engine::{Choice, Event, Item, Net, Node, Reply, RuleSet, Rules};
 use rules_hsu_huang::HsuHuang;
 use rules_manne::Manne;
@@ -20,7 +19,7 @@ use std::process::Abort;
 #[derive(Clone, Copy, PartialEq)]
 enum Kind {
     Accepted,
-    Moves,
+    Moves(u32),
     Other,
 }
 
@@ -29,8 +28,7 @@ enum Kind {
 #[derive(Drop)]
 struct Twins<R: Rules> {
     net: Net<R>,
-    plain: PlainNet,
-    rules: RuleSet,
+    plain: Plain,
     nodes: u8,
     edges: u32,
     state: u32,
@@ -41,8 +39,7 @@ impl<R: Rules> Twins<R> {
     fn new(rt: &impl Abort, alloc: Global, rules: RuleSet, nodes: u8, edges: u32) -> Twins<R> {
         Twins {
             net: net_of(rt, alloc, u32::from(nodes)),
-            plain: PlainNet::new(alloc, u32::from(nodes)).expect(rt, "memory"),
-            rules,
+            plain: plain_of(rt, alloc, rules, u16::from(nodes)),
             nodes,
             edges,
             state: 0,
@@ -52,8 +49,7 @@ impl<R: Rules> Twins<R> {
     /// Asks both for an event, and compares their replies.
     fn ask(&mut self, rt: &impl Abort, alloc: Global, event: Event) -> Kind {
         let reply = self.net.apply(&event).expect(rt, "memory");
-        let plain = self.plain.answer(alloc, self.rules, &event);
-        let same = plain.expect(rt, "memory") == reply;
+        let same = self.plain.answer(rt, alloc, &event) == reply;
         let (edges, state) = (self.edges, self.state);
         assert!(rt;
             same,
@@ -61,7 +57,7 @@ impl<R: Rules> Twins<R> {
         );
         match reply {
             Reply::Accepted => Kind::Accepted,
-            Reply::Moves(_) => Kind::Moves,
+            Reply::Moves(_) => Kind::Moves(moves_in(&reply)),
             _ => Kind::Other,
         }
     }
@@ -100,19 +96,32 @@ impl<R: Rules> Twins<R> {
         rest == 0
     }
 
-    /// Looks at every pointer, the enabled nodes and the matching.
+    /// Looks at every pointer, the enabled nodes, the matching and the numbers.
     fn look(&mut self, rt: &impl Abort, alloc: Global) {
         for name in 1..4 {
             let _ = self.ask(rt, alloc, Event::Show(named(rt, name)));
         }
         let _ = self.ask(rt, alloc, Event::Enabled);
         let _ = self.ask(rt, alloc, Event::Matching);
+        let _ = self.ask(rt, alloc, Event::Status);
     }
 
-    /// Lets the nodes of a choice move; if they do, looks at what is there then and goes back to the state.
+    /// Compares how the charge has fallen with the moves that came.
+    fn expect_paid(&self, rt: &impl Abort, before: u32, moves: u32) {
+        let after = self.net.charge();
+        assert!(rt;
+            after.saturating_add(moves) <= before,
+            "{moves} moves from the charge {before} to {after}"
+        );
+    }
+
+    /// Lets the nodes of a choice move; if they do, the charge has fallen by their number at least. Then looks at what
+    /// is there and goes back to the state.
     fn step(&mut self, rt: &impl Abort, alloc: Global, number: u32) {
         let choice = choice_of(rt, alloc, self.nodes, number);
-        if self.ask(rt, alloc, Event::Step(choice)) == Kind::Moves {
+        let charge = self.net.charge();
+        if let Kind::Moves(moves) = self.ask(rt, alloc, Event::Step(choice)) {
+            self.expect_paid(rt, charge, moves);
             self.look(rt, alloc);
             assert!(rt; self.set(rt, alloc));
         }

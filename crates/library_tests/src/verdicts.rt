@@ -18,7 +18,7 @@ fn verdicts<R: Rules>(
     net: &Net<R>,
     choice: &Choice,
 ) -> Result<Vec<Verdict>, AllocError>
-    ensures { IfOk result (λ v. v.items ≡ verdicts_of R.table net.now choice.now) }
+    ensures { IfOk result (λ v. v.items ≡ verdicts_of R.table net.now.state choice.now) }
 {
     let items = choice.items();
     let mut verdicts = Vec::with_capacity(alloc, items.len())?;
@@ -43,7 +43,7 @@ impl<R: Rules> Machine for ByVerdicts<R> {
     }
 
     fn charge(&self) -> Option<u64> {
-        None
+        Machine::charge(&self.0)
     }
 }
 
