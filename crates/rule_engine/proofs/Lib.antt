@@ -9,3 +9,4 @@ pub mod Again
 pub mod Opening
 pub mod Marked
 pub mod Ascending
+pub mod Moments

@@ -6,7 +6,7 @@ use Rattle.rule_machine.specs.Least.{reply_by, state_by}
 use Rattle.rule_engine.specs.Choosing.{verdicts_of, refusal_of_verdicts}
 use Rattle.rule_engine.proofs.Judged.{refusal-verdicts_of}
 use Rattle.rule_engine.proofs.Marked.{blank_clear, verdicts_placed}
-use Rattle.rule_engine.proofs.net.Net.apply_step.Goals as goal
+use Rattle.rule_engine.proofs.engine.Engine.apply_step.Goals as goal
 
 pub refused_verdicts-requires-clause-clear : goal.refused_verdicts-requires-clause-clear
 refused_verdicts-requires-clause-clear g c = blank_clear (c.self.inside.state.network.size + 1) c.self.inside.chosen c.self.invariant.unmarked

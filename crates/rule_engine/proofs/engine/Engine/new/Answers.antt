@@ -5,7 +5,7 @@ use Rattle.machine_laws.specs.Keeps.{opening_is_state}
 use Rattle.rule_engine.specs.Kept.{IsKept}
 use Rattle.rule_engine.proofs.Again.{kept_quiet}
 use Rattle.rule_engine.proofs.Opening.{opening_is_stable}
-use Rattle.rule_engine.proofs.net.Net.new.Goals as goal
+use Rattle.rule_engine.proofs.engine.Engine.new.Goals as goal
 
 pub invariant_of-result : goal.invariant_of-result
 invariant_of-result g c =
