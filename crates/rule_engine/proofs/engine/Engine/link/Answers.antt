@@ -6,8 +6,8 @@ use Rattle.machine_laws.specs.LeastMoves.{IsTable}
 use Rattle.rule_engine.specs.Applied.{Applies}
 use Rattle.rule_engine.proofs.Again.{kept_linked}
 use Rattle.rule_engine.proofs.Keeping.{link_leaves_state, link_refusal-fault, refused_by_fault, linked_applies, refused_applies, wanting_applies}
-use Rattle.rule_engine.proofs.net.Net.link.Goals as goal
-use Rattle.rule_engine.proofs.net.Net.link.Goals.{in-Some, in-None}
+use Rattle.rule_engine.proofs.engine.Engine.link.Goals as goal
+use Rattle.rule_engine.proofs.engine.Engine.link.Goals.{in-Some, in-None}
 
 pub invariant_of-self : goal.invariant_of-self
 invariant_of-self g c =
@@ -23,12 +23,12 @@ returns-in-Ok g c =
     linked_applies g.R.Rules.table c.self.inside.state c.args.self.now c.link.new.self c.args.a c.args.b c.self.view_is done.0 done.1
 
 pub returns-after-refusal_of : goal.returns-after-refusal_of
-returns-after-refusal_of g c =
+returns-after-refusal_of g c n =
     let t = g.R.Rules.table in
     let s = c.self.inside.state in
     let event = Link c.args.a c.args.b in
     let refused : c.refusal_of.result ≡ link_refusal s.network c.args.a c.args.b = c.refusal_of.ensures ∙ refused_by_fault (link_fault s.network c.args.a c.args.b) c.in-Err.fault c.in-Err.ensures.fault ∙ sym (link_refusal-fault s.network c.args.a c.args.b) in
     elim c.match-refusal_of.branch [
-      | in-Some w ↦ subst (λ r. Applies t c.args.self.now event r c.link.new.self) (sym w.result-is) (refused_applies t s c.args.self.now c.link.new.self event w.in-Some.refusal c.self.view_is (sym refused ∙ w.in-Some.is) c.in-Err.ensures.kept)
-      | in-None w ↦ subst (λ r. Applies t c.args.self.now event r c.link.new.self) (sym w.result-is) (wanting_applies t s c.args.self.now c.link.new.self event _ c.self.view_is (sym refused ∙ w.in-None.is) refl c.in-Err.ensures.kept)
+      | in-Some w ↦ subst (λ r. Applies t c.args.self.now n event r c.link.new.self) (sym w.result-is) (refused_applies t s c.args.self.now c.link.new.self event w.in-Some.refusal c.self.view_is (sym refused ∙ w.in-Some.is) c.in-Err.ensures.kept n)
+      | in-None w ↦ subst (λ r. Applies t c.args.self.now n event r c.link.new.self) (sym w.result-is) (wanting_applies t s c.args.self.now c.link.new.self event _ c.self.view_is (sym refused ∙ w.in-None.is) refl c.in-Err.ensures.kept n)
     ]

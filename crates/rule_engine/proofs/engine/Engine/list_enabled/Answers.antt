@@ -1,6 +1,6 @@
 use Rattle.std.proofs.Common.{◌∙◌}
 use Rattle.rule_engine.proofs.Again.{members_on}
-use Rattle.rule_engine.proofs.net.Net.list_enabled.Goals as goal
+use Rattle.rule_engine.proofs.engine.Engine.list_enabled.Goals as goal
 
 pub enabled_rules-requires : goal.enabled_rules-requires
 enabled_rules-requires g c =

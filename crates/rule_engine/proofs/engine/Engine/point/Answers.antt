@@ -6,7 +6,7 @@ use Rattle.machine_laws.specs.LeastMoves.{IsTable}
 use Rattle.machine_laws.specs.Accepted.{accepted_keeps}
 use Rattle.rule_engine.proofs.Again.{kept_pointed}
 use Rattle.rule_engine.proofs.Keeping.{may_point}
-use Rattle.rule_engine.proofs.net.Net.point.Goals as goal
+use Rattle.rule_engine.proofs.engine.Engine.point.Goals as goal
 
 pub set_pointer-requires-clause-present : goal.set_pointer-requires-clause-present
 set_pointer-requires-clause-present g c =

@@ -3,7 +3,7 @@ use Rattle.rule_machine.specs.State.{State, IsState}
 use Rattle.stable_matching.specs.Laws.{maximal_from_stable, stable_from_maximal}
 use Rattle.rule_engine.specs.Kept.{AreOn}
 use Rattle.rule_engine.proofs.Again.{quiet_by_count}
-use Rattle.rule_engine.proofs.net.Net.is_quiet.Goals as goal
+use Rattle.rule_engine.proofs.engine.Engine.is_quiet.Goals as goal
 
 pub returns : goal.returns
 returns g c =

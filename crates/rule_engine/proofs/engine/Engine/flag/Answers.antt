@@ -3,7 +3,7 @@ use Rattle.rule_machine.specs.Network.{present}
 use Rattle.rule_machine.specs.State.{IsState}
 use Rattle.machine_laws.specs.Keeps.{flag_keeps}
 use Rattle.rule_engine.proofs.Again.{kept_flagged}
-use Rattle.rule_engine.proofs.net.Net.flag.Goals as goal
+use Rattle.rule_engine.proofs.engine.Engine.flag.Goals as goal
 
 pub invariant_of-self : goal.invariant_of-self
 invariant_of-self g c =

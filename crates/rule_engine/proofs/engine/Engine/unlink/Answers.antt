@@ -6,7 +6,7 @@ use Rattle.machine_laws.specs.Keeps.{unlink_keeps}
 use Rattle.rule_engine.specs.Refused.{refused_as}
 use Rattle.rule_engine.proofs.Again.{kept_unlinked}
 use Rattle.rule_engine.proofs.Keeping.{unlink_refusal-fault, unlinked_answer, refused_answered}
-use Rattle.rule_engine.proofs.net.Net.unlink.Goals as goal
+use Rattle.rule_engine.proofs.engine.Engine.unlink.Goals as goal
 
 pub invariant_of-self : goal.invariant_of-self
 invariant_of-self g c =

@@ -7,7 +7,7 @@ use Rattle.rule_machine.specs.Least.{least_moves, reply_by, state_by, reply_of, 
 use Rattle.machine_laws.specs.LeastMoves.{IsTable}
 use Rattle.rule_engine.proofs.Again.{kept_moved}
 use Rattle.rule_engine.proofs.Carried.{least_carried, moves_in, movers_present, carried, carried_state}
-use Rattle.rule_engine.proofs.net.Net.carry_out.Goals as goal
+use Rattle.rule_engine.proofs.engine.Engine.carry_out.Goals as goal
 
 pub write_moves-requires : goal.write_moves-requires
 write_moves-requires g c =
@@ -46,7 +46,7 @@ invariant_of-self g c =
     kept_moved t laws.is_local s c.write_moves.new.state c.deref-2.result.now _ _ c.self.invariant good (after ∙ ap (after_moves s) (sym again)) c.look_round_movers.ensures
 
 pub returns : goal.returns
-returns g c =
+returns g c n =
     let t = g.R.Rules.table in
     let s = c.self.inside.state in
     let items = c.args.choice.now in
@@ -55,7 +55,7 @@ returns g c =
     let none : step_refusal t s items ≡ None = ap (λ u. step_refusal t u items) c.self.view_is ∙ c.requires.accepted in
     let after : c.write_moves.new.state ≡ after_moves s (least_moves t s items) = carried s c.write_moves.new.state c.self.invariant.is_state c.deref.result.now c.write_moves.ensures.network c.write_moves.ensures.registers ∙ ap (after_moves s) moves in
     record {
-      reply = ap Moves (c.from_vec.ensures ∙ found) ∙ ap (reply_by t s (Step items)) (sym none) ∙ ap (λ u. reply_of t u (Step items)) c.self.view_is;
+      reply = ap Moves (c.from_vec.ensures ∙ found) ∙ ap (reply_by t s n (Step items)) (sym none) ∙ ap (λ u. reply_of t u n (Step items)) c.self.view_is;
       state = after ∙ ap (state_by t s (Step items)) (sym none) ∙ ap (λ u. state_after t u (Step items)) c.self.view_is;
       kept = tt;
       want = tt;
