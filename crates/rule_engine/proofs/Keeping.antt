@@ -124,3 +124,12 @@ pub applied_answers : {E : Type 0} (t : RuleTable) → IsTable t → (s s' : Sta
 applied_answers t table s s' good n event (Ok r) done =
     subst (λ q. Answers t s n event q s') (sym done.reply) (subst (λ u. Answers t s n event (reply_of t s n event) u) (sym done.state) (least_answers t table s good n event))
 applied_answers t table s s' good n event (Err e) done = tt
+
+-- an answer that takes no memory
+pub answered_applies : {E : Type 0} (t : RuleTable) (s s' : State) (n : ℕ) (event : Event) (answer : Reply) → Answered t s n event answer s' → Applies {E = E} t s n event (Ok answer) s'
+answered_applies t s s' n event answer done = record { reply = done.reply; state = done.state; kept = tt; want = tt }
+
+-- a question whose answer may take memory
+pub asked_applies : {E : Type 0} (t : RuleTable) (s : State) (n : ℕ) (event : Event) (result : Result Reply E) → refusal_of t s event ≡ None → IsTrue (takes_memory event) → state_after t s event ≡ s → IfOk result (λ r. r ≡ reply_of t s n event) → Applies t s n event result s
+asked_applies t s n event (Ok r) allowed may same told = record { reply = told; state = sym same; kept = tt; want = tt }
+asked_applies t s n event (Err e) allowed may same told = record { reply = tt; state = tt; kept = refl; want = (allowed, may) }

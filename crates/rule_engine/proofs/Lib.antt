@@ -10,3 +10,4 @@ pub mod Opening
 pub mod Marked
 pub mod Ascending
 pub mod Moments
+pub mod Counted

@@ -1,10 +1,9 @@
 -- The moments that a network goes through.
-use Rattle.std.proofs.Common.{◌≡◌, ℕ, ◌+◌, ◌<◌, ◌≤◌, List, [], ◌∷◌, ◌++◌, length, take, drop, get_or, zip, Some, None, Result, Ok, Err, IfOk, OnErr, IsSomeAnd, IsTrue, inl, inr, refl, sym, ap, ◌∙◌, subst, arith}
+use Rattle.std.proofs.Common.{◌≡◌, ℕ, ◌+◌, ◌<◌, List, [], ◌∷◌, ◌++◌, length, take, drop, get_or, zip, Some, None, Result, Ok, Err, OnErr, IsSomeAnd, IsTrue, inl, inr, refl, sym, ap, ◌∙◌, subst, arith}
 use Rattle.std.proofs.lemmas.Option.{slice_get-get_or}
 use Rattle.std.proofs.lemmas.List.{take_more, drop_more, append_assoc}
 use Rattle.rule_machine.specs.declared.event.Event.{Event}
 use Rattle.rule_machine.specs.declared.reply.Reply.{Reply}
-use Rattle.rule_machine.specs.Network.{Network, node_count, edge_count}
 use Rattle.rule_machine.specs.State.{State, IsState}
 use Rattle.rule_machine.specs.RuleTable.{RuleTable}
 use Rattle.rule_machine.specs.Refuse.{refusal_of}
@@ -16,7 +15,7 @@ use Rattle.machine_laws.specs.LeastMoves.{IsTable}
 use Rattle.machine_laws.specs.Accepted.{state_after_keeps}
 use Rattle.machine_laws.specs.LeastAnswers.{least_answers}
 use Rattle.machine_laws.specs.Runs.{answers_keep}
-use Rattle.charge_laws.specs.Charged.{charge_bound, IsCharged}
+use Rattle.charge_laws.specs.Charged.{IsCharged}
 use Rattle.charge_laws.specs.Laws.{beginning_is_within}
 use Rattle.charge_laws.specs.Runs.{answer_within}
 use Rattle.rule_engine.specs.Applied.{IsPaid, StopsAt, moment_after_all, takes_memory}
@@ -34,22 +33,18 @@ answer_is_paid t weight table charged m paid event reply s answers = record {
   within = answer_within t weight table charged m paid.is_state paid.within event reply s answers;
 }
 
--- the reply and the state of the machine are paid, and leave the moment after
-pub turn_is_paid : (t : RuleTable) (weight : ℕ) → IsTable t → IsCharged t weight → (m : Moment) → IsPaid t weight m → (event : Event) (reply : Reply) (s : State) → reply ≡ reply_of t m.state m.spent event → s ≡ state_after t m.state event → IsPaid t weight (moment s (spent_after m.spent reply))
-turn_is_paid t weight table charged m paid event reply s told is =
-    answer_is_paid t weight table charged m paid event reply s (turn_answers t table m paid.is_state event reply s told is)
-
+-- the machine's reply and state
 pub turn_answers : (t : RuleTable) → IsTable t → (m : Moment) → IsState m.state → (event : Event) (reply : Reply) (s : State) → reply ≡ reply_of t m.state m.spent event → s ≡ state_after t m.state event → Answers t m.state m.spent event reply s
 turn_answers t table m good event reply s told is =
     subst (λ q. Answers t m.state m.spent event q s) (sym told) (subst (λ u. Answers t m.state m.spent event (reply_of t m.state m.spent event) u) (sym is) (least_answers t table m.state good m.spent event))
 
+pub turn_is_paid : (t : RuleTable) (weight : ℕ) → IsTable t → IsCharged t weight → (m : Moment) → IsPaid t weight m → (event : Event) (reply : Reply) (s : State) → reply ≡ reply_of t m.state m.spent event → s ≡ state_after t m.state event → IsPaid t weight (moment s (spent_after m.spent reply))
+turn_is_paid t weight table charged m paid event reply s told is =
+    answer_is_paid t weight table charged m paid event reply s (turn_answers t table m paid.is_state event reply s told is)
+
 pub turn_after : (t : RuleTable) (m : Moment) (event : Event) (reply : Reply) (s : State) → reply ≡ reply_of t m.state m.spent event → s ≡ state_after t m.state event → moment s (spent_after m.spent reply) ≡ moment_after t m event
 turn_after t m event reply s told is =
     ap (λ u. moment u (spent_after m.spent reply)) is ∙ ap (λ r. moment (state_after t m.state event) (spent_after m.spent r)) told
-
--- what is within the bound fits 32 bits
-pub bound_fits : (weight : ℕ) (net : Network) → weight ≤ 3 → node_count net ≤ 65535 → edge_count net ≤ 1048576 → charge_bound weight net ≤ 2293757
-bound_fits weight net light nodes edges = omega arith
 
 -- ---- events in turn
 

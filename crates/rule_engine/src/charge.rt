@@ -1,6 +1,6 @@
 //! The charge of a state, and what moves have spent of it.
 
-ghost use Rattle.std.specs.Prelude.{◌≡◌, ◌<◌, ◌≤◌, IsTrue, not, sum_by};
+ghost use Rattle.std.specs.Prelude.{◌≡◌, ◌<◌, ◌≤◌, ◌&&◌, IsTrue, nat_lt, not, sum_by};
 ghost use Rattle.charge_laws.specs.Charged.{charge_bound};
 ghost use Rattle.rule_machine.specs.Answer.{spent_after};
 ghost use Rattle.rule_machine.specs.Network.{names, present};
@@ -21,13 +21,23 @@ fn standing<R: Rules>(state: &IndexedState<R>, v: Node) -> Standing
     ensures standing { IsStanding state.now result }
 {
     let view = state.at(v);
+    let registers = state.registers();
     Standing {
         node: v,
-        pointer: view.pointer(v),
-        flag: view.flag(v),
+        pointer: registers.pointer(v),
+        flag: registers.flag(v),
         is_married: view.married(),
         has_suitor: view.has_suitor(),
     }
+}
+
+/// Whether another node is the higher end of an edge from this one that is not closed.
+fn is_open_above<R: Rules>(state: &IndexedState<R>, low: &Standing, w: Node) -> bool
+    requires has { IsTrue (present state.now.network w) }
+    requires standing { IsStanding state.now low.now }
+    ensures { result ≡ (nat_lt low.now.node w && not (R.closed state.now (low.now.node, w))) }
+{
+    low.node < w && !R::is_closed(low, &standing(state, w))
 }
 
 /// How many edges of which this node is the lower end are not closed.
@@ -39,7 +49,7 @@ fn open_edges<R: Rules>(state: &IndexedState<R>, low: &Standing) -> u32
 {
     let mut open = 0;
     for &w in state.store().neighbours(low.node) {
-        if low.node < w && !R::is_closed(low, &standing(state, w)) {
+        if is_open_above(state, low, w) {
             open += 1;
         }
     }
@@ -64,7 +74,9 @@ fn charge_at<R: Rules>(state: &IndexedState<R>, v: Node) -> u64
 {
     let here = standing(state, v);
     let unanswered = is_unanswered(state.registers(), &here);
-    u64::from(unanswered) + u64::from(R::node_charge(&here)) + 2 * u64::from(open_edges(state, &here))
+    u64::from(unanswered)
+        + u64::from(R::node_charge(&here))
+        + 2 * u64::from(open_edges(state, &here))
 }
 
 /// What all nodes add to the charge.
@@ -82,8 +94,7 @@ fn charge_of_all<R: Rules>(state: &IndexedState<R>) -> u64
 pub(crate) fn charge_of<R: Rules>(state: &IndexedState<R>) -> u32
     ensures { result ≡ R.table.charge state.now }
 {
-    let store = state.store();
-    prove!(store.nodes() <= MAX_NODES && store.edges() <= MAX_EDGES);
+    prove!(state.store().edges() <= MAX_EDGES);
     charge_of_all(state) as u32
 }
 

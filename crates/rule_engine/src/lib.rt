@@ -15,6 +15,7 @@ pub use enabled_set::EnabledSet;
 pub use graph_store::{Edge, GraphFault, Node};
 pub use net::Net;
 pub use rule_machine::{
-    Act, Choice, Counts, Event, Item, Listing, Moved, Outcome, Refusal, Reply, RuleSet, Verdict, Want,
+    Act, Choice, Counts, Event, Item, Listing, Moved, Outcome, Refusal, Reply, RuleSet, Verdict,
+    Want,
 };
 pub use rule_set::{BadTarget, Local, Rules};
