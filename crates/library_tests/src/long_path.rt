@@ -18,7 +18,7 @@ fn path(rt: &impl Abort, alloc: Global) -> Journal<HsuHuang> {
     let mut journal = journal_of::<HsuHuang>(rt, alloc, NODES, 10_000);
     for v in 1..NODES {
         let link = Event::Link(named(rt, v), named(rt, v + 1));
-        journal.log(link).expect(rt, "room");
+        journal.record(link).expect(rt, "room");
     }
     journal
 }
@@ -38,7 +38,7 @@ fn settle(rt: &impl Abort, alloc: Global, journal: &mut Journal<HsuHuang>) -> u3
             return moves;
         };
         let step = step_of(rt, alloc, node);
-        journal.log(step).expect(rt, "room");
+        journal.record(step).expect(rt, "room");
     }
     3 * NODES
 }
