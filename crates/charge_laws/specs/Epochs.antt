@@ -2,12 +2,12 @@
 use Rattle.std.proofs.Common.{◌≡◌, ◌≢◌, ℕ, ◌+◌, ◌*◌, ◌≤◌, List, [], ◌∷◌, length, map, All, refl, sym, ap, ◌∙◌, arith}
 use Rattle.std.proofs.lemmas.List.Elements.{All-nil, All-cons, All-append}
 use Rattle.rule_machine.specs.declared.reply.Reply.{Reply}
-use Rattle.rule_machine.specs.declared.reply.Reply.TheVariants.{Accepted, Refused, Moves, Shown, EnabledAre, Pairs}
+use Rattle.rule_machine.specs.declared.reply.Reply.TheVariants.{Accepted, Refused, Moves, Shown, EnabledAre, Pairs, Counts}
 use Rattle.rule_machine.specs.Network.{node_count, edge_count}
 use Rattle.rule_machine.specs.State.{State, IsState, opening}
 use Rattle.rule_machine.specs.RuleTable.{RuleTable}
-use Rattle.rule_machine.specs.Answer.{Answers}
-use Rattle.rule_machine.specs.Run.{Entry, Moment, Run, spent_after, beginning, Epoch, epoch_at, epochs_by, epochs_from}
+use Rattle.rule_machine.specs.Answer.{Answers, spent_after}
+use Rattle.rule_machine.specs.Run.{Entry, Moment, Run, beginning, Epoch, epoch_at, epochs_by, epochs_from}
 use Rattle.machine_laws.specs.Keeps.{opening_is_state}
 use Rattle.machine_laws.specs.LeastMoves.{IsTable}
 use Rattle.machine_laws.specs.Runs.{answers_keep}
@@ -19,7 +19,7 @@ use Rattle.charge_laws.specs.Laws.{beginning_is_within}
 abbrev pub IsPath : RuleTable → Moment → List (Entry × State) → Type 0
 IsPath t start [] = Unit {0}
 IsPath t start (step ∷ path) =
-    Answers t start.state step.0.0 step.0.1 step.1 × IsPath t (record { state = step.1; spent = spent_after start.spent step.0.1 }) path
+    Answers t start.state start.spent step.0.0 step.0.1 step.1 × IsPath t (record { state = step.1; spent = spent_after start.spent step.0.1 }) path
 
 -- every run has such states
 pub path_from_run : (t : RuleTable) (start : Moment) (log : List Entry) (end : Moment) → Run t start log end → (path : List (Entry × State)) × (map (λ step. step.0) path ≡ log) × IsPath t start path
@@ -62,16 +62,17 @@ epoch_turns t weight m epoch number (Refused refusal) s at within same = (All-ni
 epoch_turns t weight m epoch number (Shown target) s at within same = (All-nil (IsBounded weight), keeps_on m epoch s at (same (λ e. cc)))
 epoch_turns t weight m epoch number (EnabledAre nodes) s at within same = (All-nil (IsBounded weight), keeps_on m epoch s at (same (λ e. cc)))
 epoch_turns t weight m epoch number (Pairs pairs) s at within same = (All-nil (IsBounded weight), keeps_on m epoch s at (same (λ e. cc)))
+epoch_turns t weight m epoch number (Counts counts) s at within same = (All-nil (IsBounded weight), keeps_on m epoch s at (same (λ e. cc)))
 
 -- From a moment within the bound, each epoch is bounded.
 pub epochs_are_bounded : (t : RuleTable) (weight : ℕ) → IsTable t → IsCharged t weight → (start : Moment) → IsState start.state → IsWithinBound t weight start → (number : ℕ) (epoch : Epoch) → IsEpochAt start epoch → (path : List (Entry × State)) → IsPath t start path → All (IsBounded weight) (epochs_from number epoch path)
 epochs_are_bounded t weight table charged start good within number epoch at [] path =
     All-cons (IsBounded weight) epoch [] (bounded_at t weight start epoch at within) (All-nil (IsBounded weight))
 epochs_are_bounded t weight table charged start good within number epoch at (((event, reply), s) ∷ steps) (answers, path) =
-    let turn = epoch_turns t weight start epoch number reply s at within (λ calm. (answer_lowers t weight charged start.state good event reply s answers calm).1) in
+    let turn = epoch_turns t weight start epoch number reply s at within (λ calm. (answer_lowers t weight charged start.state good start.spent event reply s answers calm).1) in
     All-append (IsBounded weight) (epochs_by reply number s epoch).0 (epochs_from (number + 1) (epochs_by reply number s epoch).1 steps) turn.0
     (epochs_are_bounded t weight table charged (record { state = s; spent = spent_after start.spent reply })
-    (answers_keep t table start.state good event reply s answers)
+    (answers_keep t table start.state good start.spent event reply s answers)
     (answer_within t weight table charged start good within event reply s answers)
     (number + 1) (epochs_by reply number s epoch).1 turn.1 steps path)
 

@@ -5,16 +5,16 @@ use Rattle.std.proofs.lemmas.List.Sums.{sum_by-cons}
 use Rattle.rule_machine.specs.declared.choice.Item.{Item}
 use Rattle.rule_machine.specs.declared.moved.Moved.{Moved}
 use Rattle.rule_machine.specs.declared.event.Event.{Event}
-use Rattle.rule_machine.specs.declared.event.Event.TheVariants.{Link, Unlink, Point, Flag, Step, Show, Enabled, Matching}
+use Rattle.rule_machine.specs.declared.event.Event.TheVariants.{Link, Unlink, Point, Flag, Step, Show, Enabled, Matching, Status}
 use Rattle.rule_machine.specs.declared.refusal.Refusal.{Refusal}
 use Rattle.rule_machine.specs.declared.reply.Reply.{Reply}
-use Rattle.rule_machine.specs.declared.reply.Reply.TheVariants.{Accepted, Refused, Moves, Shown, EnabledAre, Pairs}
+use Rattle.rule_machine.specs.declared.reply.Reply.TheVariants.{Accepted, Refused, Moves, Shown, EnabledAre, Pairs, Counts}
 use Rattle.rule_machine.specs.State.{State, IsState}
 use Rattle.rule_machine.specs.RuleTable.{RuleTable}
 use Rattle.rule_machine.specs.Step.{IsStep}
 use Rattle.rule_machine.specs.Refuse.{refusal_of}
-use Rattle.rule_machine.specs.Answer.{Does, AnswersBy, Answers}
-use Rattle.rule_machine.specs.Run.{Entry, Moment, Run, spent_after}
+use Rattle.rule_machine.specs.Answer.{Does, AnswersBy, Answers, spent_after}
+use Rattle.rule_machine.specs.Run.{Entry, Moment, Run}
 use Rattle.machine_laws.specs.LeastMoves.{IsTable}
 use Rattle.machine_laws.specs.Runs.{answers_keep}
 use Rattle.charge_laws.specs.Charged.{charge_bound, IsCharged, moves_of, moves_in, IsUndisturbed, IsWithinBound}
@@ -27,30 +27,31 @@ pub data Effect (t : RuleTable) (s : State) (reply : Reply) (s' : State) : Type 
   steps : (items : List Item) (moves : List Moved) → reply ≡ Moves moves → IsStep t s items moves s' → Effect t s reply s'
   disturbs : reply ≡ Accepted → Effect t s reply s'
 
-does_effect : (t : RuleTable) (s : State) (event : Event) (reply : Reply) (s' : State) → Does t s event reply s' → Effect t s reply s'
-does_effect t s (Link a b) Accepted s' does = disturbs refl
-does_effect t s (Unlink a b) Accepted s' does = disturbs refl
-does_effect t s (Point v target) Accepted s' does = disturbs refl
-does_effect t s (Flag v value) Accepted s' does = disturbs refl
-does_effect t s (Step items) (Moves moves) s' does = steps items moves refl does
-does_effect t s (Show v) (Shown target) s' does = rests does.1 refl (λ n. refl)
-does_effect t s Enabled (EnabledAre nodes) s' does = rests does.1 refl (λ n. refl)
-does_effect t s Matching (Pairs pairs) s' does = rests does.1 refl (λ n. refl)
-does_effect t s event reply s' does = absurd does
+does_effect : (t : RuleTable) (s : State) (n : ℕ) (event : Event) (reply : Reply) (s' : State) → Does t s n event reply s' → Effect t s reply s'
+does_effect t s n (Link a b) Accepted s' does = disturbs refl
+does_effect t s n (Unlink a b) Accepted s' does = disturbs refl
+does_effect t s n (Point v target) Accepted s' does = disturbs refl
+does_effect t s n (Flag v value) Accepted s' does = disturbs refl
+does_effect t s n (Step items) (Moves moves) s' does = steps items moves refl does
+does_effect t s n (Show v) (Shown target) s' does = rests does.1 refl (λ m. refl)
+does_effect t s n Enabled (EnabledAre nodes) s' does = rests does.1 refl (λ m. refl)
+does_effect t s n Matching (Pairs pairs) s' does = rests does.1 refl (λ m. refl)
+does_effect t s n Status (Counts counts) s' does = rests does.1 refl (λ m. refl)
+does_effect t s n event reply s' does = absurd does
 
-effect_by : (t : RuleTable) (s : State) (event : Event) (r : Option Refusal) (reply : Reply) (s' : State) → AnswersBy t s event r reply s' → Effect t s reply s'
-effect_by t s event None reply s' does = does_effect t s event reply s' does
-effect_by t s event (Some refusal) reply s' does = rests does.1 (ap moves_of does.0) (λ n. ap (spent_after n) does.0)
+effect_by : (t : RuleTable) (s : State) (n : ℕ) (event : Event) (r : Option Refusal) (reply : Reply) (s' : State) → AnswersBy t s n event r reply s' → Effect t s reply s'
+effect_by t s n event None reply s' does = does_effect t s n event reply s' does
+effect_by t s n event (Some refusal) reply s' does = rests does.1 (ap moves_of does.0) (λ m. ap (spent_after m) does.0)
 
-pub effect : (t : RuleTable) (s : State) (event : Event) (reply : Reply) (s' : State) → Answers t s event reply s' → Effect t s reply s'
-effect t s event reply s' answers = effect_by t s event (refusal_of t s event) reply s' answers
+pub effect : (t : RuleTable) (s : State) (n : ℕ) (event : Event) (reply : Reply) (s' : State) → Answers t s n event reply s' → Effect t s reply s'
+effect t s n event reply s' answers = effect_by t s n event (refusal_of t s event) reply s' answers
 
 pub step_network : (t : RuleTable) (s : State) (items : List Item) (moves : List Moved) (s' : State) → IsStep t s items moves s' → s'.network ≡ s.network
 step_network t s items moves s' step = ap (λ u. u.network) step.after
 
 -- an answer that is no accepted disturbance lowers the charge by its moves, and keeps the network
-pub answer_lowers : (t : RuleTable) (weight : ℕ) → IsCharged t weight → (s : State) → IsState s → (event : Event) (reply : Reply) (s' : State) → Answers t s event reply s' → reply ≢ Accepted → (moves_of reply + t.charge s' ≤ t.charge s) × (s'.network ≡ s.network)
-answer_lowers t weight charged s good event reply s' answers calm = by_effect (effect t s event reply s' answers)
+pub answer_lowers : (t : RuleTable) (weight : ℕ) → IsCharged t weight → (s : State) → IsState s → (n : ℕ) (event : Event) (reply : Reply) (s' : State) → Answers t s n event reply s' → reply ≢ Accepted → (moves_of reply + t.charge s' ≤ t.charge s) × (s'.network ≡ s.network)
+answer_lowers t weight charged s good n event reply s' answers calm = by_effect (effect t s n event reply s' answers)
   where
     by_effect : Effect t s reply s' → (moves_of reply + t.charge s' ≤ t.charge s) × (s'.network ≡ s.network)
     by_effect (rests same none keeps) = let charge_is = ap t.charge same in (omega (arith, none, charge_is), ap (λ u. u.network) same)
@@ -61,8 +62,8 @@ answer_lowers t weight charged s good event reply s' answers calm = by_effect (e
     by_effect (disturbs is) = absurd (calm is)
 
 -- every answer keeps what is spent and the charge within the bound: a disturbance begins anew
-pub answer_within : (t : RuleTable) (weight : ℕ) → IsTable t → IsCharged t weight → (m : Moment) → IsState m.state → IsWithinBound t weight m → (event : Event) (reply : Reply) (s : State) → Answers t m.state event reply s → IsWithinBound t weight (record { state = s; spent = spent_after m.spent reply })
-answer_within t weight table charged m good within event reply s answers = by_effect (effect t m.state event reply s answers)
+pub answer_within : (t : RuleTable) (weight : ℕ) → IsTable t → IsCharged t weight → (m : Moment) → IsState m.state → IsWithinBound t weight m → (event : Event) (reply : Reply) (s : State) → Answers t m.state m.spent event reply s → IsWithinBound t weight (record { state = s; spent = spent_after m.spent reply })
+answer_within t weight table charged m good within event reply s answers = by_effect (effect t m.state m.spent event reply s answers)
   where
     by_effect : Effect t m.state reply s → spent_after m.spent reply + t.charge s ≤ charge_bound weight s.network
     by_effect (rests same none keeps) =
@@ -77,7 +78,7 @@ answer_within t weight table charged m good within event reply s answers = by_ef
         omega (arith, spent, less, bound, within)
     by_effect (disturbs is) =
         let spent = ap (spent_after m.spent) is in
-        let most = charged.bounded s (answers_keep t table m.state good event reply s answers) in
+        let most = charged.bounded s (answers_keep t table m.state good m.spent event reply s answers) in
         omega (arith, spent, most)
 
 -- ---- runs
@@ -89,6 +90,7 @@ spent_undisturbed n (Refused refusal) calm = omega arith
 spent_undisturbed n (Shown target) calm = omega arith
 spent_undisturbed n (EnabledAre nodes) calm = omega arith
 spent_undisturbed n (Pairs pairs) calm = omega arith
+spent_undisturbed n (Counts counts) calm = omega arith
 
 -- what an undisturbed run spends is its moves
 pub run_spends : (t : RuleTable) (start : Moment) (log : List Entry) (end : Moment) → Run t start log end → IsUndisturbed log → end.spent ≡ start.spent + moves_in log
@@ -103,8 +105,8 @@ run_spends t start (entry ∷ log) end (next, answers, run) calm =
 pub run_lowers : (t : RuleTable) (weight : ℕ) → IsTable t → IsCharged t weight → (start : Moment) → IsState start.state → (log : List Entry) (end : Moment) → Run t start log end → IsUndisturbed log → (moves_in log + t.charge end.state ≤ t.charge start.state) × (end.state.network ≡ start.state.network)
 run_lowers t weight table charged start good [] end run calm = let same = ap (λ m. t.charge m.state) run in (omega (arith, same), ap (λ m. m.state.network) run)
 run_lowers t weight table charged start good (entry ∷ log) end (next, answers, run) calm =
-    let first = answer_lowers t weight charged start.state good entry.0 entry.1 next answers (All-head (λ e. e.1 ≢ Accepted) entry log calm) in
-    let rest = run_lowers t weight table charged (record { state = next; spent = spent_after start.spent entry.1 }) (answers_keep t table start.state good entry.0 entry.1 next answers) log end run (All-tail (λ e. e.1 ≢ Accepted) entry log calm) in
+    let first = answer_lowers t weight charged start.state good start.spent entry.0 entry.1 next answers (All-head (λ e. e.1 ≢ Accepted) entry log calm) in
+    let rest = run_lowers t weight table charged (record { state = next; spent = spent_after start.spent entry.1 }) (answers_keep t table start.state good start.spent entry.0 entry.1 next answers) log end run (All-tail (λ e. e.1 ≢ Accepted) entry log calm) in
     let whole = sum_by-cons (λ (e : Entry). moves_of e.1) entry log in
     let first_falls = first.0 in
     let rest_falls = rest.0 in
@@ -115,6 +117,6 @@ pub run_within : (t : RuleTable) (weight : ℕ) → IsTable t → IsCharged t we
 run_within t weight table charged start good within [] end run = subst (IsWithinBound t weight) (sym run) within
 run_within t weight table charged start good within (entry ∷ log) end (next, answers, run) =
     run_within t weight table charged (record { state = next; spent = spent_after start.spent entry.1 })
-    (answers_keep t table start.state good entry.0 entry.1 next answers)
+    (answers_keep t table start.state good start.spent entry.0 entry.1 next answers)
     (answer_within t weight table charged start good within entry.0 entry.1 next answers)
     log end run

@@ -11,7 +11,7 @@ use Rattle.rule_machine.specs.declared.moved.Moved.{Moved}
 use Rattle.rule_machine.specs.declared.verdict.Outcome.{Outcome}
 use Rattle.rule_machine.specs.declared.verdict.Outcome.TheVariants as outcome
 use Rattle.rule_machine.specs.declared.event.Event.{Event}
-use Rattle.rule_machine.specs.declared.event.Event.TheVariants.{Link, Unlink, Point, Flag, Step, Show, Enabled, Matching}
+use Rattle.rule_machine.specs.declared.event.Event.TheVariants.{Link, Unlink, Point, Flag, Step, Show, Enabled, Matching, Status}
 use Rattle.rule_machine.specs.declared.refusal.Refusal.{Refusal}
 use Rattle.rule_machine.specs.declared.refusal.Refusal.TheVariants.{UnknownNode, SelfLoop, NotNeighbour, NoFlag, EmptyChoice, NotCentral, ChosenTwice, NotEnabled, BadTarget}
 use Rattle.rule_machine.specs.Network.{present, linked}
@@ -141,6 +141,7 @@ accepted_keeps t table s good (Step items) e = step_keeps t table s good items
 accepted_keeps t table s good (Show v) e = good
 accepted_keeps t table s good Enabled e = good
 accepted_keeps t table s good Matching e = good
+accepted_keeps t table s good Status e = good
 
 state_by_keeps : (t : RuleTable) → IsTable t → (s : State) → IsState s → (event : Event) (r : Option Refusal) → refusal_of t s event ≡ r → IsState (state_by t s event r)
 state_by_keeps t table s good event None e = accepted_keeps t table s good event e

@@ -13,7 +13,7 @@ use Rattle.rule_machine.specs.declared.act.Act.TheVariants.{Update, Marry, Seduc
 use Rattle.rule_machine.specs.declared.choice.Item.{Item}
 use Rattle.rule_machine.specs.declared.moved.Moved.{Moved}
 use Rattle.rule_machine.specs.declared.event.Event.{Event}
-use Rattle.rule_machine.specs.declared.event.Event.TheVariants.{Link, Unlink, Point, Flag, Step, Show, Enabled, Matching}
+use Rattle.rule_machine.specs.declared.event.Event.TheVariants.{Link, Unlink, Point, Flag, Step, Show, Enabled, Matching, Status}
 use Rattle.rule_machine.specs.declared.refusal.Refusal.{Refusal}
 use Rattle.rule_machine.specs.Network.{Network, names, present}
 use Rattle.rule_machine.specs.State.{State, IsState}
@@ -203,20 +203,21 @@ least_step t table s good items choice =
 
 -- ---- the answer
 
-least_does : (t : RuleTable) → IsTable t → (s : State) → IsState s → (event : Event) → refusal_of t s event ≡ None → Does t s event (accepted_reply t s event) (accepted_state t s event)
-least_does t table s good (Link a b) e = refl
-least_does t table s good (Unlink a b) e = refl
-least_does t table s good (Point v target) e = refl
-least_does t table s good (Flag v value) e = refl
-least_does t table s good (Step items) e = least_step t table s good items (choice_from_none t s items e)
-least_does t table s good (Show v) e = (refl, refl)
-least_does t table s good Enabled e = (refl, refl)
-least_does t table s good Matching e = (refl, refl)
+least_does : (t : RuleTable) → IsTable t → (s : State) → IsState s → (n : ℕ) (event : Event) → refusal_of t s event ≡ None → Does t s n event (accepted_reply t s n event) (accepted_state t s event)
+least_does t table s good n (Link a b) e = refl
+least_does t table s good n (Unlink a b) e = refl
+least_does t table s good n (Point v target) e = refl
+least_does t table s good n (Flag v value) e = refl
+least_does t table s good n (Step items) e = least_step t table s good items (choice_from_none t s items e)
+least_does t table s good n (Show v) e = (refl, refl)
+least_does t table s good n Enabled e = (refl, refl)
+least_does t table s good n Matching e = (refl, refl)
+least_does t table s good n Status e = (refl, refl)
 
-least_answers_by : (t : RuleTable) → IsTable t → (s : State) → IsState s → (event : Event) (r : Option Refusal) → refusal_of t s event ≡ r → AnswersBy t s event r (reply_by t s event r) (state_by t s event r)
-least_answers_by t table s good event None e = least_does t table s good event e
-least_answers_by t table s good event (Some refusal) e = (refl, refl)
+least_answers_by : (t : RuleTable) → IsTable t → (s : State) → IsState s → (n : ℕ) (event : Event) (r : Option Refusal) → refusal_of t s event ≡ r → AnswersBy t s n event r (reply_by t s n event r) (state_by t s event r)
+least_answers_by t table s good n event None e = least_does t table s good n event e
+least_answers_by t table s good n event (Some refusal) e = (refl, refl)
 
 -- the answer with the least targets is one that the machine may give
-pub least_answers : (t : RuleTable) → IsTable t → (s : State) → IsState s → (event : Event) → Answers t s event (reply_of t s event) (state_after t s event)
-least_answers t table s good event = least_answers_by t table s good event (refusal_of t s event) refl
+pub least_answers : (t : RuleTable) → IsTable t → (s : State) → IsState s → (n : ℕ) (event : Event) → Answers t s n event (reply_of t s n event) (state_after t s event)
+least_answers t table s good n event = least_answers_by t table s good n event (refusal_of t s event) refl

@@ -7,18 +7,18 @@ use Rattle.rule_machine.specs.declared.act.Act.TheVariants.{Update, Marry, Seduc
 use Rattle.rule_machine.specs.declared.choice.Item.{Item}
 use Rattle.rule_machine.specs.declared.moved.Moved.{Moved}
 use Rattle.rule_machine.specs.declared.event.Event.{Event}
-use Rattle.rule_machine.specs.declared.event.Event.TheVariants.{Link, Unlink, Point, Flag, Step, Show, Enabled, Matching}
+use Rattle.rule_machine.specs.declared.event.Event.TheVariants.{Link, Unlink, Point, Flag, Step, Show, Enabled, Matching, Status}
 use Rattle.rule_machine.specs.declared.refusal.Refusal.{Refusal}
 use Rattle.rule_machine.specs.declared.reply.Reply.{Reply}
-use Rattle.rule_machine.specs.declared.reply.Reply.TheVariants.{Accepted, Moves, Shown, EnabledAre, Pairs}
+use Rattle.rule_machine.specs.declared.reply.Reply.TheVariants.{Accepted, Moves, Shown, EnabledAre, Pairs, Counts}
 use Rattle.rule_machine.specs.Network.{linked, present}
 use Rattle.rule_machine.specs.State.{State, IsState}
 use Rattle.rule_machine.specs.RuleTable.{RuleTable}
 use Rattle.rule_machine.specs.Step.{IsTarget, IsMoveOf, IsStep}
 use Rattle.rule_machine.specs.Refuse.{refusal_of}
-use Rattle.rule_machine.specs.Answer.{Does, AnswersBy, Answers}
+use Rattle.rule_machine.specs.Answer.{Does, AnswersBy, Answers, spent_after}
 use Rattle.rule_machine.specs.Least.{reply_of, state_after, replies_of, state_after_all}
-use Rattle.rule_machine.specs.Run.{Entry, Moment, Run, spent_after}
+use Rattle.rule_machine.specs.Run.{Entry, Moment, Run}
 use Rattle.machine_laws.specs.Keeps.{IsMoveIn, moves_keep}
 use Rattle.machine_laws.specs.LeastMoves.{IsTable}
 use Rattle.machine_laws.specs.Accepted.{IsChoice, choice_from_none, taken_at, accepted_keeps, state_after_keeps}
@@ -36,10 +36,10 @@ state_after_all_keeps t table s good [] = good
 state_after_all_keeps t table s good (event ∷ events) = state_after_all_keeps t table (state_after t s event) (state_after_keeps t table s good event) events
 
 -- The answers with the least targets to events in turn are a run, which spends what their replies say.
-pub least_run : (t : RuleTable) → IsTable t → (s : State) → IsState s → (events : List Event) (n : ℕ) → Run t (record { state = s; spent = n }) (zip events (replies_of t s events)) (record { state = state_after_all t s events; spent = spent_after_all n (replies_of t s events) })
+pub least_run : (t : RuleTable) → IsTable t → (s : State) → IsState s → (events : List Event) (n : ℕ) → Run t (record { state = s; spent = n }) (zip events (replies_of t s n events)) (record { state = state_after_all t s events; spent = spent_after_all n (replies_of t s n events) })
 least_run t table s good [] n = refl
 least_run t table s good (event ∷ events) n =
-    (state_after t s event, least_answers t table s good event, least_run t table (state_after t s event) (state_after_keeps t table s good event) events (spent_after n (reply_of t s event)))
+    (state_after t s event, least_answers t table s good n event, least_run t table (state_after t s event) (state_after_keeps t table s good event) events (spent_after n (reply_of t s n event)))
 
 -- ---- every run
 
@@ -66,33 +66,34 @@ any_step_keeps t table s good items choice moves s' step =
     let all = All-weaker (λ m. Any (λ item. IsMoveOf t s item m) items) (IsMoveIn s.network) (asked_is_move_in t table s items choice) moves step.each in
     subst IsState (sym step.after) (moves_keep s moves good (recursion_from_All (IsMoveIn s.network) moves all))
 
-does_keeps : (t : RuleTable) → IsTable t → (s : State) → IsState s → (event : Event) (reply : Reply) (s' : State) → refusal_of t s event ≡ None → Does t s event reply s' → IsState s'
-does_keeps t table s good (Link a b) Accepted s' e does = subst IsState (sym does) (accepted_keeps t table s good (Link a b) e)
-does_keeps t table s good (Unlink a b) Accepted s' e does = subst IsState (sym does) (accepted_keeps t table s good (Unlink a b) e)
-does_keeps t table s good (Point v target) Accepted s' e does = subst IsState (sym does) (accepted_keeps t table s good (Point v target) e)
-does_keeps t table s good (Flag v value) Accepted s' e does = subst IsState (sym does) (accepted_keeps t table s good (Flag v value) e)
-does_keeps t table s good (Step items) (Moves moves) s' e does = any_step_keeps t table s good items (choice_from_none t s items e) moves s' does
-does_keeps t table s good (Show v) (Shown target) s' e does = subst IsState (sym does.1) good
-does_keeps t table s good Enabled (EnabledAre nodes) s' e does = subst IsState (sym does.1) good
-does_keeps t table s good Matching (Pairs pairs) s' e does = subst IsState (sym does.1) good
-does_keeps t table s good event reply s' e does = absurd does
+does_keeps : (t : RuleTable) → IsTable t → (s : State) → IsState s → (n : ℕ) (event : Event) (reply : Reply) (s' : State) → refusal_of t s event ≡ None → Does t s n event reply s' → IsState s'
+does_keeps t table s good n (Link a b) Accepted s' e does = subst IsState (sym does) (accepted_keeps t table s good (Link a b) e)
+does_keeps t table s good n (Unlink a b) Accepted s' e does = subst IsState (sym does) (accepted_keeps t table s good (Unlink a b) e)
+does_keeps t table s good n (Point v target) Accepted s' e does = subst IsState (sym does) (accepted_keeps t table s good (Point v target) e)
+does_keeps t table s good n (Flag v value) Accepted s' e does = subst IsState (sym does) (accepted_keeps t table s good (Flag v value) e)
+does_keeps t table s good n (Step items) (Moves moves) s' e does = any_step_keeps t table s good items (choice_from_none t s items e) moves s' does
+does_keeps t table s good n (Show v) (Shown target) s' e does = subst IsState (sym does.1) good
+does_keeps t table s good n Enabled (EnabledAre nodes) s' e does = subst IsState (sym does.1) good
+does_keeps t table s good n Matching (Pairs pairs) s' e does = subst IsState (sym does.1) good
+does_keeps t table s good n Status (Counts counts) s' e does = subst IsState (sym does.1) good
+does_keeps t table s good n event reply s' e does = absurd does
 
-answers_by_keep : (t : RuleTable) → IsTable t → (s : State) → IsState s → (event : Event) (r : Option Refusal) (reply : Reply) (s' : State) → refusal_of t s event ≡ r → AnswersBy t s event r reply s' → IsState s'
-answers_by_keep t table s good event None reply s' e does = does_keeps t table s good event reply s' e does
-answers_by_keep t table s good event (Some refusal) reply s' e does = subst IsState (sym does.1) good
+answers_by_keep : (t : RuleTable) → IsTable t → (s : State) → IsState s → (n : ℕ) (event : Event) (r : Option Refusal) (reply : Reply) (s' : State) → refusal_of t s event ≡ r → AnswersBy t s n event r reply s' → IsState s'
+answers_by_keep t table s good n event None reply s' e does = does_keeps t table s good n event reply s' e does
+answers_by_keep t table s good n event (Some refusal) reply s' e does = subst IsState (sym does.1) good
 
 -- every answer leaves a state
-pub answers_keep : (t : RuleTable) → IsTable t → (s : State) → IsState s → (event : Event) (reply : Reply) (s' : State) → Answers t s event reply s' → IsState s'
-answers_keep t table s good event reply s' answers = answers_by_keep t table s good event (refusal_of t s event) reply s' refl answers
+pub answers_keep : (t : RuleTable) → IsTable t → (s : State) → IsState s → (n : ℕ) (event : Event) (reply : Reply) (s' : State) → Answers t s n event reply s' → IsState s'
+answers_keep t table s good n event reply s' answers = answers_by_keep t table s good n event (refusal_of t s event) reply s' refl answers
 
 -- a run from a state ends in a state
 pub runs_end_in_states : (t : RuleTable) → IsTable t → (start : Moment) → IsState start.state → (log : List Entry) (end : Moment) → Run t start log end → IsState end.state
 runs_end_in_states t table start good [] end run = subst (λ m. IsState m.state) (sym run) good
 runs_end_in_states t table start good (entry ∷ log) end (next, answers, run) =
-    runs_end_in_states t table (record { state = next; spent = spent_after start.spent entry.1 }) (answers_keep t table start.state good entry.0 entry.1 next answers) log end run
+    runs_end_in_states t table (record { state = next; spent = spent_after start.spent entry.1 }) (answers_keep t table start.state good start.spent entry.0 entry.1 next answers) log end run
 
 -- a run goes on by one answer of the machine
-pub run_add : (t : RuleTable) (start end : Moment) (log : List Entry) (entry : Entry) (s : State) → Run t start log end → Answers t end.state entry.0 entry.1 s → Run t start (log ++ entry ∷ []) (record { state = s; spent = spent_after end.spent entry.1 })
+pub run_add : (t : RuleTable) (start end : Moment) (log : List Entry) (entry : Entry) (s : State) → Run t start log end → Answers t end.state end.spent entry.0 entry.1 s → Run t start (log ++ entry ∷ []) (record { state = s; spent = spent_after end.spent entry.1 })
 run_add t start end [] entry s run answers =
     subst (λ (m : Moment). Run t m (entry ∷ []) (record { state = s; spent = spent_after end.spent entry.1 })) run (s, answers, refl)
 run_add t start end (first ∷ log) entry s run answers =

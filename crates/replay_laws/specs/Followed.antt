@@ -1,8 +1,8 @@
 -- Where a reply leaves the machine that may give it.
 use Rattle.rule_machine.specs.declared.event.Event.{Event}
-use Rattle.rule_machine.specs.declared.event.Event.TheVariants.{Link, Unlink, Point, Flag, Step, Show, Enabled, Matching}
+use Rattle.rule_machine.specs.declared.event.Event.TheVariants.{Link, Unlink, Point, Flag, Step, Show, Enabled, Matching, Status}
 use Rattle.rule_machine.specs.declared.reply.Reply.{Reply}
-use Rattle.rule_machine.specs.declared.reply.Reply.TheVariants.{Accepted, Refused, Moves, Shown, EnabledAre, Pairs}
+use Rattle.rule_machine.specs.declared.reply.Reply.TheVariants.{Accepted, Refused, Moves, Shown, EnabledAre, Pairs, Counts}
 use Rattle.rule_machine.specs.State.{State}
 use Rattle.rule_machine.specs.Step.{after_moves}
 use Rattle.rule_machine.specs.Disturbance.{after_link, after_unlink, after_point, after_flag}
@@ -17,6 +17,7 @@ disturbed s (Step items) = s
 disturbed s (Show v) = s
 disturbed s Enabled = s
 disturbed s Matching = s
+disturbed s Status = s
 
 -- the state that a reply says
 abbrev pub followed : State → Event → Reply → State
@@ -26,3 +27,4 @@ followed s event (Refused refusal) = s
 followed s event (Shown target) = s
 followed s event (EnabledAre nodes) = s
 followed s event (Pairs pairs) = s
+followed s event (Counts counts) = s

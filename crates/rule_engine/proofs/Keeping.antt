@@ -1,5 +1,5 @@
 -- What a network keeps after a change.
-use Rattle.std.proofs.Common.{◌≡◌, ℕ, ◌+◌, ◌<◌, Bool, true, false, cond, not, ◌&&◌, List, [], ◌∷◌, ◌++◌, length, take, drop, get_or, zip, Option, None, Some, option_and_then, Result, Ok, Err, IfOk, IfSome, OnErr, IsSomeAnd, IsTrue, inl, inr, nat_eq, nat_le, refl, sym, ap, ◌∙◌, subst, arith}
+use Rattle.std.proofs.Common.{◌≡◌, ℕ, ◌+◌, ◌<◌, Bool, true, false, cond, not, ◌&&◌, Option, None, Some, option_and_then, Result, Ok, Err, IfOk, IfSome, IsTrue, nat_eq, nat_le, refl, sym, ap, ◌∙◌, subst, arith}
 use Rattle.std.proofs.lemmas.Bool.{and_parts, leb-true}
 use Rattle.rule_machine.specs.declared.refusal.Refusal.{Refusal}
 use Rattle.rule_machine.specs.declared.refusal.Refusal.TheVariants.{UnknownNode, SelfLoop, AlreadyLinked, NotLinked, TooManyEdges, NotNeighbour}
@@ -18,14 +18,10 @@ use Rattle.rule_machine.specs.declared.event.Event.{Event}
 use Rattle.rule_machine.specs.declared.reply.Reply.{Reply}
 use Rattle.rule_machine.specs.declared.reply.Reply.TheVariants.{Accepted, Refused}
 use Rattle.rule_machine.specs.Answer.{Answers}
-use Rattle.rule_machine.specs.Least.{reply_by, state_by, reply_of, state_after, replies_of, state_after_all}
-use Rattle.rule_machine.specs.Run.{Run}
-use Rattle.std.proofs.lemmas.Option.{slice_get-get_or, none-some}
-use Rattle.std.proofs.lemmas.List.{take_more, drop_more, append_assoc}
+use Rattle.rule_machine.specs.Least.{reply_by, state_by, reply_of, state_after}
+use Rattle.std.proofs.lemmas.Option.{none-some}
 use Rattle.machine_laws.specs.LeastAnswers.{least_answers}
-use Rattle.machine_laws.specs.Runs.{spent_after_all, least_run}
-use Rattle.rule_engine.specs.Applied.{Applies, Answered, StopsAt, takes_memory}
-use Rattle.rule_engine.specs.Kept.{moment}
+use Rattle.rule_engine.specs.Applied.{Applies, Answered, takes_memory}
 use Rattle.rule_engine.specs.Refused.{refused_as}
 
 -- the store's faults are the machine's refusals
@@ -58,32 +54,32 @@ refused_by_fault None f is = ap refused_as is
 refused_by_fault (Some g) f is = ap refused_as is
 
 -- what a link answers: where it is not refused, where it is, and where there is no memory
-pub linked_applies : {E : Type 0} (t : RuleTable) (s seen u : State) (a b : ℕ) → s ≡ seen → link_fault s.network a b ≡ None → u ≡ after_link s a b → Applies {E = E} t seen (Link a b) (Ok Accepted) u
-linked_applies t s seen u a b view none is =
+pub linked_applies : {E : Type 0} (t : RuleTable) (s seen u : State) (a b : ℕ) → s ≡ seen → link_fault s.network a b ≡ None → u ≡ after_link s a b → (n : ℕ) → Applies {E = E} t seen n (Link a b) (Ok Accepted) u
+linked_applies t s seen u a b view none is n =
     let allowed : link_refusal s.network a b ≡ None = link_refusal-fault s.network a b ∙ ap (option_and_then refused_as) none in
     record {
-      reply = ap (reply_by t s (Link a b)) (sym allowed) ∙ ap (λ q. reply_of t q (Link a b)) view;
+      reply = ap (reply_by t s n (Link a b)) (sym allowed) ∙ ap (λ q. reply_of t q n (Link a b)) view;
       state = is ∙ ap (state_by t s (Link a b)) (sym allowed) ∙ ap (λ q. state_after t q (Link a b)) view;
       kept = tt;
       want = tt;
     }
 
-pub refused_applies : {E : Type 0} (t : RuleTable) (s seen u : State) (event : Event) (refusal : Refusal) → s ≡ seen → refusal_of t s event ≡ Some refusal → u ≡ s → Applies {E = E} t seen event (Ok (Refused refusal)) u
-refused_applies t s seen u event refusal view refused is = record {
-  reply = ap (reply_by t s event) (sym refused) ∙ ap (λ q. reply_of t q event) view;
+pub refused_applies : {E : Type 0} (t : RuleTable) (s seen u : State) (event : Event) (refusal : Refusal) → s ≡ seen → refusal_of t s event ≡ Some refusal → u ≡ s → (n : ℕ) → Applies {E = E} t seen n event (Ok (Refused refusal)) u
+refused_applies t s seen u event refusal view refused is n = record {
+  reply = ap (reply_by t s n event) (sym refused) ∙ ap (λ q. reply_of t q n event) view;
   state = is ∙ ap (state_by t s event) (sym refused) ∙ ap (λ q. state_after t q event) view;
   kept = tt;
   want = tt;
 }
 
-pub refused_answered : (t : RuleTable) (s seen u : State) (event : Event) (refusal : Refusal) → s ≡ seen → refusal_of t s event ≡ Some refusal → u ≡ s → Answered t seen event (Refused refusal) u
-refused_answered t s seen u event refusal view refused is = record {
-  reply = ap (reply_by t s event) (sym refused) ∙ ap (λ q. reply_of t q event) view;
+pub refused_answered : (t : RuleTable) (s seen u : State) (event : Event) (refusal : Refusal) → s ≡ seen → refusal_of t s event ≡ Some refusal → u ≡ s → (n : ℕ) → Answered t seen n event (Refused refusal) u
+refused_answered t s seen u event refusal view refused is n = record {
+  reply = ap (reply_by t s n event) (sym refused) ∙ ap (λ q. reply_of t q n event) view;
   state = is ∙ ap (state_by t s event) (sym refused) ∙ ap (λ q. state_after t q event) view;
 }
 
-pub wanting_applies : {E : Type 0} (t : RuleTable) (s seen u : State) (event : Event) (e : E) → s ≡ seen → refusal_of t s event ≡ None → IsTrue (takes_memory event) → u ≡ s → Applies t seen event (Err e) u
-wanting_applies t s seen u event e view allowed may is = record {
+pub wanting_applies : {E : Type 0} (t : RuleTable) (s seen u : State) (event : Event) (e : E) → s ≡ seen → refusal_of t s event ≡ None → IsTrue (takes_memory event) → u ≡ s → (n : ℕ) → Applies t seen n event (Err e) u
+wanting_applies t s seen u event e view allowed may is n = record {
   reply = tt;
   state = tt;
   kept = is ∙ view;
@@ -91,11 +87,11 @@ wanting_applies t s seen u event e view allowed may is = record {
 }
 
 -- what an unlink that is not refused answers
-pub unlinked_answer : (t : RuleTable) (s seen u : State) (a b : ℕ) → s ≡ seen → unlink_fault s.network a b ≡ None → u ≡ after_unlink s a b → Answered t seen (Unlink a b) Accepted u
-unlinked_answer t s seen u a b view none is =
+pub unlinked_answer : (t : RuleTable) (s seen u : State) (a b : ℕ) → s ≡ seen → unlink_fault s.network a b ≡ None → u ≡ after_unlink s a b → (n : ℕ) → Answered t seen n (Unlink a b) Accepted u
+unlinked_answer t s seen u a b view none is n =
     let allowed : unlink_refusal s.network a b ≡ None = unlink_refusal-fault s.network a b ∙ ap (option_and_then refused_as) none in
     record {
-      reply = ap (reply_by t s (Unlink a b)) (sym allowed) ∙ ap (λ q. reply_of t q (Unlink a b)) view;
+      reply = ap (reply_by t s n (Unlink a b)) (sym allowed) ∙ ap (λ q. reply_of t q n (Unlink a b)) view;
       state = is ∙ ap (state_by t s (Unlink a b)) (sym allowed) ∙ ap (λ q. state_after t q (Unlink a b)) view;
     }
 
@@ -124,55 +120,16 @@ pub present_below : (size v : ℕ) → IsTrue (nat_le 1 v && nat_le v size) → 
 present_below size v has = let bound = leb-true v size (and_parts (nat_le 1 v) (nat_le v size) has).1 in omega (arith, bound)
 
 -- the machine's reply and state are an answer of the machine
-pub applied_answers : {E : Type 0} (t : RuleTable) → IsTable t → (s s' : State) → IsState s → (event : Event) (result : Result Reply E) → Applies t s event result s' → IfOk result (λ reply. Answers t s event reply s')
-applied_answers t table s s' good event (Ok r) done =
-    subst (λ q. Answers t s event q s') (sym done.reply) (subst (λ u. Answers t s event (reply_of t s event) u) (sym done.state) (least_answers t table s good event))
-applied_answers t table s s' good event (Err e) done = tt
+pub applied_answers : {E : Type 0} (t : RuleTable) → IsTable t → (s s' : State) → IsState s → (n : ℕ) (event : Event) (result : Result Reply E) → Applies t s n event result s' → IfOk result (λ reply. Answers t s n event reply s')
+applied_answers t table s s' good n event (Ok r) done =
+    subst (λ q. Answers t s n event q s') (sym done.reply) (subst (λ u. Answers t s n event (reply_of t s n event) u) (sym done.state) (least_answers t table s good n event))
+applied_answers t table s s' good n event (Err e) done = tt
 
-state_after_append : (t : RuleTable) (s : State) (xs ys : List Event) → state_after_all t s (xs ++ ys) ≡ state_after_all t (state_after_all t s xs) ys
-state_after_append t s [] ys = refl
-state_after_append t s (x ∷ xs) ys = state_after_append t (state_after t s x) xs ys
+-- an answer that takes no memory
+pub answered_applies : {E : Type 0} (t : RuleTable) (s s' : State) (n : ℕ) (event : Event) (answer : Reply) → Answered t s n event answer s' → Applies {E = E} t s n event (Ok answer) s'
+answered_applies t s s' n event answer done = record { reply = done.reply; state = done.state; kept = tt; want = tt }
 
--- where one more event leads
-pub state_after_more : (t : RuleTable) (s here next : State) (events : List Event) (i : ℕ) (event : Event) → i < length events → event ≡ get_or events i event → here ≡ state_after_all t s (take i events) → next ≡ state_after t here event → next ≡ state_after_all t s (take (i + 1) events)
-state_after_more t s here next events i event within is so_far step =
-    step ∙ ap (λ u. state_after t u event) so_far
-    ∙ sym (ap (state_after_all t s) (take_more events i event within ∙ ap (λ e. take i events ++ e ∷ []) (sym is)) ∙ state_after_append t s (take i events) (event ∷ []))
-
--- the replies to events and the state after them are a run
-pub run_from : (t : RuleTable) → IsTable t → (s s' : State) → IsState s → (events : List Event) (replies : List Reply) → replies ≡ replies_of t s events → s' ≡ state_after_all t s events → (n : ℕ) → Run t (moment s n) (zip events replies) (moment s' (spent_after_all n replies))
-run_from t table s s' good events replies told is n =
-    subst (λ rs. Run t (moment s n) (zip events rs) (moment s' (spent_after_all n rs))) (sym told)
-    (subst (λ u. Run t (moment s n) (zip events (replies_of t s events)) (moment u (spent_after_all n (replies_of t s events)))) (sym is) (least_run t table s good events n))
-
--- one more reply, and the replies to what is left
-pub replies_more : (t : RuleTable) (here next : State) (events : List Event) (i : ℕ) (event : Event) (before after all : List Reply) (reply : Reply) → i < length events → event ≡ get_or events i event → after ≡ before ++ reply ∷ [] → reply ≡ reply_of t here event → next ≡ state_after t here event → before ++ replies_of t here (drop i events) ≡ all → after ++ replies_of t next (drop (i + 1) events) ≡ all
-replies_more t here next events i event before after all reply within is pushed told step so_far =
-    ap (λ l. l ++ replies_of t next (drop (i + 1) events)) (pushed ∙ ap (λ r. before ++ r ∷ []) told)
-    ∙ ap (λ u. (before ++ reply_of t here event ∷ []) ++ replies_of t u (drop (i + 1) events)) step
-    ∙ append_assoc before (reply_of t here event ∷ []) (replies_of t (state_after t here event) (drop (i + 1) events))
-    ∙ ap (λ l. before ++ replies_of t here l) (sym (drop_more events i event within ∙ ap (λ e. e ∷ drop (i + 1) events) (sym is)))
-    ∙ so_far
-
--- and where what is left leads
-pub rest_more : (t : RuleTable) (here next end : State) (events : List Event) (i : ℕ) (event : Event) → i < length events → event ≡ get_or events i event → next ≡ state_after t here event → state_after_all t here (drop i events) ≡ end → state_after_all t next (drop (i + 1) events) ≡ end
-rest_more t here next end events i event within is step so_far =
-    ap (λ u. state_after_all t u (drop (i + 1) events)) step
-    ∙ ap (state_after_all t here) (sym (drop_more events i event within ∙ ap (λ e. e ∷ drop (i + 1) events) (sym is)))
-    ∙ so_far
-
--- where an event that could not be had leaves the events before it
-pub stopped_at : (t : RuleTable) (s here s' : State) (events : List Event) (i : ℕ) (event : Event) → i < length events → event ≡ get_or events i event → here ≡ state_after_all t s (take i events) → s' ≡ here → (refusal_of t here event ≡ None) × IsTrue (takes_memory event) → StopsAt t s events i s'
-stopped_at t s here s' events i event within is so_far kept want = record {
-  next = within;
-  state = kept ∙ so_far;
-  cause = inr (subst (λ o. IsSomeAnd o (λ e. (refusal_of t s' e ≡ None) × IsTrue (takes_memory e))) (sym (slice_get-get_or events i event within ∙ ap Some (sym is))) (subst (λ u. (refusal_of t u event ≡ None) × IsTrue (takes_memory event)) (sym kept) want));
-}
-
--- with no list for the replies, which could not be had, no event was carried out
-pub stopped_first : (t : RuleTable) (s : State) (events : List Event) → (length events ≡ 0 → ⊥) → StopsAt t s events 0 s
-stopped_first t s events some = record { next = omega arith; state = refl; cause = inl refl }
-
-pub on_err : {T E P : Type 0} (r : Result T E) → P → OnErr r P
-on_err (Ok x) p = tt
-on_err (Err e) p = p
+-- a question whose answer may take memory
+pub asked_applies : {E : Type 0} (t : RuleTable) (s : State) (n : ℕ) (event : Event) (result : Result Reply E) → refusal_of t s event ≡ None → IsTrue (takes_memory event) → state_after t s event ≡ s → IfOk result (λ r. r ≡ reply_of t s n event) → Applies t s n event result s
+asked_applies t s n event (Ok r) allowed may same told = record { reply = told; state = sym same; kept = tt; want = tt }
+asked_applies t s n event (Err e) allowed may same told = record { reply = tt; state = tt; kept = refl; want = (allowed, may) }

@@ -9,3 +9,5 @@ pub mod Again
 pub mod Opening
 pub mod Marked
 pub mod Ascending
+pub mod Moments
+pub mod Counted

@@ -1,7 +1,9 @@
 //! The rule engine: a network whose replies and states are the rule machine's, for any set of rules.
 #![tactic(auto)]
 
+mod charge;
 mod edits;
+mod engine;
 mod guard;
 mod judge;
 mod listing;
@@ -13,6 +15,7 @@ pub use enabled_set::EnabledSet;
 pub use graph_store::{Edge, GraphFault, Node};
 pub use net::Net;
 pub use rule_machine::{
-    Act, Choice, Event, Item, Listing, Moved, Outcome, Refusal, Reply, RuleSet, Verdict, Want,
+    Act, Choice, Counts, Event, Item, Listing, Moved, Outcome, Refusal, Reply, RuleSet, Verdict,
+    Want,
 };
 pub use rule_set::{BadTarget, Local, Rules};

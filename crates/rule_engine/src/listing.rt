@@ -63,3 +63,17 @@ pub(crate) fn mutual_edges(
     }
     Ok(pairs)
 }
+
+/// How many mutual pairs there are, without memory. Looks at each node once.
+pub(crate) fn count_pairs(store: &EdgeStore, registers: &Registers) -> u32
+    requires { IsState (state_of store.now registers.now) }
+    ensures { result ≡ length (mutual_pairs (state_of store.now registers.now)) }
+{
+    let mut count = 0;
+    for name in 1..store.nodes() + 1 {
+        if pair_at(registers, Node::new(name).unwrap()).is_some() {
+            count += 1;
+        }
+    }
+    count
+}

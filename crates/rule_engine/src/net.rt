@@ -1,170 +1,163 @@
 //! A network under a rule set.
 
-ghost use Rattle.std.specs.Prelude.{◌≡◌, ◌<◌, ◌≤◌, ◌↔◌, ℕ, [], IfOk, IfErr, IfSome, OnOk, OnErr, IsTrue, None, length, take, zip, slice_get, Some};
+ghost use Rattle.std.specs.Prelude.{◌≡◌, ◌<◌, ◌≤◌, ◌+◌, ◌*◌, ◌↔◌, ℕ, [], IfOk, IfErr, IfSome, OnOk, OnErr, IsTrue, None, length, zip, slice_get};
 ghost use Rattle.enabled_set.specs.Members.{members};
 ghost use Rattle.graph_store.specs.Fault.{nodes_fault, Explains};
-ghost use Rattle.rule_machine.specs.State.{opening, IsState};
+ghost use Rattle.rule_machine.specs.Network.{node_count, edge_count};
+ghost use Rattle.rule_machine.specs.State.{IsState};
 ghost use Rattle.rule_machine.specs.RuleTable.{enabled_names};
 ghost use Rattle.rule_machine.specs.Refuse.{refusal_of};
-ghost use Rattle.rule_machine.specs.Least.{reply_of, state_after, replies_of, state_after_all};
+ghost use Rattle.rule_machine.specs.Least.{reply_of, replies_of};
 ghost use Rattle.rule_machine.specs.Stable.{IsStable, IsMaximalMatching, mutual_pairs};
-ghost use Rattle.rule_machine.specs.Run.{Run};
-ghost use Rattle.machine_laws.specs.Runs.{spent_after_all};
+ghost use Rattle.rule_machine.specs.Run.{Run, beginning, moment_after};
 ghost use Rattle.rule_machine.specs.Answer.{Answers};
-ghost use Rattle.rule_machine.specs.declared.event.Event.TheVariants.{Link, Unlink, Point, Flag, Step, Show, Enabled, Matching};
-ghost use Rattle.rule_engine.specs.Kept.{guard_at, IsAnswered, moment};
-ghost use Rattle.rule_engine.specs.Applied.{Applies, Answered, StopsAt, takes_memory};
+ghost use Rattle.rule_machine.specs.declared.event.Event.TheVariants.{Step};
+ghost use Rattle.rule_engine.specs.Kept.{guard_at, IsAnswered};
+ghost use Rattle.rule_engine.specs.Applied.{StopsAt, moment_after_all, takes_memory};
 ghost use Rattle.rule_engine.specs.Choosing.{verdict_of, verdicts_of};
 
-use crate::edits::{refusal_of, refused_point};
-use crate::guard::{outcome, refused_step, rule_enabled, verdicts};
-use crate::judge::refused_verdicts;
-use crate::listing::{enabled_rules, mutual_edges};
-use crate::look::{look_at, look_round, look_round_movers};
-use crate::moves::{ascending_moves, write_moves};
+use crate::charge::spent_after;
+use crate::engine::Engine;
 use enabled_set::EnabledSet;
 use graph_store::{EdgeStore, GraphFault};
-use indexed_state::IndexedState;
 use registers::Registers;
-use rule_machine::{Act, Choice, Event, Listing, Node, Refusal, Reply, Verdict, Want};
+use rule_machine::{Act, Choice, Event, Listing, Node, Reply, Verdict, Want};
 use rule_set::Rules;
-use std::alloc::{AllocError, Global};
+use std::alloc::Global;
 use std::marker::Model;
 
-/// A network under the rules `R`: its edges and registers with their index, and who is enabled, seen in contracts as the
-/// state of the rule machine.
+/// A network under the rules `R`, seen in contracts as a moment of the rule machine: its state, and the moves since the
+/// last accepted disturbance, or since the start.
 #[derive(Drop)]
 pub struct Net<R: Rules> {
     alloc: Global,
-    state: IndexedState<R>,
-    enabled: EnabledSet,
-    chosen: EnabledSet,
+    engine: Engine<R>,
+    spent: u32,
 }
 
 impl<R: Rules> Model for Net<R> {
-    ghost use Rattle.rule_machine.specs.State.{State, state_code};
-    ghost use Rattle.rule_engine.specs.Kept.{IsKept};
+    ghost use Rattle.rule_machine.specs.Run.{Moment, moment_code};
+    ghost use Rattle.rule_engine.specs.Kept.{moment};
+    ghost use Rattle.rule_engine.specs.Applied.{IsPaid};
 
-    ghost Value = { State };
+    ghost Value = { Moment };
 
-    ghost coded = { state_code };
+    ghost coded = { moment_code };
 
-    ghost view = { λ n. n.state };
+    ghost view = { λ n. moment n.engine n.spent };
 
-    ghost invariant = { λ n. IsKept R.table n.state n.enabled n.chosen };
+    ghost invariant = { λ n. IsPaid R.table R.NODE_WEIGHT (moment n.engine n.spent) };
 }
 
 impl<R: Rules> Net<R> {
-    /// The network of the nodes 1 to `nodes` with no edges, all pointers null and all flags false.
+    /// The network of the nodes 1 to `nodes` with no edges, all pointers null and all flags false, and no move spent.
     /// `TooManyNodes` above 65,535, and `Memory` if memory runs out. Takes some fifty bytes a node.
     pub fn new(alloc: Global, nodes: u32) -> Result<Net<R>, GraphFault>
-        ensures ok { IfOk result (λ net. net ≡ opening nodes) }
+        ensures ok { IfOk result (λ net. net ≡ beginning nodes) }
         ensures small { OnOk result (nodes ≤ 65535) }
         ensures fault { IfErr result (λ fault. Explains (nodes_fault nodes) fault) }
     {
-        let state = IndexedState::new(alloc, nodes)?;
-        let Ok(enabled) = EnabledSet::new(alloc, nodes) else {
-            return Err(GraphFault::Memory);
-        };
-        let Ok(chosen) = EnabledSet::new(alloc, nodes) else {
-            return Err(GraphFault::Memory);
-        };
+        let engine = Engine::new(alloc, nodes)?;
         Ok(Net {
             alloc,
-            state,
-            enabled,
-            chosen,
+            engine,
+            spent: 0,
         })
     }
 
     /// The edges.
     pub fn store(&self) -> &EdgeStore
-        ensures { result.now ≡ self.now.network }
+        ensures { result.now ≡ self.now.state.network }
     {
-        self.state.store()
+        self.engine.store()
     }
 
     /// The registers.
     pub fn registers(&self) -> &Registers
-        ensures value { result.now ≡ self.now.registers }
-        ensures state { IsState self.now }
+        ensures value { result.now ≡ self.now.state.registers }
+        ensures state { IsState self.now.state }
     {
-        self.state.registers()
+        self.engine.registers()
     }
 
     /// The enabled nodes.
     pub fn enabled(&self) -> &EnabledSet
-        ensures { members result.now ≡ enabled_names R.table self.now }
+        ensures { members result.now ≡ enabled_names R.table self.now.state }
     {
-        &self.enabled
+        self.engine.enabled()
     }
 
     /// Whether no rule is enabled, which is one look. That is so exactly where the network is stable, and then its
     /// mutual pairs are a maximal matching; and where every pointer is null or answered and the flags are right, they
     /// are one only if the network is stable.
     pub fn is_quiet(&self) -> bool
-        ensures quiet { IsTrue result ↔ (enabled_names R.table self.now ≡ []) }
-        ensures stable { IsTrue result ↔ IsStable R.table.flags self.now }
-        ensures matching { IsTrue result → IsMaximalMatching self.now.network (mutual_pairs self.now) }
-        ensures only_stable { IsAnswered R.table.flags self.now → IsMaximalMatching self.now.network (mutual_pairs self.now) → IsTrue result }
+        ensures quiet { IsTrue result ↔ (enabled_names R.table self.now.state ≡ []) }
+        ensures stable { IsTrue result ↔ IsStable R.table.flags self.now.state }
+        ensures matching { IsTrue result → IsMaximalMatching self.now.state.network (mutual_pairs self.now.state) }
+        ensures only_stable { IsAnswered R.table.flags self.now.state → IsMaximalMatching self.now.state.network (mutual_pairs self.now.state) → IsTrue result }
     {
-        self.enabled.count() == 0
+        self.engine.is_quiet()
     }
 
     /// The rule that is enabled at a node, if any is; none at an absent one. What the guard asks about all neighbours is
     /// counted at the node, so that it looks at no list of them.
     pub fn guard(&self, v: Node) -> Option<Act>
-        ensures { result ≡ guard_at R.table self.now v }
+        ensures { result ≡ guard_at R.table self.now.state v }
     {
-        rule_enabled(&self.state, v)
+        self.engine.guard(v)
     }
 
     /// What the item at a place of a choice, from 0, would do alone. Goes through its node's neighbours only where a
     /// target has to be found.
     pub fn verdict(&self, choice: &Choice, place: u32) -> Verdict
         requires { place < length choice.now }
-        ensures { IfSome (slice_get choice.now place) (λ item. result ≡ verdict_of R.table self.now place item) }
+        ensures { IfSome (slice_get choice.now place) (λ item. result ≡ verdict_of R.table self.now.state place item) }
     {
-        let item = choice.items()[place as usize];
-        Verdict {
-            place,
-            node: item.node,
-            outcome: outcome(&self.state, item),
-        }
+        self.engine.verdict(choice, place)
+    }
+
+    /// The charge, at most 2,293,757: no more moves than this can come before the next accepted disturbance. Takes no
+    /// memory, and a look at every node and at every edge.
+    pub fn charge(&self) -> u32
+        ensures charge { result ≡ R.table.charge self.now.state }
+    {
+        self.engine.charge()
+    }
+
+    /// The moves since the last accepted disturbance, or since the start. With the charge they are at most twice the
+    /// edges and the rules' weight for each node. One look.
+    pub fn spent(&self) -> u32
+        ensures count { result ≡ self.now.spent }
+        ensures bound { self.now.spent + R.table.charge self.now.state ≤ 2 * edge_count self.now.state.network + R.NODE_WEIGHT * node_count self.now.state.network }
+    {
+        self.spent
     }
 
     /// Carries out an event: a refusal, the change of the network, the moves of a step in which each free target is
     /// the least allowed one, or an answer. Want of memory comes after every refusal and changes nothing; `Unlink`,
-    /// `Point`, `Flag` and `Show` take no memory. An accepted change looks again at guards near it alone: `Link` at its
-    /// two ends, the others at the nodes whose registers or links change and at their neighbours. A step costs two looks
-    /// at each chosen node beside that, and a sort of its moves where they don't ascend.
+    /// `Point`, `Flag`, `Show` and `Status` take no memory. An accepted change looks again at guards near it alone:
+    /// `Link` at its two ends, the others at the nodes whose registers or links change and at their neighbours. A step
+    /// costs two looks at each chosen node beside that, and a sort of its moves where they don't ascend. `Status` looks
+    /// at every node and at every edge.
     pub fn apply(&mut self, event: &Event) -> Result<Reply, Want>
-        ensures reply { IfOk result (λ reply. reply ≡ reply_of R.table self.old event.now) }
-        ensures state { OnOk result (self.new ≡ state_after R.table self.old event.now) }
-        ensures machine { IfOk result (λ reply. Answers R.table self.old event.now reply self.new) }
+        ensures reply { IfOk result (λ reply. reply ≡ reply_of R.table self.old.state self.old.spent event.now) }
+        ensures state { OnOk result (self.new ≡ moment_after R.table self.old event.now) }
+        ensures machine { IfOk result (λ reply. Answers R.table self.old.state self.old.spent event.now reply self.new.state) }
         ensures kept { OnErr result (self.new ≡ self.old) }
-        ensures want { OnErr result ((refusal_of R.table self.old event.now ≡ None) × IsTrue (takes_memory event.now)) }
+        ensures want { OnErr result ((refusal_of R.table self.old.state event.now ≡ None) × IsTrue (takes_memory event.now)) }
     {
-        match event {
-            Event::Link(a, b) => self.link(*a, *b),
-            Event::Unlink(a, b) => Ok(self.unlink(*a, *b)),
-            Event::Point(v, target) => Ok(self.point(*v, *target)),
-            Event::Flag(v, value) => Ok(self.flag(*v, *value)),
-            Event::Step(choice) => self.step(choice),
-            Event::Show(v) => Ok(self.show(*v)),
-            Event::Enabled => self.list_enabled(),
-            Event::Matching => self.list_pairs(),
-        }
+        let reply = self.engine.apply(event, self.spent)?;
+        self.spent = spent_after::<R>(self.engine.store(), self.spent, &reply);
+        Ok(reply)
     }
 
-    /// Carries out events one after another: a run of the rule machine from the state before to the state after. At
+    /// Carries out events one after another: a run of the rule machine from the moment before to the moment after. At
     /// want of memory the events before the one that wanted it have been carried out, or none where it was wanted for
     /// the list of the replies.
     pub fn apply_all(&mut self, events: &[Event]) -> Result<Listing<Reply>, Want>
-        ensures replies { IfOk result (λ replies. replies ≡ replies_of R.table self.old events.now) }
-        ensures state { OnOk result (self.new ≡ state_after_all R.table self.old events.now) }
-        ensures run { IfOk result (λ replies. (n : ℕ) → Run R.table (moment self.old n) (zip events.now replies)
-            (moment self.new (spent_after_all n replies))) }
+        ensures replies { IfOk result (λ replies. replies ≡ replies_of R.table self.old.state self.old.spent events.now) }
+        ensures state { OnOk result (self.new ≡ moment_after_all R.table self.old events.now) }
+        ensures run { IfOk result (λ replies. Run R.table self.old (zip events.now replies) self.new) }
         ensures err { OnErr result ((k : ℕ) × StopsAt R.table self.old events.now k self.new) }
     {
         let mut replies = Vec::with_capacity(self.alloc, events.len())?;
@@ -177,126 +170,17 @@ impl<R: Rules> Net<R> {
         Ok(Listing::from_vec(replies))
     }
 
-    fn link(&mut self, a: Node, b: Node) -> Result<Reply, Want>
-        ensures { Applies R.table self.old (Link a b) result self.new }
-    {
-        match self.state.link(a, b) {
-            Ok(()) => {
-                look_at(&self.state, &mut self.enabled, a);
-                look_at(&self.state, &mut self.enabled, b);
-                Ok(Reply::Accepted)
-            }
-            Err(fault) => match refusal_of(fault) {
-                Some(refusal) => Ok(Reply::Refused(refusal)),
-                None => Err(AllocError),
-            },
-        }
-    }
-
-    fn unlink(&mut self, a: Node, b: Node) -> Reply
-        ensures { Answered R.table self.old (Unlink a b) result self.new }
-    {
-        match self.state.unlink(a, b) {
-            Ok(()) => {
-                look_round(&self.state, &mut self.enabled, a);
-                look_round(&self.state, &mut self.enabled, b);
-                Reply::Accepted
-            }
-            Err(fault) => match refusal_of(fault) {
-                Some(refusal) => Reply::Refused(refusal),
-                None => unreachable!(),
-            },
-        }
-    }
-
-    fn point(&mut self, v: Node, target: Option<Node>) -> Reply
-        ensures { Answered R.table self.old (Point v target) result self.new }
-    {
-        let wanted = target;
-        match refused_point(self.state.store(), v, wanted) {
-            Some(refusal) => Reply::Refused(refusal),
-            None => {
-                self.state.set_pointer(v, target);
-                look_round(&self.state, &mut self.enabled, v);
-                Reply::Accepted
-            }
-        }
-    }
-
-    fn flag(&mut self, v: Node, value: bool) -> Reply
-        ensures { Answered R.table self.old (Flag v value) result self.new }
-    {
-        if !R::FLAGS {
-            return Reply::Refused(Refusal::NoFlag);
-        }
-        if !self.state.store().has(v) {
-            return Reply::Refused(Refusal::UnknownNode);
-        }
-        self.state.set_flag(v, value);
-        look_round(&self.state, &mut self.enabled, v);
-        Reply::Accepted
-    }
-
-    fn show(&self, v: Node) -> Reply
-        ensures { result ≡ reply_of R.table self.now (Show v) }
-    {
-        if !self.state.store().has(v) {
-            return Reply::Refused(Refusal::UnknownNode);
-        }
-        Reply::Shown(self.state.registers().pointer(v))
-    }
-
-    fn list_enabled(&self) -> Result<Reply, Want>
-        ensures { IfOk result (λ reply. reply ≡ reply_of R.table self.now Enabled) }
-    {
-        let nodes = self.enabled.to_list()?;
-        let rules = enabled_rules(self.alloc, &self.state, &nodes)?;
-        Ok(Reply::EnabledAre(Listing::from_vec(rules)))
-    }
-
-    fn list_pairs(&self) -> Result<Reply, Want>
-        ensures { IfOk result (λ reply. reply ≡ reply_of R.table self.now Matching) }
-    {
-        let pairs = mutual_edges(self.alloc, self.state.store(), self.state.registers())?;
-        Ok(Reply::Pairs(Listing::from_vec(pairs)))
-    }
-
-    fn step(&mut self, choice: &Choice) -> Result<Reply, Want>
-        ensures applies { Applies R.table self.old (Step choice.now) result self.new }
-        ensures machine { IfOk result (λ reply. Answers R.table self.old (Step choice.now) reply self.new) }
-    {
-        let items = choice.items();
-        let refused = refused_step(&self.state, &mut self.chosen, items);
-        if let Some(refusal) = refused {
-            return Ok(Reply::Refused(refusal));
-        }
-        let verdicts = verdicts(self.alloc, &self.state, items)?;
-        self.carry_out(choice, &verdicts)
-    }
-
-    fn carry_out(&mut self, choice: &Choice, verdicts: &[Verdict]) -> Result<Reply, Want>
-        requires accepted { refusal_of R.table self.old (Step choice.now) ≡ None }
-        requires verdicts { verdicts.now ≡ verdicts_of R.table self.old choice.now }
-        ensures { Applies R.table self.old (Step choice.now) result self.new }
-    {
-        let moves = ascending_moves(self.alloc, verdicts)?;
-        write_moves(&mut self.state, &moves);
-        look_round_movers(&self.state, &mut self.enabled, &moves);
-        Ok(Reply::Moves(Listing::from_vec(moves)))
-    }
-
     /// Carries out a step from the verdicts of its items: what `apply` of the step would do, without a second look at
     /// a guard. Want of memory comes after every refusal and changes nothing.
     pub fn apply_step(&mut self, choice: &Choice, verdicts: &[Verdict]) -> Result<Reply, Want>
-        requires { verdicts.now ≡ verdicts_of R.table self.old choice.now }
-        ensures reply { IfOk result (λ reply. reply ≡ reply_of R.table self.old (Step choice.now)) }
-        ensures state { OnOk result (self.new ≡ state_after R.table self.old (Step choice.now)) }
+        requires { verdicts.now ≡ verdicts_of R.table self.old.state choice.now }
+        ensures reply { IfOk result (λ reply. reply ≡ reply_of R.table self.old.state self.old.spent (Step choice.now)) }
+        ensures state { OnOk result (self.new ≡ moment_after R.table self.old (Step choice.now)) }
         ensures kept { OnErr result (self.new ≡ self.old) }
-        ensures want { OnErr result (refusal_of R.table self.old (Step choice.now) ≡ None) }
+        ensures want { OnErr result (refusal_of R.table self.old.state (Step choice.now) ≡ None) }
     {
-        if let Some(refusal) = refused_verdicts(R::CENTRAL, &mut self.chosen, verdicts) {
-            return Ok(Reply::Refused(refusal));
-        }
-        self.carry_out(choice, verdicts)
+        let reply = self.engine.apply_step(choice, verdicts)?;
+        self.spent = spent_after::<R>(self.engine.store(), self.spent, &reply);
+        Ok(reply)
     }
 }

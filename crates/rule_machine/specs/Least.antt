@@ -8,10 +8,11 @@ use Rattle.rule_machine.specs.declared.moved.Moved.{Moved}
 use Rattle.rule_machine.specs.declared.verdict.Outcome.{Outcome}
 use Rattle.rule_machine.specs.declared.verdict.Outcome.TheVariants as outcome
 use Rattle.rule_machine.specs.declared.event.Event.{Event}
-use Rattle.rule_machine.specs.declared.event.Event.TheVariants.{Link, Unlink, Point, Flag, Step, Show, Enabled, Matching}
+use Rattle.rule_machine.specs.declared.event.Event.TheVariants.{Link, Unlink, Point, Flag, Step, Show, Enabled, Matching, Status}
 use Rattle.rule_machine.specs.declared.refusal.Refusal.{Refusal}
 use Rattle.rule_machine.specs.declared.reply.Reply.{Reply}
 use Rattle.rule_machine.specs.declared.reply.Reply.TheVariants.{Accepted, Refused, Moves, Shown, EnabledAre, Pairs}
+use Rattle.rule_machine.specs.declared.reply.Reply.TheVariants as reply_is
 use Rattle.rule_machine.specs.Network.{names, present}
 use Rattle.rule_machine.specs.State.{State, pointer}
 use Rattle.rule_machine.specs.RuleTable.{RuleTable, rule_at, enabled, least_target}
@@ -19,6 +20,7 @@ use Rattle.rule_machine.specs.Step.{after_moves}
 use Rattle.rule_machine.specs.Disturbance.{after_link, after_unlink, after_point, after_flag}
 use Rattle.rule_machine.specs.Stable.{mutual_pairs}
 use Rattle.rule_machine.specs.Refuse.{refusal_of}
+use Rattle.rule_machine.specs.Answer.{counts_of, spent_after}
 
 -- a move of v by the rule: to the wished target if it is allowed, to the least one where none is wished
 abbrev pub outcome_by : RuleTable → State → ℕ → Act → Option ℕ → Outcome
@@ -48,15 +50,16 @@ abbrev pub least_moves : RuleTable → State → List Item → List Moved
 least_moves t s items =
     filter_map (λ v. option_and_then (λ item. move_in (outcome_of t s item)) (item_of items v)) (names s.network)
 
-abbrev pub accepted_reply : RuleTable → State → Event → Reply
-accepted_reply t s (Link a b) = Accepted
-accepted_reply t s (Unlink a b) = Accepted
-accepted_reply t s (Point v target) = Accepted
-accepted_reply t s (Flag v value) = Accepted
-accepted_reply t s (Step items) = Moves (least_moves t s items)
-accepted_reply t s (Show v) = Shown (pointer s v)
-accepted_reply t s Enabled = EnabledAre (enabled t s)
-accepted_reply t s Matching = Pairs (mutual_pairs s)
+abbrev pub accepted_reply : RuleTable → State → ℕ → Event → Reply
+accepted_reply t s spent (Link a b) = Accepted
+accepted_reply t s spent (Unlink a b) = Accepted
+accepted_reply t s spent (Point v target) = Accepted
+accepted_reply t s spent (Flag v value) = Accepted
+accepted_reply t s spent (Step items) = Moves (least_moves t s items)
+accepted_reply t s spent (Show v) = Shown (pointer s v)
+accepted_reply t s spent Enabled = EnabledAre (enabled t s)
+accepted_reply t s spent Matching = Pairs (mutual_pairs s)
+accepted_reply t s spent Status = reply_is.Counts (counts_of t s spent)
 
 abbrev pub accepted_state : RuleTable → State → Event → State
 accepted_state t s (Link a b) = after_link s a b
@@ -67,26 +70,32 @@ accepted_state t s (Step items) = after_moves s (least_moves t s items)
 accepted_state t s (Show v) = s
 accepted_state t s Enabled = s
 accepted_state t s Matching = s
+accepted_state t s Status = s
 
-abbrev pub reply_by : RuleTable → State → Event → Option Refusal → Reply
-reply_by t s event (Some refusal) = Refused refusal
-reply_by t s event None = accepted_reply t s event
+abbrev pub reply_by : RuleTable → State → ℕ → Event → Option Refusal → Reply
+reply_by t s spent event (Some refusal) = Refused refusal
+reply_by t s spent event None = accepted_reply t s spent event
 
 abbrev pub state_by : RuleTable → State → Event → Option Refusal → State
 state_by t s event (Some refusal) = s
 state_by t s event None = accepted_state t s event
 
--- the reply, and the state after it
-abbrev pub reply_of : RuleTable → State → Event → Reply
-reply_of t s event = reply_by t s event (refusal_of t s event)
+-- the reply where these moves are spent, and the state after it
+abbrev pub reply_of : RuleTable → State → ℕ → Event → Reply
+reply_of t s spent event = reply_by t s spent event (refusal_of t s event)
 
 abbrev pub state_after : RuleTable → State → Event → State
 state_after t s event = state_by t s event (refusal_of t s event)
 
+-- the moves that are spent after it
+abbrev pub spent_by : RuleTable → State → ℕ → Event → ℕ
+spent_by t s spent event = spent_after spent (reply_of t s spent event)
+
 -- the replies to events in turn, and the state at their end
-abbrev pub replies_of : RuleTable → State → List Event → List Reply
-replies_of t s [] = []
-replies_of t s (event ∷ events) = reply_of t s event ∷ replies_of t (state_after t s event) events
+abbrev pub replies_of : RuleTable → State → ℕ → List Event → List Reply
+replies_of t s spent [] = []
+replies_of t s spent (event ∷ events) =
+    reply_of t s spent event ∷ replies_of t (state_after t s event) (spent_by t s spent event) events
 
 abbrev pub state_after_all : RuleTable → State → List Event → State
 state_after_all t s [] = s

@@ -5,7 +5,7 @@ use Rattle.std.specs.Option.{option_or}
 use Rattle.rule_machine.specs.declared.act.Act.{Act}
 use Rattle.rule_machine.specs.declared.choice.Item.{Item}
 use Rattle.rule_machine.specs.declared.event.Event.{Event}
-use Rattle.rule_machine.specs.declared.event.Event.TheVariants.{Link, Unlink, Point, Flag, Step, Show, Enabled, Matching}
+use Rattle.rule_machine.specs.declared.event.Event.TheVariants.{Link, Unlink, Point, Flag, Step, Show, Enabled, Matching, Status}
 use Rattle.rule_machine.specs.declared.refusal.Refusal.{Refusal}
 use Rattle.rule_machine.specs.declared.refusal.Refusal.TheVariants.{UnknownNode, SelfLoop, AlreadyLinked, NotLinked, TooManyEdges, NotNeighbour, NoFlag, EmptyChoice, NotCentral, ChosenTwice, NotEnabled, BadTarget}
 use Rattle.rule_machine.specs.Network.{Network, present, linked, edge_count}
@@ -82,6 +82,7 @@ refusal_of t s (Step items) = step_refusal t s items
 refusal_of t s (Show v) = show_refusal s.network v
 refusal_of t s Enabled = None
 refusal_of t s Matching = None
+refusal_of t s Status = None
 
 -- the number of a refusal in a transcript
 abbrev pub refusal_number : Refusal → ℕ

@@ -1,12 +1,14 @@
 -- Runs: what a log of events and replies says of the machine.
-use Rattle.std.specs.Prelude.{◌≡◌, ℕ, ◌+◌, List, [], ◌∷◌, ◌++◌, length}
+use Rattle.std.specs.Prelude.{◌≡◌, ℕ, ◌+◌, List, [], ◌∷◌, ◌++◌, length, refl}
+use Rattle.std.specs.Coded.{Coded, code_by, coded×, coded_ℕ}
 use Rattle.rule_machine.specs.declared.event.Event.{Event}
 use Rattle.rule_machine.specs.declared.reply.Reply.{Reply}
-use Rattle.rule_machine.specs.declared.reply.Reply.TheVariants.{Accepted, Refused, Moves, Shown, EnabledAre, Pairs}
+use Rattle.rule_machine.specs.declared.reply.Reply.TheVariants.{Accepted, Refused, Moves, Shown, EnabledAre, Pairs, Counts}
 use Rattle.rule_machine.specs.Network.{node_count, edge_count}
-use Rattle.rule_machine.specs.State.{State, opening}
+use Rattle.rule_machine.specs.State.{State, state_code, opening}
 use Rattle.rule_machine.specs.RuleTable.{RuleTable}
-use Rattle.rule_machine.specs.Answer.{Answers}
+use Rattle.rule_machine.specs.Answer.{Answers, spent_after}
+use Rattle.rule_machine.specs.Least.{state_after, spent_by}
 
 -- an event, and the reply to it
 abbrev pub Entry : Type 0
@@ -17,20 +19,19 @@ pub record Moment : Type 0 where
   pub state : State
   pub spent : ℕ
 
--- the moves spent after a reply: only disturbances are answered by Accepted, and a disturbance begins anew
-abbrev pub spent_after : ℕ → Reply → ℕ
-spent_after spent Accepted = 0
-spent_after spent (Moves moves) = spent + length moves
-spent_after spent (Refused refusal) = spent
-spent_after spent (Shown target) = spent
-spent_after spent (EnabledAre nodes) = spent
-spent_after spent (Pairs pairs) = spent
+abbrev pub moment_code : Coded Moment
+moment_code =
+    code_by (State × ℕ) (coded× state_code coded_ℕ) (λ m. (m.state, m.spent)) (λ p. record { state = p.0; spent = p.1 }) (λ _. refl)
+
+-- where the reply with the least targets leaves the machine
+abbrev pub moment_after : RuleTable → Moment → Event → Moment
+moment_after t m event = record { state = state_after t m.state event; spent = spent_by t m.state m.spent event }
 
 -- From one moment to another, the machine may answer the log's events by its replies, one after another.
 abbrev pub Run : RuleTable → Moment → List Entry → Moment → Type 0
 Run t start [] end = end ≡ start
 Run t start (entry ∷ log) end =
-    (next : State) × Answers t start.state entry.0 entry.1 next × Run t (record { state = next; spent = spent_after start.spent entry.1 }) log end
+    (next : State) × Answers t start.state start.spent entry.0 entry.1 next × Run t (record { state = next; spent = spent_after start.spent entry.1 }) log end
 
 -- where every run of a journal begins
 abbrev pub beginning : ℕ → Moment
@@ -55,6 +56,7 @@ epochs_by (Refused refusal) number s epoch = ([], epoch)
 epochs_by (Shown target) number s epoch = ([], epoch)
 epochs_by (EnabledAre nodes) number s epoch = ([], epoch)
 epochs_by (Pairs pairs) number s epoch = ([], epoch)
+epochs_by (Counts counts) number s epoch = ([], epoch)
 
 -- The epochs of a log, in order, where number is that of its next entry, epoch the one that has begun, and each entry
 -- stands with the state after it.

@@ -24,6 +24,8 @@ pub enum Event {
     Enabled,
     /// Asks for the mutual pairs.
     Matching,
+    /// Asks how large the network is, how far from stable, and how many moves were made since the last disturbance.
+    Status,
 }
 
 impl Clone for Event {
@@ -39,6 +41,7 @@ impl Clone for Event {
             Event::Show(v) => Event::Show(*v),
             Event::Enabled => Event::Enabled,
             Event::Matching => Event::Matching,
+            Event::Status => Event::Status,
         })
     }
 }

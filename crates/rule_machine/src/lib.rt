@@ -3,6 +3,7 @@
 
 mod act;
 mod choice;
+mod counts;
 mod edge;
 mod event;
 mod listing;
@@ -16,6 +17,7 @@ mod verdict;
 
 pub use act::Act;
 pub use choice::{Choice, Item, MAX_ITEMS};
+pub use counts::Counts;
 pub use edge::Edge;
 pub use event::Event;
 pub use listing::Listing;

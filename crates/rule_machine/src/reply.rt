@@ -2,7 +2,7 @@
 
 ghost use Rattle.std.specs.Prelude.{◌≡◌};
 
-use crate::{Act, Edge, Listing, Moved, Node, Refusal};
+use crate::{Act, Counts, Edge, Listing, Moved, Node, Refusal};
 use std::alloc::AllocError;
 
 /// The reply to an event. Every list is in the order of its nodes, pairs in that of their lower ends.
@@ -20,6 +20,8 @@ pub enum Reply {
     EnabledAre(Listing<(Node, Act)>),
     /// The mutual pairs.
     Pairs(Listing<Edge>),
+    /// Where the network stands.
+    Counts(Counts),
 }
 
 impl Clone for Reply {
@@ -33,6 +35,7 @@ impl Clone for Reply {
             Reply::Shown(target) => Reply::Shown(*target),
             Reply::EnabledAre(nodes) => Reply::EnabledAre(nodes.clone()?),
             Reply::Pairs(pairs) => Reply::Pairs(pairs.clone()?),
+            Reply::Counts(counts) => Reply::Counts(*counts),
         })
     }
 }

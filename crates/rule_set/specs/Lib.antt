@@ -1,2 +1,3 @@
 pub mod Near
 pub mod Target
+pub mod Standing

@@ -3,6 +3,8 @@
 
 mod local;
 mod rules;
+mod standing;
 
 pub use local::Local;
 pub use rules::{BadTarget, Rules};
+pub use standing::Standing;

@@ -1,19 +1,20 @@
 //! A set of rules.
 
-ghost use Rattle.std.specs.Prelude.{◌≡◌, ℕ, ◌+◌, ◌*◌, ◌≤◌, Bool, List, [], length, IsTrue, IsSome};
+ghost use Rattle.std.specs.Prelude.{◌≡◌, ℕ, ◌+◌, ◌*◌, ◌≤◌, Bool, not, List, [], length, count_by, sum_by, IsTrue, IsSome};
 ghost use Rattle.std.specs.Result.{result_ok};
 ghost use Rattle.rule_machine.specs.declared.act.Act.{Act};
 ghost use Rattle.rule_machine.specs.declared.choice.Item.{Item};
 ghost use Rattle.rule_machine.specs.declared.moved.Moved.{Moved};
-ghost use Rattle.rule_machine.specs.State.{State, IsState};
+ghost use Rattle.rule_machine.specs.State.{State, IsState, is_unanswered};
 ghost use Rattle.rule_machine.specs.RuleTable.{RuleTable, rule_at, enabled_names, least_target};
-ghost use Rattle.rule_machine.specs.Network.{linked, node_count, edge_count};
+ghost use Rattle.rule_machine.specs.Network.{names, linked, edge_list, node_count, edge_count};
 ghost use Rattle.rule_machine.specs.Step.{IsStep};
 ghost use Rattle.rule_machine.specs.Stable.{IsStable};
 ghost use Rattle.rule_set.specs.Near.{SameAt};
+ghost use Rattle.rule_set.specs.Standing.{IsStanding};
 ghost use Rattle.rule_set.specs.Target.{target_at, takes_target};
 
-use crate::Local;
+use crate::{Local, Standing};
 use rule_machine::{Act, Node};
 use thiserror::Error;
 
@@ -32,6 +33,12 @@ pub trait Rules {
     ghost FLAGS: { Bool };
 
     ghost NODE_WEIGHT: { ℕ };
+
+    /// Which edges add nothing to the charge.
+    ghost closed: { State → ℕ × ℕ → Bool };
+
+    /// What a node adds to it, beside 1 where its pointer is not answered.
+    ghost adds: { State → ℕ → ℕ };
 
     /// Whether its daemon is central, so that one node moves at a time.
     const CENTRAL: bool;
@@ -62,6 +69,14 @@ pub trait Rules {
         requires enabled { IsSome (rule_at table (L.state local.now) v) }
         ensures { result_ok result ≡ target_at table (L.state local.now) v wish };
 
+    /// Whether the edge between two nodes, the lower one first, adds nothing to the charge.
+    fn is_closed(low: &Standing, high: &Standing) -> bool
+        ensures { (s : State) → IsStanding s low.now → IsStanding s high.now → result ≡ closed s (low.now.node, high.now.node) };
+
+    /// What a node adds to the charge, beside 1 where its pointer is not answered.
+    fn node_charge(node: &Standing) -> u32
+        ensures { (s : State) → IsStanding s node.now → result ≡ adds s node.now.node };
+
     /// The table says of the daemon what the constant says.
     ghost is_central: { table.central ≡ CENTRAL };
 
@@ -88,6 +103,12 @@ pub trait Rules {
 
     /// Where the network is stable no rule is enabled.
     ghost stable_is_quiet: { (s : State) → IsState s → IsStable table.flags s → enabled_names table s ≡ [] };
+
+    /// The charge is twice the edges that are not closed, one for each pointer that is not answered, and what the nodes add.
+    ghost charge_counts: { (s : State) → table.charge s ≡ 2 * count_by (λ e. not (closed s e)) (edge_list s.network) + count_by (is_unanswered s) (names s.network) + sum_by (adds s) (names s.network) };
+
+    /// A node adds little to the bound, so that what is counted fits 32 bits.
+    ghost is_light: { NODE_WEIGHT ≤ 3 };
 
     /// The charge falls by the moves of a step.
     ghost charge_falls: { (s : State) (items : List Item) (moves : List Moved) (s' : State) → IsState s → IsStep table s items moves s' → table.charge s' + length moves ≤ table.charge s };

@@ -1,3 +1,4 @@
 pub mod Rule
 pub mod Target
 pub mod Quiet
+pub mod Charge

@@ -1,7 +1,7 @@
 //! The rules of Hsu and Huang.
 
 use rule_machine::{Act, Node};
-use rule_set::{BadTarget, Local, Rules};
+use rule_set::{BadTarget, Local, Rules, Standing};
 
 /// Hsu and Huang's algorithm of 1992: one node moves at a time, and no flags are used.
 #[derive(Clone, Copy, Debug, PartialEq, Eq)]
@@ -11,6 +11,8 @@ impl Rules for HsuHuang {
     ghost use Rattle.std.specs.Prelude.{true, false, refl};
     ghost use Rattle.charge_laws.specs.Laws.{hsu_huang_charged};
     ghost use Rattle.rule_machine.specs.HsuHuang.{hsu_huang};
+    ghost use Rattle.rule_machine.specs.Charge.{hsu_huang_closed};
+    ghost use Rattle.rules_hsu_huang.specs.Charge.{nothing, charge_without_nodes, light};
     ghost use Rattle.rules_hsu_huang.specs.Rule.{guard_is_local, one_rule_at};
     ghost use Rattle.rules_hsu_huang.specs.Target.{allowed_near, allowed_takes, target_from_guard};
     ghost use Rattle.rules_hsu_huang.specs.Quiet.{stable_from_quiet, quiet_from_stable};
@@ -22,6 +24,10 @@ impl Rules for HsuHuang {
     ghost FLAGS = { false };
 
     ghost NODE_WEIGHT = { 1 };
+
+    ghost closed = { hsu_huang_closed };
+
+    ghost adds = { nothing };
 
     const CENTRAL: bool = true;
 
@@ -63,6 +69,22 @@ impl Rules for HsuHuang {
         }
     }
 
+    fn is_closed(low: &Standing, high: &Standing) -> bool {
+        if low.is_married || high.is_married {
+            return true;
+        }
+        match (low.pointer, high.pointer) {
+            (Some(w), None) => w == high.node,
+            (None, Some(v)) => v == low.node,
+            (None, None) => low.has_suitor && high.has_suitor,
+            (Some(_), Some(_)) => false,
+        }
+    }
+
+    fn node_charge(_: &Standing) -> u32 {
+        0
+    }
+
     ghost is_central = { refl };
 
     ghost uses_flags = { refl };
@@ -80,6 +102,10 @@ impl Rules for HsuHuang {
     ghost quiet_is_stable = { stable_from_quiet };
 
     ghost stable_is_quiet = { quiet_from_stable };
+
+    ghost charge_counts = { charge_without_nodes };
+
+    ghost is_light = { light };
 
     ghost charge_falls = { hsu_huang_charged.falls };
 

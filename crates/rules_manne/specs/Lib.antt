@@ -2,3 +2,4 @@ pub mod Greatest
 pub mod Rule
 pub mod Target
 pub mod Quiet
+pub mod Charge

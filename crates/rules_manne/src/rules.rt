@@ -8,7 +8,7 @@ ghost use Rattle.rule_machine.specs.RuleTable.{last_open_above};
 ghost use Rattle.rules_manne.specs.Target.{is_free};
 
 use rule_machine::{Act, Node};
-use rule_set::{BadTarget, Local, Rules};
+use rule_set::{BadTarget, Local, Rules, Standing};
 
 /// The algorithm of Manne, Mjelde, Pilard and Tixeuil of 2009: any set of enabled nodes moves at once, and a node's flag
 /// tells its neighbours whether it is married.
@@ -19,9 +19,11 @@ impl Rules for Manne {
     ghost use Rattle.std.specs.Prelude.{true, false, refl};
     ghost use Rattle.charge_laws.specs.Laws.{manne_charged};
     ghost use Rattle.rule_machine.specs.Manne.{manne};
+    ghost use Rattle.rule_machine.specs.Charge.{manne_closed, manne_node_charge};
     ghost use Rattle.rules_manne.specs.Rule.{guard_is_local, one_rule_at};
     ghost use Rattle.rules_manne.specs.Target.{allowed_near, allowed_takes, target_from_guard};
     ghost use Rattle.rules_manne.specs.Quiet.{stable_from_quiet, quiet_from_stable};
+    ghost use Rattle.rules_manne.specs.Charge.{counted, light};
 
     ghost table = { manne };
 
@@ -30,6 +32,10 @@ impl Rules for Manne {
     ghost FLAGS = { true };
 
     ghost NODE_WEIGHT = { 3 };
+
+    ghost closed = { manne_closed };
+
+    ghost adds = { manne_node_charge };
 
     const CENTRAL: bool = false;
 
@@ -68,6 +74,24 @@ impl Rules for Manne {
         }
     }
 
+    fn is_closed(low: &Standing, high: &Standing) -> bool {
+        if low.is_married || high.is_married {
+            return true;
+        }
+        match low.pointer {
+            Some(w) => w == high.node && !high.flag,
+            None => false,
+        }
+    }
+
+    fn node_charge(node: &Standing) -> u32 {
+        match (node.is_married, node.flag) {
+            (true, true) => 0,
+            (true, false) | (false, false) => 1,
+            (false, true) => 2,
+        }
+    }
+
     ghost is_central = { refl };
 
     ghost uses_flags = { refl };
@@ -85,6 +109,10 @@ impl Rules for Manne {
     ghost quiet_is_stable = { stable_from_quiet };
 
     ghost stable_is_quiet = { quiet_from_stable };
+
+    ghost charge_counts = { counted };
+
+    ghost is_light = { light };
 
     ghost charge_falls = { manne_charged.falls };
 

@@ -1,10 +1,12 @@
 use Rattle.std.proofs.Common.{◌≡◌, ◌++◌, ◌+◌, ap, sym, subst, ◌∙◌, arith}
 use Rattle.rule_machine.specs.State.{IsState}
-use Rattle.rule_machine.specs.Least.{replies_of, state_after_all}
+use Rattle.rule_machine.specs.Least.{replies_of}
+use Rattle.rule_machine.specs.Run.{Moment}
+use Rattle.rule_engine.specs.Applied.{moment_after_all}
 use Rattle.std.proofs.lemmas.Bool.{true≢false}
 use Rattle.std.proofs.lemmas.List.{drop_all, append-nil}
 use Rattle.machine_laws.specs.LeastMoves.{IsTable}
-use Rattle.rule_engine.proofs.Keeping.{state_after_more, replies_more, rest_more, run_from, stopped_at, stopped_first, on_err}
+use Rattle.rule_engine.proofs.Moments.{moment_after_more, replies_more, rest_more, run_from, stopped_at, stopped_first, on_err}
 use Rattle.rule_engine.proofs.Scanned.{ok_branch}
 use Rattle.rule_engine.proofs.net.Net.apply_all.Goals as goal
 
@@ -14,9 +16,9 @@ returns-clause-run g c =
     let t = g.R.Rules.table in
     let table : IsTable t = record { allowed_is_neighbour = laws.allowed_is_neighbour; allowed_takes_target = laws.allowed_takes_target; has_target = laws.has_target } in
     let rest = drop_all c.loop-event.event-index c.args.events.now (omega arith) in
-    let told : c.from_vec.result ≡ replies_of t c.args.self.now c.args.events.now = c.from_vec.ensures ∙ sym (append-nil c.loop-event.replies.items) ∙ sym (ap (λ l. c.loop-event.replies.items ++ replies_of t c.loop-event.self l) rest) ∙ c.loop-event.invariant.told in
-    let here : c.loop-event.self ≡ state_after_all t c.args.self.now c.args.events.now = sym (ap (state_after_all t c.loop-event.self) rest) ∙ c.loop-event.invariant.rest in
-    run_from t table c.args.self.now c.loop-event.self (subst IsState c.self.view_is c.self.invariant.is_state) c.args.events.now c.from_vec.result told here
+    let told : c.from_vec.result ≡ replies_of t c.args.self.now.state c.args.self.now.spent c.args.events.now = c.from_vec.ensures ∙ sym (append-nil c.loop-event.replies.items) ∙ sym (ap (λ l. c.loop-event.replies.items ++ replies_of t c.loop-event.self.state c.loop-event.self.spent l) rest) ∙ c.loop-event.invariant.told in
+    let here : c.loop-event.self ≡ moment_after_all t c.args.self.now c.args.events.now = sym (ap (moment_after_all t c.loop-event.self) rest) ∙ c.loop-event.invariant.rest in
+    run_from t table c.args.self.now c.loop-event.self (subst (λ (m : Moment). IsState m.state) c.self.view_is c.self.invariant.is_state) c.args.events.now c.from_vec.result told here
 
 pub loop-event-preserved : goal.loop-event-preserved
 loop-event-preserved g c =
@@ -28,7 +30,7 @@ loop-event-preserved g c =
     record {
       told = replies_more t c.loop-event.self c.apply.new.self events i event c.loop-event.replies.items c.push.new.self.items _ c.in-Ok.reply c.loop-event-test.true c.event-item.is (c.push.ensures.items ∙ ok_branch _ _ _ _ c.unwrap.ensures) c.in-Ok.ensures.reply c.in-Ok.ensures.state inv.told;
       rest = rest_more t c.loop-event.self c.apply.new.self _ events i event c.loop-event-test.true c.event-item.is c.in-Ok.ensures.state inv.rest;
-      here = state_after_more t c.args.self.now c.loop-event.self c.apply.new.self events i event c.loop-event-test.true c.event-item.is inv.here c.in-Ok.ensures.state;
+      here = moment_after_more t c.args.self.now c.loop-event.self c.apply.new.self events i event c.loop-event-test.true c.event-item.is inv.here c.in-Ok.ensures.state;
       count = c.push.ensures.len ∙ ok_branch _ _ _ _ c.unwrap.ensures ∙ ap (λ n. n + 1) inv.count;
       room = omega (arith, c.push.ensures.capacity, inv.room);
     }

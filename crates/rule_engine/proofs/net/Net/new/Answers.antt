@@ -1,16 +1,15 @@
-use Rattle.std.proofs.Common.{◌≡◌, [], sym, subst}
-use Rattle.rule_machine.specs.State.{State, opening}
-use Rattle.rule_machine.specs.RuleTable.{enabled_names}
-use Rattle.machine_laws.specs.Keeps.{opening_is_state}
-use Rattle.rule_engine.specs.Kept.{IsKept}
-use Rattle.rule_engine.proofs.Again.{kept_quiet}
-use Rattle.rule_engine.proofs.Opening.{opening_is_stable}
+use Rattle.std.proofs.Common.{sym, subst}
+use Rattle.rule_machine.specs.State.{State}
+use Rattle.charge_laws.specs.Charged.{IsCharged}
+use Rattle.rule_engine.specs.Applied.{IsPaid}
+use Rattle.rule_engine.specs.Kept.{moment}
+use Rattle.rule_engine.proofs.Moments.{beginning_is_paid}
 use Rattle.rule_engine.proofs.net.Net.new.Goals as goal
 
 pub invariant_of-result : goal.invariant_of-result
 invariant_of-result g c =
+    let laws = g.met.R.Rules in
     let t = g.R.Rules.table in
-    let n = c.args.nodes in
-    let good = opening_is_state n in
-    let quiet : enabled_names t (opening n) ≡ [] = g.met.R.Rules.stable_is_quiet (opening n) good (opening_is_stable t.flags n) in
-    subst (λ (s : State). IsKept t s c.in-Ok.enabled c.in-Ok-new.chosen) (sym c.in_ok-state.ensures.ok) (kept_quiet t (opening n) c.in-Ok.enabled c.in-Ok-new.chosen good quiet c.in-Ok.ensures c.in-Ok-new.ensures c.in_ok-state.ensures.small)
+    let weight = g.R.Rules.NODE_WEIGHT in
+    let charged : IsCharged t weight = record { falls = laws.charge_falls; bounded = laws.charge_is_bounded; zero_is_stable = laws.no_charge_is_stable } in
+    subst (λ (s : State). IsPaid t weight (moment s 0)) (sym c.in_ok-engine.ensures.ok) (beginning_is_paid t weight charged c.args.nodes)

@@ -1,0 +1,101 @@
+-- The moments that a network goes through.
+use Rattle.std.proofs.Common.{◌≡◌, ℕ, ◌+◌, ◌<◌, List, [], ◌∷◌, ◌++◌, length, take, drop, get_or, zip, Some, None, Result, Ok, Err, OnErr, IsSomeAnd, IsTrue, inl, inr, refl, sym, ap, ◌∙◌, subst, arith}
+use Rattle.std.proofs.lemmas.Option.{slice_get-get_or}
+use Rattle.std.proofs.lemmas.List.{take_more, drop_more, append_assoc}
+use Rattle.rule_machine.specs.declared.event.Event.{Event}
+use Rattle.rule_machine.specs.declared.reply.Reply.{Reply}
+use Rattle.rule_machine.specs.State.{State, IsState}
+use Rattle.rule_machine.specs.RuleTable.{RuleTable}
+use Rattle.rule_machine.specs.Refuse.{refusal_of}
+use Rattle.rule_machine.specs.Answer.{Answers, spent_after}
+use Rattle.rule_machine.specs.Least.{reply_of, state_after, replies_of}
+use Rattle.rule_machine.specs.Run.{Moment, Run, beginning, moment_after}
+use Rattle.machine_laws.specs.Keeps.{opening_is_state}
+use Rattle.machine_laws.specs.LeastMoves.{IsTable}
+use Rattle.machine_laws.specs.Accepted.{state_after_keeps}
+use Rattle.machine_laws.specs.LeastAnswers.{least_answers}
+use Rattle.machine_laws.specs.Runs.{answers_keep}
+use Rattle.charge_laws.specs.Charged.{IsCharged}
+use Rattle.charge_laws.specs.Laws.{beginning_is_within}
+use Rattle.charge_laws.specs.Runs.{answer_within}
+use Rattle.rule_engine.specs.Applied.{IsPaid, StopsAt, moment_after_all, takes_memory}
+use Rattle.rule_engine.specs.Kept.{moment}
+
+-- ---- what is spent
+
+pub beginning_is_paid : (t : RuleTable) (weight : ℕ) → IsCharged t weight → (size : ℕ) → IsPaid t weight (beginning size)
+beginning_is_paid t weight charged size = record { is_state = opening_is_state size; within = beginning_is_within t weight charged size }
+
+-- an answer of the machine, and what its reply spends
+pub answer_is_paid : (t : RuleTable) (weight : ℕ) → IsTable t → IsCharged t weight → (m : Moment) → IsPaid t weight m → (event : Event) (reply : Reply) (s : State) → Answers t m.state m.spent event reply s → IsPaid t weight (moment s (spent_after m.spent reply))
+answer_is_paid t weight table charged m paid event reply s answers = record {
+  is_state = answers_keep t table m.state paid.is_state m.spent event reply s answers;
+  within = answer_within t weight table charged m paid.is_state paid.within event reply s answers;
+}
+
+-- the machine's reply and state
+pub turn_answers : (t : RuleTable) → IsTable t → (m : Moment) → IsState m.state → (event : Event) (reply : Reply) (s : State) → reply ≡ reply_of t m.state m.spent event → s ≡ state_after t m.state event → Answers t m.state m.spent event reply s
+turn_answers t table m good event reply s told is =
+    subst (λ q. Answers t m.state m.spent event q s) (sym told) (subst (λ u. Answers t m.state m.spent event (reply_of t m.state m.spent event) u) (sym is) (least_answers t table m.state good m.spent event))
+
+pub turn_is_paid : (t : RuleTable) (weight : ℕ) → IsTable t → IsCharged t weight → (m : Moment) → IsPaid t weight m → (event : Event) (reply : Reply) (s : State) → reply ≡ reply_of t m.state m.spent event → s ≡ state_after t m.state event → IsPaid t weight (moment s (spent_after m.spent reply))
+turn_is_paid t weight table charged m paid event reply s told is =
+    answer_is_paid t weight table charged m paid event reply s (turn_answers t table m paid.is_state event reply s told is)
+
+pub turn_after : (t : RuleTable) (m : Moment) (event : Event) (reply : Reply) (s : State) → reply ≡ reply_of t m.state m.spent event → s ≡ state_after t m.state event → moment s (spent_after m.spent reply) ≡ moment_after t m event
+turn_after t m event reply s told is =
+    ap (λ u. moment u (spent_after m.spent reply)) is ∙ ap (λ r. moment (state_after t m.state event) (spent_after m.spent r)) told
+
+-- ---- events in turn
+
+moment_after_append : (t : RuleTable) (m : Moment) (xs ys : List Event) → moment_after_all t m (xs ++ ys) ≡ moment_after_all t (moment_after_all t m xs) ys
+moment_after_append t m [] ys = refl
+moment_after_append t m (x ∷ xs) ys = moment_after_append t (moment_after t m x) xs ys
+
+-- where one more event leads
+pub moment_after_more : (t : RuleTable) (m here next : Moment) (events : List Event) (i : ℕ) (event : Event) → i < length events → event ≡ get_or events i event → here ≡ moment_after_all t m (take i events) → next ≡ moment_after t here event → next ≡ moment_after_all t m (take (i + 1) events)
+moment_after_more t m here next events i event within is so_far step =
+    step ∙ ap (λ u. moment_after t u event) so_far
+    ∙ sym (ap (moment_after_all t m) (take_more events i event within ∙ ap (λ e. take i events ++ e ∷ []) (sym is)) ∙ moment_after_append t m (take i events) (event ∷ []))
+
+least_run : (t : RuleTable) → IsTable t → (m : Moment) → IsState m.state → (events : List Event) → Run t m (zip events (replies_of t m.state m.spent events)) (moment_after_all t m events)
+least_run t table m good [] = refl
+least_run t table m good (event ∷ events) =
+    (state_after t m.state event, least_answers t table m.state good m.spent event, least_run t table (moment_after t m event) (state_after_keeps t table m.state good event) events)
+
+-- the replies to events and the moment after them are a run
+pub run_from : (t : RuleTable) → IsTable t → (m m' : Moment) → IsState m.state → (events : List Event) (replies : List Reply) → replies ≡ replies_of t m.state m.spent events → m' ≡ moment_after_all t m events → Run t m (zip events replies) m'
+run_from t table m m' good events replies told is =
+    subst (λ rs. Run t m (zip events rs) m') (sym told) (subst (Run t m (zip events (replies_of t m.state m.spent events))) (sym is) (least_run t table m good events))
+
+-- one more reply, and the replies to what is left
+pub replies_more : (t : RuleTable) (here next : Moment) (events : List Event) (i : ℕ) (event : Event) (before after all : List Reply) (reply : Reply) → i < length events → event ≡ get_or events i event → after ≡ before ++ reply ∷ [] → reply ≡ reply_of t here.state here.spent event → next ≡ moment_after t here event → before ++ replies_of t here.state here.spent (drop i events) ≡ all → after ++ replies_of t next.state next.spent (drop (i + 1) events) ≡ all
+replies_more t here next events i event before after all reply within is pushed told step so_far =
+    ap (λ l. l ++ replies_of t next.state next.spent (drop (i + 1) events)) (pushed ∙ ap (λ r. before ++ r ∷ []) told)
+    ∙ ap (λ (u : Moment). (before ++ reply_of t here.state here.spent event ∷ []) ++ replies_of t u.state u.spent (drop (i + 1) events)) step
+    ∙ append_assoc before (reply_of t here.state here.spent event ∷ []) (replies_of t (moment_after t here event).state (moment_after t here event).spent (drop (i + 1) events))
+    ∙ ap (λ l. before ++ replies_of t here.state here.spent l) (sym (drop_more events i event within ∙ ap (λ e. e ∷ drop (i + 1) events) (sym is)))
+    ∙ so_far
+
+-- and where what is left leads
+pub rest_more : (t : RuleTable) (here next end : Moment) (events : List Event) (i : ℕ) (event : Event) → i < length events → event ≡ get_or events i event → next ≡ moment_after t here event → moment_after_all t here (drop i events) ≡ end → moment_after_all t next (drop (i + 1) events) ≡ end
+rest_more t here next end events i event within is step so_far =
+    ap (λ u. moment_after_all t u (drop (i + 1) events)) step
+    ∙ ap (moment_after_all t here) (sym (drop_more events i event within ∙ ap (λ e. e ∷ drop (i + 1) events) (sym is)))
+    ∙ so_far
+
+-- where an event that could not be had leaves the events before it
+pub stopped_at : (t : RuleTable) (m here m' : Moment) (events : List Event) (i : ℕ) (event : Event) → i < length events → event ≡ get_or events i event → here ≡ moment_after_all t m (take i events) → m' ≡ here → (refusal_of t here.state event ≡ None) × IsTrue (takes_memory event) → StopsAt t m events i m'
+stopped_at t m here m' events i event within is so_far kept want = record {
+  next = within;
+  moment = kept ∙ so_far;
+  cause = inr (subst (λ o. IsSomeAnd o (λ e. (refusal_of t m'.state e ≡ None) × IsTrue (takes_memory e))) (sym (slice_get-get_or events i event within ∙ ap Some (sym is))) (subst (λ (u : Moment). (refusal_of t u.state event ≡ None) × IsTrue (takes_memory event)) (sym kept) want));
+}
+
+-- with no list for the replies, which could not be had, no event was carried out
+pub stopped_first : (t : RuleTable) (m : Moment) (events : List Event) → (length events ≡ 0 → ⊥) → StopsAt t m events 0 m
+stopped_first t m events some = record { next = omega arith; moment = refl; cause = inl refl }
+
+pub on_err : {T E P : Type 0} (r : Result T E) → P → OnErr r P
+on_err (Ok x) p = tt
+on_err (Err e) p = p

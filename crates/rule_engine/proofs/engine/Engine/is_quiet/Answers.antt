@@ -1,0 +1,21 @@
+use Rattle.std.proofs.Common.{subst}
+use Rattle.rule_machine.specs.State.{State, IsState}
+use Rattle.stable_matching.specs.Laws.{maximal_from_stable, stable_from_maximal}
+use Rattle.rule_engine.specs.Kept.{AreOn}
+use Rattle.rule_engine.proofs.Again.{quiet_by_count}
+use Rattle.rule_engine.proofs.engine.Engine.is_quiet.Goals as goal
+
+pub returns : goal.returns
+returns g c =
+    let t = g.R.Rules.table in
+    let laws = g.met.R.Rules in
+    let s = c.args.self.now in
+    let good : IsState s = subst IsState c.self.view_is c.self.invariant.is_state in
+    let on : AreOn t s c.self.inside.enabled = subst (λ (u : State). AreOn t u c.self.inside.enabled) c.self.view_is c.self.invariant.enabled in
+    let quiet = quiet_by_count t s c.self.inside.enabled c.count.result on c.count.ensures in
+    record {
+      quiet = quiet;
+      stable = (λ yes. laws.quiet_is_stable s good (quiet.0 yes), λ stable. quiet.1 (laws.stable_is_quiet s good stable));
+      matching = λ yes. maximal_from_stable t.flags s good (laws.quiet_is_stable s good (quiet.0 yes));
+      only_stable = λ answered matching. quiet.1 (laws.stable_is_quiet s good (stable_from_maximal t.flags s good answered.answered answered.flagged matching));
+    }
