@@ -8,7 +8,7 @@ use rules_hsu_huang::HsuHuang;
 use rules_manne::Manne;
 use std::alloc::Global;
 use std::process::Abort;
-use step_log::{Journal, RecordFault};
+use step_log::{Journal, RecordFault, Recorder};
 
 impl<R: Rules> Machine for Journal<R> {
     fn answers(&mut self, rt: &impl Abort, _alloc: Global, entry: &Entry) -> bool {
@@ -96,3 +96,24 @@ fn a_journal_has_at_most_65535_nodes(rt: HostRuntime) {
     assert!(rt; fault == Some(GraphFault::TooManyNodes));
 }
 
+#[test]
+fn an_entry_is_numbered_and_not_kept(rt: HostRuntime) {
+    let mut recorder = Recorder::<HsuHuang>::with_limit(rt.alloc(), 2, 1).expect(&rt, "memory");
+    assert!(rt; !recorder.is_full());
+    let link = Event::Link(named(&rt, 1), named(&rt, 2));
+    let answer = recorder.log(&link).expect(&rt, "room");
+    assert!(rt; answer.seq == 1 && answer.reply == Reply::Accepted);
+    assert!(rt; recorder.is_full());
+    assert!(rt; recorder.log(&Event::Enabled) == Err(RecordFault::LogFull));
+    assert!(rt; recorder.len() == 1);
+}
+
+#[test]
+fn a_reply_is_told_beside_its_receipt(rt: HostRuntime) {
+    let mut journal = journal_of::<HsuHuang>(&rt, rt.alloc(), 2, 2);
+    let link = Event::Link(named(&rt, 1), named(&rt, 2));
+    let told = journal.record_told(link).expect(&rt, "room");
+    assert!(rt; told.0.seq == 1 && told.1 == Reply::Accepted);
+    let told = journal.record_told(Event::Enabled).expect(&rt, "room");
+    assert!(rt; told.0.seq == 2 && told.0.reply == told.1);
+}

@@ -181,16 +181,6 @@ pub LineDoes-command : (t : RuleTable) (limit : ℕ) (line : List ℕ) (command 
 LineDoes-command t limit [] command before after some says does = absurd (some refl)
 LineDoes-command t limit (b ∷ line) command before after some says does = (command, says, does)
 
--- the entry with the number is the one that was logged
-pub entry_read : (entries : List Entry) (number count : ℕ) (entry logged : Entry) → number ≡ count + 1 → slice_get entries count ≡ Some logged → slice_get entries (number - 1) ≡ Some entry → entry ≡ logged
-entry_read entries number count entry logged is here read =
-    let at : number - 1 ≡ count = omega (arith, is) in
-    let both : Some entry ≡ Some logged = sym read ∙ ap (slice_get entries) at ∙ here in cc
-
--- the text of the entry that was logged was added
-pub text_added : {n k : ℕ} {a b : Event} {x y : Reply} (old new : List ℕ) → new ≡ old ++ entry_line n a x → n ≡ k → a ≡ b → x ≡ y → new ≡ old ++ entry_line k b y
-text_added old new e p q r = cc
-
 pub OnErr-holds : {T E P : Type 0} (result : Result T E) → P → OnErr result P
 OnErr-holds (Ok x) p = tt
 OnErr-holds (Err e) p = p

@@ -3,16 +3,16 @@ use Rattle.std.specs.Prelude.{◌≡◌, ℕ, Bool, true, false, List, ◌++◌,
 use Rattle.rand_core.specs.Stream.{Stream}
 use Rattle.rule_machine.specs.declared.event.Event.{Event}
 use Rattle.rule_machine.specs.RuleTable.{RuleTable}
-use Rattle.step_log.specs.Log.{Log}
+use Rattle.step_log.specs.Recording.{Recording}
 use Rattle.script_line.specs.declared.command.Command.{Command}
 use Rattle.seeded_turns.specs.Drawn.{Draws}
 use Rattle.script_machine.specs.Script.{Progress, EventDoes, TurnsDo, TurnsFill, CommandDoes, CommandFills, LineDoes, IsBadLine, MeetsFullLog}
 use Rattle.script_run.specs.declared.stop.Stop.{Stop}
 use Rattle.script_run.specs.declared.stop.Stop.TheVariants.{BadLine, LogFull}
 
--- where a run stands: what its journal holds, and a text
-abbrev pub progress : Log → List ℕ → Progress
-progress log text = record { state = log.state; count = length log.entries; text = text }
+-- where a run stands: how far its recording has come, and a text
+abbrev pub progress : Recording → List ℕ → Progress
+progress r text = record { state = r.state; count = r.len; text = text }
 
 -- a text has grown
 abbrev pub Grows : List ℕ → List ℕ → Type 0

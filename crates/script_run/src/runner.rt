@@ -20,55 +20,55 @@ use script_line::{Command, read_line};
 use seeded_turns::{DaemonTurns, EventSource, FaultTurns};
 use std::alloc::{AllocError, Global};
 use std::io::Write;
-use step_log::{Journal, RecordFault};
+use step_log::{RecordFault, Recorder};
 
-/// A journal, and the text that is not written yet.
+/// A network whose entries are numbered, and the text that is not written yet.
 #[derive(Drop)]
 struct Run<R: Rules> {
-    journal: Journal<R>,
+    recorder: Recorder<R>,
     text: Vec<u8>,
 }
 
 impl<R: Rules> Run<R> {
     fn new(alloc: Global, options: &Options) -> Result<Run<R>, Want>
-        ensures begins { IfOk result (λ run. progress run.journal run.text.items ≡ beginning options.now.rules options.now.nodes) }
-        ensures limit { IfOk result (λ run. run.journal.limit ≡ options.now.limit) }
+        ensures begins { IfOk result (λ run. progress run.recorder run.text.items ≡ beginning options.now.rules options.now.nodes) }
+        ensures limit { IfOk result (λ run. run.recorder.limit ≡ options.now.limit) }
     {
-        let Ok(journal) = Journal::with_limit(alloc, options.nodes(), options.limit()) else {
+        let Ok(recorder) = Recorder::with_limit(alloc, options.nodes(), options.limit()) else {
             return Err(AllocError);
         };
         let mut text = Vec::new(alloc);
         put_header(&mut text, options.rules(), options.nodes())?;
-        Ok(Run { journal, text })
+        Ok(Run { recorder, text })
     }
 
-    // Logs an event and adds the text of its entry; false where the log is full.
+    // Carries out an event and adds the text of its entry; false where the log is full.
     fn log(&mut self, event: Event) -> Result<bool, Want>
-        ensures ends { EventEnds R.table self.old.journal.limit event (progress self.old.journal self.old.text.items) (progress self.new.journal self.new.text.items) result }
-        ensures limit { self.new.journal.limit ≡ self.old.journal.limit }
+        ensures ends { EventEnds R.table self.old.recorder.limit event (progress self.old.recorder self.old.text.items) (progress self.new.recorder self.new.text.items) result }
+        ensures limit { self.new.recorder.limit ≡ self.old.recorder.limit }
     {
-        let seq = match self.journal.log(event) {
-            Ok(seq) => seq,
-            Err(RecordFault::LogFull) => return Ok(false),
-            Err(RecordFault::Memory) => return Err(AllocError),
-        };
-        let entry = self.journal.entry(seq).unwrap();
-        put_entry(&mut self.text, seq, entry.event(), entry.reply())?;
-        Ok(true)
+        match self.recorder.log(&event) {
+            Ok(answer) => {
+                put_entry(&mut self.text, answer.seq, &event, &answer.reply)?;
+                Ok(true)
+            }
+            Err(RecordFault::LogFull) => Ok(false),
+            Err(RecordFault::Memory) => Err(AllocError),
+        }
     }
 
-    // Logs the events of so many turns, or of those up to one that has none; false where a turn meets a full log, before
+    // Carries out the events of so many turns, or of those up to one that has none; false where a turn meets a full log, before
     // it is asked for.
     fn take_turns<S: EventSource>(&mut self, source: &mut S, count: u32) -> Result<bool, Want>
-        ensures ends { TurnsEnd S.draws R.table self.old.journal.limit count (S.stream source.old) (progress self.old.journal self.old.text.items) (progress self.new.journal self.new.text.items) result }
-        ensures unasked { length self.old.journal.entries ≡ self.old.journal.limit → S.stream source.new ≡ S.stream source.old }
-        ensures limit { self.new.journal.limit ≡ self.old.journal.limit }
+        ensures ends { TurnsEnd S.draws R.table self.old.recorder.limit count (S.stream source.old) (progress self.old.recorder self.old.text.items) (progress self.new.recorder self.new.text.items) result }
+        ensures unasked { self.old.recorder.len ≡ self.old.recorder.limit → S.stream source.new ≡ S.stream source.old }
+        ensures limit { self.new.recorder.limit ≡ self.old.recorder.limit }
     {
         for _ in 0..count {
-            if self.journal.is_full() {
+            if self.recorder.is_full() {
                 return Ok(false);
             }
-            let Some(event) = source.next_event(self.journal.net())? else {
+            let Some(event) = source.next_event(self.recorder.net())? else {
                 return Ok(true);
             };
             if !self.log(event)? {
@@ -80,8 +80,8 @@ impl<R: Rules> Run<R> {
 
     // Follows a command; false where it meets a full log.
     fn follow(&mut self, alloc: Global, command: Command) -> Result<bool, Want>
-        ensures ends { CommandEnds R.table self.old.journal.limit command (progress self.old.journal self.old.text.items) (progress self.new.journal self.new.text.items) result }
-        ensures limit { self.new.journal.limit ≡ self.old.journal.limit }
+        ensures ends { CommandEnds R.table self.old.recorder.limit command (progress self.old.recorder self.old.text.items) (progress self.new.recorder self.new.text.items) result }
+        ensures limit { self.new.recorder.limit ≡ self.old.recorder.limit }
     {
         match command {
             Command::Tell(event) => self.log(event),
@@ -98,8 +98,8 @@ impl<R: Rules> Run<R> {
 
     // Carries out the line with this number: what in it stops the run, if anything does.
     fn carry_out(&mut self, alloc: Global, number: u64, line: &[u8]) -> Result<Option<Stop>, Want>
-        ensures ends { LineEnds R.table self.old.journal.limit number line.now (progress self.old.journal self.old.text.items) (progress self.new.journal self.new.text.items) result }
-        ensures limit { self.new.journal.limit ≡ self.old.journal.limit }
+        ensures ends { LineEnds R.table self.old.recorder.limit number line.now (progress self.old.recorder self.old.text.items) (progress self.new.recorder self.new.text.items) result }
+        ensures limit { self.new.recorder.limit ≡ self.old.recorder.limit }
     {
         if line.is_empty() {
             return Ok(None);
@@ -125,10 +125,10 @@ impl<R: Rules> Run<R> {
         script: &[u8],
         writer: &mut Out,
     ) -> Result<End, OutputFault>
-        ensures ok { IfOk result (λ end. Halts R.table self.old.journal.limit (lines_of script.now) (progress self.old.journal self.old.text.items) end
+        ensures ok { IfOk result (λ end. Halts R.table self.old.recorder.limit (lines_of script.now) (progress self.old.recorder self.old.text.items) end
             (λ text. Hands (Out.contents writer.old) (Out.contents writer.new) text self.new.text.items)) }
         ensures fault { OnErr result ((end : Progress)
-            × LeadsTo R.table self.old.journal.limit (lines_of script.now) (progress self.old.journal self.old.text.items) end
+            × LeadsTo R.table self.old.recorder.limit (lines_of script.now) (progress self.old.recorder self.old.text.items) end
             × AppendsLess (Out.contents writer.old) (Out.contents writer.new) end.text) }
     {
         let mut rest = script;

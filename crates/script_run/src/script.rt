@@ -17,8 +17,8 @@ use std::io::{Read, Write};
 /// command. `BadLine` at the first line that is neither empty nor a command, `LogFull` at a command beyond the limit,
 /// both after the entries before were written; `Read` at the first error of the reader, before anything is written;
 /// `Write` at the first error of the writer, and `Memory` if memory runs out, after a beginning of the transcript was
-/// written. The journal of the run is held in memory: an entry takes 64 bytes and its lists, and the log doubles as it
-/// grows.
+/// written. No entry is kept: what is held beside the network is the script, and the text that is not written yet, 65,536
+/// bytes and that of one line.
 pub fn run<In: Read, Out: Write>(
     alloc: Global,
     reader: &mut In,

@@ -1,5 +1,5 @@
 -- One more entry at the end of a run.
-use Rattle.std.proofs.Common.{◌≡◌, ℕ, ◌<◌, ◌≤◌, true, List, [], ◌∷◌, ◌++◌, length, Option, None, Some, refl, sym, ap, ◌∙◌, subst, arith}
+use Rattle.std.proofs.Common.{◌≡◌, ℕ, ◌+◌, ◌<◌, ◌≤◌, true, List, [], ◌∷◌, ◌++◌, length, Option, None, Some, refl, sym, ap, ◌∙◌, subst, arith}
 use Rattle.std.proofs.lemmas.Bool.{true≢false}
 use Rattle.std.proofs.lemmas.List.{length-append}
 use Rattle.rule_machine.specs.declared.event.Event.{Event}
@@ -17,7 +17,8 @@ use Rattle.machine_laws.specs.LeastMoves.{IsTable}
 use Rattle.machine_laws.specs.LeastAnswers.{least_answers}
 use Rattle.machine_laws.specs.Keeps.{opening_is_state}
 use Rattle.machine_laws.specs.Runs.{run_add, runs_end_in_states}
-use Rattle.step_log.specs.Log.{Log, IsLog}
+use Rattle.step_log.specs.Recording.{Recording, answered, counted}
+use Rattle.step_log.specs.Log.{Log, IsLog, IsRecorded, log_of}
 use Rattle.step_log.specs.Draft.{is_listed}
 
 abbrev moment_of : State → ℕ → Moment
@@ -71,8 +72,18 @@ log_more t log entry s entries is below answers after added =
       limit = is.limit;
     }
 
--- what the machine answers with the least targets, where a log has led
-pub log_answers : (t : RuleTable) → IsTable t → (log : Log) → IsLog t log → (event : Event) (reply : Reply) (s : State) → reply ≡ reply_of t log.state event → s ≡ state_after t log.state event → Answers t log.state event reply s
-log_answers t table log is event reply s replies after =
-    let good : IsState log.state = runs_end_in_states t table (beginning (node_count log.state.network)) (opening_is_state (node_count log.state.network)) log.entries (moment_of log.state is.spent) is.run in
-    subst (λ (r : Reply). Answers t log.state event r s) (sym replies) (subst (λ (u : State). Answers t log.state event (reply_of t log.state event) u) (sym after) (least_answers t table log.state good event))
+counted_more : (t : RuleTable) (r mid : Recording) (entry : Entry) (entries entries' : List Entry) → IsRecorded t r entries → r.len < r.limit → Answers t r.state entry.0 entry.1 mid.state → mid ≡ answered t r entry.0 → entries' ≡ entries ++ entry ∷ [] → IsRecorded t (counted mid) entries'
+counted_more t r mid entry entries entries' is below answers after added =
+    let same : mid.limit ≡ r.limit = ap (λ (x : Recording). x.limit) after in
+    let more : IsLog t (record { state = mid.state; entries = entries'; limit = r.limit }) =
+    log_more t (log_of r entries) entry mid.state entries' is.log (omega (arith, is.count, below)) answers (ap (λ (x : Recording). x.state) after) added in
+    let longer : length entries' ≡ length entries + 1 = ap (λ (l : List Entry). length l) added ∙ length-append entries (entry ∷ []) in
+    record {
+      log = subst (λ n. IsLog t (record { state = mid.state; entries = entries'; limit = n })) (sym same) more;
+      count = ap (λ (x : Recording). x.len + 1) after ∙ ap (λ n. n + 1) is.count ∙ sym longer;
+    }
+
+-- a recording that has counted one more answer of the machine, with the entry at the end of its log
+pub recorded_more : (t : RuleTable) (r mid r' : Recording) (entry : Entry) (entries entries' : List Entry) → IsRecorded t r entries → r.len < r.limit → Answers t r.state entry.0 entry.1 mid.state → mid ≡ answered t r entry.0 → r' ≡ counted mid → entries' ≡ entries ++ entry ∷ [] → IsRecorded t r' entries'
+recorded_more t r mid r' entry entries entries' is below answers after count added =
+    subst (λ (x : Recording). IsRecorded t x entries') (sym count) (counted_more t r mid entry entries entries' is below answers after added)

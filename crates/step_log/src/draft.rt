@@ -57,6 +57,26 @@ impl Draft {
             reply: copied(reply, self.room)?,
         })
     }
+
+    /// The same with one more copy of the reply, whose moves go into this room.
+    pub(crate) fn told(
+        self,
+        seq: u32,
+        reply: &Reply,
+        room: Vec<Moved>,
+    ) -> Result<(Receipt, Reply), Want>
+        requires few { moves_len reply.now ≤ most_moves self.event }
+        requires empty { room.items ≡ [] }
+        requires room { most_moves self.event ≤ vec_capacity room }
+        ensures seq { IfOk result (λ told. told.0.seq ≡ seq) }
+        ensures event { IfOk result (λ told. told.0.event ≡ self.event) }
+        ensures reply { IfOk result (λ told. told.0.reply ≡ reply.now) }
+        ensures told { IfOk result (λ told. told.1 ≡ reply.now) }
+        ensures want { OnErr result (IsTrue (is_listed reply.now)) }
+    {
+        let told = copied(reply, room)?;
+        Ok((self.receipt(seq, reply)?, told))
+    }
 }
 
 /// How many items a step has, at most 65,535; 0 for any other event.

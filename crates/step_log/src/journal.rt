@@ -7,19 +7,17 @@ ghost use Rattle.rule_machine.specs.declared.event.Event.TheVariants.{Step};
 ghost use Rattle.rule_engine.specs.Choosing.{verdicts_of};
 ghost use Rattle.step_log.specs.declared.fault.RecordFault.TheVariants.{LogFull};
 ghost use Rattle.step_log.specs.Draft.{most_moves};
-ghost use Rattle.step_log.specs.Log.{max_entries, IsLog, empty_log, entry_of, recorded, receipt_of};
+ghost use Rattle.step_log.specs.Log.{max_entries, IsLog, empty_log, recorded, receipt_of};
+ghost use Rattle.rule_machine.specs.Least.{reply_of};
 
 use crate::draft::{Draft, item_count};
-use crate::{Receipt, RecordFault};
+use crate::{MAX_ENTRIES, Receipt, RecordFault, Recorder};
 use log_entry::Entry;
 use rule_engine::{Choice, Event, GraphFault, Net, Reply, Rules, Verdict};
 use rule_machine::MAX_ITEMS;
 use std::alloc::Global;
 use std::marker::Model;
 use std::mem::size_of;
-
-/// The most entries that a log may hold.
-pub const MAX_ENTRIES: u32 = 16_777_216;
 
 // What an entry takes in the log, beside its lists.
 const _: () = prove!(size_of::<Entry>() <= 64);
@@ -29,23 +27,22 @@ const _: () = prove!(size_of::<Entry>() <= 64);
 #[derive(Drop)]
 pub struct Journal<R: Rules> {
     alloc: Global,
-    net: Net<R>,
+    recorder: Recorder<R>,
     entries: Vec<Entry>,
-    limit: u32,
 }
 
 impl<R: Rules> Model for Journal<R> {
     ghost use Rattle.std.specs.Coded.{codes};
     ghost use Rattle.rule_machine.specs.State.{state_code};
-    ghost use Rattle.step_log.specs.Log.{Log, IsLog};
+    ghost use Rattle.step_log.specs.Log.{Log, IsRecorded, log_of};
 
     ghost Value = { Log };
 
     ghost coded = { Prim.hlevel (codes, state_code) };
 
-    ghost view = { λ j. record { state = j.net; entries = j.entries.items; limit = j.limit } };
+    ghost view = { λ j. log_of j.recorder j.entries.items };
 
-    ghost invariant = { λ j. IsLog R.table (record { state = j.net; entries = j.entries.items; limit = j.limit }) };
+    ghost invariant = { λ j. IsRecorded R.table j.recorder j.entries.items };
 }
 
 impl<R: Rules> Journal<R> {
@@ -67,9 +64,8 @@ impl<R: Rules> Journal<R> {
     {
         Ok(Journal {
             alloc,
-            net: Net::new(alloc, nodes)?,
+            recorder: Recorder::with_limit(alloc, nodes, limit)?,
             entries: Vec::new(alloc),
-            limit: limit.min(MAX_ENTRIES),
         })
     }
 
@@ -78,7 +74,7 @@ impl<R: Rules> Journal<R> {
         ensures count { result ≡ length self.now.entries }
         ensures run { IsLog R.table self.now }
     {
-        self.entries.len() as u32
+        self.recorder.len()
     }
 
     /// The entry with this number, from 1; `None` at 0 and above `len`.
@@ -98,35 +94,19 @@ impl<R: Rules> Journal<R> {
         ensures state { result.now ≡ self.now.state }
         ensures run { IsLog R.table self.now }
     {
-        &self.net
+        self.recorder.net()
     }
 
     /// Whether there are as many entries as there may be.
     pub fn is_full(&self) -> bool
         ensures { IsTrue result ↔ (length self.now.entries ≡ self.now.limit) }
     {
-        self.len() >= self.limit
+        self.recorder.is_full()
     }
 
-    /// Carries out an event, adds it to the log with the reply to it, and gives the entry's number, from 1. `LogFull`
-    /// exactly where the log holds as many entries as it may, which comes before all else; `Memory` if memory runs out.
-    /// At a fault nothing has changed. Copies nothing: takes the memory of the reply, and the log's as it doubles.
-    pub fn log(&mut self, event: Event) -> Result<u32, RecordFault>
-        ensures number { IfOk result (λ number. number ≡ length self.old.entries + 1) }
-        ensures below { OnOk result (length self.old.entries < self.old.limit) }
-        ensures entry { OnOk result (slice_get self.new.entries (length self.old.entries) ≡ Some (entry_of R.table self.old event)) }
-        ensures log { OnOk result (self.new ≡ recorded R.table self.old event) }
-        ensures full { length self.old.entries ≡ self.old.limit → IsErrOf result LogFull }
-        ensures not_full { IsErrOf result LogFull → length self.old.entries ≡ self.old.limit }
-        ensures kept { OnErr result (self.new ≡ self.old) }
-    {
-        let number = make_room(&mut self.entries, self.limit)?;
-        let reply = self.net.apply(&event)?;
-        add_entry(&mut self.entries, event, reply);
-        Ok(number)
-    }
-
-    /// The same, and gives a receipt of the entry, which has copies of the event and the reply.
+    /// Carries out an event, adds it to the log with the reply to it, and gives a receipt of the entry, which has copies
+    /// of the event and the reply. `LogFull` exactly where the log holds as many entries as it may, which comes before all
+    /// else; `Memory` if memory runs out. At a fault nothing has changed.
     pub fn record(&mut self, event: Event) -> Result<Receipt, RecordFault>
         ensures receipt { IfOk result (λ receipt. receipt ≡ receipt_of R.table self.old event) }
         ensures log { OnOk result (self.new ≡ recorded R.table self.old event) }
@@ -134,12 +114,32 @@ impl<R: Rules> Journal<R> {
         ensures not_full { IsErrOf result LogFull → length self.old.entries ≡ self.old.limit }
         ensures kept { OnErr result (self.new ≡ self.old) }
     {
-        let seq = make_room(&mut self.entries, self.limit)?;
+        let seq = make_room(&self.recorder, &mut self.entries)?;
         let draft = Draft::new(self.alloc, &event)?;
-        let reply = self.net.apply(&event)?;
+        let reply = self.recorder.answer(&event)?;
         let receipt = draft.receipt(seq, &reply)?;
+        self.recorder.count();
         add_entry(&mut self.entries, event, reply);
         Ok(receipt)
+    }
+
+    /// The same, and gives the reply once more. All copies are had before the network changes.
+    pub fn record_told(&mut self, event: Event) -> Result<(Receipt, Reply), RecordFault>
+        ensures receipt { IfOk result (λ told. told.0 ≡ receipt_of R.table self.old event) }
+        ensures reply { IfOk result (λ told. told.1 ≡ reply_of R.table self.old.state event) }
+        ensures log { OnOk result (self.new ≡ recorded R.table self.old event) }
+        ensures full { length self.old.entries ≡ self.old.limit → IsErrOf result LogFull }
+        ensures not_full { IsErrOf result LogFull → length self.old.entries ≡ self.old.limit }
+        ensures kept { OnErr result (self.new ≡ self.old) }
+    {
+        let seq = make_room(&self.recorder, &mut self.entries)?;
+        let draft = Draft::new(self.alloc, &event)?;
+        let room = Vec::with_capacity(self.alloc, item_count(&event))?;
+        let reply = self.recorder.answer(&event)?;
+        let told = draft.told(seq, &reply, room)?;
+        self.recorder.count();
+        add_entry(&mut self.entries, event, reply);
+        Ok(told)
     }
 
     /// The same for a step, from the verdicts of its items: what `record` of the step would do, without a second look
@@ -156,31 +156,28 @@ impl<R: Rules> Journal<R> {
         ensures not_full { IsErrOf result LogFull → length self.old.entries ≡ self.old.limit }
         ensures kept { OnErr result (self.new ≡ self.old) }
     {
-        let seq = make_room(&mut self.entries, self.limit)?;
+        let seq = make_room(&self.recorder, &mut self.entries)?;
         let draft = Draft::of_step(self.alloc, &choice)?;
-        let reply = self.net.apply_step(&choice, verdicts)?;
+        let reply = self.recorder.answer_step(&choice, verdicts)?;
         let receipt = draft.receipt(seq, &reply)?;
+        self.recorder.count();
         add_entry(&mut self.entries, Event::Step(choice), reply);
         Ok(receipt)
     }
 }
 
 /// Makes room for one more entry, and gives its number.
-fn make_room(entries: &mut Vec<Entry>, limit: u32) -> Result<u32, RecordFault>
-    requires { length entries.old.items ≤ limit }
-    ensures number { IfOk result (λ number. number ≡ length entries.old.items + 1) }
-    ensures below { OnOk result (length entries.old.items < limit) }
+fn make_room<R: Rules>(recorder: &Recorder<R>, entries: &mut Vec<Entry>) -> Result<u32, RecordFault>
+    ensures number { IfOk result (λ number. number ≡ recorder.now.len + 1) }
+    ensures below { OnOk result (recorder.now.len < recorder.now.limit) }
     ensures room { OnOk result (length entries.new.items < vec_capacity entries.new) }
     ensures items { entries.new.items ≡ entries.old.items }
-    ensures full { length entries.old.items ≡ limit → IsErrOf result LogFull }
-    ensures not_full { IsErrOf result LogFull → length entries.old.items ≡ limit }
+    ensures full { recorder.now.len ≡ recorder.now.limit → IsErrOf result LogFull }
+    ensures not_full { IsErrOf result LogFull → recorder.now.len ≡ recorder.now.limit }
 {
-    let len = entries.len() as u32;
-    if len >= limit {
-        return Err(RecordFault::LogFull);
-    }
+    let number = recorder.next_number()?;
     entries.reserve(1)?;
-    Ok(len + 1)
+    Ok(number)
 }
 
 /// Adds an entry for which there is room.

@@ -1,12 +1,16 @@
 //! The journal: a network with the log of all that it was asked and has answered.
 #![tactic(auto)]
 
+mod answer;
 mod draft;
 mod fault;
 mod journal;
 mod receipt;
+mod recorder;
 
+pub use answer::Answer;
 pub use fault::RecordFault;
-pub use journal::{Journal, MAX_ENTRIES};
+pub use journal::Journal;
 pub use log_entry::Entry;
 pub use receipt::Receipt;
+pub use recorder::{MAX_ENTRIES, Recorder};

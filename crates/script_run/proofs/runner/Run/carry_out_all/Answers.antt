@@ -7,7 +7,7 @@ pub loop-line-init : goal.loop-line-init
 loop-line-init g c =
     let run = c.args.self.now in record {
       limit = refl;
-      so_far = SoFar-none g.R.Rules.table run.journal.limit c.args.script.now (progress run.journal run.text.items) (g.Out.Write.contents c.args.writer.now) run.journal.state (length run.journal.entries) run.text.items refl;
+      so_far = SoFar-none g.R.Rules.table run.recorder.limit c.args.script.now (progress run.recorder run.text.items) (g.Out.Write.contents c.args.writer.now) run.recorder.state run.recorder.len run.text.items refl;
     }
 
 pub returns-in-Ok-Some-clause-ok : goal.returns-in-Ok-Some-clause-ok
@@ -16,8 +16,8 @@ returns-in-Ok-Some-clause-ok g c =
     let run = c.loop-line.self in
     let after = c.carry_out.new.self in
     let n = c.loop-line.number in
-    let ends = subst (λ (k : ℕ). LineEnds g.R.Rules.table k (n + 1) c.in-Some.line.now (progress run.journal run.text.items) (progress after.journal after.text.items) c.carry_out.result) c.loop-line.invariant.limit c.carry_out.ensures.ends in
-    Halts-stopped g.R.Rules.table begun.journal.limit c.args.script.now (progress begun.journal begun.text.items) (g.Out.Write.contents c.args.writer.now) c.loop-line.rest.now c.in-Some.line.now _ n (n + 1) run.journal.state (length run.journal.entries) (g.Out.Write.contents c.loop-line.writer) run.text.items (progress after.journal after.text.items) c.in-Ok-Some.stop c.carry_out.result c.loop-line.invariant.so_far c.in-Some.ensures.lines refl ends (cc)
+    let ends = subst (λ (k : ℕ). LineEnds g.R.Rules.table k (n + 1) c.in-Some.line.now (progress run.recorder run.text.items) (progress after.recorder after.text.items) c.carry_out.result) c.loop-line.invariant.limit c.carry_out.ensures.ends in
+    Halts-stopped g.R.Rules.table begun.recorder.limit c.args.script.now (progress begun.recorder begun.text.items) (g.Out.Write.contents c.args.writer.now) c.loop-line.rest.now c.in-Some.line.now _ n (n + 1) run.recorder.state run.recorder.len (g.Out.Write.contents c.loop-line.writer) run.text.items (progress after.recorder after.text.items) c.in-Ok-Some.stop c.carry_out.result c.loop-line.invariant.so_far c.in-Some.ensures.lines refl ends (cc)
 
 pub returns-in-Err-clause-ok : goal.returns-in-Err-clause-ok
 returns-in-Err-clause-ok g c =
@@ -25,8 +25,8 @@ returns-in-Err-clause-ok g c =
     let run = c.loop-line.self in
     let after = c.carry_out.new.self in
     let n = c.loop-line.number in
-    let ends = subst (λ (k : ℕ). LineEnds g.R.Rules.table k (n + 1) c.in-Some.line.now (progress run.journal run.text.items) (progress after.journal after.text.items) c.carry_out.result) c.loop-line.invariant.limit c.carry_out.ensures.ends in
-    Halts-memory g.R.Rules.table begun.journal.limit c.args.script.now (progress begun.journal begun.text.items) (g.Out.Write.contents c.args.writer.now) c.loop-line.rest.now c.in-Some.line.now n (n + 1) run.journal.state (length run.journal.entries) (g.Out.Write.contents c.loop-line.writer) run.text.items (progress after.journal after.text.items) c.in-Err.field-0 c.carry_out.result c.loop-line.invariant.so_far ends c.in-Err.is
+    let ends = subst (λ (k : ℕ). LineEnds g.R.Rules.table k (n + 1) c.in-Some.line.now (progress run.recorder run.text.items) (progress after.recorder after.text.items) c.carry_out.result) c.loop-line.invariant.limit c.carry_out.ensures.ends in
+    Halts-memory g.R.Rules.table begun.recorder.limit c.args.script.now (progress begun.recorder begun.text.items) (g.Out.Write.contents c.args.writer.now) c.loop-line.rest.now c.in-Some.line.now n (n + 1) run.recorder.state run.recorder.len (g.Out.Write.contents c.loop-line.writer) run.text.items (progress after.recorder after.text.items) c.in-Err.field-0 c.carry_out.result c.loop-line.invariant.so_far ends c.in-Err.is
 
 pub returns-in_err-hand_over-clause-fault : goal.returns-in_err-hand_over-clause-fault
 returns-in_err-hand_over-clause-fault g c =
@@ -34,13 +34,13 @@ returns-in_err-hand_over-clause-fault g c =
     let run = c.loop-line.self in
     let after = c.carry_out.new.self in
     let n = c.loop-line.number in
-    let start = progress begun.journal begun.text.items in
-    let before = progress run.journal run.text.items in
-    let carried = progress after.journal after.text.items in
+    let start = progress begun.recorder begun.text.items in
+    let before = progress run.recorder run.text.items in
+    let carried = progress after.recorder after.text.items in
     let ends = subst (λ (k : ℕ). LineEnds g.R.Rules.table k (n + 1) c.in-Some.line.now before carried c.carry_out.result) c.loop-line.invariant.limit c.carry_out.ensures.ends in
-    let does = LineEnds-done g.R.Rules.table begun.journal.limit (n + 1) c.in-Some.line.now before carried c.carry_out.result ends (cc) in
-    let so_far = SoFar-line g.R.Rules.table begun.journal.limit c.args.script.now start (g.Out.Write.contents c.args.writer.now) c.loop-line.rest.now c.in-Some.behind.now c.in-Some.line.now n run.journal.state after.journal.state (length run.journal.entries) (length after.journal.entries) (g.Out.Write.contents c.loop-line.writer) run.text.items after.text.items c.loop-line.invariant.so_far c.in-Some.ensures.lines c.in-Some.ensures.shorter does in
-    OnErr-holds c.from_residual.result (SoFar-failed g.R.Rules.table begun.journal.limit c.args.script.now start (g.Out.Write.contents c.args.writer.now) c.in-Some.behind.now (n + 1) after.journal.state (length after.journal.entries) (g.Out.Write.contents c.loop-line.writer) (g.Out.Write.contents c.hand_over.new.writer) after.text.items so_far c.in_err-hand_over.ensures.fault)
+    let does = LineEnds-done g.R.Rules.table begun.recorder.limit (n + 1) c.in-Some.line.now before carried c.carry_out.result ends (cc) in
+    let so_far = SoFar-line g.R.Rules.table begun.recorder.limit c.args.script.now start (g.Out.Write.contents c.args.writer.now) c.loop-line.rest.now c.in-Some.behind.now c.in-Some.line.now n run.recorder.state after.recorder.state run.recorder.len after.recorder.len (g.Out.Write.contents c.loop-line.writer) run.text.items after.text.items c.loop-line.invariant.so_far c.in-Some.ensures.lines c.in-Some.ensures.shorter does in
+    OnErr-holds c.from_residual.result (SoFar-failed g.R.Rules.table begun.recorder.limit c.args.script.now start (g.Out.Write.contents c.args.writer.now) c.in-Some.behind.now (n + 1) after.recorder.state after.recorder.len (g.Out.Write.contents c.loop-line.writer) (g.Out.Write.contents c.hand_over.new.writer) after.text.items so_far c.in_err-hand_over.ensures.fault)
 
 pub loop-line-preserved : goal.loop-line-preserved
 loop-line-preserved g c =
@@ -48,19 +48,19 @@ loop-line-preserved g c =
     let run = c.loop-line.self in
     let after = c.carry_out.new.self in
     let n = c.loop-line.number in
-    let start = progress begun.journal begun.text.items in
-    let before = progress run.journal run.text.items in
-    let carried = progress after.journal after.text.items in
+    let start = progress begun.recorder begun.text.items in
+    let before = progress run.recorder run.text.items in
+    let carried = progress after.recorder after.text.items in
     let ends = subst (λ (k : ℕ). LineEnds g.R.Rules.table k (n + 1) c.in-Some.line.now before carried c.carry_out.result) c.loop-line.invariant.limit c.carry_out.ensures.ends in
-    let does = LineEnds-done g.R.Rules.table begun.journal.limit (n + 1) c.in-Some.line.now before carried c.carry_out.result ends (cc) in
-    let so_far = SoFar-line g.R.Rules.table begun.journal.limit c.args.script.now start (g.Out.Write.contents c.args.writer.now) c.loop-line.rest.now c.in-Some.behind.now c.in-Some.line.now n run.journal.state after.journal.state (length run.journal.entries) (length after.journal.entries) (g.Out.Write.contents c.loop-line.writer) run.text.items after.text.items c.loop-line.invariant.so_far c.in-Some.ensures.lines c.in-Some.ensures.shorter does in
+    let does = LineEnds-done g.R.Rules.table begun.recorder.limit (n + 1) c.in-Some.line.now before carried c.carry_out.result ends (cc) in
+    let so_far = SoFar-line g.R.Rules.table begun.recorder.limit c.args.script.now start (g.Out.Write.contents c.args.writer.now) c.loop-line.rest.now c.in-Some.behind.now c.in-Some.line.now n run.recorder.state after.recorder.state run.recorder.len after.recorder.len (g.Out.Write.contents c.loop-line.writer) run.text.items after.text.items c.loop-line.invariant.so_far c.in-Some.ensures.lines c.in-Some.ensures.shorter does in
     record {
       limit = c.carry_out.ensures.limit ∙ c.loop-line.invariant.limit;
-      so_far = SoFar-handed g.R.Rules.table begun.journal.limit c.args.script.now start (g.Out.Write.contents c.args.writer.now) c.in-Some.behind.now (n + 1) after.journal.state (length after.journal.entries) (g.Out.Write.contents c.loop-line.writer) (g.Out.Write.contents c.hand_over.new.writer) after.text.items c.hand_over.new.text.items so_far c.in_ok-hand_over.ensures.ok;
+      so_far = SoFar-handed g.R.Rules.table begun.recorder.limit c.args.script.now start (g.Out.Write.contents c.args.writer.now) c.in-Some.behind.now (n + 1) after.recorder.state after.recorder.len (g.Out.Write.contents c.loop-line.writer) (g.Out.Write.contents c.hand_over.new.writer) after.text.items c.hand_over.new.text.items so_far c.in_ok-hand_over.ensures.ok;
     }
 
 pub returns-clause-ok : goal.returns-clause-ok
 returns-clause-ok g c =
     let begun = c.args.self.now in
     let run = c.loop-line.self in
-    Halts-whole g.R.Rules.table begun.journal.limit c.args.script.now (progress begun.journal begun.text.items) (g.Out.Write.contents c.args.writer.now) c.loop-line.rest.now c.loop-line.number run.journal.state (length run.journal.entries) (g.Out.Write.contents c.loop-line.writer) run.text.items c.loop-line.invariant.so_far c.in_default.ensures.lines
+    Halts-whole g.R.Rules.table begun.recorder.limit c.args.script.now (progress begun.recorder begun.text.items) (g.Out.Write.contents c.args.writer.now) c.loop-line.rest.now c.loop-line.number run.recorder.state run.recorder.len (g.Out.Write.contents c.loop-line.writer) run.text.items c.loop-line.invariant.so_far c.in_default.ensures.lines

@@ -7,8 +7,8 @@ abbrev pub invariant-loop-line : goal.invariant-loop-line
 invariant-loop-line g l =
     let begun = l.fn.self in
     let run = l.self in record {
-      limit : run.journal.limit ≡ begun.journal.limit;
-      so_far : SoFar g.R.Rules.table begun.journal.limit l.script (progress begun.journal begun.text.items) (g.Out.Write.contents l.fn.writer) l.rest l.number run.journal.state (length run.journal.entries) (g.Out.Write.contents l.writer) run.text.items;
+      limit : run.recorder.limit ≡ begun.recorder.limit;
+      so_far : SoFar g.R.Rules.table begun.recorder.limit l.script (progress begun.recorder begun.text.items) (g.Out.Write.contents l.fn.writer) l.rest l.number run.recorder.state run.recorder.len (g.Out.Write.contents l.writer) run.text.items;
     }
 
 abbrev pub decreases-loop-line : goal.decreases-loop-line

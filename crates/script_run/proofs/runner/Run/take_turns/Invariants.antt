@@ -7,7 +7,7 @@ abbrev pub invariant-loop : goal.invariant-loop
 invariant-loop g l =
     let begun = l.fn.self in
     let run = l.self in record {
-      limit : run.journal.limit ≡ begun.journal.limit;
-      turned : Turned g.S.EventSource.draws g.R.Rules.table begun.journal.limit l.count l.counter (g.S.EventSource.stream l.fn.source) (g.S.EventSource.stream l.source) (progress begun.journal begun.text.items) (progress run.journal run.text.items);
-      unasked : length begun.journal.entries ≡ begun.journal.limit → (g.S.EventSource.stream l.source ≡ g.S.EventSource.stream l.fn.source) × (length run.journal.entries ≡ begun.journal.limit);
+      limit : run.recorder.limit ≡ begun.recorder.limit;
+      turned : Turned g.S.EventSource.draws g.R.Rules.table begun.recorder.limit l.count l.counter (g.S.EventSource.stream l.fn.source) (g.S.EventSource.stream l.source) (progress begun.recorder begun.text.items) (progress run.recorder run.text.items);
+      unasked : begun.recorder.len ≡ begun.recorder.limit → (g.S.EventSource.stream l.source ≡ g.S.EventSource.stream l.fn.source) × (run.recorder.len ≡ begun.recorder.limit);
     }

@@ -1,0 +1,39 @@
+-- How far a recording has come, and what an event makes of it.
+use Rattle.std.specs.Prelude.{ℕ, ◌+◌, ◌≤◌}
+use Rattle.rule_machine.specs.declared.event.Event.{Event}
+use Rattle.rule_machine.specs.Network.{node_count}
+use Rattle.rule_machine.specs.State.{State, IsState, opening}
+use Rattle.rule_machine.specs.RuleTable.{RuleTable}
+use Rattle.rule_machine.specs.Least.{state_after}
+
+-- the most entries that a log may hold
+abbrev pub max_entries : ℕ
+max_entries = 16777216
+
+-- the state of a network, how many entries led to it, and how many there may be
+pub record Recording : Type 0 where
+  pub state : State
+  pub len : ℕ
+  pub limit : ℕ
+
+-- the network is one, and the entries are not too many
+pub record IsRecording (r : Recording) : Type 0 where
+  pub is_state : IsState r.state
+  pub room : r.len ≤ r.limit
+  pub limit : r.limit ≤ max_entries
+
+-- the recording before any event
+abbrev pub opening_recording : ℕ → ℕ → Recording
+opening_recording nodes limit = record { state = opening nodes; len = 0; limit = limit }
+
+-- the event was carried out
+abbrev pub answered : RuleTable → Recording → Event → Recording
+answered t r event = record { state = state_after t r.state event; len = r.len; limit = r.limit }
+
+-- one entry more
+abbrev pub counted : Recording → Recording
+counted r = record { state = r.state; len = r.len + 1; limit = r.limit }
+
+-- the recording after the event's entry
+abbrev pub entered : RuleTable → Recording → Event → Recording
+entered t r event = counted (answered t r event)

@@ -1,0 +1,12 @@
+//! What a caller is told of an event.
+
+use rule_machine::Reply;
+
+/// The number of the event's entry, and the reply to it.
+#[derive(Debug, Drop, PartialEq, Eq)]
+pub struct Answer {
+    /// The number of the entry, 1 to 16,777,216.
+    pub seq: u32,
+    /// What was answered.
+    pub reply: Reply,
+}

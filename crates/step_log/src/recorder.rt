@@ -1,0 +1,172 @@
+//! A network whose entries are numbered.
+
+ghost use Rattle.std.specs.Prelude.{◌≡◌, ◌<◌, ◌≤◌, ◌+◌, ◌↔◌, min, IfOk, IfErr, OnOk, OnErr, IsErrOf, IsTrue};
+ghost use Rattle.graph_store.specs.Fault.{nodes_fault, Explains};
+ghost use Rattle.rule_machine.specs.declared.event.Event.TheVariants.{Step};
+ghost use Rattle.rule_machine.specs.Answer.{Answers};
+ghost use Rattle.rule_machine.specs.Least.{reply_of};
+ghost use Rattle.rule_engine.specs.Choosing.{verdicts_of};
+ghost use Rattle.step_log.specs.declared.fault.RecordFault.TheVariants.{LogFull};
+ghost use Rattle.step_log.specs.Recording.{max_entries, opening_recording, answered, counted, entered};
+
+use crate::{Answer, RecordFault};
+use rule_engine::{Choice, Event, GraphFault, Net, Reply, Rules, Verdict, Want};
+use std::alloc::Global;
+use std::marker::Model;
+
+/// The most entries that a log may hold.
+pub const MAX_ENTRIES: u32 = 16_777_216;
+
+/// A network under the rules `R` that numbers its entries and hands them out, up to a limit. It keeps none.
+#[derive(Drop)]
+pub struct Recorder<R: Rules> {
+    net: Net<R>,
+    len: u32,
+    limit: u32,
+}
+
+impl<R: Rules> Model for Recorder<R> {
+    ghost use Rattle.std.specs.Coded.{codes};
+    ghost use Rattle.rule_machine.specs.State.{state_code};
+    ghost use Rattle.step_log.specs.Recording.{Recording, IsRecording};
+
+    ghost Value = { Recording };
+
+    ghost coded = { Prim.hlevel (codes, state_code) };
+
+    ghost view = { λ r. record { state = r.net; len = r.len; limit = r.limit } };
+
+    ghost invariant = { λ r. IsRecording (record { state = r.net; len = r.len; limit = r.limit }) };
+}
+
+impl<R: Rules> Recorder<R> {
+    /// The recorder of a new network of the nodes 1 to `nodes`, which may give 16,777,216 entries. `TooManyNodes`
+    /// above 65,535 nodes, and `Memory` if memory runs out.
+    pub fn new(alloc: Global, nodes: u32) -> Result<Recorder<R>, GraphFault>
+        ensures ok { IfOk result (λ recorder. recorder ≡ opening_recording nodes max_entries) }
+        ensures small { OnOk result (nodes ≤ 65535) }
+        ensures fault { IfErr result (λ fault. Explains (nodes_fault nodes) fault) }
+    {
+        Recorder::with_limit(alloc, nodes, MAX_ENTRIES)
+    }
+
+    /// The same with a limit on the entries; a limit above 16,777,216 counts as that.
+    pub fn with_limit(alloc: Global, nodes: u32, limit: u32) -> Result<Recorder<R>, GraphFault>
+        ensures ok { IfOk result (λ recorder. recorder ≡ opening_recording nodes (min limit max_entries)) }
+        ensures small { OnOk result (nodes ≤ 65535) }
+        ensures fault { IfErr result (λ fault. Explains (nodes_fault nodes) fault) }
+    {
+        Ok(Recorder {
+            net: Net::new(alloc, nodes)?,
+            len: 0,
+            limit: limit.min(MAX_ENTRIES),
+        })
+    }
+
+    /// How many entries there were.
+    pub fn len(&self) -> u32
+        ensures count { result ≡ self.now.len }
+        ensures room { result ≤ self.now.limit }
+    {
+        self.len
+    }
+
+    /// Whether there were as many entries as there may be.
+    pub fn is_full(&self) -> bool
+        ensures full { IsTrue result ↔ (self.now.len ≡ self.now.limit) }
+        ensures room { self.now.len ≤ self.now.limit }
+    {
+        self.len >= self.limit
+    }
+
+    /// The network as the entries have left it.
+    pub fn net(&self) -> &Net<R>
+        ensures { result.now ≡ self.now.state }
+    {
+        &self.net
+    }
+
+    /// Carries out an event, and gives the number of its entry, from 1, and the reply to it. `LogFull` exactly where
+    /// there were as many entries as there may be, which comes before all else; `Memory` if memory runs out. At a fault
+    /// nothing has changed. Takes the memory of the reply and no other.
+    pub fn log(&mut self, event: &Event) -> Result<Answer, RecordFault>
+        ensures number { IfOk result (λ answer. answer.seq ≡ self.old.len + 1) }
+        ensures reply { IfOk result (λ answer. answer.reply ≡ reply_of R.table self.old.state event.now) }
+        ensures machine { IfOk result (λ answer. Answers R.table self.old.state event.now answer.reply self.new.state) }
+        ensures below { OnOk result (self.old.len < self.old.limit) }
+        ensures recording { OnOk result (self.new ≡ entered R.table self.old event.now) }
+        ensures full { self.old.len ≡ self.old.limit → IsErrOf result LogFull }
+        ensures not_full { IsErrOf result LogFull → self.old.len ≡ self.old.limit }
+        ensures kept { OnErr result (self.new ≡ self.old) }
+    {
+        let seq = self.next_number()?;
+        let reply = self.answer(event)?;
+        self.count();
+        Ok(Answer { seq, reply })
+    }
+
+    /// The same for a step, from the verdicts of its items: what `log` of the step would do, without a second look at a
+    /// guard.
+    pub fn log_step(&mut self, choice: &Choice, verdicts: &[Verdict]) -> Result<Answer, RecordFault>
+        requires { verdicts.now ≡ verdicts_of R.table self.old.state choice.now }
+        ensures number { IfOk result (λ answer. answer.seq ≡ self.old.len + 1) }
+        ensures reply { IfOk result (λ answer. answer.reply ≡ reply_of R.table self.old.state (Step choice.now)) }
+        ensures machine { IfOk result (λ answer. Answers R.table self.old.state (Step choice.now) answer.reply self.new.state) }
+        ensures below { OnOk result (self.old.len < self.old.limit) }
+        ensures recording { OnOk result (self.new ≡ entered R.table self.old (Step choice.now)) }
+        ensures full { self.old.len ≡ self.old.limit → IsErrOf result LogFull }
+        ensures not_full { IsErrOf result LogFull → self.old.len ≡ self.old.limit }
+        ensures kept { OnErr result (self.new ≡ self.old) }
+    {
+        let seq = self.next_number()?;
+        let reply = self.answer_step(choice, verdicts)?;
+        self.count();
+        Ok(Answer { seq, reply })
+    }
+
+    /// The number of the next entry; `LogFull` where there were as many as there may be.
+    pub(crate) fn next_number(&self) -> Result<u32, RecordFault>
+        ensures number { IfOk result (λ number. number ≡ self.now.len + 1) }
+        ensures below { OnOk result (self.now.len < self.now.limit) }
+        ensures full { OnErr result (self.now.len ≡ self.now.limit) }
+        ensures fault { IfErr result (λ fault. fault ≡ LogFull) }
+    {
+        if self.is_full() {
+            return Err(RecordFault::LogFull);
+        }
+        Ok(self.len + 1)
+    }
+
+    /// Carries out an event, whose entry is not counted yet.
+    pub(crate) fn answer(&mut self, event: &Event) -> Result<Reply, Want>
+        ensures reply { IfOk result (λ reply. reply ≡ reply_of R.table self.old.state event.now) }
+        ensures machine { IfOk result (λ reply. Answers R.table self.old.state event.now reply self.new.state) }
+        ensures recording { OnOk result (self.new ≡ answered R.table self.old event.now) }
+        ensures kept { OnErr result (self.new ≡ self.old) }
+    {
+        self.net.apply(event)
+    }
+
+    /// The same for a step, from the verdicts of its items.
+    pub(crate) fn answer_step(
+        &mut self,
+        choice: &Choice,
+        verdicts: &[Verdict],
+    ) -> Result<Reply, Want>
+        requires { verdicts.now ≡ verdicts_of R.table self.old.state choice.now }
+        ensures reply { IfOk result (λ reply. reply ≡ reply_of R.table self.old.state (Step choice.now)) }
+        ensures machine { IfOk result (λ reply. Answers R.table self.old.state (Step choice.now) reply self.new.state) }
+        ensures recording { OnOk result (self.new ≡ answered R.table self.old (Step choice.now)) }
+        ensures kept { OnErr result (self.new ≡ self.old) }
+    {
+        self.net.apply_step(choice, verdicts)
+    }
+
+    /// Counts an entry.
+    pub(crate) fn count(&mut self)
+        requires { self.old.len < self.old.limit }
+        ensures { self.new ≡ counted self.old }
+    {
+        self.len += 1;
+    }
+}
