@@ -2,8 +2,8 @@
 use Rattle.std.specs.Prelude.{◌≡◌, ℕ, ◌+◌, ◌⊎◌, List, [], ◌∷◌, ◌++◌, length, take, Option, Result, Ok, Err}
 use Rattle.std.specs.Io.KnownBytes.{Appends}
 use Rattle.rule_machine.specs.declared.rules.RuleSet.{RuleSet}
-use Rattle.rule_machine.specs.State.{opening}
 use Rattle.rule_machine.specs.RuleTable.{RuleTable}
+use Rattle.rule_machine.specs.Run as run
 use Rattle.rule_machine.specs.Tables.{table_of}
 use Rattle.line_text.specs.EntryText.{header_line}
 use Rattle.script_machine.specs.Script.{Progress, LinesDo, IsBadLine, MeetsFullLog, lines_of}
@@ -11,9 +11,9 @@ use Rattle.byte_output.specs.Beginning.{AppendsBeginning}
 use Rattle.script_run.specs.declared.fault.RunFault.{RunFault}
 use Rattle.script_run.specs.declared.fault.RunFault.TheVariants.{BadLine, LogFull, Read, Write, Memory}
 
--- where every run begins: the opening state, no entry, and the header
+-- where every run begins: the opening state with nothing spent, no entry, and the header
 abbrev pub beginning : RuleSet → ℕ → Progress
-beginning rules nodes = record { state = opening nodes; count = 0; text = header_line rules nodes }
+beginning rules nodes = record { moment = run.beginning nodes; count = 0; text = header_line rules nodes }
 
 -- the lines before the one with this number lead to the end, and it comes next
 pub record StopsAt (t : RuleTable) (limit : ℕ) (lines : List (List ℕ)) (start : Progress) (n : ℕ) (line : List ℕ) (end : Progress) : Type 0 where
