@@ -2,6 +2,7 @@ pub mod Laws
 pub mod Charged
 pub mod Counting
 pub mod Members
+pub mod EdgesByNodes
 pub mod Bounds
 pub mod Stances
 pub mod Turns
