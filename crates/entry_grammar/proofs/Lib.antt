@@ -5,6 +5,7 @@ pub mod Joined
 pub mod Marked
 pub mod RefusalsOnce
 pub mod TokensOnce
+pub mod CountsOnce
 pub mod Replies
 pub mod Parts
 pub mod Entries

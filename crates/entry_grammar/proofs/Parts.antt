@@ -5,7 +5,7 @@ use Rattle.std.specs.List.{AllByRecursion}
 use Rattle.std.proofs.lemmas.List.{append_cancel_left, append_cancel_right}
 use Rattle.rule_machine.specs.declared.choice.Item.{Item}
 use Rattle.rule_machine.specs.declared.event.Event.{Event}
-use Rattle.rule_machine.specs.declared.event.Event.TheVariants.{Link, Unlink, Point, Flag, Step, Show, Enabled, Matching}
+use Rattle.rule_machine.specs.declared.event.Event.TheVariants.{Link, Unlink, Point, Flag, Step, Show, Enabled, Matching, Status}
 use Rattle.line_text.specs.Words.{number_text, marked_text, IsName, spaced}
 use Rattle.line_text.specs.EventText.{IsItem, IsEvent, event_text, pair_text, target_text, bool_text, item_text}
 use Rattle.entry_grammar.specs.Reading.{IsFree, CutAt, PartsOf}
@@ -46,6 +46,7 @@ event_free (Step items) f = free_append 61 (codes "step") (spaced item_text item
 event_free (Show v) f = free_append 61 (codes "show ") (number_text v) (free_by 61 (codes "show ") refl) (name_free v f)
 event_free Enabled f = free_by 61 (codes "enabled") refl
 event_free Matching f = free_by 61 (codes "matching") refl
+event_free Status f = free_by 61 (codes "status") refl
 
 -- the parts of a line that is written
 pub parts_of : (line : List ℕ) (number : ℕ) (event : Event) (reply : List ℕ) → IsFree 32 (number_text number) → IsEvent event → line ≡ number_text number ++ codes " " ++ event_text event ++ codes " = " ++ reply → PartsOf line (number_text number) (event_text event) reply

@@ -3,17 +3,19 @@ use Rattle.std.proofs.Common.{◌≡◌, ℕ, List, ◌++◌, Option, get_or, re
 use Rattle.std.specs.Prelude.{IsTrue, ⊤, codes}
 use Rattle.std.proofs.lemmas.List.{append_cancel_left}
 use Rattle.rule_machine.specs.declared.act.Act.{Act}
+use Rattle.rule_machine.specs.declared.counts.Counts as numbers
 use Rattle.rule_machine.specs.declared.moved.Moved.{Moved}
 use Rattle.rule_machine.specs.declared.refusal.Refusal.{Refusal}
 use Rattle.rule_machine.specs.declared.event.Event.{Event}
-use Rattle.rule_machine.specs.declared.event.Event.TheVariants.{Link, Unlink, Point, Flag, Step, Show, Enabled, Matching}
+use Rattle.rule_machine.specs.declared.event.Event.TheVariants.{Link, Unlink, Point, Flag, Step, Show, Enabled, Matching, Status}
 use Rattle.rule_machine.specs.declared.reply.Reply.{Reply}
-use Rattle.rule_machine.specs.declared.reply.Reply.TheVariants.{Accepted, Refused, Moves, Shown, EnabledAre, Pairs}
+use Rattle.rule_machine.specs.declared.reply.Reply.TheVariants.{Accepted, Refused, Moves, Shown, EnabledAre, Pairs, Counts}
 use Rattle.log_entry.specs.Kinds.{fits}
 use Rattle.line_text.specs.ReplyText.{refusal_words, reply_text}
 use Rattle.entry_grammar.specs.Spelling.{IsReply}
-use Rattle.entry_grammar.specs.Reading.{is_done, is_moved, is_shown, are_enabled, are_pairs, suits}
+use Rattle.entry_grammar.specs.Reading.{is_done, is_moved, is_shown, are_enabled, are_pairs, are_counts, suits}
 use Rattle.entry_grammar.proofs.RefusalsOnce.{refusal_words_once}
+use Rattle.entry_grammar.proofs.CountsOnce.{counts_once}
 use Rattle.entry_grammar.proofs.TokensOnce.{moves_once, enabled_once, pairs_once, target_once, refused_moves, refused_target}
 
 -- what fits an event suits it
@@ -32,6 +34,7 @@ fits_suits (Show v) (Shown target) h = refl
 fits_suits (Show v) (Refused r) h = refl
 fits_suits Enabled (EnabledAre nodes) h = refl
 fits_suits Matching (Pairs pairs) h = refl
+fits_suits Status (Counts counts) h = refl
 fits_suits event reply h = cc
 
 -- a refusal is not said as `ok`
@@ -72,6 +75,10 @@ are_pairs_once : (r q : Reply) → IsTrue (are_pairs r) → IsTrue (are_pairs q)
 are_pairs_once (Pairs x) (Pairs y) s t f g e = ap (λ (z : List (ℕ × ℕ)). Pairs z) (pairs_once x y f g e)
 are_pairs_once r q s t f g e = cc
 
+are_counts_once : (r q : Reply) → IsTrue (are_counts r) → IsTrue (are_counts q) → IsReply r → IsReply q → reply_text r ≡ reply_text q → r ≡ q
+are_counts_once (Counts x) (Counts y) s t f g e = ap (λ (z : numbers.Counts). Counts z) (counts_once x y f g e)
+are_counts_once r q s t f g e = cc
+
 -- replies of an event's kind have texts of their own
 pub reply_once : (event : Event) (r q : Reply) → IsTrue (suits event r) → IsTrue (suits event q) → IsReply r → IsReply q → reply_text r ≡ reply_text q → r ≡ q
 reply_once (Link a b) r q s t f g e = done_once r q s t e
@@ -82,6 +89,7 @@ reply_once (Step items) r q s t f g e = moved_once r q s t f g e
 reply_once (Show v) r q s t f g e = shown_once r q s t f g e
 reply_once Enabled r q s t f g e = are_enabled_once r q s t f g e
 reply_once Matching r q s t f g e = are_pairs_once r q s t f g e
+reply_once Status r q s t f g e = are_counts_once r q s t f g e
 
 -- where the words behind `refused` are no refusal's, no reply to a step or to a question where a node points is spelled
 pub no_moved : (bytes words : List ℕ) → bytes ≡ codes "refused " ++ words → ((r : Refusal) → ⊤ → words ≡ refusal_words r → ⊥) → (q : Reply) → IsTrue (is_moved q) × IsReply q → bytes ≡ reply_text q → ⊥

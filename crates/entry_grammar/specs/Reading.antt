@@ -3,11 +3,11 @@ use Rattle.std.specs.Prelude.{◌≡◌, ◌≢◌, ℕ, Bool, true, false, List
 use Rattle.std.specs.List.{AllByRecursion}
 use Rattle.rule_machine.specs.declared.act.Act.{Act}
 use Rattle.rule_machine.specs.declared.event.Event.{Event}
-use Rattle.rule_machine.specs.declared.event.Event.TheVariants.{Link, Unlink, Point, Flag, Step, Show, Enabled, Matching}
+use Rattle.rule_machine.specs.declared.event.Event.TheVariants.{Link, Unlink, Point, Flag, Step, Show, Enabled, Matching, Status}
 use Rattle.rule_machine.specs.declared.reply.Reply.{Reply}
-use Rattle.rule_machine.specs.declared.reply.Reply.TheVariants.{Accepted, Refused, Moves, Shown, EnabledAre, Pairs}
+use Rattle.rule_machine.specs.declared.reply.Reply.TheVariants.{Accepted, Refused, Moves, Shown, EnabledAre, Pairs, Counts}
 use Rattle.line_text.specs.Words.{marked_text}
-use Rattle.line_text.specs.ReplyText.{act_word, reply_text}
+use Rattle.line_text.specs.ReplyText.{IsCount, act_word, field_text, reply_text}
 use Rattle.line_text.specs.Reading.{Reads}
 use Rattle.entry_grammar.specs.Spelling.{IsReply}
 
@@ -25,6 +25,11 @@ pub record PartsOf (line number event reply : List ℕ) : Type 0 where
   pub numbered : IsFree 32 number
   pub asked : IsFree 61 event
   pub is : line ≡ number ++ codes " " ++ event ++ codes " = " ++ reply
+
+-- the bytes are a number behind its name, a space, and the rest
+pub record FieldThen (bytes name : List ℕ) (number : ℕ) (rest : List ℕ) : Type 0 where
+  pub fits : IsCount number
+  pub is : bytes ≡ field_text (name, number) ++ 32 ∷ rest
 
 -- a rule, and a target behind a `>`
 abbrev pub deed_text : Act → Option ℕ → List ℕ
@@ -58,6 +63,11 @@ abbrev pub are_pairs : Reply → Bool
 are_pairs (Pairs pairs) = true
 are_pairs reply = false
 
+-- replies to the question where the network stands
+abbrev pub are_counts : Reply → Bool
+are_counts (Counts counts) = true
+are_counts reply = false
+
 -- whether replies of this kind are given to the event, whatever they say
 abbrev pub suits : Event → Reply → Bool
 suits (Link a b) reply = is_done reply
@@ -68,6 +78,7 @@ suits (Step items) reply = is_moved reply
 suits (Show v) reply = is_shown reply
 suits Enabled reply = are_enabled reply
 suits Matching reply = are_pairs reply
+suits Status reply = are_counts reply
 
 -- the bytes spell a reply of the kind that the test tells, or what was found is none and they spell no such reply
 abbrev pub ReadsReply : (Reply → Bool) → List ℕ → Option Reply → Type 0

@@ -1,6 +1,7 @@
 //! The lines of a transcript: each entry and each header has one spelling, which is written and read exactly.
 #![tactic(auto)]
 
+mod counts;
 mod cut;
 mod entry;
 mod fault;

@@ -4,6 +4,7 @@ ghost use Rattle.std.specs.Prelude.{◌≡◌, IfOk, IsTrue, OnErr};
 ghost use Rattle.entry_grammar.specs.Spelling.{has_list};
 ghost use Rattle.entry_grammar.specs.Reading.{ReadsReply, is_done, is_moved, is_shown, suits};
 
+use crate::counts::read_counts;
 use crate::refusals::read_refusal;
 use crate::words::{read_list, read_words};
 use line_text::{after, read_target};
@@ -59,6 +60,7 @@ pub fn read_reply(alloc: Global, event: &Event, bytes: &[u8]) -> Result<Option<R
         Event::Show(_) => Ok(read_shown(bytes)),
         Event::Enabled => Ok(read_list(alloc, bytes)?.map(|nodes| Reply::EnabledAre(nodes))),
         Event::Matching => Ok(read_list(alloc, bytes)?.map(|pairs| Reply::Pairs(pairs))),
+        Event::Status => Ok(read_counts(bytes).map(|counts| Reply::Counts(counts))),
         Event::Link(..) | Event::Unlink(..) | Event::Point(..) | Event::Flag(..) => {
             let reply = read_done(bytes);
             Ok(reply)

@@ -6,7 +6,7 @@ use Rattle.std.proofs.lemmas.List.{append_cancel_left}
 use Rattle.std.proofs.lemmas.Fmt.{decimal_injective, first_decimal}
 use Rattle.rule_machine.specs.declared.choice.Item.{Item}
 use Rattle.rule_machine.specs.declared.event.Event.{Event}
-use Rattle.rule_machine.specs.declared.event.Event.TheVariants.{Link, Unlink, Point, Flag, Step, Show, Enabled, Matching}
+use Rattle.rule_machine.specs.declared.event.Event.TheVariants.{Link, Unlink, Point, Flag, Step, Show, Enabled, Matching, Status}
 use Rattle.line_text.specs.Words.{number_text, IsName, spaced}
 use Rattle.line_text.specs.EventText.{IsItem, IsEvent, Spells, event_text, pair_text, point_text, flag_text, bool_text, target_text, item_text}
 use Rattle.line_text.proofs.Digits.{word_once, WordThen-from}
@@ -48,9 +48,9 @@ items_once (i ∷ is) (j ∷ js) f g e =
     let r = item_once (spaced item_text (i ∷ is)) i j (spaced item_text is) (spaced item_text js) (first_item (spaced item_text (i ∷ is)) i is f refl) (first_item (spaced item_text (i ∷ is)) j js g e) in
     ap (λ (x : Item). x ∷ is) r.0 ∙ ap (λ (xs : List Item). j ∷ xs) (items_once is js f.1 g.1 r.1)
 
--- the first two bytes, which tell the eight commands apart
+-- the first three bytes, which tell the nine commands apart
 abbrev head_of : List ℕ → ℕ
-head_of line = get_or line 0 0 + 256 * get_or line 1 0
+head_of line = get_or line 0 0 + 256 * get_or line 1 0 + 65536 * get_or line 2 0
 
 -- an event has one text
 event_once : (e f : Event) → IsEvent e → IsEvent f → event_text e ≡ event_text f → e ≡ f
@@ -72,6 +72,7 @@ event_once (Show a) (Show b) f g e =
     ap (λ (x : ℕ). Show x) (number_once a b f g (append_cancel_left (codes "show ") (number_text a) (number_text b) e))
 event_once Enabled Enabled f g e = refl
 event_once Matching Matching f g e = refl
+event_once Status Status f g e = refl
 event_once d c f g e = absurd (omega (arith, ap head_of e))
 
 -- a line spells one event

@@ -3,7 +3,7 @@ use Rattle.std.specs.Prelude.{◌≡◌, ℕ, ◌≤◌, Bool, true, false, List
 use Rattle.std.specs.List.{AllByRecursion}
 use Rattle.rule_machine.specs.declared.choice.Item.{Item}
 use Rattle.rule_machine.specs.declared.event.Event.{Event}
-use Rattle.rule_machine.specs.declared.event.Event.TheVariants.{Link, Unlink, Point, Flag, Step, Show, Enabled, Matching}
+use Rattle.rule_machine.specs.declared.event.Event.TheVariants.{Link, Unlink, Point, Flag, Step, Show, Enabled, Matching, Status}
 use Rattle.line_text.specs.Words.{number_text, IsName, marked_text, spaced}
 
 -- two names
@@ -40,6 +40,7 @@ event_text (Step items) = codes "step" ++ spaced item_text items
 event_text (Show v) = codes "show " ++ number_text v
 event_text Enabled = codes "enabled"
 event_text Matching = codes "matching"
+event_text Status = codes "status"
 
 -- what each item of a step meets
 abbrev pub IsItem : Item → Type 0
@@ -58,6 +59,7 @@ IsEvent (Step items) = IsChoice items
 IsEvent (Show v) = IsName v
 IsEvent Enabled = Unit {0}
 IsEvent Matching = Unit {0}
+IsEvent Status = Unit {0}
 
 abbrev pub Spells : List ℕ → Event → Type 0
 Spells line event = IsEvent event × (line ≡ event_text event)

@@ -1,12 +1,14 @@
 -- How a transcript spells a reply.
-use Rattle.std.specs.Prelude.{ℕ, ◌<◌, List, ◌++◌, IfSome, codes}
+use Rattle.std.specs.Prelude.{ℕ, ◌<◌, List, [], ◌∷◌, ◌++◌, IfSome, codes}
 use Rattle.std.specs.List.{AllByRecursion}
 use Rattle.rule_machine.specs.declared.act.Act.{Act}
 use Rattle.rule_machine.specs.declared.act.Act.TheVariants.{Update, Marry, Seduce, Abandon}
+use Rattle.rule_machine.specs.declared.counts.Counts.{Counts}
 use Rattle.rule_machine.specs.declared.moved.Moved.{Moved}
 use Rattle.rule_machine.specs.declared.refusal.Refusal.{Refusal}
 use Rattle.rule_machine.specs.declared.reply.Reply.{Reply}
 use Rattle.rule_machine.specs.declared.reply.Reply.TheVariants.{Accepted, Refused, Moves, Shown, EnabledAre, Pairs}
+use Rattle.rule_machine.specs.declared.reply.Reply.TheVariants as reply_is
 use Rattle.rule_machine.specs.Refuse.{refusal_number, refusal_text}
 use Rattle.line_text.specs.Words.{number_text, IsName, marked_text, joined, joined_or}
 use Rattle.line_text.specs.EventText.{target_text}
@@ -33,6 +35,19 @@ mutual_text p = number_text p.0 ++ codes "-" ++ number_text p.1
 abbrev pub refusal_words : Refusal → List ℕ
 refusal_words refusal = number_text (refusal_number refusal) ++ codes " " ++ refusal_text refusal
 
+-- a number behind its name
+abbrev pub field_text : List ℕ × ℕ → List ℕ
+field_text field = field.0 ++ number_text field.1
+
+-- the six numbers, each with its name
+abbrev pub fields_of : Counts → List (List ℕ × ℕ)
+fields_of c =
+    (codes "nodes=", c.nodes) ∷ (codes "edges=", c.edges) ∷ (codes "pairs=", c.pairs) ∷ (codes "enabled=", c.enabled)
+    ∷ (codes "charge=", c.charge) ∷ (codes "spent=", c.spent) ∷ []
+
+abbrev pub counts_text : Counts → List ℕ
+counts_text c = joined field_text (fields_of c)
+
 abbrev pub reply_text : Reply → List ℕ
 reply_text Accepted = codes "ok"
 reply_text (Refused refusal) = codes "refused " ++ refusal_words refusal
@@ -40,6 +55,7 @@ reply_text (Moves moves) = joined move_text moves
 reply_text (Shown target) = target_text target
 reply_text (EnabledAre nodes) = joined_or (codes "none") enabled_text nodes
 reply_text (Pairs pairs) = joined_or (codes "none") mutual_text pairs
+reply_text (reply_is.Counts counts) = counts_text counts
 
 abbrev pub IsMoved : Moved → Type 0
 IsMoved m = IsName m.node × IfSome m.target IsName
@@ -51,6 +67,13 @@ IsEnabled e = IsName e.0
 abbrev pub IsPair : ℕ × ℕ → Type 0
 IsPair p = IsName p.0 × IsName p.1 × (p.0 < p.1)
 
+-- what each of the six numbers meets
+abbrev pub IsCount : ℕ → Type 0
+IsCount n = n < 4294967296
+
+abbrev pub IsCounts : Counts → Type 0
+IsCounts c = IsCount c.nodes × IsCount c.edges × IsCount c.pairs × IsCount c.enabled × IsCount c.charge × IsCount c.spent
+
 -- what each value of the program's type of replies meets
 abbrev pub IsReply : Reply → Type 0
 IsReply Accepted = Unit {0}
@@ -59,3 +82,4 @@ IsReply (Moves moves) = AllByRecursion IsMoved moves
 IsReply (Shown target) = IfSome target IsName
 IsReply (EnabledAre nodes) = AllByRecursion IsEnabled nodes
 IsReply (Pairs pairs) = AllByRecursion IsPair pairs
+IsReply (reply_is.Counts counts) = IsCounts counts

@@ -107,5 +107,8 @@ pub fn read_command(alloc: Global, line: &[u8]) -> Result<Option<Event>, Want>
     if line == b"matching".as_slice() {
         return Ok(Some(Event::Matching));
     }
+    if line == b"status".as_slice() {
+        return Ok(Some(Event::Status));
+    }
     Ok(None)
 }

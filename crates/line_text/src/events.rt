@@ -84,5 +84,6 @@ pub(crate) fn put_event(out: &mut Vec<u8>, event: &Event) -> Result<(), Want>
         }
         Event::Enabled => out.extend_from_slice(b"enabled"),
         Event::Matching => out.extend_from_slice(b"matching"),
+        Event::Status => out.extend_from_slice(b"status"),
     }
 }

@@ -9,6 +9,7 @@ mod items;
 mod law;
 mod names;
 mod numbers;
+mod numeral;
 mod replies;
 mod word;
 
@@ -17,3 +18,4 @@ pub use entry::{put_entry, put_header};
 pub use front::after;
 pub use law::one_reading;
 pub use names::{read_last, value_of};
+pub use numeral::read_number;

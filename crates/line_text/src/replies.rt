@@ -1,12 +1,12 @@
 //! Replies at the end of a text.
 
 ghost use Rattle.std.specs.Prelude.{◌≡◌, ◌++◌, OnOk, OnErr};
-ghost use Rattle.line_text.specs.ReplyText.{IsEnabled, IsMoved, IsPair, IsReply, act_word, enabled_text, move_text, mutual_text, refusal_words, reply_text};
+ghost use Rattle.line_text.specs.ReplyText.{IsCount, IsCounts, IsEnabled, IsMoved, IsPair, IsReply, act_word, counts_text, enabled_text, field_text, move_text, mutual_text, refusal_words, reply_text};
 ghost use Rattle.line_text.specs.Growth.{Extends};
 
 use crate::numbers::{put_marked, put_name, put_number, put_target};
 use crate::word::{Word, put_joined, put_joined_or};
-use rule_machine::{Act, Edge, Moved, Node, Refusal, Reply, Want};
+use rule_machine::{Act, Counts, Edge, Moved, Node, Refusal, Reply, Want};
 
 fn put_act(out: &mut Vec<u8>, act: Act) -> Result<(), Want>
     ensures ok { OnOk result (out.new.items ≡ out.old.items ++ act_word act) }
@@ -66,6 +66,29 @@ impl Word for Edge {
     }
 }
 
+// Writes a number behind its name.
+fn put_field(out: &mut Vec<u8>, name: &[u8], number: u32) -> Result<(), Want>
+    ensures ok { OnOk result (out.new.items ≡ out.old.items ++ field_text (name.now, number)) }
+    ensures err { OnErr result (Extends out.old.items out.new.items) }
+    ensures fit { IsCount number }
+{
+    out.extend_from_slice(name)?;
+    put_number(out, number)
+}
+
+fn put_counts(out: &mut Vec<u8>, counts: Counts) -> Result<(), Want>
+    ensures ok { OnOk result (out.new.items ≡ out.old.items ++ counts_text counts) }
+    ensures err { OnErr result (Extends out.old.items out.new.items) }
+    ensures fit { OnOk result (IsCounts counts) }
+{
+    put_field(out, b"nodes=", counts.nodes)?;
+    put_field(out, b" edges=", counts.edges)?;
+    put_field(out, b" pairs=", counts.pairs)?;
+    put_field(out, b" enabled=", counts.enabled)?;
+    put_field(out, b" charge=", counts.charge)?;
+    put_field(out, b" spent=", counts.spent)
+}
+
 /// Writes a reply as a transcript spells it.
 pub(crate) fn put_reply(out: &mut Vec<u8>, reply: &Reply) -> Result<(), Want>
     ensures ok { OnOk result (out.new.items ≡ out.old.items ++ reply_text reply.now) }
@@ -82,5 +105,6 @@ pub(crate) fn put_reply(out: &mut Vec<u8>, reply: &Reply) -> Result<(), Want>
         Reply::Shown(target) => put_target(out, *target),
         Reply::EnabledAre(nodes) => put_joined_or(out, b"none", nodes.as_slice()),
         Reply::Pairs(pairs) => put_joined_or(out, b"none", pairs.as_slice()),
+        Reply::Counts(counts) => put_counts(out, *counts),
     }
 }

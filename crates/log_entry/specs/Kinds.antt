@@ -3,9 +3,9 @@ use Rattle.std.specs.Prelude.{Bool, true, false, cond, ◌&&◌, List, is_some, 
 use Rattle.std.specs.List.{list_all}
 use Rattle.rule_machine.specs.declared.moved.Moved.{Moved}
 use Rattle.rule_machine.specs.declared.event.Event.{Event}
-use Rattle.rule_machine.specs.declared.event.Event.TheVariants.{Link, Unlink, Point, Flag, Step, Show, Enabled, Matching}
+use Rattle.rule_machine.specs.declared.event.Event.TheVariants.{Link, Unlink, Point, Flag, Step, Show, Enabled, Matching, Status}
 use Rattle.rule_machine.specs.declared.reply.Reply.{Reply}
-use Rattle.rule_machine.specs.declared.reply.Reply.TheVariants.{Accepted, Refused, Moves, Shown, EnabledAre, Pairs}
+use Rattle.rule_machine.specs.declared.reply.Reply.TheVariants.{Accepted, Refused, Moves, Shown, EnabledAre, Pairs, Counts}
 pub use Rattle.rule_machine.specs.Step.{takes_target}
 
 -- a move has a target exactly where its rule takes one
@@ -32,5 +32,6 @@ fits (Show v) (Shown target) = true
 fits (Show v) (Refused refusal) = true
 fits Enabled (EnabledAre nodes) = nat_le (length nodes) 65535
 fits Matching (Pairs pairs) = nat_le (length pairs) 65535
+fits Status (Counts counts) = true
 -- no other reply is given
 fits event reply = false

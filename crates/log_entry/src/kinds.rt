@@ -45,7 +45,8 @@ pub(crate) fn fits(event: &Event, reply: &Reply) -> bool
         ) => { true }
         (Event::Enabled, Reply::EnabledAre(nodes)) => nodes.as_slice().len() <= MAX_ITEMS,
         (Event::Matching, Reply::Pairs(pairs)) => pairs.as_slice().len() <= MAX_ITEMS,
-        (Event::Enabled | Event::Matching, _) => false,
+        (Event::Status, Reply::Counts(_)) => true,
+        (Event::Enabled | Event::Matching | Event::Status, _) => false,
         (_, Reply::Refused(_)) => true,
         (Event::Step(_), Reply::Moves(moves)) => are_moves(moves.as_slice()),
         (Event::Show(_), Reply::Shown(_)) => true,

@@ -2,7 +2,6 @@
 #![tactic(auto)]
 
 mod command;
-mod number;
 mod read;
 
 pub use command::{Command, MAX_TURNS, Turns};

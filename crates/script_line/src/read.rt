@@ -4,9 +4,8 @@ ghost use Rattle.std.specs.Prelude.{IfOk, MatchOption};
 ghost use Rattle.line_text.specs.Reading.{Reads};
 ghost use Rattle.script_line.specs.Command.{IsTurns, turns_text, Says, SaysNothing};
 
-use crate::number::read_number;
 use crate::{Command, MAX_TURNS, Turns};
-use line_text::{after, read_command};
+use line_text::{after, read_command, read_number};
 use memchr::memchr;
 use rule_machine::Want;
 use std::alloc::Global;

@@ -8,8 +8,8 @@ use itoa::Buffer;
 use std::str;
 
 /// Reads a number up to a greatest one; `None` for a greater one, and for any text that is not a number's one spelling, with
-/// a sign or a leading zero.
-pub(crate) fn read_number(bytes: &[u8], most: u64) -> Option<u64>
+/// a sign or a leading zero. Takes no memory.
+pub fn read_number(bytes: &[u8], most: u64) -> Option<u64>
     ensures { Reads (λ n. n ≤ most) number_text bytes.now result }
 {
     let Ok(digits) = str::from_utf8(bytes) else {

@@ -4,8 +4,8 @@ use Rattle.std.specs.Cmp.Lexicographic.{other_text}
 use Rattle.std.proofs.lemmas.Str.{IsUtf8-from_ascii}
 use Rattle.std.proofs.lemmas.Fmt.{IsAscii-decimal, parse-decimal}
 use Rattle.line_text.specs.Words.{number_text}
-use Rattle.script_line.proofs.number.read_number.Goals as goal
-use Rattle.script_line.proofs.number.read_number.Goals.{then-number-most-via-then-number-most, then-number-most-via-else-number-most+then-ne}
+use Rattle.line_text.proofs.numeral.read_number.Goals as goal
+use Rattle.line_text.proofs.numeral.read_number.Goals.{then-number-most-via-then-number-most, then-number-most-via-else-number-most+then-ne}
 
 same_ok : {E : Type 0} (r : Result ℕ E) (m n : ℕ) → r ≡ Ok m → r ≡ Ok n → m ≡ n
 same_ok r m n d e = cc

@@ -1,0 +1,59 @@
+//! The numbers that say where a network stands.
+
+ghost use Rattle.std.specs.Prelude.{ℕ, List, MatchOption};
+ghost use Rattle.line_text.specs.ReplyText.{IsCount, IsCounts, counts_text, field_text};
+ghost use Rattle.line_text.specs.Reading.{Reads};
+ghost use Rattle.entry_grammar.specs.Reading.{IsFree, FieldThen};
+
+use crate::cut::cut;
+use line_text::{after, read_number};
+use rule_machine::Counts;
+
+// Reads a number behind its name.
+fn read_field(bytes: &[u8], name: &[u8]) -> Option<u32>
+    ensures { Reads IsCount (λ number. field_text (name.now, number)) bytes.now result }
+{
+    let Some(digits) = after(bytes, name) else {
+        return None;
+    };
+    let Some(number) = read_number(digits, u64::from(u32::MAX)) else {
+        return None;
+    };
+    Some(number as u32)
+}
+
+// Reads a number behind its name and the space behind it, and gives what follows the space.
+fn read_next<'a>(bytes: &'a [u8], name: &[u8]) -> Option<(u32, &'a [u8])>
+    requires { IsFree 32 name.now }
+    ensures { MatchOption result
+        ((number : ℕ) (rest : List ℕ) → FieldThen bytes.now name.now number rest → ⊥)
+        (λ found. FieldThen bytes.now name.now found.0 found.1.now) }
+{
+    let Some((field, rest)) = cut(bytes, b' ') else {
+        return None;
+    };
+    let Some(number) = read_field(field, name) else {
+        return None;
+    };
+    Some((number, rest))
+}
+
+/// Reads the six numbers, each behind its name; `None` where anything else stands there.
+pub fn read_counts(bytes: &[u8]) -> Option<Counts>
+    ensures { Reads IsCounts counts_text bytes.now result }
+{
+    let (nodes, rest) = read_next(bytes, b"nodes=")?;
+    let (edges, rest) = read_next(rest, b"edges=")?;
+    let (pairs, rest) = read_next(rest, b"pairs=")?;
+    let (enabled, rest) = read_next(rest, b"enabled=")?;
+    let (charge, rest) = read_next(rest, b"charge=")?;
+    let spent = read_field(rest, b"spent=")?;
+    Some(Counts {
+        nodes,
+        edges,
+        pairs,
+        enabled,
+        charge,
+        spent,
+    })
+}
