@@ -82,8 +82,7 @@ fn has_counts(net: &PlainNet, rules: RuleSet, spent: u64, reply: &Reply) -> bool
 {
     match reply {
         Reply::Counts(given) => {
-            let spent_too = u64::from(given.spent) == spent;
-            spent_too && *given == net.counts(rules, given.spent)
+            u64::from(given.spent) == spent && *given == net.counts(rules, given.spent)
         }
         _ => false,
     }
