@@ -4,8 +4,8 @@ use Rattle.std.specs.List.{AllByRecursion}
 use Rattle.std.proofs.lemmas.Option.{same_Some}
 use Rattle.rule_machine.specs.State.{State}
 use Rattle.rule_machine.specs.RuleTable.{RuleTable}
-use Rattle.rule_machine.specs.Run.{Entry, Moment, Run, spent_after}
-use Rattle.rule_machine.specs.Answer.{Answers}
+use Rattle.rule_machine.specs.Run.{Entry, Moment, Run}
+use Rattle.rule_machine.specs.Answer.{Answers, spent_after}
 use Rattle.line_text.specs.EntryText.{entry_text}
 use Rattle.entry_grammar.specs.Spelling.{SpellsEntry, max_entries}
 use Rattle.entry_grammar.specs.Reading.{IsFree}
@@ -23,14 +23,14 @@ first_line-free (b ∷ line) rest free =
     onto_line-front b (line ++ 10 ∷ rest) (Some (line, rest)) (λ e. free.0 (eqb-true b 10 e)) (first_line-free line rest free.1)
 
 -- the next entry comes, and the machine may give its reply
-pub record GoesOn (t : RuleTable) (number : ℕ) (s : State) (rest : List ℕ) : Type 0 where
+pub record GoesOn (t : RuleTable) (number : ℕ) (m : Moment) (rest : List ℕ) : Type 0 where
   pub line : List ℕ
   pub more : List ℕ
   pub entry : Entry
   pub next : State
   pub is : first_line rest ≡ Some (line, more)
   pub spells : SpellsEntry line number entry
-  pub answers : Answers t s entry.0 entry.1 next
+  pub answers : Answers t m.state m.spent entry.0 entry.1 next
 
 -- both end at one place
 pub record SameEnd (log also : List Entry) (end last : Moment) (rest left : List ℕ) : Type 0 where
@@ -41,7 +41,7 @@ pub record SameEnd (log also : List Entry) (end last : Moment) (rest left : List
 -- two logs that begin one text end at one place, or one of them goes on behind the other
 abbrev pub Meet : RuleTable → ℕ → List Entry → List Entry → Moment → Moment → List ℕ → List ℕ → Type 0
 Meet t number log also end last rest left =
-    SameEnd log also end last rest left ⊎ (GoesOn t (number + length log) end.state rest ⊎ GoesOn t (number + length also) last.state left)
+    SameEnd log also end last rest left ⊎ (GoesOn t (number + length log) end rest ⊎ GoesOn t (number + length also) last left)
 
 spells_of : (number : ℕ) (entry : Entry) → 1 ≤ number → number ≤ max_entries → IsEntry entry → SpellsEntry (entry_text number entry.0 entry.1) number entry
 spells_of number entry one few is = record { numbered = (one, few); event = is.event; reply = is.reply; fits = is.fits; is = refl }
@@ -55,8 +55,8 @@ first_entry number entry log rest one few is =
     append_assoc (line ++ 10 ∷ []) lines rest ∙ append_assoc line (10 ∷ []) (lines ++ rest) in
     ap first_line whole ∙ first_line-free line (lines ++ rest) (entry_free line number entry (spells_of number entry one few is))
 
-goes_on : (t : RuleTable) (number : ℕ) (s : State) (entry : Entry) (log : List Entry) (rest left : List ℕ) (next : State) → 1 ≤ number → number ≤ max_entries → IsEntry entry → Answers t s entry.0 entry.1 next → rest ≡ entry_lines number (entry ∷ log) ++ left → GoesOn t (number + 0) s rest
-goes_on t number s entry log rest left next one few is answers e =
+goes_on : (t : RuleTable) (number : ℕ) (m : Moment) (entry : Entry) (log : List Entry) (rest left : List ℕ) (next : State) → 1 ≤ number → number ≤ max_entries → IsEntry entry → Answers t m.state m.spent entry.0 entry.1 next → rest ≡ entry_lines number (entry ∷ log) ++ left → GoesOn t (number + 0) m rest
+goes_on t number m entry log rest left next one few is answers e =
     let same : number ≡ number + 0 = omega arith in
     record {
       line = entry_text number entry.0 entry.1;
@@ -68,10 +68,10 @@ goes_on t number s entry log rest left next one few is answers e =
       answers = answers;
     }
 
-later : (t : RuleTable) (number : ℕ) (s : State) (rest : List ℕ) (entry : Entry) (log : List Entry) → GoesOn t (number + 1 + length log) s rest → GoesOn t (number + length (entry ∷ log)) s rest
-later t number s rest entry log g =
+later : (t : RuleTable) (number : ℕ) (m : Moment) (rest : List ℕ) (entry : Entry) (log : List Entry) → GoesOn t (number + 1 + length log) m rest → GoesOn t (number + length (entry ∷ log)) m rest
+later t number m rest entry log g =
     let same : number + 1 + length log ≡ number + length (entry ∷ log) = omega arith in
-    subst (λ (n : ℕ). GoesOn t n s rest) same g
+    subst (λ (n : ℕ). GoesOn t n m rest) same g
 
 abbrev moment : State → ℕ → Moment
 moment s n = record { state = s; spent = n }
@@ -80,8 +80,8 @@ moment s n = record { state = s; spent = n }
 meet_more : (t : RuleTable) (number : ℕ) (entry other : Entry) (log also : List Entry) (end last : Moment) (rest left : List ℕ) → entry ≡ other → Meet t (number + 1) log also end last rest left → Meet t number (entry ∷ log) (other ∷ also) end last rest left
 meet_more t number entry other log also end last rest left e (inl same) =
     inl (record { logs = ap (λ (x : Entry). x ∷ log) e ∙ ap (λ (l : List Entry). other ∷ l) same.logs; ends = same.ends; rests = same.rests })
-meet_more t number entry other log also end last rest left e (inr (inl g)) = inr (inl (later t number end.state rest entry log g))
-meet_more t number entry other log also end last rest left e (inr (inr g)) = inr (inr (later t number last.state left other also g))
+meet_more t number entry other log also end last rest left e (inr (inl g)) = inr (inl (later t number end rest entry log g))
+meet_more t number entry other log also end last rest left e (inr (inr g)) = inr (inr (later t number last left other also g))
 
 moment_same : (next following : State) (spent : ℕ) (entry other : Entry) → entry ≡ other → next ≡ following → moment next (spent_after spent entry.1) ≡ moment following (spent_after spent other.1)
 moment_same next following spent entry other same there =
@@ -92,11 +92,11 @@ moment_same next following spent entry other same there =
 pub meet : (t : RuleTable) (number : ℕ) (start : Moment) (log also : List Entry) (end last : Moment) (rest left : List ℕ) → 1 ≤ number → number + length log ≤ max_entries + 1 → number + length also ≤ max_entries + 1 → AllByRecursion IsEntry log → AllByRecursion IsEntry also → Run t start log end → Run t start also last → entry_lines number log ++ rest ≡ entry_lines number also ++ left → Meet t number log also end last rest left
 meet t number start [] [] end last rest left one few little all every run ran e = inl (record { logs = refl; ends = run ∙ sym ran; rests = e })
 meet t number start [] (other ∷ also) end last rest left one few little all every run (next, answers, ran) e =
-    let from = subst (λ (m : Moment). Answers t m.state other.0 other.1 next) (sym run) answers in
-    inr (inl (goes_on t number end.state other also rest left next one (omega (arith, little)) every.0 from e))
+    let from = subst (λ (m : Moment). Answers t m.state m.spent other.0 other.1 next) (sym run) answers in
+    inr (inl (goes_on t number end other also rest left next one (omega (arith, little)) every.0 from e))
 meet t number start (entry ∷ log) [] end last rest left one few little all every (next, answers, run) ran e =
-    let from = subst (λ (m : Moment). Answers t m.state entry.0 entry.1 next) (sym ran) answers in
-    inr (inr (goes_on t number last.state entry log left rest next one (omega (arith, few)) all.0 from (sym e)))
+    let from = subst (λ (m : Moment). Answers t m.state m.spent entry.0 entry.1 next) (sym ran) answers in
+    inr (inr (goes_on t number last entry log left rest next one (omega (arith, few)) all.0 from (sym e)))
 meet t number start (entry ∷ log) (other ∷ also) end last rest left one few little all every (next, answers, run) (following, answered, ran) e =
     let line = entry_text number entry.0 entry.1 in
     let top : number ≤ max_entries = omega (arith, few) in
@@ -108,8 +108,8 @@ meet t number start (entry ∷ log) (other ∷ also) end last rest left one few 
     (sym (first_entry number entry log rest one top all.0) ∙ ap first_line e ∙ first_entry number other also left one top every.0) in
     let spelled = subst (λ (l : List ℕ). SpellsEntry l number other) (sym (ap (λ (p : List ℕ × List ℕ). p.0) first)) (spells_of number other one top every.0) in
     let same : entry ≡ other = (spells_entry_once line number number entry other (spells_of number entry one top all.0) spelled).1 in
-    let answers-other : Answers t start.state other.0 other.1 next = subst (λ (x : Entry). Answers t start.state x.0 x.1 next) same answers in
-    let there : next ≡ following = answers_once t start.state other.0 other.1 next following answers-other answered in
+    let answers-other : Answers t start.state start.spent other.0 other.1 next = subst (λ (x : Entry). Answers t start.state start.spent x.0 x.1 next) same answers in
+    let there : next ≡ following = answers_once t start.state start.spent other.0 other.1 next following answers-other answered in
     let moment = moment_same next following start.spent entry other same there in
     meet_more t number entry other log also end last rest left same
     (meet t (number + 1) (record { state = following; spent = spent_after start.spent other.1 }) log also end last rest left more fits also-fits all.1 every.1

@@ -2,7 +2,6 @@
 use Rattle.std.proofs.Common.{◌≡◌, ◌≢◌, ℕ, ◌+◌, ◌≤◌, inl, inr, List, [], ◌∷◌, ◌++◌, Option, Some, length, refl, sym, ap, subst, ◌∙◌, append_assoc, append-nil, arith}
 use Rattle.std.proofs.lemmas.Option.{none-some, same_Some}
 use Rattle.rule_machine.specs.declared.rules.RuleSet.{RuleSet}
-use Rattle.rule_machine.specs.State.{State}
 use Rattle.rule_machine.specs.Run.{Entry, Moment, Run, beginning}
 use Rattle.rule_machine.specs.Answer.{Answers}
 use Rattle.rule_machine.specs.Tables.{table_of}
@@ -63,18 +62,18 @@ follows_meet bytes r q log also end last rest left f g rules nodes behind =
 pub record Ended (bytes : List ℕ) (rules : RuleSet) (nodes : ℕ) (log : List Entry) (end : Moment) (rest : List ℕ) : Type 0 where
   pub follows : Follows bytes rules log end rest
   pub begins : follows.nodes ≡ nodes
-  pub stops : GoesOn (table_of rules) (1 + length log) end.state rest → ⊥
+  pub stops : GoesOn (table_of rules) (1 + length log) end rest → ⊥
 
 pub record EndedOnce (r q : RuleSet) (m n : ℕ) (log also : List Entry) (end last : Moment) (rest left : List ℕ) : Type 0 where
   pub rules : r ≡ q
   pub nodes : m ≡ n
   pub same : SameEnd log also end last rest left
 
-same_end : (r q : RuleSet) (log also : List Entry) (end last : Moment) (rest left : List ℕ) → r ≡ q → (GoesOn (table_of r) (1 + length log) end.state rest → ⊥) → (GoesOn (table_of q) (1 + length also) last.state left → ⊥) → Meet (table_of r) 1 log also end last rest left → SameEnd log also end last rest left
+same_end : (r q : RuleSet) (log also : List Entry) (end last : Moment) (rest left : List ℕ) → r ≡ q → (GoesOn (table_of r) (1 + length log) end rest → ⊥) → (GoesOn (table_of q) (1 + length also) last left → ⊥) → Meet (table_of r) 1 log also end last rest left → SameEnd log also end last rest left
 same_end r q log also end last rest left rules stops halts (inl same) = same
 same_end r q log also end last rest left rules stops halts (inr (inl g)) = absurd (stops g)
 same_end r q log also end last rest left rules stops halts (inr (inr g)) =
-    absurd (halts (subst (λ (x : RuleSet). GoesOn (table_of x) (1 + length also) last.state left) rules g))
+    absurd (halts (subst (λ (x : RuleSet). GoesOn (table_of x) (1 + length also) last left) rules g))
 
 -- a text ends in one place
 pub ended_once : (bytes : List ℕ) (r q : RuleSet) (m n : ℕ) (log also : List Entry) (end last : Moment) (rest left : List ℕ) → Ended bytes r m log end rest → Ended bytes q n also last left → EndedOnce r q m n log also end last rest left
@@ -101,8 +100,8 @@ comes_once rest m n e f a b =
     let same : (a.line, a.more) ≡ (b.line, b.more) = same_Some (a.line, a.more) (b.line, b.more) (sym a.is ∙ b.is) in
     spells_entry_once a.line m n e f a.spells (subst (λ (l : List ℕ). SpellsEntry l n f) (sym (ap (λ (p : List ℕ × List ℕ). p.0) same)) b.spells)
 
-goes_comes : (rules : RuleSet) (number : ℕ) (s : State) (rest : List ℕ) (g : GoesOn (table_of rules) number s rest) → EntryComes rest number g.entry
-goes_comes rules number s rest g = record { line = g.line; more = g.more; is = g.is; spells = g.spells }
+goes_comes : (rules : RuleSet) (number : ℕ) (m : Moment) (rest : List ℕ) (g : GoesOn (table_of rules) number m rest) → EntryComes rest number g.entry
+goes_comes rules number m rest g = record { line = g.line; more = g.more; is = g.is; spells = g.spells }
 
 none_comes : (rest : List ℕ) (number : ℕ) (entry : Entry) → HasNoEntry rest (first_line rest) → EntryComes rest number entry → ⊥
 none_comes rest number entry none comes =
@@ -113,7 +112,7 @@ pub no_line_ends : (bytes : List ℕ) (line : ℕ) (e : EndsInNoLine bytes line)
 no_line_ends bytes line e = record {
   follows = e.follows;
   begins = refl;
-  stops = λ g. none_comes e.rest (1 + length e.log) g.entry e.damage (goes_comes e.rules (1 + length e.log) e.end.state e.rest g);
+  stops = λ g. none_comes e.rest (1 + length e.log) g.entry e.damage (goes_comes e.rules (1 + length e.log) e.end e.rest g);
 }
 
 pub number_ends : (bytes : List ℕ) (line : ℕ) (e : EndsOutOfOrder bytes line) → Ended bytes e.rules e.follows.nodes e.log e.end e.rest
@@ -121,7 +120,7 @@ number_ends bytes line e = record {
   follows = e.follows;
   begins = refl;
   stops = λ g.
-      let same = (comes_once e.rest e.seq (1 + length e.log) e.entry g.entry e.comes (goes_comes e.rules (1 + length e.log) e.end.state e.rest g)).0 in
+      let same = (comes_once e.rest e.seq (1 + length e.log) e.entry g.entry e.comes (goes_comes e.rules (1 + length e.log) e.end e.rest g)).0 in
       e.damage (omega (arith, same));
 }
 
@@ -130,8 +129,8 @@ reply_ends bytes line e = record {
   follows = e.follows;
   begins = refl;
   stops = λ g.
-      let same = (comes_once e.rest (length e.log + 1) (1 + length e.log) e.entry g.entry e.comes (goes_comes e.rules (1 + length e.log) e.end.state e.rest g)).1 in
-      e.damage g.next (subst (λ (x : Entry). Answers (table_of e.rules) e.end.state x.0 x.1 g.next) (sym same) g.answers);
+      let same = (comes_once e.rest (length e.log + 1) (1 + length e.log) e.entry g.entry e.comes (goes_comes e.rules (1 + length e.log) e.end e.rest g)).1 in
+      e.damage g.next (subst (λ (x : Entry). Answers (table_of e.rules) e.end.state e.end.spent x.0 x.1 g.next) (sym same) g.answers);
 }
 
 -- ---- one way

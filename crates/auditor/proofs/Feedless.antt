@@ -6,20 +6,21 @@ use Rattle.std.specs.List.{AllByRecursion}
 use Rattle.rule_machine.specs.declared.act.Act.{Act}
 use Rattle.rule_machine.specs.declared.act.Act.TheVariants.{Update, Marry, Seduce, Abandon}
 use Rattle.rule_machine.specs.declared.choice.Item.{Item}
+use Rattle.rule_machine.specs.declared.counts.Counts.{Counts as Counted}
 use Rattle.rule_machine.specs.declared.moved.Moved.{Moved}
 use Rattle.rule_machine.specs.declared.event.Event.{Event}
-use Rattle.rule_machine.specs.declared.event.Event.TheVariants.{Link, Unlink, Point, Flag, Step, Show, Enabled, Matching}
+use Rattle.rule_machine.specs.declared.event.Event.TheVariants.{Link, Unlink, Point, Flag, Step, Show, Enabled, Matching, Status}
 use Rattle.rule_machine.specs.declared.refusal.Refusal.{Refusal}
 use Rattle.rule_machine.specs.declared.refusal.Refusal.TheVariants.{UnknownNode, SelfLoop, AlreadyLinked, NotLinked, TooManyEdges, NotNeighbour, NoFlag, EmptyChoice, NotCentral, ChosenTwice, NotEnabled, BadTarget}
 use Rattle.rule_machine.specs.declared.reply.Reply.{Reply}
-use Rattle.rule_machine.specs.declared.reply.Reply.TheVariants.{Accepted, Refused, Moves, Shown, EnabledAre, Pairs}
+use Rattle.rule_machine.specs.declared.reply.Reply.TheVariants.{Accepted, Refused, Moves, Shown, EnabledAre, Pairs, Counts}
 use Rattle.rule_machine.specs.declared.rules.RuleSet.{RuleSet}
 use Rattle.rule_machine.specs.declared.rules.RuleSet.TheVariants.{Hh, Manne}
 use Rattle.rule_machine.specs.Tables.{rules_word}
 use Rattle.rule_machine.specs.Refuse.{refusal_number, refusal_text}
 use Rattle.line_text.specs.Words.{number_text, marked_text, IsName, spaced, joined, joined_or}
 use Rattle.line_text.specs.EventText.{IsItem, IsEvent, event_text, pair_text, point_text, flag_text, target_text, bool_text, item_text}
-use Rattle.line_text.specs.ReplyText.{act_word, enabled_text, move_text, mutual_text, refusal_words, reply_text}
+use Rattle.line_text.specs.ReplyText.{act_word, enabled_text, move_text, mutual_text, refusal_words, field_text, fields_of, counts_text, reply_text, IsCount, IsCounts}
 use Rattle.line_text.specs.EntryText.{header_text, entry_text}
 use Rattle.entry_grammar.specs.Spelling.{IsMoved, IsEnabled, IsPair, IsReply, SpellsEntry}
 use Rattle.entry_grammar.specs.Reading.{IsFree}
@@ -37,6 +38,10 @@ number_free n h = free_number 10 n no_digit h
 
 name_free : (n : ℕ) → IsName n → IsFree 10 (number_text n)
 name_free n f = free_name 10 n no_digit f
+
+-- what a count's name and its number meet
+abbrev IsField : List ℕ × ℕ → Type 0
+IsField field = IsFree 10 field.0 × IsCount field.1
 
 -- two texts with a space between them
 apart : (x y : List ℕ) → IsFree 10 x → IsFree 10 y → IsFree 10 (x ++ codes " " ++ y)
@@ -81,6 +86,7 @@ event_free (Step items) f = both (codes "step") (spaced item_text items) (free_b
 event_free (Show v) f = both (codes "show ") (number_text v) (free_by 10 (codes "show ") refl) (name_free v f)
 event_free Enabled f = free_by 10 (codes "enabled") refl
 event_free Matching f = free_by 10 (codes "matching") refl
+event_free Status f = free_by 10 (codes "status") refl
 
 -- ---- replies
 
@@ -133,6 +139,28 @@ refusal_text_free BadTarget = free_by 10 (refusal_text BadTarget) refl
 refusal_free : (r : Refusal) → IsFree 10 (refusal_words r)
 refusal_free r = apart (number_text (refusal_number r)) (refusal_text r) (number_free (refusal_number r) (few_refusals r)) (refusal_text_free r)
 
+field_free : (field : List ℕ × ℕ) → IsField field → IsFree 10 (field_text field)
+field_free field f = both field.0 (number_text field.1) f.0 (number_free field.1 (omega (arith, f.1)))
+
+counts_free : (c : Counted) → IsCounts c → IsFree 10 (counts_text c)
+counts_free c f =
+    joined_free IsField field_text field_free (fields_of c) (
+      (free_by 10 (codes "nodes=") refl, f.0),
+      (
+        (free_by 10 (codes "edges=") refl, f.1),
+        (
+          (free_by 10 (codes "pairs=") refl, f.2),
+          (
+            (free_by 10 (codes "enabled=") refl, f.3),
+            (
+              (free_by 10 (codes "charge=") refl, f.4),
+              ((free_by 10 (codes "spent=") refl, f.5), tt),
+            ),
+          ),
+        ),
+      ),
+    )
+
 reply_free : (reply : Reply) → IsReply reply → IsFree 10 (reply_text reply)
 reply_free Accepted f = free_by 10 (codes "ok") refl
 reply_free (Refused refusal) f = both (codes "refused ") (refusal_words refusal) (free_by 10 (codes "refused ") refl) (refusal_free refusal)
@@ -140,6 +168,7 @@ reply_free (Moves moves) f = joined_free IsMoved move_text move_free moves f
 reply_free (Shown target) f = target_free target f
 reply_free (EnabledAre nodes) f = joined_or_free (codes "none") IsEnabled enabled_text (free_by 10 (codes "none") refl) enabled_free nodes f
 reply_free (Pairs pairs) f = joined_or_free (codes "none") IsPair mutual_text (free_by 10 (codes "none") refl) mutual_free pairs f
+reply_free (Counts counts) f = counts_free counts f
 
 -- ---- lines
 

@@ -5,8 +5,8 @@ use Rattle.std.proofs.lemmas.List.{append-nil, length-append}
 use Rattle.std.proofs.lemmas.List.Sums.{sum_by-append}
 use Rattle.rule_machine.specs.declared.rules.RuleSet.{RuleSet}
 use Rattle.rule_machine.specs.State.{State}
-use Rattle.rule_machine.specs.Run.{Entry, Moment, beginning, spent_after}
-use Rattle.rule_machine.specs.Answer.{Answers}
+use Rattle.rule_machine.specs.Run.{Entry, Moment, beginning}
+use Rattle.rule_machine.specs.Answer.{Answers, spent_after}
 use Rattle.rule_machine.specs.Tables.{table_of}
 use Rattle.machine_laws.specs.Runs.{run_add}
 use Rattle.line_text.specs.EntryText.{header_text, header_line, entry_text, entry_line}
@@ -63,6 +63,7 @@ reached_start bytes line rest rules nodes cut spells =
       end = beginning nodes;
       follows = follows_start bytes line rest rules nodes cut spells;
       state = refl;
+      spent = refl;
       counts = record { entries = refl; epochs = refl; moves = refl };
     }
 
@@ -87,7 +88,7 @@ more_counts c d log entry counts is =
     }
 
 -- one more entry of which the machine may give the reply
-pub follows_more : (bytes line rest behind : List ℕ) (rules : RuleSet) (log : List Entry) (end : Moment) (entry : Entry) (s : State) → Follows bytes rules log end rest → first_line rest ≡ Some (line, behind) → SpellsEntry line (length log + 1) entry → Answers (table_of rules) end.state entry.0 entry.1 s → Follows bytes rules (log ++ entry ∷ []) (record { state = s; spent = spent_after end.spent entry.1 }) behind
+pub follows_more : (bytes line rest behind : List ℕ) (rules : RuleSet) (log : List Entry) (end : Moment) (entry : Entry) (s : State) → Follows bytes rules log end rest → first_line rest ≡ Some (line, behind) → SpellsEntry line (length log + 1) entry → Answers (table_of rules) end.state end.spent entry.0 entry.1 s → Follows bytes rules (log ++ entry ∷ []) (record { state = s; spent = spent_after end.spent entry.1 }) behind
 follows_more bytes line rest behind rules log end entry s follows cut spells answers =
     let good = follows.transcript in
     let l = length-append log (entry ∷ []) in
@@ -104,21 +105,23 @@ follows_more bytes line rest behind rules log end entry s follows cut spells ans
       splits = log_text bytes follows.good line rest behind rules follows.nodes log entry follows.splits good.text (first_line-splits rest line behind cut) spells.is;
     }
 
-more_entry : (rules : RuleSet) (p q : Position) (bytes line rest behind : List ℕ) (entry : Entry) (log : List Entry) (end : Moment) → Follows bytes rules log end rest → p.state ≡ end.state → Counts p.counted log → first_line rest ≡ Some (line, behind) → SpellsEntry line (length log + 1) entry → Answers (table_of rules) end.state entry.0 entry.1 q.state → q.counted ≡ counted_more p.counted entry.1 → IsReached bytes rules q behind
-more_entry rules p q bytes line rest behind entry log end follows state counts cut spells answers counted =
+more_entry : (rules : RuleSet) (p q : Position) (bytes line rest behind : List ℕ) (entry : Entry) (log : List Entry) (end : Moment) → Follows bytes rules log end rest → p.spent ≡ end.spent → Counts p.counted log → first_line rest ≡ Some (line, behind) → SpellsEntry line (length log + 1) entry → Answers (table_of rules) end.state end.spent entry.0 entry.1 q.state → q.spent ≡ spent_after p.spent entry.1 → q.counted ≡ counted_more p.counted entry.1 → IsReached bytes rules q behind
+more_entry rules p q bytes line rest behind entry log end follows spent counts cut spells answers spends counted =
     record {
       log = log ++ entry ∷ [];
       end = record { state = q.state; spent = spent_after end.spent entry.1 };
       follows = follows_more bytes line rest behind rules log end entry q.state follows cut spells answers;
       state = refl;
+      spent = spends ∙ ap (λ (n : ℕ). spent_after n entry.1) spent;
       counts = more_counts p.counted q.counted log entry counts counted;
     }
 
 pub reached_more : (rules : RuleSet) (p q : Position) (bytes line rest behind : List ℕ) → IsReached bytes rules p rest → first_line rest ≡ Some (line, behind) → GoodLine (table_of rules) line p q → IsReached bytes rules q behind
 reached_more rules p q bytes line rest behind r cut good =
     let spells = subst (λ (n : ℕ). SpellsEntry line (n + 1) good.entry) r.counts.entries good.spells in
-    let answers = subst (λ (s : State). Answers (table_of rules) s good.entry.0 good.entry.1 q.state) r.state good.answers in
-    more_entry rules p q bytes line rest behind good.entry r.log r.end r.follows r.state r.counts cut spells answers good.counted
+    let from = subst (λ (s : State). Answers (table_of rules) s p.spent good.entry.0 good.entry.1 q.state) r.state good.answers in
+    let answers = subst (λ (n : ℕ). Answers (table_of rules) r.end.state n good.entry.0 good.entry.1 q.state) r.spent from in
+    more_entry rules p q bytes line rest behind good.entry r.log r.end r.follows r.spent r.counts cut spells answers good.spends good.counted
 
 -- ---- the end, and damage
 
@@ -165,7 +168,8 @@ damaged_reply bytes line behind rules p rest number r next cut bad =
       number = next ∙ ap (λ (n : ℕ). n + 2) r.counts.entries;
       entry = bad.entry;
       comes = record { line = line; more = behind; is = cut; spells = subst (λ (n : ℕ). SpellsEntry line (n + 1) bad.entry) r.counts.entries bad.spells };
-      damage = λ s a. bad.never s (subst (λ (u : State). Answers (table_of rules) u bad.entry.0 bad.entry.1 s) (sym r.state) a);
+      damage = λ s a. bad.never s (subst (λ (u : State). Answers (table_of rules) u p.spent bad.entry.0 bad.entry.1 s) (sym r.state)
+          (subst (λ (n : ℕ). Answers (table_of rules) r.end.state n bad.entry.0 bad.entry.1 s) (sym r.spent) a));
     }
 
 -- what the check of a line finds is the damage of the bytes

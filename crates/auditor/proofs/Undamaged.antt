@@ -3,8 +3,8 @@ use Rattle.std.proofs.Common.{◌≡◌, ◌≢◌, ℕ, zero, suc, ◌+◌, ◌
 use Rattle.std.proofs.lemmas.List.{append-nil, length-append, nil_from_length}
 use Rattle.rule_machine.specs.declared.rules.RuleSet.{RuleSet}
 use Rattle.rule_machine.specs.State.{State}
-use Rattle.rule_machine.specs.Run.{Entry, Moment, beginning, spent_after}
-use Rattle.rule_machine.specs.Answer.{Answers}
+use Rattle.rule_machine.specs.Run.{Entry, Moment, beginning}
+use Rattle.rule_machine.specs.Answer.{Answers, spent_after}
 use Rattle.rule_machine.specs.Tables.{table_of}
 use Rattle.entry_grammar.specs.Spelling.{SpellsEntry}
 use Rattle.auditor.specs.declared.damage.Damage.{Damage}
@@ -53,7 +53,7 @@ no_other_number bytes line more rules log end rest number entry neither follows 
       damage = other;
     })
 
-no_other_reply : (bytes line more : List ℕ) (rules : RuleSet) (log : List Entry) (end : Moment) (rest : List ℕ) (entry : Entry) → Neither bytes → Follows bytes rules log end rest → first_line rest ≡ Some (line, more) → SpellsEntry line (length log + 1) entry → ((s : State) → Answers (table_of rules) end.state entry.0 entry.1 s → ⊥) → ⊥
+no_other_reply : (bytes line more : List ℕ) (rules : RuleSet) (log : List Entry) (end : Moment) (rest : List ℕ) (entry : Entry) → Neither bytes → Follows bytes rules log end rest → first_line rest ≡ Some (line, more) → SpellsEntry line (length log + 1) entry → ((s : State) → Answers (table_of rules) end.state end.spent entry.0 entry.1 s → ⊥) → ⊥
 no_other_reply bytes line more rules log end rest entry neither follows cut spells never =
     neither.undamaged (NotTheMachines (length log + 2)) (record {
       rules = rules;

@@ -28,4 +28,5 @@ pub record IsReached (bytes : List ℕ) (rules : RuleSet) (p : Position) (rest :
   pub end : Moment
   pub follows : Follows bytes rules log end rest
   pub state : p.state ≡ end.state
+  pub spent : p.spent ≡ end.spent
   pub counts : Counts p.counted log

@@ -87,7 +87,7 @@ pub record EndsNotTheMachines (bytes : List ℕ) (line : ℕ) : Type 0 where
   pub number : IsLineBehind line log
   pub entry : Entry
   pub comes : EntryComes rest (length log + 1) entry
-  pub damage : (s : State) → Answers (table_of rules) end.state entry.0 entry.1 s → ⊥
+  pub damage : (s : State) → Answers (table_of rules) end.state end.spent entry.0 entry.1 s → ⊥
 
 -- The bytes have this damage: what stands before the line is a transcript, and the line fails this check first.
 abbrev pub IsDamage : List ℕ → Damage → Type 0

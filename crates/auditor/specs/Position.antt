@@ -4,7 +4,7 @@ use Rattle.rule_machine.specs.declared.reply.Reply.{Reply}
 use Rattle.rule_machine.specs.State.{State, opening}
 use Rattle.rule_machine.specs.RuleTable.{RuleTable}
 use Rattle.rule_machine.specs.Run.{Entry}
-use Rattle.rule_machine.specs.Answer.{Answers}
+use Rattle.rule_machine.specs.Answer.{Answers, spent_after}
 use Rattle.entry_grammar.specs.Spelling.{SpellsEntry, max_entries}
 use Rattle.auditor.specs.declared.damage.Damage.TheVariants.{BadHeader, NotALine, OutOfOrder, NotTheMachines}
 use Rattle.auditor.specs.declared.damage.JudgeFault.{JudgeFault}
@@ -13,14 +13,15 @@ use Rattle.auditor.specs.declared.summary.Summary.{Summary}
 use Rattle.auditor.specs.Transcript.{disturbances_in, moves_in}
 use Rattle.auditor.specs.Damage.{SpellsNoEntry}
 
--- the state that the entries so far have led to, and what was counted in them
+-- the state that the entries so far have led to, the moves spent there, and what was counted in the entries
 pub record Position : Type 0 where
   pub state : State
+  pub spent : ℕ
   pub counted : Summary
 
 -- before any entry
 abbrev pub opening_position : ℕ → Position
-opening_position nodes = record { state = opening nodes; counted = record { entries = 0; epochs = 1; moves = 0 } }
+opening_position nodes = record { state = opening nodes; spent = 0; counted = record { entries = 0; epochs = 1; moves = 0 } }
 
 -- with one more entry
 abbrev pub counted_more : Summary → Reply → Summary
@@ -33,11 +34,17 @@ pub record IsCounted (c : Summary) : Type 0 where
   pub epochs : c.epochs ≤ c.entries + 1
   pub moves : c.moves ≤ c.entries * 65535
 
+-- what an audit keeps of them: no more moves are spent than were made
+pub record AreCounted (spent : ℕ) (c : Summary) : Type 0 where
+  pub counted : IsCounted c
+  pub made : spent ≤ c.moves
+
 -- the line is the next entry, the machine may give its reply, and it is counted
 pub record GoodLine (t : RuleTable) (line : List ℕ) (before after : Position) : Type 0 where
   pub entry : Entry
   pub spells : SpellsEntry line (before.counted.entries + 1) entry
-  pub answers : Answers t before.state entry.0 entry.1 after.state
+  pub answers : Answers t before.state before.spent entry.0 entry.1 after.state
+  pub spends : after.spent ≡ spent_after before.spent entry.1
   pub counted : after.counted ≡ counted_more before.counted entry.1
 
 -- the line is an entry with another number
@@ -51,7 +58,7 @@ pub record BadNumber (line : List ℕ) (before : Position) : Type 0 where
 pub record BadReply (t : RuleTable) (line : List ℕ) (before : Position) : Type 0 where
   pub entry : Entry
   pub spells : SpellsEntry line (before.counted.entries + 1) entry
-  pub never : (s : State) → Answers t before.state entry.0 entry.1 s → ⊥
+  pub never : (s : State) → Answers t before.state before.spent entry.0 entry.1 s → ⊥
 
 -- line 1 is the header, so the next line has a number two above that of the entries
 abbrev pub IsNext : ℕ → Position → Type 0

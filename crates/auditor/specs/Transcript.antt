@@ -2,7 +2,7 @@
 use Rattle.std.specs.Prelude.{◌≡◌, ℕ, ◌+◌, ◌≤◌, List, [], ◌∷◌, ◌++◌, length, sum_by, IsTrue}
 use Rattle.std.specs.List.{AllByRecursion}
 use Rattle.rule_machine.specs.declared.reply.Reply.{Reply}
-use Rattle.rule_machine.specs.declared.reply.Reply.TheVariants.{Accepted, Refused, Moves, Shown, EnabledAre, Pairs}
+use Rattle.rule_machine.specs.declared.reply.Reply.TheVariants.{Accepted, Refused, Moves, Shown, EnabledAre, Pairs, Counts}
 use Rattle.rule_machine.specs.declared.rules.RuleSet.{RuleSet}
 use Rattle.rule_machine.specs.Run.{Entry, Moment, Run, beginning}
 use Rattle.rule_machine.specs.Tables.{table_of}
@@ -42,6 +42,7 @@ disturbances_in (Moves moves) = 0
 disturbances_in (Shown target) = 0
 disturbances_in (EnabledAre nodes) = 0
 disturbances_in (Pairs pairs) = 0
+disturbances_in (Counts counts) = 0
 
 -- how many moves it says were made
 abbrev pub moves_in : Reply → ℕ
@@ -51,6 +52,7 @@ moves_in (Moves moves) = length moves
 moves_in (Shown target) = 0
 moves_in (EnabledAre nodes) = 0
 moves_in (Pairs pairs) = 0
+moves_in (Counts counts) = 0
 
 -- one epoch at the start, and one from each disturbance on
 abbrev pub epoch_count : List Entry → ℕ

@@ -4,6 +4,7 @@ ghost use Rattle.std.specs.Prelude.{◌≡◌, ◌≤◌, IfOk};
 ghost use Rattle.rule_machine.specs.Tables.{table_of};
 ghost use Rattle.auditor.specs.Position.{opening_position, IsNext, LineJudged};
 
+use crate::summary::spent_after;
 use crate::{Damage, JudgeFault, Summary};
 use entry_grammar::{EntryFault, read_entry};
 use judge::Judge;
@@ -11,25 +12,27 @@ use rule_machine::{RuleSet, Want};
 use std::alloc::Global;
 use std::marker::Model;
 
-/// How far an audit has come: the judge in the state to which the entries so far have led, and what was counted.
+/// How far an audit has come: the judge in the state to which the entries so far have led, the moves since the last
+/// accepted disturbance, and what was counted.
 #[derive(Drop)]
 pub(crate) struct Audit {
     judge: Judge,
+    spent: u64,
     counted: Summary,
 }
 
 impl Model for Audit {
     ghost use Rattle.std.specs.Coded.{codes};
     ghost use Rattle.rule_machine.specs.State.{state_code};
-    ghost use Rattle.auditor.specs.Position.{Position, IsCounted};
+    ghost use Rattle.auditor.specs.Position.{Position, AreCounted};
 
     ghost Value = { Position };
 
     ghost coded = { Prim.hlevel (codes, state_code) };
 
-    ghost view = { λ a. record { state = a.judge; counted = a.counted } };
+    ghost view = { λ a. record { state = a.judge; spent = a.spent; counted = a.counted } };
 
-    ghost invariant = { λ a. IsCounted a.counted };
+    ghost invariant = { λ a. AreCounted a.spent a.counted };
 }
 
 impl Audit {
@@ -40,6 +43,7 @@ impl Audit {
     {
         Ok(Audit {
             judge: Judge::new(alloc, nodes)?,
+            spent: 0,
             counted: Summary {
                 entries: 0,
                 epochs: 1,
@@ -82,12 +86,16 @@ impl Audit {
         if seq != self.counted.entries + 1 {
             return Err(JudgeFault::Damaged(Damage::OutOfOrder { line: number }));
         }
-        let Ok(right) = self.judge.replay(rules, entry.event(), entry.reply()) else {
+        let judged = self
+            .judge
+            .replay(rules, self.spent, entry.event(), entry.reply());
+        let Ok(right) = judged else {
             return Err(JudgeFault::Memory);
         };
         if !right {
             return Err(JudgeFault::Damaged(Damage::NotTheMachines { line: number }));
         }
+        self.spent = spent_after(self.spent, entry.reply());
         self.counted = self.counted.with_reply(entry.reply());
         Ok(())
     }

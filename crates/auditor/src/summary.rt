@@ -1,6 +1,7 @@
 //! What an audit counts.
 
 ghost use Rattle.std.specs.Prelude.{◌≡◌, ◌<◌, ◌≤◌};
+ghost use Rattle.rule_machine.specs.Answer as answer;
 ghost use Rattle.auditor.specs.Transcript.{disturbances_in, moves_in};
 ghost use Rattle.auditor.specs.Position.{counted_more, IsCounted};
 
@@ -52,5 +53,18 @@ fn moves_in(reply: &Reply) -> usize
     match reply {
         Reply::Moves(moves) => moves.as_slice().len(),
         _ => 0,
+    }
+}
+
+/// The moves since the last accepted disturbance, after a reply.
+pub(crate) fn spent_after(spent: u64, reply: &Reply) -> u64
+    requires room { spent ≤ 1099494850560 }
+    requires few { moves_in reply.now ≤ 65535 }
+    ensures { result ≡ answer.spent_after spent reply.now }
+{
+    match reply {
+        Reply::Accepted => 0,
+        Reply::Moves(moves) => spent + moves.as_slice().len() as u64,
+        _ => spent,
     }
 }

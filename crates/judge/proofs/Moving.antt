@@ -8,7 +8,7 @@ use Rattle.rule_machine.specs.declared.act.Act.TheVariants.{Update, Marry, Seduc
 use Rattle.rule_machine.specs.declared.choice.Item.{Item}
 use Rattle.rule_machine.specs.declared.moved.Moved.{Moved}
 use Rattle.rule_machine.specs.declared.event.Event.{Event}
-use Rattle.rule_machine.specs.declared.event.Event.TheVariants.{Link, Unlink, Point, Flag, Step, Show, Enabled, Matching}
+use Rattle.rule_machine.specs.declared.event.Event.TheVariants.{Link, Unlink, Point, Flag, Step, Show, Enabled, Matching, Status}
 use Rattle.rule_machine.specs.declared.reply.Reply.{Reply}
 use Rattle.rule_machine.specs.declared.reply.Reply.TheVariants.{Moves}
 use Rattle.rule_machine.specs.declared.rules.RuleSet.{RuleSet}
@@ -54,17 +54,18 @@ step_in : (rules : RuleSet) (s : State) (items : List Item) (moves : List Moved)
 step_in rules s items moves s' none step =
     All-weaker (λ m. Any (λ item. IsMoveOf (table_of rules) s item m) items) (IsMoveIn s.network) (asked_in rules s items (choice_from_none (table_of rules) s items none)) moves step.each
 
-does_in : (rules : RuleSet) (s : State) (event : Event) (moves : List Moved) (s' : State) → refusal_of (table_of rules) s event ≡ None → Does (table_of rules) s event (Moves moves) s' → All (IsMoveIn s.network) moves
-does_in rules s (Step items) moves s' none does = step_in rules s items moves s' none does
-does_in rules s (Link a b) moves s' none does = absurd does
-does_in rules s (Unlink a b) moves s' none does = absurd does
-does_in rules s (Point v target) moves s' none does = absurd does
-does_in rules s (Flag v value) moves s' none does = absurd does
-does_in rules s (Show v) moves s' none does = absurd does
-does_in rules s Enabled moves s' none does = absurd does
-does_in rules s Matching moves s' none does = absurd does
+does_in : (rules : RuleSet) (s : State) (n : ℕ) (event : Event) (moves : List Moved) (s' : State) → refusal_of (table_of rules) s event ≡ None → Does (table_of rules) s n event (Moves moves) s' → All (IsMoveIn s.network) moves
+does_in rules s n (Step items) moves s' none does = step_in rules s items moves s' none does
+does_in rules s n (Link a b) moves s' none does = absurd does
+does_in rules s n (Unlink a b) moves s' none does = absurd does
+does_in rules s n (Point v target) moves s' none does = absurd does
+does_in rules s n (Flag v value) moves s' none does = absurd does
+does_in rules s n (Show v) moves s' none does = absurd does
+does_in rules s n Enabled moves s' none does = absurd does
+does_in rules s n Matching moves s' none does = absurd does
+does_in rules s n Status moves s' none does = absurd does
 
 -- a reply of moves that the machine may give has moves in the network
-pub reply_in : (rules : RuleSet) (s : State) (event : Event) (reply : Reply) (moves : List Moved) (s' : State) → reply ≡ Moves moves → refusal_of (table_of rules) s event ≡ None → Does (table_of rules) s event reply s' → All (IsMoveIn s.network) moves
-reply_in rules s event reply moves s' is none does =
-    does_in rules s event moves s' none (subst (λ r. Does (table_of rules) s event r s') is does)
+pub reply_in : (rules : RuleSet) (s : State) (n : ℕ) (event : Event) (reply : Reply) (moves : List Moved) (s' : State) → reply ≡ Moves moves → refusal_of (table_of rules) s event ≡ None → Does (table_of rules) s n event reply s' → All (IsMoveIn s.network) moves
+reply_in rules s n event reply moves s' is none does =
+    does_in rules s n event moves s' none (subst (λ r. Does (table_of rules) s n event r s') is does)

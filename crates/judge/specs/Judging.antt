@@ -1,13 +1,15 @@
 -- What a judge says of an event and its reply beside whether it is right.
-use Rattle.std.specs.Prelude.{◌≡◌, Bool, true, false, List, [], None, IsTrue}
+use Rattle.std.specs.Prelude.{◌≡◌, ℕ, ◌+◌, Bool, true, false, ◌&&◌, List, [], length, Option, None, IsTrue, nat_eq}
 use Rattle.rule_machine.specs.declared.choice.Item.{Item}
+use Rattle.rule_machine.specs.declared.counts.Counts.{Counts}
 use Rattle.rule_machine.specs.declared.event.Event.{Event}
-use Rattle.rule_machine.specs.declared.event.Event.TheVariants.{Link, Unlink, Point, Flag, Step, Show, Enabled, Matching}
+use Rattle.rule_machine.specs.declared.event.Event.TheVariants.{Link, Unlink, Point, Flag, Step, Show, Enabled, Matching, Status}
 use Rattle.rule_machine.specs.declared.reply.Reply.{Reply}
 use Rattle.rule_machine.specs.declared.reply.Reply.TheVariants.{Accepted}
 use Rattle.rule_machine.specs.State.{State}
 use Rattle.rule_machine.specs.RuleTable.{RuleTable}
 use Rattle.rule_machine.specs.Refuse.{refusal_of}
+use Rattle.judge.specs.Choices.{IsReady}
 
 abbrev pub is_link : Event → Bool
 is_link (Link a b) = true
@@ -18,6 +20,7 @@ is_link (Step items) = false
 is_link (Show v) = false
 is_link Enabled = false
 is_link Matching = false
+is_link Status = false
 
 -- a link that is not refused, and a reply that accepts it
 pub record TakesMemory (t : RuleTable) (s : State) (event : Event) (reply : Reply) : Type 0 where
@@ -35,3 +38,14 @@ items_of (Step items) = items
 items_of (Show v) = []
 items_of Enabled = []
 items_of Matching = []
+items_of Status = []
+
+-- whether two replies to a status are one
+abbrev pub same_counts : Counts → Counts → Bool
+same_counts c d =
+    nat_eq c.nodes d.nodes && nat_eq c.edges d.edges && nat_eq c.spent d.spent && nat_eq c.pairs d.pairs && nat_eq c.enabled d.enabled && nat_eq c.charge d.charge
+
+-- the tables of these many names are between two events
+pub record AreReady (size : ℕ) (items : List (Option Item)) (marks : List Bool) : Type 0 where
+  pub chosen : IsReady size items
+  pub courted : length marks ≡ size + 1

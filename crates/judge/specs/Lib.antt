@@ -1,3 +1,5 @@
 pub mod States
 pub mod Choices
+pub mod Courting
+pub mod Charging
 pub mod Judging

@@ -1,6 +1,6 @@
 //! The judgement of a reply, and what it does.
 
-ghost use Rattle.std.specs.Prelude.{◌≡◌, ◌+◌, ◌↔◌, None, false, IsTrue, IfOk, OnOk, OnErr, length};
+ghost use Rattle.std.specs.Prelude.{◌≡◌, ◌+◌, ◌↔◌, ℕ, None, false, IsTrue, IfOk, OnOk, OnErr, length};
 ghost use Rattle.rule_machine.specs.Answer.{Answers, Does};
 ghost use Rattle.rule_machine.specs.Refuse.{refusal_of};
 ghost use Rattle.rule_machine.specs.RuleTable.{RuleTable};
@@ -11,31 +11,35 @@ ghost use Rattle.judge.specs.Choices.{Holds, IsWithin, IsReady};
 ghost use Rattle.judge.specs.Judging.{TakesMemory, is_link, items_of};
 
 use crate::replies::{is_accepted, is_refusal, is_shown};
-use crate::{Chosen, NetState};
+use crate::{Chosen, Courted, NetState};
 use rule_machine::{Event, Item, Refusal, Reply, RuleSet, Want};
 
 impl NetState {
-    /// Whether the machine may give this reply to the event; where it may, the event is carried out as the reply says.
-    /// Items of a step may stand at their nodes then.
+    /// Whether the machine may give this reply to the event, where these moves are spent; where it may, the event is
+    /// carried out as the reply says. Items of a step may stand at their nodes then.
     pub(crate) fn judge(
         &mut self,
         rules: RuleSet,
+        spent: u64,
         event: &Event,
         reply: &Reply,
         chosen: &mut Chosen,
+        courted: &mut Courted,
     ) -> Result<bool, Want>
-        requires { IsReady self.old.network.size chosen.old }
-        ensures right { IfOk result (λ right. IsTrue right → Answers (table_of rules) self.old event.now reply.now self.new) }
-        ensures wrong { IfOk result (λ right. right ≡ false → ((s : State) → Answers (table_of rules) self.old event.now reply.now s → ⊥) × (self.new ≡ self.old)) }
+        requires chosen { IsReady self.old.network.size chosen.old }
+        requires courted { length courted.old ≡ self.old.network.size + 1 }
+        ensures right { IfOk result (λ right. IsTrue right → Answers (table_of rules) self.old spent event.now reply.now self.new) }
+        ensures wrong { IfOk result (λ right. right ≡ false → ((s : State) → Answers (table_of rules) self.old spent event.now reply.now s → ⊥) × (self.new ≡ self.old)) }
         ensures err { OnErr result (self.new ≡ self.old) }
         ensures want { OnErr result (TakesMemory (table_of rules) self.old event.now reply.now) }
         ensures size { self.new.network.size ≡ self.old.network.size }
         ensures within { IsWithin chosen.new (items_of event.now) }
         ensures len { length chosen.new ≡ length chosen.old }
+        ensures courted { length courted.new ≡ length courted.old }
     {
         match self.refusal(rules, event, chosen) {
             Some(refusal) => Ok(is_refusal(reply, refusal)),
-            None => self.judge_accepted(rules, event, reply, chosen),
+            None => self.judge_accepted(rules, spent, event, reply, chosen, courted),
         }
     }
 
@@ -54,7 +58,7 @@ impl NetState {
             Event::Flag(v, _) => self.flag_refusal(rules, *v),
             Event::Step(choice) => self.step_refusal(rules, choice.items(), chosen),
             Event::Show(v) => self.show_refusal(*v),
-            Event::Enabled | Event::Matching => None,
+            Event::Enabled | Event::Matching | Event::Status => None,
         }
     }
 
@@ -62,21 +66,25 @@ impl NetState {
     fn judge_accepted(
         &mut self,
         rules: RuleSet,
+        spent: u64,
         event: &Event,
         reply: &Reply,
         chosen: &mut Chosen,
+        courted: &mut Courted,
     ) -> Result<bool, Want>
         requires accepted { refusal_of (table_of rules) self.old event.now ≡ None }
         requires held { Holds chosen.old (items_of event.now) }
-        ensures right { IfOk result (λ right. IsTrue right → Does (table_of rules) self.old event.now reply.now self.new) }
-        ensures wrong { IfOk result (λ right. right ≡ false → ((s : State) → Does (table_of rules) self.old event.now reply.now s → ⊥) × (self.new ≡ self.old)) }
+        requires courted { length courted.old ≡ self.old.network.size + 1 }
+        ensures right { IfOk result (λ right. IsTrue right → Does (table_of rules) self.old spent event.now reply.now self.new) }
+        ensures wrong { IfOk result (λ right. right ≡ false → ((s : State) → Does (table_of rules) self.old spent event.now reply.now s → ⊥) × (self.new ≡ self.old)) }
         ensures err { OnErr result (self.new ≡ self.old) }
         ensures want { OnErr result (IsTrue (is_link event.now) × (reply.now ≡ Reply.Accepted)) }
         ensures size { self.new.network.size ≡ self.old.network.size }
         ensures within { IsWithin chosen.new (items_of event.now) }
         ensures len { length chosen.new ≡ length chosen.old }
+        ensures courted { length courted.new ≡ length courted.old }
     {
-        if !self.may_accept(rules, event, reply, chosen) {
+        if !self.may_accept(rules, spent, event, reply, chosen, courted) {
             return Ok(false);
         }
         self.follow(rules, event, reply)?;
@@ -84,12 +92,22 @@ impl NetState {
     }
 
     /// Whether an event that is not refused may have this reply.
-    fn may_accept(&self, rules: RuleSet, event: &Event, reply: &Reply, chosen: &mut Chosen) -> bool
+    fn may_accept(
+        &self,
+        rules: RuleSet,
+        spent: u64,
+        event: &Event,
+        reply: &Reply,
+        chosen: &mut Chosen,
+        courted: &mut Courted,
+    ) -> bool
         requires accepted { refusal_of (table_of rules) self.now event.now ≡ None }
         requires held { Holds chosen.old (items_of event.now) }
-        ensures value { IsTrue result ↔ Does (table_of rules) self.now event.now reply.now (followed self.now event.now reply.now) }
+        requires courted { length courted.old ≡ self.now.network.size + 1 }
+        ensures value { IsTrue result ↔ Does (table_of rules) self.now spent event.now reply.now (followed self.now event.now reply.now) }
         ensures within { IsWithin chosen.new (items_of event.now) }
         ensures len { length chosen.new ≡ length chosen.old }
+        ensures courted { length courted.new ≡ length courted.old }
     {
         match event {
             Event::Link(_, _) | Event::Unlink(_, _) | Event::Point(_, _) | Event::Flag(_, _) => {
@@ -99,6 +117,7 @@ impl NetState {
             Event::Show(v) => is_shown(self.pointer(*v), reply),
             Event::Enabled => self.are_enabled(rules, reply),
             Event::Matching => self.are_mutual(reply),
+            Event::Status => self.has_counts(rules, spent, reply, courted),
         }
     }
 
@@ -106,7 +125,7 @@ impl NetState {
     fn may_move(&self, rules: RuleSet, items: &[Item], reply: &Reply, chosen: &mut Chosen) -> bool
         requires accepted { refusal_of (table_of rules) self.now (Event.Step items.now) ≡ None }
         requires held { Holds chosen.old items.now }
-        ensures value { IsTrue result ↔ Does (table_of rules) self.now (Event.Step items.now) reply.now (followed self.now (Event.Step items.now) reply.now) }
+        ensures value { (spent : ℕ) → IsTrue result ↔ Does (table_of rules) self.now spent (Event.Step items.now) reply.now (followed self.now (Event.Step items.now) reply.now) }
         ensures within { IsWithin chosen.new items.now }
         ensures len { length chosen.new ≡ length chosen.old }
     {
@@ -119,7 +138,7 @@ impl NetState {
     /// Carries out an event as a reply says that the machine may give.
     fn follow(&mut self, rules: RuleSet, event: &Event, reply: &Reply) -> Result<(), Want>
         requires accepted { refusal_of (table_of rules) self.old event.now ≡ None }
-        requires right { Does (table_of rules) self.old event.now reply.now (followed self.old event.now reply.now) }
+        requires right { (spent : ℕ) × Does (table_of rules) self.old spent event.now reply.now (followed self.old event.now reply.now) }
         ensures ok { OnOk result (self.new ≡ followed self.old event.now reply.now) }
         ensures err { OnErr result (self.new ≡ self.old) }
         ensures want { OnErr result (IsTrue (is_link event.now) × (reply.now ≡ Reply.Accepted)) }
@@ -144,7 +163,7 @@ impl NetState {
             Event::Unlink(a, b) => self.unlink(*a, *b),
             Event::Point(v, target) => self.point(*v, *target),
             Event::Flag(v, value) => self.set_flag(*v, *value),
-            Event::Step(_) | Event::Show(_) | Event::Enabled | Event::Matching => {}
+            Event::Step(_) | Event::Show(_) | Event::Enabled | Event::Matching | Event::Status => {}
         }
         Ok(())
     }

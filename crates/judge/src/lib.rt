@@ -1,7 +1,9 @@
 //! A judge of replies: whether the rule machine may give one, found by looks at the nodes that its event is about.
 #![tactic(auto)]
 
+mod charge;
 mod choices;
+mod courted;
 mod guards;
 mod judging;
 mod moves;
@@ -11,9 +13,11 @@ mod refusals;
 mod replay;
 mod replies;
 mod scans;
+mod status;
 mod steps;
 mod targets;
 
 use choices::Chosen;
+use courted::Courted;
 use net_state::NetState;
 pub use replay::Judge;

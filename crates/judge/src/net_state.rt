@@ -53,6 +53,7 @@ impl NetState {
     pub(crate) fn nodes(&self) -> u32
         ensures count { result ≡ network.node_count self.now.network }
         ensures few { result ≤ 65535 }
+        ensures sound { state.IsState self.now }
     {
         self.store.nodes()
     }
@@ -82,7 +83,8 @@ impl NetState {
     /// A node's neighbours, ascending.
     pub(crate) fn neighbours(&self, v: Node) -> &[Node]
         requires { IsTrue (network.present self.now.network v) }
-        ensures { result.now ≡ network.neighbours self.now.network v }
+        ensures all { result.now ≡ network.neighbours self.now.network v }
+        ensures present { All (λ w. IsTrue (network.present self.now.network w)) result.now }
     {
         self.store.neighbours(v)
     }

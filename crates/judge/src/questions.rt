@@ -46,7 +46,7 @@ impl NetState {
     }
 
     /// The mutual pair of which a node is the lower end.
-    fn pair_at(&self, v: Node) -> Option<Edge>
+    pub(crate) fn pair_at(&self, v: Node) -> Option<Edge>
         requires { IsTrue (present self.now.network v) }
         ensures { result ≡ pair_above v (state.partner self.now v) }
     {

@@ -6,24 +6,25 @@ ghost use Rattle.rule_machine.specs.State.{State, opening};
 ghost use Rattle.rule_machine.specs.Tables.{table_of};
 ghost use Rattle.judge.specs.Judging.{TakesMemory};
 
-use crate::{Chosen, NetState};
+use crate::{Chosen, Courted, NetState};
 use rule_machine::{Event, Reply, RuleSet, Want};
 use std::alloc::Global;
 use std::marker::Model;
 
-/// A network that judges replies, seen in contracts as a state. Guards and targets are found anew at each event from the
-/// neighbour lists and the registers; only the places of a choice's items are kept beside them, and are clear between
-/// two calls.
+/// A network that judges replies, seen in contracts as a state. Guards, targets and numbers are found anew at each event
+/// from the neighbour lists and the registers; beside them there are only the places of a choice's items, which are clear
+/// between two calls, and those of the marks that a status makes anew.
 #[derive(Drop)]
 pub struct Judge {
     net: NetState,
     chosen: Chosen,
+    courted: Courted,
 }
 
 impl Model for Judge {
     ghost use Rattle.std.specs.Prelude.{◌≡◌, ◌+◌, length};
     ghost use Rattle.rule_machine.specs.State.{State, state_code};
-    ghost use Rattle.judge.specs.Choices.{IsReady};
+    ghost use Rattle.judge.specs.Judging.{AreReady};
 
     ghost Value = { State };
 
@@ -31,7 +32,7 @@ impl Model for Judge {
 
     ghost view = { λ j. j.net };
 
-    ghost invariant = { λ j. IsReady j.net.network.size j.chosen };
+    ghost invariant = { λ j. AreReady j.net.network.size j.chosen j.courted };
 }
 
 impl Judge {
@@ -43,20 +44,39 @@ impl Judge {
     {
         let net = NetState::new(alloc, nodes)?;
         let chosen = Chosen::new(alloc, nodes)?;
-        Ok(Judge { net, chosen })
+        let courted = Courted::new(alloc, nodes)?;
+        Ok(Judge {
+            net,
+            chosen,
+            courted,
+        })
     }
 
-    /// Whether the machine may give this reply to the event; where it may, the event is carried out as the reply says.
-    /// Where no target is wished, any allowed one is right. A wrong reply changes nothing, and neither does want of
-    /// memory, which comes only where a link is rightly accepted. A disturbance and a `Show` cost look-ups, a step looks
-    /// at the neighbours of its nodes, `Enabled` at all edges and `Matching` at all nodes.
-    pub fn replay(&mut self, rules: RuleSet, event: &Event, reply: &Reply) -> Result<bool, Want>
-        ensures right { IfOk result (λ right. IsTrue right → Answers (table_of rules) self.old event.now reply.now self.new) }
-        ensures wrong { IfOk result (λ right. right ≡ false → ((s : State) → Answers (table_of rules) self.old event.now reply.now s → ⊥) × (self.new ≡ self.old)) }
+    /// Whether the machine may give this reply to the event, where these moves are spent since the last accepted
+    /// disturbance; where it may, the event is carried out as the reply says. Where no target is wished, any allowed one
+    /// is right. A wrong reply changes nothing, and neither does want of memory, which comes only where a link is rightly
+    /// accepted. A disturbance and a `Show` cost look-ups, a step looks at the neighbours of its nodes, `Enabled` and
+    /// `Status` at all edges and `Matching` at all nodes.
+    pub fn replay(
+        &mut self,
+        rules: RuleSet,
+        spent: u64,
+        event: &Event,
+        reply: &Reply,
+    ) -> Result<bool, Want>
+        ensures right { IfOk result (λ right. IsTrue right → Answers (table_of rules) self.old spent event.now reply.now self.new) }
+        ensures wrong { IfOk result (λ right. right ≡ false → ((s : State) → Answers (table_of rules) self.old spent event.now reply.now s → ⊥) × (self.new ≡ self.old)) }
         ensures err { OnErr result (self.new ≡ self.old) }
         ensures want { OnErr result (TakesMemory (table_of rules) self.old event.now reply.now) }
     {
-        let right = self.net.judge(rules, event, reply, &mut self.chosen);
+        let right = self.net.judge(
+            rules,
+            spent,
+            event,
+            reply,
+            &mut self.chosen,
+            &mut self.courted,
+        );
         if let Event::Step(choice) = event {
             self.chosen.clear(choice.items());
         }

@@ -15,25 +15,27 @@ use plain_machine::PlainNet;
 use rule_machine::{Event, Reply, RuleSet, Want};
 use std::alloc::Global;
 
-/// Whether the machine may give this reply to the event; where it may, the event is carried out as the reply says.
-/// Where no target is wished, any allowed one is right. A wrong reply changes nothing, and neither does want of
-/// memory, which comes only at an event that is not refused, where the reply accepts a link, has moves or is a list. A
-/// step of k moves takes some k·k comparisons of nodes, and n·m steps for each move, with n nodes and m edges.
+/// Whether the machine may give this reply to the event, where these moves are spent since the last accepted
+/// disturbance; where it may, the event is carried out as the reply says. Where no target is wished, any allowed one is
+/// right. A wrong reply changes nothing, and neither does want of memory, which comes only at an event that is not
+/// refused, where the reply accepts a link, has moves or is a list. A step of k moves takes some k·k comparisons of
+/// nodes, and n·m steps for each move, with n nodes and m edges.
 pub fn replay(
     net: &mut PlainNet,
     alloc: Global,
     rules: RuleSet,
+    spent: u64,
     event: &Event,
     reply: &Reply,
 ) -> Result<bool, Want>
-    ensures right { IfOk result (λ right. IsTrue right → Answers (table_of rules) net.old event.now reply.now net.new) }
-    ensures wrong { IfOk result (λ right. right ≡ false → ((s : State) → Answers (table_of rules) net.old event.now reply.now s → ⊥) × (net.new ≡ net.old)) }
+    ensures right { IfOk result (λ right. IsTrue right → Answers (table_of rules) net.old spent event.now reply.now net.new) }
+    ensures wrong { IfOk result (λ right. right ≡ false → ((s : State) → Answers (table_of rules) net.old spent event.now reply.now s → ⊥) × (net.new ≡ net.old)) }
     ensures err { OnErr result (net.new ≡ net.old) }
     ensures want { OnErr result (TakesMemory (table_of rules) net.old event.now reply.now) }
 {
     match net.refusal(rules, event) {
         Some(refusal) => Ok(is_refusal(reply, refusal)),
-        None => replay_accepted(net, alloc, rules, event, reply),
+        None => replay_accepted(net, alloc, rules, spent, event, reply),
     }
 }
 
@@ -42,16 +44,17 @@ fn replay_accepted(
     net: &mut PlainNet,
     alloc: Global,
     rules: RuleSet,
+    spent: u64,
     event: &Event,
     reply: &Reply,
 ) -> Result<bool, Want>
     requires { refusal_of (table_of rules) net.old event.now ≡ None }
-    ensures right { IfOk result (λ right. IsTrue right → Does (table_of rules) net.old event.now reply.now net.new) }
-    ensures wrong { IfOk result (λ right. right ≡ false → ((s : State) → Does (table_of rules) net.old event.now reply.now s → ⊥) × (net.new ≡ net.old)) }
+    ensures right { IfOk result (λ right. IsTrue right → Does (table_of rules) net.old spent event.now reply.now net.new) }
+    ensures wrong { IfOk result (λ right. right ≡ false → ((s : State) → Does (table_of rules) net.old spent event.now reply.now s → ⊥) × (net.new ≡ net.old)) }
     ensures err { OnErr result (net.new ≡ net.old) }
     ensures want { OnErr result (IsTrue (takes_memory event.now reply.now)) }
 {
-    if !may_accept(net, alloc, rules, event, reply)? {
+    if !may_accept(net, alloc, rules, spent, event, reply)? {
         return Ok(false);
     }
     follow(net, alloc, event, reply)?;
@@ -84,7 +87,7 @@ fn disturb(net: &mut PlainNet, event: &Event) -> Result<(), Want>
         Event::Unlink(a, b) => net.unlink(*a, *b),
         Event::Point(v, target) => net.point(*v, *target),
         Event::Flag(v, value) => net.set_flag(*v, *value),
-        Event::Step(_) | Event::Show(_) | Event::Enabled | Event::Matching => {}
+        Event::Step(_) | Event::Show(_) | Event::Enabled | Event::Matching | Event::Status => {}
     }
     Ok(())
 }

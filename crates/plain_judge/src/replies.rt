@@ -1,7 +1,7 @@
 //! Whether the machine may give a reply.
 
-ghost use Rattle.std.specs.Prelude.{◌≡◌, ◌↔◌, IsTrue, IfOk, OnErr};
-ghost use Rattle.rule_machine.specs.Answer.{Does};
+ghost use Rattle.std.specs.Prelude.{◌≡◌, ◌↔◌, ℕ, IsTrue, IfOk, OnErr};
+ghost use Rattle.rule_machine.specs.Answer.{Does, counts_of};
 ghost use Rattle.rule_machine.specs.RuleTable.{enabled};
 ghost use Rattle.rule_machine.specs.Stable.{mutual_pairs};
 ghost use Rattle.rule_machine.specs.Step.{IsStep, after_moves};
@@ -19,10 +19,11 @@ pub(crate) fn may_accept(
     net: &PlainNet,
     alloc: Global,
     rules: RuleSet,
+    spent: u64,
     event: &Event,
     reply: &Reply,
 ) -> Result<bool, Want>
-    ensures right { IfOk result (λ right. IsTrue right ↔ Does (table_of rules) net.now event.now reply.now (followed net.now event.now reply.now)) }
+    ensures right { IfOk result (λ right. IsTrue right ↔ Does (table_of rules) net.now spent event.now reply.now (followed net.now event.now reply.now)) }
     ensures want { OnErr result (IsTrue (takes_memory event.now reply.now)) }
 {
     match event {
@@ -33,12 +34,13 @@ pub(crate) fn may_accept(
         Event::Show(v) => Ok(is_shown(net.pointer(*v), reply)),
         Event::Enabled => are_enabled(net, alloc, rules, reply),
         Event::Matching => are_mutual(net, alloc, reply),
+        Event::Status => Ok(has_counts(net, rules, spent, reply)),
     }
 }
 
 /// Whether a reply has the moves of a step of these items.
 fn may_move(net: &PlainNet, rules: RuleSet, items: &[Item], reply: &Reply) -> bool
-    ensures { IsTrue result ↔ Does (table_of rules) net.now (Event.Step items.now) reply.now (followed net.now (Event.Step items.now) reply.now) }
+    ensures { (spent : ℕ) → IsTrue result ↔ Does (table_of rules) net.now spent (Event.Step items.now) reply.now (followed net.now (Event.Step items.now) reply.now) }
 {
     match reply {
         Reply::Moves(moves) => is_step(net, rules, items, moves.as_slice()),
@@ -71,6 +73,18 @@ fn are_mutual(net: &PlainNet, alloc: Global, reply: &Reply) -> Result<bool, Want
             Ok(same_pairs(given.as_slice(), &pairs))
         }
         _ => Ok(false),
+    }
+}
+
+/// Whether a reply has the numbers of the network, where these moves are spent.
+fn has_counts(net: &PlainNet, rules: RuleSet, spent: u64, reply: &Reply) -> bool
+    ensures { IsTrue result ↔ (reply.now ≡ Reply.Counts (counts_of (table_of rules) net.now spent)) }
+{
+    match reply {
+        Reply::Counts(given) => {
+            u64::from(given.spent) == spent && *given == net.counts(rules, given.spent)
+        }
+        _ => false,
     }
 }
 

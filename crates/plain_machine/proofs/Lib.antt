@@ -1,2 +1,3 @@
 pub mod PairSets
 pub mod Names
+mod Counted

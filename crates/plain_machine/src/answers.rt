@@ -10,24 +10,36 @@ use rule_machine::{Event, Listing, Reply, RuleSet, Want};
 use std::alloc::Global;
 
 impl PlainNet {
-    /// Answers an event, in which each free target is the least allowed one. An event that is refused changes nothing,
-    /// and neither does one that fails for want of memory. A step takes some n·n·m steps for each chosen node, with n
-    /// nodes and m edges.
-    pub fn answer(&mut self, alloc: Global, rules: RuleSet, event: &Event) -> Result<Reply, Want>
-        ensures ok { IfOk result (λ reply. reply ≡ reply_of (table_of rules) self.old event.now) }
+    /// Answers an event, in which each free target is the least allowed one, where these moves are spent since the last
+    /// accepted disturbance. An event that is refused changes nothing, and neither does one that fails for want of
+    /// memory. A step takes some n·n·m steps for each chosen node, with n nodes and m edges, and `Status` n·m·m.
+    pub fn answer(
+        &mut self,
+        alloc: Global,
+        rules: RuleSet,
+        spent: u32,
+        event: &Event,
+    ) -> Result<Reply, Want>
+        ensures ok { IfOk result (λ reply. reply ≡ reply_of (table_of rules) self.old spent event.now) }
         ensures after { OnOk result (self.new ≡ state_after (table_of rules) self.old event.now) }
         ensures err { OnErr result (self.new ≡ self.old) }
     {
         match self.refusal(rules, event) {
             Some(refusal) => Ok(Reply::Refused(refusal)),
-            None => self.accept(alloc, rules, event),
+            None => self.accept(alloc, rules, spent, event),
         }
     }
 
     /// Answers an event that is not refused.
-    fn accept(&mut self, alloc: Global, rules: RuleSet, event: &Event) -> Result<Reply, Want>
+    fn accept(
+        &mut self,
+        alloc: Global,
+        rules: RuleSet,
+        spent: u32,
+        event: &Event,
+    ) -> Result<Reply, Want>
         requires { refusal_of (table_of rules) self.old event.now ≡ None }
-        ensures ok { IfOk result (λ reply. reply ≡ accepted_reply (table_of rules) self.old event.now) }
+        ensures ok { IfOk result (λ reply. reply ≡ accepted_reply (table_of rules) self.old spent event.now) }
         ensures after { OnOk result (self.new ≡ accepted_state (table_of rules) self.old event.now) }
         ensures err { OnErr result (self.new ≡ self.old) }
     {
@@ -49,6 +61,7 @@ impl PlainNet {
                 let pairs = self.mutual_pairs(alloc)?;
                 return Ok(Reply::Pairs(Listing::from_vec(pairs)));
             }
+            Event::Status => return Ok(Reply::Counts(self.counts(rules, spent))),
         }
         Ok(Reply::Accepted)
     }

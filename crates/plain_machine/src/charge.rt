@@ -13,7 +13,8 @@ use rule_machine::{Edge, Node, RuleSet};
 impl PlainNet {
     /// The charge, which each move lowers; at most 2,293,757. Takes some n·m·m steps.
     pub fn charge(&self, rules: RuleSet) -> u64
-        ensures { result ≡ (table_of rules).charge self.now }
+        ensures value { result ≡ (table_of rules).charge self.now }
+        ensures few { result ≤ 2293757 }
     {
         let common = 2 * self.open_edges(rules) + self.unanswered();
         match rules {

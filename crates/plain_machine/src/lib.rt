@@ -3,6 +3,7 @@
 
 mod answers;
 mod charge;
+mod counts;
 mod edge_set;
 mod guards;
 mod lists;

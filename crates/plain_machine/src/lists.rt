@@ -36,7 +36,7 @@ impl PlainNet {
 }
 
 /// A node's mutual pair, at its lower end.
-fn pair_above(v: Node, partner: Option<Node>) -> Option<Edge>
+pub(crate) fn pair_above(v: Node, partner: Option<Node>) -> Option<Edge>
     ensures { result ≡ pair_above v partner }
 {
     match partner {

@@ -22,7 +22,7 @@ impl PlainNet {
             Event::Flag(v, _) => self.flag_refusal(rules, *v),
             Event::Step(choice) => self.step_refusal(rules, choice.items()),
             Event::Show(v) => self.show_refusal(*v),
-            Event::Enabled | Event::Matching => None,
+            Event::Enabled | Event::Matching | Event::Status => None,
         }
     }
 

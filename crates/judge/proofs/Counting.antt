@@ -1,0 +1,81 @@
+-- What is counted at the nodes in turn, and the charge as such a sum.
+use Rattle.std.proofs.Common.{◌≡◌, ℕ, ◌+◌, ◌*◌, ◌≤◌, suc, zero, Bool, true, false, cond, not, List, [], ◌∷◌, ◌++◌, length, filter_map, count_by, sum_by, Option, None, Some, is_some, refl, ap, ◌∙◌, arith, add-one}
+use Rattle.std.specs.List.{range_with_len, cons_option}
+use Rattle.std.specs.Int.{from_bool}
+use Rattle.std.proofs.lemmas.List.FromFn.{length-range_with_len}
+use Rattle.std.proofs.lemmas.List.Sums.{sum_by-cons, sum_by_push, length-filter, count_by-le-length}
+use Rattle.rule_machine.specs.declared.rules.RuleSet.{RuleSet}
+use Rattle.rule_machine.specs.declared.rules.RuleSet.TheVariants.{Hh, Manne}
+use Rattle.rule_machine.specs.Network.{Network, names, linked, neighbours}
+use Rattle.rule_machine.specs.State.{State, IsState, is_unanswered}
+use Rattle.rule_machine.specs.Charge.{hsu_huang_closed, manne_closed}
+use Rattle.rule_machine.specs.Tables.{table_of}
+use Rattle.charge_laws.specs.Counting.{sum_add, sum_twice}
+use Rattle.charge_laws.specs.EdgesByNodes.{edges_by_nodes}
+use Rattle.judge.specs.Charging.{open_above, flag_charge, charge_at}
+
+pub bool_number : (b : Bool) → from_bool b ≡ cond b 1 0
+bool_number true = refl
+bool_number false = refl
+
+pub bool_few : (b : Bool) → from_bool b ≤ 1
+bool_few true = omega arith
+bool_few false = omega arith
+
+-- a node has no more neighbours than there are nodes
+pub few_near : (net : Network) (v : ℕ) → length (neighbours net v) ≤ net.size
+few_near net v =
+    let count = length-filter (linked net v) (names net) in
+    let few = count_by-le-length (linked net v) (names net) in
+    let all = length-range_with_len 1 net.size in
+    omega (arith, count, few, all)
+
+-- a range with one more number at its end
+range_more : (a n : ℕ) → range_with_len a (n + 1) ≡ range_with_len a n ++ (a + n) ∷ []
+range_more a n = rw add-one (go a n) where
+  go : (a n : ℕ) → range_with_len a (suc n) ≡ range_with_len a n ++ (a + n) ∷ []
+  go a zero = ap (λ x. x ∷ []) (omega arith)
+  go a (suc n) = ap (λ rest. a ∷ rest) (go (a + 1) n ∙ ap (λ x. range_with_len (a + 1) n ++ x ∷ []) (omega arith))
+
+-- what is counted at one more name
+pub sum_more : (f : ℕ → ℕ) (n v : ℕ) → v ≡ n + 1 → sum_by f (range_with_len 1 (n + 1)) ≡ sum_by f (range_with_len 1 n) + f v
+sum_more f n v is =
+    ap (sum_by f) (range_more 1 n ∙ ap (λ x. range_with_len 1 n ++ x ∷ []) (let same : 1 + n ≡ v = omega arith in same))
+    ∙ sum_by_push f (range_with_len 1 n) v
+
+longer : {Y : Type 0} (o : Option Y) (ys : List Y) → length (cons_option o ys) ≡ cond (is_some o) 1 0 + length ys
+longer None ys = omega arith
+longer (Some y) ys = omega arith
+
+-- a list is as long as there are elements at which a function has a value
+pub length_filter_map : {X Y : Type 0} (f : X → Option Y) (xs : List X) → length (filter_map f xs) ≡ sum_by (λ x. cond (is_some (f x)) 1 0) xs
+length_filter_map f [] = refl
+length_filter_map f (x ∷ xs) =
+    let whole = sum_by-cons (λ y. cond (is_some (f y)) 1 0) x xs in
+    let here = longer (f x) (filter_map f xs) in
+    let rest = length_filter_map f xs in
+    omega (arith, whole, here, rest)
+
+-- ---- the charge
+
+no_flags : (s : State) (xs : List ℕ) → sum_by (flag_charge Hh s) xs ≡ 0
+no_flags s [] = refl
+no_flags s (x ∷ xs) = let whole = sum_by-cons (flag_charge Hh s) x xs in let rest = no_flags s xs in omega (arith, whole, rest)
+
+parts : (rules : RuleSet) (s : State) (xs : List ℕ) → sum_by (charge_at rules s) xs ≡ 2 * sum_by (open_above rules s) xs + count_by (is_unanswered s) xs + sum_by (flag_charge rules s) xs
+parts rules s xs =
+    let all = sum_add (λ v. 2 * open_above rules s v + cond (is_unanswered s v) 1 0) (flag_charge rules s) xs in
+    let two = sum_add (λ v. 2 * open_above rules s v) (λ v. cond (is_unanswered s v) 1 0) xs in
+    let twice = sum_twice (open_above rules s) xs in
+    omega (arith, all, two, twice)
+
+pub charge_is_sum : (rules : RuleSet) (s : State) → IsState s → (table_of rules).charge s ≡ sum_by (charge_at rules s) (names s.network)
+charge_is_sum Hh s good =
+    let edges = edges_by_nodes s.network good.is_network (λ e. not (hsu_huang_closed s e)) in
+    let whole = parts Hh s (names s.network) in
+    let flags = no_flags s (names s.network) in
+    omega (arith, edges, whole, flags)
+charge_is_sum Manne s good =
+    let edges = edges_by_nodes s.network good.is_network (λ e. not (manne_closed s e)) in
+    let whole = parts Manne s (names s.network) in
+    omega (arith, edges, whole)

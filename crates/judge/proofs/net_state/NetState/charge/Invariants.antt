@@ -1,0 +1,10 @@
+use Rattle.std.proofs.Common.{◌≡◌, ◌≤◌, ◌*◌, sum_by}
+use Rattle.std.specs.List.{range_with_len}
+use Rattle.judge.specs.Charging.{charge_at}
+use Rattle.judge.proofs.net_state.NetState.charge.Given as goal
+
+abbrev pub invariant-loop-below : goal.invariant-loop-below
+invariant-loop-below l = record {
+  sum : l.total ≡ sum_by (charge_at l.rules l.self) (range_with_len 1 l.below);
+  few : l.total ≤ l.below * 131073;
+}

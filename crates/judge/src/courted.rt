@@ -1,0 +1,78 @@
+//! The nodes that others point at, each at its place.
+
+ghost use Rattle.std.specs.Prelude.{◌≡◌, ◌+◌, ◌<◌, ◌≤◌, ◌||◌, ℕ, false, IfOk, length, nat_eq};
+ghost use Rattle.rule_machine.specs.State.{has_suitor};
+ghost use Rattle.judge.specs.Courting.{mark_at};
+
+use crate::NetState;
+use rule_machine::{Node, Want};
+use std::alloc::Global;
+use std::marker::Model;
+
+/// Which nodes have a suitor, found anew for each status; seen in contracts as a list with a place for each name, of which
+/// place 0 is nobody's.
+#[derive(Drop)]
+pub(crate) struct Courted {
+    marks: Vec<bool>,
+}
+
+impl Model for Courted {
+    ghost use Rattle.std.specs.Prelude.{List, Bool};
+
+    ghost Value = { List Bool };
+
+    ghost view = { λ c. c.marks.items };
+}
+
+impl Courted {
+    /// No node is marked, of the names 1 to `nodes`.
+    pub(crate) fn new(alloc: Global, nodes: u32) -> Result<Courted, Want>
+        requires { nodes ≤ 65535 }
+        ensures { IfOk result (λ courted. length courted ≡ nodes + 1) }
+    {
+        let marks = vec![in alloc; false; nodes as usize + 1]?;
+        Ok(Courted { marks })
+    }
+
+    /// Whether a node is marked.
+    pub(crate) fn has(&self, v: Node) -> bool
+        ensures { result ≡ mark_at self.now v }
+    {
+        self.marks.get(v.place()).copied().unwrap_or(false)
+    }
+
+    /// Marks the nodes that have a suitor, and no other. Looks at every node's pointer.
+    pub(crate) fn find(&mut self, net: &NetState)
+        requires { length self.old ≡ net.now.network.size + 1 }
+        ensures len { length self.new ≡ length self.old }
+        ensures marked { (v : ℕ) → mark_at self.new v ≡ has_suitor net.now v }
+    {
+        self.clear();
+        for below in 0..net.nodes() {
+            let v = Node::new(below + 1).unwrap();
+            if let Some(target) = net.pointer(v) {
+                self.put(target);
+            }
+        }
+    }
+
+    /// Marks a node, which has a place.
+    fn put(&mut self, v: Node)
+        requires { v < length self.old }
+        ensures len { length self.new ≡ length self.old }
+        ensures marked { (x : ℕ) → mark_at self.new x ≡ (nat_eq x v || mark_at self.old x) }
+    {
+        let place = v.place();
+        self.marks[place] = true;
+    }
+
+    /// Takes all marks away.
+    fn clear(&mut self)
+        ensures len { length self.new ≡ length self.old }
+        ensures clear { (v : ℕ) → mark_at self.new v ≡ false }
+    {
+        for place in 0..self.marks.len() {
+            self.marks[place] = false;
+        }
+    }
+}
