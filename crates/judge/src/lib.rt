@@ -4,6 +4,7 @@
 mod choices;
 mod guards;
 mod judging;
+mod looks;
 mod moves;
 mod net_state;
 mod questions;

@@ -16,7 +16,7 @@ use std::marker::Model;
 /// two calls.
 #[derive(Drop)]
 pub struct Judge {
-    net: NetState,
+    pub(crate) net: NetState,
     chosen: Chosen,
 }
 
