@@ -6,3 +6,4 @@ pub mod Agreeing
 pub mod Ending
 pub mod Undamaged
 pub mod Exact
+pub mod Arriving

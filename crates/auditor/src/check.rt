@@ -14,7 +14,7 @@ use std::marker::Model;
 /// How far an audit has come: the judge in the state to which the entries so far have led, and what was counted.
 #[derive(Drop)]
 pub(crate) struct Audit {
-    judge: Judge,
+    pub(crate) judge: Judge,
     counted: Summary,
 }
 

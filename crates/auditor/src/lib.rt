@@ -6,6 +6,8 @@ mod damage;
 mod fault;
 mod laws;
 mod lines;
+mod reach;
+mod replay;
 mod summary;
 mod transcript;
 
@@ -14,5 +16,6 @@ pub use fault::AuditFault;
 pub use laws::{
     one_count, one_damage, one_run, transcript_has_no_damage, undamaged_is_a_transcript,
 };
+pub use reach::{Reached, ReplayFault, state_after};
 pub use summary::Summary;
 pub use transcript::{audit, audit_bytes};
