@@ -5,3 +5,4 @@ pub mod Accepted
 pub mod Verdict
 pub mod Once
 pub mod Reached
+pub mod Epochs

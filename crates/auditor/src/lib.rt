@@ -3,6 +3,8 @@
 
 mod check;
 mod damage;
+mod epoch;
+mod epoch_list;
 mod fault;
 mod laws;
 mod lines;
@@ -12,6 +14,8 @@ mod summary;
 mod transcript;
 
 pub use damage::{Damage, JudgeFault};
+pub use epoch::Epoch;
+pub use epoch_list::{Epochs, epochs};
 pub use fault::AuditFault;
 pub use laws::{
     one_count, one_damage, one_run, transcript_has_no_damage, undamaged_is_a_transcript,
