@@ -1,10 +1,9 @@
 -- How far a replay of the first entries is, and what it says at its end.
-use Rattle.std.proofs.Common.{◌≡◌, ℕ, ◌+◌, ◌<◌, ◌≤◌, ◌⊎◌, Bool, true, false, List, [], length, Option, None, Some, Result, Ok, Err, refl, sym, ap, subst, ◌∙◌, ⊎_elim, arith, rules}
-use Rattle.std.specs.Prelude.{IfOk, IfErr, nat_lt}
+use Rattle.std.proofs.Common.{◌≡◌, ℕ, ◌+◌, ◌<◌, ◌⊎◌, true, false, List, [], Option, None, Some, Result, Ok, Err, refl, sym, ap, subst, ◌∙◌, ⊎_elim, arith, rules}
+use Rattle.std.specs.Prelude.{IfOk, IfErr}
 use Rattle.std.proofs.lemmas.Bool.{true≢false}
 use Rattle.rule_machine.specs.declared.rules.RuleSet.{RuleSet}
 use Rattle.rule_machine.specs.Tables.{table_of}
-use Rattle.auditor.specs.declared.damage.Damage.{Damage}
 use Rattle.auditor.specs.declared.damage.JudgeFault.{JudgeFault}
 use Rattle.auditor.specs.declared.damage.JudgeFault.TheVariants.{Damaged, Memory}
 use Rattle.auditor.specs.declared.reach.Reached.{Reached}
@@ -34,9 +33,10 @@ within_more (Some n) entries short = let below : entries < n = search rules in o
 
 pub further : (rules after_rules : RuleSet) (p q : Position) (bytes rest behind : List ℕ) (last : Option ℕ) → after_rules ≡ rules → IsReached bytes rules p rest → falls_short last p.counted.entries ≡ true → IsOneFurther (table_of rules) p rest q behind → IsReached bytes after_rules q behind × IsWithin last q.counted.entries
 further rules after_rules p q bytes rest behind last same reached short one =
-    let more = ap (λ (c : Summary). c.entries) one.good.counted in
-    (subst (λ (r : RuleSet). IsReached bytes r q behind) (sym same) (reached_more rules p q bytes one.line rest behind reached one.cut one.good),
-    subst (IsWithin last) (sym more) (within_more last p.counted.entries short))
+    let more = ap (λ (c : Summary). c.entries) one.good.counted in (
+      subst (λ (r : RuleSet). IsReached bytes r q behind) (sym same) (reached_more rules p q bytes one.line rest behind reached one.cut one.good),
+      subst (IsWithin last) (sym more) (within_more last p.counted.entries short),
+    )
 
 -- the line that is looked at next
 looked_at : (last : Option ℕ) (entries : ℕ) → falls_short last entries ≡ true → IsLookedAt last (entries + 2)

@@ -7,3 +7,4 @@ pub mod Ending
 pub mod Undamaged
 pub mod Exact
 pub mod Arriving
+pub mod Turning

@@ -1,6 +1,6 @@
 //! The list of a transcript's epochs.
 
-ghost use Rattle.std.specs.Prelude.{◌≡◌, ◌≤◌, ◌++◌, All, Err, IfErr, IfOk};
+ghost use Rattle.std.specs.Prelude.{◌≡◌, ◌≤◌, ◌++◌, ◌∷◌, [], All, Err, IfErr, IfOk, OnOk};
 ghost use Rattle.rule_machine.specs.declared.reply.Reply.{Reply};
 ghost use Rattle.rule_machine.specs.Run.{epoch_at, epochs_by};
 ghost use Rattle.auditor.specs.Epochs.{AreEpochs, IsWithinItsBound};
@@ -35,13 +35,15 @@ impl Audit {
     }
 }
 
+fn push(list: &mut Vec<Epoch>, epoch: Epoch) -> Result<(), Want>
+    ensures { OnOk result (list.new.items ≡ list.old.items ++ epoch ∷ []) }
+{
+    list.push(epoch)?;
+    Ok(())
+}
+
 // What the entry, before which this was counted, makes of the epochs: the last one ends and another begins, or it goes on.
-fn turn(
-    past: &mut Vec<Epoch>,
-    epoch: Epoch,
-    before: Summary,
-    audit: &Audit,
-) -> Result<Epoch, Want>
+fn turn(past: &mut Vec<Epoch>, epoch: Epoch, before: Summary, audit: &Audit) -> Result<Epoch, Want>
     requires counted { epoch.moves ≤ before.moves }
     requires more { before.moves ≤ audit.now.counted.moves }
     ensures turn { IfOk result (λ next. (reply : Reply) → audit.now.counted ≡ counted_more before reply
@@ -51,7 +53,7 @@ fn turn(
 {
     let counted = audit.counted();
     if counted.epochs > before.epochs {
-        past.push(epoch)?;
+        push(past, epoch)?;
         return Ok(audit.new_epoch());
     }
     Ok(epoch.with_moves(counted.moves - before.moves))
@@ -60,7 +62,7 @@ fn turn(
 /// The epochs of the run of which the bytes are the transcript: of other bytes the first damage is named, as
 /// `audit_bytes` names it. Each epoch is within its bound. Takes 24 bytes an epoch, and `Memory` is answered where memory
 /// runs out. Costs what `audit_bytes` costs.
-pub fn epochs(alloc: Global, bytes: &[u8]) -> Result<Epochs, JudgeFault>
+pub fn epochs_of(alloc: Global, bytes: &[u8]) -> Result<Epochs, JudgeFault>
     ensures epochs { IfOk result (λ epochs. AreEpochs bytes.now epochs.rules epochs.list.items) }
     ensures bounded { IfOk result (λ epochs. All (IsWithinItsBound epochs.rules) epochs.list.items) }
     ensures fault { IfErr result (λ fault. IsJudged bytes.now (Err fault)) }
@@ -75,7 +77,7 @@ pub fn epochs(alloc: Global, bytes: &[u8]) -> Result<Epochs, JudgeFault>
             Err(fault) => return Err(fault),
         }
     }
-    list.push(epoch)?;
+    push(&mut list, epoch)?;
     Ok(Epochs {
         rules: replay.rules,
         list,

@@ -15,7 +15,7 @@ mod transcript;
 
 pub use damage::{Damage, JudgeFault};
 pub use epoch::Epoch;
-pub use epoch_list::{Epochs, epochs};
+pub use epoch_list::{Epochs, epochs_of};
 pub use fault::AuditFault;
 pub use laws::{
     one_count, one_damage, one_run, transcript_has_no_damage, undamaged_is_a_transcript,

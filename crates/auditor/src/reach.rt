@@ -57,11 +57,7 @@ fn finish(replay: Replay<'_>, last: Option<u32>) -> Result<Reached, ReplayFault>
 /// transcript's header. The line of that entry is the last one that is looked at: of the lines up to it those are good, and
 /// those damaged, that `audit_bytes` finds so. `TooFew` where all lines are good and no entry has that number; `Memory`
 /// if memory runs out. Costs what `audit_bytes` costs of these lines.
-pub fn state_after(
-    alloc: Global,
-    bytes: &[u8],
-    last: Option<u32>,
-) -> Result<Reached, ReplayFault>
+pub fn state_after(alloc: Global, bytes: &[u8], last: Option<u32>) -> Result<Reached, ReplayFault>
     ensures reached { IfOk result (λ reached. IsStateAfter bytes.now last reached.rules reached.judge) }
     ensures fault { IfErr result (IsReplayFault bytes.now last) }
 {

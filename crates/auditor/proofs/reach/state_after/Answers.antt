@@ -1,4 +1,4 @@
-use Rattle.std.proofs.Common.{◌≡◌, ◌⊎◌, ◌∙◌, ap, List, ℕ, [], false, true, length, sym, inl, inr, eqb-true, rules}
+use Rattle.std.proofs.Common.{◌≡◌, ◌⊎◌, ◌∙◌, ap, [], false, true, length, sym, inl, inr, eqb-true, rules}
 use Rattle.std.proofs.lemmas.List.{nil_from_length}
 use Rattle.auditor.specs.Reached.{falls_short}
 use Rattle.auditor.proofs.Arriving.{started, further, line_fault, ended, ended_early}

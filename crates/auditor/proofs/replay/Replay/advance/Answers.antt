@@ -1,4 +1,4 @@
-use Rattle.std.proofs.Common.{◌≡◌, ℕ, List, Option, None, sym, subst}
+use Rattle.std.proofs.Common.{ℕ, List, Option, None, sym, subst}
 use Rattle.auditor.specs.Damage.{HasNoEntry}
 use Rattle.auditor.proofs.Reaching.{damaged_line, damaged}
 use Rattle.auditor.proofs.replay.Replay.advance.Goals as goal
