@@ -83,11 +83,10 @@ all_read rest last entries asked is fewer stop =
     ⊎_elim (λ none. none) (λ no. absurd (true≢false (sym short ∙ no))) stop
 
 pub ended_early : (bytes : List ℕ) (rules : RuleSet) (p : Position) (rest : List ℕ) (last : Option ℕ) (result : Result Reached ReplayFault) → IsReached bytes rules p rest → (rest ≡ []) ⊎ (falls_short last p.counted.entries ≡ false)
-    → IfErr result (λ fault. (fault ≡ TooFew p.counted.entries) × (asked : ℕ) × (last ≡ Some asked) × (p.counted.entries < asked)) → IfErr result (IsReplayFault bytes last)
+    → IfErr result (λ fault. (asked : ℕ) × (fault ≡ TooFew asked p.counted.entries) × (last ≡ Some asked) × (p.counted.entries < asked)) → IfErr result (IsReplayFault bytes last)
 ended_early bytes rules p rest last (Ok reached) r stop given = tt
-ended_early bytes rules p rest last (Err fault) r stop (is, asked, last_is, fewer) =
-    let few : HasTooFew bytes last p.counted.entries = record {
-      asked = asked;
+ended_early bytes rules p rest last (Err fault) r stop (asked, is, last_is, fewer) =
+    let few : HasTooFew bytes last asked p.counted.entries = record {
       last_is = last_is;
       fewer = fewer;
       counted = p.counted;

@@ -45,9 +45,8 @@ pub record IsStateAfter (bytes : List ℕ) (last : Option ℕ) (rules : RuleSet)
   pub ends : EndsAt last log rest
   pub state : s ≡ end.state
 
--- The bytes are the transcript of a run of these entries, which are fewer than were asked for.
-pub record HasTooFew (bytes : List ℕ) (last : Option ℕ) (entries : ℕ) : Type 0 where
-  pub asked : ℕ
+-- The bytes are the transcript of a run of so many entries, which are fewer than were asked for.
+pub record HasTooFew (bytes : List ℕ) (last : Option ℕ) (asked entries : ℕ) : Type 0 where
   pub last_is : last ≡ Some asked
   pub fewer : entries < asked
   pub counted : Summary
@@ -70,7 +69,7 @@ IsLookedAt (Some last) line = line ≤ last + 1
 abbrev pub IsReplayFault : List ℕ → Option ℕ → ReplayFault → Type 0
 IsReplayFault bytes last (Judged (Damaged damage)) = IsDamage bytes damage × IsLookedAt last (line_of damage)
 IsReplayFault bytes last (Judged Memory) = Unit {0}
-IsReplayFault bytes last (TooFew entries) = HasTooFew bytes last entries
+IsReplayFault bytes last (TooFew asked entries) = HasTooFew bytes last asked entries
 
 -- the first line is the header of these rules, and the rest follows
 pub record IsOpened (bytes : List ℕ) (rules : RuleSet) (p : Position) (rest : List ℕ) : Type 0 where

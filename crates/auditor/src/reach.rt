@@ -24,8 +24,8 @@ pub struct Reached {
 pub enum ReplayFault {
     /// A line that was looked at is damaged, or memory ran out.
     Judged(JudgeFault),
-    /// The bytes are the transcript of a run, which has only so many entries.
-    TooFew { entries: u32 },
+    /// The bytes are the transcript of a run, which has fewer entries than were asked for.
+    TooFew { asked: u32, entries: u32 },
 }
 
 // Whether so many entries end before the one with the number `last`, where one is named.
@@ -41,11 +41,11 @@ fn falls_short(entries: u32, last: Option<u32>) -> bool
 // The state that was reached, or how many entries there are, where there should be more.
 fn finish(replay: Replay<'_>, last: Option<u32>) -> Result<Reached, ReplayFault>
     ensures reached { IfOk result (λ reached. (reached.rules ≡ replay.entry.rules) × (reached.judge ≡ replay.entry.audit.state) × IsLongEnough last replay.entry.audit.counted.entries) }
-    ensures few { IfErr result (λ fault. (fault ≡ TooFew replay.entry.audit.counted.entries) × (asked : ℕ) × (last ≡ Some asked) × (replay.entry.audit.counted.entries < asked)) }
+    ensures few { IfErr result (λ fault. (asked : ℕ) × (fault ≡ TooFew asked replay.entry.audit.counted.entries) × (last ≡ Some asked) × (replay.entry.audit.counted.entries < asked)) }
 {
     let entries = replay.audit.counted().entries;
     match last {
-        Some(number) if entries < number => Err(ReplayFault::TooFew { entries }),
+        Some(asked) if entries < asked => Err(ReplayFault::TooFew { asked, entries }),
         _ => Ok(Reached {
             rules: replay.rules,
             judge: replay.audit.into_judge(),
