@@ -74,7 +74,7 @@ fn entry_arg<'a>(alloc: Global) -> Arg<'a>
         .value_name("K")
         .value_parser(value_parser!(u32).range(..=16_777_216))
         .help(
-            "The entry behind which the network is drawn; 0 for the start, and the last where none is named",
+            "Draws the network after entry K, 0 for the start; after the last entry where none is named",
         )
 }
 

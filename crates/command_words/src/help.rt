@@ -56,9 +56,9 @@ pub(crate) const PICTURE_ABOUT: &str =
 
 pub(crate) const PICTURE_NOTES: &str = "\
 The graph has a line for each node and for each edge, ascending. A married node is filled, and an enabled node has its
-rule below its name. A mutual pair is a bold edge, and a pointer that is not answered an arrow along its edge. The line
-of entry K is the last one that is looked at; it and those before it are judged as audit judges them, and of a bad one
-the line of audit is written in place of the graph.
+rule below its name. A mutual pair is a bold edge, and a pointer that is not answered is an arrow along its edge. The
+line of entry K, the last of which the graph tells, is the last one that is read: where audit refuses a line up to it,
+what audit says stands in place of the graph.
 
 Examples:
   console picture < transcript.txt | dot -Tsvg > matching.svg

@@ -23,7 +23,7 @@ fill_text true = codes ", style=filled"
 -- a node by its name
 abbrev pub node_line : RuleTable → State → ℕ → List ℕ
 node_line t s v =
-    codes "  " ++ number_text v ++ codes " [label=\"" ++ number_text v ++ rule_text (rule_at t s v) ++ codes "\"" ++ fill_text (married s v) ++ codes "];\n"
+    number_text v ++ codes " [label=\"" ++ number_text v ++ rule_text (rule_at t s v) ++ codes "\"" ++ fill_text (married s v) ++ codes "];\n"
 
 -- An edge by whether its lower end points along it, and its higher end: a mutual pair is bold, one pointer is an arrow.
 abbrev pub style_text : Bool → Bool → List ℕ
@@ -35,7 +35,7 @@ style_text false false = []
 -- the edge from a to b, which is above it
 abbrev pub edge_line : State → ℕ → ℕ → List ℕ
 edge_line s a b =
-    codes "  " ++ number_text a ++ codes " -- " ++ number_text b ++ style_text (points s.registers a b) (points s.registers b a) ++ codes ";\n"
+    number_text a ++ codes " -- " ++ number_text b ++ style_text (points s.registers a b) (points s.registers b a) ++ codes ";\n"
 
 -- the neighbours above a node, ascending
 abbrev pub above : Network → ℕ → List ℕ

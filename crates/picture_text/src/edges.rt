@@ -24,7 +24,6 @@ fn put_style(out: &mut Vec<u8>, forward: bool, back: bool) -> Result<(), Want>
 fn put_edge(out: &mut Vec<u8>, judge: &Judge, a: Node, b: Node) -> Result<(), Want>
     ensures { OnOk result (out.new.items ≡ out.old.items ++ edge_line judge.now a b) }
 {
-    out.extend_from_slice(b"  ")?;
     put_name(out, a)?;
     out.extend_from_slice(b" -- ")?;
     put_name(out, b)?;

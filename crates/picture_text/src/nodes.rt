@@ -35,7 +35,6 @@ fn put_node(out: &mut Vec<u8>, judge: &Judge, rules: RuleSet, v: Node) -> Result
     requires { IsTrue (present judge.now.network v) }
     ensures { OnOk result (out.new.items ≡ out.old.items ++ node_line (table_of rules) judge.now v) }
 {
-    out.extend_from_slice(b"  ")?;
     put_name(out, v)?;
     out.extend_from_slice(b" [label=\"")?;
     put_name(out, v)?;
