@@ -6,3 +6,5 @@ pub mod Agreeing
 pub mod Ending
 pub mod Undamaged
 pub mod Exact
+pub mod Arriving
+pub mod Turning

@@ -27,7 +27,7 @@ use Rattle.auditor.proofs.Cutting.{first_line-splits}
 sum_by-push : (f : Entry → ℕ) (log : List Entry) (entry : Entry) → sum_by f (log ++ entry ∷ []) ≡ sum_by f log + f entry
 sum_by-push f log entry = sum_by-append f log (entry ∷ []) ∙ omega arith
 
-all_push : (log : List Entry) (entry : Entry) → AllByRecursion IsEntry log → IsEntry entry → AllByRecursion IsEntry (log ++ entry ∷ [])
+pub all_push : (log : List Entry) (entry : Entry) → AllByRecursion IsEntry log → IsEntry entry → AllByRecursion IsEntry (log ++ entry ∷ [])
 all_push [] entry all is = (is, tt)
 all_push (first ∷ log) entry all is = (all.0, all_push log entry all.1 is)
 
@@ -42,7 +42,7 @@ lines_push number (first ∷ log) entry =
 
 -- ---- the header
 
-pub follows_start : (bytes line rest : List ℕ) (rules : RuleSet) (nodes : ℕ) → first_line bytes ≡ Some (line, rest) → SpellsHeader line rules nodes → Follows bytes rules [] (beginning nodes) rest
+abbrev pub follows_start : (bytes line rest : List ℕ) (rules : RuleSet) (nodes : ℕ) → first_line bytes ≡ Some (line, rest) → SpellsHeader line rules nodes → Follows bytes rules [] (beginning nodes) rest
 follows_start bytes line rest rules nodes cut spells = record {
   nodes = nodes;
   good = header_line rules nodes;
@@ -69,14 +69,14 @@ reached_start bytes line rest rules nodes cut spells =
 
 -- ---- one more line
 
-log_text : (bytes good line rest behind : List ℕ) (rules : RuleSet) (nodes : ℕ) (log : List Entry) (entry : Entry) → bytes ≡ good ++ rest → good ≡ transcript rules nodes log → rest ≡ line ++ 10 ∷ behind → line ≡ entry_text (length log + 1) entry.0 entry.1 → bytes ≡ transcript rules nodes (log ++ entry ∷ []) ++ behind
+pub log_text : (bytes good line rest behind : List ℕ) (rules : RuleSet) (nodes : ℕ) (log : List Entry) (entry : Entry) → bytes ≡ good ++ rest → good ≡ transcript rules nodes log → rest ≡ line ++ 10 ∷ behind → line ≡ entry_text (length log + 1) entry.0 entry.1 → bytes ≡ transcript rules nodes (log ++ entry ∷ []) ++ behind
 log_text bytes good line rest behind rules nodes log entry splits text cut is =
     let more : rest ≡ entry_line (length log + 1) entry.0 entry.1 ++ behind = cut ∙ ap (λ (z : List ℕ). z ++ 10 ∷ behind) is ∙ sym (append_assoc (entry_text (length log + 1) entry.0 entry.1) (10 ∷ []) behind) in
     let lines : entry_lines 1 (log ++ entry ∷ []) ≡ entry_lines 1 log ++ entry_line (length log + 1) entry.0 entry.1 = lines_push 1 log entry ∙ ap (λ (n : ℕ). entry_lines 1 log ++ entry_line n entry.0 entry.1) (omega arith) in
     let whole : transcript rules nodes (log ++ entry ∷ []) ≡ transcript rules nodes log ++ entry_line (length log + 1) entry.0 entry.1 = ap (λ (z : List ℕ). header_line rules nodes ++ z) lines ∙ sym (append_assoc (header_line rules nodes) (entry_lines 1 log) (entry_line (length log + 1) entry.0 entry.1)) in
     splits ∙ ap (λ (z : List ℕ). z ++ rest) text ∙ ap (λ (z : List ℕ). transcript rules nodes log ++ z) more ∙ sym (append_assoc (transcript rules nodes log) (entry_line (length log + 1) entry.0 entry.1) behind) ∙ ap (λ (z : List ℕ). z ++ behind) (sym whole)
 
-more_counts : (c d : Summary) (log : List Entry) (entry : Entry) → Counts c log → d ≡ counted_more c entry.1 → Counts d (log ++ entry ∷ [])
+pub more_counts : (c d : Summary) (log : List Entry) (entry : Entry) → Counts c log → d ≡ counted_more c entry.1 → Counts d (log ++ entry ∷ [])
 more_counts c d log entry counts is =
     let l = length-append log (entry ∷ []) in
     let e = sum_by-push (λ (x : Entry). disturbances_in x.1) log entry in
@@ -88,7 +88,7 @@ more_counts c d log entry counts is =
     }
 
 -- one more entry of which the machine may give the reply
-pub follows_more : (bytes line rest behind : List ℕ) (rules : RuleSet) (log : List Entry) (end : Moment) (entry : Entry) (s : State) → Follows bytes rules log end rest → first_line rest ≡ Some (line, behind) → SpellsEntry line (length log + 1) entry → Answers (table_of rules) end.state end.spent entry.0 entry.1 s → Follows bytes rules (log ++ entry ∷ []) (record { state = s; spent = spent_after end.spent entry.1 }) behind
+abbrev pub follows_more : (bytes line rest behind : List ℕ) (rules : RuleSet) (log : List Entry) (end : Moment) (entry : Entry) (s : State) → Follows bytes rules log end rest → first_line rest ≡ Some (line, behind) → SpellsEntry line (length log + 1) entry → Answers (table_of rules) end.state end.spent entry.0 entry.1 s → Follows bytes rules (log ++ entry ∷ []) (record { state = s; spent = spent_after end.spent entry.1 }) behind
 follows_more bytes line rest behind rules log end entry s follows cut spells answers =
     let good = follows.transcript in
     let l = length-append log (entry ∷ []) in

@@ -4,3 +4,5 @@ pub mod Position
 pub mod Accepted
 pub mod Verdict
 pub mod Once
+pub mod Reached
+pub mod Epochs

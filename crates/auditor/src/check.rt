@@ -16,7 +16,7 @@ use std::marker::Model;
 /// accepted disturbance, and what was counted.
 #[derive(Drop)]
 pub(crate) struct Audit {
-    judge: Judge,
+    pub(crate) judge: Judge,
     spent: u64,
     counted: Summary,
 }

@@ -1,2 +1,3 @@
 pub mod Telling
 pub mod OneVerdict
+pub mod Input

@@ -1,5 +1,5 @@
 -- How the program ends: what the writers have got, and the exit status.
-use Rattle.std.specs.Prelude.{◌≡◌, ◌⊎◌, ℕ, List, Option, Result, Ok, Err, IfOk}
+use Rattle.std.specs.Prelude.{◌≡◌, ◌⊎◌, ℕ, List, Result, Ok, Err, IfOk}
 use Rattle.std.specs.Io.KnownBytes.{Keeps}
 use Rattle.clap.specs.Words.{kind_of}
 use Rattle.clap.specs.declared.error.Error.{Error}
@@ -8,15 +8,13 @@ use Rattle.byte_output.specs.Beginning.{AppendsBeginning}
 use Rattle.script_run.specs.declared.fault.RunFault.{RunFault}
 use Rattle.script_run.specs.Outcome.{IsOutcome}
 use Rattle.command_words.specs.declared.task.Task.{Task}
-use Rattle.command_words.specs.declared.task.Task.TheVariants.{Run, Audit, Show}
+use Rattle.command_words.specs.declared.task.Task.TheVariants.{Run, Audit, Picture, Epochs, Show}
 use Rattle.command_line.specs.declared.verdict.CheckEnd.{CheckEnd}
 use Rattle.command_line.specs.Status.{status_of, words_status}
 use Rattle.command_line.specs.FaultText.{fault_line}
+use Rattle.transcript_view.specs.Views.{IsPicture, IsTable}
+use Rattle.command_line.specs.Viewed.{Known, Views}
 use Rattle.command_line.specs.Checked.{IsVerdict, TellsVerdict, verdict_status}
-
--- what a writer has got
-abbrev pub Known : Type 0
-Known = Option (List ℕ)
 
 -- the line of the fault, or a beginning of it where a write failed; nothing where there is no fault
 abbrev pub TellsFault : {X : Type 0} → Known → Known → Result X RunFault → Type 0
@@ -47,6 +45,8 @@ TellsCheck bytes old new before after status =
 abbrev pub DoesTask : Task → List ℕ → Known → Known → Known → Known → ℕ → Type 0
 DoesTask (Run rules nodes) input old new before after status = TellsOutcome rules nodes 16777216 input old new before after status
 DoesTask Audit input old new before after status = TellsCheck input old new before after status
+DoesTask (Picture entry) input old new before after status = Views (IsPicture input entry) old new before after status
+DoesTask Epochs input old new before after status = Views (IsTable input) old new before after status
 DoesTask (Show text) input old new before after status = (status ≡ 0) ⊎ (status ≡ 3)
 
 -- the task is done; for bad words, or where memory ran out as they were read, the writer gets nothing

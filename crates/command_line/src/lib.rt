@@ -1,4 +1,4 @@
-//! From the words of a command line to the exit status: a script is run, or a transcript judged.
+//! From the words of a command line to the exit status: a script is run, or a transcript judged or shown.
 #![tactic(auto)]
 
 mod fault_line;
@@ -7,7 +7,9 @@ mod once;
 mod program;
 mod verdict;
 mod verdict_line;
+mod viewing;
 
 pub use law::one_verdict;
 pub use program::{start, status, tell, tell_no_words};
 pub use verdict::{CheckEnd, check};
+pub use viewing::{draw, list_epochs};

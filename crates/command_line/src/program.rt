@@ -14,6 +14,7 @@ ghost use Rattle.command_line.specs.Status.{IsRunStatus, IsStatus, status_of, no
 use crate::fault_line::write_fault;
 use crate::once::write_text;
 use crate::verdict::check;
+use crate::viewing::{draw, list_epochs};
 use byte_output::finish;
 use clap::Error;
 use clap::error::ErrorKind;
@@ -115,8 +116,8 @@ fn check_transcript<In: Read, Out: Write, Faults: Write>(
 }
 
 /// Does what the words ask for, of which the first is the program's name, and gives the exit status: 0 for a whole run
-/// or an accepted transcript, or where the help or the version was shown; 1 for a refused transcript; 2 for bad words or
-/// a bad line; 3 where a read or a write failed; 4 for want of memory or a full log. Faults are told on `faults`, and
+/// or an accepted transcript, or where a transcript, the help or the version was shown; 1 for a refused transcript; 2 for
+/// bad words, a bad line, or an entry that is not there; 3 where a read or a write failed; 4 for want of memory or a full log. Faults are told on `faults`, and
 /// with bad words nothing goes to `writer`.
 pub fn start<S: AsStr, In: Read, Out: Write, Faults: Write>(
     alloc: Global,
@@ -137,6 +138,8 @@ pub fn start<S: AsStr, In: Read, Out: Write, Faults: Write>(
             run_script(alloc, &options, reader, writer, faults)
         }
         Ok(Task::Audit) => check_transcript(alloc, reader, writer, faults),
+        Ok(Task::Picture { entry }) => draw(alloc, entry, reader, writer, faults),
+        Ok(Task::Epochs) => list_epochs(alloc, reader, writer, faults),
         Ok(Task::Show(text)) => show(text, writer, faults),
         Err(error) => refuse(error, faults),
     }

@@ -9,8 +9,8 @@ use auditor::{AuditFault, Summary};
 use itoa::Buffer;
 use std::alloc::{AllocError, Global};
 
-// Writes a number in decimal, and a text behind it.
-fn put_number(line: &mut Vec<u8>, number: u64, text: &[u8]) -> Result<(), AllocError>
+/// Writes a number in decimal, and a text behind it.
+pub(crate) fn put_number(line: &mut Vec<u8>, number: u64, text: &[u8]) -> Result<(), AllocError>
     ensures { OnOk result (line.new.items ≡ line.old.items ++ (number_text number ++ text.now)) }
 {
     let mut digits = Buffer::new();

@@ -5,7 +5,7 @@ use Rattle.clap.specs.Words.{App, HasMatchesOf, Row, Text, subcommand_of, subcom
 use Rattle.clap.specs.declared.parser.matches.ArgMatches.{ArgMatches}
 use Rattle.clap.specs.declared.error.Error.{Error}
 use Rattle.command_words.specs.declared.task.Task.{Task}
-use Rattle.command_words.specs.declared.task.Task.TheVariants.{Run, Audit, Show}
+use Rattle.command_words.specs.declared.task.Task.TheVariants.{Run, Audit, Picture, Epochs, Show}
 use Rattle.command_words.specs.Wanted.{Names, AreRules, console_app, Holds, Answers, Wants}
 
 -- what a parse found is what the command makes of the words
@@ -23,6 +23,8 @@ no_text (Some p) text h = h
 pub answered : (names : Names) (words : List Text) (o : Option (Text × List Row)) (task : Task) → AreRules names → o ≡ subcommand_of (console_app names) words → Holds o task → Answers words task
 answered names words o (Run r n) a e h = (names, a, subst (λ (z : Option (Text × List Row)). Holds z (Run r n)) e h)
 answered names words o Audit a e h = (names, a, subst (λ (z : Option (Text × List Row)). Holds z Audit) e h)
+answered names words o (Picture entry) a e h = (names, a, subst (λ (z : Option (Text × List Row)). Holds z (Picture entry)) e h)
+answered names words o Epochs a e h = (names, a, subst (λ (z : Option (Text × List Row)). Holds z Epochs) e h)
 answered names words o (Show text) a e h = absurd (no_text o text h)
 
 -- nothing is wanted where no task is held

@@ -1,5 +1,5 @@
 -- What the words of the command line ask for, by clap's account of what a command makes of words.
-use Rattle.std.specs.Prelude.{◌≡◌, ◌⊎◌, ℕ, ◌<◌, ◌^◌, List, [], ◌∷◌, ◌++◌, map, Option, Some, pos, true, codes}
+use Rattle.std.specs.Prelude.{◌≡◌, ◌⊎◌, ℕ, ◌<◌, ◌^◌, List, [], ◌∷◌, ◌++◌, map, Option, None, Some, pos, true, codes}
 use Rattle.std.specs.Borrow.{Bor}
 use Rattle.std.specs.Fmt.{decimal}
 use Rattle.std.specs.Str.Parse.{IsNumeral, digits_value, without_leading_plus}
@@ -9,7 +9,7 @@ use Rattle.clap.specs.declared.error.kind.ErrorKind.TheVariants.{DisplayHelp, Di
 use Rattle.rule_machine.specs.declared.rules.RuleSet.{RuleSet}
 use Rattle.rule_machine.specs.Tables.{rules_word}
 use Rattle.command_words.specs.declared.task.Task.{Task}
-use Rattle.command_words.specs.declared.task.Task.TheVariants.{Run, Audit, Show}
+use Rattle.command_words.specs.declared.task.Task.TheVariants.{Run, Audit, Picture, Epochs, Show}
 
 -- texts, as a parser of values refers to them
 abbrev pub Names : Type 0
@@ -31,15 +31,27 @@ nodes_rule = record (new_rule (codes "nodes")) { long = Some (codes "nodes"); va
 abbrev pub run_app : Names → App
 run_app names = with_rule (with_rule (new_app (codes "run")) (rules_rule names)) nodes_rule
 
+-- `--entry` and a number from 0 to 16,777,216, which may be left out
+abbrev pub entry_rule : Rule
+entry_rule = record (new_rule (codes "entry")) { long = Some (codes "entry"); value_names = 1; parser = Some (vp.Signed (pos 0) (pos 16777216)) }
+
+-- the subcommand `picture`
+abbrev pub picture_app : App
+picture_app = with_rule (new_app (codes "picture")) entry_rule
+
 -- a command with a version, which needs a subcommand, and shows its help where there is none
 abbrev pub top_app : App
 top_app = record (new_app (codes "console")) {
   top = record (new_app (codes "console")).top { has_version = true; subcommand_required = true; arg_required_else_help = true };
 }
 
--- the command with both subcommands
+-- the command with the subcommands that run and judge
+abbrev pub judging_app : Names → App
+judging_app names = with_subcommand (with_subcommand top_app (run_app names).top) (new_app (codes "audit")).top
+
+-- the command with all four
 abbrev pub console_app : Names → App
-console_app names = with_subcommand (with_subcommand top_app (run_app names).top) (new_app (codes "audit")).top
+console_app names = with_subcommand (with_subcommand (judging_app names) picture_app.top) (new_app (codes "epochs")).top
 
 -- the text is a number below 65,536 in decimal; a plus and zeros may stand in front
 abbrev pub IsCount : Text → ℕ → Type 0
@@ -52,10 +64,21 @@ pub record HoldsRun (found : List Row) (rules : RuleSet) (nodes : ℕ) : Type 0 
   pub nodes_given : one_of (codes "nodes") found ≡ Some nodes_text
   pub nodes_is : IsCount nodes_text nodes
 
+-- the text is a number below 4,294,967,296 in decimal; a plus and zeros may stand in front
+abbrev pub IsNumber : Text → ℕ → Type 0
+IsNumber text n = (IsNumeral 10 (without_leading_plus text) × (digits_value 10 (without_leading_plus text) < 2 ^ 32)) × (n ≡ digits_value 10 (without_leading_plus text))
+
+-- what was found for `picture` is this entry, or none
+abbrev pub HoldsPicture : List Row → Option ℕ → Type 0
+HoldsPicture found None = one_of (codes "entry") found ≡ None
+HoldsPicture found (Some entry) = (text : Text) × (one_of (codes "entry") found ≡ Some text) × IsNumber text entry
+
 -- the subcommand, and what was found for it, are the task's
 abbrev pub Holds : Option (Text × List Row) → Task → Type 0
 Holds (Some p) (Run rules nodes) = (p.0 ≡ codes "run") × HoldsRun p.1 rules nodes
 Holds (Some p) Audit = p.0 ≡ codes "audit"
+Holds (Some p) (Picture entry) = (p.0 ≡ codes "picture") × HoldsPicture p.1 entry
+Holds (Some p) Epochs = p.0 ≡ codes "epochs"
 Holds found task = ⊥
 
 -- the words are read as the task
@@ -80,3 +103,12 @@ run_words program rules nodes =
 -- the words for an audit
 abbrev pub audit_words : Text → List Text
 audit_words program = program ∷ codes "audit" ∷ []
+
+-- the words for a picture
+abbrev pub picture_words : Text → Option ℕ → List Text
+picture_words program None = program ∷ codes "picture" ∷ []
+picture_words program (Some entry) = program ∷ codes "picture" ∷ (codes "--entry=" ++ decimal entry) ∷ []
+
+-- the words for the epochs
+abbrev pub epochs_words : Text → List Text
+epochs_words program = program ∷ codes "epochs" ∷ []

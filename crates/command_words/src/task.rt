@@ -1,11 +1,11 @@
 //! What words ask for.
 
-ghost use Rattle.std.specs.Prelude.{◌≡◌, ℕ, Some, MatchOption, codes};
+ghost use Rattle.std.specs.Prelude.{◌≡◌, ℕ, Option, Some, MatchOption, codes};
 ghost use Rattle.clap.specs.Words.{found_of, rows_of, subcommand_rows_of};
 ghost use Rattle.rule_machine.specs.declared.rules.RuleSet.{RuleSet};
 ghost use Rattle.rule_machine.specs.Tables.{rules_word};
 ghost use Rattle.command_words.specs.declared.task.Task.{Task};
-ghost use Rattle.command_words.specs.Wanted.{HoldsRun, Holds};
+ghost use Rattle.command_words.specs.Wanted.{HoldsPicture, HoldsRun, Holds};
 
 use clap::{ArgMatches, Error};
 use rule_machine::RuleSet;
@@ -17,6 +17,10 @@ pub enum Task {
     Run { rules: RuleSet, nodes: u16 },
     /// To judge a transcript.
     Audit,
+    /// To draw the network behind this entry of a transcript, or behind the last.
+    Picture { entry: Option<u32> },
+    /// To list the epochs of a transcript.
+    Epochs,
     /// To show the help or the version, of which this is the text.
     Show(Error),
 }
@@ -54,6 +58,18 @@ fn run_task(run: &ArgMatches<'_>) -> Option<Task>
     Some(Task::Run { rules, nodes })
 }
 
+// What was found for `picture`; `None` where the value is no number.
+fn picture_task(picture: &ArgMatches<'_>) -> Option<Task>
+    ensures { MatchOption result
+        ((entry : Option ℕ) → HoldsPicture (rows_of (found_of picture.now)) entry → ⊥)
+        (λ task. Holds (Some (codes "picture", rows_of (found_of picture.now))) task) }
+{
+    match picture.try_get_one::<u32>("entry") {
+        Ok(entry) => Some(Task::Picture { entry }),
+        Err(_) => None,
+    }
+}
+
 /// What was found in the words; `None` where it is no task.
 pub(crate) fn asked(found: &ArgMatches<'_>) -> Option<Task>
     ensures { MatchOption result
@@ -68,6 +84,12 @@ pub(crate) fn asked(found: &ArgMatches<'_>) -> Option<Task>
     }
     if name == "audit" {
         return Some(Task::Audit);
+    }
+    if name == "picture" {
+        return picture_task(inner);
+    }
+    if name == "epochs" {
+        return Some(Task::Epochs);
     }
     None
 }

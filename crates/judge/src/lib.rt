@@ -6,6 +6,7 @@ mod choices;
 mod courted;
 mod guards;
 mod judging;
+mod looks;
 mod moves;
 mod net_state;
 mod questions;

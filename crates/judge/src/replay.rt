@@ -16,7 +16,7 @@ use std::marker::Model;
 /// between two calls, and those of the marks that a status makes anew.
 #[derive(Drop)]
 pub struct Judge {
-    net: NetState,
+    pub(crate) net: NetState,
     chosen: Chosen,
     courted: Courted,
 }

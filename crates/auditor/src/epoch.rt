@@ -1,0 +1,92 @@
+//! The epochs of a run.
+
+ghost use Rattle.std.specs.Prelude.{◌≡◌, ◌+◌, ◌*◌, ◌<◌, ◌^◌};
+ghost use Rattle.auditor.specs.Epochs.{bound_of};
+
+use rule_machine::RuleSet;
+use std::marker::Model;
+
+/// The entries between two accepted disturbances, or from the start on, or to the end.
+#[derive(Clone, Copy, Debug, PartialEq, Eq)]
+pub struct Epoch {
+    start: u32,
+    moves: u64,
+    edges: u32,
+    nodes: u32,
+}
+
+impl Model for Epoch {
+    ghost use Rattle.std.specs.Prelude.{ℕ};
+    ghost use Rattle.rule_machine.specs.Run as run;
+
+    ghost Value = { run.Epoch };
+
+    ghost view = { λ e. record { start = e.start; moves = e.moves; edges = e.edges; nodes = e.nodes } };
+
+    ghost inverse = { λ e. record { start = e.start; moves = e.moves; edges = e.edges; nodes = e.nodes } };
+}
+
+impl Epoch {
+    /// An epoch before its first move.
+    pub(crate) fn new(start: u32, edges: u32, nodes: u32) -> Epoch
+        ensures { result ≡ record { start = start; moves = 0; edges = edges; nodes = nodes } }
+    {
+        Epoch {
+            start,
+            moves: 0,
+            edges,
+            nodes,
+        }
+    }
+
+    /// The epoch with so many more moves.
+    pub(crate) fn with_moves(self, moves: u64) -> Epoch
+        requires { self.moves + moves < 2 ^ 64 }
+        ensures { result ≡ record self { moves = self.moves + moves } }
+    {
+        Epoch {
+            moves: self.moves + moves,
+            ..self
+        }
+    }
+
+    /// The number of the entry that began it, an accepted disturbance; 0 for the start of the run.
+    pub fn start(self) -> u32
+        ensures { result ≡ self.start }
+    {
+        self.start
+    }
+
+    /// How many moves were made in it.
+    pub fn moves(self) -> u64
+        ensures { result ≡ self.moves }
+    {
+        self.moves
+    }
+
+    /// How many edges the network has in it.
+    pub fn edges(self) -> u32
+        ensures { result ≡ self.edges }
+    {
+        self.edges
+    }
+
+    /// How many nodes the network has.
+    pub fn nodes(self) -> u32
+        ensures { result ≡ self.nodes }
+    {
+        self.nodes
+    }
+
+    /// The most moves that an epoch of so many edges and nodes has: twice the edges, and 1 for each node by the rules of
+    /// Hsu and Huang, 3 by those of Manne and others.
+    pub fn bound(self, rules: RuleSet) -> u64
+        ensures { result ≡ bound_of rules self }
+    {
+        let weight = match rules {
+            RuleSet::Hh => 1,
+            RuleSet::Manne => 3,
+        };
+        2 * u64::from(self.edges) + weight * u64::from(self.nodes)
+    }
+}

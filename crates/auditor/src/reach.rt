@@ -1,0 +1,75 @@
+//! The state to which the first entries of a transcript lead.
+
+ghost use Rattle.std.specs.Prelude.{◌≡◌, ◌<◌, ℕ, IfErr, IfOk, Some};
+ghost use Rattle.auditor.specs.declared.reach.ReplayFault.TheVariants.{TooFew};
+ghost use Rattle.auditor.specs.Reached.{IsLongEnough, IsReplayFault, IsStateAfter, falls_short};
+
+use crate::JudgeFault;
+use crate::replay::Replay;
+use judge::Judge;
+use rule_machine::RuleSet;
+use std::alloc::Global;
+
+/// Where a run is.
+#[derive(Drop)]
+pub struct Reached {
+    /// Its rules.
+    pub rules: RuleSet,
+    /// The judge in the state that the run has reached.
+    pub judge: Judge,
+}
+
+/// Why a state was not reached.
+#[derive(Clone, Copy, PartialEq, Eq)]
+pub enum ReplayFault {
+    /// A line that was looked at is damaged, or memory ran out.
+    Judged(JudgeFault),
+    /// The bytes are the transcript of a run, which has fewer entries than were asked for.
+    TooFew { asked: u32, entries: u32 },
+}
+
+// Whether so many entries end before the one with the number `last`, where one is named.
+fn falls_short(entries: u32, last: Option<u32>) -> bool
+    ensures { result ≡ falls_short last entries }
+{
+    match last {
+        Some(number) => entries < number,
+        None => true,
+    }
+}
+
+// The state that was reached, or how many entries there are, where there should be more.
+fn finish(replay: Replay<'_>, last: Option<u32>) -> Result<Reached, ReplayFault>
+    ensures reached { IfOk result (λ reached. (reached.rules ≡ replay.entry.rules) × (reached.judge ≡ replay.entry.audit.state) × IsLongEnough last replay.entry.audit.counted.entries) }
+    ensures few { IfErr result (λ fault. (asked : ℕ) × (fault ≡ TooFew asked replay.entry.audit.counted.entries) × (last ≡ Some asked) × (replay.entry.audit.counted.entries < asked)) }
+{
+    let entries = replay.audit.counted().entries;
+    match last {
+        Some(asked) if entries < asked => Err(ReplayFault::TooFew { asked, entries }),
+        _ => Ok(Reached {
+            rules: replay.rules,
+            judge: replay.audit.into_judge(),
+        }),
+    }
+}
+
+/// The state after the entry with the number `last`, 0 for the opening state, or after all entries, and the rules of the
+/// transcript's header. The line of that entry is the last one that is looked at: of the lines up to it those are good, and
+/// those damaged, that `audit_bytes` finds so. `TooFew` where all lines are good and no entry has that number; `Memory`
+/// if memory runs out. Costs what `audit_bytes` costs of these lines.
+pub fn state_after(alloc: Global, bytes: &[u8], last: Option<u32>) -> Result<Reached, ReplayFault>
+    ensures reached { IfOk result (λ reached. IsStateAfter bytes.now last reached.rules reached.judge) }
+    ensures fault { IfErr result (IsReplayFault bytes.now last) }
+{
+    let mut replay = match Replay::open(alloc, bytes) {
+        Ok(replay) => replay,
+        Err(fault) => return Err(ReplayFault::Judged(fault)),
+    };
+    while !replay.rest.is_empty() && falls_short(replay.entries(), last) {
+        match replay.advance(alloc) {
+            Ok(()) => {}
+            Err(fault) => return Err(ReplayFault::Judged(fault)),
+        }
+    }
+    finish(replay, last)
+}

@@ -1,0 +1,55 @@
+-- How it ends where a transcript is shown: what the writers have got, and the exit status.
+use Rattle.std.specs.Prelude.{◌≡◌, ◌⊎◌, ℕ, List, ◌++◌, Option, Result, Ok, Err, IfOk, codes}
+use Rattle.std.specs.Io.KnownBytes.{Appends, Keeps}
+use Rattle.byte_input.specs.declared.fault.InputFault.{InputFault}
+use Rattle.byte_input.specs.declared.fault.InputFault.TheVariants as input
+use Rattle.byte_output.specs.Beginning.{AppendsBeginning}
+use Rattle.line_text.specs.Words.{number_text}
+use Rattle.auditor.specs.Verdict.{of_damage}
+use Rattle.script_run.specs.declared.fault.RunFault.{RunFault}
+use Rattle.script_run.specs.declared.fault.RunFault.TheVariants as run
+use Rattle.transcript_view.specs.declared.view.View.{View}
+use Rattle.transcript_view.specs.declared.view.View.TheVariants.{Text, Refused, TooFew}
+use Rattle.command_line.specs.declared.verdict.CheckEnd.TheVariants as verdict
+use Rattle.command_line.specs.FaultText.{fault_line}
+use Rattle.command_line.specs.Status.{status_of}
+use Rattle.command_line.specs.VerdictText.{verdict_line}
+
+-- what a writer has got
+abbrev pub Known : Type 0
+Known = Option (List ℕ)
+
+-- that there is no such entry, with the LF that ends the line
+abbrev pub too_few_line : ℕ → ℕ → List ℕ
+too_few_line asked entries =
+    codes "! no entry " ++ (number_text asked ++ codes ": the transcript has ") ++ (number_text entries ++ codes " entries\n")
+
+-- a fault is told, and nothing is written
+abbrev pub TellsEarly : RunFault → Known → Known → Known → Known → ℕ → Type 0
+TellsEarly fault old new before after status = (status ≡ status_of fault) × Keeps old new × AppendsBeginning before after (fault_line fault)
+
+-- the text is written, or a beginning of it where a write failed, and that is told
+abbrev pub ShowsText : List ℕ → ℕ → Known → Known → Known → Known → ℕ → Type 0
+ShowsText text good old new before after status =
+    ((status ≡ good) × Appends old new text × Keeps before after)
+    ⊎ ((status ≡ 3) × AppendsBeginning old new text × AppendsBeginning before after (fault_line run.Write))
+
+-- it is told that there are too few entries, and nothing is written
+abbrev pub TellsTooFew : ℕ → ℕ → Known → Known → Known → Known → ℕ → Type 0
+TellsTooFew asked entries old new before after status = (status ≡ 2) × Keeps old new × AppendsBeginning before after (too_few_line asked entries)
+
+-- what is done with a view: the text is written, or the verdict that an audit gives, which is a text that may want memory
+abbrev pub TellsView : Result View InputFault → Known → Known → Known → Known → ℕ → Type 0
+TellsView (Ok (Text text)) old new before after status = ShowsText text.items 0 old new before after status
+TellsView (Ok (Refused damage)) old new before after status =
+    ShowsText (verdict_line (verdict.Refused (of_damage damage))) 1 old new before after status
+    ⊎ TellsEarly run.Memory old new before after status
+TellsView (Ok (TooFew asked entries)) old new before after status =
+    TellsTooFew asked entries old new before after status ⊎ TellsEarly run.Memory old new before after status
+TellsView (Err input.Read) old new before after status = TellsEarly run.Read old new before after status
+TellsView (Err input.Memory) old new before after status = TellsEarly run.Memory old new before after status
+
+-- the view was made of the input, or that was not read or memory ran out, and it is told so
+abbrev pub Views : (View → Type 0) → Known → Known → Known → Known → ℕ → Type 0
+Views is old new before after status =
+    (viewed : Result View InputFault) × IfOk viewed is × TellsView viewed old new before after status

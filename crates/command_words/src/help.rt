@@ -1,0 +1,96 @@
+//! The texts of the help.
+
+pub(crate) const ABOUT: &str =
+    "Pairs up the nodes of a changing network by local rules that mend every \
+disturbance by themselves, and writes down each event and its answer.";
+
+pub(crate) const EXAMPLES: &str = "\
+Examples:
+  console run --rules hh --nodes 4 < script.txt > transcript.txt
+  console audit < transcript.txt
+  console picture < transcript.txt > matching.dot
+  console help run";
+
+pub(crate) const RUN_ABOUT: &str =
+    "Runs the script on standard input and writes its transcript to standard output.";
+
+pub(crate) const RUN_NOTES: &str = "\
+Commands of a script, one a line, where A and B are names of nodes:
+  link A B      adds an edge            unlink A B    removes it
+  point A B     A's pointer becomes B   point A -     A's pointer becomes null
+  flag A 1      A's married flag is set flag A 0      A's married flag is cleared
+  step A B>A    moves the chosen nodes at once, B with a wish for its target
+  show A        where A points          enabled       the nodes with an enabled rule
+  matching      the pairs
+
+Examples:
+  console run --rules manne --nodes 4 < script.txt > transcript.txt
+  printf 'link 1 2\\nstep 1\\nstep 2\\nmatching\\n' | console run --rules hh --nodes 2
+
+Exit status:
+  0  the whole script was run
+  2  bad words, or a line that is not a command
+  3  a read or a write failed
+  4  memory ran out, or the log is full";
+
+pub(crate) const AUDIT_ABOUT: &str =
+    "Judges the transcript on standard input, in one line on standard output.";
+
+pub(crate) const AUDIT_NOTES: &str = "\
+It is accepted where it is the text of a run of the rules, whatever allowed targets were taken. Else the first line that
+fails is named, with the first of these that it fails: its form, its number, its reply.
+
+Examples:
+  console audit < transcript.txt
+  console run --rules hh --nodes 4 < script.txt | console audit
+
+Exit status:
+  0  accepted
+  1  refused
+  2  bad words
+  3  a read or a write failed
+  4  memory ran out";
+
+pub(crate) const PICTURE_ABOUT: &str =
+    "Draws the network that a transcript on standard input leads to, as a graph for Graphviz, on standard output.";
+
+pub(crate) const PICTURE_NOTES: &str = "\
+The graph has a line for each node and for each edge, ascending. A married node is filled, and an enabled node has its
+rule below its name. A mutual pair is a bold edge, and a pointer that is not answered is an arrow along its edge. The
+line of entry K, the last of which the graph tells, is the last one that is read: where audit refuses a line up to it,
+what audit says stands in place of the graph.
+
+Examples:
+  console picture < transcript.txt | dot -Tsvg > matching.svg
+  console picture --entry 0 < transcript.txt
+  diff <(console picture --entry 5 < transcript.txt) <(console picture < transcript.txt)
+
+To watch a long run and to draw where it ended:
+  console run --rules hh --nodes 9 < script.txt | tee transcript.txt
+  console picture < transcript.txt > matching.dot
+
+Exit status:
+  0  drawn
+  1  the transcript is refused
+  2  bad words, or there is no entry K
+  3  a read or a write failed
+  4  memory ran out";
+
+pub(crate) const EPOCHS_ABOUT: &str =
+    "Lists the epochs of the transcript on standard input, a line each, on standard output.";
+
+pub(crate) const EPOCHS_NOTES: &str = "\
+An epoch begins at the start and at each accepted disturbance. Its line has the number of the entry that began it, 0 for
+the start; its moves; how many edges and nodes there are in it; and the most moves that it can have. A transcript that
+audit refuses is refused in the same words.
+
+Examples:
+  console epochs < transcript.txt > epochs.csv
+  console run --rules manne --nodes 9 < script.txt | tee transcript.txt | console epochs
+
+Exit status:
+  0  listed
+  1  the transcript is refused
+  2  bad words
+  3  a read or a write failed
+  4  memory ran out";

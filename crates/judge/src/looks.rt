@@ -1,0 +1,58 @@
+//! What a judge's network looks like.
+
+ghost use Rattle.std.specs.Prelude.{◌≡◌, ◌≤◌, IsTrue};
+ghost use Rattle.rule_machine.specs.Network as network;
+ghost use Rattle.rule_machine.specs.RuleTable as table;
+ghost use Rattle.rule_machine.specs.State as state;
+ghost use Rattle.rule_machine.specs.Tables.{table_of};
+
+use crate::Judge;
+use rule_machine::{Act, Node, RuleSet};
+
+impl Judge {
+    /// How many nodes there are, at most 65,535.
+    pub fn nodes(&self) -> u32
+        ensures count { result ≡ network.node_count self.now.network }
+        ensures few { result ≤ 65535 }
+    {
+        self.net.nodes()
+    }
+
+    /// How many edges there are, at most 1,048,576.
+    pub fn edges(&self) -> u32
+        ensures { result ≡ network.edge_count self.now.network }
+    {
+        self.net.edges()
+    }
+
+    /// A node's neighbours, ascending.
+    pub fn neighbours(&self, v: Node) -> &[Node]
+        requires { IsTrue (network.present self.now.network v) }
+        ensures { result.now ≡ network.neighbours self.now.network v }
+    {
+        self.net.neighbours(v)
+    }
+
+    /// Whether a node points at another.
+    pub fn points(&self, v: Node, w: Node) -> bool
+        ensures { result ≡ state.points self.now.registers v w }
+    {
+        self.net.points(v, w)
+    }
+
+    /// Whether a node is in a mutual pair.
+    pub fn married(&self, v: Node) -> bool
+        requires { IsTrue (network.present self.now.network v) }
+        ensures { result ≡ state.married self.now v }
+    {
+        self.net.married(v)
+    }
+
+    /// The rule that is enabled at a node, if any is. Looks at its neighbours.
+    pub fn rule_at(&self, rules: RuleSet, v: Node) -> Option<Act>
+        requires { IsTrue (network.present self.now.network v) }
+        ensures { result ≡ table.rule_at (table_of rules) self.now v }
+    {
+        self.net.rule_at(rules, v)
+    }
+}

@@ -1,0 +1,39 @@
+-- What is shown of a transcript.
+use Rattle.std.specs.Prelude.{◌≡◌, ℕ, List, Option, All}
+use Rattle.rule_machine.specs.declared.rules.RuleSet.{RuleSet}
+use Rattle.rule_machine.specs.State.{State}
+use Rattle.rule_machine.specs.Run.{Epoch}
+use Rattle.auditor.specs.Damage.{IsDamage}
+use Rattle.auditor.specs.Epochs.{AreEpochs, IsWithinItsBound}
+use Rattle.auditor.specs.Reached.{HasTooFew, IsLookedAt, IsStateAfter, line_of}
+use Rattle.picture_text.specs.Picture.{picture_of}
+use Rattle.transcript_view.specs.declared.view.View.{View}
+use Rattle.transcript_view.specs.declared.view.View.TheVariants.{Text, Refused, TooFew}
+use Rattle.transcript_view.specs.Table.{epoch_table}
+
+-- the text is the picture of the state that the run has reached
+pub record IsPictureOf (bytes : List ℕ) (last : Option ℕ) (text : List ℕ) : Type 0 where
+  pub rules : RuleSet
+  pub state : State
+  pub reached : IsStateAfter bytes last rules state
+  pub text_is : text ≡ picture_of rules state
+
+-- the text is the table of the run's epochs, each of which is within its bound
+pub record IsTableOf (bytes : List ℕ) (text : List ℕ) : Type 0 where
+  pub rules : RuleSet
+  pub epochs : List Epoch
+  pub are : AreEpochs bytes rules epochs
+  pub bounded : All (IsWithinItsBound rules) epochs
+  pub text_is : text ≡ epoch_table rules epochs
+
+-- the state after this entry, or after all, is drawn; or a line up to it has the damage; or there is no such entry
+abbrev pub IsPicture : List ℕ → Option ℕ → View → Type 0
+IsPicture bytes last (Text text) = IsPictureOf bytes last text.items
+IsPicture bytes last (Refused damage) = IsDamage bytes damage × IsLookedAt last (line_of damage)
+IsPicture bytes last (TooFew asked entries) = HasTooFew bytes last asked entries
+
+-- the epochs are listed, or the bytes have the damage
+abbrev pub IsTable : List ℕ → View → Type 0
+IsTable bytes (Text text) = IsTableOf bytes text.items
+IsTable bytes (Refused damage) = IsDamage bytes damage
+IsTable bytes (TooFew asked entries) = ⊥

@@ -1,0 +1,7 @@
+//! What a transcript is shown as: a picture of a state that its run has reached, or the table of its epochs.
+#![tactic(auto)]
+
+mod table;
+mod view;
+
+pub use view::{View, view_epochs, view_picture};

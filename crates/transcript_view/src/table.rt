@@ -1,0 +1,47 @@
+//! The table of epochs.
+
+ghost use Rattle.std.specs.Prelude.{◌≡◌, ◌++◌, IfOk, OnOk};
+ghost use Rattle.line_text.specs.Words.{number_text};
+ghost use Rattle.transcript_view.specs.Table.{cell, epoch_row, epoch_table};
+
+use auditor::{Epoch, Epochs};
+use itoa::Buffer;
+use rule_machine::{RuleSet, Want};
+use std::alloc::Global;
+
+fn put_number(out: &mut Vec<u8>, number: u64) -> Result<(), Want>
+    ensures { OnOk result (out.new.items ≡ out.old.items ++ number_text number) }
+{
+    let mut digits = Buffer::new();
+    out.extend_from_slice(digits.format(number).as_bytes())
+}
+
+fn put_cell(out: &mut Vec<u8>, number: u64) -> Result<(), Want>
+    ensures { OnOk result (out.new.items ≡ out.old.items ++ cell number) }
+{
+    put_number(out, number)?;
+    out.extend_from_slice(b",")
+}
+
+fn put_epoch(out: &mut Vec<u8>, rules: RuleSet, epoch: Epoch) -> Result<(), Want>
+    ensures { OnOk result (out.new.items ≡ out.old.items ++ epoch_row rules epoch) }
+{
+    put_cell(out, u64::from(epoch.start()))?;
+    put_cell(out, epoch.moves())?;
+    put_cell(out, u64::from(epoch.edges()))?;
+    put_cell(out, u64::from(epoch.nodes()))?;
+    put_number(out, epoch.bound(rules))?;
+    out.extend_from_slice(b"\n")
+}
+
+/// The table of a run's epochs, of which a line takes some forty bytes. Fails for want of memory alone.
+pub(crate) fn epoch_table(alloc: Global, epochs: &Epochs) -> Result<Vec<u8>, Want>
+    ensures { IfOk result (λ text. text.items ≡ epoch_table epochs.now.rules epochs.now.list.items) }
+{
+    let mut out = Vec::new(alloc);
+    out.extend_from_slice(b"start,moves,edges,nodes,bound\n")?;
+    for &epoch in &epochs.list {
+        put_epoch(&mut out, epochs.rules, epoch)?;
+    }
+    Ok(out)
+}
