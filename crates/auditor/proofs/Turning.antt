@@ -6,8 +6,8 @@ use Rattle.rule_machine.specs.declared.rules.RuleSet.{RuleSet}
 use Rattle.rule_machine.specs.declared.rules.RuleSet.TheVariants.{Hh, Manne}
 use Rattle.rule_machine.specs.State.{State, opening}
 use Rattle.rule_machine.specs.RuleTable.{RuleTable}
-use Rattle.rule_machine.specs.Run.{Entry, Moment, Epoch, beginning, spent_after, epoch_at, epochs_by, epochs_from}
-use Rattle.rule_machine.specs.Answer.{Answers}
+use Rattle.rule_machine.specs.Run.{Entry, Moment, Epoch, beginning, epoch_at, epochs_by, epochs_from}
+use Rattle.rule_machine.specs.Answer.{Answers, spent_after}
 use Rattle.rule_machine.specs.Tables.{table_of}
 use Rattle.rule_machine.specs.HsuHuang.{hsu_huang}
 use Rattle.rule_machine.specs.Manne.{manne}
@@ -55,7 +55,7 @@ pub end_more : (start : Moment) (path : List Stage) (step : Stage) → path_end 
 end_more start [] step = refl
 end_more start (first ∷ path) step = end_more (record { state = first.1; spent = spent_after start.spent first.0.1 }) path step
 
-pub path_more : (t : RuleTable) (start : Moment) (path : List Stage) (step : Stage) → IsPath t start path → Answers t (path_end start path).state step.0.0 step.0.1 step.1 → IsPath t start (path ++ step ∷ [])
+pub path_more : (t : RuleTable) (start : Moment) (path : List Stage) (step : Stage) → IsPath t start path → Answers t (path_end start path).state (path_end start path).spent step.0.0 step.0.1 step.1 → IsPath t start (path ++ step ∷ [])
 path_more t start [] step is answers = (answers, tt)
 path_more t start (first ∷ path) step is answers = (is.0, path_more t (record { state = first.1; spent = spent_after start.spent first.0.1 }) path step is.1 answers)
 
@@ -81,6 +81,7 @@ pub record IsListed (bytes : List ℕ) (rules : RuleSet) (p : Position) (rest : 
   pub transcript : IsTranscript good rules nodes (entries path) (path_end (beginning nodes) path)
   pub splits : bytes ≡ good ++ rest
   pub state : p.state ≡ (path_end (beginning nodes) path).state
+  pub spent : p.spent ≡ (path_end (beginning nodes) path).spent
   pub counts : Counts p.counted (entries path)
   pub is_path : IsPath (table_of rules) (beginning nodes) path
   pub past_is : past ≡ (epochs_until 1 (epoch_at 0 (opening nodes)) path).0
@@ -93,6 +94,7 @@ listed_reached bytes rules p rest past epoch l = record {
   end = path_end (beginning l.nodes) l.path;
   follows = record { nodes = l.nodes; good = l.good; transcript = l.transcript; splits = l.splits };
   state = l.state;
+  spent = l.spent;
   counts = l.counts;
 }
 
@@ -106,6 +108,7 @@ listed_start bytes rules p rest epoch o is =
       transcript = follows.transcript;
       splits = follows.splits;
       state = ap (λ (q : Position). q.state) o.opening;
+      spent = ap (λ (q : Position). q.spent) o.opening;
       counts = record {
         entries = ap (λ (q : Position). q.counted.entries) o.opening;
         epochs = ap (λ (q : Position). q.counted.epochs) o.opening;
@@ -120,9 +123,9 @@ listed_start bytes rules p rest epoch o is =
 entries_more : (path : List Stage) (step : Stage) → entries (path ++ step ∷ []) ≡ entries path ++ step.0 ∷ []
 entries_more path step = map-append (λ (x : Stage). x.0) path (step ∷ [])
 
-listed_step : (bytes line : List ℕ) (rules : RuleSet) (p q : Position) (rest behind : List ℕ) (past next : List Epoch) (epoch after : Epoch) (entry : Entry) (l : IsListed bytes rules p rest past epoch) → first_line rest ≡ Some (line, behind) → SpellsEntry line (length (entries l.path) + 1) entry → Answers (table_of rules) (path_end (beginning l.nodes) l.path).state entry.0 entry.1 q.state → q.counted ≡ counted_more p.counted entry.1
+listed_step : (bytes line : List ℕ) (rules : RuleSet) (p q : Position) (rest behind : List ℕ) (past next : List Epoch) (epoch after : Epoch) (entry : Entry) (l : IsListed bytes rules p rest past epoch) → first_line rest ≡ Some (line, behind) → SpellsEntry line (length (entries l.path) + 1) entry → Answers (table_of rules) (path_end (beginning l.nodes) l.path).state (path_end (beginning l.nodes) l.path).spent entry.0 entry.1 q.state → q.spent ≡ spent_after (path_end (beginning l.nodes) l.path).spent entry.1 → q.counted ≡ counted_more p.counted entry.1
     → next ≡ past ++ (epochs_by entry.1 q.counted.entries q.state epoch).0 → after ≡ (epochs_by entry.1 q.counted.entries q.state epoch).1 → IsListed bytes rules q behind next after
-listed_step bytes line rules p q rest behind past next epoch after entry l cut spells answers counted next_is after_is =
+listed_step bytes line rules p q rest behind past next epoch after entry l cut spells answers spends counted next_is after_is =
     let start = beginning l.nodes in
     let end = path_end start l.path in
     let step : Stage = (entry, q.state) in
@@ -143,6 +146,7 @@ listed_step bytes line rules p q rest behind past next epoch after entry l cut s
       transcript = subst (λ (m : Moment). IsTranscript follows.good rules l.nodes (entries path) m) (sym moment) (subst (λ (log : List Entry). IsTranscript follows.good rules l.nodes log (record { state = q.state; spent = spent_after end.spent entry.1 })) (sym log) follows.transcript);
       splits = follows.splits;
       state = ap (λ (m : Moment). m.state) (sym moment);
+      spent = spends ∙ ap (λ (m : Moment). m.spent) (sym moment);
       counts = subst (λ (log : List Entry). Counts q.counted log) (sym log) (more_counts p.counted q.counted (entries l.path) entry l.counts counted);
       is_path = path_more (table_of rules) start l.path step l.is_path answers;
       past_is = turns.0;
@@ -156,9 +160,12 @@ pub listed_more : (bytes : List ℕ) (rules after_rules : RuleSet) (p q : Positi
 listed_more bytes rules after_rules p q rest behind past next epoch after same l one turn =
     let good = one.good in
     let spells = subst (λ (n : ℕ). SpellsEntry one.line (n + 1) good.entry) l.counts.entries good.spells in
-    let answers = subst (λ (s : State). Answers (table_of rules) s good.entry.0 good.entry.1 q.state) l.state good.answers in
+    let moved = subst (λ (s : State). Answers (table_of rules) s p.spent good.entry.0 good.entry.1 q.state) l.state good.answers in
+    let end = path_end (beginning l.nodes) l.path in
+    let answers = subst (λ (n : ℕ). Answers (table_of rules) end.state n good.entry.0 good.entry.1 q.state) l.spent moved in
+    let spends = good.spends ∙ ap (λ (n : ℕ). spent_after n good.entry.1) l.spent in
     let turned = turn good.entry.1 good.counted in
-    subst (λ (r : RuleSet). IsListed bytes r q behind next after) (sym same) (listed_step bytes one.line rules p q rest behind past next epoch after good.entry l one.cut spells answers good.counted turned.0 turned.1)
+    subst (λ (r : RuleSet). IsListed bytes r q behind next after) (sym same) (listed_step bytes one.line rules p q rest behind past next epoch after good.entry l one.cut spells answers spends good.counted turned.0 turned.1)
 
 -- ---- the end
 
