@@ -17,10 +17,8 @@ use Rattle.machine_laws.specs.Accepted.{accepted_keeps}
 use Rattle.rule_machine.specs.declared.event.Event.{Event}
 use Rattle.rule_machine.specs.declared.reply.Reply.{Reply}
 use Rattle.rule_machine.specs.declared.reply.Reply.TheVariants.{Accepted, Refused}
-use Rattle.rule_machine.specs.Answer.{Answers}
 use Rattle.rule_machine.specs.Least.{reply_by, state_by, reply_of, state_after}
 use Rattle.std.proofs.lemmas.Option.{none-some}
-use Rattle.machine_laws.specs.LeastAnswers.{least_answers}
 use Rattle.rule_engine.specs.Applied.{Applies, Answered, takes_memory}
 use Rattle.rule_engine.specs.Refused.{refused_as}
 
@@ -118,12 +116,6 @@ may_point net v (Some w) none = may_point_by net v w (present net v) (present ne
 -- the nodes that the moves of a choice name are present
 pub present_below : (size v : ℕ) → IsTrue (nat_le 1 v && nat_le v size) → v < size + 1
 present_below size v has = let bound = leb-true v size (and_parts (nat_le 1 v) (nat_le v size) has).1 in omega (arith, bound)
-
--- the machine's reply and state are an answer of the machine
-pub applied_answers : {E : Type 0} (t : RuleTable) → IsTable t → (s s' : State) → IsState s → (n : ℕ) (event : Event) (result : Result Reply E) → Applies t s n event result s' → IfOk result (λ reply. Answers t s n event reply s')
-applied_answers t table s s' good n event (Ok r) done =
-    subst (λ q. Answers t s n event q s') (sym done.reply) (subst (λ u. Answers t s n event (reply_of t s n event) u) (sym done.state) (least_answers t table s good n event))
-applied_answers t table s s' good n event (Err e) done = tt
 
 -- an answer that takes no memory
 pub answered_applies : {E : Type 0} (t : RuleTable) (s s' : State) (n : ℕ) (event : Event) (answer : Reply) → Answered t s n event answer s' → Applies {E = E} t s n event (Ok answer) s'

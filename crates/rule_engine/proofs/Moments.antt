@@ -42,10 +42,6 @@ pub turn_is_paid : (t : RuleTable) (weight : ℕ) → IsTable t → IsCharged t 
 turn_is_paid t weight table charged m paid event reply s told is =
     answer_is_paid t weight table charged m paid event reply s (turn_answers t table m paid.is_state event reply s told is)
 
-pub turn_after : (t : RuleTable) (m : Moment) (event : Event) (reply : Reply) (s : State) → reply ≡ reply_of t m.state m.spent event → s ≡ state_after t m.state event → moment s (spent_after m.spent reply) ≡ moment_after t m event
-turn_after t m event reply s told is =
-    ap (λ u. moment u (spent_after m.spent reply)) is ∙ ap (λ r. moment (state_after t m.state event) (spent_after m.spent r)) told
-
 -- ---- events in turn
 
 moment_after_append : (t : RuleTable) (m : Moment) (xs ys : List Event) → moment_after_all t m (xs ++ ys) ≡ moment_after_all t (moment_after_all t m xs) ys
