@@ -11,10 +11,10 @@ use Rattle.rule_machine.specs.declared.act.Act.TheVariants.{Update, Marry, Seduc
 use Rattle.rule_machine.specs.declared.choice.Item.{Item}
 use Rattle.rule_machine.specs.declared.moved.Moved.{Moved}
 use Rattle.rule_machine.specs.declared.event.Event.{Event}
-use Rattle.rule_machine.specs.declared.event.Event.TheVariants.{Link, Unlink, Point, Flag, Step, Show, Enabled, Matching}
+use Rattle.rule_machine.specs.declared.event.Event.TheVariants.{Link, Unlink, Point, Flag, Step, Show, Enabled, Matching, Status}
 use Rattle.rule_machine.specs.declared.refusal.Refusal.{Refusal}
 use Rattle.rule_machine.specs.declared.reply.Reply.{Reply}
-use Rattle.rule_machine.specs.declared.reply.Reply.TheVariants.{Accepted, Refused, Moves, Shown, EnabledAre, Pairs}
+use Rattle.rule_machine.specs.declared.reply.Reply.TheVariants.{Accepted, Refused, Moves, Shown, EnabledAre, Pairs, Counts}
 use Rattle.rule_machine.specs.Network.{names, node_count}
 use Rattle.rule_machine.specs.State.{State, partner}
 use Rattle.rule_machine.specs.RuleTable.{RuleTable, enabled, rule_at}
@@ -96,18 +96,19 @@ pairs_few s =
 
 -- ---- all replies
 
-does_fit : (t : RuleTable) (s : State) (event : Event) (reply : Reply) (s' : State) → node_count s.network ≤ 65535 → most_moves event ≤ 65535 → Does t s event reply s' → fits event reply ≡ true
-does_fit t s (Link a b) Accepted s' few most does = refl
-does_fit t s (Unlink a b) Accepted s' few most does = refl
-does_fit t s (Point v target) Accepted s' few most does = refl
-does_fit t s (Flag v value) Accepted s' few most does = refl
-does_fit t s (Step items) (Moves moves) s' few most does = step_fits t s items moves s' most does
-does_fit t s (Show v) (Shown target) s' few most does = refl
-does_fit t s Enabled (EnabledAre nodes) s' few most does =
+does_fit : (t : RuleTable) (s : State) (n : ℕ) (event : Event) (reply : Reply) (s' : State) → node_count s.network ≤ 65535 → most_moves event ≤ 65535 → Does t s n event reply s' → fits event reply ≡ true
+does_fit t s n (Link a b) Accepted s' few most does = refl
+does_fit t s n (Unlink a b) Accepted s' few most does = refl
+does_fit t s n (Point v target) Accepted s' few most does = refl
+does_fit t s n (Flag v value) Accepted s' few most does = refl
+does_fit t s n (Step items) (Moves moves) s' few most does = step_fits t s items moves s' most does
+does_fit t s n (Show v) (Shown target) s' few most does = refl
+does_fit t s n Enabled (EnabledAre nodes) s' few most does =
     le-leb (length nodes) 65535 (omega (arith, few, ap (λ (x : List (ℕ × Act)). length x) does.0, enabled_few t s))
-does_fit t s Matching (Pairs pairs) s' few most does =
+does_fit t s n Matching (Pairs pairs) s' few most does =
     le-leb (length pairs) 65535 (omega (arith, few, ap (λ (x : List (ℕ × ℕ)). length x) does.0, pairs_few s))
-does_fit t s event reply s' few most does = absurd does
+does_fit t s n Status (Counts counts) s' few most does = refl
+does_fit t s n event reply s' few most does = absurd does
 
 refused_fits : (t : RuleTable) (s : State) (event : Event) (refusal : Refusal) → refusal_of t s event ≡ Some refusal → fits event (Refused refusal) ≡ true
 refused_fits t s (Link a b) refusal e = refl
@@ -118,31 +119,33 @@ refused_fits t s (Step items) refusal e = refl
 refused_fits t s (Show v) refusal e = refl
 refused_fits t s Enabled refusal e = absurd (none-some refusal e)
 refused_fits t s Matching refusal e = absurd (none-some refusal e)
+refused_fits t s Status refusal e = absurd (none-some refusal e)
 
-fits_by : (t : RuleTable) (s : State) (event : Event) (r : Option Refusal) (reply : Reply) (s' : State) → refusal_of t s event ≡ r → node_count s.network ≤ 65535 → most_moves event ≤ 65535 → AnswersBy t s event r reply s' → fits event reply ≡ true
-fits_by t s event (Some refusal) reply s' e few most answers =
+fits_by : (t : RuleTable) (s : State) (n : ℕ) (event : Event) (r : Option Refusal) (reply : Reply) (s' : State) → refusal_of t s event ≡ r → node_count s.network ≤ 65535 → most_moves event ≤ 65535 → AnswersBy t s n event r reply s' → fits event reply ≡ true
+fits_by t s n event (Some refusal) reply s' e few most answers =
     ap (fits event) answers.0 ∙ refused_fits t s event refusal e
-fits_by t s event None reply s' e few most answers = does_fit t s event reply s' few most answers
+fits_by t s n event None reply s' e few most answers = does_fit t s n event reply s' few most answers
 
 -- what the machine answers is of the event's kind
-pub answer_fits : (t : RuleTable) (s : State) (event : Event) (reply : Reply) (s' : State) → node_count s.network ≤ 65535 → most_moves event ≤ 65535 → Answers t s event reply s' → fits event reply ≡ true
-answer_fits t s event reply s' few most answers = fits_by t s event (refusal_of t s event) reply s' refl few most answers
+pub answer_fits : (t : RuleTable) (s : State) (n : ℕ) (event : Event) (reply : Reply) (s' : State) → node_count s.network ≤ 65535 → most_moves event ≤ 65535 → Answers t s n event reply s' → fits event reply ≡ true
+answer_fits t s n event reply s' few most answers = fits_by t s n event (refusal_of t s event) reply s' refl few most answers
 
-does_few : (t : RuleTable) (s : State) (event : Event) (reply : Reply) (s' : State) → Does t s event reply s' → moves_len reply ≤ most_moves event
-does_few t s (Link a b) Accepted s' does = omega arith
-does_few t s (Unlink a b) Accepted s' does = omega arith
-does_few t s (Point v target) Accepted s' does = omega arith
-does_few t s (Flag v value) Accepted s' does = omega arith
-does_few t s (Step items) (Moves moves) s' does = moves_few t s items moves s' does
-does_few t s (Show v) (Shown target) s' does = omega arith
-does_few t s Enabled (EnabledAre nodes) s' does = omega arith
-does_few t s Matching (Pairs pairs) s' does = omega arith
-does_few t s event reply s' does = absurd does
+does_few : (t : RuleTable) (s : State) (n : ℕ) (event : Event) (reply : Reply) (s' : State) → Does t s n event reply s' → moves_len reply ≤ most_moves event
+does_few t s n (Link a b) Accepted s' does = omega arith
+does_few t s n (Unlink a b) Accepted s' does = omega arith
+does_few t s n (Point v target) Accepted s' does = omega arith
+does_few t s n (Flag v value) Accepted s' does = omega arith
+does_few t s n (Step items) (Moves moves) s' does = moves_few t s items moves s' does
+does_few t s n (Show v) (Shown target) s' does = omega arith
+does_few t s n Enabled (EnabledAre nodes) s' does = omega arith
+does_few t s n Matching (Pairs pairs) s' does = omega arith
+does_few t s n Status (Counts counts) s' does = omega arith
+does_few t s n event reply s' does = absurd does
 
-few_by : (t : RuleTable) (s : State) (event : Event) (r : Option Refusal) (reply : Reply) (s' : State) → AnswersBy t s event r reply s' → moves_len reply ≤ most_moves event
-few_by t s event (Some refusal) reply s' answers = omega (arith, ap moves_len answers.0)
-few_by t s event None reply s' answers = does_few t s event reply s' answers
+few_by : (t : RuleTable) (s : State) (n : ℕ) (event : Event) (r : Option Refusal) (reply : Reply) (s' : State) → AnswersBy t s n event r reply s' → moves_len reply ≤ most_moves event
+few_by t s n event (Some refusal) reply s' answers = omega (arith, ap moves_len answers.0)
+few_by t s n event None reply s' answers = does_few t s n event reply s' answers
 
 -- and has no more moves than the event has items
-pub answer_few : (t : RuleTable) (s : State) (event : Event) (reply : Reply) (s' : State) → Answers t s event reply s' → moves_len reply ≤ most_moves event
-answer_few t s event reply s' answers = few_by t s event (refusal_of t s event) reply s' answers
+pub answer_few : (t : RuleTable) (s : State) (n : ℕ) (event : Event) (reply : Reply) (s' : State) → Answers t s n event reply s' → moves_len reply ≤ most_moves event
+answer_few t s n event reply s' answers = few_by t s n event (refusal_of t s event) reply s' answers

@@ -3,3 +3,5 @@ pub mod Opening
 pub mod Rising
 pub mod Fitting
 pub mod Running
+pub mod Walking
+pub mod Told

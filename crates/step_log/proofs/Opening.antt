@@ -9,7 +9,6 @@ use Rattle.step_log.specs.Log.{IsLog, IsRecorded, empty_log}
 -- the empty log is one
 empty_is_log : (t : RuleTable) (nodes limit : ℕ) → nodes ≤ 65535 → limit ≤ max_entries → IsLog t (empty_log nodes limit)
 empty_is_log t nodes limit few most = record {
-  spent = 0;
   run = refl;
   nodes = few;
   room = omega arith;

@@ -4,29 +4,30 @@ use Rattle.rule_machine.specs.declared.event.Event.{Event}
 use Rattle.rule_machine.specs.Network.{node_count}
 use Rattle.rule_machine.specs.State.{State, opening}
 use Rattle.rule_machine.specs.RuleTable.{RuleTable}
-use Rattle.rule_machine.specs.Least.{reply_of, state_after}
+use Rattle.rule_machine.specs.Least.{reply_of, state_after, spent_by}
 use Rattle.rule_machine.specs.Run.{Entry, Run, beginning}
 use Rattle.step_log.specs.declared.receipt.Receipt.{Receipt}
 use Rattle.step_log.specs.Recording.{Recording}
 pub use Rattle.step_log.specs.Recording.{max_entries}
 
--- the state of a network, the events and replies that led to it, and how many of them there may be
+-- the state of a network, the moves since it was last disturbed, the events and replies that led to it, and how many of
+-- them there may be
 pub record Log : Type 0 where
   pub state : State
+  pub spent : ℕ
   pub entries : List Entry
   pub limit : ℕ
 
--- the entries are a run of the machine from the opening state to the state, and they are not too many
+-- the entries are a run of the machine from the opening state to the state and what is spent, and they are not too many
 pub record IsLog (t : RuleTable) (log : Log) : Type 0 where
-  pub spent : ℕ
-  pub run : Run t (beginning (node_count log.state.network)) log.entries (record { state = log.state; spent = spent })
+  pub run : Run t (beginning (node_count log.state.network)) log.entries (record { state = log.state; spent = log.spent })
   pub nodes : node_count log.state.network ≤ 65535
   pub room : length log.entries ≤ log.limit
   pub limit : log.limit ≤ max_entries
 
 -- what a recording and the entries that it gave hold together
 abbrev pub log_of : Recording → List Entry → Log
-log_of r entries = record { state = r.state; entries = entries; limit = r.limit }
+log_of r entries = record { state = r.state; spent = r.spent; entries = entries; limit = r.limit }
 
 -- the entries are a log, and those that the recording has counted
 pub record IsRecorded (t : RuleTable) (r : Recording) (entries : List Entry) : Type 0 where
@@ -35,18 +36,23 @@ pub record IsRecorded (t : RuleTable) (r : Recording) (entries : List Entry) : T
 
 -- the log before any event
 abbrev pub empty_log : ℕ → ℕ → Log
-empty_log nodes limit = record { state = opening nodes; entries = []; limit = limit }
+empty_log nodes limit = record { state = opening nodes; spent = 0; entries = []; limit = limit }
 
 -- the event with the reply to it
 abbrev pub entry_of : RuleTable → Log → Event → Entry
-entry_of t log event = (event, reply_of t log.state event)
+entry_of t log event = (event, reply_of t log.state log.spent event)
 
--- the log with the event's entry at its end, and the state after it
+-- the log with the event's entry at its end, and the state and what is spent after it
 abbrev pub recorded : RuleTable → Log → Event → Log
 recorded t log event =
-    record { state = state_after t log.state event; entries = log.entries ++ entry_of t log event ∷ []; limit = log.limit }
+    record {
+      state = state_after t log.state event;
+      spent = spent_by t log.state log.spent event;
+      entries = log.entries ++ entry_of t log event ∷ [];
+      limit = log.limit;
+    }
 
 -- what the caller is told of it
 abbrev pub receipt_of : RuleTable → Log → Event → Receipt
 receipt_of t log event =
-    record { seq = length log.entries + 1; event = event; reply = reply_of t log.state event }
+    record { seq = length log.entries + 1; event = event; reply = reply_of t log.state log.spent event }

@@ -4,15 +4,16 @@ use Rattle.rule_machine.specs.declared.event.Event.{Event}
 use Rattle.rule_machine.specs.Network.{node_count}
 use Rattle.rule_machine.specs.State.{State, IsState, opening}
 use Rattle.rule_machine.specs.RuleTable.{RuleTable}
-use Rattle.rule_machine.specs.Least.{state_after}
+use Rattle.rule_machine.specs.Least.{state_after, spent_by}
 
 -- the most entries that a log may hold
 abbrev pub max_entries : ℕ
 max_entries = 16777216
 
--- the state of a network, how many entries led to it, and how many there may be
+-- the state of a network, the moves since it was last disturbed, how many entries led to it, and how many there may be
 pub record Recording : Type 0 where
   pub state : State
+  pub spent : ℕ
   pub len : ℕ
   pub limit : ℕ
 
@@ -24,15 +25,16 @@ pub record IsRecording (r : Recording) : Type 0 where
 
 -- the recording before any event
 abbrev pub opening_recording : ℕ → ℕ → Recording
-opening_recording nodes limit = record { state = opening nodes; len = 0; limit = limit }
+opening_recording nodes limit = record { state = opening nodes; spent = 0; len = 0; limit = limit }
 
 -- the event was carried out
 abbrev pub answered : RuleTable → Recording → Event → Recording
-answered t r event = record { state = state_after t r.state event; len = r.len; limit = r.limit }
+answered t r event =
+    record { state = state_after t r.state event; spent = spent_by t r.state r.spent event; len = r.len; limit = r.limit }
 
 -- one entry more
 abbrev pub counted : Recording → Recording
-counted r = record { state = r.state; len = r.len + 1; limit = r.limit }
+counted r = record { state = r.state; spent = r.spent; len = r.len + 1; limit = r.limit }
 
 -- the recording after the event's entry
 abbrev pub entered : RuleTable → Recording → Event → Recording

@@ -104,6 +104,7 @@ fn copied(reply: &Reply, room: Vec<Moved>) -> Result<Reply, Want>
         Reply::Shown(target) => Ok(Reply::Shown(*target)),
         Reply::EnabledAre(nodes) => Ok(Reply::EnabledAre(nodes.clone()?)),
         Reply::Pairs(pairs) => Ok(Reply::Pairs(pairs.clone()?)),
+        Reply::Counts(counts) => Ok(Reply::Counts(*counts)),
     }
 }
 

@@ -1,19 +1,22 @@
 //! A network with its log.
 
-ghost use Rattle.std.specs.Prelude.{◌≡◌, ◌<◌, ◌≤◌, ◌+◌, ◌-◌, ◌⊎◌, ◌↔◌, ◌++◌, ◌∷◌, [], ℕ, length, min, IfOk, IfErr, OnOk, OnErr, IsErrOf, IsTrue, Option, Some, MatchOption, slice_get, vec_capacity};
+ghost use Rattle.std.specs.Prelude.{◌≡◌, ◌<◌, ◌≤◌, ◌+◌, ◌-◌, ◌*◌, ◌⊎◌, ◌↔◌, ◌++◌, ◌∷◌, [], ℕ, All, length, min, IfOk, IfErr, OnOk, OnErr, IsErrOf, IsTrue, Option, Some, MatchOption, slice_get, vec_capacity};
 ghost use Rattle.log_entry.specs.Kinds.{fits};
 ghost use Rattle.graph_store.specs.Fault.{nodes_fault, Explains};
 ghost use Rattle.rule_machine.specs.declared.event.Event.TheVariants.{Step};
 ghost use Rattle.rule_engine.specs.Choosing.{verdicts_of};
 ghost use Rattle.step_log.specs.declared.fault.RecordFault.TheVariants.{LogFull};
 ghost use Rattle.step_log.specs.Draft.{most_moves};
+ghost use Rattle.step_log.specs.Epochs.{AreEpochs, IsBounded};
+ghost use Rattle.rule_machine.specs.Network.{node_count, edge_count};
 ghost use Rattle.step_log.specs.Log.{max_entries, IsLog, empty_log, recorded, receipt_of};
 ghost use Rattle.rule_machine.specs.Least.{reply_of};
 
 use crate::draft::{Draft, item_count};
-use crate::{MAX_ENTRIES, Receipt, RecordFault, Recorder};
+use crate::epoch::epochs_of;
+use crate::{Epoch, MAX_ENTRIES, Receipt, RecordFault, Recorder};
 use log_entry::Entry;
-use rule_engine::{Choice, Event, GraphFault, Net, Reply, Rules, Verdict};
+use rule_engine::{Choice, Event, GraphFault, Net, Reply, Rules, Verdict, Want};
 use rule_machine::MAX_ITEMS;
 use std::alloc::Global;
 use std::marker::Model;
@@ -91,10 +94,30 @@ impl<R: Rules> Journal<R> {
 
     /// The network as the entries have left it.
     pub fn net(&self) -> &Net<R>
-        ensures state { result.now ≡ self.now.state }
+        ensures state { result.now.state ≡ self.now.state }
+        ensures spent { result.now.spent ≡ self.now.spent }
         ensures run { IsLog R.table self.now }
     {
         self.recorder.net()
+    }
+
+    /// The moves since the last accepted disturbance, or since the start. With the charge they are at most twice the
+    /// edges and the rules' weight for each node. One look.
+    pub fn spent(&self) -> u32
+        ensures count { result ≡ self.now.spent }
+        ensures bound { self.now.spent + R.table.charge self.now.state ≤ 2 * edge_count self.now.state.network + R.NODE_WEIGHT * node_count self.now.state.network }
+    {
+        self.recorder.spent()
+    }
+
+    /// The epochs of the log in order, the first from the start, the last up to now: each has at most twice its edges and
+    /// the rules' weight for each node as its moves. `Memory` if memory runs out. One walk over the entries, with no look
+    /// at the network.
+    pub fn epochs(&self) -> Result<Vec<Epoch>, Want>
+        ensures epochs { IfOk result (λ epochs. AreEpochs R.table (node_count self.now.state.network) self.now.entries epochs.items) }
+        ensures bound { IfOk result (λ epochs. All (IsBounded R.NODE_WEIGHT) epochs.items) }
+    {
+        epochs_of(self.alloc, self.net().store().nodes(), &self.entries)
     }
 
     /// Whether there are as many entries as there may be.
@@ -126,7 +149,7 @@ impl<R: Rules> Journal<R> {
     /// The same, and gives the reply once more. All copies are had before the network changes.
     pub fn record_told(&mut self, event: Event) -> Result<(Receipt, Reply), RecordFault>
         ensures receipt { IfOk result (λ told. told.0 ≡ receipt_of R.table self.old event) }
-        ensures reply { IfOk result (λ told. told.1 ≡ reply_of R.table self.old.state event) }
+        ensures reply { IfOk result (λ told. told.1 ≡ reply_of R.table self.old.state self.old.spent event) }
         ensures log { OnOk result (self.new ≡ recorded R.table self.old event) }
         ensures full { length self.old.entries ≡ self.old.limit → IsErrOf result LogFull }
         ensures not_full { IsErrOf result LogFull → length self.old.entries ≡ self.old.limit }

@@ -3,12 +3,14 @@
 
 mod answer;
 mod draft;
+mod epoch;
 mod fault;
 mod journal;
 mod receipt;
 mod recorder;
 
 pub use answer::Answer;
+pub use epoch::Epoch;
 pub use fault::RecordFault;
 pub use journal::Journal;
 pub use log_entry::Entry;

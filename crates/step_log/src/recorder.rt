@@ -1,8 +1,9 @@
 //! A network whose entries are numbered.
 
-ghost use Rattle.std.specs.Prelude.{◌≡◌, ◌<◌, ◌≤◌, ◌+◌, ◌↔◌, min, IfOk, IfErr, OnOk, OnErr, IsErrOf, IsTrue};
+ghost use Rattle.std.specs.Prelude.{◌≡◌, ◌<◌, ◌≤◌, ◌+◌, ◌*◌, ◌↔◌, min, IfOk, IfErr, OnOk, OnErr, IsErrOf, IsTrue};
 ghost use Rattle.graph_store.specs.Fault.{nodes_fault, Explains};
 ghost use Rattle.rule_machine.specs.declared.event.Event.TheVariants.{Step};
+ghost use Rattle.rule_machine.specs.Network.{node_count, edge_count};
 ghost use Rattle.rule_machine.specs.Answer.{Answers};
 ghost use Rattle.rule_machine.specs.Least.{reply_of};
 ghost use Rattle.rule_engine.specs.Choosing.{verdicts_of};
@@ -34,9 +35,9 @@ impl<R: Rules> Model for Recorder<R> {
 
     ghost coded = { Prim.hlevel (codes, state_code) };
 
-    ghost view = { λ r. record { state = r.net; len = r.len; limit = r.limit } };
+    ghost view = { λ r. record { state = r.net.state; spent = r.net.spent; len = r.len; limit = r.limit } };
 
-    ghost invariant = { λ r. IsRecording (record { state = r.net; len = r.len; limit = r.limit }) };
+    ghost invariant = { λ r. IsRecording (record { state = r.net.state; spent = r.net.spent; len = r.len; limit = r.limit }) };
 }
 
 impl<R: Rules> Recorder<R> {
@@ -81,9 +82,19 @@ impl<R: Rules> Recorder<R> {
 
     /// The network as the entries have left it.
     pub fn net(&self) -> &Net<R>
-        ensures { result.now ≡ self.now.state }
+        ensures state { result.now.state ≡ self.now.state }
+        ensures spent { result.now.spent ≡ self.now.spent }
     {
         &self.net
+    }
+
+    /// The moves since the last accepted disturbance, or since the start. With the charge they are at most twice the
+    /// edges and the rules' weight for each node. One look.
+    pub fn spent(&self) -> u32
+        ensures count { result ≡ self.now.spent }
+        ensures bound { self.now.spent + R.table.charge self.now.state ≤ 2 * edge_count self.now.state.network + R.NODE_WEIGHT * node_count self.now.state.network }
+    {
+        self.net.spent()
     }
 
     /// Carries out an event, and gives the number of its entry, from 1, and the reply to it. `LogFull` exactly where
@@ -91,8 +102,8 @@ impl<R: Rules> Recorder<R> {
     /// nothing has changed. Takes the memory of the reply and no other.
     pub fn log(&mut self, event: &Event) -> Result<Answer, RecordFault>
         ensures number { IfOk result (λ answer. answer.seq ≡ self.old.len + 1) }
-        ensures reply { IfOk result (λ answer. answer.reply ≡ reply_of R.table self.old.state event.now) }
-        ensures machine { IfOk result (λ answer. Answers R.table self.old.state event.now answer.reply self.new.state) }
+        ensures reply { IfOk result (λ answer. answer.reply ≡ reply_of R.table self.old.state self.old.spent event.now) }
+        ensures machine { IfOk result (λ answer. Answers R.table self.old.state self.old.spent event.now answer.reply self.new.state) }
         ensures below { OnOk result (self.old.len < self.old.limit) }
         ensures recording { OnOk result (self.new ≡ entered R.table self.old event.now) }
         ensures full { self.old.len ≡ self.old.limit → IsErrOf result LogFull }
@@ -110,8 +121,8 @@ impl<R: Rules> Recorder<R> {
     pub fn log_step(&mut self, choice: &Choice, verdicts: &[Verdict]) -> Result<Answer, RecordFault>
         requires { verdicts.now ≡ verdicts_of R.table self.old.state choice.now }
         ensures number { IfOk result (λ answer. answer.seq ≡ self.old.len + 1) }
-        ensures reply { IfOk result (λ answer. answer.reply ≡ reply_of R.table self.old.state (Step choice.now)) }
-        ensures machine { IfOk result (λ answer. Answers R.table self.old.state (Step choice.now) answer.reply self.new.state) }
+        ensures reply { IfOk result (λ answer. answer.reply ≡ reply_of R.table self.old.state self.old.spent (Step choice.now)) }
+        ensures machine { IfOk result (λ answer. Answers R.table self.old.state self.old.spent (Step choice.now) answer.reply self.new.state) }
         ensures below { OnOk result (self.old.len < self.old.limit) }
         ensures recording { OnOk result (self.new ≡ entered R.table self.old (Step choice.now)) }
         ensures full { self.old.len ≡ self.old.limit → IsErrOf result LogFull }
@@ -139,8 +150,8 @@ impl<R: Rules> Recorder<R> {
 
     /// Carries out an event, whose entry is not counted yet.
     pub(crate) fn answer(&mut self, event: &Event) -> Result<Reply, Want>
-        ensures reply { IfOk result (λ reply. reply ≡ reply_of R.table self.old.state event.now) }
-        ensures machine { IfOk result (λ reply. Answers R.table self.old.state event.now reply self.new.state) }
+        ensures reply { IfOk result (λ reply. reply ≡ reply_of R.table self.old.state self.old.spent event.now) }
+        ensures machine { IfOk result (λ reply. Answers R.table self.old.state self.old.spent event.now reply self.new.state) }
         ensures recording { OnOk result (self.new ≡ answered R.table self.old event.now) }
         ensures kept { OnErr result (self.new ≡ self.old) }
     {
@@ -154,8 +165,8 @@ impl<R: Rules> Recorder<R> {
         verdicts: &[Verdict],
     ) -> Result<Reply, Want>
         requires { verdicts.now ≡ verdicts_of R.table self.old.state choice.now }
-        ensures reply { IfOk result (λ reply. reply ≡ reply_of R.table self.old.state (Step choice.now)) }
-        ensures machine { IfOk result (λ reply. Answers R.table self.old.state (Step choice.now) reply self.new.state) }
+        ensures reply { IfOk result (λ reply. reply ≡ reply_of R.table self.old.state self.old.spent (Step choice.now)) }
+        ensures machine { IfOk result (λ reply. Answers R.table self.old.state self.old.spent (Step choice.now) reply self.new.state) }
         ensures recording { OnOk result (self.new ≡ answered R.table self.old (Step choice.now)) }
         ensures kept { OnErr result (self.new ≡ self.old) }
     {
