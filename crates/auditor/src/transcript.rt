@@ -46,8 +46,8 @@ fn judge_read(alloc: Global, read: Result<Vec<u8>, InputFault>) -> Result<Summar
 /// Judges the bytes of a transcript: accepts exactly those that are the text of a run of the rule machine, whatever
 /// allowed targets it took, and counts its entries, epochs and moves. Else the first line that fails is named, by the
 /// first of these that it fails: its form, its number, its reply. `Memory` if memory runs out. An entry costs its
-/// line and what the judge looks at: look-ups, and the neighbours of the nodes that move; `enabled` costs a look at all
-/// edges, and `matching` one at all nodes.
+/// line and what the judge looks at: look-ups, and the neighbours of the nodes that move; `enabled` and `status` cost a
+/// look at all edges, and `matching` one at all nodes.
 pub fn audit_bytes(alloc: Global, bytes: &[u8]) -> Result<Summary, JudgeFault>
     ensures judged { IsJudged bytes.now result }
     ensures accepts_runs { (counted : Summary) → IsAccepted bytes.now counted → (result ≡ Ok counted) ⊎ (result ≡ Err Memory) }
