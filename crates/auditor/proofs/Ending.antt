@@ -33,12 +33,12 @@ header_first bytes rules log end rest f =
     f.splits ∙ ap (λ (l : List ℕ). l ++ rest) f.transcript.text ∙ append_assoc (header_line rules f.nodes) lines rest ∙ append_assoc header (10 ∷ []) (lines ++ rest) in
     ap first_line whole ∙ first_line-free header (lines ++ rest) (header_free rules f.nodes f.transcript.few)
 
-record Begun (r q : RuleSet) (m n : ℕ) (lines also : List ℕ) : Type 0 where
-  rules : r ≡ q
-  nodes : m ≡ n
-  behind : lines ≡ also
+pub record Begun (r q : RuleSet) (m n : ℕ) (lines also : List ℕ) : Type 0 where
+  pub rules : r ≡ q
+  pub nodes : m ≡ n
+  pub behind : lines ≡ also
 
-begun : (bytes : List ℕ) (r q : RuleSet) (log also : List Entry) (end last : Moment) (rest left : List ℕ) (f : Follows bytes r log end rest) (g : Follows bytes q also last left) → Begun r q f.nodes g.nodes (entry_lines 1 log ++ rest) (entry_lines 1 also ++ left)
+pub begun : (bytes : List ℕ) (r q : RuleSet) (log also : List Entry) (end last : Moment) (rest left : List ℕ) (f : Follows bytes r log end rest) (g : Follows bytes q also last left) → Begun r q f.nodes g.nodes (entry_lines 1 log ++ rest) (entry_lines 1 also ++ left)
 begun bytes r q log also end last rest left f g =
     let header = header_text r f.nodes in
     let other = header_text q g.nodes in

@@ -8,3 +8,4 @@ pub mod Undamaged
 pub mod Exact
 pub mod Arriving
 pub mod Turning
+pub mod Level
