@@ -8,6 +8,8 @@ use crate::Receipt;
 use rule_machine::{Choice, Event, Listing, Moved, Reply, Want};
 use std::alloc::Global;
 
+mod twice;
+
 /// A receipt that lacks its reply: a copy of the event, and room for the moves that it may be answered by.
 #[derive(Drop)]
 pub(crate) struct Draft {

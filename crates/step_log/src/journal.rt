@@ -18,6 +18,8 @@ use std::alloc::Global;
 use std::marker::Model;
 use std::mem::size_of;
 
+mod telling;
+
 /// The most entries that a log may hold.
 pub const MAX_ENTRIES: u32 = 16_777_216;
 
