@@ -1,0 +1,8 @@
+//! One network for many callers, each of whom keeps receipts, and the settling of these against the log.
+#![tactic(auto)]
+
+mod clerk;
+mod settle_fault;
+
+pub use clerk::Clerk;
+pub use settle_fault::SettleFault;
