@@ -1,5 +1,6 @@
 -- Where every log begins.
-use Rattle.std.proofs.Common.{◌≤◌, ℕ, refl, arith}
+use Rattle.std.proofs.Common.{◌≡◌, ◌≤◌, ℕ, [], refl, arith}
+use Rattle.rule_machine.specs.State.{opening}
 use Rattle.rule_machine.specs.RuleTable.{RuleTable}
 use Rattle.step_log.specs.Log.{IsLog, empty_log, max_entries}
 

@@ -1,7 +1,7 @@
-use Rattle.std.proofs.Common.{◌≤◌, List, sym, subst, arith}
+use Rattle.std.proofs.Common.{◌≡◌, ◌≤◌, List, sym, subst, arith}
 use Rattle.rule_machine.specs.State.{State, opening}
 use Rattle.rule_machine.specs.Run.{Entry}
-use Rattle.step_log.specs.Log.{IsLog, max_entries}
+use Rattle.step_log.specs.Log.{Log, IsLog, max_entries}
 use Rattle.step_log.proofs.Opening.{empty_is_log}
 use Rattle.step_log.proofs.journal.Journal.with_limit.Goals as goal
 
