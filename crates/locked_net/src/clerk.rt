@@ -7,6 +7,9 @@ use std::alloc::Global;
 use std::marker::Model;
 use step_log::Receipt;
 
+mod calls;
+mod locked;
+
 /// A caller of a network, seen in contracts as its receipts, oldest first: one for each of its calls that was answered. Their
 /// numbers rise strictly.
 #[derive(Drop)]

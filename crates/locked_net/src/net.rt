@@ -1,0 +1,78 @@
+//! A network that many callers share.
+
+ghost use Rattle.std.specs.Prelude.{◌≡◌, ◌≤◌, [], IfOk, IfErr, OnOk};
+ghost use Rattle.graph_store.specs.Fault.{nodes_fault, Explains};
+
+use crate::Clerk;
+use keyed_lock::{Hold, Invariant, KeyedLock};
+use rule_engine::{GraphFault, Rules};
+use rule_machine::Want;
+use std::alloc::Global;
+use std::sync::Wait;
+use step_log::{Journal, MAX_ENTRIES};
+
+/// Nothing is owed beyond what the type of the locked value says.
+struct NoKey;
+
+impl<T> Invariant<T, ()> for NoKey {
+    ghost holds = { λ _ _. Unit {0} };
+}
+
+/// A network under the rules `R` with its log, behind one lock, for callers in any threads: whoever has the lock has the
+/// journal, so its log is a run of the rule machine whenever the lock is free. It can't be dropped.
+pub struct LockedNet<R: Rules> {
+    alloc: Global,
+    lock: KeyedLock<Journal<R>, (), NoKey>,
+}
+
+impl<R: Rules> LockedNet<R> {
+    ghost use Rattle.keyed_lock.specs.Locks.{IsHoldOf};
+
+    /// A new network of the nodes 1 to `nodes`, whose log may hold 16,777,216 entries. `TooManyNodes` above 65,535 nodes,
+    /// and `Memory` if memory runs out.
+    pub fn new(alloc: Global, nodes: u32) -> Result<LockedNet<R>, GraphFault>
+        ensures small { OnOk result (nodes ≤ 65535) }
+        ensures fault { IfErr result (λ fault. Explains (nodes_fault nodes) fault) }
+    {
+        LockedNet::with_limit(alloc, nodes, MAX_ENTRIES)
+    }
+
+    /// The same with a limit on the entries; a limit above 16,777,216 counts as that.
+    pub fn with_limit(alloc: Global, nodes: u32, limit: u32) -> Result<LockedNet<R>, GraphFault>
+        ensures small { OnOk result (nodes ≤ 65535) }
+        ensures fault { IfErr result (λ fault. Explains (nodes_fault nodes) fault) }
+    {
+        let journal = Journal::with_limit(alloc, nodes, limit)?;
+        match KeyedLock::new(alloc, journal, &()) {
+            Ok(lock) => Ok(LockedNet { alloc, lock }),
+            Err(_) => Err(GraphFault::Memory),
+        }
+    }
+
+    /// A new clerk, who has called nobody.
+    pub fn clerk(&self) -> Result<Clerk, Want>
+        ensures { IfOk result (λ clerk. clerk ≡ []) }
+    {
+        Ok(Clerk::new(self.alloc))
+    }
+
+    /// Waits for the lock, and takes the journal out.
+    pub(crate) fn take<W: Wait>(&self, rt: &W) -> (Journal<R>, Hold<Journal<R>, ()>)
+        ensures { IsHoldOf self.now.lock result.1 }
+    {
+        self.lock.take(rt)
+    }
+
+    /// Gives the journal back, and frees the lock.
+    pub(crate) fn give(&self, hold: Hold<Journal<R>, ()>, journal: Journal<R>)
+        requires { IsHoldOf self.now.lock hold }
+    {
+        self.lock.give(hold, journal);
+    }
+
+    /// The journal of a network that no thread shares any more.
+    pub(crate) fn into_journal<W: Wait>(self, rt: &W) -> Journal<R> {
+        let LockedNet { alloc: _, lock } = self;
+        lock.into_inner(rt)
+    }
+}
