@@ -2,6 +2,7 @@
 use Rattle.std.specs.Prelude.{◌≡◌, ℕ, ◌+◌, ◌<◌, List, [], ◌∷◌, ◌++◌, length, Option, None, Some, if◌then◌else◌, nat_eq, nat_lt, IsTrue, Bool}
 use Rattle.rule_machine.specs.declared.choice.Item.{Item}
 use Rattle.rule_machine.specs.declared.moved.Moved.{Moved}
+use Rattle.rule_machine.specs.RuleTable.{RuleTable}
 use Rattle.rule_machine.specs.declared.event.Event.{Event}
 use Rattle.rule_machine.specs.declared.event.Event.TheVariants.{Step}
 use Rattle.rule_machine.specs.declared.reply.Reply.{Reply}
@@ -10,7 +11,7 @@ use Rattle.fault_injector.specs.Drawn.{is_register_fault}
 use Rattle.step_log.specs.declared.fault.RecordFault.{RecordFault}
 use Rattle.step_log.specs.declared.fault.RecordFault.TheVariants as record_fault
 use Rattle.step_log.specs.declared.receipt.Receipt.{Receipt}
-use Rattle.step_log.specs.Log.{Log}
+use Rattle.step_log.specs.Log.{Log, recorded, receipt_of}
 use Rattle.locked_net.specs.Receipts.{front_of}
 use Rattle.locked_net.specs.declared.call_fault.CallFault.{CallFault}
 use Rattle.locked_net.specs.declared.call_fault.CallFault.TheVariants.{Behind, LogFull, Memory}
@@ -55,5 +56,26 @@ pub record KeepsStep (central : Bool) (old new : List Receipt) (reply : Reply) :
 pub record KeepsFault (old new : List Receipt) (reply : Reply) : Type 0 where
   pub event : Event
   pub kept : Keeps old new event reply
+  pub register : IsTrue (is_register_fault event)
+  pub accepted : reply ≡ Accepted
+
+-- An event was recorded, and its receipt added; it has this reply.
+pub record Tells (t : RuleTable) (before after : Log) (old new : List Receipt) (event : Event) (reply : Reply) : Type 0 where
+  pub log : after ≡ recorded t before event
+  pub receipt : new ≡ old ++ receipt_of t before event ∷ []
+  pub reply_is : reply ≡ (receipt_of t before event).reply
+
+-- So was a step with its moves, of one node where the daemon is central.
+pub record Drives (t : RuleTable) (before after : Log) (old new : List Receipt) (reply : Reply) : Type 0 where
+  pub items : List Item
+  pub moves : List Moved
+  pub told : Tells t before after old new (Step items) reply
+  pub moved : reply ≡ Moves moves
+  pub one : IsTrue t.central → length items ≡ 1
+
+-- So was an accepted change of a register.
+pub record Breaks (t : RuleTable) (before after : Log) (old new : List Receipt) (reply : Reply) : Type 0 where
+  pub event : Event
+  pub told : Tells t before after old new event reply
   pub register : IsTrue (is_register_fault event)
   pub accepted : reply ≡ Accepted

@@ -8,6 +8,7 @@ use std::marker::Model;
 use step_log::Receipt;
 
 mod calls;
+mod chosen;
 mod locked;
 
 /// A caller of a network, seen in contracts as its receipts, oldest first: one for each of its calls that was answered. Their
