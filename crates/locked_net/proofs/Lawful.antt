@@ -1,17 +1,15 @@
 -- A daemon's choice among the enabled nodes is accepted as a step.
 -- Each item's node is enabled, hence present with a rule, and has no wish; ascending nodes differ, so none was chosen before; there is an
 -- item, and one alone where the daemon is central. That is all that a step is judged by.
-use Rattle.std.proofs.Common.{◌≡◌, ◌≢◌, ℕ, zero, suc, ◌+◌, ◌<◌, ◌≤◌, Bool, true, false, not, cond, ◌&&◌, ◌||◌, List, [], ◌∷◌, ◌++◌, length, map, filter, All, get_or, Option, None, Some, is_some, IsTrue, nat_eq, nat_lt, nat_le, if◌then◌else◌, refl, sym, ap, ◌∙◌, subst, ⊎_elim, arith, le-leb}
+use Rattle.std.proofs.Common.{◌≡◌, ◌≢◌, ℕ, zero, suc, ◌+◌, ◌<◌, ◌≤◌, Bool, true, false, not, cond, ◌&&◌, ◌||◌, List, [], ◌∷◌, ◌++◌, length, filter, get_or, Option, None, Some, is_some, IsTrue, nat_eq, nat_lt, nat_le, if◌then◌else◌, refl, sym, ap, ◌∙◌, ⊎_elim, arith, le-leb}
 use Rattle.std.specs.List.{list_any, range_with_len, AllByRecursion, IsDistinct}
 use Rattle.std.specs.Option.{option_or}
-use Rattle.std.proofs.lemmas.Bool.{cases_Bool, cases_eq, eq-eqb, ne_eqb, or_right, true≢false, cond-true, cond-false}
+use Rattle.std.proofs.lemmas.Bool.{cases_eq, eq-eqb, ne_eqb, or_right, true≢false, cond-false}
 use Rattle.std.proofs.lemmas.List.Folds.{list_any-append}
-use Rattle.std.proofs.lemmas.Option.{none-some}
 use Rattle.rule_machine.specs.declared.act.Act.{Act}
 use Rattle.rule_machine.specs.declared.choice.Item.{Item}
-use Rattle.rule_machine.specs.declared.refusal.Refusal.{Refusal}
-use Rattle.rule_machine.specs.declared.refusal.Refusal.TheVariants.{UnknownNode, ChosenTwice, NotEnabled, EmptyChoice, NotCentral}
-use Rattle.rule_machine.specs.Network.{Network, names, present}
+use Rattle.rule_machine.specs.declared.refusal.Refusal.TheVariants.{UnknownNode, ChosenTwice, EmptyChoice, NotCentral}
+use Rattle.rule_machine.specs.Network.{present}
 use Rattle.rule_machine.specs.State.{State}
 use Rattle.rule_machine.specs.RuleTable.{RuleTable, rule_at, enabled_names}
 use Rattle.rule_machine.specs.Refuse.{wish_refusal, rule_refusal, item_refusal, items_refusal, step_refusal}
@@ -45,8 +43,10 @@ kept_from p a (suc n) w h = by_first (p a) refl (kept_from p (a + 1) n w) h
   where
     rest : List ℕ
     rest = filter p (range_with_len (a + 1) n)
+
     behind : IsKeptOf p (a + 1) n w → IsKeptOf p a (suc n) w
     behind more = (more.0, omega (arith, more.1), omega (arith, more.2))
+
     by_first : (b : Bool) → p a ≡ b → (list_any (nat_eq w) rest ≡ true → IsKeptOf p (a + 1) n w) → list_any (nat_eq w) (cond b (a ∷ rest) rest) ≡ true → IsKeptOf p a (suc n) w
     by_first false is later h = behind (later h)
     by_first true is later h =
@@ -114,9 +114,9 @@ few_alone false n one = refl
 pub lawful_taken : (t : RuleTable) (s : State) (bits : List Bool) (items : List Item) → members bits ≡ enabled_names t s → IsLawful bits t.central items → step_refusal t s items ≡ None
 lawful_taken t s bits items same lawful =
     let each : (k : ℕ) (d : Item) → k < length items → IsFine t s (get_or items k d) = λ k d below. (
-      let item : Item = get_or items k d in
-      let on = member_enabled t s bits item.node same (lawful.chosen k d below) in
-      record { has = on.0; rule = on.1; free = lawful.no_wish k d below }
+    let item : Item = get_or items k d in
+    let on = member_enabled t s bits item.node same (lawful.chosen k d below) in
+    record { has = on.0; rule = on.1; free = lawful.no_wish k d below }
     ) in
     let taken : items_refusal t s [] items ≡ None = items_taken t s [] items (all_fine t s items each) (fresh_none (nodes_of items)) (rising_distinct (nodes_of items) lawful.ascending) in
     cond-false (nat_eq (length items) 0) (Some EmptyChoice) (if t.central && nat_lt 1 (length items) then Some NotCentral else items_refusal t s [] items) (ne_eqb (length items) 0 (λ none. omega (arith, none, lawful.some)))

@@ -1,6 +1,7 @@
 //! A network that many callers share.
 
 ghost use Rattle.std.specs.Prelude.{◌≡◌, ◌≤◌, [], IfOk, IfErr, OnOk};
+ghost use Rattle.step_log.specs.Log.{IsLog};
 ghost use Rattle.graph_store.specs.Fault.{nodes_fault, Explains};
 
 use crate::Clerk;
@@ -70,8 +71,11 @@ impl<R: Rules> LockedNet<R> {
         self.lock.give(hold, journal);
     }
 
-    /// The journal of a network that no thread shares any more.
-    pub(crate) fn into_journal<W: Wait>(self, rt: &W) -> Journal<R> {
+    /// The journal of a network that no thread shares any more: a run of the rule machine. Waits for ever where a call
+    /// was broken off under the lock.
+    pub(crate) fn into_journal<W: Wait>(self, rt: &W) -> Journal<R>
+        ensures { IsLog R.table result }
+    {
         let LockedNet { alloc: _, lock } = self;
         lock.into_inner(rt)
     }

@@ -30,7 +30,11 @@ impl Clerk {
         admit(journal, self.front())?;
         self.receipts.reserve(1)?;
         match daemon.choose(journal.net().enabled(), R::CENTRAL)? {
-            Some(choice) => Ok(Some(record_into(&mut self.receipts, journal, Event::Step(choice))?)),
+            Some(choice) => Ok(Some(record_into(
+                &mut self.receipts,
+                journal,
+                Event::Step(choice),
+            )?)),
             None => Ok(None),
         }
     }
