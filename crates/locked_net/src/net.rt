@@ -73,7 +73,7 @@ impl<R: Rules> LockedNet<R> {
 
     /// The journal of a network that no thread shares any more: a run of the rule machine. Waits for ever where a call
     /// was broken off under the lock.
-    pub(crate) fn into_journal<W: Wait>(self, rt: &W) -> Journal<R>
+    pub fn into_journal<W: Wait>(self, rt: &W) -> Journal<R>
         ensures { IsLog R.table result }
     {
         let LockedNet { alloc: _, lock } = self;
