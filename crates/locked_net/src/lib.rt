@@ -2,7 +2,9 @@
 #![tactic(auto)]
 
 mod clerk;
+mod settle;
 mod settle_fault;
 
 pub use clerk::Clerk;
+pub use settle::Unsettled;
 pub use settle_fault::SettleFault;

@@ -1,0 +1,8 @@
+use Rattle.std.proofs.Common.{◌≡◌, Some}
+use Rattle.std.specs.List.{slice_get}
+use Rattle.locked_net.specs.Receipts.{RiseAbove}
+use Rattle.locked_net.specs.Marks.{IsMarked}
+use Rattle.locked_net.proofs.settle.first_stranger.Given as goal
+
+abbrev pub invariant-loop-place : goal.invariant-loop-place
+invariant-loop-place g l = IsMarked l.journal.entries l.clerks l.clerk l.place l.taken
