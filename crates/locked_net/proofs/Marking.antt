@@ -1,16 +1,15 @@
 -- One receipt after another is settled, and one clerk after another.
-use Rattle.std.proofs.Common.{◌≡◌, ◌≢◌, ℕ, zero, suc, ◌+◌, ◌-◌, ◌*◌, ◌<◌, ◌≤◌, ◌⊎◌, Bool, true, false, cond, List, [], ◌∷◌, length, take, set, replicate, get_or, Some, None, refl, sym, ap, subst, ◌∙◌, inl, inr, ⊎_elim, arith, add-one}
+use Rattle.std.proofs.Common.{◌≡◌, ℕ, zero, suc, ◌+◌, ◌-◌, ◌<◌, ◌≤◌, ◌⊎◌, Bool, true, false, cond, List, [], ◌∷◌, length, take, set, get_or, Some, refl, sym, ap, subst, ◌∙◌, inl, inr, ⊎_elim, arith}
 use Rattle.std.specs.List.{slice_get, sum_by, count_by}
 use Rattle.std.proofs.lemmas.Bool.{cases_lt, cases_eq, cases_order, false≢true}
-use Rattle.std.proofs.lemmas.List.{get_or-set_same, get_or-set_other, get_or-replicate, get_or_past, length-replicate, length-set, take_all}
+use Rattle.std.proofs.lemmas.List.{get_or-set_same, get_or-set_other, length-set, take_all}
 use Rattle.std.proofs.lemmas.List.Sums.{sum_by-cons, sum_by-set, sum_by_more, get_or-le-sum_by, count_by-le-length}
-use Rattle.std.proofs.lemmas.List.Folds.{sum_by-replicate}
 use Rattle.std.proofs.lemmas.Option.{slice_get_read, slice_get_within, get_or_from_slice_get, same_Some}
 use Rattle.rule_machine.specs.Run.{Entry}
 use Rattle.step_log.specs.declared.receipt.Receipt.{Receipt}
 use Rattle.locked_net.specs.Receipts.{RiseAbove, IsEntry}
-use Rattle.locked_net.specs.Settled.{receipt_count, StandsAt, Holds, Settled, IsBefore, Agrees, IsFirstStranger}
-use Rattle.locked_net.specs.Marks.{IsNumbered, mark_of, IsMarked}
+use Rattle.locked_net.specs.Settled.{receipt_count, StandsAt, Settled, IsBefore, Agrees, IsFirstStranger}
+use Rattle.locked_net.specs.Marks.{mark_of, IsMarked}
 
 -- ---- places
 
@@ -20,19 +19,16 @@ same_receipt clerks c p a b one other =
     let lists : one.receipts ≡ other.receipts = same_Some one.receipts other.receipts (sym one.of_clerk ∙ other.of_clerk) in
     same_Some a b (sym one.at_place ∙ subst (λ receipts. slice_get receipts p ≡ Some b) (sym lists) other.at_place)
 
-none_before : (d q : ℕ) → IsBefore d q 0 0 → ⊥
-none_before d q before = ⊎_elim (λ (h : d < 0). omega (arith, h)) (λ (h : (d ≡ 0) × (q < 0)). omega (arith, h.1)) before
-
 -- what comes before the next place comes before this one, or stands there
 before_more : (d q c p : ℕ) → IsBefore d q c (p + 1) → IsBefore d q c p ⊎ ((d ≡ c) × (q ≡ p))
 before_more d q c p before =
     ⊎_elim
     (λ (h : d < c). inl (inl h))
     (λ (h : (d ≡ c) × (q < p + 1)).
-        ⊎_elim
-        (λ (below : q < p). inl (inr (h.0, below)))
-        (λ (above : p ≤ q). let e : q ≡ p = omega (arith, h.1) in inr (h.0, e))
-        (cases_lt q p))
+    ⊎_elim
+    (λ (below : q < p). inl (inr (h.0, below)))
+    (λ (above : p ≤ q). let e : q ≡ p = omega (arith, h.1) in inr (h.0, e))
+    (cases_lt q p))
     before
 
 before_less : (d q c p : ℕ) → IsBefore d q c p → IsBefore d q c (p + 1)
@@ -44,13 +40,13 @@ before_next : (clerks : List (List Receipt)) (c : ℕ) (receipts : List Receipt)
 before_next clerks c receipts d q other of_clerk stands before =
     ⊎_elim
     (λ (h : d < c + 1).
-        ⊎_elim
-        (λ (below : d < c). inl below)
-        (λ (above : c ≤ d).
-            let e : d ≡ c = omega (arith, h) in
-            let lists : stands.receipts ≡ receipts = same_Some stands.receipts receipts (sym stands.of_clerk ∙ (subst (λ k. slice_get clerks k ≡ Some receipts) (sym e) of_clerk)) in
-            inr (e, slice_get_within receipts q other (subst (λ l. slice_get l q ≡ Some other) lists stands.at_place)))
-        (cases_lt d c))
+    ⊎_elim
+    (λ (below : d < c). inl below)
+    (λ (above : c ≤ d).
+    let e : d ≡ c = omega (arith, h) in
+    let lists : stands.receipts ≡ receipts = same_Some stands.receipts receipts (sym stands.of_clerk ∙ (subst (λ k. slice_get clerks k ≡ Some receipts) (sym e) of_clerk)) in
+    inr (e, slice_get_within receipts q other (subst (λ l. slice_get l q ≡ Some other) lists stands.at_place)))
+    (cases_lt d c))
     (λ (h : (d ≡ c + 1) × (q < 0)). absurd (omega (arith, h.1)))
     before
 
@@ -79,16 +75,6 @@ count_set marks i inside clear =
     let old : one (get_or marks i false) ≡ 0 = ap one clear in
     omega (arith, sums, old)
 
-count_none : (n : ℕ) → count_by (λ mark. mark) (replicate n false) ≡ 0
-count_none n = let e : count_by (λ mark. mark) (replicate n false) ≡ n * 0 = sum_by-replicate (λ mark. cond mark 1 0) n false in omega (arith, e)
-
-not_set : (n k : ℕ) → get_or (replicate n false) k false ≡ true → ⊥
-not_set n k there =
-    ⊎_elim
-    (λ (below : k < n). false≢true (sym (get_or-replicate n k false false below) ∙ there))
-    (λ (above : n ≤ k). false≢true (sym (get_or_past (replicate n false) k false (let e = length-replicate n false in omega (arith, e, above))) ∙ there))
-    (cases_lt k n)
-
 -- As many marks are set as there are marks: each one is.
 all_set : (marks : List Bool) (k : ℕ) → count_by (λ mark. mark) marks ≡ length marks → k < length marks → get_or marks k false ≡ true
 all_set [] k full inside = absurd (omega arith)
@@ -102,17 +88,6 @@ all_set (false ∷ marks) k full inside =
     absurd (omega (arith, more, few, full))
 
 -- ---- the steps
-
--- no receipt has been looked at
-pub starts : (log : List Entry) (clerks : List (List Receipt)) (marks : List Bool) → marks ≡ replicate (length log) false → IsMarked log clerks 0 0 marks
-starts log clerks marks clear = record {
-  size = ap length clear ∙ length-replicate (length log) false;
-  agree = λ d q other before stands. absurd (none_before d q before);
-  rise = λ d receipts below of_clerk. absurd (omega (arith, below));
-  marked = λ d q other before stands. absurd (none_before d q before);
-  numbered = λ k there. absurd (not_set (length log) k (subst (λ l. get_or l k false ≡ true) clear there));
-  count = ap (λ l. count_by (λ mark. mark) l) clear ∙ count_none (length log);
-}
 
 -- the receipt is the log's entry, and no receipt before has marked it: it agrees
 fresh_agrees : (log : List Entry) (clerks : List (List Receipt)) (c p : ℕ) (marks : List Bool) (receipt : Receipt) → IsMarked log clerks c p marks → IsEntry log receipt → mark_of marks receipt.seq ≡ false → Agrees log clerks c p receipt
@@ -134,41 +109,41 @@ place_more log clerks c p marks receipt so_far here entry clear =
     record {
       size = length-set marks (receipt.seq - 1) true ∙ so_far.size;
       agree = λ d q other before stands.
-        ⊎_elim
-        (λ (earlier : IsBefore d q c p). so_far.agree d q other earlier stands)
-        (λ (e : (d ≡ c) × (q ≡ p)).
-            let same = at_place clerks d q c p other receipt e stands here in
-            subst (λ k. Agrees log clerks k q other) (sym e.0) (subst (λ k. Agrees log clerks c k other) (sym e.1) (subst (λ r. Agrees log clerks c p r) (sym same) agrees)))
-        (before_more d q c p before);
+          ⊎_elim
+          (λ (earlier : IsBefore d q c p). so_far.agree d q other earlier stands)
+          (λ (e : (d ≡ c) × (q ≡ p)).
+          let same = at_place clerks d q c p other receipt e stands here in
+          subst (λ k. Agrees log clerks k q other) (sym e.0) (subst (λ k. Agrees log clerks c k other) (sym e.1) (subst (λ r. Agrees log clerks c p r) (sym same) agrees)))
+          (before_more d q c p before);
       rise = so_far.rise;
       marked = λ d q other before stands.
-        ⊎_elim
-        (λ (earlier : IsBefore d q c p). still_set marks (receipt.seq - 1) (other.seq - 1) inside (so_far.marked d q other earlier stands))
-        (λ (e : (d ≡ c) × (q ≡ p)).
-            let same = at_place clerks d q c p other receipt e stands here in
-            subst (λ (r : Receipt). mark_of (set marks (receipt.seq - 1) true) r.seq ≡ true) (sym same) (get_or-set_same marks (receipt.seq - 1) true false inside))
-        (before_more d q c p before);
+          ⊎_elim
+          (λ (earlier : IsBefore d q c p). still_set marks (receipt.seq - 1) (other.seq - 1) inside (so_far.marked d q other earlier stands))
+          (λ (e : (d ≡ c) × (q ≡ p)).
+          let same = at_place clerks d q c p other receipt e stands here in
+          subst (λ (r : Receipt). mark_of (set marks (receipt.seq - 1) true) r.seq ≡ true) (sym same) (get_or-set_same marks (receipt.seq - 1) true false inside))
+          (before_more d q c p before);
       numbered = λ k there.
-        ⊎_elim
-        (λ (e : k ≡ receipt.seq - 1). record {
-          clerk = c;
-          place = p;
-          receipt = receipt;
-          before = let next : p < p + 1 = omega arith in inr (refl, next);
-          stands = here;
-          numbered = omega (arith, e, entry.numbered);
-        })
-        (λ (ne : k ≡ receipt.seq - 1 → ⊥).
-            let old = so_far.numbered k (sym (get_or-set_other marks (receipt.seq - 1) k true false ne) ∙ there) in
-            record {
-              clerk = old.clerk;
-              place = old.place;
-              receipt = old.receipt;
-              before = before_less old.clerk old.place c p old.before;
-              stands = old.stands;
-              numbered = old.numbered;
-            })
-        (cases_eq k (receipt.seq - 1));
+          ⊎_elim
+          (λ (e : k ≡ receipt.seq - 1). record {
+            clerk = c;
+            place = p;
+            receipt = receipt;
+            before = let next : p < p + 1 = omega arith in inr (refl, next);
+            stands = here;
+            numbered = omega (arith, e, entry.numbered);
+          })
+          (λ (ne : k ≡ receipt.seq - 1 → ⊥).
+          let old = so_far.numbered k (sym (get_or-set_other marks (receipt.seq - 1) k true false ne) ∙ there) in
+          record {
+            clerk = old.clerk;
+            place = old.place;
+            receipt = old.receipt;
+            before = before_less old.clerk old.place c p old.before;
+            stands = old.stands;
+            numbered = old.numbered;
+          })
+          (cases_eq k (receipt.seq - 1));
       count = let more = count_set marks (receipt.seq - 1) inside clear in omega (arith, more, so_far.count);
     }
 
@@ -180,28 +155,28 @@ clerk_more log clerks c receipts marks of_clerk rises so_far =
       size = so_far.size;
       agree = λ d q other before stands. so_far.agree d q other (before_next clerks c receipts d q other of_clerk stands before) stands;
       rise = λ d list below of_d.
-        ⊎_elim
-        (λ (earlier : d < c). so_far.rise d list earlier of_d)
-        (λ (not_earlier : c ≤ d).
-            let e : d ≡ c = omega (arith, below, not_earlier) in
-            let same : list ≡ receipts = same_Some list receipts (sym of_d ∙ subst (λ k. slice_get clerks k ≡ Some receipts) (sym e) of_clerk) in
-            subst (RiseAbove 0) (sym same) rises)
-        (cases_lt d c);
+          ⊎_elim
+          (λ (earlier : d < c). so_far.rise d list earlier of_d)
+          (λ (not_earlier : c ≤ d).
+          let e : d ≡ c = omega (arith, below, not_earlier) in
+          let same : list ≡ receipts = same_Some list receipts (sym of_d ∙ subst (λ k. slice_get clerks k ≡ Some receipts) (sym e) of_clerk) in
+          subst (RiseAbove 0) (sym same) rises)
+          (cases_lt d c);
       marked = λ d q other before stands. so_far.marked d q other (before_next clerks c receipts d q other of_clerk stands before) stands;
       numbered = λ k there.
-        let old = so_far.numbered k there in
-        record {
-          clerk = old.clerk;
-          place = old.place;
-          receipt = old.receipt;
-          before = before_own old.clerk old.place c (length receipts) old.before;
-          stands = old.stands;
-          numbered = old.numbered;
-        };
+          let old = so_far.numbered k there in
+          record {
+            clerk = old.clerk;
+            place = old.place;
+            receipt = old.receipt;
+            before = before_own old.clerk old.place c (length receipts) old.before;
+            stands = old.stands;
+            numbered = old.numbered;
+          };
       count =
-        let more = sum_by_more length clerks c receipts within in
-        let own : length (get_or clerks c receipts) ≡ length receipts = ap length (get_or_from_slice_get clerks c receipts receipts of_clerk) in
-        omega (arith, more, own, so_far.count);
+          let more = sum_by_more length clerks c receipts within in
+          let own : length (get_or clerks c receipts) ≡ length receipts = ap length (get_or_from_slice_get clerks c receipts receipts of_clerk) in
+          omega (arith, more, own, so_far.count);
     }
 
 -- a receipt whose entry is marked already, or that is not the log's entry, is the first stranger
@@ -210,9 +185,9 @@ stranger_found log clerks c p marks receipt so_far here taken = record {
   receipt = receipt;
   stands = here;
   strange = λ agrees.
-    let earlier = so_far.numbered (receipt.seq - 1) (taken agrees.entry) in
-    let same : earlier.receipt.seq ≡ receipt.seq = omega (arith, earlier.numbered, agrees.entry.numbered) in
-    agrees.new earlier.clerk earlier.place earlier.receipt earlier.before earlier.stands same;
+      let earlier = so_far.numbered (receipt.seq - 1) (taken agrees.entry) in
+      let same : earlier.receipt.seq ≡ receipt.seq = omega (arith, earlier.numbered, agrees.entry.numbered) in
+      agrees.new earlier.clerk earlier.place earlier.receipt earlier.before earlier.stands same;
   first = so_far.agree;
 }
 
@@ -223,26 +198,26 @@ stranger_found log clerks c p marks receipt so_far here taken = record {
 pub settles : (log : List Entry) (clerks : List (List Receipt)) (marks : List Bool) → receipt_count clerks ≡ length log → IsMarked log clerks (length clerks) 0 marks → Settled log clerks
 settles log clerks marks counted all =
     let agree : (c p : ℕ) (receipt : Receipt) → StandsAt clerks c p receipt → Agrees log clerks c p receipt = λ c p receipt stands.
-        all.agree c p receipt (inl (slice_get_within clerks c stands.receipts stands.of_clerk)) stands in
+    all.agree c p receipt (inl (slice_get_within clerks c stands.receipts stands.of_clerk)) stands in
     let full : count_by (λ mark. mark) marks ≡ length marks =
-        let whole : sum_by length (take (length clerks) clerks) ≡ receipt_count clerks = ap (λ l. sum_by length l) (take_all (length clerks) clerks (omega arith)) in
-        omega (arith, all.count, whole, counted, all.size) in
+    let whole : sum_by length (take (length clerks) clerks) ≡ receipt_count clerks = ap (λ l. sum_by length l) (take_all (length clerks) clerks (omega arith)) in
+    omega (arith, all.count, whole, counted, all.size) in
     record {
       told = λ c p receipts receipt of_clerk at_place. (agree c p receipt (record { receipts = receipts; of_clerk = of_clerk; at_place = at_place })).entry;
       rise = λ c receipts of_clerk. all.rise c receipts (slice_get_within clerks c receipts of_clerk) of_clerk;
       count = counted;
       held = λ n above within.
-        let it = all.numbered (n - 1) (all_set marks (n - 1) full (omega (arith, above, within, all.size))) in
-        (it.clerk, record { place = it.place; receipt = it.receipt; stands = it.stands; numbered = omega (arith, it.numbered, above) });
+          let it = all.numbered (n - 1) (all_set marks (n - 1) full (omega (arith, above, within, all.size))) in
+          (it.clerk, record { place = it.place; receipt = it.receipt; stands = it.stands; numbered = omega (arith, it.numbered, above) });
       once = λ n c d one other.
-        ⊎_elim
-        (λ (e : c ≡ d). e)
-        (λ (h : (c < d) ⊎ (d < c)).
-            absurd (⊎_elim
-                (λ (below : c < d). (agree d other.place other.receipt other.stands).new c one.place one.receipt (inl below) one.stands (one.numbered ∙ sym other.numbered))
-                (λ (below : d < c). (agree c one.place one.receipt one.stands).new d other.place other.receipt (inl below) other.stands (other.numbered ∙ sym one.numbered))
-                h))
-        (cases_order c d);
+          ⊎_elim
+          (λ (e : c ≡ d). e)
+          (λ (h : (c < d) ⊎ (d < c)).
+          absurd (⊎_elim
+          (λ (below : c < d). (agree d other.place other.receipt other.stands).new c one.place one.receipt (inl below) one.stands (one.numbered ∙ sym other.numbered))
+          (λ (below : d < c). (agree c one.place one.receipt one.stands).new d other.place other.receipt (inl below) other.stands (other.numbered ∙ sym one.numbered))
+          h))
+          (cases_order c d);
     }
 
 -- ---- what the code reads

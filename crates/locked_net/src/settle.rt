@@ -53,7 +53,10 @@ fn stranger(clerk: usize, place: usize) -> SettleFault
     ensures { (result ≡ Stranger clerk place) ⊎ (result ≡ Memory) }
 {
     match u32::try_from(clerk) {
-        Ok(clerk) => SettleFault::Stranger { clerk, place: place as u32 },
+        Ok(clerk) => SettleFault::Stranger {
+            clerk,
+            place: place as u32,
+        },
         Err(_) => SettleFault::Memory,
     }
 }

@@ -1,8 +1,6 @@
-use Rattle.std.proofs.Common.{◌≡◌, ℕ, ◌-◌, ◌<◌, length, Some, refl, sym, ap, subst, ◌∙◌, arith}
-use Rattle.std.specs.List.{slice_get}
+use Rattle.std.proofs.Common.{◌≡◌, ◌-◌, length, refl, ap, subst, arith}
 use Rattle.std.proofs.lemmas.Option.{slice_get_read, slice_get_within}
 use Rattle.locked_net.specs.Receipts.{IsEntry}
-use Rattle.locked_net.specs.Settled.{StandsAt}
 use Rattle.locked_net.specs.Marks.{IsMarked}
 use Rattle.locked_net.proofs.Marking.{standing, place_more, clerk_more, stranger_found}
 use Rattle.locked_net.proofs.settle.first_stranger.Goals as goal

@@ -1,6 +1,3 @@
-use Rattle.std.proofs.Common.{◌≡◌, Some}
-use Rattle.std.specs.List.{slice_get}
-use Rattle.locked_net.specs.Receipts.{RiseAbove}
 use Rattle.locked_net.specs.Marks.{IsMarked}
 use Rattle.locked_net.proofs.settle.first_stranger.Given as goal
 
