@@ -3,10 +3,11 @@
 
 mod clerk;
 mod law;
-mod settle;
 mod settle_fault;
+mod settling;
+mod unsettled;
 
 pub use clerk::Clerk;
 pub use law::{own_numbers_never_clash, settling_is_exact};
-pub use settle::Unsettled;
 pub use settle_fault::SettleFault;
+pub use unsettled::Unsettled;

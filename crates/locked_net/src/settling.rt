@@ -1,6 +1,6 @@
 //! Whether clerks account for a log.
 
-ghost use Rattle.std.specs.Prelude.{◌≡◌, ◌↔◌, ◌+◌, ◌^◌, ◌<◌, ◌⊎◌, length, IsTrue, IfErr, OnOk, MatchOption};
+ghost use Rattle.std.specs.Prelude.{◌≡◌, ◌↔◌, ◌+◌, ◌^◌, ◌<◌, ◌≤◌, ◌⊎◌, length, IsTrue, IfErr, OnOk, MatchOption};
 ghost use Rattle.locked_net.specs.declared.settle_fault.SettleFault.TheVariants.{Stranger, Memory};
 ghost use Rattle.locked_net.specs.Receipts.{IsEntry};
 ghost use Rattle.locked_net.specs.Settled.{receipt_count, Settled, IsFirstStranger, Unsettles};
@@ -11,15 +11,6 @@ use rule_engine::Rules;
 use same_entry::{same_event, same_reply};
 use std::alloc::Global;
 use step_log::{Journal, Receipt};
-
-/// A journal that did not settle, and why.
-#[derive(Drop)]
-pub struct Unsettled<R: Rules> {
-    /// Why it did not settle.
-    pub why: SettleFault,
-    /// The journal, as it was.
-    pub journal: Journal<R>,
-}
 
 /// Whether the clerks account for the journal's log: each receipt is the log's entry at its number, and each entry belongs to
 /// one clerk. `CountDiffers` where there are not as many receipts as entries; else `Stranger`, the first receipt that does not
@@ -50,7 +41,7 @@ pub(crate) fn settled_with<R: Rules>(
 /// The fault of a stranger; `Memory` where the place of its clerk fits no `u32`.
 fn stranger(clerk: usize, place: usize) -> SettleFault
     requires { place < 2 ^ 32 }
-    ensures { (result ≡ Stranger clerk place) ⊎ (result ≡ Memory) }
+    ensures { ((clerk < 2 ^ 32) × (result ≡ Stranger clerk place)) ⊎ ((2 ^ 32 ≤ clerk) × (result ≡ Memory)) }
 {
     match u32::try_from(clerk) {
         Ok(clerk) => SettleFault::Stranger {

@@ -2,7 +2,7 @@ use Rattle.std.proofs.Common.{◌≡◌, length, refl, subst, ◌∙◌, arith}
 use Rattle.locked_net.specs.Settled.{receipt_count}
 use Rattle.locked_net.specs.Marks.{IsMarked}
 use Rattle.locked_net.proofs.Marking.{settles, place_within}
-use Rattle.locked_net.proofs.settle.settled_with.Goals as goal
+use Rattle.locked_net.proofs.settling.settled_with.Goals as goal
 
 pub stranger-requires : goal.stranger-requires
 stranger-requires g c =

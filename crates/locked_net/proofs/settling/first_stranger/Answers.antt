@@ -3,7 +3,7 @@ use Rattle.std.proofs.lemmas.Option.{slice_get_read, slice_get_within}
 use Rattle.locked_net.specs.Receipts.{IsEntry}
 use Rattle.locked_net.specs.Marks.{IsMarked}
 use Rattle.locked_net.proofs.Marking.{standing, place_more, clerk_more, stranger_found}
-use Rattle.locked_net.proofs.settle.first_stranger.Goals as goal
+use Rattle.locked_net.proofs.settling.first_stranger.Goals as goal
 
 pub returns-then-taken-number : goal.returns-then-taken-number
 returns-then-taken-number g c =
