@@ -1,4 +1,12 @@
 -- One receipt after another is settled, and one clerk after another.
+--
+-- At each place these hold: all receipts before it agree, the marks that are set are the numbers of these receipts, and there
+-- are as many of either. A receipt that is the log's entry at its number, with a mark that is clear, agrees, since a receipt
+-- before it with its number would have set the mark; and once its mark is set, all three hold at the next place. A receipt
+-- that is not the entry does not agree, and one whose mark is set does not, since a receipt before it set it.
+--
+-- At the end as many marks are set as there are receipts. That is as many as entries, so all marks are set: each entry has a
+-- receipt, and so a clerk. It has no second clerk, since of two receipts with one number the later would not agree.
 use Rattle.std.proofs.Common.{◌≡◌, ℕ, zero, suc, ◌+◌, ◌-◌, ◌<◌, ◌≤◌, ◌⊎◌, Bool, true, false, cond, List, [], ◌∷◌, length, take, set, get_or, Some, refl, sym, ap, subst, ◌∙◌, inl, inr, ⊎_elim, arith}
 use Rattle.std.specs.List.{slice_get, sum_by, count_by}
 use Rattle.std.proofs.lemmas.Bool.{cases_lt, cases_eq, cases_order, false≢true}
