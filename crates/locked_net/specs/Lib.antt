@@ -1,3 +1,4 @@
 pub mod Receipts
 pub mod Settled
 pub mod Calls
+pub mod Marks
