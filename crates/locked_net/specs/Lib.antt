@@ -2,3 +2,5 @@ pub mod Receipts
 pub mod Settled
 pub mod Calls
 pub mod Marks
+pub mod Sizes
+pub mod Nets

@@ -7,6 +7,7 @@ mod law;
 mod net;
 mod settle_fault;
 mod settling;
+mod size;
 mod unsettled;
 
 pub use call_fault::CallFault;
