@@ -62,6 +62,11 @@ impl<R: Rules> LockedNet<R> {
         Ok(Clerk::new(self.alloc))
     }
 
+    /// Its allocator.
+    pub(crate) fn alloc(&self) -> Global {
+        self.alloc
+    }
+
     /// Waits for the lock, and takes the journal out.
     pub(crate) fn take<W: Wait>(&self, rt: &W) -> (Journal<R>, Hold<Journal<R>, NetSize>)
         ensures size { IsOfSize (size_of self.now) result.0 }
