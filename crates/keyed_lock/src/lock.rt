@@ -1,0 +1,123 @@
+//! The lock.
+
+ghost use Rattle.std.specs.Prelude.{◌≡◌, IfOk, IfErr};
+ghost use Rattle.keyed_lock.specs.Kept.{Waits, HasValue};
+
+use crate::Invariant;
+use crate::steps::{Arrive, Claim, Leave, OneValue};
+use atomic_table::{Refused, Seat, Table};
+use std::alloc::{AllocFailed, Global};
+use std::sync::Wait;
+
+const FREE: u64 = 0;
+
+const TAKEN: u64 = 1;
+
+/// Taken, and a thread may sleep until it is free.
+const AWAITED: u64 = 2;
+
+/// A lock for one value. It has a key, which contracts compare and which nothing changes; whoever takes the lock gets a
+/// value of which `I.holds` at the key, has it alone, and may give back only such a value. It is a word and a slot of
+/// memory, and it can't be dropped: `into_inner` ends it.
+pub struct KeyedLock<T, K, I: Invariant<T, K>> {
+    table: Table<Option<T>, K, K, OneValue<I>, Global>,
+    ghost one_word: { table.shared.table_id.words ≡ 1 },
+    ghost one_slot: { table.shared.table_id.slots ≡ 1 },
+}
+
+/// The right to give a lock's value back, which whoever took it has. It has no bytes. It can't be dropped: `give` ends it.
+pub struct Hold<T, K> {
+    seat: Seat<Option<T>, K>,
+}
+
+impl<T, K, I: Invariant<T, K>> KeyedLock<T, K, I> {
+    ghost use Rattle.keyed_lock.specs.Locks.{key_of, IsHoldOf};
+
+    /// A lock that is free. Where memory runs out the value comes back.
+    pub fn new(alloc: Global, value: T, key: &K) -> Result<KeyedLock<T, K, I>, AllocFailed<T>>
+        requires { I.holds key.now value }
+        ensures key { IfOk result (λ lock. key_of lock ≡ key.now) }
+        ensures refused { IfErr result (λ failed. failed.value ≡ value) }
+    {
+        let mut slots = Vec::new(alloc);
+        if let Err(AllocFailed { value: slot }) = slots.push(Some(value)) {
+            slots.destroy_empty();
+            let Some(value) = slot else { unreachable!() };
+            return Err(AllocFailed { value });
+        }
+        match Table::new(alloc, &[FREE], slots, key) {
+            Ok((table, _)) => Ok(KeyedLock { table }),
+            Err(Refused { mut slots }) => {
+                let last = slots.pop();
+                let Some(Some(value)) = last else {
+                    unreachable!()
+                };
+                slots.destroy_empty();
+                Err(AllocFailed { value })
+            }
+        }
+    }
+
+    /// Waits until the lock is free, and takes its value. A thread that waits sleeps; one that has the value already
+    /// waits for ever.
+    pub fn take<R: Wait>(&self, rt: &R) -> (T, Hold<T, K>)
+        ensures value { I.holds (key_of self.now) result.0 }
+        ensures hold { IsHoldOf self.now result.1 }
+    {
+        let mut seat = self.table.shared.load_new_seat::<Arrive>(0).1;
+        self.claim(rt, &mut seat);
+        let slot = self.table.shared.exchange(&mut seat, 0, None);
+        let Some(value) = slot else { unreachable!() };
+        (value, Hold { seat })
+    }
+
+    /// Waits until the slot is the seat's.
+    fn claim<R: Wait>(&self, rt: &R, seat: &mut Seat<Option<T>, K>)
+        requires { Waits self.now.table.shared.table_id (key_of self.now) seat.old }
+        ensures table { seat.new.table_id ≡ seat.old.table_id }
+        ensures value { HasValue I.holds (key_of self.now) seat.new.me }
+    {
+        let shared = &self.table.shared;
+        if shared.compare_exchange::<Claim<I>>(seat, 0, FREE, TAKEN) == FREE {
+            return;
+        }
+        for _ in rt.forever() {
+            if shared.swap::<Claim<I>>(seat, 0, AWAITED) == FREE {
+                return;
+            }
+            shared.park(rt, 0, AWAITED as u32);
+        }
+        unreachable!()
+    }
+
+    /// Gives a value to the lock, which is free then, and wakes a thread that waits for it.
+    pub fn give(&self, hold: Hold<T, K>, value: T)
+        requires hold { IsHoldOf self.now hold }
+        requires value { I.holds (key_of self.now) value }
+    {
+        let Hold { mut seat } = hold;
+        let slot = self.table.shared.exchange(&mut seat, 0, Some(value));
+        let None = slot else { unreachable!() };
+        if self.table.shared.swap::<Leave>(&mut seat, 0, FREE) == AWAITED {
+            self.table.shared.wake_one(0);
+        }
+    }
+
+    /// The value of a lock that no thread shares any more. Where it was taken and not given back, which a program that
+    /// ends its holds never sees, the call waits for ever.
+    pub fn into_inner<R: Wait>(self, rt: &R) -> T
+        ensures { I.holds (key_of self) result }
+    {
+        let KeyedLock { table } = self;
+        let mut closed = table.close();
+        let word = closed.word(0);
+        let slot = closed.take(0);
+        closed.free();
+        if word == FREE {
+            let Some(value) = slot else { unreachable!() };
+            return value;
+        }
+        for _ in rt.forever() {}
+        unreachable!()
+    }
+}

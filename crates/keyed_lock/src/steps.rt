@@ -1,0 +1,38 @@
+//! The rule of the table below a lock, and what each of its steps tells.
+
+ghost use Rattle.keyed_lock.specs.Kept.{IsKept, arrived, claimed, left};
+
+use crate::Invariant;
+use atomic_table::{Play, TableRule};
+use std::marker::PhantomData;
+
+/// The value lies in the one slot while the one word is 0.
+pub struct OneValue<I> {
+    invariant: PhantomData<I>,
+}
+
+impl<T, K, I: Invariant<T, K>> TableRule<Option<T>, K, K> for OneValue<I> {
+    ghost holds = { λ key s. IsKept I.holds key s };
+
+    ghost first = { λ key. key };
+}
+
+pub struct Arrive;
+
+impl<T, K> Play<Option<T>, K> for Arrive {
+    ghost then = { arrived };
+}
+
+pub struct Claim<I> {
+    invariant: PhantomData<I>,
+}
+
+impl<T, K, I: Invariant<T, K>> Play<Option<T>, K> for Claim<I> {
+    ghost then = { claimed I.holds };
+}
+
+pub struct Leave;
+
+impl<T, K> Play<Option<T>, K> for Leave {
+    ghost then = { left };
+}

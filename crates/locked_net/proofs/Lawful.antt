@@ -1,0 +1,123 @@
+-- A daemon's choice among the enabled nodes is accepted as a step.
+-- Each item's node is enabled, hence present with a rule, and has no wish; ascending nodes differ, so none was chosen before; there is an
+-- item, and one alone where the daemon is central. That is all that a step is judged by.
+use Rattle.std.proofs.Common.{◌≡◌, ◌≢◌, ℕ, zero, suc, ◌+◌, ◌<◌, ◌≤◌, Bool, true, false, not, cond, ◌&&◌, ◌||◌, List, [], ◌∷◌, ◌++◌, length, filter, get_or, Option, None, Some, is_some, IsTrue, nat_eq, nat_lt, nat_le, if◌then◌else◌, refl, sym, ap, ◌∙◌, ⊎_elim, arith, le-leb}
+use Rattle.std.specs.List.{list_any, range_with_len, AllByRecursion, IsDistinct}
+use Rattle.std.specs.Option.{option_or}
+use Rattle.std.proofs.lemmas.Bool.{cases_eq, eq-eqb, ne_eqb, or_right, true≢false, cond-false}
+use Rattle.std.proofs.lemmas.List.Folds.{list_any-append}
+use Rattle.rule_machine.specs.declared.act.Act.{Act}
+use Rattle.rule_machine.specs.declared.choice.Item.{Item}
+use Rattle.rule_machine.specs.declared.refusal.Refusal.TheVariants.{UnknownNode, ChosenTwice, EmptyChoice, NotCentral}
+use Rattle.rule_machine.specs.Network.{present}
+use Rattle.rule_machine.specs.State.{State}
+use Rattle.rule_machine.specs.RuleTable.{RuleTable, rule_at, enabled_names}
+use Rattle.rule_machine.specs.Refuse.{wish_refusal, rule_refusal, item_refusal, items_refusal, step_refusal}
+use Rattle.enabled_set.specs.Members.{is_in, members}
+use Rattle.enabled_set.proofs.Members.{inside}
+use Rattle.daemon.specs.Lawful.{nodes_of, IsLawful}
+use Rattle.step_log.proofs.Rising.{rising_distinct}
+
+-- ---- filters of a range
+
+-- a number of a range that passes is kept
+kept_in : (p : ℕ → Bool) (a n w : ℕ) → p w ≡ true → a ≤ w → w < a + n → list_any (nat_eq w) (filter p (range_with_len a n)) ≡ true
+kept_in p a zero w on low high = absurd (omega arith)
+kept_in p a (suc n) w on low high =
+    ⊎_elim
+    (λ (same : w ≡ a). ap (λ b. list_any (nat_eq w) (cond b (a ∷ filter p (range_with_len (a + 1) n)) (filter p (range_with_len (a + 1) n)))) (ap p (sym same) ∙ on) ∙ ap (λ b. b || list_any (nat_eq w) (filter p (range_with_len (a + 1) n))) (eq-eqb w a same))
+    (λ (apart : w ≢ a). later (p a) (kept_in p (a + 1) n w on (omega arith) (omega arith)))
+    (cases_eq w a)
+  where
+    later : (b : Bool) → list_any (nat_eq w) (filter p (range_with_len (a + 1) n)) ≡ true → list_any (nat_eq w) (cond b (a ∷ filter p (range_with_len (a + 1) n)) (filter p (range_with_len (a + 1) n))) ≡ true
+    later true h = or_right (nat_eq w a) (list_any (nat_eq w) (filter p (range_with_len (a + 1) n))) h
+    later false h = h
+
+-- what is kept passes, and is of the range
+abbrev IsKeptOf : (ℕ → Bool) → ℕ → ℕ → ℕ → Type 0
+IsKeptOf p a n w = (p w ≡ true) × (a ≤ w) × (w < a + n)
+
+kept_from : (p : ℕ → Bool) (a n w : ℕ) → list_any (nat_eq w) (filter p (range_with_len a n)) ≡ true → IsKeptOf p a n w
+kept_from p a zero w h = absurd (true≢false (sym h))
+kept_from p a (suc n) w h = by_first (p a) refl (kept_from p (a + 1) n w) h
+  where
+    rest : List ℕ
+    rest = filter p (range_with_len (a + 1) n)
+
+    behind : IsKeptOf p (a + 1) n w → IsKeptOf p a (suc n) w
+    behind more = (more.0, omega (arith, more.1), omega (arith, more.2))
+
+    by_first : (b : Bool) → p a ≡ b → (list_any (nat_eq w) rest ≡ true → IsKeptOf p (a + 1) n w) → list_any (nat_eq w) (cond b (a ∷ rest) rest) ≡ true → IsKeptOf p a (suc n) w
+    by_first false is later h = behind (later h)
+    by_first true is later h =
+        ⊎_elim
+        (λ (same : w ≡ a). (ap p same ∙ is, omega (arith, same), omega (arith, same)))
+        (λ (apart : w ≢ a). behind (later (ap (λ b. b || list_any (nat_eq w) rest) (sym (ne_eqb w a apart)) ∙ h)))
+        (cases_eq w a)
+
+-- a member is an enabled node: it is present, and has a rule
+member_enabled : (t : RuleTable) (s : State) (bits : List Bool) (v : ℕ) → members bits ≡ enabled_names t s → is_in bits v ≡ true → (present s.network v ≡ true) × (is_some (rule_at t s v) ≡ true)
+member_enabled t s bits v same on =
+    let listed = kept_in (is_in bits) 0 (length bits) v on (omega arith) (omega (arith, inside bits v on)) in
+    let kept = kept_from (λ u. is_some (rule_at t s u)) 1 s.network.size v (ap (list_any (nat_eq v)) (sym same) ∙ listed) in (
+      ap (λ b. b && nat_le v s.network.size) (le-leb 1 v kept.1) ∙ le-leb v s.network.size (omega (arith, kept.2)),
+      kept.0,
+    )
+
+-- ---- the items
+
+-- what an item of a choice is judged by, but for those before it
+record IsFine (t : RuleTable) (s : State) (item : Item) : Type 0 where
+  has : present s.network item.node ≡ true
+  rule : is_some (rule_at t s item.node) ≡ true
+  free : item.wish ≡ None
+
+taken_by : (t : RuleTable) (s : State) (item : Item) (here twice : Bool) (rule : Option Act) → here ≡ true → twice ≡ false → is_some rule ≡ true → item.wish ≡ None
+    → (if not here then Some UnknownNode else (if twice then Some ChosenTwice else rule_refusal t s item rule)) ≡ None
+taken_by t s item true false (Some act) h n r free = ap (wish_refusal (t.allowed s item.node act)) free
+taken_by t s item false twice rule h n r free = absurd (true≢false (sym h))
+taken_by t s item true true rule h n r free = absurd (true≢false n)
+taken_by t s item true false None h n r free = absurd (true≢false (sym r))
+
+-- each of these nodes differs from those of the earlier items
+abbrev Fresh : List Item → List ℕ → Type 0
+Fresh earlier nodes = AllByRecursion (λ q. list_any (λ i. nat_eq i.node q) earlier ≡ false) nodes
+
+fresh_more : (earlier : List Item) (item : Item) (nodes : List ℕ) → Fresh earlier nodes → AllByRecursion (λ q. nat_eq item.node q ≡ false) nodes → Fresh (earlier ++ item ∷ []) nodes
+fresh_more earlier item [] fresh apart = tt
+fresh_more earlier item (q ∷ nodes) fresh apart = (
+  list_any-append (λ i. nat_eq i.node q) earlier (item ∷ []) ∙ ap (λ b. b || (nat_eq item.node q || false)) fresh.0 ∙ ap (λ b. b || false) apart.0,
+  fresh_more earlier item nodes fresh.1 apart.1,
+)
+
+fresh_none : (nodes : List ℕ) → Fresh [] nodes
+fresh_none [] = tt
+fresh_none (q ∷ nodes) = (refl, fresh_none nodes)
+
+items_taken : (t : RuleTable) (s : State) (earlier items : List Item) → AllByRecursion (IsFine t s) items → Fresh earlier (nodes_of items) → IsDistinct nat_eq (nodes_of items) → items_refusal t s earlier items ≡ None
+unfolding IsDistinct
+items_taken t s earlier [] fine fresh apart = refl
+items_taken t s earlier (item ∷ items) fine fresh apart =
+    let here : item_refusal t s earlier item ≡ None = taken_by t s item (present s.network item.node) (list_any (λ i. nat_eq i.node item.node) earlier) (rule_at t s item.node) fine.0.has fresh.0 fine.0.rule fine.0.free in
+    ap (λ o. option_or o (items_refusal t s (earlier ++ item ∷ []) items)) here ∙ items_taken t s (earlier ++ item ∷ []) items fine.1 (fresh_more earlier item (nodes_of items) fresh.1 apart.0) apart.1
+
+all_fine : (t : RuleTable) (s : State) (items : List Item) → ((k : ℕ) (d : Item) → k < length items → IsFine t s (get_or items k d)) → AllByRecursion (IsFine t s) items
+all_fine t s [] each = tt
+all_fine t s (item ∷ items) each = (each 0 item (omega arith), all_fine t s items (λ k d below. each (suc k) d (omega (arith, below))))
+
+-- ---- the choice
+
+few_alone : (central : Bool) (n : ℕ) → (IsTrue central → n ≡ 1) → (central && nat_lt 1 n) ≡ false
+few_alone true n one = ap (nat_lt 1) (one refl)
+few_alone false n one = refl
+
+pub lawful_taken : (t : RuleTable) (s : State) (bits : List Bool) (items : List Item) → members bits ≡ enabled_names t s → IsLawful bits t.central items → step_refusal t s items ≡ None
+lawful_taken t s bits items same lawful =
+    let each : (k : ℕ) (d : Item) → k < length items → IsFine t s (get_or items k d) = λ k d below. (
+    let item : Item = get_or items k d in
+    let on = member_enabled t s bits item.node same (lawful.chosen k d below) in
+    record { has = on.0; rule = on.1; free = lawful.no_wish k d below }
+    ) in
+    let taken : items_refusal t s [] items ≡ None = items_taken t s [] items (all_fine t s items each) (fresh_none (nodes_of items)) (rising_distinct (nodes_of items) lawful.ascending) in
+    cond-false (nat_eq (length items) 0) (Some EmptyChoice) (if t.central && nat_lt 1 (length items) then Some NotCentral else items_refusal t s [] items) (ne_eqb (length items) 0 (λ none. omega (arith, none, lawful.some)))
+    ∙ cond-false (t.central && nat_lt 1 (length items)) (Some NotCentral) (items_refusal t s [] items) (few_alone t.central (length items) lawful.one) ∙ taken

@@ -1,0 +1,81 @@
+-- What a call makes of a clerk's receipts, and which call is not answered.
+use Rattle.std.specs.Prelude.{◌≡◌, ℕ, ◌<◌, List, [], ◌∷◌, ◌++◌, length, Option, None, Some, if◌then◌else◌, nat_eq, nat_lt, IsTrue, Bool}
+use Rattle.rule_machine.specs.declared.choice.Item.{Item}
+use Rattle.rule_machine.specs.declared.moved.Moved.{Moved}
+use Rattle.rule_machine.specs.RuleTable.{RuleTable}
+use Rattle.rule_machine.specs.declared.event.Event.{Event}
+use Rattle.rule_machine.specs.declared.event.Event.TheVariants.{Step}
+use Rattle.rule_machine.specs.declared.reply.Reply.{Reply}
+use Rattle.rule_machine.specs.declared.reply.Reply.TheVariants.{Accepted, Moves}
+use Rattle.fault_injector.specs.Drawn.{is_register_fault}
+use Rattle.step_log.specs.declared.fault.RecordFault.{RecordFault}
+use Rattle.step_log.specs.declared.fault.RecordFault.TheVariants as record_fault
+use Rattle.step_log.specs.declared.receipt.Receipt.{Receipt}
+use Rattle.step_log.specs.Log.{Log, recorded, receipt_of}
+use Rattle.locked_net.specs.Receipts.{front_of}
+use Rattle.locked_net.specs.declared.call_fault.CallFault.{CallFault}
+use Rattle.locked_net.specs.declared.call_fault.CallFault.TheVariants.{Behind, LogFull, Memory}
+
+-- why a clerk who has seen that many entries is not answered, before anything is asked of memory
+abbrev pub call_fault : ℕ → Log → Option CallFault
+call_fault seen log =
+    if nat_lt (length log.entries) seen then Some (Behind (length log.entries) seen)
+    else (if nat_eq (length log.entries) log.limit then Some LogFull else None)
+
+-- an answer is the fault in the call, and want of memory only where there is none
+abbrev pub Explains : Option CallFault → CallFault → Type 0
+Explains None fault = fault ≡ Memory
+Explains (Some found) fault = fault ≡ found
+
+-- what a clerk who does not see the log can tell of a fault
+abbrev pub MayAnswer : ℕ → CallFault → Type 0
+MayAnswer seen (Behind front told) = (told ≡ seen) × (front < seen)
+MayAnswer seen LogFull = Unit {0}
+MayAnswer seen Memory = Unit {0}
+
+-- a journal's fault as a call's
+abbrev pub fault_for : RecordFault → CallFault
+fault_for record_fault.LogFull = LogFull
+fault_for record_fault.Memory = Memory
+
+-- One receipt was added: of this event and this reply, with a number above all before.
+pub record Keeps (old new : List Receipt) (event : Event) (reply : Reply) : Type 0 where
+  pub seq : ℕ
+  pub above : front_of old < seq
+  pub added : new ≡ old ++ record { seq = seq; event = event; reply = reply } ∷ []
+
+-- One was added, of a step with the moves that it was answered by, and of one node where the daemon is central.
+pub record KeepsStep (central : Bool) (old new : List Receipt) (reply : Reply) : Type 0 where
+  pub items : List Item
+  pub moves : List Moved
+  pub kept : Keeps old new (Step items) reply
+  pub moved : reply ≡ Moves moves
+  pub one : IsTrue central → length items ≡ 1
+
+-- One was added, of an accepted change of a register.
+pub record KeepsFault (old new : List Receipt) (reply : Reply) : Type 0 where
+  pub event : Event
+  pub kept : Keeps old new event reply
+  pub register : IsTrue (is_register_fault event)
+  pub accepted : reply ≡ Accepted
+
+-- An event was recorded, and its receipt added; it has this reply.
+pub record Tells (t : RuleTable) (before after : Log) (old new : List Receipt) (event : Event) (reply : Reply) : Type 0 where
+  pub log : after ≡ recorded t before event
+  pub receipt : new ≡ old ++ receipt_of t before event ∷ []
+  pub reply_is : reply ≡ (receipt_of t before event).reply
+
+-- So was a step with its moves, of one node where the daemon is central.
+pub record Drives (t : RuleTable) (before after : Log) (old new : List Receipt) (reply : Reply) : Type 0 where
+  pub items : List Item
+  pub moves : List Moved
+  pub told : Tells t before after old new (Step items) reply
+  pub moved : reply ≡ Moves moves
+  pub one : IsTrue t.central → length items ≡ 1
+
+-- So was an accepted change of a register.
+pub record Breaks (t : RuleTable) (before after : Log) (old new : List Receipt) (reply : Reply) : Type 0 where
+  pub event : Event
+  pub told : Tells t before after old new event reply
+  pub register : IsTrue (is_register_fault event)
+  pub accepted : reply ≡ Accepted

@@ -1,0 +1,49 @@
+//! Why a call is not answered.
+
+use std::alloc::AllocError;
+use step_log::RecordFault;
+use thiserror::Error;
+
+/// Why a network did not answer a call, the first of these that is so. Log and clerk are as before.
+#[derive(Clone, Copy, Debug, PartialEq, Eq, Error)]
+pub enum CallFault {
+    /// The log holds fewer entries than the clerk has seen: it has called another network.
+    #[error("behind")]
+    Behind {
+        /// How many entries the log holds.
+        front: u32,
+        /// The greatest entry number that the clerk has seen.
+        seen: u32,
+    },
+    /// The log holds as many entries as it may.
+    #[error("log full")]
+    LogFull,
+    /// A growth of memory was refused.
+    #[error("out of memory")]
+    Memory,
+}
+
+impl From<AllocError> for CallFault {
+    ghost use Rattle.std.specs.Prelude.{◌≡◌};
+    ghost use Rattle.locked_net.specs.declared.call_fault.CallFault.TheVariants.{Memory};
+
+    ghost from_gives = { λ _ fault. fault ≡ Memory };
+
+    fn from(_: AllocError) -> CallFault {
+        CallFault::Memory
+    }
+}
+
+impl From<RecordFault> for CallFault {
+    ghost use Rattle.std.specs.Prelude.{◌≡◌};
+    ghost use Rattle.locked_net.specs.Calls.{fault_for};
+
+    ghost from_gives = { λ why fault. fault ≡ fault_for why };
+
+    fn from(why: RecordFault) -> CallFault {
+        match why {
+            RecordFault::LogFull => CallFault::LogFull,
+            RecordFault::Memory => CallFault::Memory,
+        }
+    }
+}

@@ -1,0 +1,76 @@
+//! A clerk's calls: each takes the network's lock, and gives it back when it is done.
+
+ghost use Rattle.std.specs.Prelude.{◌≡◌, ◌↔◌, IsNone, IfOk, IfErr, OnErr, MatchOption};
+ghost use Rattle.locked_net.specs.Nets.{nodes_of};
+ghost use Rattle.locked_net.specs.Receipts.{front_of};
+ghost use Rattle.locked_net.specs.Calls.{MayAnswer, Keeps, KeepsStep, KeepsFault};
+
+use super::Clerk;
+use crate::{CallFault, LockedNet};
+use daemon::Daemon;
+use fault_injector::Injector;
+use rand_core::Rng;
+use rule_engine::{Event, Reply, Rules};
+use std::sync::Wait;
+
+impl Clerk {
+    /// Carries out an event on the network, keeps a receipt of it, and answers the reply. Waits for the network's lock.
+    ///
+    /// `Behind` where the log holds fewer entries than this clerk has seen, then `LogFull`, then `Memory`; at a fault
+    /// nothing has changed. Takes the memory of three replies and the journal's.
+    pub fn call<R: Rules, W: Wait>(
+        &mut self,
+        rt: &W,
+        net: &LockedNet<R>,
+        event: Event,
+    ) -> Result<Reply, CallFault>
+        ensures receipt { IfOk result (λ reply. Keeps self.old self.new event reply) }
+        ensures fault { IfErr result (λ fault. MayAnswer (front_of self.old) fault) }
+        ensures kept { OnErr result (self.new ≡ self.old) }
+    {
+        let (mut journal, hold) = net.take(rt);
+        let answer = self.call_on(&mut journal, event);
+        net.give(hold, journal);
+        answer
+    }
+    /// Lets a daemon choose among the enabled nodes, carries out that step, keeps a receipt of it, and answers the reply,
+    /// which has its moves; `None` where the daemon chose nothing, and nothing is logged then. Choice and record are made
+    /// under one hold of the network's lock, for which it waits.
+    ///
+    /// The faults are those of `call`. `Behind` and `LogFull` come before the daemon is asked; at `Memory` it may have
+    /// gone on, and log and clerk are as before.
+    pub fn drive_with<R: Rules, W: Wait, D: Daemon>(
+        &mut self,
+        rt: &W,
+        net: &LockedNet<R>,
+        daemon: &mut D,
+    ) -> Result<Option<Reply>, CallFault>
+        ensures step { IfOk result (λ told. MatchOption told (self.new ≡ self.old) (KeepsStep R.table.central self.old self.new)) }
+        ensures fault { IfErr result (λ fault. MayAnswer (front_of self.old) fault) }
+        ensures kept { OnErr result (self.new ≡ self.old) }
+    {
+        let (mut journal, hold) = net.take(rt);
+        let answer = self.drive_on(&mut journal, daemon);
+        net.give(hold, journal);
+        answer
+    }
+
+    /// The same for a register fault that an injector draws, which is accepted; `None` exactly where the network has no node.
+    /// `Behind` and `LogFull` come before a fault is drawn.
+    pub fn fault_with<R: Rules, W: Wait, G: Rng>(
+        &mut self,
+        rt: &W,
+        net: &LockedNet<R>,
+        injector: &mut Injector<G>,
+    ) -> Result<Option<Reply>, CallFault>
+        ensures none { IfOk result (λ told. IsNone told ↔ (nodes_of net.now ≡ 0)) }
+        ensures register { IfOk result (λ told. MatchOption told (self.new ≡ self.old) (KeepsFault self.old self.new)) }
+        ensures fault { IfErr result (λ fault. MayAnswer (front_of self.old) fault) }
+        ensures kept { OnErr result (self.new ≡ self.old) }
+    {
+        let (mut journal, hold) = net.take(rt);
+        let answer = self.fault_on(&mut journal, injector);
+        net.give(hold, journal);
+        answer
+    }
+}
