@@ -1,7 +1,7 @@
 //! Whether two events are one.
 
 ghost use Rattle.std.specs.Prelude.{◌≡◌, ◌↔◌, IsTrue};
-ghost use Rattle.rule_machine.specs.declared.event.Event.TheVariants.{Link, Unlink, Point, Flag, Step, Show, Enabled, Matching};
+ghost use Rattle.rule_machine.specs.declared.event.Event.TheVariants.{Link, Unlink, Point, Flag, Step, Show, Enabled, Matching, Status};
 
 use rule_machine::{Choice, Event, Item, Node};
 
@@ -19,6 +19,7 @@ pub fn same_event(a: &Event, b: &Event) -> bool
         Event::Show(v) => is_show(b, *v),
         Event::Enabled => is_enabled(b),
         Event::Matching => is_matching(b),
+        Event::Status => is_status(b),
     }
 }
 
@@ -86,6 +87,12 @@ fn is_matching(event: &Event) -> bool
     ensures { IsTrue result ↔ (event.now ≡ Matching) }
 {
     matches!(event, Event::Matching)
+}
+
+fn is_status(event: &Event) -> bool
+    ensures { IsTrue result ↔ (event.now ≡ Status) }
+{
+    matches!(event, Event::Status)
 }
 
 fn same_items(a: &[Item], b: &[Item]) -> bool

@@ -2,11 +2,12 @@
 
 ghost use Rattle.std.specs.Prelude.{◌≡◌, ◌↔◌, IsTrue};
 ghost use Rattle.rule_machine.specs.declared.reply.Reply.TheVariants.{Accepted, Refused, Moves, Shown, EnabledAre, Pairs};
+ghost use Rattle.rule_machine.specs.declared.reply.Reply.TheVariants as reply_is;
 
-use rule_machine::{Act, Edge, Listing, Moved, Node, Refusal, Reply};
+use rule_machine::{Act, Counts, Edge, Listing, Moved, Node, Refusal, Reply};
 
-/// Whether the replies are one: of the same kind, with the same refusal, target or items, these in the same order. Takes no
-/// memory; a list costs a look at each item.
+/// Whether the replies are one: of the same kind, with the same refusal, target, numbers or items, these in the same
+/// order. Takes no memory; a list costs a look at each item.
 pub fn same_reply(a: &Reply, b: &Reply) -> bool
     ensures { IsTrue result ↔ (a.now ≡ b.now) }
 {
@@ -17,6 +18,7 @@ pub fn same_reply(a: &Reply, b: &Reply) -> bool
         Reply::Shown(target) => is_shown(b, *target),
         Reply::EnabledAre(nodes) => is_enabled_are(b, nodes),
         Reply::Pairs(pairs) => is_pairs(b, pairs),
+        Reply::Counts(counts) => is_counts(b, *counts),
     }
 }
 
@@ -67,6 +69,15 @@ fn is_pairs(reply: &Reply, pairs: &Listing<Edge>) -> bool
 {
     match reply {
         Reply::Pairs(others) => same_pairs(others.as_slice(), pairs.as_slice()),
+        _ => false,
+    }
+}
+
+fn is_counts(reply: &Reply, counts: Counts) -> bool
+    ensures { IsTrue result ↔ (reply.now ≡ reply_is.Counts counts) }
+{
+    match reply {
+        Reply::Counts(other) => *other == counts,
         _ => false,
     }
 }
