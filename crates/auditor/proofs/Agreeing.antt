@@ -55,7 +55,7 @@ first_entry number entry log rest one few is =
     append_assoc (line ++ 10 ∷ []) lines rest ∙ append_assoc line (10 ∷ []) (lines ++ rest) in
     ap first_line whole ∙ first_line-free line (lines ++ rest) (entry_free line number entry (spells_of number entry one few is))
 
-goes_on : (t : RuleTable) (number : ℕ) (s : State) (entry : Entry) (log : List Entry) (rest left : List ℕ) (next : State) → 1 ≤ number → number ≤ max_entries → IsEntry entry → Answers t s entry.0 entry.1 next → rest ≡ entry_lines number (entry ∷ log) ++ left → GoesOn t (number + 0) s rest
+pub goes_on : (t : RuleTable) (number : ℕ) (s : State) (entry : Entry) (log : List Entry) (rest left : List ℕ) (next : State) → 1 ≤ number → number ≤ max_entries → IsEntry entry → Answers t s entry.0 entry.1 next → rest ≡ entry_lines number (entry ∷ log) ++ left → GoesOn t (number + 0) s rest
 goes_on t number s entry log rest left next one few is answers e =
     let same : number ≡ number + 0 = omega arith in
     record {
@@ -68,7 +68,7 @@ goes_on t number s entry log rest left next one few is answers e =
       answers = answers;
     }
 
-later : (t : RuleTable) (number : ℕ) (s : State) (rest : List ℕ) (entry : Entry) (log : List Entry) → GoesOn t (number + 1 + length log) s rest → GoesOn t (number + length (entry ∷ log)) s rest
+pub later : (t : RuleTable) (number : ℕ) (s : State) (rest : List ℕ) (entry : Entry) (log : List Entry) → GoesOn t (number + 1 + length log) s rest → GoesOn t (number + length (entry ∷ log)) s rest
 later t number s rest entry log g =
     let same : number + 1 + length log ≡ number + length (entry ∷ log) = omega arith in
     subst (λ (n : ℕ). GoesOn t n s rest) same g
