@@ -55,7 +55,7 @@ first_entry number entry log rest one few is =
     append_assoc (line ++ 10 ∷ []) lines rest ∙ append_assoc line (10 ∷ []) (lines ++ rest) in
     ap first_line whole ∙ first_line-free line (lines ++ rest) (entry_free line number entry (spells_of number entry one few is))
 
-goes_on : (t : RuleTable) (number : ℕ) (m : Moment) (entry : Entry) (log : List Entry) (rest left : List ℕ) (next : State) → 1 ≤ number → number ≤ max_entries → IsEntry entry → Answers t m.state m.spent entry.0 entry.1 next → rest ≡ entry_lines number (entry ∷ log) ++ left → GoesOn t (number + 0) m rest
+pub goes_on : (t : RuleTable) (number : ℕ) (m : Moment) (entry : Entry) (log : List Entry) (rest left : List ℕ) (next : State) → 1 ≤ number → number ≤ max_entries → IsEntry entry → Answers t m.state m.spent entry.0 entry.1 next → rest ≡ entry_lines number (entry ∷ log) ++ left → GoesOn t (number + 0) m rest
 goes_on t number m entry log rest left next one few is answers e =
     let same : number ≡ number + 0 = omega arith in
     record {
@@ -68,7 +68,7 @@ goes_on t number m entry log rest left next one few is answers e =
       answers = answers;
     }
 
-later : (t : RuleTable) (number : ℕ) (m : Moment) (rest : List ℕ) (entry : Entry) (log : List Entry) → GoesOn t (number + 1 + length log) m rest → GoesOn t (number + length (entry ∷ log)) m rest
+pub later : (t : RuleTable) (number : ℕ) (m : Moment) (rest : List ℕ) (entry : Entry) (log : List Entry) → GoesOn t (number + 1 + length log) m rest → GoesOn t (number + length (entry ∷ log)) m rest
 later t number m rest entry log g =
     let same : number + 1 + length log ≡ number + length (entry ∷ log) = omega arith in
     subst (λ (n : ℕ). GoesOn t n m rest) same g

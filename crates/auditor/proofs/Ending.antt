@@ -135,7 +135,7 @@ reply_ends bytes line e = record {
 
 -- ---- one way
 
-header_good : (bytes : List ℕ) (rules : RuleSet) (log : List Entry) (end : Moment) (rest : List ℕ) → HasBadHeader (first_line bytes) → Follows bytes rules log end rest → ⊥
+pub header_good : (bytes : List ℕ) (rules : RuleSet) (log : List Entry) (end : Moment) (rest : List ℕ) → HasBadHeader (first_line bytes) → Follows bytes rules log end rest → ⊥
 header_good bytes rules log end rest bad f =
     let no = subst HasBadHeader (header_first bytes rules log end rest f) bad in
     no rules f.nodes (spells_of rules f.nodes f.transcript.few)
@@ -143,10 +143,10 @@ header_good bytes rules log end rest bad f =
 same_line : (line other : ℕ) (log also : List Entry) → IsLineBehind line log → IsLineBehind other also → log ≡ also → line ≡ other
 same_line line other log also a b e = a ∙ ap (λ (l : List Entry). length l + 2) e ∙ sym b
 
-some_rest : (rest : List ℕ) → HasNoEntry rest (first_line rest) → rest ≢ []
+pub some_rest : (rest : List ℕ) → HasNoEntry rest (first_line rest) → rest ≢ []
 some_rest rest none e = (subst (λ (l : List ℕ). HasNoEntry l (first_line l)) e none) refl
 
-comes_rest : (rest : List ℕ) (number : ℕ) (entry : Entry) → EntryComes rest number entry → rest ≢ []
+pub comes_rest : (rest : List ℕ) (number : ℕ) (entry : Entry) → EntryComes rest number entry → rest ≢ []
 comes_rest rest number entry comes e = none-some (comes.line, comes.more) (sym (ap first_line e) ∙ comes.is)
 
 line_number : (bytes : List ℕ) (l k : ℕ) → EndsInNoLine bytes l → EndsOutOfOrder bytes k → ⊥
@@ -217,7 +217,7 @@ counted_is : (c : Summary) (log : List Entry) → Counts c log → c ≡ summary
 counted_is c log is =
     ap (λ (n : ℕ). summary n c.epochs c.moves) is.entries ∙ ap (λ (n : ℕ). summary (length log) n c.moves) is.epochs ∙ ap (λ (n : ℕ). summary (length log) (epoch_count log) n) is.moves
 
-no_damage : (bytes : List ℕ) (rules : RuleSet) (nodes : ℕ) (log : List Entry) (end : Moment) (d : Damage) → IsTranscript bytes rules nodes log end → IsDamage bytes d → ⊥
+pub no_damage : (bytes : List ℕ) (rules : RuleSet) (nodes : ℕ) (log : List Entry) (end : Moment) (d : Damage) → IsTranscript bytes rules nodes log end → IsDamage bytes d → ⊥
 no_damage bytes rules nodes log end BadHeader is x = header_good bytes rules log end [] x (transcript_ends bytes rules nodes log end is).follows
 no_damage bytes rules nodes log end (NotALine l) is x =
     let once = ended_once bytes rules x.rules nodes x.follows.nodes log x.log end x.end [] x.rest (transcript_ends bytes rules nodes log end is) (no_line_ends bytes l x) in

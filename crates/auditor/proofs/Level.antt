@@ -25,7 +25,7 @@ spells_of : (number : ℕ) (entry : Entry) → 1 ≤ number → number ≤ max_e
 spells_of number entry one few is = record { numbered = (one, few); event = is.event; reply = is.reply; fits = is.fits; is = refl }
 
 -- one entry is spelled first
-first_once : (number : ℕ) (entry other : Entry) (log also : List Entry) (rest left : List ℕ) → 1 ≤ number → number ≤ max_entries → IsEntry entry → IsEntry other → entry_lines number (entry ∷ log) ++ rest ≡ entry_lines number (other ∷ also) ++ left → (entry ≡ other) × (entry_lines (number + 1) log ++ rest ≡ entry_lines (number + 1) also ++ left)
+pub first_once : (number : ℕ) (entry other : Entry) (log also : List Entry) (rest left : List ℕ) → 1 ≤ number → number ≤ max_entries → IsEntry entry → IsEntry other → entry_lines number (entry ∷ log) ++ rest ≡ entry_lines number (other ∷ also) ++ left → (entry ≡ other) × (entry_lines (number + 1) log ++ rest ≡ entry_lines (number + 1) also ++ left)
 first_once number entry other log also rest left one top is fits e =
     let behind = entry_lines (number + 1) log ++ rest in
     let after = entry_lines (number + 1) also ++ left in
@@ -36,14 +36,14 @@ first_once number entry other log also rest left one top is fits e =
     ((spells_entry_once line number number entry other (spells_of number entry one top is) spelled).1, ap (λ (p : List ℕ × List ℕ). p.1) first)
 
 -- where the machine is behind one entry
-behind_once : (t : RuleTable) (start : Moment) (entry other : Entry) (next following : State) → entry ≡ other → Answers t start.state entry.0 entry.1 next → Answers t start.state other.0 other.1 following → next ≡ following
+pub behind_once : (t : RuleTable) (start : Moment) (entry other : Entry) (next following : State) → entry ≡ other → Answers t start.state entry.0 entry.1 next → Answers t start.state other.0 other.1 following → next ≡ following
 behind_once t start entry other next following same answers answered =
     answers_once t start.state other.0 other.1 next following (subst (λ (x : Entry). Answers t start.state x.0 x.1 next) same answers) answered
 
-abbrev at : State → ℕ → Reply → Moment
+abbrev pub at : State → ℕ → Reply → Moment
 at s spent reply = record { state = s; spent = spent_after spent reply }
 
-at_once : (next following : State) (spent : ℕ) (entry other : Entry) → entry ≡ other → next ≡ following → at next spent entry.1 ≡ at following spent other.1
+pub at_once : (next following : State) (spent : ℕ) (entry other : Entry) → entry ≡ other → next ≡ following → at next spent entry.1 ≡ at following spent other.1
 at_once next following spent entry other same there =
     ap (λ (s : State). at s spent entry.1) there ∙ ap (λ (x : Entry). at following spent x.1) same
 
@@ -62,7 +62,7 @@ level t number start (entry ∷ log) (other ∷ also) end last rest left one few
 -- ---- the state after so many entries
 
 -- with nothing behind it, a transcript has ended
-over : (bytes : List ℕ) (rules : RuleSet) (log : List Entry) (end : Moment) (rest : List ℕ) (f : Follows bytes rules log end rest) → rest ≡ [] → Ended bytes rules f.nodes log end rest
+pub over : (bytes : List ℕ) (rules : RuleSet) (log : List Entry) (end : Moment) (rest : List ℕ) (f : Follows bytes rules log end rest) → rest ≡ [] → Ended bytes rules f.nodes log end rest
 over bytes rules log end rest f none = record {
   follows = f;
   begins = refl;

@@ -9,3 +9,4 @@ pub mod Exact
 pub mod Arriving
 pub mod Turning
 pub mod Level
+pub mod Apart

@@ -37,3 +37,10 @@ abbrev pub IsTable : List ℕ → View → Type 0
 IsTable bytes (Text text) = IsTableOf bytes text.items
 IsTable bytes (Refused damage) = IsDamage bytes damage
 IsTable bytes (TooFew asked entries) = ⊥
+
+-- two views are one: the texts are, or the damages, or the numbers
+abbrev pub SameView : View → View → Type 0
+SameView (Text text) (Text also) = text.items ≡ also.items
+SameView (Refused damage) (Refused other) = damage ≡ other
+SameView (TooFew asked entries) (TooFew wanted count) = (asked ≡ wanted) × (entries ≡ count)
+SameView view other = ⊥

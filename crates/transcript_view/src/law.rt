@@ -1,14 +1,15 @@
 //! What holds of all views.
 
-ghost use Rattle.std.specs.Prelude.{◌≡◌, ℕ, List, Option};
-ghost use Rattle.transcript_view.specs.Views.{IsPictureOf, IsTableOf};
+ghost use Rattle.std.specs.Prelude.{ℕ, List, Option};
+ghost use Rattle.transcript_view.specs.declared.view.View.{View};
+ghost use Rattle.transcript_view.specs.Views.{IsPicture, IsTable, SameView};
 
-/// A text has one picture at most after an entry, and one after its last entry.
+/// A text has one picture at most after an entry, or after its last entry; or one damage up to there, or too few entries.
 pub fn one_picture()
-    ensures { (bytes : List ℕ) (last : Option ℕ) (text also : List ℕ) → IsPictureOf bytes last text → IsPictureOf bytes last also → text ≡ also }
+    ensures { (bytes : List ℕ) (last : Option ℕ) (view also : View) → IsPicture bytes last view → IsPicture bytes last also → SameView view also }
 {}
 
-/// A text has one table of epochs at most.
+/// A text has one table of epochs at most, or one damage.
 pub fn one_table()
-    ensures { (bytes text also : List ℕ) → IsTableOf bytes text → IsTableOf bytes also → text ≡ also }
+    ensures { (bytes : List ℕ) (view also : View) → IsTable bytes view → IsTable bytes also → SameView view also }
 {}
