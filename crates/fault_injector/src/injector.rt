@@ -43,12 +43,12 @@ impl<G: Rng> Injector<G> {
     /// pointer, with d neighbours, is null where `word mod (d + 1)` is 0, and else at the neighbour of that number,
     /// counted from 1 by rising names.
     pub fn draw<R: Rules>(&mut self, net: &Net<R>) -> Option<Event>
-        ensures event { (result, G.stream self.new) ≡ drawn net.now.network R.table.flags (G.stream self.old) }
-        ensures none { IsNone result ↔ (node_count net.now.network ≡ 0) }
-        ensures unused { node_count net.now.network ≡ 0 → G.stream self.new ≡ G.stream self.old }
-        ensures words { 0 < node_count net.now.network → G.stream self.new ≡ behind (fault_words R.table.flags) (G.stream self.old) }
+        ensures event { (result, G.stream self.new) ≡ drawn net.now.state.network R.table.flags (G.stream self.old) }
+        ensures none { IsNone result ↔ (node_count net.now.state.network ≡ 0) }
+        ensures unused { node_count net.now.state.network ≡ 0 → G.stream self.new ≡ G.stream self.old }
+        ensures words { 0 < node_count net.now.state.network → G.stream self.new ≡ behind (fault_words R.table.flags) (G.stream self.old) }
         ensures register { IfSome result (λ event. IsTrue (is_register_fault event)) }
-        ensures accepted { IfSome result (λ event. refusal_of R.table net.now event ≡ None) }
+        ensures accepted { IfSome result (λ event. refusal_of R.table net.now.state event ≡ None) }
     {
         let store = net.store();
         if store.nodes() == 0 {

@@ -5,8 +5,8 @@ use Rattle.std.proofs.lemmas.List.{append_cancel_left}
 use Rattle.std.proofs.lemmas.Fmt.{digits_decimal, decimal_injective}
 use Rattle.rand_core.specs.Stream.{Stream}
 use Rattle.rule_machine.specs.declared.event.Event.{Event}
-use Rattle.rule_machine.specs.declared.event.Event.TheVariants.{Link, Unlink, Point, Flag, Step, Show, Enabled, Matching}
-use Rattle.rule_machine.specs.State.{State}
+use Rattle.rule_machine.specs.declared.event.Event.TheVariants.{Link, Unlink, Point, Flag, Step, Show, Enabled, Matching, Status}
+use Rattle.rule_machine.specs.Run.{Moment}
 use Rattle.rule_machine.specs.RuleTable.{RuleTable}
 use Rattle.line_text.specs.Words.{number_text}
 use Rattle.line_text.specs.EventText.{event_text}
@@ -50,6 +50,7 @@ no_drive (Step items) u e = omega (arith, ap head_of e)
 no_drive (Show v) u e = omega (arith, ap head_of e)
 no_drive Enabled u e = omega (arith, ap head_of e)
 no_drive Matching u e = omega (arith, ap head_of e)
+no_drive Status u e = omega (arith, ap head_of e)
 
 no_scramble : (e : Event) (u : Turns) → event_text e ≡ codes "scramble " ++ turns_text u → ⊥
 no_scramble (Link a b) u e = omega (arith, ap head_of e)
@@ -60,6 +61,7 @@ no_scramble (Step items) u e = omega (arith, ap head_of e)
 no_scramble (Show v) u e = omega (arith, ap head_of e)
 no_scramble Enabled u e = omega (arith, ap head_of e)
 no_scramble Matching u e = omega (arith, ap head_of e)
+no_scramble Status u e = omega (arith, ap head_of e)
 
 -- a command has one text
 command_once : (c d : Command) → IsCommand c → IsCommand d → command_text c ≡ command_text d → c ≡ d
@@ -78,17 +80,17 @@ pub says_once : (line : List ℕ) (c d : Command) → Says line c → Says line 
 says_once line c d p q = command_once c d p.0 q.0 (sym p.1 ∙ q.1)
 
 -- the parts of a progress
-progress_of : State → ℕ → List ℕ → Progress
-progress_of s n x = record { state = s; count = n; text = x }
+progress_of : Moment → ℕ → List ℕ → Progress
+progress_of s n x = record { moment = s; count = n; text = x }
 
-same_progress : (p q : Progress) → p.state ≡ q.state → p.count ≡ q.count → p.text ≡ q.text → p ≡ q
+same_progress : (p q : Progress) → p.moment ≡ q.moment → p.count ≡ q.count → p.text ≡ q.text → p ≡ q
 unfolding progress_of
 same_progress p q s n x =
-    ap (λ (z : State). progress_of z p.count p.text) s ∙ ap (λ (z : ℕ). progress_of q.state z p.text) n ∙ ap (λ (z : List ℕ). progress_of q.state q.count z) x
+    ap (λ (z : Moment). progress_of z p.count p.text) s ∙ ap (λ (z : ℕ). progress_of q.moment z p.text) n ∙ ap (λ (z : List ℕ). progress_of q.moment q.count z) x
 
 -- an event leads to one progress
 entry_once : (t : RuleTable) (event : Event) (before after other : Progress) → IsEntry t event before after → IsEntry t event before other → after ≡ other
-entry_once t event before after other p q = same_progress after other (p.state ∙ sym q.state) (p.count ∙ sym q.count) (p.text ∙ sym q.text)
+entry_once t event before after other p q = same_progress after other (p.moment ∙ sym q.moment) (p.count ∙ sym q.count) (p.text ∙ sym q.text)
 
 -- a turn leads to one progress, if those behind it do
 turn_once : (t : RuleTable) (drawn : Option Event) (P Q : Progress → Type 0) (before after other : Progress)
@@ -103,7 +105,7 @@ turns_lead_once : (draws : Draws) (t : RuleTable) (limit turns : ℕ) (stream : 
     → TurnsDo draws t limit turns stream before after → TurnsDo draws t limit turns stream before other → after ≡ other
 turns_lead_once draws t limit zero stream before after other p q = p ∙ sym q
 turns_lead_once draws t limit (suc turns) stream before after other p q =
-    let drawn = draws t before.state stream in
+    let drawn = draws t before.moment.state stream in
     turn_once t drawn.0 (λ next. TurnsDo draws t limit turns drawn.1 next after) (λ next. TurnsDo draws t limit turns drawn.1 next other) before after other
     (λ next p q. turns_lead_once draws t limit turns drawn.1 next after other p q) p.1 q.1
 

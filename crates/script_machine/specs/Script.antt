@@ -2,9 +2,9 @@
 use Rattle.std.specs.Prelude.{◌≡◌, ◌≢◌, ℕ, zero, suc, ◌+◌, ◌<◌, ◌≤◌, ◌⊎◌, List, [], ◌∷◌, ◌++◌, ◌==◌, if◌then◌else◌, Option, None, Some}
 use Rattle.rand_core.specs.Stream.{Stream}
 use Rattle.rule_machine.specs.declared.event.Event.{Event}
-use Rattle.rule_machine.specs.State.{State}
 use Rattle.rule_machine.specs.RuleTable.{RuleTable}
-use Rattle.rule_machine.specs.Least.{reply_of, state_after}
+use Rattle.rule_machine.specs.Least.{reply_of}
+use Rattle.rule_machine.specs.Run.{Moment, moment_after}
 use Rattle.line_text.specs.EntryText.{entry_line}
 use Rattle.script_line.specs.declared.command.Command.{Command}
 use Rattle.script_line.specs.declared.command.Command.TheVariants.{Tell, Drive, Scramble}
@@ -21,17 +21,17 @@ abbrev pub lines_of : List ℕ → List (List ℕ)
 lines_of [] = []
 lines_of (b ∷ bytes) = if b == 10 then [] ∷ lines_of bytes else onto_first b (lines_of bytes)
 
--- where a run stands: the state, how many entries there are, and their text
+-- where a run stands: the state and the moves since the last disturbance, how many entries there are, and their text
 pub record Progress : Type 0 where
-  pub state : State
+  pub moment : Moment
   pub count : ℕ
   pub text : List ℕ
 
 -- the machine answers the event, and its entry goes to the end of the text
 pub record IsEntry (t : RuleTable) (event : Event) (before after : Progress) : Type 0 where
-  pub state : after.state ≡ state_after t before.state event
+  pub moment : after.moment ≡ moment_after t before.moment event
   pub count : after.count ≡ before.count + 1
-  pub text : after.text ≡ before.text ++ entry_line (before.count + 1) event (reply_of t before.state event)
+  pub text : after.text ≡ before.text ++ entry_line (before.count + 1) event (reply_of t before.moment.state before.moment.spent event)
 
 -- an event is an entry while there are fewer than the limit
 abbrev pub EventDoes : RuleTable → ℕ → Event → Progress → Progress → Type 0
@@ -46,7 +46,7 @@ TurnDoes t (Some event) Others before after = (next : Progress) × IsEntry t eve
 abbrev pub TurnsDo : Draws → RuleTable → ℕ → ℕ → Stream → Progress → Progress → Type 0
 TurnsDo draws t limit zero stream before after = after ≡ before
 TurnsDo draws t limit (suc turns) stream before after =
-    (before.count < limit) × TurnDoes t (draws t before.state stream).0 (λ next. TurnsDo draws t limit turns (draws t before.state stream).1 next after) before after
+    (before.count < limit) × TurnDoes t (draws t before.moment.state stream).0 (λ next. TurnsDo draws t limit turns (draws t before.moment.state stream).1 next after) before after
 
 -- what a command does
 abbrev pub CommandDoes : RuleTable → ℕ → Command → Progress → Progress → Type 0
@@ -82,7 +82,7 @@ abbrev pub TurnsFill : Draws → RuleTable → ℕ → ℕ → Stream → Progre
 TurnsFill draws t limit zero stream before after = ⊥
 TurnsFill draws t limit (suc turns) stream before after =
     IsFull limit before after
-    ⊎ ((before.count < limit) × TurnFills t (draws t before.state stream).0 (λ next. TurnsFill draws t limit turns (draws t before.state stream).1 next after) before)
+    ⊎ ((before.count < limit) × TurnFills t (draws t before.moment.state stream).0 (λ next. TurnsFill draws t limit turns (draws t before.moment.state stream).1 next after) before)
 
 -- the command, or a turn of it, comes when there are as many entries as there may be
 abbrev pub CommandFills : RuleTable → ℕ → Command → Progress → Progress → Type 0

@@ -4,9 +4,8 @@ use Rattle.std.proofs.lemmas.Bool.{true≢false}
 use Rattle.std.proofs.Math.Seq.{take-append_seam, take-append-add, take-length}
 use Rattle.std.specs.Io.KnownBytes.{Appends}
 use Rattle.std.proofs.KnownBytes.{Appends-nil, Appends-trans}
-use Rattle.rule_machine.specs.State.{State}
 use Rattle.rule_machine.specs.RuleTable.{RuleTable}
-use Rattle.rule_machine.specs.Run.{Entry}
+use Rattle.rule_machine.specs.Run.{Moment}
 use Rattle.std.specs.Prelude.{slice_get, ◌-◌, OnErr, IsErr, IsErrAnd, IfSome}
 use Rattle.line_text.specs.EntryText.{entry_line}
 use Rattle.script_line.specs.declared.command.Command.{Command}
@@ -31,13 +30,13 @@ use Rattle.script_run.specs.Line.{LineEnds}
 use Rattle.script_run.proofs.Shifting.{at_line, line_adds, meeting_adds}
 
 -- the lines before the rest are done, and of the text that they make the writer has what stands before the held one
-pub record SoFar (t : RuleTable) (limit : ℕ) (script : List ℕ) (start : Progress) (old : Option (List ℕ)) (rest : List ℕ) (n : ℕ) (state : State) (count : ℕ) (known : Option (List ℕ)) (held : List ℕ) : Type 0 where
+pub record SoFar (t : RuleTable) (limit : ℕ) (script : List ℕ) (start : Progress) (old : Option (List ℕ)) (rest : List ℕ) (n : ℕ) (moment : Moment) (count : ℕ) (known : Option (List ℕ)) (held : List ℕ) : Type 0 where
   pub before : List (List ℕ)
   pub text : List ℕ
   pub splits : lines_of script ≡ before ++ lines_of rest
   pub number : n ≡ length before
   pub room : n + length rest ≤ length script
-  pub does : LinesDo t limit before start (at_line state count text)
+  pub does : LinesDo t limit before start (at_line moment count text)
   pub handed : Hands old known text held
 
 -- one line more
@@ -58,7 +57,7 @@ Hands-less old known new text held h (n, less, wrote) =
     (length h.sent + n, omega (arith, long, less), subst (Appends old new) (sym front) (Appends-trans old known new h.sent (take n held) h.wrote wrote))
 
 module _ (t : RuleTable) (limit : ℕ) (script : List ℕ) (start : Progress) (old : Option (List ℕ)) where
-  pub SoFar-none : (s : State) (count : ℕ) (text : List ℕ) → start ≡ at_line s count text → SoFar t limit script start old script 0 s count old text
+  pub SoFar-none : (s : Moment) (count : ℕ) (text : List ℕ) → start ≡ at_line s count text → SoFar t limit script start old script 0 s count old text
   SoFar-none s count text e = record {
     before = [];
     text = text;
@@ -69,7 +68,7 @@ module _ (t : RuleTable) (limit : ℕ) (script : List ℕ) (start : Progress) (o
     handed = record { sent = []; wrote = Appends-nil old; splits = refl };
   }
 
-  pub SoFar-line : (rest behind line : List ℕ) (n : ℕ) (s s' : State) (count count' : ℕ) (known : Option (List ℕ)) (held held' : List ℕ)
+  pub SoFar-line : (rest behind line : List ℕ) (n : ℕ) (s s' : Moment) (count count' : ℕ) (known : Option (List ℕ)) (held held' : List ℕ)
       → SoFar t limit script start old rest n s count known held
       → lines_of rest ≡ line ∷ lines_of behind → length behind < length rest
       → LineDoes t limit line (at_line s count held) (at_line s' count' held')
@@ -90,7 +89,7 @@ module _ (t : RuleTable) (limit : ℕ) (script : List ℕ) (start : Progress) (o
       }
 
   -- some of what was held is written
-  pub SoFar-handed : (rest : List ℕ) (n : ℕ) (s : State) (count : ℕ) (known known' : Option (List ℕ)) (held held' : List ℕ)
+  pub SoFar-handed : (rest : List ℕ) (n : ℕ) (s : Moment) (count : ℕ) (known known' : Option (List ℕ)) (held held' : List ℕ)
       → SoFar t limit script start old rest n s count known held → Hands known known' held held' → SoFar t limit script start old rest n s count known' held'
   SoFar-handed rest n s count known known' held held' h more = record {
     before = h.before;
@@ -107,19 +106,19 @@ module _ (t : RuleTable) (limit : ℕ) (script : List ℕ) (start : Progress) (o
   }
 
   -- what was held could not be written
-  pub SoFar-failed : (rest : List ℕ) (n : ℕ) (s : State) (count : ℕ) (known known' : Option (List ℕ)) (held : List ℕ)
+  pub SoFar-failed : (rest : List ℕ) (n : ℕ) (s : Moment) (count : ℕ) (known known' : Option (List ℕ)) (held : List ℕ)
       → SoFar t limit script start old rest n s count known held → AppendsLess known known' held
       → (end : Progress) × LeadsTo t limit (lines_of script) start end × AppendsLess old known' end.text
   SoFar-failed rest n s count known known' held h less =
       (at_line s count h.text, LeadsTo-before t limit h.before (lines_of rest) (lines_of script) start (at_line s count h.text) h.splits h.does, Hands-less old known known' h.text held h.handed less)
 
   -- no line is left
-  pub Halts-whole : (rest : List ℕ) (n : ℕ) (s : State) (count : ℕ) (known : Option (List ℕ)) (held : List ℕ)
+  pub Halts-whole : (rest : List ℕ) (n : ℕ) (s : Moment) (count : ℕ) (known : Option (List ℕ)) (held : List ℕ)
       → SoFar t limit script start old rest n s count known held → lines_of rest ≡ [] → Halts t limit (lines_of script) start Whole (λ text. Hands old known text held)
   Halts-whole rest n s count known held h none =
       (at_line s count h.text, subst (λ l. LinesDo t limit l start (at_line s count h.text)) (sym (h.splits ∙ ap (λ l. h.before ++ l) none ∙ append-nil h.before)) h.does, h.handed)
 
-  stops : (rest line : List ℕ) (behind : List (List ℕ)) (n : ℕ) (s : State) (count : ℕ) (known : Option (List ℕ)) (held : List ℕ)
+  stops : (rest line : List ℕ) (behind : List (List ℕ)) (n : ℕ) (s : Moment) (count : ℕ) (known : Option (List ℕ)) (held : List ℕ)
       → (h : SoFar t limit script start old rest n s count known held) → lines_of rest ≡ line ∷ behind → StopsAt t limit (lines_of script) start (n + 1) line (at_line s count h.text)
   stops rest line behind n s count known held h first = record {
     before = h.before;
@@ -129,7 +128,7 @@ module _ (t : RuleTable) (limit : ℕ) (script : List ℕ) (start : Progress) (o
     does = h.does;
   }
 
-  Halts-at : (E : Type 0) (rest line : List ℕ) (behind : List (List ℕ)) (n number : ℕ) (s : State) (count : ℕ) (known : Option (List ℕ)) (held : List ℕ) (after : Progress) (stop : Stop)
+  Halts-at : (E : Type 0) (rest line : List ℕ) (behind : List (List ℕ)) (n number : ℕ) (s : Moment) (count : ℕ) (known : Option (List ℕ)) (held : List ℕ) (after : Progress) (stop : Stop)
       → SoFar t limit script start old rest n s count known held → lines_of rest ≡ line ∷ behind → number ≡ n + 1
       → LineEnds {E = E} t limit number line (at_line s count held) after (Ok (Some stop))
       → Halts t limit (lines_of script) start (Stopped stop) (λ text. Hands old known text after.text)
@@ -139,8 +138,8 @@ module _ (t : RuleTable) (limit : ℕ) (script : List ℕ) (start : Progress) (o
     subst (Hands old known h.text) (sym (ap (λ (p : Progress). p.text) kept)) h.handed,
   )
   Halts-at E rest line behind n number s count known held after LogFull h first next meets =
-      let adds = meeting_adds t limit line s after.state count after.count held after.text meets in (
-        at_line after.state after.count (h.text ++ adds.more),
+      let adds = meeting_adds t limit line s after.moment count after.count held after.text meets in (
+        at_line after.moment after.count (h.text ++ adds.more),
         (n + 1, line, at_line s count h.text, stops rest line behind n s count known held h first, adds.leads h.text),
         record {
           sent = h.handed.sent;
@@ -150,7 +149,7 @@ module _ (t : RuleTable) (limit : ℕ) (script : List ℕ) (start : Progress) (o
       )
 
   -- the next line stops the run
-  pub Halts-stopped : {E : Type 0} (rest line : List ℕ) (behind : List (List ℕ)) (n number : ℕ) (s : State) (count : ℕ) (known : Option (List ℕ)) (held : List ℕ) (after : Progress) (stop : Stop) (result : Result (Option Stop) E)
+  pub Halts-stopped : {E : Type 0} (rest line : List ℕ) (behind : List (List ℕ)) (n number : ℕ) (s : Moment) (count : ℕ) (known : Option (List ℕ)) (held : List ℕ) (after : Progress) (stop : Stop) (result : Result (Option Stop) E)
       → SoFar t limit script start old rest n s count known held → lines_of rest ≡ line ∷ behind → number ≡ n + 1
       → LineEnds t limit number line (at_line s count held) after result → result ≡ Ok (Some stop)
       → Halts t limit (lines_of script) start (Stopped stop) (λ text. Hands old known text after.text)
@@ -158,7 +157,7 @@ module _ (t : RuleTable) (limit : ℕ) (script : List ℕ) (start : Progress) (o
       Halts-at E rest line behind n number s count known held after stop h first next (subst (LineEnds t limit number line (at_line s count held) after) is ends)
 
   -- memory was refused at the next line
-  pub Halts-memory : {E : Type 0} (rest line : List ℕ) (n number : ℕ) (s : State) (count : ℕ) (known : Option (List ℕ)) (held : List ℕ) (after : Progress) (want : E) (result : Result (Option Stop) E)
+  pub Halts-memory : {E : Type 0} (rest line : List ℕ) (n number : ℕ) (s : Moment) (count : ℕ) (known : Option (List ℕ)) (held : List ℕ) (after : Progress) (want : E) (result : Result (Option Stop) E)
       → SoFar t limit script start old rest n s count known held
       → LineEnds t limit number line (at_line s count held) after result → result ≡ Err want
       → Halts t limit (lines_of script) start Memory (λ text. Hands old known text after.text)

@@ -29,7 +29,7 @@ module _ (draws : Draws) (t : RuleTable) (limit count taken : ℕ) (first stream
   one_more = omega (arith, more)
 
   -- a turn that was taken
-  pub turned_more : (event : Event) (rest : Stream) (next : Progress) → now.count < limit → draws t now.state stream ≡ (Some event, rest) → IsEntry t event now next
+  pub turned_more : (event : Event) (rest : Stream) (next : Progress) → now.count < limit → draws t now.moment.state stream ≡ (Some event, rest) → IsEntry t event now next
       → Turned draws t limit count (taken + 1) first rest begun next
   turned_more event rest next below drawn entry = record {
     does = λ after d. so_far.does after (subst (λ n. TurnsDo draws t limit n stream now after) (sym one_more)
@@ -37,12 +37,12 @@ module _ (draws : Draws) (t : RuleTable) (limit count taken : ℕ) (first stream
     fills = λ after f. so_far.fills after (subst (λ n. TurnsFill draws t limit n stream now after) (sym one_more)
         (inr (below, subst (λ (p : Option Event × Stream). TurnFills t p.0 (λ mid. TurnsFill draws t limit (count - (taken + 1)) p.1 mid after) now) (sym drawn) (next, entry, f))));
     grown =
-        let line : List ℕ = entry_line (now.count + 1) event (reply_of t now.state event) in
+        let line : List ℕ = entry_line (now.count + 1) event (reply_of t now.moment.state now.moment.spent event) in
         (so_far.grown.0 ++ line, entry.text ∙ ap (λ l. l ++ line) so_far.grown.1 ∙ append_assoc begun.text so_far.grown.0 line);
   }
 
   -- a turn that draws nothing is the last
-  pub turned_last : (rest : Stream) → now.count < limit → draws t now.state stream ≡ (None, rest) → TurnsDo draws t limit count first begun now
+  pub turned_last : (rest : Stream) → now.count < limit → draws t now.moment.state stream ≡ (None, rest) → TurnsDo draws t limit count first begun now
   turned_last rest below drawn =
       so_far.does now (subst (λ n. TurnsDo draws t limit n stream now now) (sym one_more)
       (below, subst (λ (p : Option Event × Stream). TurnDoes t p.0 (λ mid. TurnsDo draws t limit (count - (taken + 1)) p.1 mid now) now now) (sym drawn) refl))

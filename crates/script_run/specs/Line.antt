@@ -3,6 +3,7 @@ use Rattle.std.specs.Prelude.{◌≡◌, ℕ, Bool, true, false, List, ◌++◌,
 use Rattle.rand_core.specs.Stream.{Stream}
 use Rattle.rule_machine.specs.declared.event.Event.{Event}
 use Rattle.rule_machine.specs.RuleTable.{RuleTable}
+use Rattle.rule_machine.specs.Run.{Moment}
 use Rattle.step_log.specs.Recording.{Recording}
 use Rattle.script_line.specs.declared.command.Command.{Command}
 use Rattle.seeded_turns.specs.Drawn.{Draws}
@@ -10,9 +11,13 @@ use Rattle.script_machine.specs.Script.{Progress, EventDoes, TurnsDo, TurnsFill,
 use Rattle.script_run.specs.declared.stop.Stop.{Stop}
 use Rattle.script_run.specs.declared.stop.Stop.TheVariants.{BadLine, LogFull}
 
+-- the state, and what is spent
+abbrev pub moment_of : Recording → Moment
+moment_of r = record { state = r.state; spent = r.spent }
+
 -- where a run stands: how far its recording has come, and a text
 abbrev pub progress : Recording → List ℕ → Progress
-progress r text = record { state = r.state; count = r.len; text = text }
+progress r text = record { moment = moment_of r; count = r.len; text = text }
 
 -- a text has grown
 abbrev pub Grows : List ℕ → List ℕ → Type 0

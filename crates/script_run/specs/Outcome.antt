@@ -13,7 +13,7 @@ use Rattle.script_run.specs.declared.fault.RunFault.TheVariants.{BadLine, LogFul
 
 -- where every run begins: the opening state, no entry, and the header
 abbrev pub beginning : RuleSet → ℕ → Progress
-beginning rules nodes = record { state = opening nodes; count = 0; text = header_line rules nodes }
+beginning rules nodes = record { moment = record { state = opening nodes; spent = 0 }; count = 0; text = header_line rules nodes }
 
 -- the lines before the one with this number lead to the end, and it comes next
 pub record StopsAt (t : RuleTable) (limit : ℕ) (lines : List (List ℕ)) (start : Progress) (n : ℕ) (line : List ℕ) (end : Progress) : Type 0 where

@@ -16,6 +16,6 @@ pub trait EventSource {
 
     /// The event of the next turn; `None` where there is none. At want of memory no word has been taken.
     fn next_event<R: Rules>(&mut self, net: &Net<R>) -> Result<Option<Event>, Want>
-        ensures event { IfOk result (λ event. (event, stream self.new) ≡ draws R.table net.now (stream self.old)) }
+        ensures event { IfOk result (λ event. (event, stream self.new) ≡ draws R.table net.now.state (stream self.old)) }
         ensures kept { OnErr result (stream self.new ≡ stream self.old) };
 }

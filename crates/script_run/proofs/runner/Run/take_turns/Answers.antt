@@ -17,7 +17,7 @@ returns-in_default-clause-ends g c =
     let below : run.recorder.len < c.args.self.now.recorder.limit =
     omega (arith, below_limit run.recorder.len run.recorder.limit c.is_full.ensures.room c.if-is_full.ensures.full.1, c.loop.invariant.limit) in
     let drawn : g.S.EventSource.draws g.R.Rules.table run.recorder.state (g.S.EventSource.stream c.loop.source) ≡ (None, g.S.EventSource.stream c.next_event.new.self) =
-    ap (λ (s : State). g.S.EventSource.draws g.R.Rules.table s (g.S.EventSource.stream c.loop.source)) (sym c.net.ensures) ∙ sym c.in_ok-event.ensures.event
+    ap (λ (s : State). g.S.EventSource.draws g.R.Rules.table s (g.S.EventSource.stream c.loop.source)) (sym c.net.ensures.state) ∙ sym c.in_ok-event.ensures.event
     ∙ ap (λ (o : Option Event). (o, g.S.EventSource.stream c.next_event.new.self)) c.in_default.is in
     turned_last _ _ _ _ _ _ _ _ _ c.loop.invariant.turned c.loop-test.true (g.S.EventSource.stream c.next_event.new.self) below drawn
 
@@ -27,7 +27,7 @@ loop-preserved g c =
     let done = logged g.R.Rules.table run.recorder.limit c.in-Some.event (progress run.recorder run.text.items) (progress c.log.new.self.recorder c.log.new.self.text.items) c.log.result c.in_ok-log.field-0 c.log.ensures.ends c.in_ok-log.was c.if-not-branch.false in
     let below : run.recorder.len < c.args.self.now.recorder.limit = omega (arith, done.0, c.loop.invariant.limit) in
     let drawn : g.S.EventSource.draws g.R.Rules.table run.recorder.state (g.S.EventSource.stream c.loop.source) ≡ (Some c.in-Some.event, g.S.EventSource.stream c.next_event.new.self) =
-    ap (λ (s : State). g.S.EventSource.draws g.R.Rules.table s (g.S.EventSource.stream c.loop.source)) (sym c.net.ensures) ∙ sym c.in_ok-event.ensures.event
+    ap (λ (s : State). g.S.EventSource.draws g.R.Rules.table s (g.S.EventSource.stream c.loop.source)) (sym c.net.ensures.state) ∙ sym c.in_ok-event.ensures.event
     ∙ ap (λ (o : Option Event). (o, g.S.EventSource.stream c.next_event.new.self)) c.in-Some.is in
     record {
       limit = c.log.ensures.limit ∙ c.loop.invariant.limit;
