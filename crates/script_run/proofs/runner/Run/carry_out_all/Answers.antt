@@ -1,4 +1,4 @@
-use Rattle.std.proofs.Common.{◌∙◌, ◌+◌, ℕ, length, refl, subst}
+use Rattle.std.proofs.Common.{◌∙◌, ◌+◌, ℕ, refl, subst}
 use Rattle.script_run.specs.Line.{moment_of, progress, LineEnds}
 use Rattle.script_run.proofs.Running.{SoFar-none, SoFar-line, SoFar-handed, SoFar-failed, Halts-whole, Halts-stopped, Halts-memory, LineEnds-done, OnErr-holds}
 use Rattle.script_run.proofs.runner.Run.carry_out_all.Goals as goal
