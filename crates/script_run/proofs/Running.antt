@@ -6,13 +6,10 @@ use Rattle.std.specs.Io.KnownBytes.{Appends}
 use Rattle.std.proofs.KnownBytes.{Appends-nil, Appends-trans}
 use Rattle.rule_machine.specs.Run.{Moment}
 use Rattle.rule_machine.specs.RuleTable.{RuleTable}
-use Rattle.rule_machine.specs.Run.{Entry}
-use Rattle.std.specs.Prelude.{slice_get, ◌-◌, OnErr, IsErr, IsErrAnd, IfSome}
-use Rattle.line_text.specs.EntryText.{entry_line}
+use Rattle.rule_machine.specs.Run.{Moment}
+use Rattle.std.specs.Prelude.{OnErr, IsErr, IsErrAnd, IfSome}
 use Rattle.script_line.specs.declared.command.Command.{Command}
 use Rattle.script_line.specs.Command.{Says}
-use Rattle.rule_machine.specs.declared.event.Event.{Event}
-use Rattle.rule_machine.specs.declared.reply.Reply.{Reply}
 use Rattle.script_machine.specs.Script.{Progress, CommandDoes, LineDoes, LinesDo, lines_of}
 use Rattle.byte_output.specs.Beginning.{AppendsBeginning, AppendsLess}
 use Rattle.byte_input.specs.declared.fault.InputFault.{InputFault}

@@ -1,6 +1,5 @@
 -- Where every log begins.
 use Rattle.std.proofs.Common.{◌≡◌, ◌≤◌, ℕ, List, [], refl, sym, subst, arith}
-use Rattle.rule_machine.specs.State.{opening}
 use Rattle.rule_machine.specs.RuleTable.{RuleTable}
 use Rattle.rule_machine.specs.Run.{Entry}
 use Rattle.step_log.specs.Recording.{Recording, max_entries, opening_recording}

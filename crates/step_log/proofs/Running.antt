@@ -7,16 +7,13 @@ use Rattle.rule_machine.specs.declared.event.Event.TheVariants.{Link, Unlink, Po
 use Rattle.rule_machine.specs.declared.refusal.Refusal.{Refusal}
 use Rattle.rule_machine.specs.declared.reply.Reply.{Reply}
 use Rattle.rule_machine.specs.Network.{node_count}
-use Rattle.rule_machine.specs.State.{State, IsState}
+use Rattle.rule_machine.specs.State.{State}
 use Rattle.rule_machine.specs.RuleTable.{RuleTable}
 use Rattle.rule_machine.specs.Refuse.{refusal_of}
 use Rattle.rule_machine.specs.Answer.{Answers, spent_after}
 use Rattle.rule_machine.specs.Least.{accepted_state, reply_by, state_by, reply_of, state_after, spent_by}
 use Rattle.rule_machine.specs.Run.{Entry, Moment, Run, beginning}
-use Rattle.machine_laws.specs.LeastMoves.{IsTable}
-use Rattle.machine_laws.specs.LeastAnswers.{least_answers}
-use Rattle.machine_laws.specs.Keeps.{opening_is_state}
-use Rattle.machine_laws.specs.Runs.{run_add, runs_end_in_states}
+use Rattle.machine_laws.specs.Runs.{run_add}
 use Rattle.step_log.specs.Recording.{Recording, answered, counted}
 use Rattle.step_log.specs.declared.receipt.Receipt.{Receipt}
 use Rattle.step_log.specs.Log.{Log, IsLog, IsRecorded, log_of, receipt_of}

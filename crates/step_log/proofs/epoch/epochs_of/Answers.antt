@@ -1,7 +1,7 @@
-use Rattle.std.proofs.Common.{◌≡◌, ◌+◌, ◌*◌, ◌≤◌, ◌++◌, ◌∷◌, List, drop, All, sym, ap, ◌∙◌, subst, arith}
+use Rattle.std.proofs.Common.{◌≡◌, ◌+◌, ◌++◌, ◌∷◌, List, drop, All, sym, ap, ◌∙◌, subst, arith}
 use Rattle.std.proofs.lemmas.List.{drop_more}
 use Rattle.step_log.specs.declared.epoch.Epoch.{Epoch}
-use Rattle.step_log.specs.Epochs.{IsBounded, moves_told, walked}
+use Rattle.step_log.specs.Epochs.{IsBounded, walked}
 use Rattle.step_log.proofs.Walking.{room}
 use Rattle.step_log.proofs.epoch.epochs_of.Goals as goal
 

@@ -1,4 +1,4 @@
-use Rattle.std.proofs.Common.{◌≡◌, length}
+use Rattle.std.proofs.Common.{◌≡◌}
 use Rattle.script_run.specs.Line.{progress}
 use Rattle.script_run.proofs.Turning.{Turned}
 use Rattle.script_run.proofs.runner.Run.take_turns.Given as goal
