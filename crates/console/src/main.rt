@@ -1,4 +1,4 @@
-//! Runs the script on standard input and writes its transcript to standard output, or judges a transcript.
+//! Runs the script on standard input and writes its transcript to standard output, or judges or shows a transcript.
 #![tactic(auto)]
 
 use command_line::{start, tell_no_words};
