@@ -3,6 +3,7 @@
 
 mod call_fault;
 mod clerk;
+mod ending;
 mod law;
 mod net;
 mod settle_fault;
@@ -12,6 +13,7 @@ mod unsettled;
 
 pub use call_fault::CallFault;
 pub use clerk::Clerk;
+pub use ending::settle;
 pub use law::{own_numbers_never_clash, settling_is_exact};
 pub use net::LockedNet;
 pub use settle_fault::SettleFault;

@@ -16,7 +16,7 @@ use std::sync::Wait;
 use step_log::{Journal, MAX_ENTRIES};
 
 /// A network under the rules `R` with its log, behind one lock, for callers in any threads: whoever has the lock has the
-/// journal, so its log is a run of the rule machine whenever the lock is free. It can't be dropped.
+/// journal, so its log is a run of the rule machine whenever the lock is free. It can't be dropped: `into_journal` ends it.
 pub struct LockedNet<R: Rules> {
     alloc: Global,
     lock: KeyedLock<Journal<R>, NetSize, OfSize>,
@@ -62,6 +62,11 @@ impl<R: Rules> LockedNet<R> {
         Ok(Clerk::new(self.alloc))
     }
 
+    /// Its allocator.
+    pub(crate) fn alloc(&self) -> Global {
+        self.alloc
+    }
+
     /// Waits for the lock, and takes the journal out.
     pub(crate) fn take<W: Wait>(&self, rt: &W) -> (Journal<R>, Hold<Journal<R>, NetSize>)
         ensures size { IsOfSize (size_of self.now) result.0 }
@@ -78,8 +83,8 @@ impl<R: Rules> LockedNet<R> {
         self.lock.give(hold, journal);
     }
 
-    /// The journal of a network that no thread shares any more: a run of the rule machine. Waits for ever where a call
-    /// was broken off under the lock.
+    /// The journal of a network that no thread shares any more: a run of the rule machine. It would wait for a call that is
+    /// still under the lock, which a network that is owned never has.
     pub fn into_journal<W: Wait>(self, rt: &W) -> Journal<R>
         ensures run { IsLog R.table result }
         ensures nodes { node_count result.state.network ≡ nodes_of self }

@@ -48,7 +48,7 @@ impl Clerk {
         journal: &mut Journal<R>,
         injector: &mut Injector<G>,
     ) -> Result<Option<Reply>, CallFault>
-        ensures fault_of { IfOk result (λ told. MatchOption told
+        ensures register { IfOk result (λ told. MatchOption told
             ((self.new ≡ self.old) × (journal.new ≡ journal.old))
             (λ reply. Breaks R.table journal.old journal.new self.old self.new reply)) }
         ensures none { IfOk result (λ told. IsNone told ↔ (node_count journal.old.state.network ≡ 0)) }
