@@ -2,7 +2,8 @@
 
 use std::sync::Wait;
 
-/// What every worker passes before each of its tasks: a place to watch workers, or to hold them. It changes no answer.
+/// What every worker passes before each of its tasks: a place to watch workers, or to hold them. It changes no answer. Which
+/// number a worker has and which a task, its caller says.
 pub trait Gate {
     /// A worker, from 0, comes to the task at this place. It may be made to wait.
     fn pass<W: Wait>(&self, rt: &W, worker: u32, place: u32);

@@ -39,7 +39,8 @@ fn clerks_of<R: Rules>(alloc: Global, net: &LockedNet<R>, count: usize) -> Resul
 /// had, scripts are played one after another: a gate that holds one until another has come holds it for ever then.
 ///
 /// `Unsettled` where clerks and log do not settle; `Memory` where there is none for a clerk for each script before they are
-/// played, or for settling. It waits for the network's lock, for the gate, and for the threads that it starts.
+/// played, or for settling. It waits for the network's lock, for the gate, and for the threads that it starts: one for each
+/// script but one. Beside what the calls take, it takes a clerk for each script and a byte for each entry of the log.
 pub fn storm<R: Rules + Send, G: Gate + Sync, T: Threads + Wait + Sync>(
     rt: &T,
     alloc: Global,
