@@ -1,0 +1,3 @@
+pub mod Storm
+pub mod Played
+pub mod Faults
