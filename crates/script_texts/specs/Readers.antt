@@ -1,5 +1,5 @@
 -- What some readers' texts say, where these are known.
-use Rattle.std.specs.Prelude.{◌≡◌, ◌≢◌, ℕ, ◌+◌, ◌⊎◌, List, [], ◌∷◌, Option, IfSome}
+use Rattle.std.specs.Prelude.{◌≡◌, ◌≢◌, ℕ, ◌+◌, ◌<◌, ◌⊎◌, List, [], ◌∷◌, length, Option, IfSome}
 use Rattle.script_machine.specs.Script.{lines_of}
 use Rattle.storm_run.specs.declared.script.ScriptLine.{ScriptLine}
 use Rattle.script_texts.specs.declared.fault.TextsFault.{TextsFault}
@@ -33,7 +33,7 @@ IsReaderFault number known Memory = Unit {0}
 
 -- why scripts were not read
 abbrev pub IsFault : List (Option (List ℕ)) → TextsFault → Type 0
-IsFault texts TooManyScripts = Unit {0}
+IsFault texts TooManyScripts = 64 < length texts
 IsFault texts (BadLine script line) = FirstBadScript 1 texts script line
 IsFault texts Read = texts ≢ []
 IsFault texts Memory = Unit {0}

@@ -46,9 +46,8 @@ fn read_each<In: Read + Drop>(alloc: Global, readers: Vec<In>) -> Result<Vec<Scr
         let mut reader = reader;
         number += 1;
         let script = read_from(alloc, number, &mut reader)?;
-        if scripts.push(script).is_err() {
-            return Err(TextsFault::Memory);
-        }
+        scripts.reserve(1)?;
+        scripts.push(script).unwrap();
     }
     Ok(scripts)
 }
