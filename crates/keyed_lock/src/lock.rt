@@ -17,8 +17,8 @@ const TAKEN: u64 = 1;
 const AWAITED: u64 = 2;
 
 /// A lock for one value. It has a key, which contracts compare and which nothing changes; whoever takes the lock gets a
-/// value of which `I.holds` at the key, and gives back such a value. Between a `take` and its `give` no other `take`
-/// returns. One word and one slot of memory.
+/// value of which `I.holds` at the key, has it alone, and may give back only such a value. It is a word and a slot of
+/// memory, and it can't be dropped: `into_inner` ends it.
 pub struct KeyedLock<T, K, I: Invariant<T, K>> {
     table: Table<Option<T>, K, K, OneValue<I>, Global>,
     ghost one_word: { table.shared.table_id.words ≡ 1 },
@@ -58,7 +58,8 @@ impl<T, K, I: Invariant<T, K>> KeyedLock<T, K, I> {
         }
     }
 
-    /// Waits until the lock is free, and takes its value. A thread that waits sleeps.
+    /// Waits until the lock is free, and takes its value. A thread that waits sleeps; one that has the value already
+    /// waits for ever.
     pub fn take<R: Wait>(&self, rt: &R) -> (T, Hold<T, K>)
         ensures value { I.holds (key_of self.now) result.0 }
         ensures hold { IsHoldOf self.now result.1 }
@@ -102,7 +103,8 @@ impl<T, K, I: Invariant<T, K>> KeyedLock<T, K, I> {
         }
     }
 
-    /// The value of a lock that no thread shares any more. A lock whose hold was lost is never free, and waits for ever.
+    /// The value of a lock that no thread shares any more. Where it was taken and not given back, which a program that
+    /// ends its holds never sees, the call waits for ever.
     pub fn into_inner<R: Wait>(self, rt: &R) -> T
         ensures { I.holds (key_of self) result }
     {

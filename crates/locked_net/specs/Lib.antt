@@ -1,3 +1,6 @@
 pub mod Receipts
 pub mod Settled
 pub mod Calls
+pub mod Marks
+pub mod Sizes
+pub mod Nets

@@ -3,10 +3,18 @@
 
 mod call_fault;
 mod clerk;
+mod ending;
+mod law;
 mod net;
 mod settle_fault;
+mod settling;
+mod size;
+mod unsettled;
 
 pub use call_fault::CallFault;
 pub use clerk::Clerk;
+pub use ending::settle;
+pub use law::{own_numbers_never_clash, settling_is_exact};
 pub use net::LockedNet;
 pub use settle_fault::SettleFault;
+pub use unsettled::Unsettled;

@@ -1,5 +1,6 @@
 //! Why receipts do not settle.
 
+use std::alloc::AllocError;
 use thiserror::Error;
 
 /// Why clerks were not settled against a journal.
@@ -20,4 +21,15 @@ pub enum SettleFault {
     /// A growth of memory was refused.
     #[error("out of memory")]
     Memory,
+}
+
+impl From<AllocError> for SettleFault {
+    ghost use Rattle.std.specs.Prelude.{◌≡◌};
+    ghost use Rattle.locked_net.specs.declared.settle_fault.SettleFault.TheVariants.{Memory};
+
+    ghost from_gives = { λ _ fault. fault ≡ Memory };
+
+    fn from(_: AllocError) -> SettleFault {
+        SettleFault::Memory
+    }
 }

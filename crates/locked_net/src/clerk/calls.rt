@@ -3,6 +3,7 @@
 ghost use Rattle.std.specs.Prelude.{◌≡◌, ◌≢◌, ◌<◌, ◌++◌, ◌∷◌, [], length, None, Some, IfOk, IfErr, OnOk, OnErr, vec_capacity};
 ghost use Rattle.step_log.specs.Log.{recorded, receipt_of};
 ghost use Rattle.locked_net.specs.Receipts.{front_of};
+ghost use Rattle.locked_net.specs.Sizes.{KeepsSize};
 ghost use Rattle.locked_net.specs.Calls.{call_fault, Explains};
 ghost use Rattle.locked_net.specs.declared.call_fault.CallFault.TheVariants.{Memory};
 
@@ -21,6 +22,7 @@ impl Clerk {
         ensures log { OnOk result (journal.new ≡ recorded R.table journal.old event) }
         ensures receipt { OnOk result (self.new ≡ self.old ++ receipt_of R.table journal.old event ∷ []) }
         ensures reply { IfOk result (λ reply. reply ≡ (receipt_of R.table journal.old event).reply) }
+        ensures size { KeepsSize journal.old journal.new }
         ensures seen { OnOk result (call_fault (front_of self.old) journal.old ≡ None) }
         ensures fault { IfErr result (λ fault. Explains (call_fault (front_of self.old) journal.old) fault) }
         ensures kept { OnErr result ((self.new ≡ self.old) × (journal.new ≡ journal.old)) }
@@ -59,6 +61,7 @@ pub(super) fn record_into<R: Rules>(
     ensures reply { IfOk result (λ reply. reply ≡ (receipt_of R.table journal.old event).reply) }
     ensures fault { IfErr result (λ fault. fault ≡ Memory) }
     ensures kept { OnErr result (receipts.new.items ≡ receipts.old.items) }
+    ensures size { KeepsSize journal.old journal.new }
     ensures unchanged { OnErr result (journal.new ≡ journal.old) }
 {
     let (receipt, reply) = journal.record_told(event)?;

@@ -1,7 +1,9 @@
 //! What a clerk does with a journal that it is lent, where somebody else chooses the event.
 
-ghost use Rattle.std.specs.Prelude.{◌≡◌, None, IfOk, IfErr, OnOk, OnErr, MatchOption};
+ghost use Rattle.std.specs.Prelude.{◌≡◌, ◌↔◌, None, IsNone, IfOk, IfErr, OnOk, OnErr, MatchOption};
+ghost use Rattle.rule_machine.specs.Network.{node_count};
 ghost use Rattle.locked_net.specs.Receipts.{front_of};
+ghost use Rattle.locked_net.specs.Sizes.{KeepsSize};
 ghost use Rattle.locked_net.specs.Calls.{call_fault, Explains, Drives, Breaks};
 
 use super::Clerk;
@@ -23,6 +25,7 @@ impl Clerk {
         ensures step { IfOk result (λ told. MatchOption told
             ((self.new ≡ self.old) × (journal.new ≡ journal.old))
             (λ reply. Drives R.table journal.old journal.new self.old self.new reply)) }
+        ensures size { KeepsSize journal.old journal.new }
         ensures seen { OnOk result (call_fault (front_of self.old) journal.old ≡ None) }
         ensures fault { IfErr result (λ fault. Explains (call_fault (front_of self.old) journal.old) fault) }
         ensures kept { OnErr result ((self.new ≡ self.old) × (journal.new ≡ journal.old)) }
@@ -45,9 +48,11 @@ impl Clerk {
         journal: &mut Journal<R>,
         injector: &mut Injector<G>,
     ) -> Result<Option<Reply>, CallFault>
-        ensures fault_of { IfOk result (λ told. MatchOption told
+        ensures register { IfOk result (λ told. MatchOption told
             ((self.new ≡ self.old) × (journal.new ≡ journal.old))
             (λ reply. Breaks R.table journal.old journal.new self.old self.new reply)) }
+        ensures none { IfOk result (λ told. IsNone told ↔ (node_count journal.old.state.network ≡ 0)) }
+        ensures size { KeepsSize journal.old journal.new }
         ensures seen { OnOk result (call_fault (front_of self.old) journal.old ≡ None) }
         ensures fault { IfErr result (λ fault. Explains (call_fault (front_of self.old) journal.old) fault) }
         ensures kept { OnErr result ((self.new ≡ self.old) × (journal.new ≡ journal.old)) }

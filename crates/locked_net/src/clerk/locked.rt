@@ -1,6 +1,7 @@
 //! A clerk's calls: each takes the network's lock, and gives it back when it is done.
 
-ghost use Rattle.std.specs.Prelude.{◌≡◌, IfOk, IfErr, OnErr, MatchOption};
+ghost use Rattle.std.specs.Prelude.{◌≡◌, ◌↔◌, IsNone, IfOk, IfErr, OnErr, MatchOption};
+ghost use Rattle.locked_net.specs.Nets.{nodes_of};
 ghost use Rattle.locked_net.specs.Receipts.{front_of};
 ghost use Rattle.locked_net.specs.Calls.{MayAnswer, Keeps, KeepsStep, KeepsFault};
 
@@ -54,7 +55,7 @@ impl Clerk {
         answer
     }
 
-    /// The same for a register fault that an injector draws, which is accepted; `None` where the network has no node.
+    /// The same for a register fault that an injector draws, which is accepted; `None` exactly where the network has no node.
     /// `Behind` and `LogFull` come before a fault is drawn.
     pub fn fault_with<R: Rules, W: Wait, G: Rng>(
         &mut self,
@@ -62,6 +63,7 @@ impl Clerk {
         net: &LockedNet<R>,
         injector: &mut Injector<G>,
     ) -> Result<Option<Reply>, CallFault>
+        ensures none { IfOk result (λ told. IsNone told ↔ (nodes_of net.now ≡ 0)) }
         ensures register { IfOk result (λ told. MatchOption told (self.new ≡ self.old) (KeepsFault self.old self.new)) }
         ensures fault { IfErr result (λ fault. MayAnswer (front_of self.old) fault) }
         ensures kept { OnErr result (self.new ≡ self.old) }

@@ -1,0 +1,32 @@
+//! How a locked network ends.
+
+ghost use Rattle.std.specs.Prelude.{◌≡◌, IfOk, IfErr};
+ghost use Rattle.rule_machine.specs.Network.{node_count};
+ghost use Rattle.step_log.specs.Log.{IsLog};
+ghost use Rattle.locked_net.specs.Nets.{nodes_of, limit_of};
+ghost use Rattle.locked_net.specs.Settled.{Settled, Unsettles};
+
+use crate::settling::settled_with;
+use crate::{Clerk, LockedNet, Unsettled};
+use rule_engine::Rules;
+use std::sync::Wait;
+use step_log::Journal;
+
+/// Takes the journal out of a network that nobody calls any more, and settles its clerks against it.
+pub fn settle<R: Rules, W: Wait>(
+    rt: &W,
+    net: LockedNet<R>,
+    clerks: Vec<Clerk>,
+) -> Result<Journal<R>, Unsettled<R>>
+    ensures settled { IfOk result (λ journal. Settled journal.entries clerks.items) }
+    ensures run { IfOk result (λ journal. IsLog R.table journal) }
+    ensures size { IfOk result (λ journal. (node_count journal.state.network ≡ nodes_of net) × (journal.limit ≡ limit_of net)) }
+    ensures fault { IfErr result (λ unsettled. Unsettles unsettled.journal.entries clerks.items unsettled.why) }
+{
+    let alloc = net.alloc();
+    let journal = net.into_journal(rt);
+    match settled_with(alloc, &journal, &clerks) {
+        Ok(()) => Ok(journal),
+        Err(why) => Err(Unsettled { why, journal }),
+    }
+}

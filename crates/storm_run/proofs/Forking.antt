@@ -1,0 +1,31 @@
+-- Scripts that were played in two parts.
+use Rattle.std.proofs.Common.{◌≡◌, ◌∙◌, ℕ, ◌<◌, List, [], ◌∷◌, ◌++◌, length, get_or, set, Option, None, Some, refl, sym, ap, subst, arith}
+use Rattle.std.specs.Option.{option_or}
+use Rattle.step_log.specs.declared.receipt.Receipt.{Receipt}
+use Rattle.locked_net.specs.declared.call_fault.CallFault.{CallFault}
+use Rattle.storm_run.specs.declared.script.ScriptLine.{ScriptLine}
+use Rattle.storm_run.specs.Storm.{MayStop, AllPlayed}
+
+or_none : {A : Type 0} (a : Option A) → a ≡ option_or a None
+or_none None = refl
+or_none (Some x) = refl
+
+or_assoc : {A : Type 0} (a b c : Option A) → option_or (option_or a b) c ≡ option_or a (option_or b c)
+or_assoc None b c = refl
+or_assoc (Some x) b c = refl
+
+pub all_joined : (scripts others : List (List ScriptLine)) (clerks more : List (List Receipt)) (fault other : Option CallFault)
+    → AllPlayed scripts clerks fault → AllPlayed others more other → AllPlayed (scripts ++ others) (clerks ++ more) (option_or fault other)
+all_joined [] others [] more fault other none played = subst (λ f. AllPlayed others more (option_or f other)) (sym none) played
+all_joined [] others (receipts ∷ clerks) more fault other played rest = absurd played
+all_joined (script ∷ scripts) others [] more fault other played rest = absurd played
+all_joined (script ∷ scripts) others (receipts ∷ clerks) more fault other (own, behind, is, stops, played) rest =
+    (own, option_or behind other, ap (λ f. option_or f other) is ∙ or_assoc own behind other, stops, all_joined scripts others clerks more behind other played rest)
+
+-- the two parts of a row of scripts
+pub halves_played : (scripts left right : List (List ScriptLine)) (clerks ours theirs : List (List Receipt)) (fault other first : Option CallFault)
+    → left ++ right ≡ scripts → ours ++ theirs ≡ clerks → first ≡ option_or fault other → AllPlayed left ours fault → AllPlayed right theirs other → AllPlayed scripts clerks first
+halves_played scripts left right clerks ours theirs fault other first whole all is played rest =
+    subst (λ ss. AllPlayed ss clerks first) whole
+    (subst (λ rs. AllPlayed (left ++ right) rs first) all
+    (subst (AllPlayed (left ++ right) (ours ++ theirs)) (sym is) (all_joined left right ours theirs fault other played rest)))
