@@ -1,0 +1,4 @@
+pub mod Faults
+pub mod FaultText
+pub mod Status
+pub mod Outcome
