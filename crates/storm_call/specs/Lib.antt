@@ -1,4 +1,3 @@
 pub mod Faults
 pub mod FaultText
 pub mod Status
-pub mod Outcome

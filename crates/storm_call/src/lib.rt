@@ -4,8 +4,6 @@
 mod ending;
 mod fault;
 mod fault_line;
-mod storming;
 
 pub use ending::{status, storm_end};
 pub use fault::StormFault;
-pub use storming::storm;

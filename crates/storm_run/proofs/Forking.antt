@@ -1,14 +1,11 @@
 -- Scripts that were played in two parts.
-use Rattle.std.proofs.Common.{◌≡◌, ◌∙◌, ℕ, ◌<◌, List, [], ◌∷◌, ◌++◌, length, get_or, set, Option, None, Some, refl, sym, ap, subst, arith}
+use Rattle.std.proofs.Common.{◌≡◌, ◌∙◌, ℕ, List, [], ◌∷◌, ◌++◌, take, drop, Option, None, Some, refl, sym, ap, subst}
 use Rattle.std.specs.Option.{option_or}
+use Rattle.std.proofs.lemmas.List.{take-append-drop}
 use Rattle.step_log.specs.declared.receipt.Receipt.{Receipt}
 use Rattle.locked_net.specs.declared.call_fault.CallFault.{CallFault}
 use Rattle.storm_run.specs.declared.script.ScriptLine.{ScriptLine}
-use Rattle.storm_run.specs.Storm.{MayStop, AllPlayed}
-
-or_none : {A : Type 0} (a : Option A) → a ≡ option_or a None
-or_none None = refl
-or_none (Some x) = refl
+use Rattle.storm_run.specs.Storm.{AllPlayed}
 
 or_assoc : {A : Type 0} (a b c : Option A) → option_or (option_or a b) c ≡ option_or a (option_or b c)
 or_assoc None b c = refl
@@ -23,9 +20,9 @@ all_joined (script ∷ scripts) others (receipts ∷ clerks) more fault other (o
     (own, option_or behind other, ap (λ f. option_or f other) is ∙ or_assoc own behind other, stops, all_joined scripts others clerks more behind other played rest)
 
 -- the two parts of a row of scripts
-pub halves_played : (scripts left right : List (List ScriptLine)) (clerks ours theirs : List (List Receipt)) (fault other first : Option CallFault)
-    → left ++ right ≡ scripts → ours ++ theirs ≡ clerks → first ≡ option_or fault other → AllPlayed left ours fault → AllPlayed right theirs other → AllPlayed scripts clerks first
-halves_played scripts left right clerks ours theirs fault other first whole all is played rest =
-    subst (λ ss. AllPlayed ss clerks first) whole
-    (subst (λ rs. AllPlayed (left ++ right) rs first) all
-    (subst (AllPlayed (left ++ right) (ours ++ theirs)) (sym is) (all_joined left right ours theirs fault other played rest)))
+pub halves_played : (scripts left right : List (List ScriptLine)) (k : ℕ) (ours theirs : List (List Receipt)) (fault other first : Option CallFault)
+    → left ≡ take k scripts → right ≡ drop k scripts → first ≡ option_or fault other → AllPlayed left ours fault → AllPlayed right theirs other → AllPlayed scripts (ours ++ theirs) first
+halves_played scripts left right k ours theirs fault other first front back is played rest =
+    let whole : left ++ right ≡ scripts = ap (λ ss. ss ++ right) front ∙ ap (λ ss. take k scripts ++ ss) back ∙ take-append-drop k scripts in
+    subst (λ ss. AllPlayed ss (ours ++ theirs) first) whole
+    (subst (AllPlayed (left ++ right) (ours ++ theirs)) (sym is) (all_joined left right ours theirs fault other played rest))

@@ -1,2 +1,3 @@
 pub mod Storm
 pub mod Played
+pub mod Faults

@@ -3,7 +3,7 @@ use Rattle.std.specs.Prelude.{◌≡◌, ℕ, ◌<◌, ◌≤◌, List, ◌++◌
 use Rattle.std.specs.List.{All}
 use Rattle.step_log.specs.declared.receipt.Receipt.{Receipt}
 use Rattle.script_line.specs.declared.command.Command.{Command}
-use Rattle.storm_run.specs.Storm.{IsOfStep, IsOfFault, IsFor, IsPartOf}
+use Rattle.storm_run.specs.Storm.{IsFor, IsPartOf}
 
 -- some receipts were added, and P holds of them
 pub record Adds (P : List Receipt → Type 0) (old new : List Receipt) : Type 0 where

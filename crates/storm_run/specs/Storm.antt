@@ -10,7 +10,6 @@ use Rattle.std.specs.Option.{option_or}
 use Rattle.rule_machine.specs.Run.{Entry}
 use Rattle.rule_machine.specs.declared.choice.Item.{Item}
 use Rattle.rule_machine.specs.declared.moved.Moved.{Moved}
-use Rattle.rule_machine.specs.declared.event.Event.{Event}
 use Rattle.rule_machine.specs.declared.event.Event.TheVariants.{Step}
 use Rattle.rule_machine.specs.declared.reply.Reply.TheVariants.{Accepted, Moves}
 use Rattle.fault_injector.specs.Drawn.{is_register_fault}

@@ -1,5 +1,5 @@
 use Rattle.std.proofs.Common.{subst}
-use Rattle.storm_run.specs.Storm.{MayStop, StandsInPart}
+use Rattle.storm_run.specs.Storm.{StandsInPart}
 use Rattle.storm_run.proofs.Standing.{stands_next, stands_part, stops}
 use Rattle.storm_run.proofs.stage.play_script.Goals as goal
 

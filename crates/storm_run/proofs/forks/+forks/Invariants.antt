@@ -1,5 +1,5 @@
 use Rattle.std.proofs.Common.{◌+◌, ◌*◌, max, length}
-use Rattle.storm_run.proofs.stage.+forks.Given as goal
+use Rattle.storm_run.proofs.forks.+forks.Given as goal
 
 abbrev pub decreases-play_halves-join_mut+arg2 : goal.decreases-play_halves-join_mut+arg2
 decreases-play_halves-join_mut+arg2 g l = 4 * length l.left.now + 1

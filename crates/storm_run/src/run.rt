@@ -1,0 +1,69 @@
+//! Scripts on one network, and the log that they leave.
+
+ghost use Rattle.std.specs.Prelude.{◌≡◌, ◌≤◌, [], length, IfOk, vec_len};
+ghost use Rattle.std.specs.List.{All};
+ghost use Rattle.rule_machine.specs.Network.{node_count};
+ghost use Rattle.step_log.specs.Log.{IsLog};
+ghost use Rattle.locked_net.specs.Nets.{nodes_of, limit_of};
+ghost use Rattle.storm_run.specs.Storm.{IsStorm};
+
+use crate::forks::play_all;
+use crate::stage::Stage;
+use crate::{PlayFault, Script};
+use locked_net::{CallFault, Clerk, LockedNet, settle};
+use rule_machine::Want;
+use rule_set::Rules;
+use std::alloc::Global;
+use std::sync::Wait;
+use std::thread::Threads;
+use steal_pool::Gate;
+use step_log::Journal;
+
+/// As many clerks, who have called nobody.
+fn clerks_of<R: Rules>(alloc: Global, net: &LockedNet<R>, count: usize) -> Result<Vec<Clerk>, Want>
+    ensures count { IfOk result (λ clerks. vec_len clerks ≡ count) }
+    ensures fresh { IfOk result (λ clerks. All (λ receipts. receipts ≡ []) clerks.items) }
+{
+    let mut clerks = Vec::new(alloc);
+    for _ in 0..count {
+        clerks.push(net.clerk()?)?;
+    }
+    Ok(clerks)
+}
+
+/// Plays scripts on a network, each by a clerk of its own and all at once where threads can be had, and settles the clerks
+/// against the log. It answers that log, with the first fault that a script met, in the order of the scripts: `Behind`,
+/// `LogFull`, or `Memory` in a call. A script that meets a fault ends there, and the others go on.
+///
+/// Before each command the gate is passed with the number of the script, from 0, and that of the line. Where no thread can be
+/// had, scripts are played one after another: a gate that holds one until another has come holds it for ever then.
+///
+/// `Unsettled` where clerks and log do not settle; `Memory` where there is none for a clerk for each script before they are
+/// played, or for settling. It waits for the network's lock, for the gate, and for the threads that it starts.
+pub fn storm<R: Rules + Send, G: Gate + Sync, T: Threads + Wait + Sync>(
+    rt: &T,
+    alloc: Global,
+    net: LockedNet<R>,
+    scripts: &[Script],
+    gate: &G,
+) -> Result<(Journal<R>, Option<CallFault>), PlayFault>
+    requires { length scripts.now ≤ 64 }
+    ensures storm { IfOk result (λ left. IsStorm left.0.entries scripts.now left.1) }
+    ensures run { IfOk result (λ left. IsLog R.table left.0) }
+    ensures size { IfOk result (λ left. (node_count left.0.state.network ≡ nodes_of net) × (left.0.limit ≡ limit_of net)) }
+{
+    let Ok(mut clerks) = clerks_of(alloc, &net, scripts.len()) else {
+        net.into_journal(rt);
+        return Err(PlayFault::Memory);
+    };
+    let stage = Stage {
+        alloc,
+        net: &net,
+        gate,
+    };
+    let fault = play_all(rt, &stage, 0, scripts, &mut clerks);
+    match settle(rt, net, clerks) {
+        Ok(journal) => Ok((journal, fault)),
+        Err(unsettled) => Err(PlayFault::from(unsettled.why)),
+    }
+}
