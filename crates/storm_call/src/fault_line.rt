@@ -34,7 +34,7 @@ fn write_bad_line<Faults: Write>(
     ensures ok { OnOk result (Appends (Faults.contents faults.old) (Faults.contents faults.new) (fault_line (StormFault.BadLine script line))) }
     ensures fault { OnErr result (AppendsBeginning (Faults.contents faults.old) (Faults.contents faults.new) (fault_line (StormFault.BadLine script line))) }
 {
-    write_numbered(b"! script ", u64::from(script), faults)?;
+    write_numbered(b"! script ", script as u64, faults)?;
     write_numbered(b" line ", line, faults)?;
     finish(faults, b": not a command\n")
 }
