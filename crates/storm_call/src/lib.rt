@@ -4,6 +4,9 @@
 mod ending;
 mod fault;
 mod fault_line;
+mod storming;
+mod text;
 
 pub use ending::{status, storm_end};
 pub use fault::StormFault;
+pub use storming::storm;
