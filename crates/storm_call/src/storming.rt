@@ -82,7 +82,11 @@ pub fn storm<In: Read + Drop, Out: Write, G: Gate + Sync, T: Threads + Wait + Sy
     ensures { IsOutcome options.now.rules options.now.nodes options.now.limit (map In.remaining readers.items) (Out.contents writer.old) (Out.contents writer.new) result }
 {
     match options.rules() {
-        RuleSet::Hh => storm_on::<HsuHuang, In, Out, G, T>(rt, alloc, options, readers, writer, gate),
-        RuleSet::Manne => storm_on::<Manne, In, Out, G, T>(rt, alloc, options, readers, writer, gate),
+        RuleSet::Hh => storm_on::<HsuHuang, In, Out, G, T>(
+            rt, alloc, options, readers, writer, gate,
+        ),
+        RuleSet::Manne => storm_on::<Manne, In, Out, G, T>(
+            rt, alloc, options, readers, writer, gate,
+        ),
     }
 }
