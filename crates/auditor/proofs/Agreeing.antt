@@ -10,7 +10,8 @@ use Rattle.line_text.specs.EntryText.{entry_text}
 use Rattle.entry_grammar.specs.Spelling.{SpellsEntry, max_entries}
 use Rattle.entry_grammar.specs.Reading.{IsFree}
 use Rattle.entry_grammar.proofs.Entries.{spells_entry_once}
-use Rattle.auditor.specs.Transcript.{IsEntry, entry_lines}
+use Rattle.line_text.specs.LogText.{entry_lines}
+use Rattle.auditor.specs.Transcript.{IsEntry}
 use Rattle.auditor.specs.Damage.{first_line}
 use Rattle.auditor.proofs.Cutting.{onto_line-front}
 use Rattle.auditor.proofs.Feedless.{entry_free}

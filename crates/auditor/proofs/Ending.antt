@@ -12,7 +12,8 @@ use Rattle.entry_grammar.proofs.Headers.{spells_header_once}
 use Rattle.auditor.specs.declared.damage.Damage.{Damage}
 use Rattle.auditor.specs.declared.damage.Damage.TheVariants.{BadHeader, NotALine, OutOfOrder, NotTheMachines}
 use Rattle.auditor.specs.declared.summary.Summary.{Summary}
-use Rattle.auditor.specs.Transcript.{IsTranscript, entry_lines, epoch_count, move_count}
+use Rattle.line_text.specs.LogText.{entry_lines}
+use Rattle.auditor.specs.Transcript.{IsTranscript, epoch_count, move_count}
 use Rattle.auditor.specs.Damage.{Follows, EntryComes, IsLineBehind, HasNoEntry, HasBadHeader, EndsInNoLine, EndsOutOfOrder, EndsNotTheMachines, IsDamage, first_line}
 use Rattle.auditor.specs.Accepted.{Counts, IsAccepted}
 use Rattle.auditor.specs.Once.{SameRun}

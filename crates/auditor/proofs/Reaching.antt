@@ -15,7 +15,8 @@ use Rattle.auditor.specs.declared.damage.Damage.TheVariants.{BadHeader, NotALine
 use Rattle.auditor.specs.declared.damage.JudgeFault.{JudgeFault}
 use Rattle.auditor.specs.declared.damage.JudgeFault.TheVariants.{Damaged, Memory}
 use Rattle.auditor.specs.declared.summary.Summary.{Summary}
-use Rattle.auditor.specs.Transcript.{IsEntry, IsTranscript, entry_lines, transcript, disturbances_in, moves_in}
+use Rattle.line_text.specs.LogText.{entry_lines, transcript}
+use Rattle.auditor.specs.Transcript.{IsEntry, IsTranscript, disturbances_in, moves_in}
 use Rattle.auditor.specs.Damage.{Follows, EndsInNoLine, EndsOutOfOrder, EndsNotTheMachines, HasNoEntry, first_line}
 use Rattle.auditor.specs.Position.{Position, opening_position, counted_more, GoodLine, BadNumber, BadReply, IsNext, LineJudged}
 use Rattle.auditor.specs.Accepted.{Counts, IsAccepted, IsReached}

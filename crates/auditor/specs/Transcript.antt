@@ -1,5 +1,5 @@
 -- Transcripts: the bytes of a header and of a log's entries, where the log is a run of the machine.
-use Rattle.std.specs.Prelude.{◌≡◌, ℕ, ◌+◌, ◌≤◌, List, [], ◌∷◌, ◌++◌, length, sum_by, IsTrue}
+use Rattle.std.specs.Prelude.{◌≡◌, ℕ, ◌+◌, ◌≤◌, List, length, sum_by, IsTrue}
 use Rattle.std.specs.List.{AllByRecursion}
 use Rattle.rule_machine.specs.declared.reply.Reply.{Reply}
 use Rattle.rule_machine.specs.declared.reply.Reply.TheVariants.{Accepted, Refused, Moves, Shown, EnabledAre, Pairs, Counts}
@@ -8,7 +8,7 @@ use Rattle.rule_machine.specs.Run.{Entry, Moment, Run, beginning}
 use Rattle.rule_machine.specs.Tables.{table_of}
 use Rattle.log_entry.specs.Kinds.{fits}
 use Rattle.line_text.specs.EventText.{IsEvent}
-use Rattle.line_text.specs.EntryText.{header_line, entry_line}
+use Rattle.line_text.specs.LogText.{transcript}
 use Rattle.entry_grammar.specs.Spelling.{IsReply, max_entries}
 
 -- what each value of the program's type of entries meets
@@ -16,15 +16,6 @@ pub record IsEntry (entry : Entry) : Type 0 where
   pub event : IsEvent entry.0
   pub reply : IsReply entry.1
   pub fits : IsTrue (fits entry.0 entry.1)
-
--- the lines of entries, the first of which has this number
-abbrev pub entry_lines : ℕ → List Entry → List ℕ
-entry_lines number [] = []
-entry_lines number (entry ∷ log) = entry_line number entry.0 entry.1 ++ entry_lines (number + 1) log
-
--- the header, and the entries numbered from 1
-abbrev pub transcript : RuleSet → ℕ → List Entry → List ℕ
-transcript rules nodes log = header_line rules nodes ++ entry_lines 1 log
 
 -- The bytes are the text of a log, which the machine may give from the opening state on, and it is at the end then.
 pub record IsTranscript (bytes : List ℕ) (rules : RuleSet) (nodes : ℕ) (log : List Entry) (end : Moment) : Type 0 where

@@ -1,6 +1,8 @@
-//! What the lines of a script do to the rule machine, one after another: definitions, and that they determine the end.
+//! A script's lines, and what they do to the rule machine one after another: definitions, and that they determine the end.
 #![tactic(auto)]
 
 mod law;
+mod lines;
 
 pub use law::one_end;
+pub use lines::next_line;

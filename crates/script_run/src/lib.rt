@@ -2,7 +2,6 @@
 #![tactic(auto)]
 
 mod fault;
-mod lines;
 mod options;
 mod runner;
 mod script;

@@ -9,7 +9,6 @@ ghost use Rattle.script_run.specs.Line.{progress, EventEnds, TurnsEnd, CommandEn
 ghost use Rattle.script_run.specs.Outcome.{Ends, LeadsTo, beginning};
 
 use crate::Options;
-use crate::lines::next_line;
 use crate::stop::{End, Stop};
 use crate::writing::hand_over;
 use byte_output::{OutputFault, finish};
@@ -17,6 +16,7 @@ use line_text::{put_entry, put_header};
 use rule_machine::{Event, Want};
 use rule_set::Rules;
 use script_line::{Command, read_line};
+use script_machine::next_line;
 use seeded_turns::{DaemonTurns, EventSource, FaultTurns};
 use std::alloc::{AllocError, Global};
 use std::io::Write;

@@ -5,7 +5,7 @@ use Rattle.std.specs.contracts.io.ErrorKind.{the_type}
 use denote.Enum.Bare.{same_true}
 use Rattle.byte_output.specs.Beginning.{AppendsBeginning}
 use Rattle.command_line.specs.FaultText.{no_words_line}
-use Rattle.command_line.proofs.Telling.{either_begins}
+use Rattle.byte_output.proofs.Telling.{either_begins}
 use Rattle.command_line.proofs.program.tell_no_words.Goals as goal
 
 pub returns-then-eq-clause-told : goal.returns-then-eq-clause-told

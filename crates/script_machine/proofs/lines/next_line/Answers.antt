@@ -1,8 +1,8 @@
 use Rattle.std.proofs.Common.{◌≡◌, ◌+◌, [], ◌∷◌, take, sym, subst, arith}
 use Rattle.std.proofs.lemmas.List.{take_rest}
 use Rattle.script_machine.specs.Script.{lines_of}
-use Rattle.script_run.proofs.Cutting.{lines_of-cut, lines_of-whole}
-use Rattle.script_run.proofs.lines.next_line.Goals as goal
+use Rattle.script_machine.proofs.Cutting.{lines_of-cut, lines_of-whole}
+use Rattle.script_machine.proofs.lines.next_line.Goals as goal
 
 pub returns-in-Some-clause-lines : goal.returns-in-Some-clause-lines
 returns-in-Some-clause-lines c =

@@ -1,0 +1,35 @@
+-- Entries that are written one after another.
+use Rattle.std.proofs.Common.{◌≡◌, ◌∙◌, ℕ, suc, ◌+◌, List, ◌∷◌, ◌++◌, drop, Some, slice_get, sym, ap, append_assoc, add-one, drop-cons}
+use Rattle.std.proofs.lemmas.Option.{slice_get_within, get_or_from_slice_get}
+use Rattle.rule_machine.specs.declared.event.Event.{Event}
+use Rattle.rule_machine.specs.declared.reply.Reply.{Reply}
+use Rattle.rule_machine.specs.Run.{Entry}
+use Rattle.line_text.specs.EntryText.{entry_line}
+use Rattle.line_text.specs.LogText.{entry_lines}
+use Rattle.line_text.specs.Growth.{Extends}
+
+-- the entry at a place is the first of those from there on
+from_place : (log : List Entry) (k : ℕ) (e : Entry) → slice_get log k ≡ Some e → drop k log ≡ e ∷ drop (k + 1) log
+from_place log k e at =
+    drop-cons log k e (slice_get_within log k e at)
+    ∙ ap (λ (f : Entry). f ∷ drop (suc k) log) (get_or_from_slice_get log k e e at)
+    ∙ ap (λ (n : ℕ). e ∷ drop n log) (sym (add-one k))
+
+-- once the entry at a place is written, the others from there on make up the same text
+pub one_more : (log : List Entry) (k : ℕ) (e : Entry) (event : Event) (reply : Reply) (old before after : List ℕ) → slice_get log k ≡ Some e → event ≡ e.0 → reply ≡ e.1
+    → after ≡ before ++ entry_line (k + 1) event reply
+    → before ++ entry_lines (k + 1) (drop k log) ≡ old ++ entry_lines 1 log
+    → after ++ entry_lines (k + 1 + 1) (drop (k + 1) log) ≡ old ++ entry_lines 1 log
+one_more log k e event reply old before after at is_event is_reply wrote so_far =
+    let rest = entry_lines (k + 1 + 1) (drop (k + 1) log) in
+    ap (λ (l : List ℕ). l ++ rest) wrote
+    ∙ ap (λ (v : Event). (before ++ entry_line (k + 1) v reply) ++ rest) is_event
+    ∙ ap (λ (r : Reply). (before ++ entry_line (k + 1) e.0 r) ++ rest) is_reply
+    ∙ append_assoc before (entry_line (k + 1) e.0 e.1) rest
+    ∙ ap (λ (l : List Entry). before ++ entry_lines (k + 1) l) (sym (from_place log k e at))
+    ∙ so_far
+
+-- a text that has grown, and grows by another line
+pub grown_more : (old before after line : List ℕ) → Extends old before → after ≡ before ++ line → Extends old after
+grown_more old before after line x wrote =
+    record { more = x.more ++ line; is = wrote ∙ ap (λ (l : List ℕ). l ++ line) x.is ∙ append_assoc old x.more line }

@@ -1,0 +1,107 @@
+//! Why a storm of scripts ends as it should not.
+
+use byte_output::OutputFault;
+use locked_net::{CallFault, SettleFault};
+use script_texts::TextsFault;
+use std::alloc::AllocError;
+use storm_run::PlayFault;
+use thiserror::Error;
+
+/// Why scripts were not all read, played to their ends and written.
+#[derive(Clone, Copy, Debug, PartialEq, Eq, Error)]
+pub enum StormFault {
+    /// There are more than 64 scripts.
+    #[error("too many scripts")]
+    TooManyScripts,
+    /// In the script with this number, the line with that one is neither empty nor a command; both count from 1.
+    #[error("script {script} line {line}: not a command")]
+    BadLine { script: u32, line: u64 },
+    /// A script's command came when there were as many entries as there may be.
+    #[error("log full")]
+    LogFull,
+    /// A read of a script failed.
+    #[error("read failed")]
+    Read,
+    /// A write of the transcript failed.
+    #[error("write failed")]
+    Write,
+    /// A growth of memory was refused.
+    #[error("out of memory")]
+    Memory,
+    /// A script's clerk has seen more entries than there are.
+    #[error("behind")]
+    Behind,
+    /// A thread could not be started. `storm` answers it never: it plays a script itself then.
+    #[error("no thread")]
+    Thread,
+    /// The clerks' receipts do not account for the log.
+    #[error("settle refused: {0}")]
+    Unsettled(SettleFault),
+}
+
+impl From<AllocError> for StormFault {
+    ghost use Rattle.std.specs.Prelude.{◌≡◌};
+    ghost use Rattle.storm_call.specs.declared.fault.StormFault.TheVariants.{Memory};
+
+    ghost from_gives = { λ _ fault. fault ≡ Memory };
+
+    fn from(_: AllocError) -> StormFault {
+        StormFault::Memory
+    }
+}
+
+impl From<OutputFault> for StormFault {
+    ghost use Rattle.std.specs.Prelude.{◌≡◌};
+    ghost use Rattle.storm_call.specs.declared.fault.StormFault.TheVariants.{Write};
+
+    ghost from_gives = { λ _ fault. fault ≡ Write };
+
+    fn from(_: OutputFault) -> StormFault {
+        StormFault::Write
+    }
+}
+
+impl From<TextsFault> for StormFault {
+    ghost use Rattle.std.specs.Prelude.{◌≡◌};
+    ghost use Rattle.storm_call.specs.Faults.{of_texts};
+
+    ghost from_gives = { λ why fault. fault ≡ of_texts why };
+
+    fn from(why: TextsFault) -> StormFault {
+        match why {
+            TextsFault::TooManyScripts => StormFault::TooManyScripts,
+            TextsFault::BadLine { script, line } => StormFault::BadLine { script, line },
+            TextsFault::Read => StormFault::Read,
+            TextsFault::Memory => StormFault::Memory,
+        }
+    }
+}
+
+impl From<CallFault> for StormFault {
+    ghost use Rattle.std.specs.Prelude.{◌≡◌};
+    ghost use Rattle.storm_call.specs.Faults.{of_call};
+
+    ghost from_gives = { λ why fault. fault ≡ of_call why };
+
+    fn from(why: CallFault) -> StormFault {
+        match why {
+            CallFault::Behind { .. } => StormFault::Behind,
+            CallFault::LogFull => StormFault::LogFull,
+            CallFault::Memory => StormFault::Memory,
+        }
+    }
+}
+
+impl From<PlayFault> for StormFault {
+    ghost use Rattle.std.specs.Prelude.{◌≡◌};
+    ghost use Rattle.storm_call.specs.Faults.{of_play};
+
+    ghost from_gives = { λ why fault. fault ≡ of_play why };
+
+    fn from(why: PlayFault) -> StormFault {
+        match why {
+            PlayFault::Memory | PlayFault::Unsettled(SettleFault::Memory) => StormFault::Memory,
+            PlayFault::Unsettled(why) => StormFault::Unsettled(why),
+        }
+    }
+}

@@ -1,0 +1,70 @@
+//! The lines that tell why a storm ended as it should not. They take no memory.
+
+ghost use Rattle.std.specs.Prelude.{◌≡◌, ◌++◌, codes, OnOk, OnErr};
+ghost use Rattle.std.specs.Io.KnownBytes.{Appends};
+ghost use Rattle.byte_output.specs.Beginning.{AppendsBeginning, AppendsLess};
+ghost use Rattle.line_text.specs.Words.{number_text};
+ghost use Rattle.storm_call.specs.FaultText.{fault_line, IsPlain};
+
+use crate::StormFault;
+use byte_output::{OutputFault, finish, write_whole};
+use itoa::Buffer;
+use locked_net::SettleFault;
+use std::io::Write;
+
+// Writes a number behind a text.
+fn write_numbered<Faults: Write>(
+    text: &[u8],
+    number: u64,
+    faults: &mut Faults,
+) -> Result<(), OutputFault>
+    ensures ok { OnOk result (Appends (Faults.contents faults.old) (Faults.contents faults.new) (text.now ++ number_text number)) }
+    ensures fault { OnErr result (AppendsLess (Faults.contents faults.old) (Faults.contents faults.new) (text.now ++ number_text number)) }
+{
+    let mut digits = Buffer::new();
+    write_whole(faults, text)?;
+    write_whole(faults, digits.format(number).as_bytes())
+}
+
+fn write_bad_line<Faults: Write>(
+    script: u32,
+    line: u64,
+    faults: &mut Faults,
+) -> Result<(), OutputFault>
+    ensures ok { OnOk result (Appends (Faults.contents faults.old) (Faults.contents faults.new) (fault_line (StormFault.BadLine script line))) }
+    ensures fault { OnErr result (AppendsBeginning (Faults.contents faults.old) (Faults.contents faults.new) (fault_line (StormFault.BadLine script line))) }
+{
+    write_numbered(b"! script ", script as u64, faults)?;
+    write_numbered(b" line ", line, faults)?;
+    finish(faults, b": not a command\n")
+}
+
+/// Writes the line of a fault and flushes the writer.
+pub fn write_fault<Faults: Write>(fault: StormFault, faults: &mut Faults) -> Result<(), OutputFault>
+    ensures ok { OnOk result (Appends (Faults.contents faults.old) (Faults.contents faults.new) (fault_line fault)) }
+    ensures fault { OnErr result (AppendsBeginning (Faults.contents faults.old) (Faults.contents faults.new) (fault_line fault)) }
+{
+    match fault {
+        StormFault::BadLine { script, line } => write_bad_line(script, line, faults),
+        fault => finish(faults, plain_line(fault)),
+    }
+}
+
+// The line of a fault that has no number.
+fn plain_line(fault: StormFault) -> &'static [u8]
+    requires { IsPlain fault }
+    ensures { result.now ≡ fault_line fault }
+{
+    match fault {
+        StormFault::TooManyScripts => b"! too many scripts\n",
+        StormFault::BadLine { .. } => b"",
+        StormFault::LogFull => b"! log full\n",
+        StormFault::Read => b"! read failed\n",
+        StormFault::Write => b"! write failed\n",
+        StormFault::Behind => b"! behind\n",
+        StormFault::Thread => b"! no thread\n",
+        StormFault::Unsettled(SettleFault::CountDiffers) => b"! settle refused: count-differs\n",
+        StormFault::Unsettled(SettleFault::Stranger { .. }) => b"! settle refused: stranger\n",
+        StormFault::Unsettled(SettleFault::Memory) | StormFault::Memory => b"! out of memory\n",
+    }
+}

@@ -1,0 +1,92 @@
+//! A storm: scripts read, played at once on one network, settled and written.
+
+ghost use Rattle.std.specs.Prelude.{◌≤◌, length, map, IfOk, IfErr};
+ghost use Rattle.storm_call.specs.Outcome.{Leaves, Ends, IsOutcome};
+ghost use Rattle.storm_call.specs.Parts.{FailsToPlay};
+
+use crate::StormFault;
+use crate::text::write_log;
+use locked_net::{CallFault, LockedNet};
+use rule_machine::RuleSet;
+use rule_set::Rules;
+use rules_hsu_huang::HsuHuang;
+use rules_manne::Manne;
+use script_run::Options;
+use script_texts::read_scripts;
+use std::alloc::Global;
+use std::io::{Read, Write};
+use std::sync::Wait;
+use std::thread::Threads;
+use steal_pool::Gate;
+use step_log::Journal;
+use storm_run::Script;
+
+// Plays scripts on a new network: the log that they leave, with the first fault that one of them met.
+fn play<R: Rules + Send, G: Gate + Sync, T: Threads + Wait + Sync>(
+    rt: &T,
+    alloc: Global,
+    options: &Options,
+    scripts: &[Script],
+    gate: &G,
+) -> Result<(Journal<R>, Option<CallFault>), StormFault>
+    requires { length scripts.now ≤ 64 }
+    ensures log { IfOk result (λ left. Leaves R.table options.now.nodes options.now.limit scripts.now left.1 left.0) }
+    ensures fault { IfErr result FailsToPlay }
+{
+    let Ok(net) = LockedNet::<R>::with_limit(alloc, options.nodes(), options.limit()) else {
+        return Err(StormFault::Memory);
+    };
+    Ok(storm_run::storm(rt, alloc, net, scripts, gate)?)
+}
+
+fn storm_on<R: Rules + Send, In: Read + Drop, Out: Write, G: Gate + Sync, T: Threads + Wait + Sync>(
+    rt: &T,
+    alloc: Global,
+    options: &Options,
+    readers: Vec<In>,
+    writer: &mut Out,
+    gate: &G,
+) -> Result<(), StormFault>
+    ensures { Ends R.table options.now.rules options.now.nodes options.now.limit (map In.remaining readers.items) (Out.contents writer.old) (Out.contents writer.new) result }
+{
+    let scripts = read_scripts(alloc, readers)?;
+    let (journal, fault) = play::<R, G, T>(rt, alloc, options, &scripts, gate)?;
+    write_log(alloc, options, &journal, writer)?;
+    match fault {
+        Some(fault) => Err(StormFault::from(fault)),
+        None => Ok(()),
+    }
+}
+
+/// Reads a script from each reader, plays them at once on one new network, each by a clerk of its own, settles the clerks
+/// against the log, and writes its text: a header, and an entry for each command of a script that was answered. With no
+/// reader the header is written alone.
+///
+/// `TooManyScripts` above 64; then, script by script, `Read` at the first error of its reader, and `BadLine` at the first line
+/// that is neither empty nor a command: nothing was played or written. Then the first of these that is so: `Unsettled` where
+/// the receipts do not account for the log, and nothing was written; `Write` at the first error of the writer, after a
+/// beginning of the text was written; and, after all of it was written, the fault of the first script that met one: `LogFull`
+/// at a command beyond the limit, `Behind`, or `Memory` in a call. A script that meets a fault ends there, and the others go
+/// on. `Memory` also where memory runs out elsewhere, before anything was written. `Thread` never comes.
+///
+/// Before each command the gate is passed, with the script's number, from 0, and the line's. It waits for the gate, for the
+/// network's lock and for the threads that it starts; where no thread can be had, scripts are played one after another.
+pub fn storm<In: Read + Drop, Out: Write, G: Gate + Sync, T: Threads + Wait + Sync>(
+    rt: &T,
+    alloc: Global,
+    options: &Options,
+    readers: Vec<In>,
+    writer: &mut Out,
+    gate: &G,
+) -> Result<(), StormFault>
+    ensures { IsOutcome options.now.rules options.now.nodes options.now.limit (map In.remaining readers.items) (Out.contents writer.old) (Out.contents writer.new) result }
+{
+    match options.rules() {
+        RuleSet::Hh => storm_on::<HsuHuang, In, Out, G, T>(
+            rt, alloc, options, readers, writer, gate,
+        ),
+        RuleSet::Manne => storm_on::<Manne, In, Out, G, T>(
+            rt, alloc, options, readers, writer, gate,
+        ),
+    }
+}
