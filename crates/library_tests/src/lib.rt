@@ -8,6 +8,8 @@ mod budgets;
 #[cfg(test)]
 mod chosen_nodes;
 #[cfg(test)]
+mod clerks;
+#[cfg(test)]
 mod command_lines;
 #[cfg(test)]
 mod drawn_faults;
