@@ -6,8 +6,8 @@ use Rattle.rule_machine.specs.declared.reply.Reply.{Reply}
 use Rattle.rule_machine.specs.declared.rules.RuleSet.{RuleSet}
 use Rattle.rule_machine.specs.State.{State, opening}
 use Rattle.rule_machine.specs.RuleTable.{RuleTable}
-use Rattle.rule_machine.specs.Run.{Entry, Moment, Run, Epoch, beginning, spent_after, epochs_from, epoch_at}
-use Rattle.rule_machine.specs.Answer.{Answers}
+use Rattle.rule_machine.specs.Run.{Entry, Moment, Run, Epoch, beginning, epochs_from, epoch_at}
+use Rattle.rule_machine.specs.Answer.{Answers, spent_after}
 use Rattle.rule_machine.specs.Tables.{table_of}
 use Rattle.charge_laws.specs.Epochs.{IsPath}
 use Rattle.line_text.specs.EntryText.{entry_text}
@@ -36,9 +36,9 @@ first_once number entry other log also rest left one top is fits e =
     ((spells_entry_once line number number entry other (spells_of number entry one top is) spelled).1, ap (λ (p : List ℕ × List ℕ). p.1) first)
 
 -- where the machine is behind one entry
-behind_once : (t : RuleTable) (start : Moment) (entry other : Entry) (next following : State) → entry ≡ other → Answers t start.state entry.0 entry.1 next → Answers t start.state other.0 other.1 following → next ≡ following
+behind_once : (t : RuleTable) (start : Moment) (entry other : Entry) (next following : State) → entry ≡ other → Answers t start.state start.spent entry.0 entry.1 next → Answers t start.state start.spent other.0 other.1 following → next ≡ following
 behind_once t start entry other next following same answers answered =
-    answers_once t start.state other.0 other.1 next following (subst (λ (x : Entry). Answers t start.state x.0 x.1 next) same answers) answered
+    answers_once t start.state start.spent other.0 other.1 next following (subst (λ (x : Entry). Answers t start.state start.spent x.0 x.1 next) same answers) answered
 
 abbrev at : State → ℕ → Reply → Moment
 at s spent reply = record { state = s; spent = spent_after spent reply }
