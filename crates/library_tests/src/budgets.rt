@@ -46,7 +46,14 @@ fn each_move_is_paid_and_counted(rt: HostRuntime) {
     let choice = alone(&rt, rt.alloc(), 1);
     let verdict = net.verdict(&choice, 0);
     let wanted = moved(&rt, 1, Act::Seduce, 2);
-    assert!(rt; verdict == Verdict { place: 0, node: named(&rt, 1), outcome: Outcome::Moves(wanted) });
+    assert!(rt;
+        verdict
+            == Verdict {
+                place: 0,
+                node: named(&rt, 1),
+                outcome: Outcome::Moves(wanted)
+            }
+    );
     let first = net.apply(&Event::Step(choice)).expect(&rt, "memory");
     assert!(rt; is_move(&first, wanted));
     assert!(rt; net.charge() == 1);
