@@ -28,6 +28,7 @@ fn questions_are_read(rt: HostRuntime) {
     reads(&rt, rt.alloc(), "show 1", Event::Show(named(&rt, 1)));
     reads(&rt, rt.alloc(), "enabled", Event::Enabled);
     reads(&rt, rt.alloc(), "matching", Event::Matching);
+    reads(&rt, rt.alloc(), "status", Event::Status);
 }
 
 /// An item, where wish 0 stands for none.

@@ -28,6 +28,7 @@ fn a_question_has_its_own_answer(rt: HostRuntime) {
     assert!(rt; fits(Event::Show(one), Reply::Shown(Some(one))));
     assert!(rt; fits(Event::Show(one), Reply::Refused(Refusal::UnknownNode)));
     assert!(rt; !fits(Event::Enabled, Reply::Refused(Refusal::UnknownNode)));
+    assert!(rt; !fits(Event::Status, Reply::Refused(Refusal::UnknownNode)));
     assert!(rt; !fits(Event::Enabled, Reply::Pairs(none)));
     assert!(rt; fits(Event::Enabled, Reply::EnabledAre(nodes)));
 }

@@ -8,6 +8,9 @@ use rule_machine::{Act, Choice, Event, Item, Listing, Moved, Refusal, Reply, Rul
 use std::alloc::Global;
 use std::process::Abort;
 
+/// A status with the greatest number that fits.
+const STATUS: &str = "13 status = nodes=4294967295 edges=0 pairs=1 enabled=2 charge=3 spent=4";
+
 /// Reads a line, and writes it back.
 fn write_back(rt: &impl Abort, alloc: Global, line: &str, number: u32) {
     let (came, entry) = read_entry(alloc, line.as_bytes()).expect(rt, "an entry");
@@ -31,6 +34,7 @@ fn entries_are_written_back(rt: HostRuntime) {
         ("10 step = refused 8 empty-choice", 10),
         ("11 show 65535 = 65534", 11),
         ("12 point 1 - = refused 1 unknown-node", 12),
+        (STATUS, 13),
     ] {
         write_back(&rt, rt.alloc(), line, number);
     }

@@ -71,16 +71,30 @@ fn agree<R: Rules>(
     assert!(rt; reply == plain.answer(rt, alloc, event));
 }
 
-/// They answer drawn events alike, and list the same enabled nodes and say the same numbers after each.
+/// They answer twenty drawn events alike, list the same enabled nodes after each, and say the same numbers at the end.
+fn agree_a_while<R: Rules>(
+    rt: &impl Abort,
+    alloc: Global,
+    generator: &mut Pcg32,
+    net: &mut Net<R>,
+    plain: &mut Plain,
+    nodes: u16,
+) {
+    for _ in 0..20 {
+        let event = drawn_event(rt, alloc, generator, net, nodes);
+        agree(rt, alloc, net, plain, &event);
+        agree(rt, alloc, net, plain, &Event::Enabled);
+    }
+    agree(rt, alloc, net, plain, &Event::Status);
+}
+
+/// They agree along 600 drawn events.
 fn agree_along<R: Rules>(rt: &impl Abort, alloc: Global, rules: RuleSet, nodes: u16, seed: u64) {
     let mut net = net_of::<R>(rt, alloc, u32::from(nodes));
     let mut plain = plain_of(rt, alloc, rules, nodes);
     let mut generator = Pcg32::seed_from_u64(seed);
-    for _ in 0..600 {
-        let event = drawn_event(rt, alloc, &mut generator, &net, nodes);
-        agree(rt, alloc, &mut net, &mut plain, &event);
-        agree(rt, alloc, &mut net, &mut plain, &Event::Enabled);
-        agree(rt, alloc, &mut net, &mut plain, &Event::Status);
+    for _ in 0..30 {
+        agree_a_while(rt, alloc, &mut generator, &mut net, &mut plain, nodes);
     }
 }
 
