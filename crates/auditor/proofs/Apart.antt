@@ -12,7 +12,8 @@ use Rattle.entry_grammar.specs.Spelling.{max_entries}
 use Rattle.auditor.specs.declared.damage.Damage.{Damage}
 use Rattle.auditor.specs.declared.damage.Damage.TheVariants.{BadHeader, NotALine, OutOfOrder, NotTheMachines}
 use Rattle.auditor.specs.declared.summary.Summary.{Summary}
-use Rattle.auditor.specs.Transcript.{IsEntry, entry_lines}
+use Rattle.line_text.specs.LogText.{entry_lines}
+use Rattle.auditor.specs.Transcript.{IsEntry}
 use Rattle.auditor.specs.Damage.{Follows, IsDamage, IsLineBehind}
 use Rattle.auditor.specs.Reached.{EndsAt, HasTooFew, IsLookedAt, IsStateAfter, line_of}
 use Rattle.auditor.proofs.Agreeing.{GoesOn, goes_on, later}

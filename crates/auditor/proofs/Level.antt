@@ -13,7 +13,8 @@ use Rattle.charge_laws.specs.Epochs.{IsPath}
 use Rattle.line_text.specs.EntryText.{entry_text}
 use Rattle.entry_grammar.specs.Spelling.{SpellsEntry, max_entries}
 use Rattle.entry_grammar.proofs.Entries.{spells_entry_once}
-use Rattle.auditor.specs.Transcript.{IsEntry, entry_lines}
+use Rattle.line_text.specs.LogText.{entry_lines}
+use Rattle.auditor.specs.Transcript.{IsEntry}
 use Rattle.auditor.specs.Damage.{Follows, first_line}
 use Rattle.auditor.specs.Reached.{EndsAt, IsStateAfter}
 use Rattle.auditor.specs.Epochs.{AreEpochs}
