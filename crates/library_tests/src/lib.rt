@@ -52,6 +52,8 @@ mod small_networks;
 #[cfg(test)]
 mod stores;
 #[cfg(test)]
+mod storms;
+#[cfg(test)]
 mod told;
 #[cfg(test)]
 mod unread_transcripts;

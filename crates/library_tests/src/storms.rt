@@ -1,0 +1,135 @@
+//! Storms: scripts that share one network.
+
+use auditor::{Summary, audit_bytes};
+use script_run::{Options, RuleSet};
+use std::alloc::Global;
+use std::process::Abort;
+use std::sync::Wait;
+use std::sync::atomic::{AtomicU64, Ordering};
+use std::thread::Threads;
+use steal_pool::{Gate, NoGate};
+use storm_call::{StormFault, storm, storm_end};
+
+/// The readers of these scripts.
+fn readers<'a>(rt: &impl Abort, alloc: Global, scripts: &[&'a str]) -> Vec<&'a [u8]> {
+    let mut readers = Vec::new(alloc);
+    for script in scripts {
+        readers.push(script.as_bytes()).expect(rt, "memory");
+    }
+    readers
+}
+
+/// How a storm of these scripts ends, and what it writes.
+fn play<G: Gate + Sync, T: Threads + Wait + Sync + Abort>(
+    rt: &T,
+    alloc: Global,
+    nodes: u32,
+    scripts: &[&str],
+    gate: &G,
+) -> (Result<(), StormFault>, Vec<u8>) {
+    let options = Options::new(RuleSet::Hh, nodes).expect(rt, "options");
+    let mut written = Vec::new(alloc);
+    let readers = readers(rt, alloc, scripts);
+    let ended = storm(rt, alloc, &options, readers, &mut written, gate);
+    (ended, written)
+}
+
+/// Compares what an audit of the text counts.
+fn expect_counts(rt: &impl Abort, alloc: Global, text: &[u8], entries: u32, epochs: u32, moves: u64) {
+    let wanted = Summary {
+        entries,
+        epochs,
+        moves,
+    };
+    assert!(rt; audit_bytes(alloc, text) == Ok(wanted));
+}
+
+const FIRST: &str = "link 1 2\npoint 1 2\nshow 1\n";
+
+const SECOND: &str = "link 3 4\npoint 4 3\nshow 4";
+
+#[test]
+fn two_scripts_share_a_network(rt: HostRuntime) {
+    let (ended, text) = play(&rt, rt.alloc(), 4, &[FIRST, SECOND], &NoGate);
+    assert!(rt; ended == Ok(()));
+    expect_counts(&rt, rt.alloc(), &text, 6, 5, 0);
+}
+
+#[test]
+fn a_script_drives_and_scrambles(rt: HostRuntime) {
+    let script = "link 1 2\ndrive 7 5\nscramble 3 1\n";
+    let (ended, text) = play(&rt, rt.alloc(), 2, &[script], &NoGate);
+    assert!(rt; ended == Ok(()));
+    expect_counts(&rt, rt.alloc(), &text, 4, 3, 2);
+}
+
+#[test]
+fn no_script_leaves_a_header(rt: HostRuntime) {
+    let (ended, text) = play(&rt, rt.alloc(), 2, &[], &NoGate);
+    assert!(rt; ended == Ok(()));
+    assert!(rt; text.as_slice() == b"matching hh 2\n");
+}
+
+#[test]
+fn a_bad_line_is_named_before_anything_is_written(rt: HostRuntime) {
+    let scripts = ["link 1 2\n", "show 1\n\nlnk 1 2\n", "lnk"];
+    let (ended, text) = play(&rt, rt.alloc(), 2, &scripts, &NoGate);
+    assert!(rt; ended == Err(StormFault::BadLine { script: 2, line: 3 }));
+    assert!(rt; text.as_slice() == b"");
+    let mut told = Vec::new(rt.alloc());
+    assert!(rt; storm_end(ended, &mut told) == 2);
+    assert!(rt; told.as_slice() == b"! script 2 line 3: not a command\n");
+}
+
+#[test]
+fn a_storm_has_64_scripts_at_most(rt: HostRuntime) {
+    let (ended, text) = play(&rt, rt.alloc(), 1, &["show 1\n"; 65], &NoGate);
+    assert!(rt; ended == Err(StormFault::TooManyScripts));
+    assert!(rt; text.as_slice() == b"");
+    let (ended, text) = play(&rt, rt.alloc(), 1, &["show 1\n"; 64], &NoGate);
+    assert!(rt; ended == Ok(()));
+    expect_counts(&rt, rt.alloc(), &text, 64, 1, 0);
+}
+
+/// The most looks that a script waits for the other.
+const LOOKS: u64 = 100_000_000;
+
+/// A gate at which the first commands of two scripts wait for each other, and which notes whether one waited in vain.
+#[derive(Drop)]
+struct Meeting {
+    first: AtomicU64,
+    second: AtomicU64,
+    missed: AtomicU64,
+}
+
+impl Gate for Meeting {
+    fn pass<W: Wait>(&self, _rt: &W, worker: u32, place: u32) {
+        if place != 1 {
+            return;
+        }
+        let (own, other) = match worker {
+            0 => (&self.first, &self.second),
+            _ => (&self.second, &self.first),
+        };
+        own.store(1, Ordering::SeqCst);
+        for _ in 0..LOOKS {
+            if other.load(Ordering::SeqCst) == 1 {
+                return;
+            }
+        }
+        self.missed.store(1, Ordering::SeqCst);
+    }
+}
+
+#[test]
+fn two_scripts_run_at_once(rt: HostRuntime) {
+    let gate = Meeting {
+        first: AtomicU64::new(0),
+        second: AtomicU64::new(0),
+        missed: AtomicU64::new(0),
+    };
+    let (ended, text) = play(&rt, rt.alloc(), 4, &[FIRST, SECOND], &gate);
+    assert!(rt; ended == Ok(()));
+    assert!(rt; gate.missed.load(Ordering::SeqCst) == 0);
+    expect_counts(&rt, rt.alloc(), &text, 6, 5, 0);
+}
