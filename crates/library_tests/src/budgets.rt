@@ -1,66 +1,27 @@
 //! Charges, what is spent, and epochs, at the level of calls.
 
-use crate::helpers::named;
 use crate::journals::journal_of;
 use crate::machines::{net_of, play};
-use rule_engine::{Act, Choice, Event, Item, Moved, Outcome, Reply, Rules, Verdict};
+use crate::verdicts::ByVerdicts;
+use rule_engine::Rules;
 use rules_hsu_huang::HsuHuang;
 use rules_manne::Manne;
 use std::alloc::Global;
 use std::process::Abort;
 use step_log::{Epoch, Journal};
 
-/// The choice of one node, with no wish.
-fn alone(rt: &impl Abort, alloc: Global, name: u32) -> Choice {
-    let mut items = Vec::new(alloc);
-    let node = named(rt, name);
-    items.push(Item { node, wish: None }).expect(rt, "memory");
-    Choice::new(items).expect(rt, "a choice")
-}
-
-/// The move of a node to a target.
-fn moved(rt: &impl Abort, name: u32, act: Act, target: u32) -> Moved {
-    Moved {
-        node: named(rt, name),
-        act,
-        target: Some(named(rt, target)),
-    }
-}
-
-/// Whether a reply is one move.
-fn is_move(reply: &Reply, wanted: Moved) -> bool {
-    match reply {
-        Reply::Moves(moves) => {
-            moves.as_slice().len() == 1 && moves.as_slice().first() == Some(&wanted)
-        }
-        _ => false,
-    }
-}
-
 #[test]
 fn each_move_is_paid_and_counted(rt: HostRuntime) {
-    let mut net = net_of::<HsuHuang>(&rt, rt.alloc(), 2);
-    play(&rt, rt.alloc(), &mut net, "link 1 2 = ok");
-    assert!(rt; net.charge() == 2);
-    assert!(rt; net.spent() == 0);
-    let choice = alone(&rt, rt.alloc(), 1);
-    let verdict = net.verdict(&choice, 0);
-    let wanted = moved(&rt, 1, Act::Seduce, 2);
-    assert!(rt;
-        verdict
-            == Verdict {
-                place: 0,
-                node: named(&rt, 1),
-                outcome: Outcome::Moves(wanted)
-            }
-    );
-    let first = net.apply(&Event::Step(choice)).expect(&rt, "memory");
-    assert!(rt; is_move(&first, wanted));
-    assert!(rt; net.charge() == 1);
-    assert!(rt; net.spent() == 1);
-    play(&rt, rt.alloc(), &mut net, "step 2 = 2:marry>1");
-    assert!(rt; net.charge() == 0);
-    assert!(rt; net.spent() == 2);
+    let mut net = ByVerdicts(net_of::<HsuHuang>(&rt, rt.alloc(), 2));
+    for (row, charge, spent) in [
+        ("link 1 2 = ok", 2, 0),
+        ("step 1 = 1:seduce>2", 1, 1),
+        ("step 2 = 2:marry>1", 0, 2),
+    ] {
+        play(&rt, rt.alloc(), &mut net, row);
+        assert!(rt; net.0.charge() == charge, "{row}");
+        assert!(rt; net.0.spent() == spent, "{row}");
+    }
 }
 
 /// Compares a journal's epochs with these.

@@ -5,4 +5,4 @@ use Rattle.library_tests.proofs.verdicts.verdicts.Given as goal
 abbrev pub invariant-loop-place : goal.invariant-loop-place
 invariant-loop-place g l =
     let t = g.R.Rules.table in
-    l.verdicts.items ++ verdicts_from t l.net l.place (drop l.place l.choice) ≡ verdicts_of t l.net l.choice
+    l.verdicts.items ++ verdicts_from t l.net.state l.place (drop l.place l.choice) ≡ verdicts_of t l.net.state l.choice
