@@ -10,6 +10,6 @@ mod verdict_line;
 mod viewing;
 
 pub use law::one_verdict;
-pub use program::{start, status, tell, tell_no_words};
+pub use program::{end_words, start, status, tell, tell_no_words};
 pub use verdict::{CheckEnd, check};
 pub use viewing::{draw, list_epochs};

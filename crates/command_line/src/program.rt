@@ -115,6 +115,21 @@ fn check_transcript<In: Read, Out: Write, Faults: Write>(
     }
 }
 
+/// Ends where words could not be read: shows the help or the version that was asked for, with status 0, or 3 where the writer
+/// failed; else tells what is wrong with the words, with status 2, or 4 for want of memory.
+pub fn end_words<Out: Write, Faults: Write>(
+    error: Error,
+    writer: &mut Out,
+    faults: &mut Faults,
+) -> u8
+    ensures { (result ≡ words_status (kind_of error)) ⊎ (result ≡ 0) ⊎ (result ≡ 3) }
+{
+    if error.use_stderr() {
+        return refuse(error, faults);
+    }
+    show(error, writer, faults)
+}
+
 /// Does what the words ask for, of which the first is the program's name, and gives the exit status: 0 for a whole run
 /// or an accepted transcript, or where a transcript, the help or the version was shown; 1 for a refused transcript; 2 for
 /// bad words, a bad line, or an entry that is not there; 3 where a read or a write failed; 4 for want of memory or a full log. Faults are told on `faults`, and

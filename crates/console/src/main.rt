@@ -1,9 +1,15 @@
-//! Runs the script on standard input and writes its transcript to standard output, or judges or shows a transcript.
+//! Runs the script on standard input and writes its transcript to standard output, judges or shows a transcript, or plays
+//! scripts from files at once.
 #![tactic(auto)]
 
-use command_line::{start, tell_no_words};
+use command_line::{end_words, start, tell_no_words};
+use command_words::read_storm;
+use script_run::Options;
+use std::fs::File;
 use std::process::ExitCode;
 use std::{env, io};
+use steal_pool::NoGate;
+use storm_call::{StormFault, storm, storm_end};
 
 fn main(rt: HostRuntime) -> ExitCode {
     let (mut reader, mut writer, mut faults) = (rt.reader(), io::writer(&rt), rt.stderr());
@@ -13,15 +19,29 @@ fn main(rt: HostRuntime) -> ExitCode {
             .map_err(io::Error::from),
         Err(error) => Err(error),
     };
-    let status = match given {
-        Ok(words) => start(
-            rt.alloc(),
-            words.as_slice(),
-            &mut reader,
-            &mut writer,
-            &mut faults,
-        ),
-        Err(error) => tell_no_words(error.kind(), &mut faults),
+    let words = match given {
+        Ok(words) => words,
+        Err(error) => return ExitCode::from(tell_no_words(error.kind(), &mut faults)),
     };
-    ExitCode::from(status)
+    let plays = matches!(words.get(1), Some(word) if word.as_str() == "storm");
+    if !plays {
+        let (alloc, given) = (rt.alloc(), words.as_slice());
+        return ExitCode::from(start(alloc, given, &mut reader, &mut writer, &mut faults));
+    }
+    let asked = match read_storm(rt.alloc(), words.as_slice()) {
+        Ok(asked) => asked,
+        Err(error) => return ExitCode::from(end_words(error, &mut writer, &mut faults)),
+    };
+    let mut scripts = Vec::new(rt.alloc());
+    for name in asked.scripts.as_slice() {
+        let fault = match File::open(&rt, *name) {
+            Ok(script) if scripts.push(script).is_ok() => continue,
+            Ok(_) => StormFault::Memory,
+            Err(_) => StormFault::Read,
+        };
+        return ExitCode::from(storm_end(Err(fault), &mut faults));
+    }
+    let options = Options::new(asked.rules, u32::from(asked.nodes)).unwrap();
+    let ended = storm(&rt, rt.alloc(), &options, scripts, &mut writer, &NoGate);
+    ExitCode::from(storm_end(ended, &mut faults))
 }
