@@ -3,7 +3,8 @@ use Rattle.std.specs.Prelude.{◌≡◌, ◌⊎◌, ℕ, ◌<◌, ◌^◌, List,
 use Rattle.std.specs.Borrow.{Bor}
 use Rattle.std.specs.Fmt.{decimal}
 use Rattle.std.specs.Str.Parse.{IsNumeral, digits_value, without_leading_plus}
-use Rattle.clap.specs.Words.{App, Row, Rule, Text, first_of, kind_of, new_app, new_rule, one_of, subcommand_of, takes, with_rule, with_subcommand}
+use Rattle.clap.specs.Lexer.{usize_max}
+use Rattle.clap.specs.Words.{App, Row, Rule, Text, all_of, first_of, kind_of, new_app, new_rule, one_of, subcommand_of, takes, with_rule, with_subcommand}
 use Rattle.clap.specs.declared.builder.value_parser.ValueParser.TheVariants as vp
 use Rattle.clap.specs.declared.error.kind.ErrorKind.TheVariants.{DisplayHelp, DisplayVersion}
 use Rattle.rule_machine.specs.declared.rules.RuleSet.{RuleSet}
@@ -49,9 +50,21 @@ top_app = record (new_app (codes "console")) {
 abbrev pub judging_app : Names → App
 judging_app names = with_subcommand (with_subcommand top_app (run_app names).top) (new_app (codes "audit")).top
 
--- the command with all four
+-- the names of files, one or more
+abbrev pub script_rule : Rule
+script_rule = record (new_rule (codes "SCRIPT")) { range = Some (record { start_inclusive = 1; end_inclusive = usize_max }); required = true }
+
+-- the subcommand `storm`
+abbrev pub storm_app : Names → App
+storm_app names = with_rule (with_rule (with_rule (new_app (codes "storm")) (rules_rule names)) nodes_rule) script_rule
+
+-- the command with these, and with the subcommands that show
+abbrev pub showing_app : Names → App
+showing_app names = with_subcommand (with_subcommand (judging_app names) picture_app.top) (new_app (codes "epochs")).top
+
+-- the command with all five
 abbrev pub console_app : Names → App
-console_app names = with_subcommand (with_subcommand (judging_app names) picture_app.top) (new_app (codes "epochs")).top
+console_app names = with_subcommand (showing_app names) (storm_app names).top
 
 -- the text is a number below 65,536 in decimal; a plus and zeros may stand in front
 abbrev pub IsCount : Text → ℕ → Type 0
@@ -94,6 +107,24 @@ Answers words task = Asks words task
 abbrev pub Wants : List Text → Task → Type 0
 Wants words task =
     (names : Names) → AreRules names → (takes (console_app names) words ≡ true) × Holds (subcommand_of (console_app names) words) task
+
+-- what was found for `storm` are this rule set, this number of nodes and these scripts
+abbrev pub HoldsStorm : List Row → RuleSet → ℕ → List Text → Type 0
+HoldsStorm found rules nodes scripts = HoldsRun found rules nodes × (all_of (codes "SCRIPT") found ≡ Some scripts)
+
+-- the subcommand is `storm`, and this was found for it
+abbrev pub IsStorm : Option (Text × List Row) → RuleSet → ℕ → List Text → Type 0
+IsStorm None rules nodes scripts = ⊥
+IsStorm (Some p) rules nodes scripts = (p.0 ≡ codes "storm") × HoldsStorm p.1 rules nodes scripts
+
+-- the words are read as a storm
+abbrev pub AsksStorm : List Text → RuleSet → ℕ → List Text → Type 0
+AsksStorm words rules nodes scripts = (names : Names) × AreRules names × IsStorm (subcommand_of (console_app names) words) rules nodes scripts
+
+-- the words are good, and are read as this storm
+abbrev pub WantsStorm : List Text → RuleSet → ℕ → List Text → Type 0
+WantsStorm words rules nodes scripts =
+    (names : Names) → AreRules names → (takes (console_app names) words ≡ true) × IsStorm (subcommand_of (console_app names) words) rules nodes scripts
 
 -- the usual words for a run
 abbrev pub run_words : Text → RuleSet → ℕ → List Text

@@ -9,19 +9,24 @@ Examples:
   console run --rules hh --nodes 4 < script.txt > transcript.txt
   console audit < transcript.txt
   console picture < transcript.txt > matching.dot
+  console storm --rules manne --nodes 4 one.txt two.txt > transcript.txt
   console help run";
 
 pub(crate) const RUN_ABOUT: &str =
     "Runs the script on standard input and writes its transcript to standard output.";
 
 pub(crate) const RUN_NOTES: &str = "\
+The transcript is written as the run goes, in parts of about 64 KiB: a long one can be watched through tee, or by tail -f.
+
 Commands of a script, one a line, where A and B are names of nodes:
   link A B      adds an edge            unlink A B    removes it
   point A B     A's pointer becomes B   point A -     A's pointer becomes null
   flag A 1      A's married flag is set flag A 0      A's married flag is cleared
   step A B>A    moves the chosen nodes at once, B with a wish for its target
   show A        where A points          enabled       the nodes with an enabled rule
-  matching      the pairs
+  matching      the pairs               status        the counts, the charge and what is spent
+  drive S K     takes up to K steps, until no node is enabled, of a daemon with the seed S
+  scramble S K  changes up to K registers, drawn with the seed S
 
 Examples:
   console run --rules manne --nodes 4 < script.txt > transcript.txt
@@ -94,3 +99,21 @@ Exit status:
   2  bad words
   3  a read or a write failed
   4  memory ran out";
+
+pub(crate) const STORM_ABOUT: &str =
+    "Runs scripts at once on one network, a thread each, and writes the transcript of their common log to standard output.";
+
+pub(crate) const STORM_NOTES: &str = "\
+Each script has the commands of run, and they are carried out in its order, between those of the others in any way. All scripts
+are read before the first command. When all have ended, the log is settled against what each of them did, and is written.
+
+Examples:
+  console storm --rules hh --nodes 4 one.txt two.txt > transcript.txt
+  console storm --rules manne --nodes 9 one.txt two.txt | console audit
+
+Exit status:
+  0  every script was run, and the log is settled
+  1  a settle was refused
+  2  bad words, a line that is not a command, or more than 64 scripts
+  3  a read or a write failed, or a script cannot be opened
+  4  memory ran out, the log is full, a clerk is behind, or no thread could be had";

@@ -3,10 +3,12 @@
 
 mod command;
 mod help;
+mod storm;
 mod task;
 mod usual;
 mod words;
 
+pub use storm::{StormWords, read_storm};
 pub use task::Task;
 pub use usual::usual_words;
 pub use words::read_words;

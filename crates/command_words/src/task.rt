@@ -40,19 +40,31 @@ fn rules_named(word: &str) -> Option<RuleSet>
     None
 }
 
+/// The rule set and the number of nodes that were found; `None` where a value is missing, or is none of its argument's.
+pub(crate) fn network(found: &ArgMatches<'_>) -> Option<(RuleSet, u16)>
+    ensures { MatchOption result
+        ((rules : RuleSet) (nodes : ℕ) → HoldsRun (rows_of (found_of found.now)) rules nodes → ⊥)
+        (λ network. HoldsRun (rows_of (found_of found.now)) network.0 network.1) }
+{
+    let Some(word) = found.get_str("rules") else {
+        return None;
+    };
+    let Some(rules) = rules_named(word) else {
+        return None;
+    };
+    let Some(nodes) = found.get_one::<u16>("nodes") else {
+        return None;
+    };
+    Some((rules, nodes))
+}
+
 // What was found for `run`; `None` where a value is missing, or is none of its argument's.
 fn run_task(run: &ArgMatches<'_>) -> Option<Task>
     ensures { MatchOption result
         ((rules : RuleSet) (nodes : ℕ) → HoldsRun (rows_of (found_of run.now)) rules nodes → ⊥)
         (λ task. Holds (Some (codes "run", rows_of (found_of run.now))) task) }
 {
-    let Some(word) = run.get_str("rules") else {
-        return None;
-    };
-    let Some(rules) = rules_named(word) else {
-        return None;
-    };
-    let Some(nodes) = run.get_one::<u16>("nodes") else {
+    let Some((rules, nodes)) = network(run) else {
         return None;
     };
     Some(Task::Run { rules, nodes })
