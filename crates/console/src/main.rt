@@ -34,12 +34,12 @@ fn main(rt: HostRuntime) -> ExitCode {
     };
     let mut scripts = Vec::new(rt.alloc());
     for name in asked.scripts.as_slice() {
-        let fault = match File::open(&rt, *name) {
-            Ok(script) if scripts.push(script).is_ok() => continue,
-            Ok(_) => StormFault::Memory,
-            Err(_) => StormFault::Read,
+        let Ok(script) = File::open(&rt, *name) else {
+            return ExitCode::from(storm_end(Err(StormFault::Read), &mut faults));
         };
-        return ExitCode::from(storm_end(Err(fault), &mut faults));
+        if scripts.push(script).is_err() {
+            return ExitCode::from(storm_end(Err(StormFault::Memory), &mut faults));
+        }
     }
     let options = Options::new(asked.rules, u32::from(asked.nodes)).unwrap();
     let ended = storm(&rt, rt.alloc(), &options, scripts, &mut writer, &NoGate);
