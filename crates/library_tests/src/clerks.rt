@@ -27,7 +27,13 @@ fn link(rt: &impl Abort, a: u32, b: u32) -> Event {
 }
 
 /// Links two nodes by a clerk's call.
-fn expect_link<R: Rules, W: Wait + Abort>(rt: &W, clerk: &mut Clerk, net: &LockedNet<R>, a: u32, b: u32) {
+fn expect_link<R: Rules, W: Wait + Abort>(
+    rt: &W,
+    clerk: &mut Clerk,
+    net: &LockedNet<R>,
+    a: u32,
+    b: u32,
+) {
     let front = clerk.front();
     assert!(rt; clerk.call(rt, net, link(rt, a, b)) == Ok(Reply::Accepted));
     assert!(rt; clerk.front() > front);

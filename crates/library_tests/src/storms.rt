@@ -35,7 +35,14 @@ fn play<G: Gate + Sync, T: Threads + Wait + Sync + Abort>(
 }
 
 /// Compares what an audit of the text counts.
-fn expect_counts(rt: &impl Abort, alloc: Global, text: &[u8], entries: u32, epochs: u32, moves: u64) {
+fn expect_counts(
+    rt: &impl Abort,
+    alloc: Global,
+    text: &[u8],
+    entries: u32,
+    epochs: u32,
+    moves: u64,
+) {
     let wanted = Summary {
         entries,
         epochs,
@@ -67,7 +74,7 @@ fn a_script_drives_and_scrambles(rt: HostRuntime) {
 fn no_script_leaves_a_header(rt: HostRuntime) {
     let (ended, text) = play(&rt, rt.alloc(), 2, &[], &NoGate);
     assert!(rt; ended == Ok(()));
-    assert!(rt; text.as_slice() == b"matching hh 2\n");
+    assert!(rt; text.as_slice() == b"matching hh 2\n".as_slice());
 }
 
 #[test]
@@ -75,17 +82,17 @@ fn a_bad_line_is_named_before_anything_is_written(rt: HostRuntime) {
     let scripts = ["link 1 2\n", "show 1\n\nlnk 1 2\n", "lnk"];
     let (ended, text) = play(&rt, rt.alloc(), 2, &scripts, &NoGate);
     assert!(rt; ended == Err(StormFault::BadLine { script: 2, line: 3 }));
-    assert!(rt; text.as_slice() == b"");
+    assert!(rt; text.is_empty());
     let mut told = Vec::new(rt.alloc());
     assert!(rt; storm_end(ended, &mut told) == 2);
-    assert!(rt; told.as_slice() == b"! script 2 line 3: not a command\n");
+    assert!(rt; told.as_slice() == b"! script 2 line 3: not a command\n".as_slice());
 }
 
 #[test]
 fn a_storm_has_64_scripts_at_most(rt: HostRuntime) {
     let (ended, text) = play(&rt, rt.alloc(), 1, &["show 1\n"; 65], &NoGate);
     assert!(rt; ended == Err(StormFault::TooManyScripts));
-    assert!(rt; text.as_slice() == b"");
+    assert!(rt; text.is_empty());
     let (ended, text) = play(&rt, rt.alloc(), 1, &["show 1\n"; 64], &NoGate);
     assert!(rt; ended == Ok(()));
     expect_counts(&rt, rt.alloc(), &text, 64, 1, 0);
