@@ -1,4 +1,5 @@
-//! Every network of up to three nodes, in every state and under every small choice, against the plain machine.
+//! Every network of up to three nodes, in every state and under every small choice: the engine against the plain machine,
+//! and the auditor's judge against both.
 //!
 //! The choices at n nodes have items of n + 1 names, the last of an absent node, each with no wish or one of these
 //! names: (n + 1)(n + 2) items i, so 1 + i + i·i choices of up to two, and 6 more of three at three nodes. There are
@@ -9,7 +10,8 @@
 
 use crate::helpers::named;
 use crate::machines::{Plain, moves_in, net_of, plain_of};
-use rule_engine::{Choice, Event, Item, Net, Node, Reply, RuleSet, Rules};
+use judge::Judge;
+use rule_engine::{Choice, Event, Item, Net, Node, Refusal, Reply, RuleSet, Rules};
 use rules_hsu_huang::HsuHuang;
 use rules_manne::Manne;
 use std::alloc::Global;
@@ -23,12 +25,13 @@ enum Kind {
     Other,
 }
 
-/// A network under a rule set, the plain one that is asked the same, and the state that both are in: for each node a
+/// A network under a rule set, the plain one that is asked the same, the judge of the replies, and the state that all are in: for each node a
 /// digit of four for its pointer, and behind that a bit for its flag if there are flags.
 #[derive(Drop)]
 struct Twins<R: Rules> {
     net: Net<R>,
     plain: Plain,
+    judge: Judge,
     nodes: u8,
     edges: u32,
     state: u32,
@@ -40,15 +43,30 @@ impl<R: Rules> Twins<R> {
         Twins {
             net: net_of(rt, alloc, u32::from(nodes)),
             plain: plain_of(rt, alloc, rules, u16::from(nodes)),
+            judge: Judge::new(alloc, u32::from(nodes)).expect(rt, "memory"),
             nodes,
             edges,
             state: 0,
         }
     }
 
+    /// Asks the judge about a refusal, and about the reply.
+    fn judge(&mut self, rt: &impl Abort, spent: u64, event: &Event, reply: &Reply) {
+        let refusal = Reply::Refused(Refusal::NotEnabled);
+        let refused = self.judge.replay(self.plain.rules, spent, event, &refusal);
+        assert!(rt;
+            refused.expect(rt, "memory") == (*reply == refusal),
+            "{event:?}"
+        );
+        let right = self.judge.replay(self.plain.rules, spent, event, reply);
+        assert!(rt; right.expect(rt, "memory"), "{event:?}");
+    }
+
     /// Asks both for an event, and compares their replies.
     fn ask(&mut self, rt: &impl Abort, alloc: Global, event: Event) -> Kind {
+        let spent = u64::from(self.net.spent());
         let reply = self.net.apply(&event).expect(rt, "memory");
+        self.judge(rt, spent, &event, &reply);
         let same = self.plain.answer(rt, alloc, &event) == reply;
         let (edges, state) = (self.edges, self.state);
         assert!(rt;
