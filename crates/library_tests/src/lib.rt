@@ -8,8 +8,6 @@ mod budgets;
 #[cfg(test)]
 mod chosen_nodes;
 #[cfg(test)]
-mod clerks;
-#[cfg(test)]
 mod command_lines;
 #[cfg(test)]
 mod drawn_faults;
@@ -51,8 +49,6 @@ mod script_runs;
 mod small_networks;
 #[cfg(test)]
 mod stores;
-#[cfg(test)]
-mod storms;
 #[cfg(test)]
 mod told;
 #[cfg(test)]

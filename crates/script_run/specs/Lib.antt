@@ -2,3 +2,4 @@ pub mod Outcome
 pub mod Line
 pub mod Halted
 pub mod Input
+pub mod Asked

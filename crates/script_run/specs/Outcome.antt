@@ -9,7 +9,7 @@ use Rattle.line_text.specs.EntryText.{header_line}
 use Rattle.script_machine.specs.Script.{Progress, LinesDo, IsBadLine, MeetsFullLog, lines_of}
 use Rattle.byte_output.specs.Beginning.{AppendsBeginning}
 use Rattle.script_run.specs.declared.fault.RunFault.{RunFault}
-use Rattle.script_run.specs.declared.fault.RunFault.TheVariants.{BadLine, LogFull, Read, Write, Memory}
+use Rattle.script_run.specs.declared.fault.RunFault.TheVariants.{BadLine, LogFull, Read, Write, Memory, Pool}
 
 -- where every run begins: the opening state with nothing spent, no entry, and the header
 abbrev pub beginning : RuleSet → ℕ → Progress
@@ -50,6 +50,7 @@ Ends t limit lines start (Err LogFull) P Q = (end : Progress) × StopsAtFullLog 
 Ends t limit lines start (Err Read) P Q = Q []
 Ends t limit lines start (Err Write) P Q = (end : Progress) × Reaches t limit lines start end × Q end.text
 Ends t limit lines start (Err Memory) P Q = (end : Progress) × Reaches t limit lines start end × Q end.text
+Ends t limit lines start (Err (Pool why)) P Q = ⊥
 
 -- the script was run, and the writer has got the header and the entries that the machine makes, and nothing else; at a fault of the
 -- writer or of memory a beginning of them, and none at a fault of the reader

@@ -2,6 +2,7 @@
 
 use byte_input::InputFault;
 use byte_output::OutputFault;
+use steal_pool::PoolFault;
 use thiserror::Error;
 
 /// Why a run did not come to the end of its script.
@@ -22,6 +23,10 @@ pub enum RunFault {
     /// A growth of memory was refused.
     #[error("out of memory")]
     Memory,
+    /// The workers that judge a step failed. `run` answers it never: it has a worker at the least, and does the work itself
+    /// where no thread can be had.
+    #[error("{0}")]
+    Pool(PoolFault),
 }
 
 impl From<InputFault> for RunFault {

@@ -1,6 +1,6 @@
 //! What a run is about.
 
-ghost use Rattle.std.specs.Prelude.{◌≡◌, ◌<◌, ◌≤◌, ◌↔◌, min, IsNone, IfSome};
+ghost use Rattle.std.specs.Prelude.{◌≡◌, ◌<◌, ◌≤◌, ◌↔◌, max, min, IsNone, IfSome};
 
 use rule_machine::RuleSet;
 use step_log::MAX_ENTRIES;
@@ -8,24 +8,40 @@ use step_log::MAX_ENTRIES;
 /// The most nodes of a network.
 const MAX_NODES: u32 = 65_535;
 
-/// The rule set, how many nodes there are, and how many entries there may be.
+/// The most workers that evaluate a step, and the most that roam.
+const MAX_WORKERS: u32 = 64;
+
+/// The most turns of a roaming worker, and how many it has where nothing is said.
+const MAX_TURNS: u32 = 1_000_000;
+
+const USUAL_TURNS: u32 = 1_000;
+
+/// The rule set, how many nodes there are, how many entries there may be, how many workers evaluate a step, and, of a storm,
+/// how many workers roam and for how many turns.
 #[derive(Clone, Copy, Debug, PartialEq, Eq)]
 pub struct Options {
     rules: RuleSet,
     nodes: u32,
     limit: u32,
+    workers: u32,
+    roamers: u32,
+    turns: u32,
     ghost few_nodes: { nodes ≤ 65535 },
     ghost few_entries: { limit ≤ 16777216 },
+    ghost some_workers: { 1 ≤ workers },
+    ghost few_workers: { workers ≤ 64 },
+    ghost few_roamers: { roamers ≤ 64 },
+    ghost few_turns: { turns ≤ 1000000 },
 }
 
 impl Options {
-    /// A run under the rule set on the nodes 1 to `nodes`, with at most `MAX_ENTRIES` entries; `None` above 65,535
-    /// nodes.
+    ghost use Rattle.script_run.specs.Asked.{Asked, asked_of};
+
+    /// A run under the rule set on the nodes 1 to `nodes`, with at most `MAX_ENTRIES` entries, one worker, and, of a storm,
+    /// none that roams; `None` above 65,535 nodes.
     pub fn new(rules: RuleSet, nodes: u32) -> Option<Options>
         ensures none { IsNone result ↔ 65535 < nodes }
-        ensures rules { IfSome result (λ options. options.rules ≡ rules) }
-        ensures nodes { IfSome result (λ options. options.nodes ≡ nodes) }
-        ensures limit { IfSome result (λ options. options.limit ≡ 16777216) }
+        ensures options { IfSome result (λ options. asked_of options ≡ record { rules = rules; nodes = nodes; limit = 16777216; workers = 1; roamers = 0; turns = 1000 }) }
     {
         if nodes > MAX_NODES {
             return None;
@@ -34,19 +50,52 @@ impl Options {
             rules,
             nodes,
             limit: MAX_ENTRIES,
+            workers: 1,
+            roamers: 0,
+            turns: USUAL_TURNS,
         })
     }
 
     /// The same with at most `limit` entries; a number above `MAX_ENTRIES` counts as that.
     pub fn with_limit(self, limit: u32) -> Options
-        ensures rules { result.rules ≡ self.rules }
-        ensures nodes { result.nodes ≡ self.nodes }
-        ensures limit { result.limit ≡ min limit 16777216 }
+        ensures { asked_of result ≡ record (asked_of self) { limit = min limit 16777216 } }
     {
         Options {
             rules: self.rules,
             nodes: self.nodes,
             limit: limit.min(MAX_ENTRIES),
+            workers: self.workers,
+            roamers: self.roamers,
+            turns: self.turns,
+        }
+    }
+
+    /// The same with so many workers for each step: 0 counts as 1, and a number above 64 as 64.
+    pub fn with_workers(self, workers: u32) -> Options
+        ensures { asked_of result ≡ record (asked_of self) { workers = min (max workers 1) 64 } }
+    {
+        Options {
+            rules: self.rules,
+            nodes: self.nodes,
+            limit: self.limit,
+            workers: workers.max(1).min(MAX_WORKERS),
+            roamers: self.roamers,
+            turns: self.turns,
+        }
+    }
+
+    /// The same where so many workers roam the network of a storm, each for so many turns; a number of workers above 64
+    /// counts as 64, and one of turns above 1,000,000 as that.
+    pub fn with_roam(self, workers: u32, turns: u32) -> Options
+        ensures { asked_of result ≡ record (asked_of self) { roamers = min workers 64; turns = min turns 1000000 } }
+    {
+        Options {
+            rules: self.rules,
+            nodes: self.nodes,
+            limit: self.limit,
+            workers: self.workers,
+            roamers: workers.min(MAX_WORKERS),
+            turns: turns.min(MAX_TURNS),
         }
     }
 
@@ -71,5 +120,30 @@ impl Options {
         ensures few { result ≤ 16777216 }
     {
         self.limit
+    }
+
+    /// How many workers evaluate a step, from 1 to 64.
+    pub fn workers(&self) -> u32
+        ensures count { result ≡ self.now.workers }
+        ensures some { 1 ≤ result }
+        ensures few { result ≤ 64 }
+    {
+        self.workers
+    }
+
+    /// How many workers roam the network of a storm, at most 64.
+    pub fn roamers(&self) -> u32
+        ensures count { result ≡ self.now.roamers }
+        ensures few { result ≤ 64 }
+    {
+        self.roamers
+    }
+
+    /// How many turns each of them has, at most 1,000,000.
+    pub fn turns(&self) -> u32
+        ensures count { result ≡ self.now.turns }
+        ensures few { result ≤ 1000000 }
+    {
+        self.turns
     }
 }

@@ -12,6 +12,8 @@ use rules_hsu_huang::HsuHuang;
 use rules_manne::Manne;
 use std::alloc::Global;
 use std::io::{Read, Write};
+use std::sync::Wait;
+use std::thread::Threads;
 
 /// Reads a script to its end, carries out its lines in turn, and writes the transcript: a header, and an entry for each
 /// command. `BadLine` at the first line that is neither empty nor a command, `LogFull` at a command beyond the limit,
@@ -19,7 +21,8 @@ use std::io::{Read, Write};
 /// `Write` at the first error of the writer, and `Memory` if memory runs out, after a beginning of the transcript was
 /// written. No entry is kept: what is held beside the network is the script, and the text that is not written yet, 65,536
 /// bytes and that of one line.
-pub fn run<In: Read, Out: Write>(
+pub fn run<In: Read, Out: Write, T: Threads + Wait + Sync>(
+    _rt: &T,
     alloc: Global,
     reader: &mut In,
     writer: &mut Out,

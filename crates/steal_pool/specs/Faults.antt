@@ -1,0 +1,9 @@
+-- Why workers judged nothing.
+use Rattle.std.specs.Prelude.{◌≡◌, ℕ, zero, suc}
+use Rattle.steal_pool.specs.declared.fault.PoolFault.{PoolFault}
+use Rattle.steal_pool.specs.declared.fault.PoolFault.TheVariants.{ZeroWorkers, Memory}
+
+-- with so many workers this is the fault: that there is none, else want of memory
+abbrev pub Explains : ℕ → PoolFault → Type 0
+Explains zero fault = fault ≡ ZeroWorkers
+Explains (suc others) fault = fault ≡ Memory

@@ -1,0 +1,29 @@
+//! Why workers judged nothing.
+
+use std::alloc::AllocError;
+use thiserror::Error;
+
+/// Why the verdicts of a choice were not had.
+#[derive(Clone, Copy, Debug, PartialEq, Eq, Error)]
+pub enum PoolFault {
+    /// There were no workers.
+    #[error("no workers")]
+    ZeroWorkers,
+    /// A thread could not be started. `evaluate` answers it never: it does the work itself then.
+    #[error("no thread")]
+    Thread,
+    /// A growth of memory was refused.
+    #[error("out of memory")]
+    Memory,
+}
+
+impl From<AllocError> for PoolFault {
+    ghost use Rattle.std.specs.Prelude.{◌≡◌};
+    ghost use Rattle.steal_pool.specs.declared.fault.PoolFault.TheVariants.{Memory};
+
+    ghost from_gives = { λ _ fault. fault ≡ Memory };
+
+    fn from(_: AllocError) -> PoolFault {
+        PoolFault::Memory
+    }
+}
