@@ -9,7 +9,9 @@ use step_log::Receipt;
 
 mod calls;
 mod chosen;
+mod judged;
 mod locked;
+mod lone;
 
 /// A caller of a network, seen in contracts as its receipts, oldest first: one for each of its calls that was answered. Their
 /// numbers rise strictly.
