@@ -1,3 +1,5 @@
+pub mod Standin
 pub mod Storm
 pub mod Played
 pub mod Faults
+pub mod Roaming

@@ -7,9 +7,9 @@ ghost use Rattle.step_log.specs.Log.{IsLog};
 ghost use Rattle.locked_net.specs.Nets.{nodes_of, limit_of};
 ghost use Rattle.storm_run.specs.Storm.{IsStorm};
 
-use crate::forks::play_all;
+use crate::beside::play_beside;
 use crate::stage::Stage;
-use crate::{PlayFault, Script};
+use crate::{Crew, PlayFault, Script};
 use locked_net::{CallFault, Clerk, LockedNet, settle};
 use rule_machine::Want;
 use rule_set::Rules;
@@ -41,19 +41,21 @@ fn clerks_of<R: Rules>(alloc: Global, net: &LockedNet<R>, count: usize) -> Resul
 /// `Unsettled` where clerks and log do not settle; `Memory` where there is none for a clerk for each script before they are
 /// played, or for settling. It waits for the network's lock, for the gate, and for the threads that it starts: one for each
 /// script but one. Beside what the calls take, it takes a clerk for each script and a byte for each entry of the log.
-pub fn storm<R: Rules + Send, G: Gate + Sync, T: Threads + Wait + Sync>(
+pub fn storm<R: Rules + Send + Sync, G: Gate + Sync, T: Threads + Wait + Sync>(
     rt: &T,
     alloc: Global,
     net: LockedNet<R>,
     scripts: &[Script],
+    crew: Crew,
     gate: &G,
 ) -> Result<(Journal<R>, Option<CallFault>), PlayFault>
     requires { length scripts.now ≤ 64 }
-    ensures storm { IfOk result (λ left. IsStorm left.0.entries scripts.now left.1) }
+    ensures storm { IfOk result (λ left. IsStorm left.0.entries scripts.now crew.roamers crew.turns left.1) }
     ensures run { IfOk result (λ left. IsLog R.table left.0) }
     ensures size { IfOk result (λ left. (node_count left.0.state.network ≡ nodes_of net) × (left.0.limit ≡ limit_of net)) }
 {
-    let Ok(mut clerks) = clerks_of(alloc, &net, scripts.len()) else {
+    let count = scripts.len() + crew.roamers as usize;
+    let Ok(mut clerks) = clerks_of(alloc, &net, count) else {
         net.into_journal(rt);
         return Err(PlayFault::Memory);
     };
@@ -61,8 +63,9 @@ pub fn storm<R: Rules + Send, G: Gate + Sync, T: Threads + Wait + Sync>(
         alloc,
         net: &net,
         gate,
+        crew,
     };
-    let fault = play_all(rt, &stage, 0, scripts, &mut clerks);
+    let fault = play_beside(rt, &stage, scripts, &mut clerks);
     match settle(rt, net, clerks) {
         Ok(journal) => Ok((journal, fault)),
         Err(unsettled) => Err(PlayFault::from(unsettled.why)),
