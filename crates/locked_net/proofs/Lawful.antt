@@ -72,7 +72,7 @@ record IsFine (t : RuleTable) (s : State) (item : Item) : Type 0 where
   rule : is_some (rule_at t s item.node) ≡ true
   free : item.wish ≡ None
 
-taken_by : (t : RuleTable) (s : State) (item : Item) (here twice : Bool) (rule : Option Act) → here ≡ true → twice ≡ false → is_some rule ≡ true → item.wish ≡ None
+pub taken_by : (t : RuleTable) (s : State) (item : Item) (here twice : Bool) (rule : Option Act) → here ≡ true → twice ≡ false → is_some rule ≡ true → item.wish ≡ None
     → (if not here then Some UnknownNode else (if twice then Some ChosenTwice else rule_refusal t s item rule)) ≡ None
 taken_by t s item true false (Some act) h n r free = ap (wish_refusal (t.allowed s item.node act)) free
 taken_by t s item false twice rule h n r free = absurd (true≢false (sym h))
@@ -107,7 +107,7 @@ all_fine t s (item ∷ items) each = (each 0 item (omega arith), all_fine t s it
 
 -- ---- the choice
 
-few_alone : (central : Bool) (n : ℕ) → (IsTrue central → n ≡ 1) → (central && nat_lt 1 n) ≡ false
+pub few_alone : (central : Bool) (n : ℕ) → (IsTrue central → n ≡ 1) → (central && nat_lt 1 n) ≡ false
 few_alone true n one = ap (nat_lt 1) (one refl)
 few_alone false n one = refl
 

@@ -4,3 +4,5 @@ pub mod Calls
 pub mod Marks
 pub mod Sizes
 pub mod Nets
+pub mod Roaming
+pub mod Roamed

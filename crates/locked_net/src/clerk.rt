@@ -10,6 +10,7 @@ use step_log::Receipt;
 mod calls;
 mod chosen;
 mod locked;
+mod lone;
 
 /// A caller of a network, seen in contracts as its receipts, oldest first: one for each of its calls that was answered. Their
 /// numbers rise strictly.

@@ -1,0 +1,144 @@
+-- What clerks that roamed turn for turn have, and what is told of their fault.
+use Rattle.std.proofs.Common.{◌≡◌, ◌∙◌, ℕ, zero, suc, ◌+◌, ◌<◌, ◌≤◌, Bool, true, false, List, [], ◌∷◌, ◌++◌, length, take, drop, min, Option, None, Some, if◌then◌else◌, nat_eq, nat_lt, refl, sym, ap, subst, append_assoc, length-append, arith}
+use Rattle.std.specs.List.{All, slice_get}
+use Rattle.std.proofs.lemmas.Bool.{ltb-true}
+use Rattle.std.proofs.lemmas.List.{append-nil}
+use Rattle.std.proofs.lemmas.Option.{same_Some, none-some}
+use Rattle.std.proofs.lemmas.List.Elements.{All-nil, All-cons, All-append}
+use Rattle.rule_machine.specs.RuleTable.{RuleTable}
+use Rattle.step_log.specs.declared.receipt.Receipt.{Receipt}
+use Rattle.step_log.specs.Log.{Log, receipt_of}
+use Rattle.locked_net.specs.Receipts.{front_of}
+use Rattle.locked_net.specs.declared.call_fault.CallFault.{CallFault}
+use Rattle.locked_net.specs.declared.call_fault.CallFault.TheVariants.{Behind, LogFull, Memory}
+use Rattle.locked_net.specs.declared.roam_fault.RoamFault.{RoamFault}
+use Rattle.locked_net.specs.Calls.{Explains, MayAnswer}
+use Rattle.locked_net.specs.Roaming.{mover, lone_step, receipts_by, receipts_of_turn, FaultBy}
+use Rattle.locked_net.specs.Roamed.{IsLoneStep, Roams, AllRoam, Roamed, MayStop, TakesTurns, MayEnd, AllEnd, roam_fault}
+use Rattle.locked_net.proofs.Movers.{mover_answers}
+
+-- ---- receipts
+
+-- what a turn tells
+record IsTold (told : List Receipt) : Type 0 where
+  few : length told ≤ 1
+  lone : All IsLoneStep told
+
+turn_told : (t : RuleTable) (log : Log) (turn : ℕ) (chosen : Option ℕ) → mover t log.state turn ≡ chosen → IsTold (receipts_by t log chosen)
+turn_told t log turn None is = record { few = omega arith; lone = All-nil IsLoneStep }
+turn_told t log turn (Some v) is =
+    let answered = mover_answers t log.state turn v log.spent is in
+    let receipt : Receipt = receipt_of t log (lone_step v) in
+    let own : IsLoneStep receipt = record { node = v; move = answered.move; stepped = refl; moved = answered.answer; own = answered.own } in
+    record { few = omega arith; lone = All-cons IsLoneStep receipt [] own (All-nil IsLoneStep) }
+
+turns_roam : (t : RuleTable) (turns : ℕ) (old new : List Receipt) → TakesTurns t turns old new → Roams turns old new
+turns_roam t zero old new is = record { own = []; added = is ∙ sym (append-nil old); few = omega arith; lone = All-nil IsLoneStep }
+turns_roam t (suc turn) old new (before, taken, last) =
+    let so_far = turns_roam t turn old before taken in
+    let told = receipts_of_turn t last.log turn in
+    let more = turn_told t last.log turn (mover t last.log.state turn) refl in
+    record {
+      own = so_far.own ++ told;
+      added = last.added ∙ ap (λ rs. rs ++ told) so_far.added ∙ append_assoc old so_far.own told;
+      few = omega (arith, length-append so_far.own told, so_far.few, more.few);
+      lone = All-append IsLoneStep so_far.own told so_far.lone more.lone;
+    }
+
+end_roams : (t : RuleTable) (turns : ℕ) (old new : List Receipt) (fault : Option CallFault) → MayEnd t turns old new fault → Roams turns old new
+end_roams t turns old new None taken = turns_roam t turns old new taken
+end_roams t turns old new (Some fault) broken =
+    let some = turns_roam t broken.turn old new broken.taken in
+    record { own = some.own; added = some.added; few = omega (arith, some.few, broken.below); lone = some.lone }
+
+all_roam : (t : RuleTable) (turns : ℕ) (olds news : List (List Receipt)) (fault : Option CallFault) → AllEnd t turns olds news fault → AllRoam turns olds news
+all_roam t turns [] [] fault ends = tt
+all_roam t turns [] (new ∷ news) fault ends = absurd ends
+all_roam t turns (old ∷ olds) [] fault ends = absurd ends
+all_roam t turns (old ∷ olds) (new ∷ news) fault (own, others, is, ended, ends) = (end_roams t turns old new own ended, all_roam t turns olds news others ends)
+
+-- ---- the first of them
+
+-- a list in two parts, the first of which has n, or fewer and all
+front_part : {X : Type 0} (n : ℕ) (part rest : List X) → length part ≤ n → (length part < n → rest ≡ []) → take n (part ++ rest) ≡ part
+front_part zero [] rest few all = refl
+front_part (suc n) [] rest few all = ap (take (suc n)) (all (omega arith))
+front_part zero (x ∷ part) rest few all = absurd (omega (arith, few))
+front_part (suc n) (x ∷ part) rest few all = ap (λ xs. x ∷ xs) (front_part n part rest (omega (arith, few)) (λ less. all (omega (arith, less))))
+
+back_part : {X : Type 0} (n : ℕ) (part rest : List X) → length part ≤ n → (length part < n → rest ≡ []) → drop n (part ++ rest) ≡ rest
+back_part zero [] rest few all = refl
+back_part (suc n) [] rest few all = let none = all (omega arith) in ap (drop (suc n)) none ∙ sym none
+back_part zero (x ∷ part) rest few all = absurd (omega (arith, few))
+back_part (suc n) (x ∷ part) rest few all = back_part n part rest (omega (arith, few)) (λ less. all (omega (arith, less)))
+
+empty : {X : Type 0} (xs : List X) → length xs ≡ 0 → xs ≡ []
+empty [] none = refl
+empty (x ∷ xs) none = absurd (omega (arith, none))
+
+-- the first 64 of a row, or all
+record IsFront (whole part rest : List (List Receipt)) : Type 0 where
+  few : length part ≤ 64
+  all : length part < 64 → rest ≡ []
+
+front_of_row : (whole part rest : List (List Receipt)) → whole ≡ part ++ rest → length part ≡ min (length whole) 64 → IsFront whole part rest
+front_of_row whole part rest value size =
+    let lengths : length whole ≡ length part + length rest = ap length value ∙ length-append part rest in
+    record { few = omega (arith, size); all = λ less. empty rest (omega (arith, less, size, lengths)) }
+
+pub first_roamed : (t : RuleTable) (turns : ℕ) (whole part new rest : List (List Receipt)) (fault : Option CallFault) → whole ≡ part ++ rest → length part ≡ min (length whole) 64 → length new ≡ length part
+    → AllEnd t turns part new fault → Roamed turns whole (new ++ rest)
+first_roamed t turns whole part new rest fault value size same ends =
+    let front = front_of_row whole part rest value size in
+    let more : length new < 64 → rest ≡ [] = λ less. front.all (omega (arith, less, same)) in
+    let few : length new ≤ 64 = omega (arith, front.few, same) in
+    let olds : take 64 whole ≡ part = ap (take 64) value ∙ front_part 64 part rest front.few front.all in
+    let news : take 64 (new ++ rest) ≡ new = front_part 64 new rest few more in
+    record {
+      workers = subst (λ rs. AllRoam turns rs (take 64 (new ++ rest))) (sym olds) (subst (AllRoam turns part) (sym news) (all_roam t turns part new fault ends));
+      others = back_part 64 new rest few more ∙ sym (ap (drop 64) value ∙ back_part 64 part rest front.few front.all);
+    }
+
+-- ---- the fault
+
+explained : (seen : ℕ) (log : Log) (fault : CallFault) (behind full : Bool) → nat_lt (length log.entries) seen ≡ behind
+    → Explains (if behind then Some (Behind (length log.entries) seen) else (if full then Some LogFull else None)) fault → MayAnswer seen fault
+explained seen log fault true full less is = subst (MayAnswer seen) (sym is) (refl, ltb-true (length log.entries) seen less)
+explained seen log fault false true less is = subst (MayAnswer seen) (sym is) tt
+explained seen log fault false false less is = subst (MayAnswer seen) (sym is) tt
+
+met_answers : (seen : ℕ) (log : Log) (chosen : Option ℕ) (fault : CallFault) → FaultBy seen log chosen fault → MayAnswer seen fault
+met_answers seen log None fault met = absurd met
+met_answers seen log (Some v) fault met = explained seen log fault (nat_lt (length log.entries) seen) (nat_eq (length log.entries) log.limit) refl met
+
+-- one of these clerks met the fault
+record IsMet (clerks : List (List Receipt)) (workers : ℕ) (fault : CallFault) : Type 0 where
+  clerk : ℕ
+  receipts : List Receipt
+  worker : clerk < workers
+  has : slice_get clerks clerk ≡ Some receipts
+  may : MayAnswer (front_of receipts) fault
+
+fault_met : (t : RuleTable) (turns : ℕ) (olds news rest : List (List Receipt)) (first : Option CallFault) (fault : CallFault) → AllEnd t turns olds news first → first ≡ Some fault → IsMet (news ++ rest) (length olds) fault
+fault_met t turns [] [] rest first fault ends is = absurd (none-some fault (sym ends ∙ is))
+fault_met t turns [] (new ∷ news) rest first fault ends is = absurd ends
+fault_met t turns (old ∷ olds) [] rest first fault ends is = absurd ends
+fault_met t turns (old ∷ olds) (new ∷ news) rest first fault (None, others, first_is, ended, ends) is =
+    let later = fault_met t turns olds news rest others fault ends (sym first_is ∙ is) in
+    record { clerk = suc later.clerk; receipts = later.receipts; worker = omega (arith, later.worker); has = later.has; may = later.may }
+fault_met t turns (old ∷ olds) (new ∷ news) rest first fault (Some own, others, first_is, ended, ends) is =
+    let same : own ≡ fault = same_Some own fault (sym first_is ∙ is) in
+    let may = met_answers (front_of new) ended.met.log (mover t ended.met.log.state ended.turn) own ended.met.met in
+    record { clerk = 0; receipts = new; worker = omega arith; has = refl; may = subst (MayAnswer (front_of new)) same may }
+
+stops : (clerks : List (List Receipt)) (workers : ℕ) (fault : CallFault) → workers ≤ 64 → IsMet clerks workers fault → MayStop clerks (roam_fault fault)
+stops clerks workers (Behind front seen) few met =
+    record { clerk = met.clerk; receipts = met.receipts; worker = omega (arith, few, met.worker); has = met.has; own = met.may.0; fewer = subst (λ n. front < n) (sym met.may.0) met.may.1 }
+stops clerks workers LogFull few met = tt
+stops clerks workers Memory few met = tt
+
+pub may_stop : (t : RuleTable) (turns : ℕ) (whole part new rest : List (List Receipt)) (first : Option CallFault) (fault : CallFault) (told : RoamFault) → whole ≡ part ++ rest → length part ≡ min (length whole) 64
+    → AllEnd t turns part new first → first ≡ Some fault → told ≡ roam_fault fault → MayStop (new ++ rest) told
+may_stop t turns whole part new rest first fault told value size ends is told_is =
+    let front = front_of_row whole part rest value size in
+    subst (MayStop (new ++ rest)) (sym told_is) (stops (new ++ rest) (length part) fault front.few (fault_met t turns part new rest first fault ends is))

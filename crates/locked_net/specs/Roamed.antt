@@ -1,0 +1,109 @@
+-- What clerks that roam leave behind.
+--
+-- A clerk that roams takes its turns one after another, each under one hold of the network's lock: between two of them anybody may
+-- have recorded anything. So a turn is taken on some log, a run of the rule machine, and what it tells the clerk is what this log
+-- makes of it.
+use Rattle.std.specs.Prelude.{◌≡◌, ℕ, zero, suc, ◌<◌, ◌≤◌, List, [], ◌∷◌, ◌++◌, length, take, drop, slice_get, Option, None, Some}
+use Rattle.std.specs.List.{All}
+use Rattle.std.specs.Option.{option_or}
+use Rattle.rule_machine.specs.declared.moved.Moved.{Moved}
+use Rattle.rule_machine.specs.declared.reply.Reply.TheVariants.{Moves}
+use Rattle.rule_machine.specs.RuleTable.{RuleTable}
+use Rattle.step_log.specs.declared.receipt.Receipt.{Receipt}
+use Rattle.step_log.specs.Log.{Log, IsLog}
+use Rattle.locked_net.specs.Receipts.{front_of}
+use Rattle.locked_net.specs.Roaming.{lone_step, receipts_of_turn, fault_of_turn, FaultInTurn}
+use Rattle.locked_net.specs.declared.call_fault.CallFault.{CallFault}
+use Rattle.locked_net.specs.declared.call_fault.CallFault.TheVariants as call_fault
+use Rattle.locked_net.specs.declared.roam_fault.RoamFault.{RoamFault}
+use Rattle.locked_net.specs.declared.roam_fault.RoamFault.TheVariants.{ZeroWorkers, Thread, Behind, LogFull, Memory}
+
+-- ---- what a caller is promised
+
+-- The receipt of an accepted step of one node, which moved to any target.
+pub record IsLoneStep (receipt : Receipt) : Type 0 where
+  pub node : ℕ
+  pub move : Moved
+  pub stepped : receipt.event ≡ lone_step node
+  pub moved : receipt.reply ≡ Moves (move ∷ [])
+  pub own : move.node ≡ node
+
+-- A clerk has the receipts that it had, and behind them at most so many, each of an accepted step of one node.
+pub record Roams (turns : ℕ) (old new : List Receipt) : Type 0 where
+  pub own : List Receipt
+  pub added : new ≡ old ++ own
+  pub few : length own ≤ turns
+  pub lone : All IsLoneStep own
+
+-- so has each of these clerks
+abbrev pub AllRoam : ℕ → List (List Receipt) → List (List Receipt) → Type 0
+AllRoam turns [] [] = Unit {0}
+AllRoam turns (old ∷ olds) (new ∷ news) = Roams turns old new × AllRoam turns olds news
+AllRoam turns olds news = ⊥
+
+-- So has each of the first 64 clerks; the others are as before.
+pub record Roamed (turns : ℕ) (old new : List (List Receipt)) : Type 0 where
+  pub workers : AllRoam turns (take 64 old) (take 64 new)
+  pub others : drop 64 new ≡ drop 64 old
+
+-- One of the first 64 clerks has seen so many entries, and met a log of fewer.
+pub record IsBehind (clerks : List (List Receipt)) (front seen : ℕ) : Type 0 where
+  pub clerk : ℕ
+  pub receipts : List Receipt
+  pub worker : clerk < 64
+  pub has : slice_get clerks clerk ≡ Some receipts
+  pub own : seen ≡ front_of receipts
+  pub fewer : front < seen
+
+-- what can be told of a fault without a look at the log
+abbrev pub MayStop : List (List Receipt) → RoamFault → Type 0
+MayStop clerks ZeroWorkers = clerks ≡ []
+MayStop clerks Thread = ⊥
+MayStop clerks (Behind front seen) = IsBehind clerks front seen
+MayStop clerks LogFull = Unit {0}
+MayStop clerks Memory = Unit {0}
+
+-- ---- turn for turn
+
+-- A turn was taken.
+pub record TakesTurn (t : RuleTable) (turn : ℕ) (old new : List Receipt) : Type 0 where
+  pub log : Log
+  pub run : IsLog t log
+  pub free : fault_of_turn t (front_of old) log turn ≡ None
+  pub added : new ≡ old ++ receipts_of_turn t log turn
+
+-- A turn met a fault.
+pub record MeetsFault (t : RuleTable) (turn : ℕ) (receipts : List Receipt) (fault : CallFault) : Type 0 where
+  pub log : Log
+  pub run : IsLog t log
+  pub met : FaultInTurn t (front_of receipts) log turn fault
+
+-- so many turns were taken, from turn 0
+abbrev pub TakesTurns : RuleTable → ℕ → List Receipt → List Receipt → Type 0
+TakesTurns t zero old new = new ≡ old
+TakesTurns t (suc turn) old new = (before : List Receipt) × TakesTurns t turn old before × TakesTurn t turn before new
+
+-- Fewer were taken, and the next met a fault.
+pub record BreaksOff (t : RuleTable) (turns : ℕ) (old new : List Receipt) (fault : CallFault) : Type 0 where
+  pub turn : ℕ
+  pub below : turn < turns
+  pub taken : TakesTurns t turn old new
+  pub met : MeetsFault t turn new fault
+
+-- a clerk roamed to its last turn, or up to a fault
+abbrev pub MayEnd : RuleTable → ℕ → List Receipt → List Receipt → Option CallFault → Type 0
+MayEnd t turns old new None = TakesTurns t turns old new
+MayEnd t turns old new (Some fault) = BreaksOff t turns old new fault
+
+-- Each clerk roamed; the fault is the first that a clerk met, in their order, and there is none where each took all its turns.
+abbrev pub AllEnd : RuleTable → ℕ → List (List Receipt) → List (List Receipt) → Option CallFault → Type 0
+AllEnd t turns [] [] fault = fault ≡ None
+AllEnd t turns (old ∷ olds) (new ∷ news) fault =
+    (own : Option CallFault) × (others : Option CallFault) × (fault ≡ option_or own others) × MayEnd t turns old new own × AllEnd t turns olds news others
+AllEnd t turns olds news fault = ⊥
+
+-- a call's fault as that of the clerks
+abbrev pub roam_fault : CallFault → RoamFault
+roam_fault (call_fault.Behind front seen) = Behind front seen
+roam_fault call_fault.LogFull = LogFull
+roam_fault call_fault.Memory = Memory

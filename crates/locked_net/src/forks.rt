@@ -1,0 +1,76 @@
+//! How many clerks roam at once.
+
+ghost use Rattle.std.specs.Prelude.{◌≡◌, ◌+◌, ◌<◌, ◌^◌, length};
+ghost use Rattle.std.specs.Thread.{IsSync, IsSend};
+ghost use Rattle.locked_net.specs.Roamed.{AllEnd};
+
+use crate::round::{Round, take_turns};
+use crate::{CallFault, Clerk};
+use rule_engine::Rules;
+use std::sync::Wait;
+use std::thread::{Threads, join_mut};
+use steal_pool::Gate;
+
+/// Lets the clerk roam, if there is one.
+fn roam_first<R: Rules, G: Gate, W: Wait>(
+    rt: &W,
+    round: &Round<R, G>,
+    worker: u32,
+    clerks: &mut [Clerk],
+) -> Option<CallFault>
+    requires { length clerks.old < 2 }
+    ensures { AllEnd R.table round.now.turns clerks.old clerks.new result }
+{
+    if clerks.is_empty() {
+        return None;
+    }
+    take_turns(rt, round, worker, &mut clerks[0]).err()
+}
+
+/// Lets each clerk roam, all at once where threads can be had, and answers the first fault in their order. The first clerk's
+/// worker has the number handed in.
+#[cycle(forks)]
+pub(crate) fn roam_all<R: Rules + Send, G: Gate + Sync, T: Threads + Wait + Sync>(
+    rt: &T,
+    round: &Round<R, G>,
+    first: u32,
+    clerks: &mut [Clerk],
+) -> Option<CallFault>
+    requires { first + length clerks.old < 2 ^ 32 }
+    ensures { AllEnd R.table round.now.turns clerks.old clerks.new result }
+{
+    if clerks.len() < 2 {
+        return roam_first(rt, round, first, clerks);
+    }
+    let middle = clerks.len() / 2;
+    let (ours, theirs) = clerks.split_at_mut(middle);
+    let (fault, other) = roam_halves(rt, round, first, ours, theirs);
+    fault.or(other)
+}
+
+/// Lets two rows of clerks roam at once, where a thread can be had.
+#[cycle(forks)]
+fn roam_halves<R: Rules + Send, G: Gate + Sync, T: Threads + Wait + Sync>(
+    rt: &T,
+    round: &Round<R, G>,
+    first: u32,
+    ours: &mut [Clerk],
+    theirs: &mut [Clerk],
+) -> (Option<CallFault>, Option<CallFault>)
+    requires { first + length ours.old + length theirs.old < 2 ^ 32 }
+    ensures ours { AllEnd R.table round.now.turns ours.old ours.new result.0 }
+    ensures theirs { AllEnd R.table round.now.turns theirs.old theirs.new result.1 }
+{
+    let second = first + ours.len() as u32;
+    join_mut(
+        rt,
+        &mut || -> Option<CallFault>
+            requires { IsSync T.row × IsSync G.row × IsSend R.row × (first + length ours.now < 2 ^ 32) }
+            ensures { AllEnd R.table round.entry.now.turns ours.entry.now ours.exit.now result }
+        { roam_all(rt, round, first, ours) },
+        &mut || -> Option<CallFault>
+            requires { IsSync T.row × IsSync G.row × IsSend R.row × (second + length theirs.now < 2 ^ 32) }
+            ensures { AllEnd R.table round.entry.now.turns theirs.entry.now theirs.exit.now result }
+        { roam_all(rt, round, second, theirs) },
+    )
+}

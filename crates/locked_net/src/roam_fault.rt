@@ -1,0 +1,44 @@
+//! Why clerks did not roam to their last turns.
+
+use crate::CallFault;
+use thiserror::Error;
+
+/// Why clerks did not roam to their last turns.
+#[derive(Clone, Copy, Debug, PartialEq, Eq, Error)]
+pub enum RoamFault {
+    /// There were no clerks.
+    #[error("no workers")]
+    ZeroWorkers,
+    /// A thread could not be started. `roam` answers it never: clerks roam one after another then.
+    #[error("no thread")]
+    Thread,
+    /// The log holds fewer entries than a clerk has seen: it has called another network.
+    #[error("behind")]
+    Behind {
+        /// How many entries the log holds.
+        front: u32,
+        /// The greatest entry number that the clerk has seen.
+        seen: u32,
+    },
+    /// The log holds as many entries as it may.
+    #[error("log full")]
+    LogFull,
+    /// A growth of memory was refused.
+    #[error("out of memory")]
+    Memory,
+}
+
+impl From<CallFault> for RoamFault {
+    ghost use Rattle.std.specs.Prelude.{◌≡◌};
+    ghost use Rattle.locked_net.specs.Roamed.{roam_fault};
+
+    ghost from_gives = { λ why fault. fault ≡ roam_fault why };
+
+    fn from(why: CallFault) -> RoamFault {
+        match why {
+            CallFault::Behind { front, seen } => RoamFault::Behind { front, seen },
+            CallFault::LogFull => RoamFault::LogFull,
+            CallFault::Memory => RoamFault::Memory,
+        }
+    }
+}

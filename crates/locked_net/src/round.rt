@@ -1,0 +1,52 @@
+//! How one clerk roams.
+
+ghost use Rattle.std.specs.Prelude.{◌≡◌, IfErr, OnOk, OnErr};
+ghost use Rattle.std.specs.Result.{result_err};
+ghost use Rattle.locked_net.specs.Roamed.{TakesTurn, MeetsFault, MayEnd};
+
+use crate::{CallFault, Clerk, LockedNet};
+use rule_engine::Rules;
+use std::sync::Wait;
+use steal_pool::Gate;
+
+/// The network in which clerks roam, the gate that they pass, and how many turns each has.
+#[derive(Drop)]
+pub(crate) struct Round<'a, R: Rules, G: Gate> {
+    pub net: &'a LockedNet<R>,
+    pub gate: &'a G,
+    pub turns: u32,
+}
+
+/// Takes a turn under one hold of the network's lock.
+fn take_turn<R: Rules, W: Wait>(
+    rt: &W,
+    net: &LockedNet<R>,
+    clerk: &mut Clerk,
+    turn: u32,
+) -> Result<(), CallFault>
+    ensures turn { OnOk result (TakesTurn R.table turn clerk.old clerk.new) }
+    ensures fault { IfErr result (λ fault. MeetsFault R.table turn clerk.old fault) }
+    ensures kept { OnErr result (clerk.new ≡ clerk.old) }
+{
+    let (mut journal, hold) = net.take(rt);
+    let answer = clerk.roam_on(net.alloc(), &mut journal, turn);
+    net.give(hold, journal);
+    answer
+}
+
+/// Takes a clerk's turns in order, up to the last or a fault. Before each, the gate is passed with the number of the worker and
+/// that of the turn.
+pub(crate) fn take_turns<R: Rules, G: Gate, W: Wait>(
+    rt: &W,
+    round: &Round<R, G>,
+    worker: u32,
+    clerk: &mut Clerk,
+) -> Result<(), CallFault>
+    ensures { MayEnd R.table round.now.turns clerk.old clerk.new (result_err result) }
+{
+    for turn in 0..round.turns {
+        round.gate.pass(rt, worker, turn);
+        take_turn(rt, round.net, clerk, turn)?;
+    }
+    Ok(())
+}
