@@ -1,4 +1,3 @@
-pub mod Standin
 pub mod Storm
 pub mod Played
 pub mod Faults

@@ -18,7 +18,7 @@ use Rattle.step_log.specs.declared.receipt.Receipt.{Receipt}
 use Rattle.script_line.specs.declared.command.Command.{Command}
 use Rattle.script_line.specs.declared.command.Command.TheVariants.{Tell, Drive, Scramble}
 use Rattle.locked_net.specs.Settled.{Settled}
-use Rattle.storm_run.specs.Standin.{IsLoneStep}
+use Rattle.locked_net.specs.Roamed.{IsLoneStep}
 use Rattle.locked_net.specs.declared.call_fault.CallFault.{CallFault}
 use Rattle.storm_run.specs.declared.script.ScriptLine.{ScriptLine}
 

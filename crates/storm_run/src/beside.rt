@@ -1,18 +1,17 @@
 //! Scripts that are played while workers roam beside them.
 
-ghost use Rattle.std.specs.Prelude.{◌≡◌, ◌≢◌, ◌↔◌, ◌+◌, ◌≤◌, [], length, IsErrOf, IfErr};
+ghost use Rattle.std.specs.Prelude.{◌≡◌, ◌≢◌, ◌+◌, ◌≤◌, [], length, IfErr};
 ghost use Rattle.std.specs.List.{All};
 ghost use Rattle.std.specs.Option.{option_or};
 ghost use Rattle.std.specs.Thread.{IsSync, IsSend};
-ghost use Rattle.storm_run.specs.declared.standin.RoamFault.TheVariants.{ZeroWorkers, Thread};
-ghost use Rattle.storm_run.specs.Storm.{AllPlayed, IsRoaming, AllTold};
-ghost use Rattle.storm_run.specs.Roaming.{roam_fault};
+ghost use Rattle.locked_net.specs.declared.roam_fault.RoamFault.TheVariants.{Thread};
+ghost use Rattle.storm_run.specs.Storm.{AllPlayed, AllTold};
+ghost use Rattle.storm_run.specs.Roaming.{RoamedAfresh, roam_fault};
 
 use crate::Script;
 use crate::forks::play_all;
 use crate::stage::Stage;
-use crate::standin::{RoamFault, roam};
-use locked_net::{CallFault, Clerk};
+use locked_net::{CallFault, Clerk, RoamFault, roam};
 use rule_set::Rules;
 use std::sync::Wait;
 use std::thread::{Threads, join_mut};
@@ -50,10 +49,7 @@ fn play_and_roam<R: Rules + Send + Sync, G: Gate + Sync, T: Threads + Wait + Syn
     requires own_fresh { All (λ receipts. receipts ≡ []) own.old }
     requires roaming_fresh { All (λ receipts. receipts ≡ []) roaming.old }
     ensures played { AllPlayed scripts.now own.new result.0 }
-    ensures as_many { length roaming.new ≡ length roaming.old }
-    ensures roamed { All (IsRoaming stage.now.crew.turns) roaming.new }
-    ensures none { IsErrOf result.1 ZeroWorkers ↔ (roaming.old ≡ []) }
-    ensures thread { IfErr result.1 (λ fault. fault ≢ Thread) }
+    ensures roamed { RoamedAfresh stage.now.crew.turns roaming.old roaming.new result.1 }
 {
     if roaming.is_empty() {
         return (
@@ -66,7 +62,7 @@ fn play_and_roam<R: Rules + Send + Sync, G: Gate + Sync, T: Threads + Wait + Syn
         rt,
         &mut || -> Result<(), RoamFault>
             requires { IsSync T.row × IsSend R.row × (length roaming.now ≤ 64) × All (λ receipts. receipts ≡ []) roaming.now }
-            ensures { (length roaming.exit.now ≡ length roaming.entry.now) × All (IsRoaming turns) roaming.exit.now × (IsErrOf result ZeroWorkers ↔ (roaming.entry.now ≡ [])) × IfErr result (λ fault. fault ≢ Thread) }
+            ensures { RoamedAfresh turns roaming.entry.now roaming.exit.now result }
         { roam_new(rt, stage, turns, roaming) },
         &mut || -> Option<CallFault>
             requires { IsSync T.row × IsSync G.row × IsSend R.row × IsSync R.row × (length scripts.now ≡ length own.now) × (length scripts.now ≤ 64) × All (λ receipts. receipts ≡ []) own.now }
@@ -85,10 +81,7 @@ fn roam_new<R: Rules + Send, G: Gate, T: Threads + Wait + Sync>(
 ) -> Result<(), RoamFault>
     requires few { length clerks.old ≤ 64 }
     requires fresh { All (λ receipts. receipts ≡ []) clerks.old }
-    ensures as_many { length clerks.new ≡ length clerks.old }
-    ensures roamed { All (IsRoaming turns) clerks.new }
-    ensures none { IsErrOf result ZeroWorkers ↔ (clerks.old ≡ []) }
-    ensures thread { IfErr result (λ fault. fault ≢ Thread) }
+    ensures { RoamedAfresh turns clerks.old clerks.new result }
 {
     roam(rt, stage.net, clerks, turns, &NoGate)
 }
@@ -99,7 +92,8 @@ fn first_fault(met: Option<CallFault>, roamed: Result<(), RoamFault>) -> Option<
     ensures { result ≡ option_or met (roam_fault roamed) }
 {
     let other = match roamed {
-        Ok(()) | Err(RoamFault::ZeroWorkers | RoamFault::Thread) => None,
+        Ok(()) | Err(RoamFault::ZeroWorkers) => None,
+        Err(RoamFault::Thread) => unreachable!(),
         Err(RoamFault::Behind { front, seen }) => Some(CallFault::Behind { front, seen }),
         Err(RoamFault::LogFull) => Some(CallFault::LogFull),
         Err(RoamFault::Memory) => Some(CallFault::Memory),

@@ -9,7 +9,6 @@ mod play;
 mod run;
 mod script;
 mod stage;
-mod standin;
 mod turns;
 
 pub use crew::Crew;
