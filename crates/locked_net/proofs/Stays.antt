@@ -14,7 +14,7 @@ use Rattle.locked_net.specs.declared.call_fault.CallFault.TheVariants.{Behind, L
 use Rattle.locked_net.specs.declared.roam_fault.RoamFault.{RoamFault}
 use Rattle.locked_net.specs.Calls.{Explains, MayAnswer}
 use Rattle.locked_net.specs.Roaming.{mover, lone_step, receipts_by, receipts_of_turn, FaultBy}
-use Rattle.locked_net.specs.Roamed.{IsLoneStep, Roams, AllRoam, Roamed, MayStop, TakesTurns, MayEnd, AllEnd, roam_fault}
+use Rattle.locked_net.specs.Roamed.{IsLoneStep, Roams, AllRoam, Roamed, MayStop, TakesTurns, AllTakeTurns, MayEnd, AllEnd, roam_fault}
 use Rattle.locked_net.proofs.Movers.{mover_answers}
 
 -- ---- receipts
@@ -86,18 +86,44 @@ front_of_row whole part rest value size =
     let lengths : length whole ≡ length part + length rest = ap length value ∙ length-append part rest in
     record { few = omega (arith, size); all = λ less. empty rest (omega (arith, less, size, lengths)) }
 
-pub first_roamed : (t : RuleTable) (turns : ℕ) (whole part new rest : List (List Receipt)) (fault : Option CallFault) → whole ≡ part ++ rest → length part ≡ min (length whole) 64 → length new ≡ length part
-    → AllEnd t turns part new fault → Roamed turns whole (new ++ rest)
-first_roamed t turns whole part new rest fault value size same ends =
+record IsSplit (whole part new rest : List (List Receipt)) : Type 0 where
+  olds : take 64 whole ≡ part
+  news : take 64 (new ++ rest) ≡ new
+  others : drop 64 (new ++ rest) ≡ drop 64 whole
+
+splits : (whole part new rest : List (List Receipt)) → whole ≡ part ++ rest → length part ≡ min (length whole) 64 → length new ≡ length part → IsSplit whole part new rest
+splits whole part new rest value size same =
     let front = front_of_row whole part rest value size in
     let more : length new < 64 → rest ≡ [] = λ less. front.all (omega (arith, less, same)) in
     let few : length new ≤ 64 = omega (arith, front.few, same) in
-    let olds : take 64 whole ≡ part = ap (take 64) value ∙ front_part 64 part rest front.few front.all in
-    let news : take 64 (new ++ rest) ≡ new = front_part 64 new rest few more in
     record {
-      workers = subst (λ rs. AllRoam turns rs (take 64 (new ++ rest))) (sym olds) (subst (AllRoam turns part) (sym news) (all_roam t turns part new fault ends));
+      olds = ap (take 64) value ∙ front_part 64 part rest front.few front.all;
+      news = front_part 64 new rest few more;
       others = back_part 64 new rest few more ∙ sym (ap (drop 64) value ∙ back_part 64 part rest front.few front.all);
     }
+
+pub first_roamed : (t : RuleTable) (turns : ℕ) (whole part new rest : List (List Receipt)) (fault : Option CallFault) → whole ≡ part ++ rest → length part ≡ min (length whole) 64 → length new ≡ length part
+    → AllEnd t turns part new fault → Roamed turns whole (new ++ rest)
+first_roamed t turns whole part new rest fault value size same ends =
+    let rows = splits whole part new rest value size same in
+    record {
+      workers = subst (λ rs. AllRoam turns rs (take 64 (new ++ rest))) (sym rows.olds) (subst (AllRoam turns part) (sym rows.news) (all_roam t turns part new fault ends));
+      others = rows.others;
+    }
+
+-- where there was no fault, each took all its turns
+all_taken : (t : RuleTable) (turns : ℕ) (olds news : List (List Receipt)) (fault : Option CallFault) → fault ≡ None → AllEnd t turns olds news fault → AllTakeTurns t turns olds news
+all_taken t turns [] [] fault none ends = tt
+all_taken t turns [] (new ∷ news) fault none ends = absurd ends
+all_taken t turns (old ∷ olds) [] fault none ends = absurd ends
+all_taken t turns (old ∷ olds) (new ∷ news) fault none (None, others, is, taken, ends) = (taken, all_taken t turns olds news others (sym is ∙ none) ends)
+all_taken t turns (old ∷ olds) (new ∷ news) fault none (Some own, others, is, broken, ends) = absurd (none-some own (sym none ∙ is))
+
+pub first_taken : (t : RuleTable) (turns : ℕ) (whole part new rest : List (List Receipt)) (fault : Option CallFault) → whole ≡ part ++ rest → length part ≡ min (length whole) 64 → length new ≡ length part
+    → AllEnd t turns part new fault → fault ≡ None → AllTakeTurns t turns (take 64 whole) (take 64 (new ++ rest))
+first_taken t turns whole part new rest fault value size same ends none =
+    let rows = splits whole part new rest value size same in
+    subst (λ rs. AllTakeTurns t turns rs (take 64 (new ++ rest))) (sym rows.olds) (subst (AllTakeTurns t turns part) (sym rows.news) (all_taken t turns part new fault none ends))
 
 -- ---- the fault
 

@@ -6,3 +6,4 @@ pub mod Sizes
 pub mod Nets
 pub mod Roaming
 pub mod Roamed
+pub mod Stepping

@@ -83,6 +83,12 @@ abbrev pub TakesTurns : RuleTable → ℕ → List Receipt → List Receipt → 
 TakesTurns t zero old new = new ≡ old
 TakesTurns t (suc turn) old new = (before : List Receipt) × TakesTurns t turn old before × TakesTurn t turn before new
 
+-- each of these clerks took so many
+abbrev pub AllTakeTurns : RuleTable → ℕ → List (List Receipt) → List (List Receipt) → Type 0
+AllTakeTurns t turns [] [] = Unit {0}
+AllTakeTurns t turns (old ∷ olds) (new ∷ news) = TakesTurns t turns old new × AllTakeTurns t turns olds news
+AllTakeTurns t turns olds news = ⊥
+
 -- Fewer were taken, and the next met a fault.
 pub record BreaksOff (t : RuleTable) (turns : ℕ) (old new : List Receipt) (fault : CallFault) : Type 0 where
   pub turn : ℕ

@@ -9,6 +9,7 @@ use step_log::Receipt;
 
 mod calls;
 mod chosen;
+mod judged;
 mod locked;
 mod lone;
 

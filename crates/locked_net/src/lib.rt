@@ -13,6 +13,7 @@ mod round;
 mod settle_fault;
 mod settling;
 mod size;
+mod step_fault;
 mod unsettled;
 
 pub use call_fault::CallFault;
@@ -23,4 +24,5 @@ pub use net::LockedNet;
 pub use roam_fault::RoamFault;
 pub use roaming::roam;
 pub use settle_fault::SettleFault;
+pub use step_fault::StepFault;
 pub use unsettled::Unsettled;

@@ -13,11 +13,16 @@ use std::alloc::Global;
 use std::process::Abort;
 use std::sync::Wait;
 
-fn shared<R: Rules>(rt: &impl Abort, alloc: Global, nodes: u32, limit: u32) -> LockedNet<R> {
+pub(crate) fn shared<R: Rules>(
+    rt: &impl Abort,
+    alloc: Global,
+    nodes: u32,
+    limit: u32,
+) -> LockedNet<R> {
     LockedNet::with_limit(alloc, nodes, limit).expect(rt, "a network")
 }
 
-fn clerk_of<R: Rules>(rt: &impl Abort, net: &LockedNet<R>) -> Clerk {
+pub(crate) fn clerk_of<R: Rules>(rt: &impl Abort, net: &LockedNet<R>) -> Clerk {
     net.clerk().expect(rt, "memory")
 }
 
@@ -27,7 +32,7 @@ fn link(rt: &impl Abort, a: u32, b: u32) -> Event {
 }
 
 /// Links two nodes by a clerk's call.
-fn expect_link<R: Rules, W: Wait + Abort>(
+pub(crate) fn expect_link<R: Rules, W: Wait + Abort>(
     rt: &W,
     clerk: &mut Clerk,
     net: &LockedNet<R>,
@@ -40,7 +45,7 @@ fn expect_link<R: Rules, W: Wait + Abort>(
 }
 
 /// The list of these clerks.
-fn both(rt: &impl Abort, alloc: Global, first: Clerk, second: Clerk) -> Vec<Clerk> {
+pub(crate) fn both(rt: &impl Abort, alloc: Global, first: Clerk, second: Clerk) -> Vec<Clerk> {
     let mut clerks = Vec::new(alloc);
     clerks.push(first).expect(rt, "memory");
     clerks.push(second).expect(rt, "memory");

@@ -1,9 +1,13 @@
-//! Tests of what threads share: clerks of one network, and scripts that are played at once.
+//! Tests of what threads share: clerks of one network, those that roam, and scripts that are played at once.
 #![tactic(auto)]
 
 #[cfg(test)]
 mod clerks;
 #[cfg(test)]
 mod helpers;
+#[cfg(test)]
+mod judged_steps;
+#[cfg(test)]
+mod roaming;
 #[cfg(test)]
 mod storms;

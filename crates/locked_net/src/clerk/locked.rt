@@ -1,17 +1,21 @@
 //! A clerk's calls: each takes the network's lock, and gives it back when it is done.
 
-ghost use Rattle.std.specs.Prelude.{◌≡◌, ◌↔◌, IsNone, IfOk, IfErr, OnErr, MatchOption};
+ghost use Rattle.std.specs.Prelude.{◌≡◌, ◌↔◌, ◌<◌, IsNone, IfOk, IfErr, OnOk, OnErr, MatchOption};
+ghost use Rattle.rule_machine.specs.declared.event.Event.TheVariants.{Step};
 ghost use Rattle.locked_net.specs.Nets.{nodes_of};
 ghost use Rattle.locked_net.specs.Receipts.{front_of};
 ghost use Rattle.locked_net.specs.Calls.{MayAnswer, Keeps, KeepsStep, KeepsFault};
+ghost use Rattle.locked_net.specs.Stepping.{MayAnswerStep};
 
 use super::Clerk;
-use crate::{CallFault, LockedNet};
+use crate::{CallFault, LockedNet, StepFault};
 use daemon::Daemon;
 use fault_injector::Injector;
 use rand_core::Rng;
-use rule_engine::{Event, Reply, Rules};
+use rule_engine::{Choice, Event, Reply, Rules};
 use std::sync::Wait;
+use std::thread::Threads;
+use steal_pool::Gate;
 
 impl Clerk {
     /// Carries out an event on the network, keeps a receipt of it, and answers the reply. Waits for the network's lock.
@@ -33,6 +37,31 @@ impl Clerk {
         net.give(hold, journal);
         answer
     }
+
+    /// Carries out a step, as `call` does, with the verdicts of its items found by as many workers, at most 64. They look at the
+    /// network as it is under the lock, which is held until they have joined; each passes the gate before each of its items.
+    ///
+    /// `Behind` and `LogFull` come before anything is judged, then `Pool(ZeroWorkers)` where there are no workers, then `Memory`; at
+    /// a fault nothing has changed.
+    pub fn step_with<R: Rules + Sync, G: Gate + Sync, T: Threads + Wait + Sync>(
+        &mut self,
+        rt: &T,
+        net: &LockedNet<R>,
+        choice: Choice,
+        workers: u32,
+        gate: &G,
+    ) -> Result<Reply, StepFault>
+        ensures receipt { IfOk result (λ reply. Keeps self.old self.new (Step choice) reply) }
+        ensures some { OnOk result (0 < workers) }
+        ensures fault { IfErr result (λ fault. MayAnswerStep (front_of self.old) workers fault) }
+        ensures kept { OnErr result (self.new ≡ self.old) }
+    {
+        let (mut journal, hold) = net.take(rt);
+        let answer = self.step_on(rt, net.alloc(), &mut journal, choice, workers, gate);
+        net.give(hold, journal);
+        answer
+    }
+
     /// Lets a daemon choose among the enabled nodes, carries out that step, keeps a receipt of it, and answers the reply,
     /// which has its moves; `None` where the daemon chose nothing, and nothing is logged then. Choice and record are made
     /// under one hold of the network's lock, for which it waits.

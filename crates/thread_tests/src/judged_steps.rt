@@ -1,0 +1,84 @@
+//! Clerks whose steps workers judge.
+
+use crate::clerks::{clerk_of, expect_link, shared};
+use crate::helpers::named;
+use locked_net::{CallFault, Clerk, LockedNet, StepFault};
+use rule_engine::{Act, Choice, Event, Item, Moved, Reply};
+use rules_manne::Manne;
+use std::alloc::Global;
+use std::process::Abort;
+use std::sync::Wait;
+use steal_pool::{NoGate, PoolFault};
+
+/// A star with three ends, the last of which is flagged, and the clerk that made it.
+fn flagged_star<W: Wait + Abort>(rt: &W, alloc: Global) -> (LockedNet<Manne>, Clerk) {
+    let net = shared::<Manne>(rt, alloc, 4, 9);
+    let mut clerk = clerk_of(rt, &net);
+    expect_link(rt, &mut clerk, &net, 1, 2);
+    expect_link(rt, &mut clerk, &net, 1, 3);
+    expect_link(rt, &mut clerk, &net, 1, 4);
+    let flag = Event::Flag(named(rt, 4), true);
+    assert!(rt; clerk.call(rt, &net, flag) == Ok(Reply::Accepted));
+    (net, clerk)
+}
+
+/// The choice of the flagged end and the centre.
+fn end_and_centre(rt: &impl Abort, alloc: Global) -> Choice {
+    let mut items = Vec::new(alloc);
+    for name in [4, 1] {
+        let node = named(rt, name);
+        items.push(Item { node, wish: None }).expect(rt, "memory");
+    }
+    Choice::new(items).expect(rt, "a choice")
+}
+
+/// Whether a step was answered by the centre's pointing at the third node, and then the flagged end's update.
+fn are_moves(rt: &impl Abort, told: Result<Reply, StepFault>) -> bool {
+    let Ok(Reply::Moves(moves)) = told else {
+        return false;
+    };
+    let centre = Moved {
+        node: named(rt, 1),
+        act: Act::Seduce,
+        target: Some(named(rt, 3)),
+    };
+    let end = Moved {
+        node: named(rt, 4),
+        act: Act::Update,
+        target: None,
+    };
+    let moves = moves.as_slice();
+    moves.len() == 2 && moves.first() == Some(&centre) && moves.last() == Some(&end)
+}
+
+#[test]
+fn workers_judge_a_step(rt: HostRuntime) {
+    let (net, mut clerk) = flagged_star(&rt, rt.alloc());
+    let choice = end_and_centre(&rt, rt.alloc());
+    let told = clerk.step_with(&rt, &net, choice, 4, &NoGate);
+    assert!(rt; are_moves(&rt, told));
+    assert!(rt; clerk.front() == 5);
+    assert!(rt; net.into_journal(&rt).len() == 5);
+}
+
+#[test]
+fn no_workers_judge_nothing(rt: HostRuntime) {
+    let (net, mut clerk) = flagged_star(&rt, rt.alloc());
+    let choice = end_and_centre(&rt, rt.alloc());
+    let told = clerk.step_with(&rt, &net, choice, 0, &NoGate);
+    assert!(rt; told == Err(StepFault::Pool(PoolFault::ZeroWorkers)));
+    assert!(rt; clerk.receipts().len() == 4);
+    assert!(rt; net.into_journal(&rt).len() == 4);
+}
+
+#[test]
+fn a_clerk_behind_is_told_before_its_workers_are_counted(rt: HostRuntime) {
+    let (net, mut clerk) = flagged_star(&rt, rt.alloc());
+    let new = shared::<Manne>(&rt, rt.alloc(), 4, 9);
+    let choice = end_and_centre(&rt, rt.alloc());
+    let behind = StepFault::Call(CallFault::Behind { front: 0, seen: 4 });
+    let told = clerk.step_with(&rt, &new, choice, 0, &NoGate);
+    assert!(rt; told == Err(behind));
+    assert!(rt; new.into_journal(&rt).len() == 0);
+    assert!(rt; net.into_journal(&rt).len() == 4);
+}

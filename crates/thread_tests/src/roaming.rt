@@ -1,0 +1,135 @@
+//! Clerks that roam.
+
+use crate::clerks::{both, clerk_of, expect_link, shared};
+use crate::helpers::named;
+use locked_net::{Clerk, LockedNet, RoamFault, roam, settle};
+use rule_engine::{Edge, Event, Reply, Rules};
+use rules_hsu_huang::HsuHuang;
+use std::alloc::Global;
+use std::process::Abort;
+use std::sync::Wait;
+use std::sync::atomic::{AtomicU64, Ordering};
+use steal_pool::{Gate, NoGate};
+use step_log::Journal;
+
+/// Two clerks who have called nobody.
+fn two_clerks<R: Rules>(rt: &impl Abort, alloc: Global, net: &LockedNet<R>) -> Vec<Clerk> {
+    both(rt, alloc, clerk_of(rt, net), clerk_of(rt, net))
+}
+
+/// A network of two nodes, which a clerk has linked.
+fn linked_pair<W: Wait + Abort>(rt: &W, alloc: Global, limit: u32) -> (LockedNet<HsuHuang>, Clerk) {
+    let net = shared::<HsuHuang>(rt, alloc, 2, limit);
+    let mut clerk = clerk_of(rt, &net);
+    expect_link(rt, &mut clerk, &net, 1, 2);
+    (net, clerk)
+}
+
+/// How many receipts these clerks have together.
+fn receipt_count(clerks: &[Clerk]) -> usize {
+    let mut count = 0usize;
+    for clerk in clerks {
+        count = count.saturating_add(clerk.receipts().len());
+    }
+    count
+}
+
+/// The journal against which these clerks settle, with one clerk more.
+fn settled<W: Wait + Abort>(
+    rt: &W,
+    net: LockedNet<HsuHuang>,
+    mut clerks: Vec<Clerk>,
+    last: Clerk,
+) -> Journal<HsuHuang> {
+    clerks.push(last).expect(rt, "memory");
+    match settle(rt, net, clerks) {
+        Ok(journal) => journal,
+        Err(_) => panic!(rt; "they do not settle"),
+    }
+}
+
+/// Whether the pairs of a network of two nodes are the one that there can be.
+fn is_paired(rt: &impl Abort, journal: &mut Journal<HsuHuang>) -> bool {
+    let receipt = journal.record(Event::Matching).expect(rt, "memory");
+    match &receipt.reply {
+        Reply::Pairs(pairs) => {
+            pairs.as_slice().len() == 1
+                && pairs.as_slice().first().copied() == Edge::new(named(rt, 1), named(rt, 2))
+        }
+        _ => false,
+    }
+}
+
+#[test]
+fn two_clerks_roam(rt: HostRuntime) {
+    let (net, first) = linked_pair(&rt, rt.alloc(), 9);
+    let mut clerks = two_clerks(&rt, rt.alloc(), &net);
+    assert!(rt; roam(&rt, &net, &mut clerks, 100, &NoGate) == Ok(()));
+    assert!(rt; receipt_count(&clerks) == 2);
+    let mut journal = settled(&rt, net, clerks, first);
+    assert!(rt; journal.len() == 3);
+    assert!(rt; is_paired(&rt, &mut journal));
+}
+
+#[test]
+fn nobody_roams(rt: HostRuntime) {
+    let (net, _) = linked_pair(&rt, rt.alloc(), 9);
+    let mut clerks = Vec::new(rt.alloc());
+    let ended = roam(&rt, &net, &mut clerks, 100, &NoGate);
+    assert!(rt; ended == Err(RoamFault::ZeroWorkers));
+    assert!(rt; net.into_journal(&rt).len() == 1);
+}
+
+#[test]
+fn clerks_roam_until_the_log_is_full(rt: HostRuntime) {
+    let (net, first) = linked_pair(&rt, rt.alloc(), 2);
+    let mut clerks = two_clerks(&rt, rt.alloc(), &net);
+    let ended = roam(&rt, &net, &mut clerks, 100, &NoGate);
+    assert!(rt; ended == Err(RoamFault::LogFull));
+    assert!(rt; receipt_count(&clerks) == 1);
+    assert!(rt; settled(&rt, net, clerks, first).len() == 2);
+}
+
+/// The most looks that a worker waits for the other.
+const LOOKS: u64 = 100_000_000;
+
+/// A gate at which the first turns of two workers wait for each other, and which notes whether one waited in vain.
+#[derive(Drop)]
+struct Meeting {
+    first: AtomicU64,
+    second: AtomicU64,
+    missed: AtomicU64,
+}
+
+impl Gate for Meeting {
+    fn pass<W: Wait>(&self, _rt: &W, worker: u32, place: u32) {
+        if place != 0 {
+            return;
+        }
+        let (own, other) = match worker {
+            0 => (&self.first, &self.second),
+            _ => (&self.second, &self.first),
+        };
+        own.store(1, Ordering::SeqCst);
+        for _ in 0..LOOKS {
+            if other.load(Ordering::SeqCst) == 1 {
+                return;
+            }
+        }
+        self.missed.store(1, Ordering::SeqCst);
+    }
+}
+
+#[test]
+fn two_roamers_meet(rt: HostRuntime) {
+    let gate = Meeting {
+        first: AtomicU64::new(0),
+        second: AtomicU64::new(0),
+        missed: AtomicU64::new(0),
+    };
+    let (net, first) = linked_pair(&rt, rt.alloc(), 9);
+    let mut clerks = two_clerks(&rt, rt.alloc(), &net);
+    assert!(rt; roam(&rt, &net, &mut clerks, 100, &gate) == Ok(()));
+    assert!(rt; gate.missed.load(Ordering::SeqCst) == 0);
+    assert!(rt; settled(&rt, net, clerks, first).len() == 3);
+}
