@@ -16,7 +16,7 @@ pub enum StormFault {
     /// In the script with this number, the line with that one is neither empty nor a command; both count from 1.
     #[error("script {script} line {line}: not a command")]
     BadLine { script: u32, line: u64 },
-    /// A script's command came when there were as many entries as there may be.
+    /// A script's command or a worker's turn came when there were as many entries as there may be.
     #[error("log full")]
     LogFull,
     /// A read of a script failed.
@@ -28,10 +28,10 @@ pub enum StormFault {
     /// A growth of memory was refused.
     #[error("out of memory")]
     Memory,
-    /// A script's clerk has seen more entries than there are.
+    /// The clerk of a script or of a worker has seen more entries than there are.
     #[error("behind")]
     Behind,
-    /// A thread could not be started. `storm` answers it never: it plays a script itself then.
+    /// A thread could not be started. `storm` answers it never: it does that thread's work itself then.
     #[error("no thread")]
     Thread,
     /// The clerks' receipts do not account for the log.

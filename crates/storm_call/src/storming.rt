@@ -1,6 +1,7 @@
 //! A storm: scripts read, played at once on one network, settled and written.
 
 ghost use Rattle.std.specs.Prelude.{◌≤◌, length, map, IfOk, IfErr};
+ghost use Rattle.script_run.specs.Asked.{asked_of};
 ghost use Rattle.storm_call.specs.Outcome.{Leaves, Ends, IsOutcome};
 ghost use Rattle.storm_call.specs.Parts.{FailsToPlay};
 
@@ -19,10 +20,10 @@ use std::sync::Wait;
 use std::thread::Threads;
 use steal_pool::Gate;
 use step_log::Journal;
-use storm_run::Script;
+use storm_run::{Crew, Script};
 
-// Plays scripts on a new network: the log that they leave, with the first fault that one of them met.
-fn play<R: Rules + Send, G: Gate + Sync, T: Threads + Wait + Sync>(
+// Plays scripts on a new network, with workers who roam beside them: the log that they leave, with the first fault that was met.
+fn play<R: Rules + Send + Sync, G: Gate + Sync, T: Threads + Wait + Sync>(
     rt: &T,
     alloc: Global,
     options: &Options,
@@ -30,16 +31,27 @@ fn play<R: Rules + Send, G: Gate + Sync, T: Threads + Wait + Sync>(
     gate: &G,
 ) -> Result<(Journal<R>, Option<CallFault>), StormFault>
     requires { length scripts.now ≤ 64 }
-    ensures log { IfOk result (λ left. Leaves R.table options.now.nodes options.now.limit scripts.now left.1 left.0) }
+    ensures log { IfOk result (λ left. Leaves R.table (asked_of options.now) scripts.now left.1 left.0) }
     ensures fault { IfErr result FailsToPlay }
 {
     let Ok(net) = LockedNet::<R>::with_limit(alloc, options.nodes(), options.limit()) else {
         return Err(StormFault::Memory);
     };
-    Ok(storm_run::storm(rt, alloc, net, scripts, gate)?)
+    let crew = Crew {
+        workers: options.workers(),
+        roamers: options.roamers(),
+        turns: options.turns(),
+    };
+    Ok(storm_run::storm(rt, alloc, net, scripts, crew, gate)?)
 }
 
-fn storm_on<R: Rules + Send, In: Read + Drop, Out: Write, G: Gate + Sync, T: Threads + Wait + Sync>(
+fn storm_on<
+    R: Rules + Send + Sync,
+    In: Read + Drop,
+    Out: Write,
+    G: Gate + Sync,
+    T: Threads + Wait + Sync,
+>(
     rt: &T,
     alloc: Global,
     options: &Options,
@@ -47,7 +59,7 @@ fn storm_on<R: Rules + Send, In: Read + Drop, Out: Write, G: Gate + Sync, T: Thr
     writer: &mut Out,
     gate: &G,
 ) -> Result<(), StormFault>
-    ensures { Ends R.table options.now.rules options.now.nodes options.now.limit (map In.remaining readers.items) (Out.contents writer.old) (Out.contents writer.new) result }
+    ensures { Ends R.table (asked_of options.now) (map In.remaining readers.items) (Out.contents writer.old) (Out.contents writer.new) result }
 {
     let scripts = read_scripts(alloc, readers)?;
     let (journal, fault) = play::<R, G, T>(rt, alloc, options, &scripts, gate)?;
@@ -58,19 +70,22 @@ fn storm_on<R: Rules + Send, In: Read + Drop, Out: Write, G: Gate + Sync, T: Thr
     }
 }
 
-/// Reads a script from each reader, plays them at once on one new network, each by a clerk of its own, settles the clerks
-/// against the log, and writes its text: a header, and an entry for each command of a script that was answered. With no
-/// reader the header is written alone.
+/// Reads a script from each reader, plays them at once on one new network, each by a clerk of its own, with as many workers
+/// roaming beside them as the options say, settles all clerks against the log, and writes its text: a header, and an entry for
+/// each command of a script that was answered and for each node that a worker moved. With no reader the header is
+/// written alone. A `step` line is evaluated by the workers of the options.
 ///
 /// `TooManyScripts` above 64; then, script by script, `Read` at the first error of its reader, and `BadLine` at the first line
 /// that is neither empty nor a command: nothing was played or written. Then the first of these that is so: `Unsettled` where
 /// the receipts do not account for the log, and nothing was written; `Write` at the first error of the writer, after a
-/// beginning of the text was written; and, after all of it was written, the fault of the first script that met one: `LogFull`
-/// at a command beyond the limit, `Behind`, or `Memory` in a call. A script that meets a fault ends there, and the others go
-/// on. `Memory` also where memory runs out elsewhere, before anything was written. `Thread` never comes.
+/// beginning of the text was written; and, after all of it was written, the fault of the first script that met one, else that of
+/// the first worker that did: `LogFull` at a command or a turn beyond the limit, `Behind`, or `Memory` in a call. Who meets a fault
+/// ends there, and the others go on. `Memory` also where memory runs out elsewhere, before anything was written. `Thread` never
+/// comes.
 ///
-/// Before each command the gate is passed, with the script's number, from 0, and the line's. It waits for the gate, for the
-/// network's lock and for the threads that it starts; where no thread can be had, scripts are played one after another.
+/// Before each command the gate is passed, with the script's number, from 0, and the line's; workers pass none. It waits for the
+/// gate, for the network's lock and for the threads that it starts; where no thread can be had, scripts are played one after
+/// another, and then workers roam.
 pub fn storm<In: Read + Drop, Out: Write, G: Gate + Sync, T: Threads + Wait + Sync>(
     rt: &T,
     alloc: Global,
@@ -79,7 +94,7 @@ pub fn storm<In: Read + Drop, Out: Write, G: Gate + Sync, T: Threads + Wait + Sy
     writer: &mut Out,
     gate: &G,
 ) -> Result<(), StormFault>
-    ensures { IsOutcome options.now.rules options.now.nodes options.now.limit (map In.remaining readers.items) (Out.contents writer.old) (Out.contents writer.new) result }
+    ensures { IsOutcome (asked_of options.now) (map In.remaining readers.items) (Out.contents writer.old) (Out.contents writer.new) result }
 {
     match options.rules() {
         RuleSet::Hh => storm_on::<HsuHuang, In, Out, G, T>(

@@ -1,3 +1,4 @@
 pub mod Adding
 pub mod Standing
 pub mod Forking
+pub mod Roving

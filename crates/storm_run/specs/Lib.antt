@@ -1,3 +1,4 @@
 pub mod Storm
 pub mod Played
 pub mod Faults
+pub mod Roaming

@@ -1,10 +1,11 @@
 -- What scripts that were played at once leave behind.
 --
 -- Each script has a clerk of its own. What a clerk was told stands as its list of receipts, oldest first, and a script as its
--- lines. A storm is over where the log and the clerks are settled (so each entry of the log was told to one clerk alone, and
--- what each clerk was told is the log's), and where each clerk was told what its own script asks for, line after line: the
--- whole of it, or a beginning where the script met a fault.
-use Rattle.std.specs.Prelude.{◌≡◌, ◌<◌, ◌≤◌, List, [], ◌∷◌, ◌++◌, IsTrue, length, map, Option, None, Some}
+-- lines. Beside them workers may roam, each with a clerk of its own too. A storm is over where the log and the clerks are settled
+-- (so each entry of the log was told to one clerk alone, and what each clerk was told is the log's), and where each clerk was told
+-- what it is there for: that of a script what the script asks for, line after line, the whole of it, or a beginning where the
+-- script met a fault; that of a worker steps of one node alone, so many at most.
+use Rattle.std.specs.Prelude.{◌≡◌, ℕ, ◌<◌, ◌≤◌, List, [], ◌∷◌, ◌++◌, IsTrue, length, map, Option, None, Some}
 use Rattle.std.specs.List.{All}
 use Rattle.std.specs.Option.{option_or}
 use Rattle.rule_machine.specs.Run.{Entry}
@@ -17,6 +18,7 @@ use Rattle.step_log.specs.declared.receipt.Receipt.{Receipt}
 use Rattle.script_line.specs.declared.command.Command.{Command}
 use Rattle.script_line.specs.declared.command.Command.TheVariants.{Tell, Drive, Scramble}
 use Rattle.locked_net.specs.Settled.{Settled}
+use Rattle.locked_net.specs.Roamed.{IsLoneStep}
 use Rattle.locked_net.specs.declared.call_fault.CallFault.{CallFault}
 use Rattle.storm_run.specs.declared.script.ScriptLine.{ScriptLine}
 
@@ -76,8 +78,28 @@ AllPlayed (script ∷ scripts) (receipts ∷ clerks) fault =
     (own : Option CallFault) × (others : Option CallFault) × (fault ≡ option_or own others) × MayStop script receipts own × AllPlayed scripts clerks others
 AllPlayed scripts clerks fault = ⊥
 
--- The log that these scripts leave, and the first fault that one of them met: the clerks, one a script, account for the whole log.
-pub record IsStorm (log : List Entry) (scripts : List (List ScriptLine)) (fault : Option CallFault) : Type 0 where
+-- what a worker is told who roams for so many turns: steps of one node alone, one a turn at most
+abbrev pub IsRoaming : ℕ → List Receipt → Type 0
+IsRoaming turns own = (length own ≤ turns) × All IsLoneStep own
+
+-- The clerks of a storm are one for each script, by which it was played, and behind them one for each worker that roamed. The fault
+-- is the first that a script met, in the order of the scripts; where none did, it is one that a worker met, if there are workers and
+-- one of them met any.
+pub record AllTold (scripts : List (List ScriptLine)) (roamers turns : ℕ) (clerks : List (List Receipt)) (fault : Option CallFault) : Type 0 where
+  pub own : List (List Receipt)
+  pub roaming : List (List Receipt)
+  pub met : Option CallFault
+  pub other : Option CallFault
+  pub all : clerks ≡ own ++ roaming
+  pub played : AllPlayed scripts own met
+  pub as_many : length roaming ≡ roamers
+  pub roamed : All (IsRoaming turns) roaming
+  pub first : fault ≡ option_or met other
+  pub nobody : roamers ≡ 0 → other ≡ None
+
+-- The log that these scripts leave with so many workers beside them, and the first fault that was met: the clerks account for the
+-- whole log.
+pub record IsStorm (log : List Entry) (scripts : List (List ScriptLine)) (roamers turns : ℕ) (fault : Option CallFault) : Type 0 where
   pub clerks : List (List Receipt)
   pub settled : Settled log clerks
-  pub played : AllPlayed scripts clerks fault
+  pub told : AllTold scripts roamers turns clerks fault

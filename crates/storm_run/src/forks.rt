@@ -16,7 +16,7 @@ use steal_pool::Gate;
 /// Plays each script by the clerk at its place, all at once where threads can be had, and answers the first fault in their
 /// order. The first script has the number handed in.
 #[cycle(forks)]
-pub(crate) fn play_all<R: Rules + Send, G: Gate + Sync, T: Threads + Wait + Sync>(
+pub(crate) fn play_all<R: Rules + Send + Sync, G: Gate + Sync, T: Threads + Wait + Sync>(
     rt: &T,
     stage: &Stage<R, G>,
     first: u32,
@@ -40,7 +40,7 @@ pub(crate) fn play_all<R: Rules + Send, G: Gate + Sync, T: Threads + Wait + Sync
 
 /// Plays two rows of scripts at once, where a thread can be had.
 #[cycle(forks)]
-fn play_halves<R: Rules + Send, G: Gate + Sync, T: Threads + Wait + Sync>(
+fn play_halves<R: Rules + Send + Sync, G: Gate + Sync, T: Threads + Wait + Sync>(
     rt: &T,
     stage: &Stage<R, G>,
     first: u32,
@@ -61,11 +61,11 @@ fn play_halves<R: Rules + Send, G: Gate + Sync, T: Threads + Wait + Sync>(
     join_mut(
         rt,
         &mut || -> Option<CallFault>
-            requires { IsSync T.row × IsSync G.row × IsSend R.row × (length left.now ≡ length ours.now) × (first + length left.now < 2 ^ 32) × All (λ receipts. receipts ≡ []) ours.now }
+            requires { IsSync T.row × IsSync G.row × IsSend R.row × IsSync R.row × (length left.now ≡ length ours.now) × (first + length left.now < 2 ^ 32) × All (λ receipts. receipts ≡ []) ours.now }
             ensures { AllPlayed left.entry.now ours.exit.now result }
         { play_all(rt, stage, first, left, ours) },
         &mut || -> Option<CallFault>
-            requires { IsSync T.row × IsSync G.row × IsSend R.row × (length right.now ≡ length theirs.now) × (second + length right.now < 2 ^ 32) × All (λ receipts. receipts ≡ []) theirs.now }
+            requires { IsSync T.row × IsSync G.row × IsSend R.row × IsSync R.row × (length right.now ≡ length theirs.now) × (second + length right.now < 2 ^ 32) × All (λ receipts. receipts ≡ []) theirs.now }
             ensures { AllPlayed right.entry.now theirs.exit.now result }
         { play_all(rt, stage, second, right, theirs) },
     )

@@ -1,4 +1,4 @@
-//! Scripts on one network, and the log that they leave.
+//! Scripts and workers on one network, and the log that they leave.
 
 ghost use Rattle.std.specs.Prelude.{◌≡◌, ◌≤◌, [], length, IfOk, vec_len};
 ghost use Rattle.std.specs.List.{All};
@@ -7,9 +7,9 @@ ghost use Rattle.step_log.specs.Log.{IsLog};
 ghost use Rattle.locked_net.specs.Nets.{nodes_of, limit_of};
 ghost use Rattle.storm_run.specs.Storm.{IsStorm};
 
-use crate::forks::play_all;
+use crate::beside::play_beside;
 use crate::stage::Stage;
-use crate::{PlayFault, Script};
+use crate::{Crew, PlayFault, Script};
 use locked_net::{CallFault, Clerk, LockedNet, settle};
 use rule_machine::Want;
 use rule_set::Rules;
@@ -31,29 +31,33 @@ fn clerks_of<R: Rules>(alloc: Global, net: &LockedNet<R>, count: usize) -> Resul
     Ok(clerks)
 }
 
-/// Plays scripts on a network, each by a clerk of its own and all at once where threads can be had, and settles the clerks
-/// against the log. It answers that log, with the first fault that a script met, in the order of the scripts: `Behind`,
-/// `LogFull`, or `Memory` in a call. A script that meets a fault ends there, and the others go on.
+/// Plays scripts on a network, each by a clerk of its own and all at once where threads can be had, while as many workers roam
+/// in it as the crew has, each by a clerk of its own and for so many turns; and settles all clerks against the log. It answers
+/// that log, with the first fault that a script met, in the order of the scripts, and where none did, with the first of the
+/// workers': `Behind`, `LogFull`, or `Memory` in a call. Who meets a fault ends there, and the others go on.
 ///
-/// Before each command the gate is passed with the number of the script, from 0, and that of the line. Where no thread can be
-/// had, scripts are played one after another: a gate that holds one until another has come holds it for ever then.
+/// A `step` line is evaluated by as many workers as the crew has for it. Before each command the gate is passed with the number
+/// of the script, from 0, and that of the line; workers pass none. Where no thread can be had, scripts are played one after
+/// another, and then workers roam: a gate that holds one script until another has come holds it for ever then.
 ///
-/// `Unsettled` where clerks and log do not settle; `Memory` where there is none for a clerk for each script before they are
-/// played, or for settling. It waits for the network's lock, for the gate, and for the threads that it starts: one for each
-/// script but one. Beside what the calls take, it takes a clerk for each script and a byte for each entry of the log.
-pub fn storm<R: Rules + Send, G: Gate + Sync, T: Threads + Wait + Sync>(
+/// `Unsettled` where clerks and log do not settle; `Memory` where there is none for all clerks before the first command, or for
+/// settling. It waits for the network's lock, for the gate, and for the threads that it starts: one for each script and each
+/// worker but one. Beside what the calls take, it takes a clerk for each of them and a byte for each entry of the log.
+pub fn storm<R: Rules + Send + Sync, G: Gate + Sync, T: Threads + Wait + Sync>(
     rt: &T,
     alloc: Global,
     net: LockedNet<R>,
     scripts: &[Script],
+    crew: Crew,
     gate: &G,
 ) -> Result<(Journal<R>, Option<CallFault>), PlayFault>
     requires { length scripts.now ≤ 64 }
-    ensures storm { IfOk result (λ left. IsStorm left.0.entries scripts.now left.1) }
+    ensures storm { IfOk result (λ left. IsStorm left.0.entries scripts.now crew.roamers crew.turns left.1) }
     ensures run { IfOk result (λ left. IsLog R.table left.0) }
     ensures size { IfOk result (λ left. (node_count left.0.state.network ≡ nodes_of net) × (left.0.limit ≡ limit_of net)) }
 {
-    let Ok(mut clerks) = clerks_of(alloc, &net, scripts.len()) else {
+    let count = scripts.len() + crew.roamers as usize;
+    let Ok(mut clerks) = clerks_of(alloc, &net, count) else {
         net.into_journal(rt);
         return Err(PlayFault::Memory);
     };
@@ -61,8 +65,9 @@ pub fn storm<R: Rules + Send, G: Gate + Sync, T: Threads + Wait + Sync>(
         alloc,
         net: &net,
         gate,
+        crew,
     };
-    let fault = play_all(rt, &stage, 0, scripts, &mut clerks);
+    let fault = play_beside(rt, &stage, scripts, &mut clerks);
     match settle(rt, net, clerks) {
         Ok(journal) => Ok((journal, fault)),
         Err(unsettled) => Err(PlayFault::from(unsettled.why)),

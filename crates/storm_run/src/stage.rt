@@ -5,20 +5,21 @@ ghost use Rattle.std.specs.List.{All};
 ghost use Rattle.std.specs.Result.{result_err};
 ghost use Rattle.storm_run.specs.Storm.{MayStop, AllPlayed};
 
-use crate::Script;
 use crate::play::play;
+use crate::{Crew, Script};
 use locked_net::{CallFault, Clerk, LockedNet};
 use rule_set::Rules;
 use std::alloc::Global;
 use std::sync::Wait;
 use steal_pool::Gate;
 
-/// The network on which scripts are played, and the gate that they pass.
+/// The network on which scripts are played, the gate that they pass, and who works beside them.
 #[derive(Drop)]
 pub(crate) struct Stage<'a, R: Rules, G: Gate> {
     pub alloc: Global,
     pub net: &'a LockedNet<R>,
     pub gate: &'a G,
+    pub crew: Crew,
 }
 
 /// Plays a script line by line, up to its end or a fault. Before each line, the gate is passed with the number of the script,

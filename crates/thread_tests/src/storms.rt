@@ -20,6 +20,25 @@ fn readers<'a>(rt: &impl Abort, alloc: Global, scripts: &[&'a str]) -> Vec<&'a [
 }
 
 /// How a storm of these scripts ends, and what it writes.
+fn play_as<G: Gate + Sync, T: Threads + Wait + Sync + Abort>(
+    rt: &T,
+    alloc: Global,
+    options: &Options,
+    scripts: &[&str],
+    gate: &G,
+) -> (Result<(), StormFault>, Vec<u8>) {
+    let mut written = Vec::new(alloc);
+    let readers = readers(rt, alloc, scripts);
+    let ended = storm(rt, alloc, options, readers, &mut written, gate);
+    (ended, written)
+}
+
+/// What is asked for on so many nodes where nobody roams.
+fn asked(rt: &impl Abort, rules: RuleSet, nodes: u32) -> Options {
+    Options::new(rules, nodes).expect(rt, "options")
+}
+
+/// The same under the rules of Hsu and Huang, with nobody roaming.
 fn play<G: Gate + Sync, T: Threads + Wait + Sync + Abort>(
     rt: &T,
     alloc: Global,
@@ -27,11 +46,7 @@ fn play<G: Gate + Sync, T: Threads + Wait + Sync + Abort>(
     scripts: &[&str],
     gate: &G,
 ) -> (Result<(), StormFault>, Vec<u8>) {
-    let options = Options::new(RuleSet::Hh, nodes).expect(rt, "options");
-    let mut written = Vec::new(alloc);
-    let readers = readers(rt, alloc, scripts);
-    let ended = storm(rt, alloc, &options, readers, &mut written, gate);
-    (ended, written)
+    play_as(rt, alloc, &asked(rt, RuleSet::Hh, nodes), scripts, gate)
 }
 
 /// Compares what an audit of the text counts.
@@ -49,6 +64,11 @@ fn expect_counts(
         moves,
     };
     assert!(rt; audit_bytes(alloc, text) == Ok(wanted));
+}
+
+/// What an audit of the text counts.
+fn counted(rt: &impl Abort, alloc: Global, text: &[u8]) -> Summary {
+    audit_bytes(alloc, text).expect(rt, "a transcript")
 }
 
 const FIRST: &str = "link 1 2\npoint 1 2\nshow 1\n";
@@ -139,4 +159,34 @@ fn two_scripts_run_at_once(rt: HostRuntime) {
     assert!(rt; ended == Ok(()));
     assert!(rt; gate.missed.load(Ordering::SeqCst) == 0);
     expect_counts(&rt, rt.alloc(), &text, 6, 5, 0);
+}
+
+#[test]
+fn workers_roam_beside_a_script(rt: HostRuntime) {
+    let options = asked(&rt, RuleSet::Hh, 2).with_roam(2, 100);
+    let (ended, text) = play_as(&rt, rt.alloc(), &options, &["link 1 2"], &NoGate);
+    assert!(rt; ended == Ok(()));
+    let first = b"matching hh 2\n1 link 1 2 = ok\n";
+    assert!(rt; text.as_slice().starts_with(first));
+    let found = counted(&rt, rt.alloc(), &text);
+    assert!(rt; (1..=3).contains(&found.entries) && found.epochs == 2);
+    assert!(rt; found.moves + 1 == u64::from(found.entries));
+}
+
+/// A link, and then faults.
+const BREAKS_FIRST: &str = "link 1 2\nscramble 5 200\n";
+
+const BREAKS_SECOND: &str = "link 3 4\nscramble 6 200\n";
+
+#[test]
+fn workers_roam_under_faults(rt: HostRuntime) {
+    let options = asked(&rt, RuleSet::Manne, 4)
+        .with_workers(2)
+        .with_roam(4, 1_000);
+    let scripts = [BREAKS_FIRST, BREAKS_SECOND];
+    let (ended, text) = play_as(&rt, rt.alloc(), &options, &scripts, &NoGate);
+    assert!(rt; ended == Ok(()));
+    let found = counted(&rt, rt.alloc(), &text);
+    assert!(rt; (402..=4_402).contains(&found.entries) && found.epochs == 403);
+    assert!(rt; found.moves + 402 == u64::from(found.entries));
 }
