@@ -1,8 +1,8 @@
 //! What holds of all scripts.
 
-ghost use Rattle.std.specs.Prelude.{◌≡◌, ℕ, List};
+ghost use Rattle.std.specs.Prelude.{◌≡◌, ◌<◌, ℕ, List, length};
 ghost use Rattle.rule_machine.specs.RuleTable.{RuleTable};
-ghost use Rattle.script_line.specs.Command.{Says};
+ghost use Rattle.script_line.specs.Command.{Says, SaysNothing};
 ghost use Rattle.script_line.specs.declared.command.Command.{Command};
 ghost use Rattle.script_machine.specs.Script.{Progress, LinesDo};
 
@@ -11,4 +11,9 @@ pub fn one_end()
     ensures command { (line : List ℕ) (c d : Command) → Says line c → Says line d → c ≡ d }
     ensures run { (t : RuleTable) (limit : ℕ) (lines : List (List ℕ)) (before after other : Progress)
         → LinesDo t limit lines before after → LinesDo t limit lines before other → after ≡ other }
+{}
+
+/// A line of more than 1,048,576 bytes is no command, so a run can stop at it before it has all of it.
+pub fn long_line()
+    ensures { (line : List ℕ) → 1048576 < length line → SaysNothing line }
 {}

@@ -4,5 +4,5 @@
 mod law;
 mod lines;
 
-pub use law::one_end;
-pub use lines::next_line;
+pub use law::{long_line, one_end};
+pub use lines::{MAX_LINE, ended_line, next_line};

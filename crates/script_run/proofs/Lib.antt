@@ -1,3 +1,4 @@
 pub mod Turning
 pub mod Shifting
 pub mod Running
+pub mod Placing

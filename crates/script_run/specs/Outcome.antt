@@ -1,5 +1,5 @@
 -- How the run of a script ends.
-use Rattle.std.specs.Prelude.{◌≡◌, ℕ, ◌+◌, ◌⊎◌, List, [], ◌∷◌, ◌++◌, length, take, Option, Result, Ok, Err}
+use Rattle.std.specs.Prelude.{◌≡◌, ℕ, ◌+◌, ◌⊎◌, List, ◌∷◌, ◌++◌, length, take, Option, Result, Ok, Err}
 use Rattle.std.specs.Io.KnownBytes.{Appends}
 use Rattle.rule_machine.specs.declared.rules.RuleSet.{RuleSet}
 use Rattle.rule_machine.specs.RuleTable.{RuleTable}
@@ -41,19 +41,19 @@ LeadsTo t limit lines start end = (n : ℕ) × LinesDo t limit (take n lines) st
 abbrev pub Reaches : RuleTable → ℕ → List (List ℕ) → Progress → Progress → Type 0
 Reaches t limit lines start end = LeadsTo t limit lines start end ⊎ StopsAtFullLog t limit lines start end
 
--- all lines were carried out, or those before a bad line or a full log, and P holds of the text to which they lead; where the reader
--- failed, Q holds of no text; where the writer failed or memory was refused, Q holds of the text that some first lines reach
+-- all lines were carried out, or those before a bad line or a full log, or some first ones where the reader failed, and P holds of the
+-- text to which they lead; where the writer failed or memory was refused, Q holds of the text that some first lines reach
 abbrev pub Ends : RuleTable → ℕ → List (List ℕ) → Progress → Result Unit RunFault → (List ℕ → Type 0) → (List ℕ → Type 0) → Type 0
 Ends t limit lines start (Ok done) P Q = (end : Progress) × LinesDo t limit lines start end × P end.text
 Ends t limit lines start (Err (BadLine number)) P Q = (end : Progress) × StopsAtBadLine t limit lines start number end × P end.text
 Ends t limit lines start (Err LogFull) P Q = (end : Progress) × StopsAtFullLog t limit lines start end × P end.text
-Ends t limit lines start (Err Read) P Q = Q []
+Ends t limit lines start (Err Read) P Q = (end : Progress) × LeadsTo t limit lines start end × P end.text
 Ends t limit lines start (Err Write) P Q = (end : Progress) × Reaches t limit lines start end × Q end.text
 Ends t limit lines start (Err Memory) P Q = (end : Progress) × Reaches t limit lines start end × Q end.text
 Ends t limit lines start (Err (Pool why)) P Q = ⊥
 
 -- the script was run, and the writer has got the header and the entries that the machine makes, and nothing else; at a fault of the
--- writer or of memory a beginning of them, and none at a fault of the reader
+-- reader those of some first lines, and at one of the writer or of memory a beginning of them
 abbrev pub IsOutcome : RuleSet → ℕ → ℕ → List ℕ → Option (List ℕ) → Option (List ℕ) → Result Unit RunFault → Type 0
 IsOutcome rules nodes limit script old new result =
     Ends (table_of rules) limit (lines_of script) (beginning rules nodes) result (Appends old new) (AppendsBeginning old new)

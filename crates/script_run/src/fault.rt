@@ -14,7 +14,7 @@ pub enum RunFault {
     /// A command came when there were as many entries as there may be.
     #[error("log full")]
     LogFull,
-    /// A read of the script failed.
+    /// A read of the script failed, or there were 4,294,967,295 of them.
     #[error("read failed")]
     Read,
     /// A write of the transcript failed.

@@ -3,8 +3,12 @@
 
 mod fault;
 mod options;
+mod piece;
+mod place;
+mod reading;
 mod runner;
 mod script;
+mod stepping;
 mod stop;
 mod writing;
 

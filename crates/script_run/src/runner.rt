@@ -1,32 +1,37 @@
 //! A run under one set of rules.
 
-ghost use Rattle.std.specs.Prelude.{◌≡◌, IfOk, OnErr, length};
-ghost use Rattle.std.specs.Io.KnownBytes.{Appends};
+ghost use Rattle.std.specs.Prelude.{◌≡◌, IfOk, IfSome, OnErr, length};
+ghost use Rattle.std.specs.Io.KnownBytes.{Appends, IsAtEnd};
 ghost use Rattle.script_machine.specs.Script.{Progress, lines_of};
-ghost use Rattle.byte_output.specs.Beginning.{AppendsBeginning, AppendsLess};
+ghost use Rattle.byte_output.specs.Beginning.{AppendsBeginning};
 ghost use Rattle.script_run.specs.Halted.{Halts, Hands, answered};
 ghost use Rattle.script_run.specs.Line.{progress, EventEnds, TurnsEnd, CommandEnds, LineEnds};
+ghost use Rattle.script_run.specs.declared.stop.End.TheVariants.{Whole};
 ghost use Rattle.script_run.specs.Outcome.{Ends, LeadsTo, beginning};
 
 use crate::Options;
+use crate::place::Place;
+use crate::reading::{chunk_of, read_on};
 use crate::stop::{End, Stop};
-use crate::writing::hand_over;
+use crate::writing::hand_over_all;
 use byte_output::{OutputFault, finish};
 use line_text::{put_entry, put_header};
 use rule_machine::{Event, Want};
 use rule_set::Rules;
 use script_line::{Command, read_line};
-use script_machine::next_line;
 use seeded_turns::{DaemonTurns, EventSource, FaultTurns};
 use std::alloc::{AllocError, Global};
-use std::io::Write;
+use std::io::{Read, Write};
+use std::sync::Wait;
+use std::thread::Threads;
 use step_log::{RecordFault, Recorder};
 
-/// A network whose entries are numbered, and the text that is not written yet.
+/// A network whose entries are numbered, the text that is not written yet, and how many workers judge a step.
 #[derive(Drop)]
-struct Run<R: Rules> {
-    recorder: Recorder<R>,
-    text: Vec<u8>,
+pub struct Run<R: Rules> {
+    pub recorder: Recorder<R>,
+    pub text: Vec<u8>,
+    pub workers: u32,
 }
 
 impl<R: Rules> Run<R> {
@@ -39,7 +44,12 @@ impl<R: Rules> Run<R> {
         };
         let mut text = Vec::new(alloc);
         put_header(&mut text, options.rules(), options.nodes())?;
-        Ok(Run { recorder, text })
+        let workers = options.workers();
+        Ok(Run {
+            recorder,
+            text,
+            workers,
+        })
     }
 
     // Carries out an event and adds the text of its entry; false where the log is full.
@@ -77,13 +87,23 @@ impl<R: Rules> Run<R> {
         }
         Ok(true)
     }
+}
 
+impl<R: Rules + Sync> Run<R> {
     // Follows a command; false where it meets a full log.
-    fn follow(&mut self, alloc: Global, command: Command) -> Result<bool, Want>
+    fn follow<T: Threads + Wait + Sync>(
+        &mut self,
+        rt: &T,
+        alloc: Global,
+        command: Command,
+    ) -> Result<bool, Want>
         ensures ends { CommandEnds R.table self.old.recorder.limit command (progress self.old.recorder self.old.text.items) (progress self.new.recorder self.new.text.items) result }
         ensures limit { self.new.recorder.limit ≡ self.old.recorder.limit }
     {
         match command {
+            Command::Tell(Event::Step(choice)) if self.workers > 1 => {
+                self.log_step(rt, alloc, choice)
+            }
             Command::Tell(event) => self.log(event),
             Command::Drive(turns) => {
                 let mut daemon = DaemonTurns::new(alloc, turns.seed);
@@ -97,7 +117,13 @@ impl<R: Rules> Run<R> {
     }
 
     // Carries out the line with this number: what in it stops the run, if anything does.
-    fn carry_out(&mut self, alloc: Global, number: u64, line: &[u8]) -> Result<Option<Stop>, Want>
+    pub fn carry_out<T: Threads + Wait + Sync>(
+        &mut self,
+        rt: &T,
+        alloc: Global,
+        number: u64,
+        line: &[u8],
+    ) -> Result<Option<Stop>, Want>
         ensures ends { LineEnds R.table self.old.recorder.limit number line.now (progress self.old.recorder self.old.text.items) (progress self.new.recorder self.new.text.items) result }
         ensures limit { self.new.recorder.limit ≡ self.old.recorder.limit }
     {
@@ -108,7 +134,7 @@ impl<R: Rules> Run<R> {
             return Ok(Some(Stop::BadLine { line: number }));
         };
         let len = self.text.len();
-        match self.follow(alloc, command) {
+        match self.follow(rt, alloc, command) {
             Ok(true) => Ok(None),
             Ok(false) => Ok(Some(Stop::LogFull)),
             Err(want) => {
@@ -118,49 +144,58 @@ impl<R: Rules> Run<R> {
         }
     }
 
-    // Carries out the lines of a script in turn, and hands over the text as it grows.
-    fn carry_out_all<Out: Write>(
+    // Reads a script and carries out its lines. Before each read, all that the lines read so far have made is written and flushed.
+    fn carry_out_all<In: Read, Out: Write, T: Threads + Wait + Sync>(
         &mut self,
+        rt: &T,
         alloc: Global,
-        script: &[u8],
+        reader: &mut In,
         writer: &mut Out,
     ) -> Result<End, OutputFault>
-        ensures ok { IfOk result (λ end. Halts R.table self.old.recorder.limit (lines_of script.now) (progress self.old.recorder self.old.text.items) end
-            (λ text. Hands (Out.contents writer.old) (Out.contents writer.new) text self.new.text.items)) }
-        ensures fault { OnErr result ((end : Progress)
-            × LeadsTo R.table self.old.recorder.limit (lines_of script.now) (progress self.old.recorder self.old.text.items) end
-            × AppendsLess (Out.contents writer.old) (Out.contents writer.new) end.text) }
+        ensures ok { IfOk result (λ end. IfSome (In.remaining reader.old) (λ script.
+            Halts R.table self.old.recorder.limit (lines_of script) (progress self.old.recorder self.old.text.items) end
+            (λ text. Hands (Out.contents writer.old) (Out.contents writer.new) text self.new.text.items))) }
+        ensures fault { OnErr result (IfSome (In.remaining reader.old) (λ script. (end : Progress)
+            × LeadsTo R.table self.old.recorder.limit (lines_of script) (progress self.old.recorder self.old.text.items) end
+            × AppendsBeginning (Out.contents writer.old) (Out.contents writer.new) end.text)) }
+        ensures read { IfOk result (λ end. end ≡ Whole → IsAtEnd (In.remaining reader.new)) }
     {
-        let mut rest = script;
-        let mut number: u64 = 0;
-        while let Some((line, behind)) = next_line(rest) {
-            number += 1;
-            match self.carry_out(alloc, number, line) {
-                Ok(None) => {}
-                Ok(Some(stop)) => return Ok(End::Stopped(stop)),
-                Err(_) => return Ok(End::Memory),
+        let Ok(mut chunk) = chunk_of(alloc) else {
+            return Ok(End::Memory);
+        };
+        let mut place = Place::new(alloc);
+        for _ in 0..u32::MAX {
+            hand_over_all(writer, &mut self.text)?;
+            let Ok(len) = read_on(reader, &mut chunk, &self.text) else {
+                return Ok(End::Unread);
+            };
+            if len == 0 {
+                return Ok(self.carry_out_last(rt, alloc, &place));
             }
-            hand_over(writer, &mut self.text)?;
-            rest = behind;
+            if let Some(end) = self.carry_out_piece(rt, alloc, &mut place, &chunk[..len], writer)? {
+                return Ok(end);
+            }
         }
-        Ok(End::Whole)
+        Ok(End::Unread)
     }
 }
 
 /// Runs a script under the rules `R`, and writes its transcript.
-pub fn run_on<R: Rules, Out: Write>(
+pub fn run_on<R: Rules + Sync, In: Read, Out: Write, T: Threads + Wait + Sync>(
+    rt: &T,
     alloc: Global,
-    script: &[u8],
+    reader: &mut In,
     writer: &mut Out,
     options: &Options,
 ) -> Result<End, OutputFault>
-    ensures { Ends R.table options.now.limit (lines_of script.now) (beginning options.now.rules options.now.nodes) (answered result)
-        (Appends (Out.contents writer.old) (Out.contents writer.new)) (AppendsBeginning (Out.contents writer.old) (Out.contents writer.new)) }
+    ensures outcome { IfSome (In.remaining reader.old) (λ script. Ends R.table options.now.limit (lines_of script) (beginning options.now.rules options.now.nodes) (answered result)
+        (Appends (Out.contents writer.old) (Out.contents writer.new)) (AppendsBeginning (Out.contents writer.old) (Out.contents writer.new))) }
+    ensures read { IfOk result (λ end. end ≡ Whole → IsAtEnd (In.remaining reader.new)) }
 {
     let Ok(mut run) = Run::<R>::new(alloc, options) else {
         return Ok(End::Memory);
     };
-    let end = run.carry_out_all(alloc, script, writer)?;
+    let end = run.carry_out_all(rt, alloc, reader, writer)?;
     finish(writer, &run.text)?;
     Ok(end)
 }

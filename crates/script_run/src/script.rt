@@ -6,7 +6,6 @@ ghost use Rattle.script_run.specs.Outcome.{IsOutcome};
 
 use crate::runner::run_on;
 use crate::{Options, RunFault};
-use byte_input::read_whole;
 use rule_machine::RuleSet;
 use rules_hsu_huang::HsuHuang;
 use rules_manne::Manne;
@@ -15,14 +14,20 @@ use std::io::{Read, Write};
 use std::sync::Wait;
 use std::thread::Threads;
 
-/// Reads a script to its end, carries out its lines in turn, and writes the transcript: a header, and an entry for each
-/// command. `BadLine` at the first line that is neither empty nor a command, `LogFull` at a command beyond the limit,
-/// both after the entries before were written; `Read` at the first error of the reader, before anything is written;
-/// `Write` at the first error of the writer, and `Memory` if memory runs out, after a beginning of the transcript was
-/// written. No entry is kept: what is held beside the network is the script, and the text that is not written yet, 65,536
+/// Carries out the lines of a script in turn, and writes the transcript: a header, and an entry for each command. Before each
+/// read, the entries of all lines that were read whole are written and flushed, so that whoever writes the script can wait for
+/// an answer. `Ok` once the script was read to its end.
+///
+/// `BadLine` at the first line that is neither empty nor a command, also where it has more than 1,048,576 bytes and its end was
+/// not read; `LogFull` at a command beyond the limit; `Read` at the first error of the reader, which is not tried again, or after
+/// 4,294,967,295 reads: each after all entries of the lines before were written. `Write` at the first error of the writer, and
+/// `Memory` if memory runs out, after a beginning of the transcript was written. No entry is kept: what is held beside the
+/// network is 65,536 bytes of the script and its last line as far as it was read, and of the text what is not written yet, 65,536
 /// bytes and that of one line.
+///
+/// The workers of the options evaluate each step, and the transcript is the same for every number of them.
 pub fn run<In: Read, Out: Write, T: Threads + Wait + Sync>(
-    _rt: &T,
+    rt: &T,
     alloc: Global,
     reader: &mut In,
     writer: &mut Out,
@@ -32,10 +37,9 @@ pub fn run<In: Read, Out: Write, T: Threads + Wait + Sync>(
         IsOutcome options.now.rules options.now.nodes options.now.limit script (Out.contents writer.old) (Out.contents writer.new) result) }
     ensures read { OnOk result (IsAtEnd (In.remaining reader.new)) }
 {
-    let script = read_whole(alloc, reader)?;
     let end = match options.rules() {
-        RuleSet::Hh => run_on::<HsuHuang, Out>(alloc, &script, writer, options)?,
-        RuleSet::Manne => run_on::<Manne, Out>(alloc, &script, writer, options)?,
+        RuleSet::Hh => run_on::<HsuHuang, In, Out, T>(rt, alloc, reader, writer, options)?,
+        RuleSet::Manne => run_on::<Manne, In, Out, T>(rt, alloc, reader, writer, options)?,
     };
     end.told()
 }

@@ -21,6 +21,8 @@ pub enum End {
     Whole,
     /// Up to what stopped it.
     Stopped(Stop),
+    /// Up to a read that failed.
+    Unread,
     /// Up to a growth of memory that was refused.
     Memory,
 }
@@ -34,6 +36,7 @@ impl End {
             End::Whole => Ok(()),
             End::Stopped(Stop::BadLine { line }) => Err(RunFault::BadLine { line }),
             End::Stopped(Stop::LogFull) => Err(RunFault::LogFull),
+            End::Unread => Err(RunFault::Read),
             End::Memory => Err(RunFault::Memory),
         }
     }

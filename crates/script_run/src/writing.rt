@@ -1,10 +1,10 @@
 //! When the text of a run is written.
 
-ghost use Rattle.std.specs.Prelude.{◌<◌, length, OnOk, OnErr};
-ghost use Rattle.byte_output.specs.Beginning.{AppendsLess};
+ghost use Rattle.std.specs.Prelude.{◌≡◌, ◌<◌, [], length, OnOk, OnErr};
+ghost use Rattle.byte_output.specs.Beginning.{AppendsBeginning, AppendsLess};
 ghost use Rattle.script_run.specs.Halted.{Hands};
 
-use byte_output::{OutputFault, write_whole};
+use byte_output::{OutputFault, finish, write_whole};
 use std::io::Write;
 
 /// How long a text grows before it is handed over.
@@ -20,6 +20,17 @@ pub fn hand_over<Out: Write>(writer: &mut Out, text: &mut Vec<u8>) -> Result<(),
         return Ok(());
     }
     write_whole(writer, text)?;
+    text.clear();
+    Ok(())
+}
+
+/// Writes the text and empties it, and flushes the writer.
+pub fn hand_over_all<Out: Write>(writer: &mut Out, text: &mut Vec<u8>) -> Result<(), OutputFault>
+    ensures ok { OnOk result (Hands (Out.contents writer.old) (Out.contents writer.new) text.old.items text.new.items) }
+    ensures empty { OnOk result (text.new.items ≡ []) }
+    ensures fault { OnErr result (AppendsBeginning (Out.contents writer.old) (Out.contents writer.new) text.old.items) }
+{
+    finish(writer, text)?;
     text.clear();
     Ok(())
 }

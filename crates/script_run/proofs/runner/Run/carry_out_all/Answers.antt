@@ -1,66 +1,173 @@
-use Rattle.std.proofs.Common.{◌∙◌, ◌+◌, ℕ, length, refl, subst}
-use Rattle.script_run.specs.Line.{moment_of, progress, LineEnds}
-use Rattle.script_run.proofs.Running.{SoFar-none, SoFar-line, SoFar-handed, SoFar-failed, Halts-whole, Halts-stopped, Halts-memory, LineEnds-done, OnErr-holds}
+use Rattle.std.proofs.Common.{◌≡◌, ◌∙◌, ◌≤◌, ◌+◌, ◌*◌, ◌++◌, ℕ, List, [], Option, Ok, Err, None, Some, length, take, refl, sym, ap, subst, append-nil, arith}
+use Rattle.std.proofs.KnownBytes.{Consumes-nil, Consumes-trans, Consumes-whole}
+use Rattle.std.specs.Io.KnownBytes.{Consumes}
+use Rattle.std.specs.Prelude.{IsNone}
+use Rattle.script_machine.specs.Script.{Progress, lines_of}
+use Rattle.byte_output.specs.Beginning.{AppendsBeginning}
+use Rattle.script_run.specs.declared.stop.End.{End}
+use Rattle.script_run.specs.declared.stop.End.TheVariants.{Unread, Memory}
+use Rattle.script_run.specs.Outcome.{LeadsTo}
+use Rattle.script_run.specs.Halted.{Hands, Halts}
+use Rattle.script_run.specs.Line.{progress}
+use Rattle.script_run.proofs.Running.{OnErr-holds}
+use Rattle.script_run.proofs.Placing.{refilled, take_short, known_read, moved_on, Stands-none, Stands-handed, Stands-began, Stands-unread, Stands-memory, piece_at, last_at, piece_goes_on, piece_stops, piece_fails}
 use Rattle.script_run.proofs.runner.Run.carry_out_all.Goals as goal
 
-pub loop-line-init : goal.loop-line-init
-loop-line-init g c =
-    let run = c.args.self.now in record {
+pub returns-in_default-clause-ok : goal.returns-in_default-clause-ok
+returns-in_default-clause-ok g c =
+    let run = c.args.self.now in
+    let start = progress run.recorder run.text.items in
+    let old = g.Out.Write.contents c.args.writer.now in
+    let left = g.In.Read.remaining c.args.reader.now in
+    known_read left left [] (λ script. Halts g.R.Rules.table run.recorder.limit (lines_of script) start Memory (λ text. Hands old old text run.text.items)) (Consumes-nil left)
+    (Stands-memory g.R.Rules.table run.recorder.limit start old [] [] [] 0 start old run.text.items (Stands-none g.R.Rules.table run.recorder.limit start old) refl)
+
+pub loop-init : goal.loop-init
+loop-init g c =
+    let run = c.args.self.now in
+    let place = c.new-place.result in
+    let start = progress run.recorder run.text.items in
+    let old = g.Out.Write.contents c.args.writer.now in
+    record {
       limit = refl;
-      so_far = SoFar-none g.R.Rules.table run.recorder.limit c.args.script.now (progress run.recorder run.text.items) (g.Out.Write.contents c.args.writer.now) (moment_of run.recorder) run.recorder.len run.text.items refl;
+      stands = ([], Consumes-nil (g.In.Read.remaining c.args.reader.now), moved_on g.R.Rules.table run.recorder.limit start old [] place.begun.items [] 0 place.lines start old c.new-place.ensures.begun c.new-place.ensures.lines (Stands-none g.R.Rules.table run.recorder.limit start old));
+      room = omega (arith, c.new-place.ensures.lines, ap length c.new-place.ensures.begun);
+      chunk = c.in-Ok.ensures;
     }
 
-pub returns-in-Ok-Some-clause-ok : goal.returns-in-Ok-Some-clause-ok
-returns-in-Ok-Some-clause-ok g c =
+pub returns-in_err-hand_over_all-clause-fault : goal.returns-in_err-hand_over_all-clause-fault
+returns-in_err-hand_over_all-clause-fault g c =
     let begun = c.args.self.now in
-    let run = c.loop-line.self in
-    let after = c.carry_out.new.self in
-    let n = c.loop-line.number in
-    let ends = subst (λ (k : ℕ). LineEnds g.R.Rules.table k (n + 1) c.in-Some.line.now (progress run.recorder run.text.items) (progress after.recorder after.text.items) c.carry_out.result) c.loop-line.invariant.limit c.carry_out.ensures.ends in
-    Halts-stopped g.R.Rules.table begun.recorder.limit c.args.script.now (progress begun.recorder begun.text.items) (g.Out.Write.contents c.args.writer.now) c.loop-line.rest.now c.in-Some.line.now _ n (n + 1) (moment_of run.recorder) run.recorder.len (g.Out.Write.contents c.loop-line.writer) run.text.items (progress after.recorder after.text.items) c.in-Ok-Some.stop c.carry_out.result c.loop-line.invariant.so_far c.in-Some.ensures.lines refl ends (cc)
-
-pub returns-in-Err-clause-ok : goal.returns-in-Err-clause-ok
-returns-in-Err-clause-ok g c =
-    let begun = c.args.self.now in
-    let run = c.loop-line.self in
-    let after = c.carry_out.new.self in
-    let n = c.loop-line.number in
-    let ends = subst (λ (k : ℕ). LineEnds g.R.Rules.table k (n + 1) c.in-Some.line.now (progress run.recorder run.text.items) (progress after.recorder after.text.items) c.carry_out.result) c.loop-line.invariant.limit c.carry_out.ensures.ends in
-    Halts-memory g.R.Rules.table begun.recorder.limit c.args.script.now (progress begun.recorder begun.text.items) (g.Out.Write.contents c.args.writer.now) c.loop-line.rest.now c.in-Some.line.now n (n + 1) (moment_of run.recorder) run.recorder.len (g.Out.Write.contents c.loop-line.writer) run.text.items (progress after.recorder after.text.items) c.in-Err.field-0 c.carry_out.result c.loop-line.invariant.so_far ends c.in-Err.is
-
-pub returns-in_err-hand_over-clause-fault : goal.returns-in_err-hand_over-clause-fault
-returns-in_err-hand_over-clause-fault g c =
-    let begun = c.args.self.now in
-    let run = c.loop-line.self in
-    let after = c.carry_out.new.self in
-    let n = c.loop-line.number in
+    let run = c.loop.self in
     let start = progress begun.recorder begun.text.items in
-    let before = progress run.recorder run.text.items in
-    let carried = progress after.recorder after.text.items in
-    let ends = subst (λ (k : ℕ). LineEnds g.R.Rules.table k (n + 1) c.in-Some.line.now before carried c.carry_out.result) c.loop-line.invariant.limit c.carry_out.ensures.ends in
-    let does = LineEnds-done g.R.Rules.table begun.recorder.limit (n + 1) c.in-Some.line.now before carried c.carry_out.result ends (cc) in
-    let so_far = SoFar-line g.R.Rules.table begun.recorder.limit c.args.script.now start (g.Out.Write.contents c.args.writer.now) c.loop-line.rest.now c.in-Some.behind.now c.in-Some.line.now n (moment_of run.recorder) (moment_of after.recorder) run.recorder.len after.recorder.len (g.Out.Write.contents c.loop-line.writer) run.text.items after.text.items c.loop-line.invariant.so_far c.in-Some.ensures.lines c.in-Some.ensures.shorter does in
-    OnErr-holds c.from_residual.result (SoFar-failed g.R.Rules.table begun.recorder.limit c.args.script.now start (g.Out.Write.contents c.args.writer.now) c.in-Some.behind.now (n + 1) (moment_of after.recorder) after.recorder.len (g.Out.Write.contents c.loop-line.writer) (g.Out.Write.contents c.hand_over.new.writer) after.text.items so_far c.in_err-hand_over.ensures.fault)
+    let old = g.Out.Write.contents c.args.writer.now in
+    let known = g.Out.Write.contents c.hand_over_all.new.writer in
+    let stood = c.loop.invariant.stands in
+    OnErr-holds c.from_residual.result
+    (known_read (g.In.Read.remaining c.args.reader.now) (g.In.Read.remaining c.loop.reader) stood.0
+    (λ script. (end : Progress) × LeadsTo g.R.Rules.table begun.recorder.limit (lines_of script) start end × AppendsBeginning old known end.text) stood.1
+    (Stands-began g.R.Rules.table begun.recorder.limit start old stood.0 c.loop.place.begun.items [] c.loop.place.lines (progress run.recorder run.text.items) (g.Out.Write.contents c.loop.writer) known stood.2 c.in_err-hand_over_all.ensures.fault))
 
-pub loop-line-preserved : goal.loop-line-preserved
-loop-line-preserved g c =
+pub returns-in_default-read_on-clause-ok : goal.returns-in_default-read_on-clause-ok
+returns-in_default-read_on-clause-ok g c =
     let begun = c.args.self.now in
-    let run = c.loop-line.self in
-    let after = c.carry_out.new.self in
-    let n = c.loop-line.number in
+    let run = c.loop.self in
     let start = progress begun.recorder begun.text.items in
-    let before = progress run.recorder run.text.items in
-    let carried = progress after.recorder after.text.items in
-    let ends = subst (λ (k : ℕ). LineEnds g.R.Rules.table k (n + 1) c.in-Some.line.now before carried c.carry_out.result) c.loop-line.invariant.limit c.carry_out.ensures.ends in
-    let does = LineEnds-done g.R.Rules.table begun.recorder.limit (n + 1) c.in-Some.line.now before carried c.carry_out.result ends (cc) in
-    let so_far = SoFar-line g.R.Rules.table begun.recorder.limit c.args.script.now start (g.Out.Write.contents c.args.writer.now) c.loop-line.rest.now c.in-Some.behind.now c.in-Some.line.now n (moment_of run.recorder) (moment_of after.recorder) run.recorder.len after.recorder.len (g.Out.Write.contents c.loop-line.writer) run.text.items after.text.items c.loop-line.invariant.so_far c.in-Some.ensures.lines c.in-Some.ensures.shorter does in
+    let old = g.Out.Write.contents c.args.writer.now in
+    let known = g.Out.Write.contents c.hand_over_all.new.writer in
+    let left = c.hand_over_all.new.text.items in
+    let stood = c.loop.invariant.stands in
+    let handed = Stands-handed g.R.Rules.table begun.recorder.limit start old stood.0 c.loop.place.begun.items [] c.loop.place.lines (progress run.recorder run.text.items) (progress run.recorder left) (g.Out.Write.contents c.loop.writer) known stood.2 refl refl c.in_ok-hand_over_all.ensures.ok in
+    known_read (g.In.Read.remaining c.args.reader.now) (g.In.Read.remaining c.loop.reader) stood.0
+    (λ script. Halts g.R.Rules.table begun.recorder.limit (lines_of script) start Unread (λ text. Hands old known text left)) stood.1
+    (Stands-unread g.R.Rules.table begun.recorder.limit start old stood.0 c.loop.place.begun.items [] c.loop.place.lines (progress run.recorder left) known handed)
+
+pub returns-then-len-eq0-clause-ok : goal.returns-then-len-eq0-clause-ok
+returns-then-len-eq0-clause-ok g c =
+    let begun = c.args.self.now in
+    let run = c.loop.self in
+    let place = c.loop.place in
+    let after = c.carry_out_last.new.self in
+    let end = c.carry_out_last.result in
+    let start = progress begun.recorder begun.text.items in
+    let old = g.Out.Write.contents c.args.writer.now in
+    let known = g.Out.Write.contents c.hand_over_all.new.writer in
+    let held = c.hand_over_all.new.text.items in
+    let left = g.In.Read.remaining in
+    let stood = c.loop.invariant.stands in
+    let handed = Stands-handed g.R.Rules.table begun.recorder.limit start old stood.0 place.begun.items [] place.lines (progress run.recorder run.text.items) (progress run.recorder held) (g.Out.Write.contents c.loop.writer) known stood.2 refl refl c.in_ok-hand_over_all.ensures.ok in
+    let none : Consumes (left c.loop.reader) (left c.read_on.new.reader) [] = subst (λ (n : ℕ). Consumes (left c.loop.reader) (left c.read_on.new.reader) (take n c.read_on.new.chunk)) c.if-len-eq0.true c.in-Ok-read_on.ensures.bytes in
+    let used : Consumes (left c.args.reader.now) (left c.read_on.new.reader) stood.0 = subst (Consumes (left c.args.reader.now) (left c.read_on.new.reader)) (append-nil stood.0) (Consumes-trans (left c.args.reader.now) (left c.loop.reader) (left c.read_on.new.reader) stood.0 [] stood.1 none) in
+    Consumes-whole (left c.args.reader.now) (left c.read_on.new.reader) stood.0 (λ script. Halts g.R.Rules.table begun.recorder.limit (lines_of script) start end (λ text. Hands old known text after.text.items)) used (c.in-Ok-read_on.ensures.end c.if-len-eq0.true)
+    (last_at g.R.Rules.table begun.recorder.limit start old run.recorder.limit stood.0 place.begun.items place.lines (progress run.recorder held) known after.text.items end c.loop.invariant.limit c.carry_out_last.ensures.last handed)
+
+pub returns-in_err-end-clause-fault : goal.returns-in_err-end-clause-fault
+returns-in_err-end-clause-fault g c =
+    let begun = c.args.self.now in
+    let run = c.loop.self in
+    let place = c.loop.place in
+    let after = c.carry_out_piece.new.self in
+    let later = c.carry_out_piece.new.place in
+    let start = progress begun.recorder begun.text.items in
+    let old = g.Out.Write.contents c.args.writer.now in
+    let known = g.Out.Write.contents c.hand_over_all.new.writer in
+    let known' = g.Out.Write.contents c.carry_out_piece.new.writer in
+    let held = c.hand_over_all.new.text.items in
+    let left = g.In.Read.remaining in
+    let stood = c.loop.invariant.stands in
+    let handed = Stands-handed g.R.Rules.table begun.recorder.limit start old stood.0 place.begun.items [] place.lines (progress run.recorder run.text.items) (progress run.recorder held) (g.Out.Write.contents c.loop.writer) known stood.2 refl refl c.in_ok-hand_over_all.ensures.ok in
+    let piece = take c.in-Ok-read_on.len c.deref-in-loop.result.now in
+    let same : c.read_on.new.chunk ≡ c.deref-in-loop.result.now = sym (refilled c.loop.chunk.len c.read_on.new.chunk c.loop.chunk.items (c.read_on.ensures.room ∙ c.deref_mut.ensures.len)) ∙ sym c.deref-in-loop.ensures.value in
+    let bytes = subst (λ (l : List ℕ). Consumes (left c.loop.reader) (left c.read_on.new.reader) (take c.in-Ok-read_on.len l)) same c.in-Ok-read_on.ensures.bytes in
+    let used = Consumes-trans (left c.args.reader.now) (left c.loop.reader) (left c.read_on.new.reader) stood.0 piece stood.1 bytes in
+    let ends = piece_at g.R.Rules.table begun.recorder.limit start old run.recorder.limit stood.0 piece place.begun.items later.begun.items place.lines later.lines (progress run.recorder held) (progress after.recorder after.text.items) known known' c.carry_out_piece.result c.loop.invariant.limit c.carry_out_piece.ensures.piece handed in
+    OnErr-holds c.from_residual-in_err-end.result
+    (known_read (left c.args.reader.now) (left c.read_on.new.reader) (stood.0 ++ piece)
+    (λ script. (end : Progress) × LeadsTo g.R.Rules.table begun.recorder.limit (lines_of script) start end × AppendsBeginning old known' end.text) used
+    (piece_fails g.R.Rules.table begun.recorder.limit start old (stood.0 ++ piece) later.begun.items later.lines (progress after.recorder after.text.items) known' c.carry_out_piece.result c.in_err-end.field-0.0 ends c.in_err-end.was))
+
+pub returns-in-Some-clause-ok : goal.returns-in-Some-clause-ok
+returns-in-Some-clause-ok g c =
+    let begun = c.args.self.now in
+    let run = c.loop.self in
+    let place = c.loop.place in
+    let after = c.carry_out_piece.new.self in
+    let later = c.carry_out_piece.new.place in
+    let start = progress begun.recorder begun.text.items in
+    let old = g.Out.Write.contents c.args.writer.now in
+    let known = g.Out.Write.contents c.hand_over_all.new.writer in
+    let known' = g.Out.Write.contents c.carry_out_piece.new.writer in
+    let held = c.hand_over_all.new.text.items in
+    let left = g.In.Read.remaining in
+    let stood = c.loop.invariant.stands in
+    let handed = Stands-handed g.R.Rules.table begun.recorder.limit start old stood.0 place.begun.items [] place.lines (progress run.recorder run.text.items) (progress run.recorder held) (g.Out.Write.contents c.loop.writer) known stood.2 refl refl c.in_ok-hand_over_all.ensures.ok in
+    let piece = take c.in-Ok-read_on.len c.deref-in-loop.result.now in
+    let same : c.read_on.new.chunk ≡ c.deref-in-loop.result.now = sym (refilled c.loop.chunk.len c.read_on.new.chunk c.loop.chunk.items (c.read_on.ensures.room ∙ c.deref_mut.ensures.len)) ∙ sym c.deref-in-loop.ensures.value in
+    let bytes = subst (λ (l : List ℕ). Consumes (left c.loop.reader) (left c.read_on.new.reader) (take c.in-Ok-read_on.len l)) same c.in-Ok-read_on.ensures.bytes in
+    let used = Consumes-trans (left c.args.reader.now) (left c.loop.reader) (left c.read_on.new.reader) stood.0 piece stood.1 bytes in
+    let ends = piece_at g.R.Rules.table begun.recorder.limit start old run.recorder.limit stood.0 piece place.begun.items later.begun.items place.lines later.lines (progress run.recorder held) (progress after.recorder after.text.items) known known' c.carry_out_piece.result c.loop.invariant.limit c.carry_out_piece.ensures.piece handed in
+    known_read (left c.args.reader.now) (left c.read_on.new.reader) (stood.0 ++ piece)
+    (λ script. Halts g.R.Rules.table begun.recorder.limit (lines_of script) start c.in-Some.end (λ text. Hands old known' text after.text.items)) used
+    (piece_stops g.R.Rules.table begun.recorder.limit start old (stood.0 ++ piece) later.begun.items later.lines (progress after.recorder after.text.items) known' c.carry_out_piece.result c.in-Some.end ends (c.in_ok-end.was ∙ ap (λ (o : Option End). Ok o) c.in-Some.is))
+
+pub loop-preserved : goal.loop-preserved
+loop-preserved g c =
+    let begun = c.args.self.now in
+    let run = c.loop.self in
+    let place = c.loop.place in
+    let after = c.carry_out_piece.new.self in
+    let later = c.carry_out_piece.new.place in
+    let start = progress begun.recorder begun.text.items in
+    let old = g.Out.Write.contents c.args.writer.now in
+    let known = g.Out.Write.contents c.hand_over_all.new.writer in
+    let known' = g.Out.Write.contents c.carry_out_piece.new.writer in
+    let held = c.hand_over_all.new.text.items in
+    let left = g.In.Read.remaining in
+    let stood = c.loop.invariant.stands in
+    let handed = Stands-handed g.R.Rules.table begun.recorder.limit start old stood.0 place.begun.items [] place.lines (progress run.recorder run.text.items) (progress run.recorder held) (g.Out.Write.contents c.loop.writer) known stood.2 refl refl c.in_ok-hand_over_all.ensures.ok in
+    let piece = take c.in-Ok-read_on.len c.deref-in-loop.result.now in
+    let same : c.read_on.new.chunk ≡ c.deref-in-loop.result.now = sym (refilled c.loop.chunk.len c.read_on.new.chunk c.loop.chunk.items (c.read_on.ensures.room ∙ c.deref_mut.ensures.len)) ∙ sym c.deref-in-loop.ensures.value in
+    let bytes = subst (λ (l : List ℕ). Consumes (left c.loop.reader) (left c.read_on.new.reader) (take c.in-Ok-read_on.len l)) same c.in-Ok-read_on.ensures.bytes in
+    let used = Consumes-trans (left c.args.reader.now) (left c.loop.reader) (left c.read_on.new.reader) stood.0 piece stood.1 bytes in
+    let ends = piece_at g.R.Rules.table begun.recorder.limit start old run.recorder.limit stood.0 piece place.begun.items later.begun.items place.lines later.lines (progress run.recorder held) (progress after.recorder after.text.items) known known' c.carry_out_piece.result c.loop.invariant.limit c.carry_out_piece.ensures.piece handed in
     record {
-      limit = c.carry_out.ensures.limit ∙ c.loop-line.invariant.limit;
-      so_far = SoFar-handed g.R.Rules.table begun.recorder.limit c.args.script.now start (g.Out.Write.contents c.args.writer.now) c.in-Some.behind.now (n + 1) (moment_of after.recorder) after.recorder.len (g.Out.Write.contents c.loop-line.writer) (g.Out.Write.contents c.hand_over.new.writer) after.text.items c.hand_over.new.text.items so_far c.in_ok-hand_over.ensures.ok;
+      limit = c.carry_out_piece.ensures.limit ∙ c.loop.invariant.limit;
+      stands = (stood.0 ++ piece, used, piece_goes_on g.R.Rules.table begun.recorder.limit start old (stood.0 ++ piece) later.begun.items later.lines (progress after.recorder after.text.items) known' c.carry_out_piece.result ends (c.in_ok-end.was ∙ ap (λ (o : Option End). Ok o) c.in_default-2.is));
+      room =
+          let full : length c.read_on.new.chunk ≡ 65536 = grind arith in
+          let bound = c.in_ok-end.ensures.room (subst (λ (o : Option End). IsNone o) (sym c.in_default-2.is) refl) in
+          omega (arith, bound, c.loop.invariant.room, take_short c.in-Ok-read_on.len c.deref-in-loop.result.now, c.in-Ok-read_on.ensures.few, full);
+      chunk = grind arith;
     }
 
 pub returns-clause-ok : goal.returns-clause-ok
 returns-clause-ok g c =
     let begun = c.args.self.now in
-    let run = c.loop-line.self in
-    Halts-whole g.R.Rules.table begun.recorder.limit c.args.script.now (progress begun.recorder begun.text.items) (g.Out.Write.contents c.args.writer.now) c.loop-line.rest.now c.loop-line.number (moment_of run.recorder) run.recorder.len (g.Out.Write.contents c.loop-line.writer) run.text.items c.loop-line.invariant.so_far c.in_default.ensures.lines
+    let run = c.loop.self in
+    let start = progress begun.recorder begun.text.items in
+    let old = g.Out.Write.contents c.args.writer.now in
+    let known = g.Out.Write.contents c.loop.writer in
+    let stood = c.loop.invariant.stands in
+    known_read (g.In.Read.remaining c.args.reader.now) (g.In.Read.remaining c.loop.reader) stood.0
+    (λ script. Halts g.R.Rules.table begun.recorder.limit (lines_of script) start Unread (λ text. Hands old known text run.text.items)) stood.1
+    (Stands-unread g.R.Rules.table begun.recorder.limit start old stood.0 c.loop.place.begun.items [] c.loop.place.lines (progress run.recorder run.text.items) known stood.2)

@@ -1,15 +1,17 @@
-use Rattle.std.proofs.Common.{◌≡◌, length}
-use Rattle.script_run.specs.Line.{moment_of, progress}
-use Rattle.script_run.proofs.Running.{SoFar}
+use Rattle.std.proofs.Common.{◌≡◌, ◌≤◌, ◌+◌, ◌*◌, ℕ, List, [], length}
+use Rattle.std.specs.Io.KnownBytes.{Consumes}
+use Rattle.script_run.specs.Line.{progress}
+use Rattle.script_run.specs.Place.{Stands}
 use Rattle.script_run.proofs.runner.Run.carry_out_all.Given as goal
 
-abbrev pub invariant-loop-line : goal.invariant-loop-line
-invariant-loop-line g l =
+abbrev pub invariant-loop : goal.invariant-loop
+invariant-loop g l =
     let begun = l.fn.self in
-    let run = l.self in record {
+    let run = l.self in
+    let left = g.In.Read.remaining in record {
       limit : run.recorder.limit ≡ begun.recorder.limit;
-      so_far : SoFar g.R.Rules.table begun.recorder.limit l.script (progress begun.recorder begun.text.items) (g.Out.Write.contents l.fn.writer) l.rest l.number (moment_of run.recorder) run.recorder.len (g.Out.Write.contents l.writer) run.text.items;
+      stands : (read : List ℕ) × Consumes (left l.fn.reader) (left l.reader) read
+          × Stands g.R.Rules.table begun.recorder.limit (progress begun.recorder begun.text.items) (g.Out.Write.contents l.fn.writer) read l.place.begun.items [] l.place.lines (progress run.recorder run.text.items) (g.Out.Write.contents l.writer);
+      room : l.place.lines + length l.place.begun.items ≤ l.counter * 65536;
+      chunk : length l.chunk.items ≡ 65536;
     }
-
-abbrev pub decreases-loop-line : goal.decreases-loop-line
-decreases-loop-line g l = length l.rest

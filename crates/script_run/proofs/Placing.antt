@@ -1,0 +1,316 @@
+-- How far the run of a script has come.
+use Rattle.std.proofs.Common.{◌≡◌, ◌∙◌, ℕ, zero, suc, ◌+◌, ◌<◌, ◌≤◌, List, [], ◌∷◌, ◌++◌, length, take, drop, Option, None, Some, Result, Ok, Err, refl, sym, ap, subst, append_assoc, append-nil, length-append, arith}
+use Rattle.std.proofs.lemmas.Bool.{true≢false}
+use Rattle.std.proofs.Math.Seq.{take-append_seam}
+use Rattle.std.specs.Prelude.{IsErr, IfSome}
+use Rattle.std.proofs.KnownBytes.{Appends-nil, Appends-trans}
+use Rattle.std.specs.Io.KnownBytes.{Appends, Consumes}
+use Rattle.rule_machine.specs.RuleTable.{RuleTable}
+use Rattle.script_machine.specs.Script.{Progress, LineDoes, LinesDo, IsLine, IsBadLine, lines_of}
+use Rattle.script_machine.proofs.Ending.{GoesOn, goes_on, line_joined, lines_of-ended, lines_of-last}
+use Rattle.script_machine.proofs.Lengths.{long_says_nothing}
+use Rattle.byte_output.specs.Beginning.{AppendsBeginning, AppendsLess}
+use Rattle.script_run.specs.declared.stop.Stop.{Stop}
+use Rattle.script_run.specs.declared.stop.Stop.TheVariants.{BadLine, LogFull}
+use Rattle.script_run.specs.declared.stop.End.{End}
+use Rattle.script_run.specs.declared.stop.End.TheVariants.{Whole, Stopped, Unread, Memory}
+use Rattle.script_run.specs.Outcome.{StopsAt, LeadsTo}
+use Rattle.script_run.specs.Halted.{Hands, Halts}
+use Rattle.script_run.specs.Line.{LineEnds}
+use Rattle.script_run.specs.Place.{Stands, PieceEnds}
+use Rattle.script_run.proofs.Shifting.{at_line, line_adds, meeting_adds}
+use Rattle.script_run.proofs.Running.{LinesDo-more, LeadsTo-before, Hands-less, Hands-begun}
+
+-- a buffer that a read has filled anew
+pub refilled : (k : ℕ) (new old : List ℕ) → length new ≡ k → take k (new ++ drop (length new) old) ≡ new
+refilled k new old same = ap (λ n. take n (new ++ drop (length new) old)) (sym same) ∙ take-append_seam new (drop (length new) old)
+
+pub take_short : (n : ℕ) (bytes : List ℕ) → length (take n bytes) ≤ n
+take_short zero bytes = omega arith
+take_short (suc n) [] = omega arith
+take_short (suc n) (b ∷ bytes) = omega (arith, take_short n bytes)
+
+pub none_of : (bytes : List ℕ) → length bytes ≡ 0 → bytes ≡ []
+none_of [] e = refl
+none_of (b ∷ bytes) e = absurd (omega (arith, e))
+
+-- what holds whatever follows the bytes that were read holds of all that the reader had
+pub known_read : (a b : Option (List ℕ)) (read : List ℕ) (P : List ℕ → Type 0) → Consumes a b read → ((more : List ℕ) → P (read ++ more)) → IfSome a P
+known_read None b read P used p = tt
+known_read (Some x) None read P used p = absurd used
+known_read (Some x) (Some y) read P used p = subst P (sym used) (p y)
+
+pub less_is_part : (lines : List (List ℕ)) (t : RuleTable) (limit : ℕ) (start : Progress) (old new : Option (List ℕ))
+    → (end : Progress) × LeadsTo t limit lines start end × AppendsLess old new end.text → (end : Progress) × LeadsTo t limit lines start end × AppendsBeginning old new end.text
+less_is_part lines t limit start old new (end, leads, (n, less, wrote)) = (end, leads, (n, wrote))
+
+module _ (t : RuleTable) (limit : ℕ) (start : Progress) (old : Option (List ℕ)) where
+  -- nothing was read
+  pub Stands-none : Stands t limit start old [] [] [] 0 start old
+  Stands-none = record {
+    before = [];
+    text = start.text;
+    splits = λ more. refl;
+    unended = tt;
+    number = refl;
+    does = refl;
+    handed = record { sent = []; wrote = Appends-nil old; splits = refl };
+  }
+
+  -- so much more was read
+  pub Stands-read : (read begun bytes : List ℕ) (n : ℕ) (now : Progress) (known : Option (List ℕ))
+      → Stands t limit start old read begun [] n now known → Stands t limit start old (read ++ bytes) begun bytes n now known
+  Stands-read read begun bytes n now known h = record {
+    before = h.before;
+    text = h.text;
+    splits = λ more. ap lines_of (append_assoc read bytes more) ∙ h.splits (bytes ++ more);
+    unended = h.unended;
+    number = h.number;
+    does = h.does;
+    handed = h.handed;
+  }
+
+  -- the rest ends no line
+  pub Stands-begun : (read begun rest : List ℕ) (n : ℕ) (now : Progress) (known : Option (List ℕ))
+      → Stands t limit start old read begun rest n now known → IsLine rest → Stands t limit start old read (begun ++ rest) [] n now known
+  Stands-begun read begun rest n now known h line = record {
+    before = h.before;
+    text = h.text;
+    splits = λ more. h.splits more ∙ ap (λ l. h.before ++ lines_of l) (sym (append_assoc begun rest more));
+    unended = line_joined begun rest h.unended line;
+    number = h.number;
+    does = h.does;
+    handed = h.handed;
+  }
+
+  -- where an LF stands next, what was begun ends there
+  first_line : (begun line behind rest more : List ℕ) → IsLine begun → IsLine line → rest ≡ line ++ 10 ∷ behind
+      → lines_of (begun ++ (rest ++ more)) ≡ (begun ++ line) ∷ lines_of (behind ++ more)
+  first_line begun line behind rest more front back e =
+      ap (λ l. lines_of (begun ++ (l ++ more))) e
+      ∙ ap (λ l. lines_of (begun ++ l)) (append_assoc line (10 ∷ behind) more)
+      ∙ ap lines_of (sym (append_assoc begun line (10 ∷ (behind ++ more))))
+      ∙ lines_of-ended (begun ++ line) (behind ++ more) (line_joined begun line front back)
+
+  pub Stands-line : (read begun line behind rest : List ℕ) (n : ℕ) (now after : Progress) (known : Option (List ℕ))
+      → Stands t limit start old read begun rest n now known → IsLine line → rest ≡ line ++ 10 ∷ behind
+      → LineDoes t limit (begun ++ line) now after
+      → Stands t limit start old read [] behind (n + 1) after known
+  Stands-line read begun line behind rest n now after known h ended e line_does =
+      let adds = line_adds t limit (begun ++ line) now.moment after.moment now.count after.count now.text after.text line_does in record {
+        before = h.before ++ (begun ++ line) ∷ [];
+        text = h.text ++ adds.more;
+        splits = λ more. h.splits more ∙ ap (λ l. h.before ++ l) (first_line begun line behind rest more h.unended ended e) ∙ sym (append_assoc h.before ((begun ++ line) ∷ []) (lines_of (behind ++ more)));
+        unended = tt;
+        number = ap (λ m. m + 1) h.number ∙ sym (length-append h.before ((begun ++ line) ∷ []));
+        does = LinesDo-more t limit h.before (begun ++ line) start (at_line now.moment now.count h.text) _ h.does (adds.leads h.text);
+        handed = record {
+          sent = h.handed.sent;
+          wrote = h.handed.wrote;
+          splits = ap (λ l. l ++ adds.more) h.handed.splits ∙ append_assoc h.handed.sent now.text adds.more ∙ ap (λ l. h.handed.sent ++ l) (sym adds.grown);
+        };
+      }
+
+  -- the line that was begun was emptied, and the lines were counted
+  pub moved_on : (read begun rest : List ℕ) (n n' : ℕ) (now : Progress) (known : Option (List ℕ)) → begun ≡ [] → n' ≡ n
+      → Stands t limit start old read [] rest n now known → Stands t limit start old read begun rest n' now known
+  moved_on read begun rest n n' now known none same h =
+      subst (λ l. Stands t limit start old read l rest n' now known) (sym none) (subst (λ m. Stands t limit start old read [] rest m now known) (sym same) h)
+
+  -- some of what was held is written
+  pub Stands-handed : (read begun rest : List ℕ) (n : ℕ) (now later : Progress) (known known' : Option (List ℕ))
+      → Stands t limit start old read begun rest n now known → now.moment ≡ later.moment → now.count ≡ later.count → Hands known known' now.text later.text
+      → Stands t limit start old read begun rest n later known'
+  Stands-handed read begun rest n now later known known' h same count more = record {
+    before = h.before;
+    text = h.text;
+    splits = h.splits;
+    unended = h.unended;
+    number = h.number;
+    does = subst (λ m. LinesDo t limit h.before start (at_line m later.count h.text)) same (subst (λ c. LinesDo t limit h.before start (at_line now.moment c h.text)) count h.does);
+    handed = record {
+      sent = h.handed.sent ++ more.sent;
+      wrote = Appends-trans old known known' h.handed.sent more.sent h.handed.wrote more.wrote;
+      splits = h.handed.splits ∙ ap (λ l. h.handed.sent ++ l) more.splits ∙ sym (append_assoc h.handed.sent more.sent later.text);
+    };
+  }
+
+  -- the lines so far are the first of all
+  pub Stands-leads : (read begun rest : List ℕ) (n : ℕ) (now : Progress) (known : Option (List ℕ)) (h : Stands t limit start old read begun rest n now known)
+      → (more : List ℕ) → LeadsTo t limit (lines_of (read ++ more)) start (at_line now.moment now.count h.text)
+  Stands-leads read begun rest n now known h more =
+      LeadsTo-before t limit h.before (lines_of (begun ++ (rest ++ more))) (lines_of (read ++ more)) start (at_line now.moment now.count h.text) (h.splits more) h.does
+
+  -- what was held could not be written
+  pub Stands-failed : (read begun rest : List ℕ) (n : ℕ) (now : Progress) (known known' : Option (List ℕ))
+      → Stands t limit start old read begun rest n now known → AppendsLess known known' now.text
+      → (more : List ℕ) → (end : Progress) × LeadsTo t limit (lines_of (read ++ more)) start end × AppendsLess old known' end.text
+  Stands-failed read begun rest n now known known' h less more =
+      (at_line now.moment now.count h.text, Stands-leads read begun rest n now known h more, Hands-less old known known' h.text now.text h.handed less)
+
+  pub Stands-began : (read begun rest : List ℕ) (n : ℕ) (now : Progress) (known known' : Option (List ℕ))
+      → Stands t limit start old read begun rest n now known → AppendsBeginning known known' now.text
+      → (more : List ℕ) → (end : Progress) × LeadsTo t limit (lines_of (read ++ more)) start end × AppendsBeginning old known' end.text
+  Stands-began read begun rest n now known known' h part more =
+      (at_line now.moment now.count h.text, Stands-leads read begun rest n now known h more, Hands-begun old known known' h.text now.text h.handed part)
+
+  -- the reader failed
+  pub Stands-unread : (read begun rest : List ℕ) (n : ℕ) (now : Progress) (known : Option (List ℕ)) → Stands t limit start old read begun rest n now known
+      → (more : List ℕ) → Halts t limit (lines_of (read ++ more)) start Unread (λ text. Hands old known text now.text)
+  Stands-unread read begun rest n now known h more = (at_line now.moment now.count h.text, Stands-leads read begun rest n now known h more, h.handed)
+
+  -- memory was refused, and no text was added
+  pub Stands-memory : (read begun rest : List ℕ) (n : ℕ) (now : Progress) (known : Option (List ℕ)) (held : List ℕ) → Stands t limit start old read begun rest n now known → held ≡ now.text
+      → (more : List ℕ) → Halts t limit (lines_of (read ++ more)) start Memory (λ text. Hands old known text held)
+  Stands-memory read begun rest n now known held h kept more =
+      (at_line now.moment now.count h.text, Stands-leads read begun rest n now known h more, subst (Hands old known h.text) (sym kept) h.handed)
+
+  -- the line behind those so far stops the run
+  stops : (read begun rest line : List ℕ) (others : List (List ℕ)) (n : ℕ) (now : Progress) (known : Option (List ℕ)) (more : List ℕ)
+      → (h : Stands t limit start old read begun rest n now known) → lines_of (begun ++ (rest ++ more)) ≡ line ∷ others
+      → StopsAt t limit (lines_of (read ++ more)) start (n + 1) line (at_line now.moment now.count h.text)
+  stops read begun rest line others n now known more h first = record {
+    before = h.before;
+    behind = others;
+    splits = h.splits more ∙ ap (λ l. h.before ++ l) first;
+    number = ap (λ m. m + 1) h.number;
+    does = h.does;
+  }
+
+  stops_bad : (read begun rest line : List ℕ) (others : List (List ℕ)) (n m : ℕ) (now : Progress) (known : Option (List ℕ)) (held more : List ℕ)
+      → Stands t limit start old read begun rest n now known → lines_of (begun ++ (rest ++ more)) ≡ line ∷ others
+      → m ≡ n + 1 → IsBadLine line → held ≡ now.text
+      → Halts t limit (lines_of (read ++ more)) start (Stopped (BadLine m)) (λ text. Hands old known text held)
+  stops_bad read begun rest line others n m now known held more h first same bad kept = (
+    at_line now.moment now.count h.text,
+    (line, subst (λ k. StopsAt t limit (lines_of (read ++ more)) start k line (at_line now.moment now.count h.text)) (sym same) (stops read begun rest line others n now known more h first), bad),
+    subst (Hands old known h.text) (sym kept) h.handed,
+  )
+
+  Stands-stops : (E : Type 0) (read begun rest line : List ℕ) (others : List (List ℕ)) (n : ℕ) (now after : Progress) (known : Option (List ℕ)) (stop : Stop) (more : List ℕ)
+      → Stands t limit start old read begun rest n now known → lines_of (begun ++ (rest ++ more)) ≡ line ∷ others
+      → LineEnds {E = E} t limit (n + 1) line now after (Ok (Some stop))
+      → Halts t limit (lines_of (read ++ more)) start (Stopped stop) (λ text. Hands old known text after.text)
+  Stands-stops E read begun rest line others n now after known (BadLine m) more h first (same, bad, kept) =
+      stops_bad read begun rest line others n m now known after.text more h first same bad (ap (λ (p : Progress). p.text) kept)
+  Stands-stops E read begun rest line others n now after known LogFull more h first meets =
+      let adds = meeting_adds t limit line now.moment after.moment now.count after.count now.text after.text meets in (
+        at_line after.moment after.count (h.text ++ adds.more),
+        (n + 1, line, at_line now.moment now.count h.text, stops read begun rest line others n now known more h first, adds.leads h.text),
+        record {
+          sent = h.handed.sent;
+          wrote = h.handed.wrote;
+          splits = ap (λ l. l ++ adds.more) h.handed.splits ∙ append_assoc h.handed.sent now.text adds.more ∙ ap (λ l. h.handed.sent ++ l) (sym adds.grown);
+        },
+      )
+
+  -- the line that ends next stops the run
+  pub Stands-stopped : {E : Type 0} (read begun line behind rest : List ℕ) (n : ℕ) (now after : Progress) (known : Option (List ℕ)) (stop : Stop) (result : Result (Option Stop) E)
+      → Stands t limit start old read begun rest n now known → IsLine line → rest ≡ line ++ 10 ∷ behind
+      → LineEnds t limit (n + 1) (begun ++ line) now after result → result ≡ Ok (Some stop)
+      → (more : List ℕ) → Halts t limit (lines_of (read ++ more)) start (Stopped stop) (λ text. Hands old known text after.text)
+  Stands-stopped {E} read begun line behind rest n now after known stop result h ended e ends is more =
+      Stands-stops E read begun rest (begun ++ line) (lines_of (behind ++ more)) n now after known stop more h (first_line begun line behind rest more h.unended ended e)
+      (subst (LineEnds t limit (n + 1) (begun ++ line) now after) is ends)
+
+  some_bad : (line more : List ℕ) → 1048576 < length line → IsBadLine (line ++ more)
+  some_bad line more long =
+      let all : 1048576 < length (line ++ more) = omega (arith, long, length-append line more) in
+      ((λ none. absurd (omega (arith, all, ap length none))), long_says_nothing (line ++ more) all)
+
+  long_goes_on : (line behind : List ℕ) → IsLine line → 1048576 < length line → GoesOn line behind
+  long_goes_on [] behind line long = absurd (omega (arith, long))
+  long_goes_on (b ∷ front) behind line long = goes_on b front behind line
+
+  -- a line that has grown too long stops the run, whatever its end is
+  pub Stands-long : (read begun rest : List ℕ) (n : ℕ) (now : Progress) (known : Option (List ℕ))
+      → Stands t limit start old read begun rest n now known → IsLine rest → 1048576 < length begun + length rest
+      → (more : List ℕ) → Halts t limit (lines_of (read ++ more)) start (Stopped (BadLine (n + 1))) (λ text. Hands old known text now.text)
+  Stands-long read begun rest n now known h line long more =
+      let all = line_joined begun rest h.unended line in
+      let length_all : 1048576 < length (begun ++ rest) = omega (arith, long, length-append begun rest) in
+      let on = long_goes_on (begun ++ rest) more all length_all in
+      stops_bad read begun rest ((begun ++ rest) ++ on.more) on.others n (n + 1) now known now.text more h (ap lines_of (sym (append_assoc begun rest more)) ∙ on.lines) refl (some_bad (begun ++ rest) on.more length_all) refl
+
+  -- the end of the script ends what was begun
+  last_line : (begun : List ℕ) → IsLine begun → (begun ≡ [] → ⊥) → lines_of (begun ++ ([] ++ [])) ≡ begun ∷ []
+  last_line [] line some = absurd (some refl)
+  last_line (b ∷ begun) line some = ap lines_of (append-nil (b ∷ begun)) ∙ lines_of-last b begun line
+
+  whole : (read : List ℕ) (P : List (List ℕ) → Type 0) → P (lines_of (read ++ [])) → P (lines_of read)
+  whole read P p = subst (λ l. P (lines_of l)) (append-nil read) p
+
+  -- the script ends, and no line was begun
+  pub Last-none : (read begun : List ℕ) (n : ℕ) (now : Progress) (known : Option (List ℕ)) → Stands t limit start old read begun [] n now known → begun ≡ []
+      → Halts t limit (lines_of read) start Whole (λ text. Hands old known text now.text)
+  Last-none read begun n now known h none =
+      let lines : lines_of (read ++ []) ≡ h.before = h.splits [] ∙ ap (λ l. h.before ++ lines_of (l ++ [])) none ∙ append-nil h.before in
+      (at_line now.moment now.count h.text, subst (λ l. LinesDo t limit l start (at_line now.moment now.count h.text)) (sym lines ∙ ap lines_of (append-nil read)) h.does, h.handed)
+
+  -- it ends behind a line that was carried out
+  pub Last-whole : {E : Type 0} (read begun : List ℕ) (n : ℕ) (now after : Progress) (known : Option (List ℕ)) (result : Result (Option Stop) E) → Stands t limit start old read begun [] n now known → (begun ≡ [] → ⊥)
+      → LineEnds t limit (n + 1) begun now after result → result ≡ Ok None
+      → Halts t limit (lines_of read) start Whole (λ text. Hands old known text after.text)
+  Last-whole read begun n now after known result h some ends is =
+      let does = subst (LineEnds t limit (n + 1) begun now after) is ends in
+      let adds = line_adds t limit begun now.moment after.moment now.count after.count now.text after.text does in
+      let lines : lines_of (read ++ []) ≡ h.before ++ begun ∷ [] = h.splits [] ∙ ap (λ l. h.before ++ l) (last_line begun h.unended some) in
+      let all = LinesDo-more t limit h.before begun start (at_line now.moment now.count h.text) (at_line after.moment after.count (h.text ++ adds.more)) h.does (adds.leads h.text) in (
+        at_line after.moment after.count (h.text ++ adds.more),
+        subst (λ l. LinesDo t limit l start (at_line after.moment after.count (h.text ++ adds.more))) (sym lines ∙ ap lines_of (append-nil read)) all,
+        record {
+          sent = h.handed.sent;
+          wrote = h.handed.wrote;
+          splits = ap (λ l. l ++ adds.more) h.handed.splits ∙ append_assoc h.handed.sent now.text adds.more ∙ ap (λ l. h.handed.sent ++ l) (sym adds.grown);
+        },
+      )
+
+  pub Last-stopped : {E : Type 0} (read begun : List ℕ) (n : ℕ) (now after : Progress) (known : Option (List ℕ)) (stop : Stop) (result : Result (Option Stop) E) → Stands t limit start old read begun [] n now known → (begun ≡ [] → ⊥)
+      → LineEnds t limit (n + 1) begun now after result → result ≡ Ok (Some stop)
+      → Halts t limit (lines_of read) start (Stopped stop) (λ text. Hands old known text after.text)
+  Last-stopped {E} read begun n now after known stop result h some ends is =
+      whole read (λ l. Halts t limit l start (Stopped stop) (λ text. Hands old known text after.text))
+      (Stands-stops E read begun [] begun [] n now after known stop [] h (last_line begun h.unended some) (subst (LineEnds t limit (n + 1) begun now after) is ends))
+
+  pub Last-memory : {E : Type 0} (read begun : List ℕ) (n : ℕ) (now after : Progress) (known : Option (List ℕ)) (want : E) (result : Result (Option Stop) E) → Stands t limit start old read begun [] n now known
+      → LineEnds t limit (n + 1) begun now after result → result ≡ Err want
+      → Halts t limit (lines_of read) start Memory (λ text. Hands old known text after.text)
+  Last-memory read begun n now after known want result h ends is =
+      whole read (λ l. Halts t limit l start Memory (λ text. Hands old known text after.text))
+      (Stands-memory read begun [] n now known after.text h (subst (LineEnds t limit (n + 1) begun now after) is ends) [])
+
+  -- the writer failed
+  pub PieceEnds-failed : {E : Type 0} (read begun : List ℕ) (n : ℕ) (now : Progress) (known : Option (List ℕ)) (result : Result (Option End) E) → IsErr result
+      → ((more : List ℕ) → (end : Progress) × LeadsTo t limit (lines_of (read ++ more)) start end × AppendsLess old known end.text)
+      → PieceEnds t limit start old read begun n now known result
+  PieceEnds-failed read begun n now known (Ok end) is failed = absurd (true≢false (sym is))
+  PieceEnds-failed read begun n now known (Err fault) is failed = failed
+
+  -- a piece is carried out behind what was read before it
+  pub piece_at : {E : Type 0} (k : ℕ) (read bytes begun begun' : List ℕ) (n n' : ℕ) (now now' : Progress) (known known' : Option (List ℕ)) (result : Result (Option End) E) → k ≡ limit
+      → ((start : Progress) (old : Option (List ℕ)) (read : List ℕ) → Stands t k start old read begun bytes n now known → PieceEnds t k start old read begun' n' now' known' result)
+      → Stands t limit start old read begun [] n now known → PieceEnds t limit start old (read ++ bytes) begun' n' now' known' result
+  piece_at k read bytes begun begun' n n' now now' known known' result same piece h =
+      let P : ℕ → Type 0 = λ m. Stands t m start old (read ++ bytes) begun bytes n now known → PieceEnds t m start old (read ++ bytes) begun' n' now' known' result in
+      subst P same (piece start old (read ++ bytes)) (Stands-read read begun bytes n now known h)
+
+  pub last_at : (k : ℕ) (read begun : List ℕ) (n : ℕ) (now : Progress) (known : Option (List ℕ)) (held : List ℕ) (end : End) → k ≡ limit
+      → ((start : Progress) (old known : Option (List ℕ)) (read : List ℕ) → Stands t k start old read begun [] n now known → Halts t k (lines_of read) start end (λ text. Hands old known text held))
+      → Stands t limit start old read begun [] n now known → Halts t limit (lines_of read) start end (λ text. Hands old known text held)
+  last_at k read begun n now known held end same last h =
+      let P : ℕ → Type 0 = λ m. Stands t m start old read begun [] n now known → Halts t m (lines_of read) start end (λ text. Hands old known text held) in
+      subst P same (last start old known read) h
+
+  pub piece_goes_on : {E : Type 0} (read begun : List ℕ) (n : ℕ) (now : Progress) (known : Option (List ℕ)) (result : Result (Option End) E)
+      → PieceEnds t limit start old read begun n now known result → result ≡ Ok None → Stands t limit start old read begun [] n now known
+  piece_goes_on read begun n now known result piece is = subst (PieceEnds t limit start old read begun n now known) is piece
+
+  pub piece_stops : {E : Type 0} (read begun : List ℕ) (n : ℕ) (now : Progress) (known : Option (List ℕ)) (result : Result (Option End) E) (end : End)
+      → PieceEnds t limit start old read begun n now known result → result ≡ Ok (Some end) → (more : List ℕ) → Halts t limit (lines_of (read ++ more)) start end (λ text. Hands old known text now.text)
+  piece_stops read begun n now known result end piece is = subst (PieceEnds t limit start old read begun n now known) is piece
+
+  pub piece_fails : {E : Type 0} (read begun : List ℕ) (n : ℕ) (now : Progress) (known : Option (List ℕ)) (result : Result (Option End) E) (fault : E)
+      → PieceEnds t limit start old read begun n now known result → result ≡ Err fault
+      → (more : List ℕ) → (end : Progress) × LeadsTo t limit (lines_of (read ++ more)) start end × AppendsBeginning old known end.text
+  piece_fails read begun n now known result fault piece is more =
+      less_is_part (lines_of (read ++ more)) t limit start old known (subst (PieceEnds t limit start old read begun n now known) is piece more)

@@ -1,0 +1,29 @@
+-- How far a script was read and carried out.
+use Rattle.std.specs.Prelude.{◌≡◌, ℕ, List, [], ◌++◌, length, Option, None, Some, Result, Ok, Err}
+use Rattle.rule_machine.specs.RuleTable.{RuleTable}
+use Rattle.script_machine.specs.Script.{Progress, LinesDo, IsLine, lines_of}
+use Rattle.byte_output.specs.Beginning.{AppendsLess}
+use Rattle.script_run.specs.declared.stop.End.{End}
+use Rattle.script_run.specs.Halted.{Hands, Halts}
+use Rattle.script_run.specs.Outcome.{LeadsTo}
+
+-- Of the bytes that were read so many lines were carried out, from the first on, and they lead to where the run stands now. Behind
+-- them a line was begun, whose end is not found yet, and the rest was not looked at. Of the text that the lines make the writer has
+-- what stands before that of now.
+pub record Stands (t : RuleTable) (limit : ℕ) (start : Progress) (old : Option (List ℕ)) (read begun rest : List ℕ) (n : ℕ) (now : Progress) (known : Option (List ℕ)) : Type 0 where
+  pub before : List (List ℕ)
+  pub text : List ℕ
+  pub splits : (more : List ℕ) → lines_of (read ++ more) ≡ before ++ lines_of (begun ++ (rest ++ more))
+  pub unended : IsLine begun
+  pub number : n ≡ length before
+  pub does : LinesDo t limit before start (record { moment = now.moment; count = now.count; text = text })
+  pub handed : Hands old known text now.text
+
+-- a piece was carried out up to the line that it begins; or the run ends in it, or the writer failed, whatever follows the bytes
+-- that were read
+abbrev pub PieceEnds : {E : Type 0} → RuleTable → ℕ → Progress → Option (List ℕ) → List ℕ → List ℕ → ℕ → Progress → Option (List ℕ) → Result (Option End) E → Type 0
+PieceEnds t limit start old read begun n now known (Ok None) = Stands t limit start old read begun [] n now known
+PieceEnds t limit start old read begun n now known (Ok (Some end)) =
+    (more : List ℕ) → Halts t limit (lines_of (read ++ more)) start end (λ text. Hands old known text now.text)
+PieceEnds t limit start old read begun n now known (Err failed) =
+    (more : List ℕ) → (end : Progress) × LeadsTo t limit (lines_of (read ++ more)) start end × AppendsLess old known end.text

@@ -1,0 +1,47 @@
+//! A step whose items workers judge.
+
+ghost use Rattle.std.specs.Prelude.{◌≡◌, IsOk};
+ghost use Rattle.rule_machine.specs.declared.event.Event.TheVariants.{Step};
+ghost use Rattle.script_run.specs.Line.{progress, EventEnds};
+
+use crate::runner::Run;
+use line_text::put_entry;
+use rule_machine::{Choice, Event, Want};
+use rule_set::Rules;
+use std::alloc::{AllocError, Global};
+use std::sync::Wait;
+use std::thread::Threads;
+use steal_pool::{NoGate, evaluate};
+use step_log::RecordFault;
+
+impl<R: Rules + Sync> Run<R> {
+    // Carries out a step, whose items the workers judge, and adds the text of its entry; false where the log is full, before
+    // anything is judged.
+    pub fn log_step<T: Threads + Wait + Sync>(
+        &mut self,
+        rt: &T,
+        alloc: Global,
+        choice: Choice,
+    ) -> Result<bool, Want>
+        ensures ends { EventEnds R.table self.old.recorder.limit (Step choice) (progress self.old.recorder self.old.text.items) (progress self.new.recorder self.new.text.items) result }
+        ensures full { self.old.recorder.len ≡ self.old.recorder.limit → IsOk result }
+        ensures limit { self.new.recorder.limit ≡ self.old.recorder.limit }
+    {
+        if self.recorder.is_full() {
+            return Ok(false);
+        }
+        let net = self.recorder.net();
+        let Ok(verdicts) = evaluate(rt, alloc, net, &choice, self.workers, &NoGate) else {
+            return Err(AllocError);
+        };
+        match self.recorder.log_step(&choice, &verdicts) {
+            Ok(answer) => {
+                let event = Event::Step(choice);
+                put_entry(&mut self.text, answer.seq, &event, &answer.reply)?;
+                Ok(true)
+            }
+            Err(RecordFault::LogFull) => Ok(false),
+            Err(RecordFault::Memory) => Err(AllocError),
+        }
+    }
+}
