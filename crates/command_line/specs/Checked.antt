@@ -3,7 +3,7 @@ use Rattle.std.specs.Prelude.{◌≢◌, ℕ, List, Option, Result, Ok, Err}
 use Rattle.std.specs.Io.KnownBytes.{Appends, Keeps}
 use Rattle.byte_output.specs.Beginning.{AppendsBeginning}
 use Rattle.script_run.specs.declared.fault.RunFault.{RunFault}
-use Rattle.script_run.specs.declared.fault.RunFault.TheVariants.{BadLine, LogFull, Read, Write, Memory}
+use Rattle.script_run.specs.declared.fault.RunFault.TheVariants.{BadLine, LogFull, Read, Write, Memory, Pool}
 use Rattle.auditor.specs.declared.fault.AuditFault.TheVariants as fault
 use Rattle.auditor.specs.declared.fault.AuditFault.{AuditFault}
 use Rattle.auditor.specs.declared.summary.Summary.{Summary}
@@ -34,6 +34,7 @@ TellsVerdict old new (Err Read) = Keeps old new
 TellsVerdict old new (Err Memory) = Keeps old new
 TellsVerdict old new (Err LogFull) = ⊥
 TellsVerdict old new (Err (BadLine line)) = ⊥
+TellsVerdict old new (Err (Pool why)) = ⊥
 
 -- the exit status
 abbrev pub verdict_status : CheckEnd → ℕ

@@ -4,7 +4,15 @@ use Rattle.std.specs.declared.io.ErrorKind as io
 use Rattle.std.specs.declared.io.ErrorKind.TheVariants.{InvalidData}
 use Rattle.line_text.specs.Words.{number_text}
 use Rattle.script_run.specs.declared.fault.RunFault.{RunFault}
-use Rattle.script_run.specs.declared.fault.RunFault.TheVariants.{BadLine, LogFull, Read, Write, Memory}
+use Rattle.script_run.specs.declared.fault.RunFault.TheVariants.{BadLine, LogFull, Read, Write, Memory, Pool}
+use Rattle.steal_pool.specs.declared.fault.PoolFault.{PoolFault}
+use Rattle.steal_pool.specs.declared.fault.PoolFault.TheVariants as pool
+
+-- a fault of the workers, with the LF that ends its line
+abbrev pub pool_line : PoolFault → List ℕ
+pool_line pool.ZeroWorkers = codes "! no workers\n"
+pool_line pool.Thread = codes "! no thread\n"
+pool_line pool.Memory = codes "! out of memory\n"
 
 -- a fault of a run, with the LF that ends its line
 abbrev pub fault_line : RunFault → List ℕ
@@ -13,6 +21,12 @@ fault_line LogFull = codes "! log full\n"
 fault_line Read = codes "! read failed\n"
 fault_line Write = codes "! write failed\n"
 fault_line Memory = codes "! out of memory\n"
+fault_line (Pool why) = pool_line why
+
+-- a fault whose line has no number
+abbrev pub IsPlain : RunFault → Type 0
+IsPlain (BadLine line) = ⊥
+IsPlain fault = Unit {0}
 
 -- words that could not be had
 abbrev pub no_words_line : io.ErrorKind → List ℕ

@@ -1,11 +1,12 @@
--- The exit statuses: 0 done, 1 a transcript refused, 2 bad words or a bad line, 3 a read or a write failed, 4 want of memory or a full log.
+-- The exit statuses: 0 done, 1 a transcript refused, 2 bad words or a bad line, 3 a read or a write failed, 4 want of memory, a full log, or workers that
+-- failed.
 use Rattle.std.specs.Prelude.{ℕ, ◌≢◌, ◌≤◌}
 use Rattle.clap.specs.declared.error.kind.ErrorKind.{ErrorKind}
 use Rattle.clap.specs.declared.error.kind.ErrorKind.TheVariants.{OutOfMemory}
 use Rattle.std.specs.declared.io.ErrorKind as io
 use Rattle.std.specs.declared.io.ErrorKind.TheVariants.{InvalidData}
 use Rattle.script_run.specs.declared.fault.RunFault.{RunFault}
-use Rattle.script_run.specs.declared.fault.RunFault.TheVariants.{BadLine, LogFull, Read, Write, Memory}
+use Rattle.script_run.specs.declared.fault.RunFault.TheVariants.{BadLine, LogFull, Read, Write, Memory, Pool}
 
 -- what a fault of a run ends the program with
 abbrev pub status_of : RunFault → ℕ
@@ -14,6 +15,7 @@ status_of Read = 3
 status_of Write = 3
 status_of LogFull = 4
 status_of Memory = 4
+status_of (Pool _) = 4
 
 -- what words that cannot be followed end the program with
 abbrev pub words_status : ErrorKind → ℕ

@@ -23,16 +23,18 @@ use script_run::{Options, RunFault, run};
 use std::alloc::Global;
 use std::convert::AsStr;
 use std::io::{self, Read, Write};
+use std::sync::Wait;
+use std::thread::Threads;
 
-/// The exit status of a run that ended early: 2 for a bad line, 3 where a read or a write failed, 4 for a full log or
-/// want of memory.
+/// The exit status of a run that ended early: 2 for a bad line, 3 where a read or a write failed, 4 for a full log,
+/// want of memory, or workers that failed.
 pub fn status(fault: RunFault) -> u8
     ensures { result ≡ status_of fault }
 {
     match fault {
         RunFault::BadLine { .. } => 2,
         RunFault::Read | RunFault::Write => 3,
-        RunFault::LogFull | RunFault::Memory => 4,
+        RunFault::LogFull | RunFault::Memory | RunFault::Pool(_) => 4,
     }
 }
 
@@ -80,7 +82,8 @@ fn show<Out: Write, Faults: Write>(text: Error, writer: &mut Out, faults: &mut F
 }
 
 // Runs the script, tells a fault, and gives the exit status.
-fn run_script<In: Read, Out: Write, Faults: Write>(
+fn run_script<In: Read, Out: Write, Faults: Write, T: Threads + Wait + Sync>(
+    rt: &T,
     alloc: Global,
     options: &Options,
     reader: &mut In,
@@ -92,7 +95,7 @@ fn run_script<In: Read, Out: Write, Faults: Write>(
         (Out.contents writer.old) (Out.contents writer.new) (Faults.contents faults.old) (Faults.contents faults.new) result) }
     ensures status { IsRunStatus result }
 {
-    match run(alloc, reader, writer, options) {
+    match run(rt, alloc, reader, writer, options) {
         Ok(()) => 0,
         Err(fault) => tell(fault, faults),
     }
@@ -134,7 +137,8 @@ pub fn end_words<Out: Write, Faults: Write>(
 /// or an accepted transcript, or where a transcript, the help or the version was shown; 1 for a refused transcript; 2 for
 /// bad words, a bad line, or an entry that is not there; 3 where a read or a write failed; 4 for want of memory or a full log. Faults are told on `faults`, and
 /// with bad words nothing goes to `writer`.
-pub fn start<S: AsStr, In: Read, Out: Write, Faults: Write>(
+pub fn start<S: AsStr, In: Read, Out: Write, Faults: Write, T: Threads + Wait + Sync>(
+    rt: &T,
     alloc: Global,
     words: &[S],
     reader: &mut In,
@@ -150,7 +154,7 @@ pub fn start<S: AsStr, In: Read, Out: Write, Faults: Write>(
     match read_words(alloc, words) {
         Ok(Task::Run { rules, nodes }) => {
             let options = Options::new(rules, u32::from(nodes)).unwrap();
-            run_script(alloc, &options, reader, writer, faults)
+            run_script(rt, alloc, &options, reader, writer, faults)
         }
         Ok(Task::Audit) => check_transcript(alloc, reader, writer, faults),
         Ok(Task::Picture { entry }) => draw(alloc, entry, reader, writer, faults),

@@ -26,7 +26,7 @@ fn main(rt: HostRuntime) -> ExitCode {
     let plays = matches!(words.get(1), Some(word) if word.as_str() == "storm");
     if !plays {
         let (alloc, given) = (rt.alloc(), words.as_slice());
-        return ExitCode::from(start(alloc, given, &mut reader, &mut writer, &mut faults));
+        return ExitCode::from(start(&rt, alloc, given, &mut reader, &mut writer, &mut faults));
     }
     let asked = match read_storm(rt.alloc(), words.as_slice()) {
         Ok(asked) => asked,

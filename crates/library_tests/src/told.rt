@@ -51,7 +51,7 @@ fn the_status_stays_where_faults_cannot_be_told(rt: HostRuntime) {
     assert!(rt; tell(RunFault::BadLine { line: 7 }, &mut Broken) == 2);
     for words in [["console", "walk"].as_slice(), &[]] {
         let (mut script, mut text) = (b"".as_slice(), Vec::new(rt.alloc()));
-        let status = start(rt.alloc(), words, &mut script, &mut text, &mut Broken);
+        let status = start(&rt, rt.alloc(), words, &mut script, &mut text, &mut Broken);
         assert!(rt; status == 2 && text.is_empty());
     }
 }
