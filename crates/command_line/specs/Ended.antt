@@ -41,9 +41,10 @@ abbrev pub TellsCheck : List ℕ → Known → Known → Known → Known → ℕ
 TellsCheck bytes old new before after status =
     (ended : Result CheckEnd RunFault) × IfOk ended (IsVerdict bytes) × TellsVerdict old new ended × TellsFault before after ended × (status ≡ checked_status ended)
 
--- what is done for a task: where the help or the version is asked for, it is shown, or a write failed
+-- what is done for a task: a run's bytes and status are the same for each number of workers; where the help or the version is
+-- asked for, it is shown, or a write failed
 abbrev pub DoesTask : Task → List ℕ → Known → Known → Known → Known → ℕ → Type 0
-DoesTask (Run rules nodes) input old new before after status = TellsOutcome rules nodes 16777216 input old new before after status
+DoesTask (Run rules nodes workers) input old new before after status = TellsOutcome rules nodes 16777216 input old new before after status
 DoesTask Audit input old new before after status = TellsCheck input old new before after status
 DoesTask (Picture entry) input old new before after status = Views (IsPicture input entry) old new before after status
 DoesTask Epochs input old new before after status = Views (IsTable input) old new before after status

@@ -152,8 +152,16 @@ pub fn start<S: AsStr, In: Read, Out: Write, Faults: Write, T: Threads + Wait + 
     ensures status { IsStatus result }
 {
     match read_words(alloc, words) {
-        Ok(Task::Run { rules, nodes }) => {
-            let options = Options::new(rules, u32::from(nodes)).unwrap();
+        Ok(
+            Task::Run {
+                rules,
+                nodes,
+                workers,
+            },
+        ) => {
+            let options = Options::new(rules, u32::from(nodes))
+                .unwrap()
+                .with_workers(u32::from(workers));
             run_script(rt, alloc, &options, reader, writer, faults)
         }
         Ok(Task::Audit) => check_transcript(alloc, reader, writer, faults),

@@ -1,3 +1,4 @@
+pub mod Adding
 pub mod Found
 pub mod Read
 pub mod GoodWords

@@ -4,19 +4,37 @@ pub(crate) const ABOUT: &str =
     "Pairs up the nodes of a changing network by local rules that mend every \
 disturbance by themselves, and writes down each event and its answer.";
 
+pub(crate) const RULES_HELP: &str =
+    "Whose rules: Hsu and Huang's, one node a step, or Manne's and others', any set of nodes a step";
+
+pub(crate) const NODES_HELP: &str = "How many nodes there are, named 1 to N; at most 65535";
+
+pub(crate) const WORKERS_HELP: &str =
+    "How many workers judge the nodes of a step; 1 to 64, with the same transcript for each number";
+
+pub(crate) const ROAM_HELP: &str =
+    "How many workers move nodes of their own beside the scripts; at most 64";
+
+pub(crate) const TURNS_HELP: &str =
+    "How many turns each of them has, with one move at most in a turn; at most 1000000";
+
+pub(crate) const ENTRY_HELP: &str =
+    "Draws the network after entry K, 0 for the start; after the last entry where none is named";
+
 pub(crate) const EXAMPLES: &str = "\
 Examples:
   console run --rules hh --nodes 4 < script.txt > transcript.txt
   console audit < transcript.txt
   console picture < transcript.txt > matching.dot
-  console storm --rules manne --nodes 4 one.txt two.txt > transcript.txt
+  console storm --rules manne --nodes 4 --roam 2 one.txt two.txt > transcript.txt
   console help run";
 
 pub(crate) const RUN_ABOUT: &str =
     "Runs the script on standard input and writes its transcript to standard output.";
 
 pub(crate) const RUN_NOTES: &str = "\
-The transcript is written as the run goes, in parts of about 64 KiB: a long one can be watched through tee, or by tail -f.
+The entries of all whole lines that were read are written before more is read. So the daemon can be a person or a program at
+the other end of a pipe, who looks at the replies and then chooses; and a long run can be watched through tee, or by tail -f.
 
 Commands of a script, one a line, where A and B are names of nodes:
   link A B      adds an edge            unlink A B    removes it
@@ -30,6 +48,7 @@ Commands of a script, one a line, where A and B are names of nodes:
 
 Examples:
   console run --rules manne --nodes 4 < script.txt > transcript.txt
+  console run --rules manne --nodes 60000 --workers 4 < script.txt > transcript.txt
   printf 'link 1 2\\nstep 1\\nstep 2\\nmatching\\n' | console run --rules hh --nodes 2
 
 Exit status:
@@ -107,8 +126,12 @@ pub(crate) const STORM_NOTES: &str = "\
 Each script has the commands of run, and they are carried out in its order, between those of the others in any way. All scripts
 are read before the first command. When all have ended, the log is settled against what each of them did, and is written.
 
+Roaming workers need no script: in turn t, from 0, such a worker lets one enabled node move, the one at place t modulo their
+number, ascending from 0; where no node is enabled, the turn passes.
+
 Examples:
   console storm --rules hh --nodes 4 one.txt two.txt > transcript.txt
+  console storm --rules manne --nodes 9 --workers 2 --roam 4 --turns 500 one.txt two.txt > transcript.txt
   console storm --rules manne --nodes 9 one.txt two.txt | console audit
 
 Exit status:

@@ -41,7 +41,10 @@ fn main(rt: HostRuntime) -> ExitCode {
             return ExitCode::from(storm_end(Err(StormFault::Memory), &mut faults));
         }
     }
-    let options = Options::new(asked.rules, u32::from(asked.nodes)).unwrap();
+    let options = Options::new(asked.rules, u32::from(asked.nodes))
+        .unwrap()
+        .with_workers(u32::from(asked.workers))
+        .with_roam(u32::from(asked.roamers), asked.turns);
     let ended = storm(&rt, rt.alloc(), &options, scripts, &mut writer, &NoGate);
     ExitCode::from(storm_end(ended, &mut faults))
 }

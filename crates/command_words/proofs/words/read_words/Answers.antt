@@ -22,3 +22,10 @@ returns-in-Err-clause-wanted g c task w =
     let made = c.in_ok-command.ensures in
     let words = map g.S.AsStr.text c.args.words.now in
     c.in-Err.ensures.passes (taken (app_of c.in_ok-command.command) made.0 words task made.1 made.2 w)
+
+pub returns-in-Ok-clause-wanted : goal.returns-in-Ok-clause-wanted
+returns-in-Ok-clause-wanted g c task w =
+    let made = c.in_ok-command.ensures in
+    let words = map g.S.AsStr.text c.args.words.now in
+    let found = matched (app_of c.in_ok-command.command) made.0 words c.in-Ok.found made.2 c.in-Ok.ensures.ok.2 in
+    absurd (unwanted made.0 words (subcommand_rows_of c.in-Ok.found) made.1 found c.in-None.ensures task w)
