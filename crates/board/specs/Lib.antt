@@ -1,0 +1,5 @@
+pub mod History
+pub mod Kept
+pub mod Row
+pub mod Rule
+pub mod Sight
