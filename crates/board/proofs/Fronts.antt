@@ -1,5 +1,5 @@
 -- Beginnings of one list, and what a longer history shows.
-use Rattle.std.proofs.Common.{◌≡◌, ℕ, zero, suc, ◌+◌, ◌≤◌, List, [], ◌∷◌, ◌++◌, length, fold, Option, Some, None, refl, ap, sym, ◌∙◌, subst, arith, append_assoc, length-append}
+use Rattle.std.proofs.Common.{◌≡◌, ◌+◌, ◌≤◌, List, [], ◌∷◌, ◌++◌, length, fold, Some, None, refl, ap, sym, ◌∙◌, subst, arith, append_assoc, length-append}
 use Rattle.std.proofs.lemmas.List.{append-nil}
 use Rattle.std.proofs.lemmas.List.Sums.{fold-append}
 use mathlib.Core.List.{IsPrefix}
@@ -54,10 +54,10 @@ one_more : (xs ys rest : List Mark) → xs ++ rest ≡ ys → length rest ≤ 1 
 one_more xs ys [] is le = subst (λ (l : List Mark). IsPrefix (published l) (shown xs)) (sym (append-nil xs) ∙ is) (prefix_more (published xs) (posted xs))
 one_more xs ys (Some entry ∷ []) is le =
     subst (λ (l : List Mark). IsPrefix (published l) (shown xs)) is
-      (subst (λ (s : List Entry × List Entry). IsPrefix s.0 (shown xs)) (sym (fold-append marked ([], []) xs (Some entry ∷ []))) (prefix_more (published xs) (posted xs)))
+    (subst (λ (s : List Entry × List Entry). IsPrefix s.0 (shown xs)) (sym (fold-append marked ([], []) xs (Some entry ∷ []))) (prefix_more (published xs) (posted xs)))
 one_more xs ys (None ∷ []) is le =
     subst (λ (l : List Mark). IsPrefix (published l) (shown xs)) is
-      (subst (λ (s : List Entry × List Entry). IsPrefix s.0 (shown xs)) (sym (fold-append marked ([], []) xs (None ∷ []))) (prefix_self (shown xs)))
+    (subst (λ (s : List Entry × List Entry). IsPrefix s.0 (shown xs)) (sym (fold-append marked ([], []) xs (None ∷ []))) (prefix_self (shown xs)))
 one_more xs ys (a ∷ b ∷ rest) is le = absurd (omega arith)
 
 -- Of two beginnings of one history, what the one published begins what the other shows, if the other lacks one mark of
@@ -67,6 +67,6 @@ is_shown xs ys all p q le =
     dite (dec_le (length xs) (length ys))
     (λ short. prefix_trans (published xs) (published ys) (shown ys) (published_grows xs ys (prefix_shorter xs ys all p q short)) (prefix_more (published ys) (posted ys)))
     (λ long.
-      let r = prefix_shorter ys xs all q p (omega arith) in
-      let n : length r.0 ≤ 1 = omega (arith, length-append ys r.0, ap length r.1) in
-      one_more ys xs r.0 r.1 n)
+    let r = prefix_shorter ys xs all q p (omega arith) in
+    let n : length r.0 ≤ 1 = omega (arith, length-append ys r.0, ap length r.1) in
+    one_more ys xs r.0 r.1 n)

@@ -1,5 +1,5 @@
 -- The history of a board: the entries that were posted, and which of them were published.
-use Rattle.std.specs.Prelude.{ℕ, List, [], ◌∷◌, ◌++◌, Option, None, Some, fold}
+use Rattle.std.specs.Prelude.{List, [], ◌∷◌, ◌++◌, Option, None, Some, fold}
 use Rattle.rule_machine.specs.Run.{Entry}
 
 -- an entry that is posted, in place of the one before if that was not published; or none, where what was posted last is

@@ -1,5 +1,5 @@
 -- The pointer registers alone, as a log of events and replies changes them. A name is its own place, and place 0 is nobody's.
-use Rattle.std.specs.Prelude.{ℕ, List, [], Option, None, Some, fold, replicate, slice_index_or, slice_set, Bool, if◌then◌else◌}
+use Rattle.std.specs.Prelude.{ℕ, List, Option, None, Some, fold, replicate, slice_index_or, slice_set, if◌then◌else◌}
 use Rattle.rule_machine.specs.declared.act.Act.{Act}
 use Rattle.rule_machine.specs.declared.act.Act.TheVariants.{Update, Marry, Seduce, Abandon}
 use Rattle.rule_machine.specs.declared.event.Event.{Event}

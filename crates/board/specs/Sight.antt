@@ -1,5 +1,5 @@
 -- What one copy holds, as contracts see it.
-use Rattle.std.specs.Prelude.{ℕ, ◌<◌, List, Option, None, Some, length, replicate, [], if◌then◌else◌, nat_lt}
+use Rattle.std.specs.Prelude.{ℕ, List, Option, None, Some, length, replicate, if◌then◌else◌, nat_lt}
 use Rattle.rule_machine.specs.Run.{Entry}
 use Rattle.logbook.specs.Pages.{Book}
 use Rattle.board.specs.History.{Mark}

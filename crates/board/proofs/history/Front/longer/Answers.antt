@@ -1,4 +1,4 @@
-use Rattle.std.proofs.Common.{◌≤◌, ap, subst, sym, arith, length, List}
+use Rattle.std.proofs.Common.{◌≤◌, ap, subst, arith, length, List}
 use mathlib.Core.List.{IsPrefix}
 use Rattle.board.specs.History.{Mark}
 use Rattle.board.proofs.Fronts.{prefix_shorter}
