@@ -1,12 +1,12 @@
 -- What posting and publishing make of a board.
-use Rattle.std.proofs.Common.{◌≡◌, ℕ, ◌+◌, ◌<◌, List, [], ◌∷◌, ◌++◌, length, fold, Option, Some, None, inl, inr, ⊎_elim, refl, ap, sym, ◌∙◌, subst, arith}
+use Rattle.std.proofs.Common.{◌≡◌, ℕ, ◌+◌, List, [], ◌∷◌, ◌++◌, length, Option, Some, inr, ⊎_elim, refl, ap, sym, ◌∙◌, subst}
 use Rattle.std.proofs.lemmas.List.Sums.{fold-append}
 use Rattle.rule_machine.specs.Run.{Entry}
 use Rattle.logbook.specs.Pages.{Book}
 use Rattle.board.specs.declared.image.Posted.{Posted}
 use Rattle.board.specs.History.{Mark, marked, standing, published, posted, shown}
 use Rattle.board.specs.Sight.{Sight}
-use Rattle.board.specs.Rule.{Follows, Sees}
+use Rattle.board.specs.Rule.{Follows}
 use Rattle.board.specs.Boards.{entries_of, absorbed, IsReady, Fits, IsBoard}
 use Rattle.board.proofs.Turning.{follows_self, later, goes_on}
 
@@ -18,22 +18,8 @@ none_pending (p ∷ pending) is = absurd (cc is)
 post_standing : (marks : List Mark) (entry : Entry) → standing (marks ++ Some entry ∷ []) ≡ (published marks, entry ∷ [])
 post_standing marks entry = fold-append marked ([], []) marks (Some entry ∷ [])
 
-publish_standing : (marks : List Mark) → standing (marks ++ None ∷ []) ≡ (shown marks, [])
-publish_standing marks = fold-append marked ([], []) marks (None ∷ [])
-
 module _ (law : ℕ → List Entry → Type 0) (x : Sight) (known : Option Sight) (marks : List Mark) (book : Book) (told : List Mark) where
-  -- a board whose history went on, while nothing could be appended
-  pub refused : (marks' : List Mark) (book' : Book) (entry : Entry) → IsBoard law x known [] marks book told → marks' ≡ marks ++ Some entry ∷ [] → book' ≡ book
-      → IsBoard law x known [] marks' book' told
-  refused marks' book' entry b is same = record {
-    sound = b.sound;
-    knows = b.knows;
-    same = same ∙ b.same;
-    list = ap published is ∙ (ap (λ s. s.0) (post_standing marks entry) ∙ b.list);
-    ready = inl refl;
-    is_told = b.is_told;
-  }
-
+  -- the entry that was appended is the one that the history has posted last
   pub posts : (marks' : List Mark) (book' : Book) (p : Posted) → IsBoard law x known [] marks book told → marks' ≡ marks ++ Some p.entry ∷ [] → book' ≡ book
       → p.past.seen.log ≡ marks' → p.past.seen.book ≡ book' → p.front ≡ length (shown x.marks) + 1 → IsBoard law x known (p ∷ []) marks' book' told
   posts marks' book' p b is same log at number = record {
@@ -62,26 +48,4 @@ module _ (law : ℕ → List Entry → Type 0) (x : Sight) (known : Option Sight
         later law x p.entry p.front p.past.seen.log p.past.seen.book more f.number here,
         subst (λ (k : Book). Follows (Some x) (record (absorbed x p) { book = k })) (sym at) (goes_on law x p.entry p.front p.past.seen.log more),
       ))
-      b.ready
-
-  -- once the copy with the posted entry is shown, and the history says so, nothing is pending
-  pub publishes : (pending : List Posted) (y : Sight) (known' : Option Sight) (marks' told' : List Mark) (book' : Book)
-      → IsBoard law x known pending marks book told → 0 < length pending → y ≡ fold absorbed x pending → Sees law known x y known'
-      → marks' ≡ marks ++ None ∷ [] → book' ≡ book → told' ≡ marks' → IsBoard law y known' [] marks' book' told'
-  publishes pending y known' marks' told' book' b some is sees said same told_is =
-      ⊎_elim (λ (none : pending ≡ []). absurd (omega (arith, some, ap length none)))
-      (λ (one : (p : Posted) × (pending ≡ p ∷ []) × Fits x marks book p).
-      let p = one.0 in
-      let f = one.2 in
-      let y_is : y ≡ absorbed x p = is ∙ ap (fold absorbed x) one.1 in
-      let list : published marks' ≡ shown y.marks =
-      ap published said ∙ (ap (λ s. s.0) (publish_standing marks) ∙ (sym (ap shown f.past) ∙ sym (ap (λ z. shown z.marks) y_is))) in
-      record {
-        sound = sees.2;
-        knows = sees.0;
-        same = same ∙ (sym f.same ∙ sym (ap (λ z. z.book) y_is));
-        list = list;
-        ready = inl refl;
-        is_told = ap published told_is ∙ list;
-      })
       b.ready
