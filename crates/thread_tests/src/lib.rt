@@ -1,6 +1,9 @@
 //! Tests of what threads share: clerks of one network, those that roam, and scripts that are played at once.
+//! Tests of what threads share: boards and their readers, clerks of one network, and scripts that are played at once.
 #![tactic(auto)]
 
+#[cfg(test)]
+mod boards;
 #[cfg(test)]
 mod clerks;
 #[cfg(test)]

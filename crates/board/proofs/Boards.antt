@@ -1,0 +1,51 @@
+-- What posting and publishing make of a board.
+use Rattle.std.proofs.Common.{◌≡◌, ℕ, ◌+◌, List, [], ◌∷◌, ◌++◌, length, Option, Some, inr, ⊎_elim, refl, ap, sym, ◌∙◌, subst}
+use Rattle.std.proofs.lemmas.List.Sums.{fold-append}
+use Rattle.rule_machine.specs.Run.{Entry}
+use Rattle.logbook.specs.Pages.{Book}
+use Rattle.board.specs.declared.image.Posted.{Posted}
+use Rattle.board.specs.History.{Mark, marked, standing, published, posted, shown}
+use Rattle.board.specs.Sight.{Sight}
+use Rattle.board.specs.Rule.{Follows}
+use Rattle.board.specs.Boards.{entries_of, absorbed, IsReady, Fits, IsBoard}
+use Rattle.board.proofs.Turning.{follows_self, later, goes_on}
+
+pub none_pending : (pending : List Posted) → entries_of pending ≡ [] → pending ≡ []
+none_pending [] is = refl
+none_pending (p ∷ pending) is = absurd (cc is)
+
+-- an entry that is posted changes nothing of what is published, and is the one that is posted last
+post_standing : (marks : List Mark) (entry : Entry) → standing (marks ++ Some entry ∷ []) ≡ (published marks, entry ∷ [])
+post_standing marks entry = fold-append marked ([], []) marks (Some entry ∷ [])
+
+module _ (law : ℕ → List Entry → Type 0) (x : Sight) (known : Option Sight) (marks : List Mark) (book : Book) (told : List Mark) where
+  -- the entry that was appended is the one that the history has posted last
+  pub posts : (marks' : List Mark) (book' : Book) (p : Posted) → IsBoard law x known [] marks book told → marks' ≡ marks ++ Some p.entry ∷ [] → book' ≡ book
+      → p.past.seen.log ≡ marks' → p.past.seen.book ≡ book' → p.front ≡ length (shown x.marks) + 1 → IsBoard law x known (p ∷ []) marks' book' told
+  posts marks' book' p b is same log at number = record {
+    sound = b.sound;
+    knows = b.knows;
+    same = same ∙ b.same;
+    list = ap published is ∙ (ap (λ s. s.0) (post_standing marks p.entry) ∙ b.list);
+    ready = inr (p, refl, record { past = log; same = at; number = number; last = ap posted is ∙ ap (λ s. s.1) (post_standing marks p.entry) });
+    is_told = b.is_told;
+  }
+
+  -- what the posted entry makes of the entries that are shown
+  shows_more : (pending : List Posted) (p : Posted) → IsBoard law x known pending marks book told → Fits x marks book p → shown p.past.seen.log ≡ shown x.marks ++ p.entry ∷ []
+  shows_more pending p b f = ap shown f.past ∙ (ap (λ l. l ++ posted marks) b.list ∙ ap (λ l. shown x.marks ++ l) f.last)
+
+  pub is_ready : (pending : List Posted) → IsBoard law x known pending marks book told → law (length x.row) (shown x.marks ++ entries_of pending) → IsReady law x pending
+  is_ready pending b holds =
+      ⊎_elim (λ (none : pending ≡ []). subst (IsReady law x) (sym none) (λ s. s, follows_self x))
+      (λ (one : (p : Posted) × (pending ≡ p ∷ []) × Fits x marks book p).
+      let p = one.0 in
+      let f = one.2 in
+      let more : shown p.past.seen.log ≡ shown x.marks ++ p.entry ∷ [] = shows_more pending p b f in
+      let here : law (length x.row) (shown x.marks ++ p.entry ∷ []) = subst (λ (l : List Posted). law (length x.row) (shown x.marks ++ entries_of l)) one.1 holds in
+      let at : p.past.seen.book ≡ x.book = f.same ∙ b.same in
+      subst (IsReady law x) (sym one.1) (
+        later law x p.entry p.front p.past.seen.log p.past.seen.book more f.number here,
+        subst (λ (k : Book). Follows (Some x) (record (absorbed x p) { book = k })) (sym at) (goes_on law x p.entry p.front p.past.seen.log more),
+      ))
+      b.ready

@@ -1,0 +1,72 @@
+-- Beginnings of one list, and what a longer history shows.
+use Rattle.std.proofs.Common.{◌≡◌, ◌+◌, ◌≤◌, List, [], ◌∷◌, ◌++◌, length, fold, Some, None, refl, ap, sym, ◌∙◌, subst, arith, append_assoc, length-append}
+use Rattle.std.proofs.lemmas.List.{append-nil}
+use Rattle.std.proofs.lemmas.List.Sums.{fold-append}
+use mathlib.Core.List.{IsPrefix}
+use mathlib.Core.Logic.{dite}
+use native.Mathlib.Decide.{dec_le}
+use Rattle.rule_machine.specs.Run.{Entry}
+use Rattle.board.specs.History.{Mark, marked, standing, published, posted, shown}
+
+module _ {A : Type 0} where
+  pub prefix_self : (xs : List A) → IsPrefix xs xs
+  prefix_self xs = ([], append-nil xs)
+
+  pub prefix_more : (xs ys : List A) → IsPrefix xs (xs ++ ys)
+  prefix_more xs ys = (ys, refl)
+
+  pub prefix_trans : (xs ys zs : List A) → IsPrefix xs ys → IsPrefix ys zs → IsPrefix xs zs
+  prefix_trans xs ys zs p q = (p.0 ++ q.0, sym (append_assoc xs p.0 q.0) ∙ (ap (λ w. w ++ q.0) p.1 ∙ q.1))
+
+  -- of two beginnings of one list the shorter begins the longer
+  pub prefix_shorter : (xs ys zs : List A) → IsPrefix xs zs → IsPrefix ys zs → length xs ≤ length ys → IsPrefix xs ys
+  prefix_shorter [] ys zs p q le = (ys, refl)
+  prefix_shorter (x ∷ xs) [] zs p q le = absurd (omega arith)
+  prefix_shorter (x ∷ xs) (y ∷ ys) [] p q le = absurd (cc (p.1))
+  prefix_shorter (x ∷ xs) (y ∷ ys) (z ∷ zs) p q le =
+      let heads : x ≡ y = cc (p.1, q.1) in
+      let rest = prefix_shorter xs ys zs (p.0, cc (p.1)) (q.0, cc (q.1)) (omega arith) in
+      (rest.0, cc (heads, rest.1))
+
+  -- a beginning as long as the whole is the whole
+  pub prefix_whole : (xs ys : List A) → IsPrefix xs ys → length ys ≤ length xs → xs ≡ ys
+  prefix_whole [] [] p le = refl
+  prefix_whole [] (y ∷ ys) p le = absurd (omega arith)
+  prefix_whole (x ∷ xs) [] p le = absurd (cc (p.1))
+  prefix_whole (x ∷ xs) (y ∷ ys) p le =
+      let rest = prefix_whole xs ys (p.0, cc (p.1)) (omega arith) in cc (p.1, rest)
+
+-- marks take nothing away from what is published
+grows : (marks : List Mark) (s : List Entry × List Entry) → IsPrefix s.0 (fold marked s marks).0
+grows [] s = prefix_self s.0
+grows (Some entry ∷ marks) s = grows marks (s.0, entry ∷ [])
+grows (None ∷ marks) s =
+    prefix_trans s.0 (s.0 ++ s.1) (fold marked (s.0 ++ s.1, []) marks).0 (prefix_more s.0 s.1) (grows marks (s.0 ++ s.1, []))
+
+-- what a beginning of a history published begins what the history published
+pub published_grows : (xs ys : List Mark) → IsPrefix xs ys → IsPrefix (published xs) (published ys)
+published_grows xs ys p =
+    let is : fold marked (standing xs) p.0 ≡ standing ys = sym (fold-append marked ([], []) xs p.0) ∙ ap standing p.1 in
+    subst (λ (s : List Entry × List Entry). IsPrefix (published xs) s.0) is (grows p.0 (standing xs))
+
+-- with one mark more, at most the posted entry is published
+one_more : (xs ys rest : List Mark) → xs ++ rest ≡ ys → length rest ≤ 1 → IsPrefix (published ys) (shown xs)
+one_more xs ys [] is le = subst (λ (l : List Mark). IsPrefix (published l) (shown xs)) (sym (append-nil xs) ∙ is) (prefix_more (published xs) (posted xs))
+one_more xs ys (Some entry ∷ []) is le =
+    subst (λ (l : List Mark). IsPrefix (published l) (shown xs)) is
+    (subst (λ (s : List Entry × List Entry). IsPrefix s.0 (shown xs)) (sym (fold-append marked ([], []) xs (Some entry ∷ []))) (prefix_more (published xs) (posted xs)))
+one_more xs ys (None ∷ []) is le =
+    subst (λ (l : List Mark). IsPrefix (published l) (shown xs)) is
+    (subst (λ (s : List Entry × List Entry). IsPrefix s.0 (shown xs)) (sym (fold-append marked ([], []) xs (None ∷ []))) (prefix_self (shown xs)))
+one_more xs ys (a ∷ b ∷ rest) is le = absurd (omega arith)
+
+-- Of two beginnings of one history, what the one published begins what the other shows, if the other lacks one mark of
+-- the one at most.
+pub is_shown : (xs ys all : List Mark) → IsPrefix xs all → IsPrefix ys all → length xs ≤ length ys + 1 → IsPrefix (published xs) (shown ys)
+is_shown xs ys all p q le =
+    dite (dec_le (length xs) (length ys))
+    (λ short. prefix_trans (published xs) (published ys) (shown ys) (published_grows xs ys (prefix_shorter xs ys all p q short)) (prefix_more (published ys) (posted ys)))
+    (λ long.
+    let r = prefix_shorter ys xs all q p (omega arith) in
+    let n : length r.0 ≤ 1 = omega (arith, length-append ys r.0, ap length r.1) in
+    one_more ys xs r.0 r.1 n)

@@ -1,0 +1,6 @@
+pub mod Adding
+pub mod Boards
+pub mod Fronts
+pub mod Machine
+pub mod Rows
+pub mod Turning

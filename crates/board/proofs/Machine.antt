@@ -1,0 +1,135 @@
+-- What a run makes of the pointers.
+use Rattle.std.proofs.Common.{◌≡◌, ℕ, Bool, true, false, List, [], ◌∷◌, ◌++◌, fold, Option, Some, None, refl, ap, sym, ◌∙◌, subst}
+use Rattle.std.specs.Prelude.{slice_set, if◌then◌else◌}
+use mathlib.Core.List.{IsPrefix}
+use Rattle.rule_machine.specs.declared.act.Act.{Act}
+use Rattle.rule_machine.specs.declared.act.Act.TheVariants.{Update, Marry, Seduce, Abandon}
+use Rattle.rule_machine.specs.declared.event.Event.{Event}
+use Rattle.rule_machine.specs.declared.event.Event.TheVariants.{Link, Unlink, Point, Flag, Step, Show, Enabled, Matching, Status}
+use Rattle.rule_machine.specs.declared.moved.Moved.{Moved}
+use Rattle.rule_machine.specs.declared.refusal.Refusal.{Refusal}
+use Rattle.rule_machine.specs.declared.reply.Reply.{Reply}
+use Rattle.rule_machine.specs.declared.reply.Reply.TheVariants.{Accepted, Refused, Moves, Shown, EnabledAre, Pairs, Counts}
+use Rattle.rule_machine.specs.State.{State, Registers, with_pointer, points}
+use Rattle.rule_machine.specs.RuleTable.{RuleTable}
+use Rattle.rule_machine.specs.Refuse.{refusal_of}
+use Rattle.rule_machine.specs.Step.{written, after_move}
+use Rattle.rule_machine.specs.Disturbance.{without_pointer}
+use Rattle.rule_machine.specs.Answer.{Does, AnswersBy, Answers, spent_after}
+use Rattle.rule_machine.specs.Run.{Entry, Moment, Run, beginning}
+use Rattle.board.specs.Row.{Row, cleared, moved_by, moved, effect_of, effect}
+use Rattle.board.specs.Runs.{IsRun}
+
+abbrev pub pointers_of : State → Row
+pointers_of s = s.registers.pointers
+
+cleared_if : (r : Registers) (v : ℕ) (b : Bool) → (if b then with_pointer r v None else r).pointers ≡ if b then slice_set r.pointers v None else r.pointers
+cleared_if r v true = refl
+cleared_if r v false = refl
+
+without : (r : Registers) (v w : ℕ) → (without_pointer r v w).pointers ≡ cleared r.pointers v w
+without r v w = cleared_if r v (points r v w)
+
+unlinked : (r : Registers) (a b : ℕ) → (without_pointer (without_pointer r a b) b a).pointers ≡ cleared (cleared r.pointers a b) b a
+unlinked r a b = without (without_pointer r a b) b a ∙ ap (λ row. cleared row b a) (without r a b)
+
+one : (s : State) (r : Registers) (v : ℕ) (act : Act) (target : Option ℕ) → (written s r v act target).pointers ≡ moved_by r.pointers v act target
+one s r v Update target = refl
+one s r v Marry target = refl
+one s r v Seduce target = refl
+one s r v Abandon target = refl
+
+-- the moves of a step, one after another
+made : (s : State) (moves : List Moved) (r : Registers) → (fold (after_move s) r moves).pointers ≡ fold moved r.pointers moves
+made s [] r = refl
+made s (m ∷ moves) r = made s moves (after_move s r m) ∙ ap (λ row. fold moved row moves) (one s r m.node m.act m.target)
+
+module _ (t : RuleTable) (s : State) (spent : ℕ) (s' : State) where
+  does : (event : Event) (reply : Reply) → Does t s spent event reply s' → pointers_of s' ≡ effect_of s.registers.pointers event reply
+  does (Link a b) Accepted h = ap pointers_of h
+  does (Link a b) (Refused refusal) h = absurd h
+  does (Link a b) (Moves moves) h = absurd h
+  does (Link a b) (Shown target) h = absurd h
+  does (Link a b) (EnabledAre nodes) h = absurd h
+  does (Link a b) (Pairs pairs) h = absurd h
+  does (Link a b) (Counts counts) h = absurd h
+  does (Unlink a b) Accepted h = ap pointers_of h ∙ unlinked s.registers a b
+  does (Unlink a b) (Refused refusal) h = absurd h
+  does (Unlink a b) (Moves moves) h = absurd h
+  does (Unlink a b) (Shown target) h = absurd h
+  does (Unlink a b) (EnabledAre nodes) h = absurd h
+  does (Unlink a b) (Pairs pairs) h = absurd h
+  does (Unlink a b) (Counts counts) h = absurd h
+  does (Point v target) Accepted h = ap pointers_of h
+  does (Point v target) (Refused refusal) h = absurd h
+  does (Point v target) (Moves moves) h = absurd h
+  does (Point v target) (Shown shown) h = absurd h
+  does (Point v target) (EnabledAre nodes) h = absurd h
+  does (Point v target) (Pairs pairs) h = absurd h
+  does (Point v target) (Counts counts) h = absurd h
+  does (Flag v value) Accepted h = ap pointers_of h
+  does (Flag v value) (Refused refusal) h = absurd h
+  does (Flag v value) (Moves moves) h = absurd h
+  does (Flag v value) (Shown target) h = absurd h
+  does (Flag v value) (EnabledAre nodes) h = absurd h
+  does (Flag v value) (Pairs pairs) h = absurd h
+  does (Flag v value) (Counts counts) h = absurd h
+  does (Step items) Accepted h = absurd h
+  does (Step items) (Refused refusal) h = absurd h
+  does (Step items) (Moves moves) h = ap pointers_of h.after ∙ made s moves s.registers
+  does (Step items) (Shown target) h = absurd h
+  does (Step items) (EnabledAre nodes) h = absurd h
+  does (Step items) (Pairs pairs) h = absurd h
+  does (Step items) (Counts counts) h = absurd h
+  does (Show v) Accepted h = absurd h
+  does (Show v) (Refused refusal) h = absurd h
+  does (Show v) (Moves moves) h = absurd h
+  does (Show v) (Shown target) h = ap pointers_of h.1
+  does (Show v) (EnabledAre nodes) h = absurd h
+  does (Show v) (Pairs pairs) h = absurd h
+  does (Show v) (Counts counts) h = absurd h
+  does Enabled Accepted h = absurd h
+  does Enabled (Refused refusal) h = absurd h
+  does Enabled (Moves moves) h = absurd h
+  does Enabled (Shown target) h = absurd h
+  does Enabled (EnabledAre nodes) h = ap pointers_of h.1
+  does Enabled (Pairs pairs) h = absurd h
+  does Enabled (Counts counts) h = absurd h
+  does Matching Accepted h = absurd h
+  does Matching (Refused refusal) h = absurd h
+  does Matching (Moves moves) h = absurd h
+  does Matching (Shown target) h = absurd h
+  does Matching (EnabledAre nodes) h = absurd h
+  does Matching (Pairs pairs) h = ap pointers_of h.1
+  does Matching (Counts counts) h = absurd h
+  does Status Accepted h = absurd h
+  does Status (Refused refusal) h = absurd h
+  does Status (Moves moves) h = absurd h
+  does Status (Shown target) h = absurd h
+  does Status (EnabledAre nodes) h = absurd h
+  does Status (Pairs pairs) h = absurd h
+  does Status (Counts counts) h = ap pointers_of h.1
+
+  by_refusal : (event : Event) (reply : Reply) (refusal : Option Refusal) → AnswersBy t s spent event refusal reply s' → pointers_of s' ≡ effect_of s.registers.pointers event reply
+  by_refusal event reply (Some refusal) h = ap pointers_of h.1 ∙ sym (ap (effect_of s.registers.pointers event) h.0)
+  by_refusal event reply None h = does event reply h
+
+  -- an answer changes the pointers as its entry says
+  pub answered : (event : Event) (reply : Reply) → Answers t s spent event reply s' → pointers_of s' ≡ effect_of s.registers.pointers event reply
+  answered event reply h = by_refusal event reply (refusal_of t s event) h
+
+pub run_pointers : (t : RuleTable) (start : Moment) (log : List Entry) (end : Moment) → Run t start log end → pointers_of end.state ≡ fold effect start.state.registers.pointers log
+run_pointers t start [] end h = ap (λ m. pointers_of m.state) h
+run_pointers t start (entry ∷ log) end h =
+    run_pointers t (record { state = h.0; spent = spent_after start.spent entry.1 }) log end h.2
+    ∙ ap (λ row. fold effect row log) (answered t start.state start.spent h.0 entry.0 entry.1 h.1)
+
+pub run_begins : (t : RuleTable) (start : Moment) (some rest : List Entry) (end : Moment) → Run t start (some ++ rest) end → (middle : Moment) × Run t start some middle
+run_begins t start [] rest end h = (start, refl)
+run_begins t start (entry ∷ some) rest end h =
+    let m = run_begins t (record { state = h.0; spent = spent_after start.spent entry.1 }) some rest end h.2 in (m.0, (h.0, h.1, m.1))
+
+pub is_run_begins : (t : RuleTable) (places : ℕ) (some all : List Entry) → IsPrefix some all → IsRun t places all → IsRun t places some
+is_run_begins t places some all p h =
+    let whole : Run t (beginning h.0) (some ++ p.0) h.1 = subst (λ (l : List Entry). Run t (beginning h.0) l h.1) (sym p.1) h.3 in
+    let m = run_begins t (beginning h.0) some p.0 h.1 whole in (h.0, m.0, h.2, m.1)

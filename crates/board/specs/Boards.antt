@@ -1,0 +1,44 @@
+-- How the parts of a board, of a reader and of a look hang together.
+use Rattle.std.specs.Prelude.{◌≡◌, ◌⊎◌, ℕ, ◌+◌, List, [], ◌∷◌, length, map, fold, Option, Some}
+use mathlib.Core.List.{IsPrefix}
+use Rattle.rule_machine.specs.Run.{Entry}
+use Rattle.logbook.specs.Pages.{Book}
+use Rattle.board.specs.declared.image.Posted.{Posted}
+use Rattle.board.specs.History.{Mark, published, posted, shown}
+use Rattle.board.specs.Sight.{Sight, after}
+use Rattle.board.specs.Rule.{Follows, IsSound}
+
+abbrev pub entries_of : List Posted → List Entry
+entries_of pending = map (λ p. p.entry) pending
+
+-- a copy that took in an entry
+abbrev pub absorbed : Sight → Posted → Sight
+absorbed x p = after x p.entry p.front p.past.seen.log p.past.seen.book
+
+-- the copy that has all that is pending may be shown after x
+abbrev pub IsReady : (ℕ → List Entry → Type 0) → Sight → List Posted → Type 0
+IsReady law x pending = (IsSound law x → IsSound law (fold absorbed x pending)) × Follows (Some x) (fold absorbed x pending)
+
+-- it is the entry that the history has posted last, with its number
+pub record Fits (x : Sight) (marks : List Mark) (book : Book) (p : Posted) : Type 0 where
+  pub past : p.past.seen.log ≡ marks
+  pub same : p.past.seen.book ≡ book
+  pub number : p.front ≡ length (shown x.marks) + 1
+  pub last : posted marks ≡ p.entry ∷ []
+
+-- The copy that readers take shows what the history published, the writer knows it, and at most one entry is pending.
+pub record IsBoard (law : ℕ → List Entry → Type 0) (x : Sight) (known : Option Sight) (pending : List Posted) (marks : List Mark) (book : Book) (told : List Mark) : Type 0 where
+  pub sound : IsSound law x
+  pub knows : known ≡ Some x
+  pub same : book ≡ x.book
+  pub list : published marks ≡ shown x.marks
+  pub ready : (pending ≡ []) ⊎ ((p : Posted) × (pending ≡ p ∷ []) × Fits x marks book p)
+  pub is_told : published told ≡ shown x.marks
+
+-- a reader knows a copy, which goes on from what it saw
+pub record IsReader (known : Option Sight) (seen : List Mark) (seen_in : Book) (learnt_in : Book) : Type 0 where
+  pub copy : Sight
+  pub knows : known ≡ Some copy
+  pub sees : seen_in ≡ copy.book
+  pub learns : learnt_in ≡ copy.book
+  pub begins : IsPrefix (shown seen) (shown copy.marks)

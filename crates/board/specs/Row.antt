@@ -1,0 +1,68 @@
+-- The pointer registers alone, as a log of events and replies changes them. A name is its own place, and place 0 is nobody's.
+use Rattle.std.specs.Prelude.{ℕ, List, Option, None, Some, fold, replicate, slice_index_or, slice_set, if◌then◌else◌}
+use Rattle.rule_machine.specs.declared.act.Act.{Act}
+use Rattle.rule_machine.specs.declared.act.Act.TheVariants.{Update, Marry, Seduce, Abandon}
+use Rattle.rule_machine.specs.declared.event.Event.{Event}
+use Rattle.rule_machine.specs.declared.event.Event.TheVariants.{Link, Unlink, Point, Flag, Step, Show, Enabled, Matching, Status}
+use Rattle.rule_machine.specs.declared.moved.Moved.{Moved}
+use Rattle.rule_machine.specs.declared.reply.Reply.{Reply}
+use Rattle.rule_machine.specs.declared.reply.Reply.TheVariants.{Accepted, Refused, Moves, Shown, EnabledAre, Pairs, Counts}
+use Rattle.rule_machine.specs.State.{is_at}
+use Rattle.rule_machine.specs.Run.{Entry}
+
+abbrev pub Row : Type 0
+Row = List (Option ℕ)
+
+-- where v points, if anywhere
+abbrev pub pointer_in : Row → ℕ → Option ℕ
+pointer_in row v = slice_index_or row v None
+
+abbrev pub returned : Row → ℕ → Option ℕ → Option ℕ
+returned row v None = None
+returned row v (Some w) = if is_at (pointer_in row w) v then Some w else None
+
+-- the node at which v points, if that points at v
+abbrev pub partner_in : Row → ℕ → Option ℕ
+partner_in row v = returned row v (pointer_in row v)
+
+-- v's pointer becomes null if it is at w
+abbrev pub cleared : Row → ℕ → ℕ → Row
+cleared row v w = if is_at (pointer_in row v) w then slice_set row v None else row
+
+abbrev pub moved_by : Row → ℕ → Act → Option ℕ → Row
+moved_by row v Update target = row
+moved_by row v Marry target = slice_set row v target
+moved_by row v Seduce target = slice_set row v target
+moved_by row v Abandon target = slice_set row v None
+
+abbrev pub moved : Row → Moved → Row
+moved row m = moved_by row m.node m.act m.target
+
+-- what an accepted edit or fault does
+abbrev pub disturbed : Row → Event → Row
+disturbed row (Link a b) = row
+disturbed row (Unlink a b) = cleared (cleared row a b) b a
+disturbed row (Point v target) = slice_set row v target
+disturbed row (Flag v value) = row
+disturbed row (Step items) = row
+disturbed row (Show v) = row
+disturbed row Enabled = row
+disturbed row Matching = row
+disturbed row Status = row
+
+-- only what was accepted and the moves of a step change a pointer
+abbrev pub effect_of : Row → Event → Reply → Row
+effect_of row event Accepted = disturbed row event
+effect_of row event (Moves moves) = fold moved row moves
+effect_of row event (Refused refusal) = row
+effect_of row event (Shown target) = row
+effect_of row event (EnabledAre nodes) = row
+effect_of row event (Pairs pairs) = row
+effect_of row event (Counts counts) = row
+
+abbrev pub effect : Row → Entry → Row
+effect row entry = effect_of row entry.0 entry.1
+
+-- the pointers after a log, from null everywhere
+abbrev pub pointers_after : ℕ → List Entry → Row
+pointers_after places log = fold effect (replicate places None) log

@@ -1,0 +1,29 @@
+-- The rule of the copies: what each reader knows is a beginning of what is published.
+use Rattle.std.specs.Prelude.{◌≡◌, ℕ, List, length, Option, None, Some}
+use mathlib.Core.List.{IsPrefix}
+use mathlib.Core.Option.{some}
+use lib.ListN.{get_elem?}
+use Rattle.rule_machine.specs.Run.{Entry}
+use Rattle.board.specs.History.{shown}
+use Rattle.board.specs.Row.{pointers_after}
+use Rattle.board.specs.Sight.{Sight}
+
+-- what was known, if anything, is of the same history and board, and begins what is shown
+abbrev pub Follows : Option Sight → Sight → Type 0
+Follows None x = Unit {0}
+Follows (Some s) x = (x.book ≡ s.book) × (length x.row ≡ length s.row) × IsPrefix (shown s.marks) (shown x.marks)
+
+-- a copy that is in step with the entries that it shows, which keep the law
+pub record IsSound (law : ℕ → List Entry → Type 0) (x : Sight) : Type 0 where
+  pub row : x.row ≡ pointers_after (length x.row) (shown x.marks)
+  pub front : x.front ≡ length (shown x.marks)
+  pub lawful : law (length x.row) (shown x.marks)
+
+module _ (law : ℕ → List Entry → Type 0) where
+  -- between any two steps, of the copy that readers take and of what each of them and the writer know
+  abbrev pub Publishes : Sight → List (Option Sight) → Type 0
+  Publishes x views = IsSound law x × ((seat : ℕ) (v : Option Sight) → get_elem? views seat ≡ some v → Follows v x)
+
+  -- who reads a copy, or publishes it, knows it then; it goes on from what was known
+  abbrev pub Sees : Option Sight → Sight → Sight → Option Sight → Type 0
+  Sees v x y w = (w ≡ Some y) × Follows v y × IsSound law y

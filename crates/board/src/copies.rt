@@ -1,0 +1,207 @@
+//! The board: what publishes entries.
+
+ghost use Rattle.std.specs.Prelude.{◌≡◌, ◌^◌, ◌<◌, ◌∷◌, ◌++◌, [], None, length, drop, fold, IfOk, OnOk, OnErr, IsOk, MatchBool};
+ghost use Rattle.left_right.specs.Sides.{view as known};
+ghost use Rattle.rule_machine.specs.Run.{Entry as Logged};
+ghost use Rattle.board.specs.History.{published};
+ghost use Rattle.board.specs.Sight.{blank};
+ghost use Rattle.board.specs.Rule.{Sees};
+ghost use Rattle.board.specs.Boards.{IsReady, absorbed};
+
+use crate::history::{Front, History, Posts, Publishes};
+use crate::image::{Image, Posted};
+use crate::note::Note;
+use crate::reader::Reader;
+use crate::rule::{Law, Learn, Look, Published, Tell};
+use core::mem::replace_with;
+use left_right::writer::Writer;
+use log_entry::Entry;
+use std::alloc::{AllocError, Global};
+use std::marker::Model;
+use std::sync::Wait;
+use thiserror::Error;
+
+/// The board found no place for another reader: each was taken, or memory for it ran out.
+#[derive(Clone, Copy, Debug, PartialEq, Eq, Error)]
+#[error("the board has no place for another reader")]
+pub struct NoPlace;
+
+/// The two copies and what one of them lacks.
+pub(crate) type Copies<L> = Writer<Image, Posted, Option<Image>, Published<L>>;
+
+/// Publishes the pointers of a network, entry by entry, for readers that wait for nobody. Contracts see the entries that
+/// are published, the one that is posted and not published yet, if any is, and a name: the history that the entries are
+/// of, and how many places there are. Every log that it publishes keeps the law `L`. It can't be dropped: `end` ends it.
+pub struct Board<L: Law> {
+    writer: Copies<L>,
+    history: History,
+    told: Front,
+    ghost one_history: { told.seen.book ≡ history.front.seen.book },
+}
+
+impl<L: Law> Model for Board<L> {
+    ghost use Rattle.std.specs.Prelude.{length, drop};
+    ghost use Rattle.std.specs.Coded.{codes};
+    ghost use Rattle.logbook.specs.Pages.{book_coded};
+    ghost use Rattle.left_right.specs.Sides.{view as known};
+    ghost use Rattle.board.specs.History.{shown};
+    ghost use Rattle.board.specs.Views.{Standing};
+    ghost use Rattle.board.specs.Boards.{IsBoard, entries_of};
+
+    ghost Value = { Standing };
+
+    ghost coded = { Prim.hlevel (codes, book_coded) };
+
+    ghost view = { λ b. record {
+      list = shown b.writer.desk.shown.value.marks;
+      posted = entries_of (drop b.writer.behind b.writer.log.items);
+      name = record { book = b.told.seen.book; places = length b.writer.desk.shown.value.row };
+    } };
+
+    ghost invariant = { λ b. IsBoard L.holds b.writer.desk.shown.value (known b.writer.desk.place) (drop b.writer.behind b.writer.log.items) b.history.front.seen.log b.history.front.seen.book b.told.seen.log };
+}
+
+fn copied(entry: &Entry) -> Result<Entry, AllocError>
+    ensures { IfOk result (λ copy. copy ≡ entry.now) }
+{
+    let (event, reply) = (entry.event().clone()?, entry.reply().clone()?);
+    let Some(copy) = Entry::new(event, reply) else {
+        unreachable!()
+    };
+    Ok(copy)
+}
+
+/// Whether there was memory for one more entry to be pending.
+fn append<L: Law>(writer: &mut Copies<L>, posted: Posted) -> bool
+    ensures desk { writer.new.desk ≡ writer.old.desk }
+    ensures pending { MatchBool result (drop writer.new.behind writer.new.log.items ≡ drop writer.old.behind writer.old.log.items ++ posted ∷ []) (drop writer.new.behind writer.new.log.items ≡ drop writer.old.behind writer.old.log.items) }
+{
+    match writer.append(posted) {
+        Ok(()) => true,
+        Err(_) => false,
+    }
+}
+
+/// Shows readers a copy that has all that is pending. It waits for those that still read the other copy.
+fn show<L: Law, R: Wait>(writer: Copies<L>, rt: &R) -> (Copies<L>, ())
+    requires { IsReady L.holds writer.desk.shown.value (drop writer.behind writer.log.items) }
+    ensures copy { result.0.desk.shown.value ≡ fold absorbed writer.desk.shown.value (drop writer.behind writer.log.items) }
+    ensures pending { drop result.0.behind result.0.log.items ≡ [] }
+    ensures sees { Sees L.holds (known writer.desk.place) writer.desk.shown.value result.0.desk.shown.value (known result.0.desk.place) }
+{
+    let (writer, shown) = writer.publish_as::<Look<L>, R>(rt);
+    let Ok(()) = shown else { unreachable!() };
+    (writer, ())
+}
+
+/// The board over copies that were just made.
+fn opened<L: Law, R: Wait>(rt: &R, writer: Copies<L>, history: History) -> Board<L>
+    requires copy { writer.desk.shown.value ≡ blank (length writer.desk.shown.value.row) [] history.front.seen.book }
+    requires pending { drop writer.behind writer.log.items ≡ [] }
+    requires marks { history.front.seen.log ≡ [] }
+    requires law { L.holds (length writer.desk.shown.value.row) [] }
+    ensures { (result.list ≡ []) × (result.posted ≡ []) × (result.name.places ≡ length writer.desk.shown.value.row) }
+{
+    let (writer, ()) = show(writer, rt);
+    let told = history.front.again();
+    Board {
+        writer,
+        history,
+        told,
+    }
+}
+
+impl<L: Law> Board<L> {
+    /// A board without entries, all its pointers null, for at most so many readers at once. It takes 8 bytes a place and
+    /// copy, and 256 bytes a reader.
+    pub fn new<R: Wait>(
+        alloc: Global,
+        rt: &R,
+        places: usize,
+        readers: usize,
+    ) -> Result<Board<L>, AllocError>
+        requires readers { (0 < readers) × (readers < 2 ^ 32) }
+        requires law { L.holds places [] }
+        ensures { IfOk result (λ b. (b.list ≡ []) × (b.posted ≡ []) × (b.name.places ≡ places)) }
+    {
+        let history = History::new();
+        let first = Image::blank(alloc, places, &history.front)?;
+        let second = Image::blank(alloc, places, &history.front)?;
+        let writer = Writer::new(alloc, first, second, readers)?;
+        Ok(opened(rt, writer, history))
+    }
+
+    /// Takes the memory that the entry needs, and publishes nothing: `publish` does, and then it can't fail. At `Err`
+    /// memory ran out, and nothing is posted.
+    pub fn post(&mut self, entry: &Entry) -> Result<(), AllocError>
+        requires one { self.old.posted ≡ [] }
+        requires room { length self.old.list < 2 ^ 24 }
+        ensures posted { OnOk result (self.new ≡ record self.old { posted = entry.now ∷ [] }) }
+        ensures kept { OnErr result (self.new ≡ self.old) }
+    {
+        let copy = copied(entry)?;
+        if !self.history.add::<Entry, Posts>(entry) {
+            return Err(AllocError);
+        }
+        let posted = Posted {
+            entry: copy,
+            front: self.writer.published().front() + 1,
+            past: self.history.front.again(),
+        };
+        if !append(&mut self.writer, posted) {
+            return Err(AllocError);
+        }
+        Ok(())
+    }
+
+    /// Publishes the posted entry, if there is one, whole and at once, and tells what is published then. It takes no
+    /// memory, and waits for readers that still look at the copy of before.
+    pub fn publish<R: Wait>(&mut self, rt: &R) -> Note
+        requires { L.holds self.old.name.places (self.old.list ++ self.old.posted) }
+        ensures published { self.new ≡ record self.old { list = self.old.list ++ self.old.posted; posted = [] } }
+        ensures told { (result.log ≡ self.new.list) × (result.book ≡ self.new.name.book) }
+    {
+        if self.writer.has_pending_operations() {
+            replace_with(&mut self.writer, rt, show::<L, R>);
+            if !self.history.add::<(), Publishes>(&()) {
+                for _ in rt.forever() {}
+                unreachable!()
+            }
+            self.told = self.history.front.again();
+        }
+        self.note()
+    }
+
+    /// Tells what is published.
+    pub fn note(&self) -> Note
+        ensures { (result.log ≡ self.now.list) × (result.book ≡ self.now.name.book) }
+    {
+        Note {
+            front: self.told.again(),
+        }
+    }
+
+    /// A reader that sees at least what is published now. It keeps its place until it is dropped. Nothing is said of when
+    /// no place is found.
+    pub fn reader(&mut self) -> Result<Reader<L>, NoPlace>
+        ensures kept { self.new ≡ self.old }
+        ensures seen { IfOk result (λ r. (r.list ≡ self.old.list) × (r.learnt ≡ self.old.list) × (r.name ≡ self.old.name)) }
+    {
+        let Ok(mut seat) = self.writer.factory().reader() else {
+            return Err(NoPlace);
+        };
+        seat.learn::<Learn>(self.writer.tell::<Tell>());
+        let seen = self.writer.published().past();
+        Ok(Reader::over(seat, seen, self.told.again()))
+    }
+
+    /// Ends the board. It waits for readers that are looking; after it each reader sees nothing.
+    pub fn end<R: Wait>(self, rt: &R) {
+        let Self {
+            writer,
+            history: _history,
+            told: _told,
+        } = self;
+        writer.take(rt);
+    }
+}

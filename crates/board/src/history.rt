@@ -1,0 +1,166 @@
+//! The history of a board, which exists in contracts alone, and the beginnings of it that were seen.
+
+ghost use Rattle.std.specs.Prelude.{◌≡◌, ◌⊎◌, ◌∷◌, ◌++◌, [], None, length, IsTrue, MatchBool};
+ghost use mathlib.Core.List.{IsPrefix};
+ghost use Rattle.board.specs.History.{published, shown};
+ghost use Rattle.board.specs.Kept.{head_of};
+
+use log_entry::Entry;
+use logbook::{Gain, Offer, Plain, Play, Rule, Seen, Start, Word};
+
+/// The rule of the history: one word counts its marks.
+pub struct Numbered;
+
+impl Rule<Option<Entry>, u64> for Numbered {
+    ghost use Rattle.std.specs.Prelude.{[]};
+    ghost use base.Fml.{ftrue};
+    ghost use Rattle.board.specs.Kept.{IsKept};
+
+    ghost holds = { λ cells marks. IsKept cells marks };
+
+    ghost first = { [] };
+
+    ghost hinted = { λ n marks. Unit {0} };
+
+    ghost shows = { λ marks. [] };
+
+    ghost keeps = { λ names marks. ftrue };
+
+    ghost moves = { λ ask before after answer. Unit {0} };
+}
+
+/// Nobody trades anything for a mark.
+pub(crate) struct Nothing;
+
+impl Gain<Option<Entry>, u64> for Nothing {
+    ghost use base.Fml.{ftrue};
+
+    ghost after = { λ names about answer. ftrue };
+}
+
+/// The step that adds a mark.
+pub(crate) struct Add;
+
+impl Play<Option<Entry>, u64> for Add {
+    ghost use Rattle.board.specs.Kept.{Adds};
+
+    ghost then = { Adds };
+}
+
+/// The mark that an entry is posted.
+pub(crate) struct Posts;
+
+impl Plain<Entry, Option<Entry>, u64> for Posts {
+    ghost use Rattle.std.specs.Prelude.{None, Some};
+
+    ghost ask = { λ entry. Some entry };
+
+    ghost state = { λ entry. None };
+}
+
+/// The mark that what was posted last is published.
+pub(crate) struct Publishes;
+
+impl Plain<(), Option<Entry>, u64> for Publishes {
+    ghost use Rattle.std.specs.Prelude.{None};
+
+    ghost ask = { λ nothing. None };
+
+    ghost state = { λ nothing. None };
+}
+
+/// A beginning of a history that was seen, with its number of marks.
+#[derive(Drop)]
+pub struct Front {
+    count: u64,
+    pub(crate) seen: Seen<Option<Entry>, u64, Numbered>,
+    ghost counted: { count ≡ length seen.log },
+}
+
+impl Front {
+    /// A copy. It takes no memory.
+    pub(crate) fn again(&self) -> Front
+        ensures { result.seen ≡ self.now.seen }
+    {
+        Front {
+            count: self.count,
+            seen: self.seen.again(),
+        }
+    }
+
+    /// The longer of two fronts of one history.
+    pub(crate) fn longer(&self, other: &Front) -> Front
+        requires { other.now.seen.book ≡ self.now.seen.book }
+        ensures book { result.seen.book ≡ self.now.seen.book }
+        ensures this { IsPrefix self.now.seen.log result.seen.log }
+        ensures that { IsPrefix other.now.seen.log result.seen.log }
+    {
+        let mut both = self.seen.again();
+        both.learn(&other.seen);
+        if self.count < other.count {
+            other.again()
+        } else {
+            self.again()
+        }
+    }
+
+    /// Whether all that was published here is seen to be shown there.
+    pub(crate) fn is_shown_at(&self, other: &Front) -> bool
+        requires { other.now.seen.book ≡ self.now.seen.book }
+        ensures { IsTrue result → IsPrefix (published self.now.seen.log) (shown other.now.seen.log) }
+    {
+        let mut both = self.seen.again();
+        both.learn(&other.seen);
+        self.count.saturating_sub(1) <= other.count
+    }
+}
+
+/// The one place where marks are added, with all marks so far.
+#[derive(Drop)]
+pub(crate) struct History {
+    head: Word<Option<Entry>, u64, Numbered>,
+    pub(crate) front: Front,
+    ghost head_is: { head ≡ head_of front.seen.book },
+}
+
+impl History {
+    /// A history without marks.
+    pub(crate) fn new() -> History
+        ensures { result.front.seen.log ≡ [] }
+    {
+        let (seen, mut first, _second) = Seen::open(Start::alone(), 0, 0);
+        History {
+            head: Word::tracked(0, &mut first),
+            front: Front { count: 0, seen },
+        }
+    }
+
+    /// Adds a mark, and says whether it did. It did not where another added one, or where a `u64` counts no more, and
+    /// neither ever comes.
+    pub(crate) fn add<X, M: Plain<X, Option<Entry>, u64>>(&mut self, about: &X) -> bool
+        requires { M.state about.now ≡ None }
+        ensures book { self.new.front.seen.book ≡ self.old.front.seen.book }
+        ensures marks { MatchBool result (self.new.front.seen.log ≡ self.old.front.seen.log ++ M.ask about.now ∷ []) (self.new.front.seen ≡ self.old.front.seen) }
+    {
+        let count = self.front.count;
+        if count == u64::MAX {
+            return false;
+        }
+        let mut seen = self.front.seen.again();
+        let mut offer: Offer<Option<Entry>, u64, Numbered, Nothing> = seen.plain::<Nothing, X, M>(
+            about,
+        );
+        let mut pen = seen.no_pen();
+        let found = self
+            .head
+            .compare_exchange::<Add, Nothing>(count, count + 1, &mut seen, &mut offer, &mut pen);
+        if found != count {
+            return false;
+        }
+        self.front = Front {
+            count: count + 1,
+            seen,
+        };
+        true
+    }
+}

@@ -1,0 +1,37 @@
+//! What a board tells of what it has published.
+
+ghost use Rattle.std.specs.Prelude.{◌≡◌};
+
+use crate::history::Front;
+use std::marker::Model;
+
+/// A note of what a board had published when it gave the note: seen in contracts as these entries and the history that
+/// they are of. It has no entries in it, and may go to any thread.
+#[derive(Drop)]
+pub struct Note {
+    pub(crate) front: Front,
+}
+
+impl Model for Note {
+    ghost use Rattle.std.specs.Coded.{codes};
+    ghost use Rattle.logbook.specs.Pages.{book_coded};
+    ghost use Rattle.board.specs.History.{published};
+    ghost use Rattle.board.specs.Views.{Told};
+
+    ghost Value = { Told };
+
+    ghost coded = { Prim.hlevel (codes, book_coded) };
+
+    ghost view = { λ n. record { log = published n.front.seen.log; book = n.front.seen.book } };
+}
+
+impl Note {
+    /// A copy. It takes no memory.
+    pub fn again(&self) -> Note
+        ensures { result ≡ self.now }
+    {
+        Note {
+            front: self.front.again(),
+        }
+    }
+}

@@ -1,0 +1,141 @@
+//! What looks at a board.
+
+ghost use Rattle.std.specs.Prelude.{◌≡◌, ◌<◌, ◌≤◌, length, IfSome, IfNone, MatchOption};
+ghost use mathlib.Core.List.{IsPrefix};
+ghost use Rattle.left_right.specs.Sides.{view as known};
+ghost use Rattle.board.specs.History.{published, shown};
+ghost use Rattle.board.specs.Row.{pointers_after, pointer_in, partner_in};
+ghost use Rattle.board.specs.Sight.{Sight, found_in};
+ghost use Rattle.board.specs.Rule.{Sees};
+ghost use Rattle.board.specs.Views.{places_of};
+ghost use Rattle.board.specs.Boards.{IsReader};
+
+use crate::history::Front;
+use crate::image::Image;
+use crate::note::Note;
+use crate::rule::{Law, Look as Looks, Published};
+use core::mem::replace_with;
+use left_right::reader::Reader as Seat;
+use rule_machine::Node;
+use std::marker::Model;
+
+/// A reader's place at the copies.
+pub(crate) type Place<L> = Seat<Image, Option<Image>, Published<L>>;
+
+/// What a reader saw at one moment.
+#[derive(Clone, Copy, Debug, PartialEq, Eq)]
+pub struct Look {
+    /// How many entries were published.
+    pub front: u32,
+    /// The pointer of the place, and the node at which it is if that one points back; `None` where there is no such
+    /// place.
+    pub found: Option<(Option<Node>, Option<Node>)>,
+}
+
+/// What a look found, with the beginning of the history that it shows.
+struct Glance {
+    look: Look,
+    past: Front,
+}
+
+/// A reader of a board. Contracts see the entries that it saw last, the entries that its later looks show at least, and
+/// the board's name. It waits for nobody, and takes no memory.
+#[derive(Drop)]
+pub struct Reader<L: Law> {
+    seat: Place<L>,
+    seen: Front,
+    learnt: Front,
+}
+
+impl<L: Law> Model for Reader<L> {
+    ghost use Rattle.std.specs.Coded.{codes};
+    ghost use Rattle.logbook.specs.Pages.{book_coded};
+    ghost use Rattle.left_right.specs.Sides.{view as known};
+    ghost use Rattle.board.specs.History.{published, shown};
+    ghost use Rattle.board.specs.Views.{Reading, places_of};
+    ghost use Rattle.board.specs.Boards.{IsReader};
+
+    ghost Value = { Reading };
+
+    ghost coded = { Prim.hlevel (codes, book_coded) };
+
+    ghost view = { λ r. record {
+      list = shown r.seen.seen.log;
+      learnt = published r.learnt.seen.log;
+      name = record { book = r.learnt.seen.book; places = places_of (known r.seat.place) };
+    } };
+
+    ghost invariant = { λ r. IsReader (known r.seat.place) r.seen.seen.log r.seen.seen.book r.learnt.seen.book };
+}
+
+/// Looks at the copy that is published.
+fn peek<L: Law>(seat: Place<L>, place: usize) -> (Place<L>, Option<Glance>)
+    ensures none { IfNone result.1 (known result.0.place ≡ known seat.place) }
+    ensures some { IfSome result.1 (λ g. (x : Sight) × Sees L.holds (known seat.place) x x (known result.0.place)
+        × (g.past.seen.log ≡ x.marks) × (g.past.seen.book ≡ x.book) × (g.look.front ≡ x.front) × (g.look.found ≡ found_in x.row place)) }
+{
+    match seat.enter_as::<Looks<L>>() {
+        Ok(reading) => {
+            let image = reading.get();
+            let look = Look {
+                front: image.front(),
+                found: image.find(place),
+            };
+            let past = image.past();
+            (reading.leave(), Some(Glance { look, past }))
+        }
+        Err(seat) => (seat, None),
+    }
+}
+
+impl<L: Law> Reader<L> {
+    pub(crate) fn over(seat: Place<L>, seen: Front, learnt: Front) -> Reader<L>
+        requires { IsReader (known seat.place) seen.seen.log seen.seen.book learnt.seen.book }
+        ensures list { (result.list ≡ shown seen.seen.log) × (result.learnt ≡ published learnt.seen.log) }
+        ensures name { (result.name.book ≡ learnt.seen.book) × (result.name.places ≡ places_of (known seat.place)) }
+    {
+        Reader { seat, seen, learnt }
+    }
+
+    /// Looks at a place: its pointer and its partner at one moment, with the number of entries then. They are those
+    /// after all the entries of the view, which has all that this reader saw before and all that it learnt. It costs a
+    /// few steps, whatever the size of the board. `None` where the board has ended.
+    pub fn look(&mut self, place: usize) -> Option<Look>
+        ensures view { IsPrefix self.old.list self.new.list }
+        ensures kept { (self.new.learnt ≡ self.old.learnt) × (self.new.name ≡ self.old.name) }
+        ensures none { IfNone result (self.new.list ≡ self.old.list) }
+        ensures learnt { IfSome result (λ look. IsPrefix self.old.learnt self.new.list) }
+        ensures law { IfSome result (λ look. L.holds self.new.name.places self.new.list) }
+        ensures front { IfSome result (λ look. look.front ≡ length self.new.list) }
+        ensures found { IfSome result (λ look. look.found ≡ found_in (pointers_after self.new.name.places self.new.list) place) }
+    {
+        let Glance { look, past } = replace_with(&mut self.seat, place, peek::<L>)?;
+        if !self.learnt.is_shown_at(&past) {
+            return None;
+        }
+        self.seen = past;
+        Some(look)
+    }
+
+    /// How many entries are published, of a view that this reader may know, as `look` does.
+    pub fn front(&mut self) -> Option<u32>
+        ensures view { IsPrefix self.old.list self.new.list }
+        ensures kept { (self.new.learnt ≡ self.old.learnt) × (self.new.name ≡ self.old.name) }
+        ensures none { IfNone result (self.new.list ≡ self.old.list) }
+        ensures learnt { IfSome result (λ front. IsPrefix self.old.learnt self.new.list) }
+        ensures law { IfSome result (λ front. L.holds self.new.name.places self.new.list) }
+        ensures front { IfSome result (λ front. front ≡ length self.new.list) }
+    {
+        let look = self.look(0)?;
+        Some(look.front)
+    }
+
+    /// Takes in a note of the reader's own board: from now on a look shows at least what the note tells.
+    pub fn learn(&mut self, note: &Note)
+        requires { note.now.book ≡ self.old.name.book }
+        ensures learnt { IsPrefix self.old.learnt self.new.learnt × IsPrefix note.now.log self.new.learnt }
+        ensures kept { (self.new.list ≡ self.old.list) × (self.new.name ≡ self.old.name) }
+    {
+        self.learnt = self.learnt.longer(&note.front);
+    }
+}

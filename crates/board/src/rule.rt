@@ -1,0 +1,53 @@
+//! The rule of the copies, and the steps that keep it.
+
+ghost use Rattle.std.specs.Prelude.{ℕ, List, None};
+ghost use Rattle.rule_machine.specs.Run.{Entry};
+ghost use Rattle.board.specs.Rule.{Publishes, Sees};
+
+use crate::image::Image;
+use atomic_table::{Join, Split};
+use crossbeam_utils::rule::{Outcome, Protocol};
+use std::marker::PhantomData;
+
+/// What holds of every log that a board publishes, by the number of its places. It is a fact for contracts alone.
+pub trait Law {
+    ghost holds: { ℕ → List Entry → Type 0 };
+}
+
+/// The rule of a board whose logs keep a law.
+pub struct Published<L> {
+    law: PhantomData<L>,
+}
+
+impl<L: Law> Protocol<Image, Option<Image>> for Published<L> {
+    ghost holds = { Publishes L.holds };
+
+    ghost first = { None };
+}
+
+/// The step of a read, and of a publish.
+pub(crate) struct Look<L> {
+    law: PhantomData<L>,
+}
+
+impl<L: Law> Outcome<Image, Option<Image>> for Look<L> {
+    ghost then = { Sees L.holds };
+}
+
+/// Telling: a new seat knows what the writer knows.
+pub(crate) struct Tell;
+
+impl Split<Option<Image>> for Tell {
+    ghost left = { λ v. v };
+
+    ghost right = { λ v. v };
+}
+
+/// Learning: a seat that knew nothing knows what it was told.
+pub(crate) struct Learn;
+
+impl Join<Option<Image>> for Learn {
+    ghost both = { λ v told. told };
+
+    ghost spent = { None };
+}
