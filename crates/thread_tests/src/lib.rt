@@ -1,5 +1,5 @@
-//! Tests of what threads share: clerks of one network, those that roam, and scripts that are played at once.
-//! Tests of what threads share: boards and their readers, clerks of one network, and scripts that are played at once.
+//! Tests of what threads share: boards and their readers, clerks of one network, those that roam, and scripts that are played at
+//! once.
 #![tactic(auto)]
 
 #[cfg(test)]
