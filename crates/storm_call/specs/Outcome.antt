@@ -28,7 +28,7 @@ pub record Leaves (t : RuleTable) (asked : Asked) (scripts : List (List ScriptLi
   pub run : IsLog t log
   pub nodes_are : node_count log.state.network ≡ asked.nodes
   pub limit_is : log.limit ≡ asked.limit
-  pub storm : IsStorm log.entries scripts asked.roamers asked.turns fault
+  pub storm : IsStorm t log.entries scripts asked.roamers asked.turns fault
 
 -- the scripts are those of the texts, they leave a log with this fault, and P holds of its text
 abbrev pub LeavesText : RuleTable → Asked → List (Option (List ℕ)) → Option CallFault → (List ℕ → Type 0) → Type 0

@@ -1,14 +1,19 @@
 -- What clerks have that had called nobody before they roamed.
-use Rattle.std.proofs.Common.{◌≡◌, ◌≢◌, ◌↔◌, ◌∙◌, ℕ, suc, ◌≤◌, List, [], ◌∷◌, ◌++◌, length, take, Result, Ok, Err, IfErr, IsErrOf, refl, sym, ap, subst, arith}
+use Rattle.std.proofs.Common.{◌≡◌, ◌≢◌, ◌↔◌, ◌∙◌, ℕ, suc, ◌≤◌, List, [], ◌∷◌, ◌++◌, length, take, Result, Ok, Err, Option, None, IfErr, OnOk, IsErrOf, refl, sym, ap, subst, arith}
 use Rattle.std.specs.List.{All}
 use Rattle.std.proofs.lemmas.List.{length-drop, take_all}
 use Rattle.std.proofs.lemmas.List.Elements.{All-nil, All-cons, All-head, All-tail}
+use Rattle.std.specs.Option.{option_or}
+use Rattle.rule_machine.specs.RuleTable.{RuleTable}
 use Rattle.step_log.specs.declared.receipt.Receipt.{Receipt}
-use Rattle.locked_net.specs.Roamed.{AllRoam, Roamed, MayStop}
+use Rattle.locked_net.specs.Roamed.{AllRoam, Roamed, TakesTurns, AllTakeTurns, MayStop}
 use Rattle.locked_net.specs.declared.roam_fault.RoamFault.{RoamFault}
 use Rattle.locked_net.specs.declared.roam_fault.RoamFault.TheVariants.{ZeroWorkers, Thread}
-use Rattle.storm_run.specs.Storm.{IsRoaming}
-use Rattle.storm_run.specs.Roaming.{RoamedAfresh}
+use Rattle.locked_net.specs.declared.roam_fault.RoamFault.TheVariants as roam
+use Rattle.locked_net.specs.declared.call_fault.CallFault.{CallFault}
+use Rattle.storm_run.specs.declared.script.ScriptLine.{ScriptLine}
+use Rattle.storm_run.specs.Storm.{AllPlayed, IsRoaming, AllTold}
+use Rattle.storm_run.specs.Roaming.{RoamedAfresh, roam_fault}
 
 -- that of their turns alone
 all_turns : (turns : ℕ) (old new : List (List Receipt)) → AllRoam turns old new → All (λ receipts. receipts ≡ []) old → (length new ≡ length old) × All (IsRoaming turns) new
@@ -32,8 +37,61 @@ no_thread : (clerks : List (List Receipt)) (ended : Result Unit RoamFault) → I
 no_thread clerks (Ok done) may_stop = tt
 no_thread clerks (Err fault) may_stop = λ is. subst (MayStop clerks) is may_stop
 
-pub roamed_afresh : (turns : ℕ) (old new : List (List Receipt)) (ended : Result Unit RoamFault) → length old ≤ 64 → All (λ receipts. receipts ≡ []) old
-    → Roamed turns old new → (IsErrOf ended ZeroWorkers ↔ (old ≡ [])) → IfErr ended (λ fault. MayStop new fault) → RoamedAfresh turns old new ended
-roamed_afresh turns old new ended few fresh roamed none may_stop =
+-- none of them had turns before
+fresh_turns : (t : RuleTable) (turns : ℕ) (old new : List (List Receipt)) → AllTakeTurns t turns old new → All (λ receipts. receipts ≡ []) old → All (λ own. TakesTurns t turns [] own) new
+fresh_turns t turns [] [] took fresh = All-nil (λ own. TakesTurns t turns [] own)
+fresh_turns t turns [] (new ∷ news) took fresh = absurd took
+fresh_turns t turns (old ∷ olds) [] took fresh = absurd took
+fresh_turns t turns (old ∷ olds) (new ∷ news) (own, others) fresh =
+    let none = λ (receipts : List Receipt). receipts ≡ [] in
+    let took : TakesTurns t turns [] new = subst (λ before. TakesTurns t turns before new) (All-head none old olds fresh) own in
+    All-cons (λ rs. TakesTurns t turns [] rs) new news took (fresh_turns t turns olds news others (All-tail none old olds fresh))
+
+all_took : (t : RuleTable) (turns : ℕ) (old new : List (List Receipt)) (ended : Result Unit RoamFault) → length old ≤ 64 → length new ≡ length old → All (λ receipts. receipts ≡ []) old
+    → OnOk ended (AllTakeTurns t turns (take 64 old) (take 64 new)) → OnOk ended (All (λ own. TakesTurns t turns [] own) new)
+all_took t turns old new (Err fault) few same fresh took = tt
+all_took t turns old new (Ok done) few same fresh took =
+    let left : length new ≤ 64 = omega (arith, few, same) in
+    fresh_turns t turns old new (subst (λ news. AllTakeTurns t turns old news) (take_all 64 new left) (subst (λ olds. AllTakeTurns t turns olds (take 64 new)) (take_all 64 old few) took)) fresh
+
+pub roamed_afresh : (t : RuleTable) (turns : ℕ) (old new : List (List Receipt)) (ended : Result Unit RoamFault) → length old ≤ 64 → All (λ receipts. receipts ≡ []) old
+    → Roamed turns old new → OnOk ended (AllTakeTurns t turns (take 64 old) (take 64 new)) → (IsErrOf ended ZeroWorkers ↔ (old ≡ [])) → IfErr ended (λ fault. MayStop new fault) → RoamedAfresh t turns old new ended
+roamed_afresh t turns old new ended few fresh roamed took none may_stop =
     let all = all_turns turns old new (all_workers turns old new few roamed) fresh in
-    record { as_many = all.0; steps = all.1; nobody = none; thread = no_thread new ended may_stop }
+    record { as_many = all.0; steps = all.1; whole = all_took t turns old new ended few all.0 fresh took; nobody = none; thread = no_thread new ended may_stop }
+
+-- ---- beside scripts
+
+no_clerk : (clerks : List (List Receipt)) → length clerks ≡ 0 → clerks ≡ []
+no_clerk [] none = refl
+no_clerk (own ∷ clerks) none = absurd (omega (arith, none))
+
+nobody_met : (ended : Result Unit RoamFault) → IsErrOf ended ZeroWorkers → roam_fault ended ≡ None
+nobody_met ended nobody = ap (λ (e : Result Unit RoamFault). roam_fault e) nobody
+
+-- where they met no fault, or nobody was there
+whole_turns : (t : RuleTable) (turns : ℕ) (old new : List (List Receipt)) (ended : Result Unit RoamFault) → RoamedAfresh t turns old new ended → roam_fault ended ≡ None → All (λ own. TakesTurns t turns [] own) new
+whole_turns t turns old new (Ok done) roamed none = roamed.whole
+whole_turns t turns old new (Err roam.ZeroWorkers) roamed none =
+    let left : new ≡ [] = no_clerk new (roamed.as_many ∙ ap length (roamed.nobody.0 refl)) in
+    subst (λ news. All (λ own. TakesTurns t turns [] own) news) (sym left) (All-nil (λ own. TakesTurns t turns [] own))
+whole_turns t turns old new (Err roam.Thread) roamed none = absurd (roamed.thread refl)
+whole_turns t turns old new (Err (roam.Behind front seen)) roamed none = cc
+whole_turns t turns old new (Err roam.LogFull) roamed none = cc
+whole_turns t turns old new (Err roam.Memory) roamed none = cc
+
+pub told_beside : (t : RuleTable) (scripts : List (List ScriptLine)) (roamers turns : ℕ) (own before roaming : List (List Receipt)) (met fault : Option CallFault) (ended : Result Unit RoamFault)
+    → AllPlayed scripts own met → RoamedAfresh t turns before roaming ended → length before ≡ roamers → fault ≡ option_or met (roam_fault ended) → AllTold t scripts roamers turns (own ++ roaming) fault
+told_beside t scripts roamers turns own before roaming met fault ended played roamed size first = record {
+  own = own;
+  roaming = roaming;
+  met = met;
+  other = roam_fault ended;
+  all = refl;
+  played = played;
+  as_many = roamed.as_many ∙ size;
+  roamed = roamed.steps;
+  first = first;
+  nobody = λ none. nobody_met ended (roamed.nobody.1 (no_clerk before (size ∙ none)));
+  whole = whole_turns t turns before roaming ended roamed;
+}

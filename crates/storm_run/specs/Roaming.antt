@@ -1,18 +1,21 @@
 -- How workers roam beside scripts, and what their fault is to a storm.
-use Rattle.std.specs.Prelude.{◌≡◌, ◌≢◌, ◌↔◌, ℕ, List, [], length, Option, None, Some, Result, Ok, Err, IfErr, IsErrOf}
+use Rattle.std.specs.Prelude.{◌≡◌, ◌≢◌, ◌↔◌, ℕ, List, [], length, Option, None, Some, Result, Ok, Err, IfErr, OnOk, IsErrOf}
 use Rattle.std.specs.List.{All}
+use Rattle.rule_machine.specs.RuleTable.{RuleTable}
 use Rattle.step_log.specs.declared.receipt.Receipt.{Receipt}
+use Rattle.locked_net.specs.Roamed.{TakesTurns}
 use Rattle.locked_net.specs.declared.call_fault.CallFault.{CallFault}
 use Rattle.locked_net.specs.declared.call_fault.CallFault.TheVariants.{Behind, LogFull, Memory}
 use Rattle.locked_net.specs.declared.roam_fault.RoamFault.{RoamFault}
 use Rattle.locked_net.specs.declared.roam_fault.RoamFault.TheVariants as roam
 use Rattle.storm_run.specs.Storm.{IsRoaming}
 
--- Clerks who had called nobody have roamed for so many turns, and it ended so: nobody was there exactly where there are no clerks,
--- and no thread was wanted.
-pub record RoamedAfresh (turns : ℕ) (old new : List (List Receipt)) (ended : Result Unit RoamFault) : Type 0 where
+-- Clerks who had called nobody have roamed for so many turns, and it ended so: each took them all where it ended well, nobody was
+-- there exactly where there are no clerks, and no thread was wanted.
+pub record RoamedAfresh (t : RuleTable) (turns : ℕ) (old new : List (List Receipt)) (ended : Result Unit RoamFault) : Type 0 where
   pub as_many : length new ≡ length old
   pub steps : All (IsRoaming turns) new
+  pub whole : OnOk ended (All (λ own. TakesTurns t turns [] own) new)
   pub nobody : IsErrOf ended roam.ZeroWorkers ↔ (old ≡ [])
   pub thread : IfErr ended (λ fault. fault ≢ roam.Thread)
 

@@ -9,6 +9,7 @@ use Rattle.std.specs.Prelude.{◌≡◌, ℕ, ◌<◌, ◌≤◌, List, [], ◌�
 use Rattle.std.specs.List.{All}
 use Rattle.std.specs.Option.{option_or}
 use Rattle.rule_machine.specs.Run.{Entry}
+use Rattle.rule_machine.specs.RuleTable.{RuleTable}
 use Rattle.rule_machine.specs.declared.choice.Item.{Item}
 use Rattle.rule_machine.specs.declared.moved.Moved.{Moved}
 use Rattle.rule_machine.specs.declared.event.Event.TheVariants.{Step}
@@ -18,7 +19,7 @@ use Rattle.step_log.specs.declared.receipt.Receipt.{Receipt}
 use Rattle.script_line.specs.declared.command.Command.{Command}
 use Rattle.script_line.specs.declared.command.Command.TheVariants.{Tell, Drive, Scramble}
 use Rattle.locked_net.specs.Settled.{Settled}
-use Rattle.locked_net.specs.Roamed.{IsLoneStep}
+use Rattle.locked_net.specs.Roamed.{IsLoneStep, TakesTurns}
 use Rattle.locked_net.specs.declared.call_fault.CallFault.{CallFault}
 use Rattle.storm_run.specs.declared.script.ScriptLine.{ScriptLine}
 
@@ -84,8 +85,8 @@ IsRoaming turns own = (length own ≤ turns) × All IsLoneStep own
 
 -- The clerks of a storm are one for each script, by which it was played, and behind them one for each worker that roamed. The fault
 -- is the first that a script met, in the order of the scripts; where none did, it is one that a worker met, if there are workers and
--- one of them met any.
-pub record AllTold (scripts : List (List ScriptLine)) (roamers turns : ℕ) (clerks : List (List Receipt)) (fault : Option CallFault) : Type 0 where
+-- one of them met any. Where none of these did, each took all its turns, and each turn was one on a run of the rules.
+pub record AllTold (t : RuleTable) (scripts : List (List ScriptLine)) (roamers turns : ℕ) (clerks : List (List Receipt)) (fault : Option CallFault) : Type 0 where
   pub own : List (List Receipt)
   pub roaming : List (List Receipt)
   pub met : Option CallFault
@@ -96,10 +97,11 @@ pub record AllTold (scripts : List (List ScriptLine)) (roamers turns : ℕ) (cle
   pub roamed : All (IsRoaming turns) roaming
   pub first : fault ≡ option_or met other
   pub nobody : roamers ≡ 0 → other ≡ None
+  pub whole : other ≡ None → All (λ own. TakesTurns t turns [] own) roaming
 
 -- The log that these scripts leave with so many workers beside them, and the first fault that was met: the clerks account for the
 -- whole log.
-pub record IsStorm (log : List Entry) (scripts : List (List ScriptLine)) (roamers turns : ℕ) (fault : Option CallFault) : Type 0 where
+pub record IsStorm (t : RuleTable) (log : List Entry) (scripts : List (List ScriptLine)) (roamers turns : ℕ) (fault : Option CallFault) : Type 0 where
   pub clerks : List (List Receipt)
   pub settled : Settled log clerks
-  pub told : AllTold scripts roamers turns clerks fault
+  pub told : AllTold t scripts roamers turns clerks fault

@@ -28,7 +28,7 @@ pub(crate) fn play_beside<R: Rules + Send + Sync, G: Gate + Sync, T: Threads + W
     requires size { length clerks.old ≡ length scripts.now + stage.now.crew.roamers }
     requires few { length scripts.now ≤ 64 }
     requires fresh { All (λ receipts. receipts ≡ []) clerks.old }
-    ensures { AllTold scripts.now stage.now.crew.roamers stage.now.crew.turns clerks.new result }
+    ensures { AllTold R.table scripts.now stage.now.crew.roamers stage.now.crew.turns clerks.new result }
 {
     let (own, roaming) = clerks.split_at_mut(scripts.len());
     let (met, roamed) = play_and_roam(rt, stage, scripts, own, roaming);
@@ -49,7 +49,7 @@ fn play_and_roam<R: Rules + Send + Sync, G: Gate + Sync, T: Threads + Wait + Syn
     requires own_fresh { All (λ receipts. receipts ≡ []) own.old }
     requires roaming_fresh { All (λ receipts. receipts ≡ []) roaming.old }
     ensures played { AllPlayed scripts.now own.new result.0 }
-    ensures roamed { RoamedAfresh stage.now.crew.turns roaming.old roaming.new result.1 }
+    ensures roamed { RoamedAfresh R.table stage.now.crew.turns roaming.old roaming.new result.1 }
 {
     if roaming.is_empty() {
         return (
@@ -62,7 +62,7 @@ fn play_and_roam<R: Rules + Send + Sync, G: Gate + Sync, T: Threads + Wait + Syn
         rt,
         &mut || -> Result<(), RoamFault>
             requires { IsSync T.row × IsSend R.row × (length roaming.now ≤ 64) × All (λ receipts. receipts ≡ []) roaming.now }
-            ensures { RoamedAfresh turns roaming.entry.now roaming.exit.now result }
+            ensures { RoamedAfresh R.table turns roaming.entry.now roaming.exit.now result }
         { roam_new(rt, stage, turns, roaming) },
         &mut || -> Option<CallFault>
             requires { IsSync T.row × IsSync G.row × IsSend R.row × IsSync R.row × (length scripts.now ≡ length own.now) × (length scripts.now ≤ 64) × All (λ receipts. receipts ≡ []) own.now }
@@ -81,7 +81,7 @@ fn roam_new<R: Rules + Send, G: Gate, T: Threads + Wait + Sync>(
 ) -> Result<(), RoamFault>
     requires few { length clerks.old ≤ 64 }
     requires fresh { All (λ receipts. receipts ≡ []) clerks.old }
-    ensures { RoamedAfresh turns clerks.old clerks.new result }
+    ensures { RoamedAfresh R.table turns clerks.old clerks.new result }
 {
     roam(rt, stage.net, clerks, turns, &NoGate)
 }

@@ -52,7 +52,7 @@ pub fn storm<R: Rules + Send + Sync, G: Gate + Sync, T: Threads + Wait + Sync>(
     gate: &G,
 ) -> Result<(Journal<R>, Option<CallFault>), PlayFault>
     requires { length scripts.now ≤ 64 }
-    ensures storm { IfOk result (λ left. IsStorm left.0.entries scripts.now crew.roamers crew.turns left.1) }
+    ensures storm { IfOk result (λ left. IsStorm R.table left.0.entries scripts.now crew.roamers crew.turns left.1) }
     ensures run { IfOk result (λ left. IsLog R.table left.0) }
     ensures size { IfOk result (λ left. (node_count left.0.state.network ≡ nodes_of net) × (left.0.limit ≡ limit_of net)) }
 {

@@ -11,6 +11,7 @@ use locked_net::{CallFault, Clerk, LockedNet};
 use rule_set::Rules;
 use std::alloc::Global;
 use std::sync::Wait;
+use std::thread::Threads;
 use steal_pool::Gate;
 
 /// The network on which scripts are played, the gate that they pass, and who works beside them.
@@ -24,8 +25,8 @@ pub(crate) struct Stage<'a, R: Rules, G: Gate> {
 
 /// Plays a script line by line, up to its end or a fault. Before each line, the gate is passed with the number of the script,
 /// from 0, and that of the line.
-fn play_script<R: Rules, G: Gate, W: Wait>(
-    rt: &W,
+fn play_script<R: Rules + Sync, G: Gate, T: Threads + Wait + Sync>(
+    rt: &T,
     stage: &Stage<R, G>,
     number: u32,
     script: &Script,
@@ -36,14 +37,14 @@ fn play_script<R: Rules, G: Gate, W: Wait>(
 {
     for line in script.lines() {
         stage.gate.pass(rt, number, line.line);
-        play(rt, stage.alloc, stage.net, clerk, &line.command)?;
+        play(rt, stage, clerk, &line.command)?;
     }
     Ok(())
 }
 
 /// Plays the script, if there is one.
-pub(crate) fn play_first<R: Rules, G: Gate, W: Wait>(
-    rt: &W,
+pub(crate) fn play_first<R: Rules + Sync, G: Gate, T: Threads + Wait + Sync>(
+    rt: &T,
     stage: &Stage<R, G>,
     number: u32,
     scripts: &[Script],

@@ -3,4 +3,4 @@ use Rattle.storm_run.proofs.beside.roam_new.Goals as goal
 
 pub returns : goal.returns
 returns g c =
-    roamed_afresh c.args.turns c.args.clerks.now c.roam.new.clerks c.roam.result c.requires.few c.requires.fresh c.roam.ensures.roamed c.roam.ensures.none c.roam.ensures.fault
+    roamed_afresh g.R.Rules.table c.args.turns c.args.clerks.now c.roam.new.clerks c.roam.result c.requires.few c.requires.fresh c.roam.ensures.roamed c.roam.ensures.turns c.roam.ensures.none c.roam.ensures.fault
