@@ -162,6 +162,7 @@ fn a_failed_read_leaves_what_the_lines_before_made(rt: HostRuntime) {
 }
 
 /// What a reader and a writer share: how many lines were written.
+#[derive(Drop)]
 struct Written {
     lines: Cell<usize>,
 }
@@ -255,7 +256,7 @@ fn a_line_that_never_ends_is_bad(rt: HostRuntime) {
         &options(&rt, 1, 9),
     );
     assert!(rt; end == Err(RunFault::BadLine { line: 1 }));
-    assert!(rt; written.as_slice() == b"matching hh 1\n");
+    assert!(rt; written.as_slice() == b"matching hh 1\n".as_slice());
 }
 
 #[test]
