@@ -135,8 +135,9 @@ pub fn end_words<Out: Write, Faults: Write>(
 
 /// Does what the words ask for, of which the first is the program's name, and gives the exit status: 0 for a whole run
 /// or an accepted transcript, or where a transcript, the help or the version was shown; 1 for a refused transcript; 2 for
-/// bad words, a bad line, or an entry that is not there; 3 where a read or a write failed; 4 for want of memory or a full log. Faults are told on `faults`, and
-/// with bad words nothing goes to `writer`.
+/// bad words, a bad line, or an entry that is not there; 3 where a read or a write failed; 4 for want of memory or a full log.
+/// Faults are told on `faults`, and with bad words nothing goes to `writer`. Only a run may wait: for the workers to which
+/// `rt` gives their threads.
 pub fn start<S: AsStr, In: Read, Out: Write, Faults: Write, T: Threads + Wait + Sync>(
     rt: &T,
     alloc: Global,
