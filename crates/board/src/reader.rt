@@ -99,7 +99,8 @@ impl<L: Law> Reader<L> {
 
     /// Looks at a place: its pointer and its partner at one moment, with the number of entries then. They are those
     /// after all the entries of the view, which has all that this reader saw before and all that it learnt. It costs a
-    /// few steps, whatever the size of the board. `None` where the board has ended.
+    /// few steps, whatever the size of the board. `None` where the board has ended, or where what is published lacks a
+    /// part of what was learnt, which never comes.
     pub fn look(&mut self, place: usize) -> Option<Look>
         ensures view { IsPrefix self.old.list self.new.list }
         ensures kept { (self.new.learnt ≡ self.old.learnt) × (self.new.name ≡ self.old.name) }
