@@ -102,10 +102,10 @@ splits whole part new rest value size same =
       others = back_part 64 new rest few more ∙ sym (ap (drop 64) value ∙ back_part 64 part rest front.few front.all);
     }
 
-pub first_roamed : (t : RuleTable) (turns : ℕ) (whole part new rest : List (List Receipt)) (fault : Option CallFault) → whole ≡ part ++ rest → length part ≡ min (length whole) 64 → length new ≡ length part
+pub first_roamed : (t : RuleTable) (turns count : ℕ) (whole part new rest : List (List Receipt)) (fault : Option CallFault) → whole ≡ part ++ rest → length part ≡ count → count ≡ min (length whole) 64 → length new ≡ length part
     → AllEnd t turns part new fault → Roamed turns whole (new ++ rest)
-first_roamed t turns whole part new rest fault value size same ends =
-    let rows = splits whole part new rest value size same in
+first_roamed t turns count whole part new rest fault value size few same ends =
+    let rows = splits whole part new rest value (size ∙ few) same in
     record {
       workers = subst (λ rs. AllRoam turns rs (take 64 (new ++ rest))) (sym rows.olds) (subst (AllRoam turns part) (sym rows.news) (all_roam t turns part new fault ends));
       others = rows.others;
@@ -119,10 +119,10 @@ all_taken t turns (old ∷ olds) [] fault none ends = absurd ends
 all_taken t turns (old ∷ olds) (new ∷ news) fault none (None, others, is, taken, ends) = (taken, all_taken t turns olds news others (sym is ∙ none) ends)
 all_taken t turns (old ∷ olds) (new ∷ news) fault none (Some own, others, is, broken, ends) = absurd (none-some own (sym none ∙ is))
 
-pub first_taken : (t : RuleTable) (turns : ℕ) (whole part new rest : List (List Receipt)) (fault : Option CallFault) → whole ≡ part ++ rest → length part ≡ min (length whole) 64 → length new ≡ length part
+pub first_taken : (t : RuleTable) (turns count : ℕ) (whole part new rest : List (List Receipt)) (fault : Option CallFault) → whole ≡ part ++ rest → length part ≡ count → count ≡ min (length whole) 64 → length new ≡ length part
     → AllEnd t turns part new fault → fault ≡ None → AllTakeTurns t turns (take 64 whole) (take 64 (new ++ rest))
-first_taken t turns whole part new rest fault value size same ends none =
-    let rows = splits whole part new rest value size same in
+first_taken t turns count whole part new rest fault value size few same ends none =
+    let rows = splits whole part new rest value (size ∙ few) same in
     subst (λ rs. AllTakeTurns t turns rs (take 64 (new ++ rest))) (sym rows.olds) (subst (AllTakeTurns t turns part) (sym rows.news) (all_taken t turns part new fault none ends))
 
 -- ---- the fault
@@ -163,8 +163,8 @@ stops clerks workers (Behind front seen) few met =
 stops clerks workers LogFull few met = tt
 stops clerks workers Memory few met = tt
 
-pub may_stop : (t : RuleTable) (turns : ℕ) (whole part new rest : List (List Receipt)) (first : Option CallFault) (fault : CallFault) (told : RoamFault) → whole ≡ part ++ rest → length part ≡ min (length whole) 64
+pub may_stop : (t : RuleTable) (turns count : ℕ) (whole part new rest : List (List Receipt)) (first : Option CallFault) (fault : CallFault) (told : RoamFault) → whole ≡ part ++ rest → length part ≡ count → count ≡ min (length whole) 64
     → AllEnd t turns part new first → first ≡ Some fault → told ≡ roam_fault fault → MayStop (new ++ rest) told
-may_stop t turns whole part new rest first fault told value size ends is told_is =
-    let front = front_of_row whole part rest value size in
+may_stop t turns count whole part new rest first fault told value size few ends is told_is =
+    let front = front_of_row whole part rest value (size ∙ few) in
     subst (MayStop (new ++ rest)) (sym told_is) (stops (new ++ rest) (length part) fault front.few (fault_met t turns part new rest first fault ends is))
