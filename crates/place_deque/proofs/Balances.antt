@@ -1,0 +1,228 @@
+-- Each move at an end keeps the rule.
+use Rattle.std.proofs.Common.{◌≡◌, ◌≢◌, ℕ, zero, suc, ◌+◌, ◌-◌, ◌<◌, ◌≤◌, List, [], ◌∷◌, ◌++◌, length, set, sym, refl, ap, ◌∙◌, subst, ⊎_elim, add-one, arith}
+use Rattle.std.specs.Prelude.{Option, Some, None, IfSome, MatchOption}
+use Rattle.std.specs.List.{sum_by, range_with_len}
+use Rattle.std.proofs.lemmas.List.Sums.{sum_by-append, sum_by-cons, sum_by_push}
+use mathlib.Core.Option.{some, some-injective, some-ne-none}
+use lib.ListN.{get_elem?}
+use Rattle.std.proofs.lemmas.Bool.{cases_lt}
+use Rattle.std.proofs.lemmas.List.FromFn.{length-range_with_len}
+use Rattle.crossbeam_deque.specs.Tasks.{Pushes, Takes as Leaves, Finds, FindsFew, Forks, Merges}
+use Rattle.crossbeam_deque.proofs.Lists.{at_set, at_snoc, set_else}
+use Rattle.place_deque.specs.declared.tally.Tally.{Tally}
+use Rattle.place_deque.specs.Tallies.{tally, places, Knows, Balanced, with_put, ArePlaces, Takes, KnowsAll, rest_of, part_of, joined}
+
+-- a total after a change of one pass
+total_set : (f : Tally → ℕ) (views : List Tally) (port : ℕ) (v w : Tally) → get_elem? views port ≡ some v → sum_by f (set views port w) + f v ≡ sum_by f views + f w
+total_set f [] port v w at = absurd (some-ne-none v (sym at))
+total_set f (x ∷ xs) zero v w at = let e : f x ≡ f v = ap f (some-injective x v at) in omega (arith, sum_by-cons f x xs, sum_by-cons f w xs)
+total_set f (x ∷ xs) (suc port) v w at = omega (arith, total_set f xs port v w at, sum_by-cons f x xs, sum_by-cons f x (set xs port w))
+
+-- one pass has no more than all
+no_more : (f : Tally → ℕ) (views : List Tally) (port : ℕ) (v : Tally) → get_elem? views port ≡ some v → f v ≤ sum_by f views
+no_more f [] port v at = absurd (some-ne-none v (sym at))
+no_more f (x ∷ xs) zero v at = let e : f x ≡ f v = ap f (some-injective x v at) in omega (arith, sum_by-cons f x xs)
+no_more f (x ∷ xs) (suc port) v at = omega (arith, no_more f xs port v at, sum_by-cons f x xs)
+
+-- where no pass has any of f, and g is 0 where f is, none has any of g
+none_of : (f g : Tally → ℕ) (views : List Tally) → sum_by f views ≡ 0 → ((j : ℕ) (u : Tally) → get_elem? views j ≡ some u → f u ≡ 0 → g u ≡ 0) → sum_by g views ≡ 0
+none_of f g [] none too = refl
+none_of f g (x ∷ xs) none too =
+    let cut = sum_by-cons f x xs in
+    let first : g x ≡ 0 = too 0 x refl (omega arith) in
+    let rest = none_of f g xs (omega arith) (λ j u. too (suc j) u) in
+    omega (arith, sum_by-cons g x xs)
+
+-- the same where all but one have none: that one has all of g
+one_has_all : (f g : Tally → ℕ) (views : List Tally) (port : ℕ) (v : Tally) → get_elem? views port ≡ some v → sum_by f views ≡ f v → ((j : ℕ) (u : Tally) → get_elem? views j ≡ some u → f u ≡ 0 → g u ≡ 0) → sum_by g views ≡ g v
+one_has_all f g [] port v at all too = absurd (some-ne-none v (sym at))
+one_has_all f g (x ∷ xs) zero v at all too =
+    let e = some-injective x v at in
+    let ef : f x ≡ f v = ap f e in
+    let eg : g x ≡ g v = ap g e in
+    let cut = sum_by-cons f x xs in
+    let rest = none_of f g xs (omega arith) (λ j u. too (suc j) u) in
+    omega (arith, sum_by-cons g x xs)
+one_has_all f g (x ∷ xs) (suc port) v at all too =
+    let most = no_more f xs port v at in
+    let cut = sum_by-cons f x xs in
+    let first : g x ≡ 0 = too 0 x refl (omega arith) in
+    let rest = one_has_all f g xs port v at (omega arith) (λ j u. too (suc j) u) in
+    omega (arith, sum_by-cons g x xs)
+
+-- a pass stands where it was put
+stands : (views : List Tally) (port : ℕ) (v w : Tally) → get_elem? views port ≡ some v → get_elem? (set views port w) port ≡ some w
+stands [] port v w at = absurd (some-ne-none v (sym at))
+stands (x ∷ xs) zero v w at = refl
+stands (x ∷ xs) (suc port) v w at = stands xs port v w at
+
+-- where one pass has the whole, no other has a part
+no_part : (views : List Tally) (port : ℕ) (v : Tally) → get_elem? views port ≡ some v → sum_by (λ u. u.parts) views ≡ v.parts → (j : ℕ) (u : Tally) → j ≢ port → get_elem? views j ≡ some u → u.parts ≡ 0
+no_part views port v at all j u other there =
+    let gone = tally 0 0 [] in
+    let total = total_set (λ (x : Tally). x.parts) views port v gone at in
+    let most = no_more (λ (x : Tally). x.parts) (set views port gone) j u (set_else views port j gone other ∙ there) in
+    omega arith
+
+-- one place more weighs that much more
+one_more : (h : ℕ → ℕ) (a n j : ℕ) → a + n ≡ j → sum_by h (range_with_len a (suc n)) ≡ sum_by h (range_with_len a n) + h j
+one_more h a zero j at = let e : h a ≡ h j = ap h (omega arith) in omega (arith, sum_by-cons h a [])
+one_more h a (suc n) j at = omega (arith, one_more h (a + 1) n j (omega arith), sum_by-cons h a (range_with_len (a + 1) (suc n)), sum_by-cons h a (range_with_len (a + 1) n))
+
+-- what each pass knows, after a change of one
+known_set : (count : ℕ) (views : List Tally) (port : ℕ) (w : Tally) → Knows count w → ((j : ℕ) (u : Tally) → j ≢ port → get_elem? views j ≡ some u → Knows count u) → (j : ℕ) (u : Tally) → get_elem? (set views port w) j ≡ some u → Knows count u
+known_set count views port w mine others j u at =
+    ⊎_elim (λ (x : (j ≡ port) × (w ≡ u)). subst (Knows count) x.1 mine) (λ (x : (j ≢ port) × (get_elem? views j ≡ some u)). others j u x.0 x.1) (at_set views port j w u at)
+
+pub begins : Balanced [] (tally 64 0 [] ∷ [])
+begins = record {
+  count = 0;
+  whole = refl;
+  once = λ h. refl;
+  known = λ port v at. ⊎_elim (λ (x : get_elem? {A = Tally} [] port ≡ some v). absurd (some-ne-none v (sym x))) (λ (x : tally 64 0 [] ≡ v). subst (Knows 0) x ((λ none. absurd (omega arith)), λ _. refl)) (at_snoc [] (tally 64 0 []) v port at);
+}
+
+puts : (port : ℕ) (v : Tally) → v.parts ≡ 64 → Pushes Balanced port v (v.count ∷ []) (λ w. w ≡ with_put v)
+puts port v all items views b at =
+    let w = with_put v in
+    let total = total_set (λ (u : Tally). u.parts) views port v w at in
+    let size : v.count ≡ b.count = (b.known port v at).1 (omega arith) in
+    let whole = b.whole in (
+      w,
+      record {
+        count = v.count + 1;
+        whole = omega arith;
+        once = λ h.
+            let s = total_set (λ (u : Tally). sum_by h u.taken) views port v w at in
+            let p = b.once h in
+            let m = one_more h 0 v.count v.count (omega arith) in
+            let e : sum_by h (places v.count) ≡ sum_by h (places b.count) = ap (λ n. sum_by h (places n)) size in
+            let a = sum_by_push h items v.count in
+            let next : sum_by h (places (v.count + 1)) ≡ sum_by h (places (suc v.count)) = ap (λ n. sum_by h (places n)) (add-one v.count) in
+            omega arith;
+        known = known_set (v.count + 1) views port w ((λ none. absurd (omega arith)), λ _. refl)
+            (λ j u other there.
+            let idle = no_part views port v at (whole ∙ sym all) j u other there in
+            ((b.known j u there).0, λ part. absurd (omega arith)));
+      },
+      refl,
+    )
+
+pub puts_at : (port : ℕ) (v : Tally) (place : ℕ) → v.parts ≡ 64 → v.count ≡ place → Pushes Balanced port v (place ∷ []) (λ w. w ≡ with_put v)
+puts_at port v place all next = subst (λ (x : ℕ). Pushes Balanced port v (x ∷ []) (λ w. w ≡ with_put v)) next (puts port v all)
+
+pub takes : (port : ℕ) (v : Tally) → 0 < v.parts → Leaves Balanced port v 1 (Takes v)
+takes port v part xs items views some_left few b at =
+    let w = tally v.parts v.count (v.taken ++ xs) in
+    let total = total_set (λ (u : Tally). u.parts) views port v w at in
+    let whole = b.whole in
+    let size : v.count ≡ b.count = (b.known port v at).1 part in
+    let once : (h : ℕ → ℕ) → sum_by (λ (u : Tally). sum_by h u.taken) (set views port w) + sum_by h items ≡ sum_by h (places b.count) = λ h.
+    let s = total_set (λ (u : Tally). sum_by h u.taken) views port v w at in
+    let p = b.once h in
+    let mine = sum_by-append h v.taken xs in
+    let rest = sum_by-append h xs items in
+    omega arith in (
+      w,
+      record {
+        count = b.count;
+        whole = omega arith;
+        once = once;
+        known = known_set b.count views port w ((λ none. absurd (omega arith)), λ _. size) (λ j u other there. b.known j u there);
+      },
+      (
+        refl,
+        λ h.
+            let most = no_more (λ (u : Tally). sum_by h u.taken) (set views port w) port w (stands views port v w at) in
+            let p = once h in
+            let e : sum_by h (places v.count) ≡ sum_by h (places b.count) = ap (λ n. sum_by h (places n)) size in
+            omega arith,
+      ),
+    )
+
+pub found : (port : ℕ) (v : Tally) → Finds Balanced port v (KnowsAll v)
+found port v views b at all h =
+    let whole = b.whole in
+    let size : v.count ≡ b.count = (b.known port v at).1 (omega arith) in
+    let mine = one_has_all (λ (u : Tally). u.parts) (λ (u : Tally). sum_by h u.taken) views port v at (omega arith) (λ j u there none. ap (sum_by h) ((b.known j u there).0 none)) in
+    let p = b.once h in
+    let e : sum_by h (places v.count) ≡ sum_by h (places b.count) = ap (λ n. sum_by h (places n)) size in
+    omega arith
+
+pub found_few : (few port : ℕ) (v : Tally) → few ≡ 0 → FindsFew Balanced few port v (KnowsAll v)
+found_few few port v none [] views least b at = found port v views b at
+found_few few port v none (x ∷ xs) views least b at = absurd (omega arith)
+
+pub forks : (port : ℕ) (v : Tally) → 1 < v.parts → Forks Balanced port v (rest_of v) (part_of v)
+forks port v parts items views b at =
+    let l = rest_of v in
+    let r = part_of v in
+    let vs = set views port l in
+    let size : v.count ≡ b.count = (b.known port v at).1 (omega arith) in
+    let whole = b.whole in
+    record {
+      count = b.count;
+      whole =
+          let total = total_set (λ (u : Tally). u.parts) views port v l at in
+          let a = sum_by_push (λ (u : Tally). u.parts) vs r in
+          omega arith;
+      once = λ h.
+          let s = total_set (λ (u : Tally). sum_by h u.taken) views port v l at in
+          let p = b.once h in
+          let a = sum_by_push (λ (u : Tally). sum_by h u.taken) vs r in
+          omega arith;
+      known = λ j u there. ⊎_elim (λ (x : get_elem? vs j ≡ some u). known_set b.count views port l ((λ none. absurd (omega arith)), λ _. size) (λ k y other here. b.known k y here) j u x)
+          (λ (x : r ≡ u). subst (Knows b.count) x ((λ none. absurd (omega arith)), λ _. size)) (at_snoc vs r u j there);
+    }
+
+pub merges : (port : ℕ) (v : Tally) (other : ℕ) (w : Tally) → 0 < v.parts → Merges Balanced port v other w (joined v w) (tally 0 0 [])
+merges port v other w part items views b at apart theirs =
+    let both = joined v w in
+    let gone = tally 0 0 [] in
+    let vs = set views port both in
+    let size : v.count ≡ b.count = (b.known port v at).1 part in
+    let whole = b.whole in
+    record {
+      count = b.count;
+      whole =
+          let one = total_set (λ (u : Tally). u.parts) views port v both at in
+          let two = total_set (λ (u : Tally). u.parts) vs other w gone theirs in
+          omega arith;
+      once = λ h.
+          let one = total_set (λ (u : Tally). sum_by h u.taken) views port v both at in
+          let two = total_set (λ (u : Tally). sum_by h u.taken) vs other w gone theirs in
+          let p = b.once h in
+          let a = sum_by-append h v.taken w.taken in
+          omega arith;
+      known = known_set b.count vs other gone ((λ _. refl), λ some_part. absurd (omega arith))
+          (λ j u _ here. known_set b.count views port both ((λ none. absurd (omega arith)), λ _. size) (λ k y _ there. b.known k y there) j u here);
+    }
+
+-- no place that was put is above all
+zero_below : (a n b : ℕ) → a + n ≤ b → sum_by (λ y. y + 1 - b) (range_with_len a n) ≡ 0
+zero_below a zero b within = refl
+zero_below a (suc n) b within = omega (arith, zero_below (a + 1) n b (omega arith), sum_by-cons (λ (y : ℕ). y + 1 - b) a (range_with_len (a + 1) n))
+
+-- a list weighs its length where each weighs one
+ones : (xs : List ℕ) → sum_by (λ _. 1) xs ≡ length xs
+ones [] = refl
+ones (x ∷ xs) = omega (arith, ones xs, sum_by-cons (λ (_ : ℕ). 1) x xs)
+
+-- a place taken is one that was put, and no more are taken than were put
+pub within : (count place : ℕ) (before taken : List ℕ) → taken ≡ before ++ place ∷ [] → ArePlaces count taken → (place < count) × (length taken ≤ count)
+within count place before taken is are = (
+  (let e : sum_by (λ y. y + 1 - count) taken ≡ sum_by (λ y. y + 1 - count) (before ++ place ∷ []) = ap (sum_by (λ y. y + 1 - count)) is in
+      omega (arith, are (λ y. y + 1 - count), zero_below 0 count count (omega arith), sum_by_push (λ (y : ℕ). y + 1 - count) before place)),
+  omega (arith, are (λ _. 1), ones taken, ones (places count), length-range_with_len 0 count),
+)
+
+-- every place that was put weighs in
+pub has_place : (count k : ℕ) → k < count → 1 ≤ sum_by (λ y. 1 - ((y - k) + (k - y))) (places count)
+has_place (suc count) k below =
+    let more = one_more (λ (y : ℕ). 1 - ((y - k) + (k - y))) 0 count count (omega arith) in
+    ⊎_elim (λ (less : k < count). let rest = has_place count k less in omega arith) (λ (last : count ≤ k). omega arith) (cases_lt k count)
+has_place zero k below = absurd (omega arith)
+
+pub taken_within : (P : Type 0) (v w : Tally) (result : Option ℕ) → MatchOption result P (λ place. Takes v (place ∷ []) w) → IfSome result (λ place. (place < v.count) × (length w.taken ≤ v.count))
+taken_within P v w None taken = tt
+taken_within P v w (Some place) taken = within v.count place v.taken w.taken (ap (λ (u : Tally). u.taken) taken.0) taken.1

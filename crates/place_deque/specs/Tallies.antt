@@ -1,0 +1,56 @@
+-- The rule of a deque of places, over what it holds and over what each pass knows.
+use Rattle.std.specs.Prelude.{◌≡◌, ℕ, ◌+◌, ◌-◌, ◌<◌, ◌≤◌, List, [], ◌++◌}
+use Rattle.std.specs.List.{sum_by, range_with_len}
+use mathlib.Core.Option.{some}
+use lib.ListN.{get_elem?}
+use Rattle.place_deque.specs.declared.tally.Tally.{Tally}
+
+abbrev pub tally : ℕ → ℕ → List ℕ → Tally
+tally parts count taken = record { parts = parts; count = count; taken = taken }
+
+-- the places 0 to count - 1
+abbrev pub places : ℕ → List ℕ
+places count = range_with_len 0 count
+
+-- a pass with no part has taken nothing, and one with a part knows how many places were put
+abbrev pub Knows : ℕ → Tally → Type 0
+Knows count v = (v.parts ≡ 0 → v.taken ≡ []) × (0 < v.parts → v.count ≡ count)
+
+-- However places are weighed, the places that were put weigh what the passes have taken and what the deque holds: each is in one of them, once.
+-- The parts of all passes make up the whole.
+pub record Balanced (items : List ℕ) (views : List Tally) : Type 0 where
+  pub count : ℕ
+  pub whole : sum_by (λ v. v.parts) views ≡ 64
+  pub once : (h : ℕ → ℕ) → sum_by (λ v. sum_by h v.taken) views + sum_by h items ≡ sum_by h (places count)
+  pub known : (port : ℕ) (v : Tally) → get_elem? views port ≡ some v → Knows count v
+
+-- one place more was put
+abbrev pub with_put : Tally → Tally
+with_put v = tally v.parts (v.count + 1) v.taken
+
+-- these are some of the places that were put, each once
+abbrev pub ArePlaces : ℕ → List ℕ → Type 0
+ArePlaces count taken = (h : ℕ → ℕ) → sum_by h taken ≤ sum_by h (places count)
+
+-- these were taken
+abbrev pub Takes : Tally → List ℕ → Tally → Type 0
+Takes v xs w = (w ≡ tally v.parts v.count (v.taken ++ xs)) × ArePlaces v.count w.taken
+
+-- these are all places that were put, each once
+abbrev pub AreAllPlaces : ℕ → List ℕ → Type 0
+AreAllPlaces count taken = (h : ℕ → ℕ) → sum_by h taken ≡ sum_by h (places count)
+
+-- whoever has the whole and finds no place knows that all were taken
+abbrev pub KnowsAll : Tally → Type 0
+KnowsAll v = v.parts ≡ 64 → AreAllPlaces v.count v.taken
+
+-- what a pass keeps when it is shared out in two, and what the other has
+abbrev pub rest_of : Tally → Tally
+rest_of v = tally (v.parts - 1) v.count v.taken
+
+abbrev pub part_of : Tally → Tally
+part_of v = tally 1 v.count []
+
+-- what a pass knows when it has joined another
+abbrev pub joined : Tally → Tally → Tally
+joined v w = tally (v.parts + w.parts) v.count (v.taken ++ w.taken)

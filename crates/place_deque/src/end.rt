@@ -1,0 +1,51 @@
+//! The ends of one deque, one for each worker.
+
+ghost use Rattle.std.specs.Prelude.{◌≡◌, ◌<◌, ◌≤◌, ◌++◌, [], ◌∷◌, length, map, All, IfOk, MatchOption, IfSome};
+ghost use Rattle.place_deque.specs.Tallies.{ArePlaces};
+ghost use Rattle.place_deque.specs.Ends.{end_hold, end_taken, AreAllEnds};
+
+use crate::{Owner, Thief};
+use std::alloc::{AllocError, Global};
+use std::sync::Wait;
+
+/// One worker's end of a deque.
+#[derive(Drop)]
+pub enum End {
+    /// The end that can also join what others took.
+    Owner(Owner),
+    /// An end that only takes.
+    Thief(Thief),
+}
+
+impl End {
+    /// Takes the place in front; `None` where there was none at one moment of the call.
+    pub fn take<W: Wait>(&mut self, rt: &W) -> Option<u32>
+        ensures hold { end_hold self.new ≡ end_hold self.old }
+        ensures taken { MatchOption result (end_taken self.new ≡ end_taken self.old) (λ place. end_taken self.new ≡ end_taken self.old ++ place ∷ []) }
+        ensures within { IfSome result (λ place. (place < (end_hold self.old).count) × (length (end_taken self.new) ≤ (end_hold self.old).count)) }
+        ensures once { IfSome result (λ _. ArePlaces (end_hold self.old).count (end_taken self.new)) }
+    {
+        match self {
+            End::Owner(owner) => owner.take(),
+            End::Thief(thief) => thief.take(rt),
+        }
+    }
+}
+
+/// So many ends of one new deque, which holds the places 0 to `count - 1`.
+pub fn ends(alloc: Global, count: u32, workers: u32) -> Result<Vec<End>, AllocError>
+    requires some { 0 < workers }
+    requires few { workers ≤ 64 }
+    ensures number { IfOk result (λ ends. length ends.items ≡ workers) }
+    ensures all { IfOk result (λ ends. AreAllEnds count (map end_hold ends.items)) }
+    ensures fresh { IfOk result (λ ends. All (λ end. end_taken end ≡ []) ends.items) }
+{
+    let mut ends = Vec::with_capacity(alloc, workers as usize)?;
+    let mut owner = Owner::filled(alloc, count)?;
+    for made in 1..workers {
+        let thief = owner.thief()?;
+        ends.push(End::Thief(thief))?;
+    }
+    ends.push(End::Owner(owner))?;
+    Ok(ends)
+}
