@@ -68,7 +68,10 @@ fn expect_counts(
 
 /// What an audit of the text counts.
 fn counted(rt: &impl Abort, alloc: Global, text: &[u8]) -> Summary {
-    audit_bytes(alloc, text).expect(rt, "a transcript")
+    let Ok(found) = audit_bytes(alloc, text) else {
+        panic!(rt; "no transcript");
+    };
+    found
 }
 
 const FIRST: &str = "link 1 2\npoint 1 2\nshow 1\n";
