@@ -4,7 +4,7 @@ use Rattle.std.proofs.lemmas.Bool.{true≢false}
 use Rattle.std.proofs.Math.Seq.{take-append_seam}
 use Rattle.std.specs.Prelude.{IsErr, IfSome}
 use Rattle.std.proofs.KnownBytes.{Appends-nil, Appends-trans}
-use Rattle.std.specs.Io.KnownBytes.{Appends, Consumes}
+use Rattle.std.specs.Io.KnownBytes.{Consumes}
 use Rattle.rule_machine.specs.RuleTable.{RuleTable}
 use Rattle.script_machine.specs.Script.{Progress, LineDoes, LinesDo, IsLine, IsBadLine, lines_of}
 use Rattle.script_machine.proofs.Ending.{GoesOn, goes_on, line_joined, lines_of-ended, lines_of-last}

@@ -1,31 +1,22 @@
 -- How the run of a script ends, by how far it came.
-use Rattle.std.proofs.Common.{◌≡◌, ◌∙◌, ℕ, ◌+◌, ◌<◌, ◌≤◌, List, [], ◌∷◌, ◌++◌, length, take, Option, None, Some, Result, Ok, Err, inl, inr, refl, sym, ap, subst, append_assoc, append-nil, length-append, arith}
+use Rattle.std.proofs.Common.{◌≡◌, ◌∙◌, ℕ, ◌+◌, List, [], ◌∷◌, ◌++◌, length, take, Option, None, Some, Result, Ok, Err, inl, inr, refl, sym, ap, subst, append-nil, length-append, arith}
 use Rattle.std.proofs.lemmas.Bool.{true≢false}
 use Rattle.std.proofs.Math.Seq.{take-append_seam, take-append-add, take-length}
 use Rattle.std.specs.Io.KnownBytes.{Appends}
 use Rattle.std.proofs.KnownBytes.{Appends-nil, Appends-trans}
-use Rattle.rule_machine.specs.Run.{Moment}
 use Rattle.rule_machine.specs.RuleTable.{RuleTable}
-use Rattle.rule_machine.specs.Run.{Moment}
-use Rattle.std.specs.Prelude.{OnErr, IsErr, IsErrAnd, IfSome}
+use Rattle.std.specs.Prelude.{OnErr, IsErr, IfSome}
 use Rattle.script_line.specs.declared.command.Command.{Command}
 use Rattle.script_line.specs.Command.{Says}
-use Rattle.script_machine.specs.Script.{Progress, CommandDoes, LineDoes, LinesDo, lines_of}
+use Rattle.script_machine.specs.Script.{Progress, CommandDoes, LineDoes, LinesDo}
 use Rattle.byte_output.specs.Beginning.{AppendsBeginning, AppendsLess}
-use Rattle.byte_input.specs.declared.fault.InputFault.{InputFault}
-use Rattle.byte_input.specs.declared.fault.InputFault.TheVariants as input
-use Rattle.script_run.specs.Input.{fault_of}
 use Rattle.script_run.specs.declared.stop.Stop.{Stop}
 use Rattle.script_run.specs.declared.stop.Stop.TheVariants.{BadLine, LogFull}
 use Rattle.script_run.specs.declared.stop.End.{End}
 use Rattle.script_run.specs.declared.stop.End.TheVariants.{Whole, Stopped, Unread, Memory}
-use Rattle.rule_machine.specs.declared.rules.RuleSet.{RuleSet}
-use Rattle.rule_machine.specs.Tables.{table_of}
-use Rattle.script_run.specs.declared.fault.RunFault.{RunFault}
-use Rattle.script_run.specs.Outcome.{Ends, IsOutcome, StopsAt, LeadsTo, Reaches, beginning}
+use Rattle.script_run.specs.Outcome.{Ends, LeadsTo, Reaches}
 use Rattle.script_run.specs.Halted.{Hands, Halts, ended, answered}
 use Rattle.script_run.specs.Line.{LineEnds}
-use Rattle.script_run.proofs.Shifting.{at_line, line_adds, meeting_adds}
 
 -- one line more
 pub LinesDo-more : (t : RuleTable) (limit : ℕ) (lines : List (List ℕ)) (line : List ℕ) (start mid after : Progress) → LinesDo t limit lines start mid → LineDoes t limit line mid after → LinesDo t limit (lines ++ line ∷ []) start after

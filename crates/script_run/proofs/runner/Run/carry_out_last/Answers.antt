@@ -1,4 +1,4 @@
-use Rattle.std.proofs.Common.{◌≡◌, ◌+◌, ℕ, List, [], ap, subst, arith}
+use Rattle.std.proofs.Common.{◌≡◌, ◌+◌, ℕ, List, [], subst, arith}
 use Rattle.script_run.specs.Line.{progress, LineEnds}
 use Rattle.script_run.proofs.Placing.{none_of, Last-none, Last-whole, Last-stopped, Last-memory}
 use Rattle.script_run.proofs.runner.Run.carry_out_last.Goals as goal
