@@ -1,1 +1,2 @@
 pub mod NextVerdict
+pub mod Laying

@@ -1,16 +1,22 @@
-//! The verdicts of a choice.
+//! The verdicts of a choice, found by several workers.
 
-ghost use Rattle.std.specs.Prelude.{◌≡◌, ◌<◌, IfOk, IfErr};
+ghost use Rattle.std.specs.Prelude.{◌≡◌, ◌<◌, ◌≤◌, length, map, All, IfOk, IfErr};
+ghost use Rattle.std.specs.Thread.{IsSync};
 ghost use Rattle.rule_engine.specs.Choosing.{verdicts_of};
 ghost use Rattle.steal_pool.specs.Faults.{Explains};
+ghost use Rattle.steal_pool.specs.Hands.{hand_hold, share_hold, AreJudged};
 
-use crate::{Gate, PoolFault};
+use crate::dealing::{MAX_WORKERS, deal};
+use crate::{Gate, Hand, PoolFault, Share, merge};
 use rule_engine::{Choice, Net, Rules, Verdict, Want};
 use std::alloc::Global;
 use std::sync::Wait;
-use std::thread::Threads;
+use std::thread::{Threads, join};
 
-/// What each item of a choice would do alone, in order of place.
+/// What each item of a choice would do alone, in order of place. So many workers, of which more than 64 count as 64, take the
+/// places from one another, each in a thread of its own where threads can be had; before each place its worker, from 0, passes
+/// the gate. One worker goes through the places in their order. `ZeroWorkers` where there is none, which is told first; else
+/// `Memory` where memory runs out. It waits for the gate and for its workers.
 pub fn evaluate<R: Rules + Sync, G: Gate + Sync, T: Threads + Wait + Sync>(
     rt: &T,
     alloc: Global,
@@ -26,7 +32,29 @@ pub fn evaluate<R: Rules + Sync, G: Gate + Sync, T: Threads + Wait + Sync>(
     if workers == 0 {
         return Err(PoolFault::ZeroWorkers);
     }
-    Ok(judge_all(rt, alloc, net, choice, gate)?)
+    let workers = workers.min(choice.items().len() as u32);
+    if workers < 2 {
+        return Ok(judge_all(rt, alloc, net, choice, gate)?);
+    }
+    Ok(judge_by(rt, alloc, net, choice, workers.min(MAX_WORKERS), gate)?)
+}
+
+// The verdicts of all items, found by so many workers.
+fn judge_by<R: Rules + Sync, G: Gate + Sync, T: Threads + Wait + Sync>(
+    rt: &T,
+    alloc: Global,
+    net: &Net<R>,
+    choice: &Choice,
+    workers: u32,
+    gate: &G,
+) -> Result<Vec<Verdict>, Want>
+    requires some { 0 < workers }
+    requires few { workers ≤ 64 }
+    ensures { IfOk result (λ verdicts. verdicts.items ≡ verdicts_of R.table net.now.state choice.now) }
+{
+    let hands = deal(alloc, choice, workers)?;
+    let shares = work_all(rt, net, choice, gate, hands)?;
+    merge(alloc, shares, net, choice)
 }
 
 // The verdicts of all items, found one after another.
@@ -46,4 +74,58 @@ fn judge_all<R: Rules, G: Gate, W: Wait>(
         verdicts.push(net.verdict(choice, place as u32))?;
     }
     Ok(verdicts)
+}
+
+// The shares of all hands. The hands are halved at each step and one half goes to a new thread.
+#[cycle(work)]
+fn work_all<R: Rules + Sync, G: Gate + Sync, T: Threads + Wait + Sync>(
+    rt: &T,
+    net: &Net<R>,
+    choice: &Choice,
+    gate: &G,
+    mut low: Vec<Hand>,
+) -> Result<Vec<Share>, Want>
+    requires { All (λ hand. (hand_hold hand).count ≡ length choice.now) low.items }
+    ensures hold { IfOk result (λ shares. map share_hold shares.items ≡ map hand_hold low.items) }
+    ensures judged { IfOk result (λ shares. All (AreJudged R.table net.now.state choice.now) shares.items) }
+{
+    if low.len() < 2 {
+        return work_first(rt, net, choice, gate, low);
+    }
+    let high = low.split_off(low.len() / 2)?;
+    let (ours, theirs) = join(
+        rt,
+        move || -> Result<Vec<Share>, Want>
+            requires { IsSync T.row × IsSync G.row × IsSync R.row × All (λ hand. (hand_hold hand).count ≡ length choice.now) low.items }
+            ensures { IfOk result (λ shares. (map share_hold shares.items ≡ map hand_hold low.items) × All (AreJudged R.table net.entry.now.state choice.entry.now) shares.items) }
+        { work_all(rt, net, choice, gate, low) },
+        move || -> Result<Vec<Share>, Want>
+            requires { IsSync T.row × IsSync G.row × IsSync R.row × All (λ hand. (hand_hold hand).count ≡ length choice.now) high.items }
+            ensures { IfOk result (λ shares. (map share_hold shares.items ≡ map hand_hold high.items) × All (AreJudged R.table net.entry.now.state choice.entry.now) shares.items) }
+        { work_all(rt, net, choice, gate, high) },
+    );
+    let mut shares = ours?;
+    let mut others = theirs?;
+    shares.append(&mut others)?;
+    Ok(shares)
+}
+
+// The share of one hand, if there is one.
+fn work_first<R: Rules, G: Gate, W: Wait>(
+    rt: &W,
+    net: &Net<R>,
+    choice: &Choice,
+    gate: &G,
+    mut hands: Vec<Hand>,
+) -> Result<Vec<Share>, Want>
+    requires few { length hands.items < 2 }
+    requires choice { All (λ hand. (hand_hold hand).count ≡ length choice.now) hands.items }
+    ensures hold { IfOk result (λ shares. map share_hold shares.items ≡ map hand_hold hands.items) }
+    ensures judged { IfOk result (λ shares. All (AreJudged R.table net.now.state choice.now) shares.items) }
+{
+    let mut shares = Vec::new(*hands.allocator());
+    if let Some(hand) = hands.pop() {
+        shares.push(hand.work(rt, net, choice, gate)?)?;
+    }
+    Ok(shares)
 }

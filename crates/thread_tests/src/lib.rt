@@ -1,5 +1,5 @@
-//! Tests of what threads share: boards and their readers, clerks of one network, those that roam, and scripts that are played at
-//! once.
+//! Tests of what threads share: boards and their readers, clerks of one network and those that roam, scripts that are played at
+//! once, and workers that share a choice.
 #![tactic(auto)]
 
 #[cfg(test)]
@@ -10,6 +10,8 @@ mod clerks;
 mod helpers;
 #[cfg(test)]
 mod judged_steps;
+#[cfg(test)]
+mod pool;
 #[cfg(test)]
 mod roaming;
 #[cfg(test)]

@@ -1,0 +1,186 @@
+-- What is laid out by place is the list of all, once every place was taken.
+use Rattle.std.proofs.Common.{◌≡◌, ◌≢◌, ℕ, zero, suc, ◌+◌, ◌-◌, ◌<◌, ◌≤◌, List, [], ◌∷◌, ◌++◌, length, map, take, drop, length-append, true≢false, sym, refl, ap, ◌∙◌, subst, ⊎_elim, arith}
+use Rattle.std.specs.Prelude.{Bool, true, false, if◌then◌else◌, Option, None, Some, slice_get, slice_set, IfSome, MatchOption, All}
+use Rattle.std.specs.List.{sum_by}
+use Rattle.std.proofs.lemmas.Bool.{cases_eq}
+use Rattle.std.proofs.lemmas.List.Sums.{sum_by-append, sum_by-cons, sum_by_push}
+use Rattle.std.proofs.lemmas.List.Elements.{All-nil, All-cons, All-append, All-take, All-drop}
+use Rattle.place_deque.specs.Tallies.{Takes, KnowsAll, AreAllPlaces}
+use Rattle.std.proofs.lemmas.List.{map-append, append-nil, length-map, take-append-drop}
+use lib.Seq.{take-append_seam, drop-append_seam}
+use Rattle.place_deque.specs.declared.tally.Tally.{Tally}
+use Rattle.place_deque.specs.Ends.{Hold, AreAllEnds}
+use Rattle.place_deque.proofs.Joinings.{moved}
+use Rattle.place_deque.proofs.Balances.{has_place}
+use Rattle.rule_machine.specs.declared.choice.Item.{Item}
+use Rattle.rule_machine.specs.declared.verdict.Verdict.{Verdict}
+use Rattle.rule_machine.specs.State.{State}
+use Rattle.rule_machine.specs.RuleTable.{RuleTable}
+use Rattle.rule_engine.specs.Choosing.{verdict_of, verdicts_from, verdicts_of}
+use Rattle.steal_pool.specs.declared.hand.Hand.{Hand}
+use Rattle.steal_pool.specs.declared.hand.Share.{Share}
+use Rattle.steal_pool.specs.Hands.{hand_hold, share_hold, AreOf}
+use Rattle.steal_pool.specs.Laid.{laid, Fit, at_place, taken_by, taken_in, IsRight}
+
+-- as many verdicts as items
+pub verdicts_length : (t : RuleTable) (s : State) (from : ℕ) (items : List Item) → length (verdicts_from t s from items) ≡ length items
+verdicts_length t s from [] = refl
+verdicts_length t s from (i ∷ is) = ap suc (verdicts_length t s (from + 1) is)
+
+-- the verdict at a place is the one that stands there among all
+verdict_from : (t : RuleTable) (s : State) (from : ℕ) (items : List Item) (k place : ℕ) (v : Verdict) → from + k ≡ place → k < length items → IfSome (slice_get items k) (λ item. v ≡ verdict_of t s place item) → slice_get (verdicts_from t s from items) k ≡ Some v
+verdict_from t s from [] k place v at below is = absurd (omega (arith, below))
+verdict_from t s from (i ∷ is) zero place v at below same = ap Some (ap (λ (p : ℕ). verdict_of t s p i) (omega arith) ∙ sym same)
+verdict_from t s from (i ∷ is) (suc k) place v at below same = verdict_from t s (from + 1) is k place v (omega arith) (omega (arith, below)) same
+
+pub verdict_there : (t : RuleTable) (s : State) (items : List Item) (place : ℕ) (v : Verdict) → place < length items → IfSome (slice_get items place) (λ item. v ≡ verdict_of t s place item) → slice_get (verdicts_of t s items) place ≡ Some v
+verdict_there t s items place v below same = verdict_from t s 0 items place place v (omega arith) below same
+
+-- each verdict has the number of its place
+place_from : (t : RuleTable) (s : State) (from : ℕ) (items : List Item) (k : ℕ) (v : Verdict) → slice_get (verdicts_from t s from items) k ≡ Some v → (k < length items) × (v.place ≡ from + k)
+place_from t s from [] k v is = absurd cc
+place_from t s from (i ∷ rest) zero v is = (omega arith, (let e : verdict_of t s from i ≡ v = cc in ap (λ (x : Verdict). x.place) (sym e) ∙ omega arith))
+place_from t s from (i ∷ rest) (suc k) v is = let later = place_from t s (from + 1) rest k v is in (omega arith, omega arith)
+
+-- what is read of a list after a write
+get_set_here : (xs : List Verdict) (i : ℕ) (v : Verdict) → i < length xs → slice_get (slice_set xs i v) i ≡ Some v
+get_set_here [] i v below = absurd (omega (arith, below))
+get_set_here (x ∷ xs) zero v below = refl
+get_set_here (x ∷ xs) (suc i) v below = get_set_here xs i v (omega arith)
+
+get_set_else : (xs : List Verdict) (i j : ℕ) (v : Verdict) → j ≢ i → slice_get (slice_set xs i v) j ≡ slice_get xs j
+get_set_else [] i j v other = refl
+get_set_else (x ∷ xs) zero zero v other = absurd (other refl)
+get_set_else (x ∷ xs) zero (suc j) v other = refl
+get_set_else (x ∷ xs) (suc i) zero v other = refl
+get_set_else (x ∷ xs) (suc i) (suc j) v other = get_set_else xs i j v (λ e. other (ap suc e))
+
+set_length : (xs : List Verdict) (i : ℕ) (v : Verdict) → length (slice_set xs i v) ≡ length xs
+set_length [] i v = refl
+set_length (x ∷ xs) zero v = refl
+set_length (x ∷ xs) (suc i) v = ap suc (set_length xs i v)
+
+-- lists that agree at each place are the same
+same_at : (xs ys : List Verdict) → length xs ≡ length ys → ((k : ℕ) → k < length ys → slice_get xs k ≡ slice_get ys k) → xs ≡ ys
+same_at [] [] size at = refl
+same_at [] (y ∷ ys) size at = absurd (omega (arith, size))
+same_at (x ∷ xs) [] size at = absurd (omega (arith, size))
+same_at (x ∷ xs) (y ∷ ys) size at =
+    let first : Some x ≡ Some y = at 0 (omega arith) in
+    let rest = same_at xs ys (omega (arith, size)) (λ k below. at (suc k) (omega arith)) in
+    cc
+
+-- a table is right where nothing was taken
+pub no_weight : (all table : List Verdict) → length table ≡ length all → (weight : ℕ → ℕ) → ((k : ℕ) → weight k ≡ 0) → IsRight all table weight
+no_weight all table size weight none = record { size = size; right = λ k below some_weight. absurd (omega (arith, none k)) }
+
+pub writes : (all table : List Verdict) (before after : ℕ → ℕ) (place : ℕ) (v : Verdict) → slice_get all place ≡ Some v → ((k : ℕ) → after k ≡ before k + at_place k place) → IsRight all table before → place < length table → IsRight all (slice_set table place v) after
+writes all table before after place v is more r below = record {
+  size = set_length table place v ∙ r.size;
+  right = λ k inside some_weight. ⊎_elim
+      (λ (e : k ≡ place). subst (λ (j : ℕ). slice_get (slice_set table place v) j ≡ slice_get all j) (sym e) (get_set_here table place v below ∙ sym is))
+      (λ (other : k ≢ place). get_set_else table place k v other ∙ r.right k inside (let m = more k in let z : at_place k place ≡ 0 = omega arith in omega arith)) (cases_eq k place);
+}
+
+-- a whole share is laid out
+pub lays : (t : RuleTable) (s : State) (items : List Item) (taken : List ℕ) (verdicts table : List Verdict) (before after : ℕ → ℕ) → AreOf (verdicts_of t s items) taken verdicts → ((k : ℕ) → after k ≡ before k + sum_by (at_place k) taken) → IsRight (verdicts_of t s items) table before → IsRight (verdicts_of t s items) (laid table verdicts) after
+lays t s items [] [] table before after are more r = record { size = r.size; right = λ k below some_weight. r.right k below (omega (arith, more k)) }
+lays t s items [] (v ∷ vs) table before after are more r = absurd cc
+lays t s items (p ∷ ps) [] table before after are more r = absurd cc
+lays t s items (p ∷ ps) (v ∷ vs) table before after are more r =
+    let first : slice_get (verdicts_of t s items) p ≡ Some v = cc in
+    let rest : AreOf (verdicts_of t s items) ps vs = cc in
+    let there = place_from t s 0 items p v first in
+    let is : p ≡ v.place = omega arith in
+    let size = verdicts_length t s 0 items in
+    let one = writes (verdicts_of t s items) table before (λ k. before k + at_place k p) v.place v (subst (λ (j : ℕ). slice_get (verdicts_of t s items) j ≡ Some v) is first) (λ k. ap (λ (j : ℕ). before k + at_place k j) is) r (omega (arith, r.size)) in
+    lays t s items ps vs (slice_set table v.place v) (λ k. before k + at_place k p) after rest (λ k. omega (arith, more k, sum_by-cons (at_place k) p ps)) one
+
+-- each verdict of a share has a place in the table
+pub fits : (t : RuleTable) (s : State) (items : List Item) (taken : List ℕ) (verdicts : List Verdict) → AreOf (verdicts_of t s items) taken verdicts → Fit (length items) verdicts
+fits t s items [] [] are = All-nil (λ v. v.place < length items)
+fits t s items [] (v ∷ vs) are = absurd cc
+fits t s items (p ∷ ps) [] are = absurd cc
+fits t s items (p ∷ ps) (v ∷ vs) are =
+    let first : slice_get (verdicts_of t s items) p ≡ Some v = cc in
+    let rest : AreOf (verdicts_of t s items) ps vs = cc in
+    let there = place_from t s 0 items p v first in
+    All-cons (λ v. v.place < length items) v vs (omega arith) (fits t s items ps vs rest)
+
+-- where all places were taken, the table is the list of all
+pub all_laid : (t : RuleTable) (s : State) (items : List Item) (taken : List ℕ) (table : List Verdict) → AreAllPlaces (length items) taken → IsRight (verdicts_of t s items) table (λ k. sum_by (at_place k) taken) → table ≡ verdicts_of t s items
+all_laid t s items taken table are r = same_at table (verdicts_of t s items) r.size (λ k below. r.right k below (
+    let size = verdicts_length t s 0 items in
+    let there = has_place (length items) k (omega arith) in
+    omega (arith, are (at_place k))))
+
+-- one end more of the first kind, and one less of the second
+pub shifted : {X Y : Type 0} → (f : X → Hold) (g : Y → Hold) (count : ℕ) (xs xs' : List X) (ys ys' : List Y) (x : X) (y : Y) → xs' ≡ xs ++ x ∷ [] → ys ≡ ys' ++ y ∷ [] → f x ≡ g y → AreAllEnds count (map f xs ++ map g ys) → AreAllEnds count (map f xs' ++ map g ys')
+shifted f g count xs xs' ys ys' x y more less same all =
+    let from : map g ys ≡ map g ys' ++ g y ∷ [] = ap (map g) less ∙ map-append g ys' (y ∷ []) in
+    let to : map f xs' ≡ map f xs ++ f x ∷ [] = ap (map f) more ∙ map-append f xs (x ∷ []) in
+    let now = moved count (map f xs) (map g ys') (g y) (subst (λ l. AreAllEnds count (map f xs ++ l)) from all) in
+    subst (λ l. AreAllEnds count (l ++ map g ys')) (sym (to ∙ ap (λ h. map f xs ++ h ∷ []) same)) now
+
+-- all that are left are of one kind
+pub all_shifted : {X Y : Type 0} → (f : X → Hold) (g : Y → Hold) (count : ℕ) (xs : List X) (ys : List Y) → ys ≡ [] → AreAllEnds count (map f xs ++ map g ys) → AreAllEnds count (map f xs)
+all_shifted f g count xs ys none all = subst (AreAllEnds count) (append-nil (map f xs)) (subst (λ l. AreAllEnds count (map f xs ++ map g l)) none all)
+
+-- what all but the last say, and what the last says
+pub but_last : {X : Type 0} → (P : X → Type 0) (xs ys : List X) (x : X) → xs ≡ ys ++ x ∷ [] → All P xs → All P ys × P x
+but_last P xs ys x is all =
+    let there = subst (All P) is all in
+    (
+      subst (All P) (take-append_seam ys (x ∷ [])) (All-take P (length ys) (ys ++ x ∷ []) there),
+      subst (All P) (drop-append_seam ys (x ∷ [])) (All-drop P (length ys) (ys ++ x ∷ []) there) 0 x (omega arith),
+    )
+
+-- one verdict more
+pub judges : (all : List Verdict) (taken more : List ℕ) (place : ℕ) (verdicts next : List Verdict) (v : Verdict) → slice_get all place ≡ Some v → more ≡ taken ++ place ∷ [] → next ≡ verdicts ++ v ∷ [] → AreOf all taken verdicts → AreOf all more next
+judges all taken more place verdicts next v is took push so_far =
+    ap (map Some) push ∙ map-append Some verdicts (v ∷ []) ∙ ap (λ l. l ++ Some v ∷ []) so_far ∙ ap (λ o. map (slice_get all) taken ++ o ∷ []) (sym is) ∙ sym (ap (map (slice_get all)) took ∙ map-append (slice_get all) taken (place ∷ []))
+
+-- as many verdicts as places
+pub as_many : (all : List Verdict) (taken : List ℕ) (verdicts : List Verdict) → AreOf all taken verdicts → length verdicts ≡ length taken
+as_many all taken verdicts are = sym (length-map verdicts Some) ∙ ap length are ∙ length-map taken (slice_get all)
+
+pub reweighed : (all table : List Verdict) (before after : ℕ → ℕ) → ((k : ℕ) → after k ≡ before k) → IsRight all table before → IsRight all table after
+reweighed all table before after same r = record { size = r.size; right = λ k below some. r.right k below (omega (arith, same k)) }
+
+-- whoever takes a place and writes its verdict keeps the table right
+pub takes_one : (all table : List Verdict) (v w : Tally) (place : ℕ) (verdict : Verdict) → slice_get all place ≡ Some verdict → w.taken ≡ v.taken ++ place ∷ [] → place < length table → IsRight all table (taken_in v) → IsRight all (slice_set table place verdict) (taken_in w)
+takes_one all table v w place verdict is took below r = writes all table (taken_in v) (taken_in w) place verdict is (λ k. ap (sum_by (at_place k)) took ∙ sum_by_push (at_place k) v.taken place) r below
+
+pub pushed : {X : Type 0} → (went : Bool) (old new : List X) (x : X) → new ≡ (if went then old ++ x ∷ [] else old) → went ≡ true → new ≡ old ++ x ∷ []
+pushed true old new x is ok = is
+pushed false old new x is ok = absurd (true≢false (sym ok))
+
+pub as_long : {X Y : Type 0} → (xs xs' : List X) (ys ys' : List Y) (x : X) (y : Y) → xs' ≡ xs ++ x ∷ [] → ys ≡ ys' ++ y ∷ [] → {n : ℕ} → length xs + length ys ≡ n → length xs' + length ys' ≡ n
+as_long xs xs' ys ys' x y more less size = omega (arith, ap length more, ap length less, length-append xs (x ∷ []), length-append ys' (y ∷ []))
+
+-- whoever has the whole and found nothing knows that all places were taken
+pub all_known : (v : Tally) (count : ℕ) → v.parts ≡ 64 → v.count ≡ count → KnowsAll v → AreAllPlaces count v.taken
+all_known v count whole is knows = subst (λ (n : ℕ). AreAllPlaces n v.taken) is (knows whole)
+
+pub finds_none : (v w : Tally) (result : Option ℕ) → result ≡ None → MatchOption result ((w ≡ v) × KnowsAll v) (λ place. Takes v (place ∷ []) w) → KnowsAll v
+finds_none v w None none told = told.1
+finds_none v w (Some place) none told = absurd cc
+
+-- what all say of a list's names, said of its items
+pub unmapped : {X : Type 0} → (f : X → Hold) (P : Hold → Type 0) (xs : List X) → All P (map f xs) → All (λ x. P (f x)) xs
+unmapped f P [] all = All-nil (λ x. P (f x))
+unmapped f P (x ∷ xs) all = All-cons (λ y. P (f y)) x xs (all 0 (f x) (omega arith)) (unmapped f P xs (λ k d within. all (suc k) d (omega arith)))
+
+-- both halves of a list of hands
+pub halves_held : (k : ℕ) (hands low high : List Hand) (ours theirs shares : List Share) → low ≡ take k hands → high ≡ drop k hands → map share_hold ours ≡ map hand_hold low → map share_hold theirs ≡ map hand_hold high → shares ≡ ours ++ theirs → map share_hold shares ≡ map hand_hold hands
+halves_held k hands low high ours theirs shares first second mine other all =
+    ap (map share_hold) all ∙ map-append share_hold ours theirs ∙ ap (λ l. l ++ map share_hold theirs) mine ∙ ap (λ l. map hand_hold low ++ l) other ∙ sym (map-append hand_hold low high) ∙ ap (λ l. map hand_hold (l ++ high)) first ∙ ap (λ l. map hand_hold (take k hands ++ l)) second ∙ ap (map hand_hold) (take-append-drop k hands)
+
+pub halves_judged : (P : Share → Type 0) (ours theirs shares : List Share) → All P ours → All P theirs → shares ≡ ours ++ theirs → All P shares
+halves_judged P ours theirs shares mine other all = subst (All P) (sym all) (All-append P ours theirs mine other)
+
+pub first_half : (P : Hand → Type 0) (k : ℕ) (hands low : List Hand) → low ≡ take k hands → All P hands → All P low
+first_half P k hands low is all = subst (All P) (sym is) (All-take P k hands all)
+
+pub second_half : (P : Hand → Type 0) (k : ℕ) (hands high : List Hand) → high ≡ drop k hands → All P hands → All P high
+second_half P k hands high is all = subst (All P) (sym is) (All-drop P k hands all)

@@ -1,0 +1,14 @@
+use Rattle.std.proofs.Common.{◌≡◌, length, All, sym, subst, rules}
+use Rattle.place_deque.specs.Ends.{Hold, AreAllEnds}
+use Rattle.steal_pool.specs.declared.hand.Hand.{Hand}
+use Rattle.steal_pool.specs.Hands.{hand_hold}
+use Rattle.steal_pool.proofs.Laying.{unmapped}
+use Rattle.steal_pool.proofs.evaluation.judge_by.Goals as goal
+
+pub work_all-requires-after_bounds : goal.work_all-requires-after_bounds
+work_all-requires-after_bounds g c =
+    let held : All (λ (h : Hand). (hand_hold h).count ≡ length c.args.choice.now) c.in_ok-hands.hands.items = unmapped hand_hold (λ (h : Hold). h.count ≡ length c.args.choice.now) c.in_ok-hands.hands.items c.in_ok-hands.ensures.all.size in
+    search rules
+
+pub merge-requires-clause-all : goal.merge-requires-clause-all
+merge-requires-clause-all g c = subst (AreAllEnds (length c.args.choice.now)) (sym c.in_ok-shares.ensures.hold) c.in_ok-hands.ensures.all

@@ -1,0 +1,16 @@
+use Rattle.std.proofs.Common.{◌++◌, length, map, All, vec_len}
+use Rattle.place_deque.specs.Ends.{end_hold, AreAllEnds}
+use Rattle.rule_engine.specs.Choosing.{verdicts_of}
+use Rattle.steal_pool.specs.Hands.{share_hold, AreJudged}
+use Rattle.steal_pool.specs.Laid.{IsRight, taken_by}
+use Rattle.steal_pool.proofs.merging.lay_out.Given as goal
+
+abbrev pub invariant-loop-share : goal.invariant-loop-share
+invariant-loop-share g l = record {
+  all : AreAllEnds (length l.choice) (map end_hold l.ends.items ++ map share_hold l.shares.items);
+  judged : All (AreJudged g.R.Rules.table l.net.state l.choice) l.shares.items;
+  right : IsRight (verdicts_of g.R.Rules.table l.net.state l.choice) l.table (taken_by l.ends.items);
+}
+
+abbrev pub decreases-loop-share : goal.decreases-loop-share
+decreases-loop-share g l = vec_len l.shares

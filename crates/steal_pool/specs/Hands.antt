@@ -1,0 +1,32 @@
+-- What clauses say of hands and shares.
+use Rattle.std.specs.Prelude.{◌≡◌, ℕ, List, map, Some, slice_get}
+use Rattle.place_deque.specs.Ends.{Hold, end_hold, end_taken}
+use Rattle.rule_machine.specs.declared.choice.Item.{Item}
+use Rattle.rule_machine.specs.declared.verdict.Verdict.{Verdict}
+use Rattle.rule_machine.specs.State.{State}
+use Rattle.rule_machine.specs.RuleTable.{RuleTable}
+use Rattle.rule_engine.specs.Choosing.{verdicts_of}
+use Rattle.steal_pool.specs.declared.hand.Hand.{Hand}
+use Rattle.steal_pool.specs.declared.hand.Share.{Share}
+
+-- which deque a hand is an end of, how many places were put on that, and its part of the whole
+abbrev pub hand_hold : Hand → Hold
+hand_hold hand = end_hold hand.end
+
+abbrev pub share_hold : Share → Hold
+share_hold share = end_hold share.end
+
+-- the places that the worker took, in that order
+abbrev pub share_taken : Share → List ℕ
+share_taken share = end_taken share.end
+
+abbrev pub share_verdicts : Share → List Verdict
+share_verdicts share = share.verdicts.items
+
+-- these verdicts are those at these places, of all
+abbrev pub AreOf : List Verdict → List ℕ → List Verdict → Type 0
+AreOf all places verdicts = map Some verdicts ≡ map (slice_get all) places
+
+-- the share has the verdict of each place that was taken, and no other
+abbrev pub AreJudged : RuleTable → State → List Item → Share → Type 0
+AreJudged t s items share = AreOf (verdicts_of t s items) (share_taken share) (share_verdicts share)

@@ -1,0 +1,32 @@
+-- Verdicts that are laid out by place.
+use Rattle.std.specs.Prelude.{◌≡◌, ℕ, ◌+◌, ◌-◌, ◌<◌, List, [], ◌∷◌, length, slice_get, slice_set, All}
+use Rattle.std.specs.List.{sum_by}
+use Rattle.place_deque.specs.declared.tally.Tally.{Tally}
+use Rattle.place_deque.specs.declared.end.End.{End}
+use Rattle.place_deque.specs.Ends.{end_taken}
+use Rattle.rule_machine.specs.declared.verdict.Verdict.{Verdict}
+
+-- the table with each verdict written at its place
+abbrev pub laid : List Verdict → List Verdict → List Verdict
+laid table [] = table
+laid table (verdict ∷ verdicts) = laid (slice_set table verdict.place verdict) verdicts
+
+-- each verdict has a place in a table of this length
+abbrev pub Fit : ℕ → List Verdict → Type 0
+Fit size verdicts = All (λ verdict. verdict.place < size) verdicts
+
+-- 1 at k, else 0
+abbrev pub at_place : ℕ → ℕ → ℕ
+at_place k y = 1 - ((y - k) + (k - y))
+
+-- how often a place was taken, by these ends or by whoever knows this
+abbrev pub taken_by : List End → ℕ → ℕ
+taken_by ends k = sum_by (λ e. sum_by (at_place k) (end_taken e)) ends
+
+abbrev pub taken_in : Tally → ℕ → ℕ
+taken_in v k = sum_by (at_place k) v.taken
+
+-- the table has as many places as there are verdicts in all, and at each place that was taken the one that stands there
+pub record IsRight (all table : List Verdict) (times : ℕ → ℕ) : Type 0 where
+  pub size : length table ≡ length all
+  pub right : (k : ℕ) → k < length all → 0 < times k → slice_get table k ≡ slice_get all k

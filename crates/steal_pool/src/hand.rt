@@ -1,0 +1,24 @@
+//! One worker's end of the work, before and after.
+
+ghost use Rattle.std.specs.Prelude.{◌≡◌, []};
+ghost use Rattle.place_deque.specs.Ends.{end_taken};
+
+use place_deque::End;
+use rule_engine::Verdict;
+use std::alloc::Global;
+
+/// One worker's end of the deque on which the places of a choice were put; nothing is taken yet.
+#[derive(Drop)]
+pub struct Hand {
+    pub(crate) alloc: Global,
+    pub(crate) worker: u32,
+    pub(crate) end: End,
+    ghost fresh: { end_taken end ≡ [] },
+}
+
+/// What one worker took from the deque, each place judged, with its end.
+#[derive(Drop)]
+pub struct Share {
+    pub(crate) end: End,
+    pub(crate) verdicts: Vec<Verdict>,
+}

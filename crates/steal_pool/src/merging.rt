@@ -1,0 +1,89 @@
+//! The verdicts of all shares, by place.
+
+ghost use Rattle.std.specs.Prelude.{◌≡◌, ◌<◌, ◌≤◌, length, map, All, IfOk};
+ghost use Rattle.place_deque.specs.Ends.{end_hold, owner_tally, AreAllEnds};
+ghost use Rattle.rule_engine.specs.Choosing.{verdicts_of};
+ghost use Rattle.steal_pool.specs.Hands.{share_hold, AreJudged};
+ghost use Rattle.steal_pool.specs.Laid.{laid, Fit, IsRight, taken_by, taken_in};
+
+use crate::Share;
+use place_deque::{End, Owner, gather};
+use rule_engine::{Choice, Net, Outcome, Rules, Verdict, Want};
+use std::alloc::Global;
+
+/// Joins all shares of one call of `hands`, which worked with its choice on this net: takes and judges what is left on the
+/// deque, passing no gate, and gives the verdicts in order of place. Each place was put once and is taken once, so none is
+/// missing and none is doubled. At want of memory the shares are used up.
+pub fn merge<R: Rules>(
+    alloc: Global,
+    shares: Vec<Share>,
+    net: &Net<R>,
+    choice: &Choice,
+) -> Result<Vec<Verdict>, Want>
+    requires all { AreAllEnds (length choice.now) (map share_hold shares.items) }
+    requires judged { All (AreJudged R.table net.now.state choice.now) shares.items }
+    ensures { IfOk result (λ verdicts. verdicts.items ≡ verdicts_of R.table net.now.state choice.now) }
+{
+    let Some(first) = choice.items().first() else {
+        return Ok(Vec::new(alloc));
+    };
+    let blank = Verdict {
+        place: 0,
+        node: first.node,
+        outcome: Outcome::Absent,
+    };
+    let mut verdicts = Vec::from_elem(alloc, blank, choice.items().len())?;
+    let ends = lay_out(alloc, shares, net, choice, &mut verdicts)?;
+    judge_left(gather(ends, choice.items().len() as u32), net, choice, &mut verdicts);
+    Ok(verdicts)
+}
+
+// Writes the verdicts of all shares at their places, and gives the ends of the shares.
+fn lay_out<R: Rules>(
+    alloc: Global,
+    mut shares: Vec<Share>,
+    net: &Net<R>,
+    choice: &Choice,
+    table: &mut [Verdict],
+) -> Result<Vec<End>, Want>
+    requires size { length table.old ≡ length choice.now }
+    requires all { AreAllEnds (length choice.now) (map share_hold shares.items) }
+    requires judged { All (AreJudged R.table net.now.state choice.now) shares.items }
+    ensures all { IfOk result (λ ends. AreAllEnds (length choice.now) (map end_hold ends.items)) }
+    ensures right { IfOk result (λ ends. IsRight (verdicts_of R.table net.now.state choice.now) table.new (taken_by ends.items)) }
+{
+    let mut ends = Vec::with_capacity(alloc, shares.len())?;
+    while let Some(share) = shares.pop() {
+        let Share { end, verdicts } = share;
+        lay(table, &verdicts);
+        ends.push(end)?;
+    }
+    Ok(ends)
+}
+
+// Writes each verdict at its place.
+fn lay(table: &mut [Verdict], verdicts: &[Verdict])
+    requires { Fit (length table.old) verdicts.now }
+    ensures { table.new ≡ laid table.old verdicts.now }
+{
+    for verdict in verdicts {
+        table[verdict.place as usize] = *verdict;
+    }
+}
+
+// Takes what is left on the deque, judges each place and writes it there.
+fn judge_left<R: Rules>(
+    mut owner: Owner,
+    net: &Net<R>,
+    choice: &Choice,
+    table: &mut [Verdict],
+)
+    requires whole { (owner_tally owner).parts ≡ 64 }
+    requires count { (owner_tally owner).count ≡ length choice.now }
+    requires right { IsRight (verdicts_of R.table net.now.state choice.now) table.old (taken_in (owner_tally owner)) }
+    ensures { table.new ≡ verdicts_of R.table net.now.state choice.now }
+{
+    while let Some(place) = owner.take() {
+        table[place as usize] = net.verdict(choice, place);
+    }
+}
