@@ -129,8 +129,7 @@ all_shifted f g count xs ys none all = subst (AreAllEnds count) (append-nil (map
 -- what all but the last say, and what the last says
 pub but_last : {X : Type 0} → (P : X → Type 0) (xs ys : List X) (x : X) → xs ≡ ys ++ x ∷ [] → All P xs → All P ys × P x
 but_last P xs ys x is all =
-    let there = subst (All P) is all in
-    (
+    let there = subst (All P) is all in (
       subst (All P) (take-append_seam ys (x ∷ [])) (All-take P (length ys) (ys ++ x ∷ []) there),
       subst (All P) (drop-append_seam ys (x ∷ [])) (All-drop P (length ys) (ys ++ x ∷ []) there) 0 x (omega arith),
     )

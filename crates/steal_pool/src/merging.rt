@@ -34,7 +34,12 @@ pub fn merge<R: Rules>(
     };
     let mut verdicts = Vec::from_elem(alloc, blank, choice.items().len())?;
     let ends = lay_out(alloc, shares, net, choice, &mut verdicts)?;
-    judge_left(gather(ends, choice.items().len() as u32), net, choice, &mut verdicts);
+    judge_left(
+        gather(ends, choice.items().len() as u32),
+        net,
+        choice,
+        &mut verdicts,
+    );
     Ok(verdicts)
 }
 
@@ -72,12 +77,7 @@ fn lay(table: &mut [Verdict], verdicts: &[Verdict])
 }
 
 // Takes what is left on the deque, judges each place and writes it there.
-fn judge_left<R: Rules>(
-    mut owner: Owner,
-    net: &Net<R>,
-    choice: &Choice,
-    table: &mut [Verdict],
-)
+fn judge_left<R: Rules>(mut owner: Owner, net: &Net<R>, choice: &Choice, table: &mut [Verdict])
     requires whole { (owner_tally owner).parts ≡ 64 }
     requires count { (owner_tally owner).count ≡ length choice.now }
     requires right { IsRight (verdicts_of R.table net.now.state choice.now) table.old (taken_in (owner_tally owner)) }

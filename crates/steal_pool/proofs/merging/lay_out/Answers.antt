@@ -28,7 +28,7 @@ lay-requires g c =
     let loop = c.loop-share.invariant in
     let judged = (but_last (AreJudged t s items) c.loop-share.shares.items c.pop.new.self.items share c.in-Some.ensures.items loop.judged).1 in
     subst (λ (z : List Verdict). Fit (length c.loop-share.table) z) (sym c.deref.ensures.value)
-        (subst (λ (n : ℕ). Fit n share.verdicts.items) (sym (loop.right.size ∙ verdicts_length t s 0 items)) (fits t s items (share_taken share) (share_verdicts share) judged))
+    (subst (λ (n : ℕ). Fit n share.verdicts.items) (sym (loop.right.size ∙ verdicts_length t s 0 items)) (fits t s items (share_taken share) (share_verdicts share) judged))
 
 pub loop-share-preserved : goal.loop-share-preserved
 loop-share-preserved g c =
@@ -41,7 +41,7 @@ loop-share-preserved g c =
     let after = c.push.new.self.items in
     let parts = but_last (AreJudged t s items) c.loop-share.shares.items c.pop.new.self.items share c.in-Some.ensures.items loop.judged in
     let more : (k : ℕ) → taken_by after k ≡ taken_by before k + sum_by (at_place k) (share_taken share) = λ k.
-        ap (λ (z : List End). taken_by z k) c.in_ok-push.ensures.items ∙ sum_by_push (λ (e : End). sum_by (at_place k) (end_taken e)) before share.end in
+    ap (λ (z : List End). taken_by z k) c.in_ok-push.ensures.items ∙ sum_by_push (λ (e : End). sum_by (at_place k) (end_taken e)) before share.end in
     record {
       all = shifted end_hold share_hold (length items) before after c.loop-share.shares.items c.pop.new.self.items share.end share c.in_ok-push.ensures.items c.in-Some.ensures.items refl loop.all;
       judged = parts.0;
