@@ -156,9 +156,13 @@ fn the_65th_reader_finds_no_place(rt: HostRuntime) {
 fn writes<R: Wait + Abort>(rt: &R, alloc: Global, board: &mut Board<AnyLog>)
     requires { (board.old.posted ≡ []) × (board.old.list ≡ []) }
 {
-    for _ in 0..500 {
-        step(rt, alloc, board, Act::Marry);
-        step(rt, alloc, board, Act::Abandon);
+    for turn in 0..1000u32 {
+        let act = if turn % 2 == 0 {
+            Act::Marry
+        } else {
+            Act::Abandon
+        };
+        step(rt, alloc, board, act);
     }
 }
 
@@ -168,7 +172,8 @@ fn reads(reader: Reader<AnyLog>) -> u32 {
     let (mut last, mut wrong) = (0, 0u32);
     for _ in 0..50_000 {
         if let Some(look) = reader.look(1) {
-            let half = matches!(look.found, Some((pointer, partner)) if pointer != partner);
+            let (pointer, partner) = look.found.unwrap_or((None, None));
+            let half = pointer != partner;
             wrong = wrong.saturating_add((half || look.front < last) as u32);
             last = look.front;
         }
