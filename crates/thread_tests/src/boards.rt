@@ -9,7 +9,6 @@ use rule_machine::{Act, Choice, Event, Listing, Moved, Node, Refusal, Reply};
 use std::alloc::Global;
 use std::process::Abort;
 use std::sync::Wait;
-use std::thread::join;
 
 /// Any log may be published.
 struct AnyLog;
@@ -150,42 +149,4 @@ fn the_65th_reader_finds_no_place(rt: HostRuntime) {
     readers.pop();
     assert!(rt; board.reader().is_ok());
     board.end(&rt);
-}
-
-/// Marries 1 and 2 and parts them again, 500 times.
-fn writes<R: Wait + Abort>(rt: &R, alloc: Global, board: &mut Board<AnyLog>)
-    requires { (board.old.posted ≡ []) × (board.old.list ≡ []) }
-{
-    for _ in 0..500 {
-        step(rt, alloc, board, Act::Marry);
-        step(rt, alloc, board, Act::Abandon);
-    }
-}
-
-/// Counts the looks that show half a step or go back.
-fn reads(reader: Reader<AnyLog>) -> u32 {
-    let mut reader = reader;
-    let (mut last, mut wrong) = (0, 0u32);
-    for _ in 0..50_000 {
-        if let Some(look) = reader.look(1) {
-            let half = matches!(look.found, Some((pointer, partner)) if pointer != partner);
-            wrong = wrong.saturating_add((half || look.front < last) as u32);
-            last = look.front;
-        }
-    }
-    wrong
-}
-
-#[test]
-fn looks_beside_a_writer_are_whole(rt: HostRuntime) {
-    let mut board = blank(&rt, rt.alloc(), 2);
-    let reader = opened(&rt, &mut board);
-    let alloc = rt.alloc();
-    let (_, wrong) = join(
-        &rt,
-        || writes(&rt, alloc, &mut board),
-        move || reads(reader),
-    );
-    board.end(&rt);
-    assert!(rt; wrong == 0);
 }
