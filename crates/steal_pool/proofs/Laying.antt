@@ -1,9 +1,9 @@
 -- What is laid out by place is the list of all, once every place was taken.
-use Rattle.std.proofs.Common.{◌≡◌, ◌≢◌, ℕ, zero, suc, ◌+◌, ◌-◌, ◌<◌, ◌≤◌, List, [], ◌∷◌, ◌++◌, length, map, take, drop, length-append, true≢false, sym, refl, ap, ◌∙◌, subst, ⊎_elim, arith}
+use Rattle.std.proofs.Common.{◌≡◌, ◌≢◌, ℕ, zero, suc, ◌+◌, ◌<◌, List, [], ◌∷◌, ◌++◌, length, map, take, drop, length-append, true≢false, sym, refl, ap, ◌∙◌, subst, ⊎_elim, arith}
 use Rattle.std.specs.Prelude.{Bool, true, false, if◌then◌else◌, Option, None, Some, slice_get, slice_set, IfSome, MatchOption, All}
 use Rattle.std.specs.List.{sum_by}
 use Rattle.std.proofs.lemmas.Bool.{cases_eq}
-use Rattle.std.proofs.lemmas.List.Sums.{sum_by-append, sum_by-cons, sum_by_push}
+use Rattle.std.proofs.lemmas.List.Sums.{sum_by-cons, sum_by_push}
 use Rattle.std.proofs.lemmas.List.Elements.{All-nil, All-cons, All-append, All-take, All-drop}
 use Rattle.place_deque.specs.Tallies.{Takes, KnowsAll, AreAllPlaces}
 use Rattle.std.proofs.lemmas.List.{map-append, append-nil, length-map, take-append-drop}
@@ -20,7 +20,7 @@ use Rattle.rule_engine.specs.Choosing.{verdict_of, verdicts_from, verdicts_of}
 use Rattle.steal_pool.specs.declared.hand.Hand.{Hand}
 use Rattle.steal_pool.specs.declared.hand.Share.{Share}
 use Rattle.steal_pool.specs.Hands.{hand_hold, share_hold, AreOf}
-use Rattle.steal_pool.specs.Laid.{laid, Fit, at_place, taken_by, taken_in, IsRight}
+use Rattle.steal_pool.specs.Laid.{laid, Fit, at_place, taken_in, IsRight}
 
 -- as many verdicts as items
 pub verdicts_length : (t : RuleTable) (s : State) (from : ℕ) (items : List Item) → length (verdicts_from t s from items) ≡ length items

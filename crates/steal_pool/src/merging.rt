@@ -34,12 +34,8 @@ pub fn merge<R: Rules>(
     };
     let mut verdicts = Vec::from_elem(alloc, blank, choice.items().len())?;
     let ends = lay_out(alloc, shares, net, choice, &mut verdicts)?;
-    judge_left(
-        gather(ends, choice.items().len() as u32),
-        net,
-        choice,
-        &mut verdicts,
-    );
+    let owner = gather(ends, choice.items().len() as u32);
+    judge_left(owner, net, choice, &mut verdicts);
     Ok(verdicts)
 }
 

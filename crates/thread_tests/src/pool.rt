@@ -189,7 +189,7 @@ impl Gate for Counting {
 }
 
 /// A gate that has counted nothing.
-fn counting(rt: &impl Abort, alloc: Global) -> Counting {
+fn gate_at_rest(rt: &impl Abort, alloc: Global) -> Counting {
     let mut passes = Vec::new(alloc);
     for _ in 0..MANY {
         passes.push(AtomicU64::new(0)).expect(rt, "memory");
@@ -200,7 +200,7 @@ fn counting(rt: &impl Abort, alloc: Global) -> Counting {
 #[test]
 fn each_place_once(rt: HostRuntime) {
     for workers in [1, 2, 64] {
-        let gate = counting(&rt, rt.alloc());
+        let gate = gate_at_rest(&rt, rt.alloc());
         on_many(&rt, rt.alloc(), workers, &gate);
         for count in &gate.passes {
             assert!(rt; count.load(Ordering::SeqCst) == 1);

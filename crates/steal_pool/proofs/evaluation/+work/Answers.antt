@@ -10,7 +10,7 @@ returns-clause-hold g t c =
     let cut = c.in_ok-high.ensures in
     let ours = IfOk-at_ok (λ (v : Vec Share Global). (map share_hold v.items ≡ map hand_hold _) × All (AreJudged g.R.Rules.table c.args.net.now.state c.args.choice.now) v.items) c.in_ok-shares.was c.join-ours.ensures.first in
     let theirs = IfOk-at_ok (λ (v : Vec Share Global). (map share_hold v.items ≡ map hand_hold _) × All (AreJudged g.R.Rules.table c.args.net.now.state c.args.choice.now) v.items) c.in_ok-others.was c.join-ours.ensures.second in
-    halves_held _ c.args.low.items _ _ _ _ _ cut.items cut.tail ours.0 theirs.0 c.in_ok-append.ensures.items
+    halves_held _ c.args.low.items _ c.in_ok-high.high.items c.in_ok-shares.shares.items c.in_ok-others.others.items _ cut.items cut.tail ours.0 theirs.0 c.in_ok-append.ensures.items
 
 pub returns-clause-judged : goal.returns-clause-judged
 returns-clause-judged g t c =

@@ -1,9 +1,7 @@
 use Rattle.std.proofs.Common.{ap, ◌∙◌, arith, rules}
-use Rattle.std.proofs.lemmas.List.Sums.{sum_by_push}
 use Rattle.place_deque.specs.declared.tally.Tally.{Tally}
 use Rattle.place_deque.specs.Ends.{owner_tally}
 use Rattle.rule_engine.specs.Choosing.{verdicts_of}
-use Rattle.steal_pool.specs.Laid.{taken_in}
 use Rattle.steal_pool.proofs.Laying.{verdict_there, verdicts_length, takes_one, all_laid, all_known, finds_none}
 use Rattle.steal_pool.proofs.merging.judge_left.Goals as goal
 

@@ -1,7 +1,6 @@
 use Rattle.std.proofs.Common.{ap, ◌∙◌, arith}
 use Rattle.std.specs.Result.{is_ok}
 use Rattle.place_deque.specs.Ends.{Hold, end_taken}
-use Rattle.rule_engine.specs.Choosing.{verdicts_of}
 use Rattle.steal_pool.proofs.Laying.{judges, verdict_there, pushed}
 use Rattle.steal_pool.proofs.hand.Hand.work.Goals as goal
 
