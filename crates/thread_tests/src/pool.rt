@@ -8,7 +8,7 @@ use std::process::Abort;
 use std::sync::Wait;
 use std::sync::atomic::{AtomicU64, Ordering};
 use std::thread::Threads;
-use steal_pool::{Gate, NoGate, PoolFault, evaluate, hands, merge};
+use steal_pool::{Gate, NoGate, PoolFault, evaluate};
 
 /// The choice of these names, in this order.
 fn choice_of(rt: &impl Abort, alloc: Global, names: &[u32]) -> Choice {
@@ -94,23 +94,6 @@ fn an_empty_choice_has_no_verdicts(rt: HostRuntime) {
         let found = on_a_star(&rt, rt.alloc(), &[], workers, &NoGate);
         assert!(rt; found.expect(&rt, "verdicts").is_empty());
     }
-}
-
-#[test]
-fn two_hands_share_a_choice(rt: HostRuntime) {
-    let net = star(&rt, rt.alloc());
-    let choice = choice_of(&rt, rt.alloc(), &[4, 1]);
-    let mut dealt = hands(rt.alloc(), &choice, 2).expect(&rt, "hands");
-    let mut shares = Vec::new(rt.alloc());
-    let mut taken = 0;
-    while let Some(hand) = dealt.pop() {
-        let share = hand.work(&rt, &net, &choice, &NoGate).expect(&rt, "memory");
-        taken += share.verdicts().len();
-        shares.push(share).expect(&rt, "memory");
-    }
-    assert!(rt; taken == 2);
-    let found = merge(rt.alloc(), shares, &net, &choice).expect(&rt, "memory");
-    expect_star(&rt, &found);
 }
 
 /// The most looks that a worker waits for others.

@@ -173,7 +173,7 @@ fn workers_roam_beside_a_script(rt: HostRuntime) {
     assert!(rt; text.as_slice().starts_with(first));
     let found = counted(&rt, rt.alloc(), &text);
     assert!(rt; (1..=3).contains(&found.entries) && found.epochs == 2);
-    assert!(rt; found.moves + 1 == u64::from(found.entries));
+    assert!(rt; found.moves.checked_add(1) == Some(u64::from(found.entries)));
 }
 
 /// A link, and then faults.
@@ -191,5 +191,5 @@ fn workers_roam_under_faults(rt: HostRuntime) {
     assert!(rt; ended == Ok(()));
     let found = counted(&rt, rt.alloc(), &text);
     assert!(rt; (402..=4_402).contains(&found.entries) && found.epochs == 403);
-    assert!(rt; found.moves + 402 == u64::from(found.entries));
+    assert!(rt; found.moves.checked_add(402) == Some(u64::from(found.entries)));
 }
