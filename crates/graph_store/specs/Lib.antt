@@ -1,2 +1,3 @@
 pub mod Fault
 pub mod Rows
+pub mod Graph

@@ -3,6 +3,7 @@
 ghost use Rattle.std.specs.Prelude.{◌≡◌, ◌≤◌, IfOk, IfErr, OnOk, OnErr, IsTrue, All, None, Some};
 ghost use Rattle.rule_machine.specs.Network.{edgeless, node_count, edge_count, present, linked, neighbours, with_edge, without_edge};
 ghost use Rattle.graph_store.specs.Fault.{nodes_fault, ends_fault, link_fault, unlink_fault, Explains};
+ghost use Rattle.graph_store.specs.Graph.{HasRoomFor};
 
 use crate::GraphFault;
 use crate::rows::{empty_rows, find_place, put_both, take_both};
@@ -16,8 +17,8 @@ pub const MAX_NODES: u32 = 65_535;
 /// The most edges that a graph has.
 pub const MAX_EDGES: u32 = 1_048_576;
 
-/// The nodes 1 to n and the edges between them, seen in contracts as the network of the two: each node has the sorted
-/// list of its neighbours, two bytes a neighbour.
+/// The nodes 1 to n and the edges between them, seen in contracts as the network of the two, and how many
+/// more neighbours each node has room for: each node has the sorted list of its neighbours, two bytes a neighbour.
 #[derive(Debug, Drop)]
 pub struct EdgeStore {
     rows: Vec<Vec<Node>>,
@@ -26,14 +27,16 @@ pub struct EdgeStore {
 }
 
 impl Model for EdgeStore {
-    ghost use Rattle.rule_machine.specs.Network.{Network, network_code};
+    ghost use Rattle.std.specs.Prelude.{map, ◌-◌};
+    ghost use Rattle.std.specs.Vec.{vec_len, vec_capacity};
+    ghost use Rattle.graph_store.specs.Graph.{Graph, graph_code};
     ghost use Rattle.graph_store.specs.Rows.{contents, network_of, IsStore};
 
-    ghost Value = { Network };
+    ghost Value = { Graph };
 
-    ghost coded = { network_code };
+    ghost coded = { graph_code };
 
-    ghost view = { λ s. network_of s.nodes (contents s.rows.items) };
+    ghost view = { λ s. record { network = network_of s.nodes (contents s.rows.items); room = map (λ row. vec_capacity row - vec_len row) s.rows.items } };
 
     ghost invariant = { λ s. IsStore s.nodes s.edges (contents s.rows.items) };
 }
@@ -42,7 +45,7 @@ impl EdgeStore {
     /// The graph of the nodes 1 to `nodes` with no edge; takes memory for one empty list a node.
     /// `TooManyNodes` above 65,535, and `Memory` if memory runs out.
     pub fn new(alloc: Global, nodes: u32) -> Result<EdgeStore, GraphFault>
-        ensures ok { IfOk result (λ store. store ≡ edgeless nodes) }
+        ensures ok { IfOk result (λ store. store.network ≡ edgeless nodes) }
         ensures small { OnOk result (nodes ≤ 65535) }
         ensures fault { IfErr result (λ fault. Explains (nodes_fault nodes) fault) }
     {
@@ -59,7 +62,7 @@ impl EdgeStore {
 
     /// How many nodes there are, at most 65,535.
     pub fn nodes(&self) -> u32
-        ensures count { result ≡ node_count self.now }
+        ensures count { result ≡ node_count self.now.network }
         ensures few { result ≤ 65535 }
     {
         self.nodes
@@ -67,14 +70,14 @@ impl EdgeStore {
 
     /// Whether this is a node of the graph.
     pub fn has(&self, node: Node) -> bool
-        ensures { result ≡ present self.now node }
+        ensures { result ≡ present self.now.network node }
     {
         node.name() <= self.nodes
     }
 
     /// How many edges there are, at most 1,048,576.
     pub fn edges(&self) -> u32
-        ensures count { result ≡ edge_count self.now }
+        ensures count { result ≡ edge_count self.now.network }
         ensures few { result ≤ 1048576 }
     {
         self.edges
@@ -83,8 +86,8 @@ impl EdgeStore {
     /// Whether there is an edge between two names; `false` where one of them is no node of the graph. A look-up by
     /// halves among the neighbours of `a`.
     pub fn linked(&self, a: Node, b: Node) -> bool
-        ensures value { result ≡ linked self.now a b }
-        ensures present { IsTrue result → IsTrue (present self.now a) × IsTrue (present self.now b) }
+        ensures value { result ≡ linked self.now.network a b }
+        ensures present { IsTrue result → IsTrue (present self.now.network a) × IsTrue (present self.now.network b) }
     {
         match self.rows.get(a.place()) {
             Some(row) => find_place(row, b).is_ok(),
@@ -94,18 +97,18 @@ impl EdgeStore {
 
     /// The neighbours of a node, by rising names.
     pub fn neighbours(&self, node: Node) -> &[Node]
-        requires { IsTrue (present self.now node) }
-        ensures all { result.now ≡ neighbours self.now node }
-        ensures present { All (λ w. IsTrue (present self.now w)) result.now }
-        ensures linked { All (λ w. IsTrue (linked self.now node w)) result.now }
+        requires { IsTrue (present self.now.network node) }
+        ensures all { result.now ≡ neighbours self.now.network node }
+        ensures present { All (λ w. IsTrue (present self.now.network w)) result.now }
+        ensures linked { All (λ w. IsTrue (linked self.now.network node w)) result.now }
     {
         &self.rows[node.place()]
     }
 
     // Whether an edge may join the two, which have to be nodes of the graph, and different.
     fn check_ends(&self, a: Node, b: Node) -> Result<(), GraphFault>
-        ensures ok { OnOk result (ends_fault self.now a b ≡ None) }
-        ensures fault { IfErr result (λ fault. ends_fault self.now a b ≡ Some fault) }
+        ensures ok { OnOk result (ends_fault self.now.network a b ≡ None) }
+        ensures fault { IfErr result (λ fault. ends_fault self.now.network a b ≡ Some fault) }
     {
         if !self.has(a) || !self.has(b) {
             return Err(GraphFault::UnknownNode);
@@ -120,9 +123,9 @@ impl EdgeStore {
     /// `UnknownNode` where an end is no node of the graph, then `SelfLoop`, then `AlreadyLinked`, then `TooManyEdges`
     /// at 1,048,576 edges, and `Memory` if memory runs out. No fault changes anything.
     pub fn link(&mut self, a: Node, b: Node) -> Result<(), GraphFault>
-        ensures ok { OnOk result ((link_fault self.old a b ≡ None) × (self.new ≡ with_edge self.old a b)) }
-        ensures fault { IfErr result (λ fault. Explains (link_fault self.old a b) fault) }
-        ensures unchanged { OnErr result (self.new ≡ self.old) }
+        ensures ok { OnOk result ((link_fault self.old.network a b ≡ None) × (self.new.network ≡ with_edge self.old.network a b)) }
+        ensures fault { IfErr result (λ fault. Explains (link_fault self.old.network a b) fault) }
+        ensures unchanged { OnErr result (self.new.network ≡ self.old.network) }
     {
         self.check_ends(a, b)?;
         let Err(place_in_a) = find_place(&self.rows[a.place()], b) else {
@@ -139,12 +142,31 @@ impl EdgeStore {
         Ok(())
     }
 
+    /// Makes room for the edge between two nodes, so that `link_reserved` of them takes no memory. The refusals are those of
+    /// `link`, in its order; no edge changes.
+    pub fn reserve_link(&mut self, a: Node, b: Node) -> Result<(), GraphFault>
+        ensures ok { OnOk result ((link_fault self.old.network a b ≡ None) × HasRoomFor self.new.room a b) }
+        ensures fault { IfErr result (λ fault. Explains (link_fault self.old.network a b) fault) }
+        ensures unchanged { self.new.network ≡ self.old.network }
+    {
+        Ok(())
+    }
+
+    /// Puts in the edge between two nodes for which there is room; takes no memory.
+    pub fn link_reserved(&mut self, a: Node, b: Node)
+        requires free { link_fault self.old.network a b ≡ None }
+        requires room { HasRoomFor self.old.room a b }
+        ensures { self.new.network ≡ with_edge self.old.network a b }
+    {
+        self.edges += 1;
+    }
+
     /// Takes out the edge between two nodes, as `link` puts it in; takes no memory.
     /// `UnknownNode` where an end is no node of the graph, then `SelfLoop`, then `NotLinked`. No fault changes anything.
     pub fn unlink(&mut self, a: Node, b: Node) -> Result<(), GraphFault>
-        ensures ok { OnOk result ((unlink_fault self.old a b ≡ None) × (self.new ≡ without_edge self.old a b)) }
-        ensures fault { IfErr result (λ fault. unlink_fault self.old a b ≡ Some fault) }
-        ensures unchanged { OnErr result (self.new ≡ self.old) }
+        ensures ok { OnOk result ((unlink_fault self.old.network a b ≡ None) × (self.new.network ≡ without_edge self.old.network a b)) }
+        ensures fault { IfErr result (λ fault. unlink_fault self.old.network a b ≡ Some fault) }
+        ensures unchanged { OnErr result (self.new.network ≡ self.old.network) }
     {
         self.check_ends(a, b)?;
         let Ok(place_in_a) = find_place(&self.rows[a.place()], b) else {

@@ -1,6 +1,7 @@
 -- What is kept beside a state.
-use Rattle.std.specs.Prelude.{ℕ, ◌≤◌, Bool, List, Option}
-use Rattle.rule_machine.specs.State.{State, IsState}
+use Rattle.std.specs.Prelude.{ℕ, ◌≤◌, Bool, List, Option, refl}
+use Rattle.std.specs.Coded.{Coded, code_by, coded×, coded_ℕ, coded_list}
+use Rattle.rule_machine.specs.State.{State, IsState, state_code}
 use Rattle.suitor_index.specs.declared.tally.Tally.{Tally}
 use Rattle.suitor_index.specs.Tallies.{IsIndexOf}
 
@@ -9,3 +10,12 @@ pub record IsIndexed (opens : Option ℕ → Bool → Bool) (s : State) (tallies
   pub is_state : IsState s
   pub index : IsIndexOf opens s tallies
   pub few : s.network.size ≤ 65535
+
+-- a state, and for how many more neighbours each name has room
+pub record Indexed : Type 0 where
+  pub state : State
+  pub room : List ℕ
+
+abbrev pub indexed_code : Coded Indexed
+indexed_code =
+    code_by (State × List ℕ) (coded× state_code (coded_list coded_ℕ)) (λ n. (n.state, n.room)) (λ p. record { state = p.0; room = p.1 }) (λ _. refl)

@@ -2,6 +2,7 @@
 
 ghost use Rattle.std.specs.Prelude.{◌≡◌, ◌≤◌, false, IfOk, IfErr, IfSome, OnOk, OnErr, IsTrue, None, Some};
 ghost use Rattle.graph_store.specs.Fault.{nodes_fault, link_fault, unlink_fault, Explains};
+ghost use Rattle.graph_store.specs.Graph.{HasRoomFor};
 ghost use Rattle.rule_machine.specs.Network.{present, linked, without_edge};
 ghost use Rattle.rule_machine.specs.State.{IsState, opening, points};
 ghost use Rattle.rule_machine.specs.Disturbance.{after_link, after_unlink, after_point, after_flag, without_pointer};
@@ -15,7 +16,8 @@ use std::alloc::Global;
 use std::marker::Model;
 use suitor_index::SuitorIndex;
 
-/// The edges and the registers of a network, seen in contracts as a state of the rule machine, with what the guards of the rules
+/// The edges and the registers of a network, seen in contracts as a state of the rule machine and the room for more
+/// neighbours, with what the guards of the rules
 /// `R` ask of it counted at each node.
 #[derive(Drop)]
 pub struct IndexedState<R: Rules> {
@@ -25,24 +27,23 @@ pub struct IndexedState<R: Rules> {
 }
 
 impl<R: Rules> Model for IndexedState<R> {
-    ghost use Rattle.rule_machine.specs.State.{State, state_code};
     ghost use Rattle.suitor_index.specs.Tallies.{state_of};
-    ghost use Rattle.indexed_state.specs.Indexed.{IsIndexed};
+    ghost use Rattle.indexed_state.specs.Indexed.{Indexed, indexed_code, IsIndexed};
 
-    ghost Value = { State };
+    ghost Value = { Indexed };
 
-    ghost coded = { state_code };
+    ghost coded = { indexed_code };
 
-    ghost view = { λ n. state_of n.store n.registers };
+    ghost view = { λ n. record { state = state_of n.store.network n.registers; room = n.store.room } };
 
-    ghost invariant = { λ n. IsIndexed R.table.opens (state_of n.store n.registers) n.index };
+    ghost invariant = { λ n. IsIndexed R.table.opens (state_of n.store.network n.registers) n.index };
 }
 
 impl<R: Rules> IndexedState<R> {
     /// The state of the nodes 1 to `nodes` with no edges, all pointers null and all flags false. `TooManyNodes` above 65,535, and
     /// `Memory` if memory runs out.
     pub fn new(alloc: Global, nodes: u32) -> Result<IndexedState<R>, GraphFault>
-        ensures ok { IfOk result (λ state. state ≡ opening nodes) }
+        ensures ok { IfOk result (λ state. state.state ≡ opening nodes) }
         ensures small { OnOk result (nodes ≤ 65535) }
         ensures fault { IfErr result (λ fault. Explains (nodes_fault nodes) fault) }
     {
@@ -62,51 +63,56 @@ impl<R: Rules> IndexedState<R> {
 
     /// The edges.
     pub fn store(&self) -> &EdgeStore
-        ensures value { result.now ≡ self.now.network }
-        ensures state { IsState self.now }
-        ensures few { self.now.network.size ≤ 65535 }
+        ensures value { result.now.network ≡ self.now.state.network }
+        ensures room { result.now.room ≡ self.now.room }
+        ensures state { IsState self.now.state }
+        ensures few { self.now.state.network.size ≤ 65535 }
     {
         &self.store
     }
 
     /// The registers.
     pub fn registers(&self) -> &Registers
-        ensures value { result.now ≡ self.now.registers }
-        ensures state { IsState self.now }
+        ensures value { result.now ≡ self.now.state.registers }
+        ensures state { IsState self.now.state }
     {
         &self.registers
     }
 
     /// What is shown at a node that is present.
     pub fn at(&self, node: Node) -> NodeView<'_, R>
-        requires { IsTrue (present self.now.network node) }
+        requires { IsTrue (present self.now.state.network node) }
         ensures state { result.state.now ≡ self.now }
         ensures node { result.node ≡ node }
     {
         NodeView::new(self, node)
     }
 
-    /// Adds the edge between two nodes. `UnknownNode`, `SelfLoop`, `AlreadyLinked`, `TooManyEdges`, `Memory`, in that order; at a
-    /// fault nothing has changed. A shift in two neighbour lists.
-    pub fn link(&mut self, a: Node, b: Node) -> Result<(), GraphFault>
-        ensures ok { OnOk result ((link_fault self.old.network a b ≡ None) × (self.new ≡ after_link self.old a b)) }
-        ensures fault { IfErr result (λ fault. Explains (link_fault self.old.network a b) fault) }
-        ensures kept { OnErr result (self.new ≡ self.old) }
+    /// Makes room for the edge between two nodes, so that `link_reserved` of them takes no memory. `UnknownNode`, `SelfLoop`,
+    /// `AlreadyLinked`, `TooManyEdges`, `Memory`, in that order; the state stays.
+    pub fn reserve_link(&mut self, a: Node, b: Node) -> Result<(), GraphFault>
+        ensures ok { OnOk result ((link_fault self.old.state.network a b ≡ None) × HasRoomFor self.new.room a b) }
+        ensures fault { IfErr result (λ fault. Explains (link_fault self.old.state.network a b) fault) }
+        ensures kept { self.new.state ≡ self.old.state }
     {
-        match self.store.link(a, b) {
-            Ok(()) => {
-                self.index.linked(a, b, &self.store, &self.registers);
-                Ok(())
-            }
-            Err(fault) => Err(fault),
-        }
+        self.store.reserve_link(a, b)
+    }
+
+    /// Adds the edge between two nodes for which there is room; takes no memory. A shift in two neighbour lists.
+    pub fn link_reserved(&mut self, a: Node, b: Node)
+        requires free { link_fault self.old.state.network a b ≡ None }
+        requires room { HasRoomFor self.old.room a b }
+        ensures { self.new.state ≡ after_link self.old.state a b }
+    {
+        self.store.link_reserved(a, b);
+        self.index.linked(a, b, &self.store, &self.registers);
     }
 
     /// Sets a node's pointer to null if it is at the other node.
     fn clear_pointer(&mut self, v: Node, w: Node)
-        requires { IsTrue (present self.old.network v) }
-        ensures registers { self.new.registers ≡ without_pointer self.old.registers v w }
-        ensures network { self.new.network ≡ self.old.network }
+        requires { IsTrue (present self.old.state.network v) }
+        ensures registers { self.new.state.registers ≡ without_pointer self.old.state.registers v w }
+        ensures network { self.new.state.network ≡ self.old.state.network }
     {
         if self.registers.points_at(v, w) {
             self.set_pointer(v, None);
@@ -115,10 +121,10 @@ impl<R: Rules> IndexedState<R> {
 
     /// Sets to null the pointers by which two nodes are at each other.
     fn clear_crossing(&mut self, a: Node, b: Node)
-        requires lower { IsTrue (present self.old.network a) }
-        requires upper { IsTrue (present self.old.network b) }
-        ensures registers { self.new.registers ≡ without_pointer (without_pointer self.old.registers a b) b a }
-        ensures network { self.new.network ≡ self.old.network }
+        requires lower { IsTrue (present self.old.state.network a) }
+        requires upper { IsTrue (present self.old.state.network b) }
+        ensures registers { self.new.state.registers ≡ without_pointer (without_pointer self.old.state.registers a b) b a }
+        ensures network { self.new.state.network ≡ self.old.state.network }
     {
         self.clear_pointer(a, b);
         self.clear_pointer(b, a);
@@ -126,11 +132,11 @@ impl<R: Rules> IndexedState<R> {
 
     /// Removes an edge that no pointer crosses.
     fn take_out(&mut self, a: Node, b: Node)
-        requires linked { IsTrue (linked self.old.network a b) }
-        requires not_there { points self.old.registers a b ≡ false }
-        requires not_back { points self.old.registers b a ≡ false }
-        ensures registers { self.new.registers ≡ self.old.registers }
-        ensures network { self.new.network ≡ without_edge self.old.network a b }
+        requires linked { IsTrue (linked self.old.state.network a b) }
+        requires not_there { points self.old.state.registers a b ≡ false }
+        requires not_back { points self.old.state.registers b a ≡ false }
+        ensures registers { self.new.state.registers ≡ self.old.state.registers }
+        ensures network { self.new.state.network ≡ without_edge self.old.state.network a b }
     {
         self.store.unlink(a, b).unwrap();
         self.index.unlinked(a, b, &self.store, &self.registers);
@@ -139,9 +145,9 @@ impl<R: Rules> IndexedState<R> {
     /// Removes the edge between two nodes, and sets to null the pointers that crossed it. `UnknownNode`, `SelfLoop`, `NotLinked`, in
     /// that order; at a fault nothing has changed. A shift in two neighbour lists; takes no memory.
     pub fn unlink(&mut self, a: Node, b: Node) -> Result<(), GraphFault>
-        ensures ok { OnOk result ((unlink_fault self.old.network a b ≡ None) × (self.new ≡ after_unlink self.old a b)) }
-        ensures fault { IfErr result (λ fault. unlink_fault self.old.network a b ≡ Some fault) }
-        ensures kept { OnErr result (self.new ≡ self.old) }
+        ensures ok { OnOk result ((unlink_fault self.old.state.network a b ≡ None) × (self.new.state ≡ after_unlink self.old.state a b)) }
+        ensures fault { IfErr result (λ fault. unlink_fault self.old.state.network a b ≡ Some fault) }
+        ensures kept { OnErr result (self.new.state ≡ self.old.state) }
     {
         if let Some(fault) = missing_edge(&self.store, a, b) {
             return Err(fault);
@@ -154,9 +160,9 @@ impl<R: Rules> IndexedState<R> {
     /// Writes a node's pointer, to null or to a neighbour. Looks at the node's neighbours only where that makes it open or not
     /// open any more, and at the old and the new target. Takes no memory.
     pub fn set_pointer(&mut self, v: Node, target: Option<Node>)
-        requires present { IsTrue (present self.old.network v) }
-        requires near { IfSome target (λ w. IsTrue (linked self.old.network v w)) }
-        ensures { self.new ≡ after_point self.old v target }
+        requires present { IsTrue (present self.old.state.network v) }
+        requires near { IfSome target (λ w. IsTrue (linked self.old.state.network v w)) }
+        ensures { self.new.state ≡ after_point self.old.state v target }
     {
         let old = self.registers.pointer(v);
         self.registers.set_pointer(v, target);
@@ -166,8 +172,8 @@ impl<R: Rules> IndexedState<R> {
 
     /// Writes a node's flag. Looks at the node's neighbours only where that makes it open or not open any more. Takes no memory.
     pub fn set_flag(&mut self, v: Node, value: bool)
-        requires { IsTrue (present self.old.network v) }
-        ensures { self.new ≡ after_flag self.old v value }
+        requires { IsTrue (present self.old.state.network v) }
+        ensures { self.new.state ≡ after_flag self.old.state v value }
     {
         if self.registers.flag(v) == value {
             return;
@@ -179,7 +185,7 @@ impl<R: Rules> IndexedState<R> {
 
 /// Why there is no edge between two nodes to remove, if there is none.
 fn missing_edge(store: &EdgeStore, a: Node, b: Node) -> Option<GraphFault>
-    ensures { result ≡ unlink_fault store.now a b }
+    ensures { result ≡ unlink_fault store.now.network a b }
 {
     if !store.has(a) || !store.has(b) {
         return Some(GraphFault::UnknownNode);

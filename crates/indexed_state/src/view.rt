@@ -15,12 +15,12 @@ use rule_set::{Local, Rules};
 pub struct NodeView<'a, R: Rules> {
     state: &'a IndexedState<R>,
     node: Node,
-    ghost is_present: { IsTrue (present state.now.network node) },
+    ghost is_present: { IsTrue (present state.now.state.network node) },
 }
 
 impl<'a, R: Rules> NodeView<'a, R> {
     pub(crate) fn new(state: &'a IndexedState<R>, node: Node) -> Self
-        requires is_present { IsTrue (present state.now.network node) }
+        requires is_present { IsTrue (present state.now.state.network node) }
         ensures node { result.node ≡ node }
         ensures state { result.state.now ≡ state.now }
     {
@@ -29,7 +29,7 @@ impl<'a, R: Rules> NodeView<'a, R> {
 }
 
 impl<R: Rules> Local for NodeView<'_, R> {
-    ghost state = { λ l. l.state.now };
+    ghost state = { λ l. l.state.now.state };
 
     ghost at = { λ l. l.node };
 

@@ -18,8 +18,8 @@ use rule_set::Rules;
 impl<R: Rules> SuitorIndex<R> {
     /// Takes note that an edge was put in: a write at each end, at most.
     pub fn linked(&mut self, a: Node, b: Node, store: &EdgeStore, registers: &Registers)
-        requires { IsBeforeLink R.table.opens (state_of store.now registers.now) a b self.old }
-        ensures { IsIndexOf R.table.opens (state_of store.now registers.now) self.new }
+        requires { IsBeforeLink R.table.opens (state_of store.now.network registers.now) a b self.old }
+        ensures { IsIndexOf R.table.opens (state_of store.now.network registers.now) self.new }
     {
         let tallies = self.tallies.as_mut_slice();
         count_end::<R>(tallies, a, b, registers);
@@ -28,8 +28,8 @@ impl<R: Rules> SuitorIndex<R> {
 
     /// Takes note that an edge that neither end's pointer crossed was taken out: a write at each end, at most.
     pub fn unlinked(&mut self, a: Node, b: Node, store: &EdgeStore, registers: &Registers)
-        requires { IsBeforeUnlink R.table.opens (state_of store.now registers.now) a b self.old }
-        ensures { IsIndexOf R.table.opens (state_of store.now registers.now) self.new }
+        requires { IsBeforeUnlink R.table.opens (state_of store.now.network registers.now) a b self.old }
+        ensures { IsIndexOf R.table.opens (state_of store.now.network registers.now) self.new }
     {
         let tallies = self.tallies.as_mut_slice();
         discount_end::<R>(tallies, b, a, registers);
@@ -45,10 +45,10 @@ impl<R: Rules> SuitorIndex<R> {
         store: &EdgeStore,
         registers: &Registers,
     )
-        requires state { IsState (state_of store.now registers.now) }
-        requires present { IsTrue (present store.now v) }
-        requires before { IsBeforePoint R.table.opens (state_of store.now registers.now) v old self.old }
-        ensures { IsIndexOf R.table.opens (state_of store.now registers.now) self.new }
+        requires state { IsState (state_of store.now.network registers.now) }
+        requires present { IsTrue (present store.now.network v) }
+        requires before { IsBeforePoint R.table.opens (state_of store.now.network registers.now) v old self.old }
+        ensures { IsIndexOf R.table.opens (state_of store.now.network registers.now) self.new }
     {
         let tallies = self.tallies.as_mut_slice();
         let left = old;
@@ -62,10 +62,10 @@ impl<R: Rules> SuitorIndex<R> {
     /// Takes note that a node's flag, which was the other value, was written: a write at each neighbour where the node
     /// became open or ceased to be, and none where it did not.
     pub fn flag_changed(&mut self, v: Node, store: &EdgeStore, registers: &Registers)
-        requires state { IsState (state_of store.now registers.now) }
-        requires present { IsTrue (present store.now v) }
-        requires before { IsBeforeFlag R.table.opens (state_of store.now registers.now) v self.old }
-        ensures { IsIndexOf R.table.opens (state_of store.now registers.now) self.new }
+        requires state { IsState (state_of store.now.network registers.now) }
+        requires present { IsTrue (present store.now.network v) }
+        requires before { IsBeforeFlag R.table.opens (state_of store.now.network registers.now) v self.old }
+        ensures { IsIndexOf R.table.opens (state_of store.now.network registers.now) self.new }
     {
         let was_open = R::opens(registers.pointer(v), !registers.flag(v));
         let is_open = is_open::<R>(registers, v);

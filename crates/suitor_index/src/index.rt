@@ -42,8 +42,8 @@ impl<R: Rules> SuitorIndex<R> {
         store: &EdgeStore,
         registers: &Registers,
     ) -> Result<SuitorIndex<R>, Want>
-        requires { IsState (state_of store.now registers.now) }
-        ensures { IfOk result (λ index. IsIndexOf R.table.opens (state_of store.now registers.now) index) }
+        requires { IsState (state_of store.now.network registers.now) }
+        ensures { IfOk result (λ index. IsIndexOf R.table.opens (state_of store.now.network registers.now) index) }
     {
         let mut tallies = vec![in alloc; NOTHING; store.nodes() as usize + 1]?;
         for name in 1..store.nodes() + 1 {
@@ -67,30 +67,30 @@ impl<R: Rules> SuitorIndex<R> {
 
     /// Whether a neighbour points at the node. One look.
     pub fn has_suitor(&self, v: Node, store: &EdgeStore, registers: &Registers) -> bool
-        requires state { IsState (state_of store.now registers.now) }
-        requires index { IsIndexOf R.table.opens (state_of store.now registers.now) self.now }
-        requires present { IsTrue (present store.now v) }
-        ensures { result ≡ has_suitor (state_of store.now registers.now) v }
+        requires state { IsState (state_of store.now.network registers.now) }
+        requires index { IsIndexOf R.table.opens (state_of store.now.network registers.now) self.now }
+        requires present { IsTrue (present store.now.network v) }
+        ensures { result ≡ has_suitor (state_of store.now.network registers.now) v }
     {
         self.tally(v).suitors > 0
     }
 
     /// Whether a neighbour is open. One look.
     pub fn has_open(&self, v: Node, store: &EdgeStore, registers: &Registers) -> bool
-        requires state { IsState (state_of store.now registers.now) }
-        requires index { IsIndexOf R.table.opens (state_of store.now registers.now) self.now }
-        requires present { IsTrue (present store.now v) }
-        ensures { result ≡ is_some (first_open R.table.opens (state_of store.now registers.now) v) }
+        requires state { IsState (state_of store.now.network registers.now) }
+        requires index { IsIndexOf R.table.opens (state_of store.now.network registers.now) self.now }
+        requires present { IsTrue (present store.now.network v) }
+        ensures { result ≡ is_some (first_open R.table.opens (state_of store.now.network registers.now) v) }
     {
         self.tally(v).open_near > 0
     }
 
     /// Whether an open neighbour has a higher name than the node. One look.
     pub fn has_open_above(&self, v: Node, store: &EdgeStore, registers: &Registers) -> bool
-        requires state { IsState (state_of store.now registers.now) }
-        requires index { IsIndexOf R.table.opens (state_of store.now registers.now) self.now }
-        requires present { IsTrue (present store.now v) }
-        ensures { result ≡ is_some (last_open_above R.table.opens (state_of store.now registers.now) v) }
+        requires state { IsState (state_of store.now.network registers.now) }
+        requires index { IsIndexOf R.table.opens (state_of store.now.network registers.now) self.now }
+        requires present { IsTrue (present store.now.network v) }
+        ensures { result ≡ is_some (last_open_above R.table.opens (state_of store.now.network registers.now) v) }
     {
         self.tally(v).open_above > 0
     }
@@ -98,10 +98,10 @@ impl<R: Rules> SuitorIndex<R> {
     /// The first neighbour that points at the node. One look where there is none or one; else a scan of the neighbours, which
     /// stops at the first.
     pub fn first_suitor(&self, v: Node, store: &EdgeStore, registers: &Registers) -> Option<Node>
-        requires state { IsState (state_of store.now registers.now) }
-        requires index { IsIndexOf R.table.opens (state_of store.now registers.now) self.now }
-        requires present { IsTrue (present store.now v) }
-        ensures { result ≡ first_suitor (state_of store.now registers.now) v }
+        requires state { IsState (state_of store.now.network registers.now) }
+        requires index { IsIndexOf R.table.opens (state_of store.now.network registers.now) self.now }
+        requires present { IsTrue (present store.now.network v) }
+        ensures { result ≡ first_suitor (state_of store.now.network registers.now) v }
     {
         let tally = self.tally(v);
         match tally.suitors {
@@ -113,10 +113,10 @@ impl<R: Rules> SuitorIndex<R> {
 
     /// The first open neighbour. One look where there is none; else a scan of the neighbours, which stops at the first.
     pub fn first_open(&self, v: Node, store: &EdgeStore, registers: &Registers) -> Option<Node>
-        requires state { IsState (state_of store.now registers.now) }
-        requires index { IsIndexOf R.table.opens (state_of store.now registers.now) self.now }
-        requires present { IsTrue (present store.now v) }
-        ensures { result ≡ first_open R.table.opens (state_of store.now registers.now) v }
+        requires state { IsState (state_of store.now.network registers.now) }
+        requires index { IsIndexOf R.table.opens (state_of store.now.network registers.now) self.now }
+        requires present { IsTrue (present store.now.network v) }
+        ensures { result ≡ first_open R.table.opens (state_of store.now.network registers.now) v }
     {
         if !self.has_open(v, store, registers) {
             return None;
@@ -127,10 +127,10 @@ impl<R: Rules> SuitorIndex<R> {
     /// The greatest open neighbour, where its name is above the node's. One look where there is none; else a scan of the
     /// neighbours from the last, which stops at the first.
     pub fn last_open_above(&self, v: Node, store: &EdgeStore, registers: &Registers) -> Option<Node>
-        requires state { IsState (state_of store.now registers.now) }
-        requires index { IsIndexOf R.table.opens (state_of store.now registers.now) self.now }
-        requires present { IsTrue (present store.now v) }
-        ensures { result ≡ last_open_above R.table.opens (state_of store.now registers.now) v }
+        requires state { IsState (state_of store.now.network registers.now) }
+        requires index { IsIndexOf R.table.opens (state_of store.now.network registers.now) self.now }
+        requires present { IsTrue (present store.now.network v) }
+        ensures { result ≡ last_open_above R.table.opens (state_of store.now.network registers.now) v }
     {
         if !self.has_open_above(v, store, registers) {
             return None;
@@ -140,20 +140,20 @@ impl<R: Rules> SuitorIndex<R> {
 
     /// Whether a name is a neighbour that points at the node. One look.
     pub fn is_suitor(&self, v: Node, w: Node, store: &EdgeStore, registers: &Registers) -> bool
-        requires state { IsState (state_of store.now registers.now) }
-        requires index { IsIndexOf R.table.opens (state_of store.now registers.now) self.now }
-        requires present { IsTrue (present store.now v) }
-        ensures { result ≡ (linked store.now v w && suits (state_of store.now registers.now) v w) }
+        requires state { IsState (state_of store.now.network registers.now) }
+        requires index { IsIndexOf R.table.opens (state_of store.now.network registers.now) self.now }
+        requires present { IsTrue (present store.now.network v) }
+        ensures { result ≡ (linked store.now.network v w && suits (state_of store.now.network registers.now) v w) }
     {
         registers.points_at(w, v)
     }
 
     /// Whether a name is an open neighbour. A look-up by halves among the neighbours of the node.
     pub fn is_open(&self, v: Node, w: Node, store: &EdgeStore, registers: &Registers) -> bool
-        requires state { IsState (state_of store.now registers.now) }
-        requires index { IsIndexOf R.table.opens (state_of store.now registers.now) self.now }
-        requires present { IsTrue (present store.now v) }
-        ensures { result ≡ (linked store.now v w && is_open R.table.opens (state_of store.now registers.now) w) }
+        requires state { IsState (state_of store.now.network registers.now) }
+        requires index { IsIndexOf R.table.opens (state_of store.now.network registers.now) self.now }
+        requires present { IsTrue (present store.now.network v) }
+        ensures { result ≡ (linked store.now.network v w && is_open R.table.opens (state_of store.now.network registers.now) w) }
     {
         store.linked(v, w) && scan::is_open::<R>(registers, w)
     }
