@@ -1,10 +1,11 @@
 -- The names in rows that are vectors, whatever their capacities.
-use Rattle.std.proofs.Common.{◌≡◌, ℕ, ◌<◌, ◌≤◌, Bool, true, cond, List, [], length, get_or, set, sym, ap, subst, ◌∙◌, arith, Result, Ok, Err, MatchResult}
+use Rattle.std.proofs.Common.{◌≡◌, ℕ, ◌-◌, ◌<◌, ◌≤◌, Bool, true, false, cond, List, [], ◌∷◌, map, length, get_or, set, sym, ap, subst, ◌∙◌, arith, Result, Ok, Err, MatchResult}
 use Rattle.std.specs.List.{insert, remove}
-use Rattle.std.specs.Result.{is_ok}
+use Rattle.std.specs.Result.{is_ok, IsErrAnd}
 use Rattle.std.specs.Vec.{vec_len, vec_capacity}
 use Rattle.std.specs.declared.vec.Vec.{Vec}
 use Rattle.std.specs.declared.alloc.Global.{Global}
+use Rattle.std.proofs.lemmas.Bool.{true≢false}
 use Rattle.std.proofs.Math.Seq.{map-set_same}
 use Rattle.std.proofs.lemmas.List.{map-set, get_or-map, get_or_past, length-map}
 use Rattle.graph_store.specs.Rows.{contents, row_at, has, HasRoom, IsPlaceOf, IsGapFor}
@@ -45,7 +46,21 @@ contents_put rows v p place name d r ok same inside room fits after =
 pub contents_taken : (rows : List (Vec ℕ Global)) (v p place : ℕ) (d r : Vec ℕ Global) → p ≡ v → v < length rows → r.items ≡ remove (get_or rows p d).items place → contents (set rows p r) ≡ set (contents rows) v (remove (row_at (contents rows) v) place)
 contents_taken rows v p place d r same inside after = contents_set rows v p d r (λ l. remove l place) same inside after
 
+-- for how many more names a row has room
+abbrev spare : Vec ℕ Global → ℕ
+spare row = vec_capacity row - vec_len row
+
+-- the room that is counted at a place
+pub room_counted : (rows : List (Vec ℕ Global)) (v : ℕ) → v < length rows → HasRoom rows v → 0 < get_or (map spare rows) v 0
+room_counted [] v inside room = absurd (omega (arith, inside))
+room_counted (r ∷ rows) v inside room = omega (arith, get_or-map spare (r ∷ rows) v r 0 inside, room r)
+
 -- a look-up finds what is there
 pub found : (row : List ℕ) (name : ℕ) (r : Result ℕ ℕ) → MatchResult r (IsPlaceOf row name) (IsGapFor row name) → is_ok r ≡ has row name
 found row name (Ok i) place = sym (there_at_place row name i place)
 found row name (Err i) gap = sym (absent_at_gap row name i gap)
+
+-- and gives the gap for what is not there
+pub missing : (row : List ℕ) (name : ℕ) (r : Result ℕ ℕ) → MatchResult r (IsPlaceOf row name) (IsGapFor row name) → has row name ≡ false → IsErrAnd r (IsGapFor row name)
+missing row name (Ok i) place absent = absurd (true≢false (sym (there_at_place row name i place) ∙ absent))
+missing row name (Err i) gap absent = gap

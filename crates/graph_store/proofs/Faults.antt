@@ -1,8 +1,10 @@
 -- Which fault a call has, and the row that a call reads.
-use Rattle.std.proofs.Common.{◌≡◌, ℕ, ◌<◌, ◌≤◌, Bool, true, false, cond, not, ◌&&◌, List, length, get_or, Option, None, Some, eqb, sym, refl, ap, ◌∙◌, arith}
+use Rattle.std.proofs.Common.{◌≡◌, ℕ, ◌<◌, ◌≤◌, min, max, Bool, true, false, cond, not, ◌&&◌, List, length, get_or, Option, None, Some, eqb, sym, refl, ap, ◌∙◌, arith}
 use Rattle.std.specs.Prelude.{nat_le}
 use Rattle.std.specs.declared.vec.Vec.{Vec}
 use Rattle.std.specs.declared.alloc.Global.{Global}
+use Rattle.std.specs.FinMap as map
+use Rattle.std.proofs.lemmas.Bool.{leb-false}
 use Rattle.rule_machine.specs.Network.{Network, present, linked, edge, edge_count}
 use Rattle.rule_machine.specs.Refuse.{max_edges}
 use Rattle.graph_store.specs.declared.fault.GraphFault.{GraphFault}
@@ -39,6 +41,44 @@ link_fault_ends net a b fault h = bad_ends (present net a) (present net b) (eqb 
 -- likewise where an edge is taken out
 pub unlink_fault_ends : (net : Network) (a b : ℕ) (fault : GraphFault) → ends_fault net a b ≡ Some fault → unlink_fault net a b ≡ Some fault
 unlink_fault_ends net a b fault h = bad_ends (present net a) (present net b) (eqb a b) fault _ h
+
+-- what is known of two names that an edge may join
+pub record MayLink (net : Network) (a b : ℕ) : Type 0 where
+  pub here_a : present net a ≡ true
+  pub here_b : present net b ≡ true
+  pub apart : eqb a b ≡ false
+  pub fresh : linked net a b ≡ false
+  pub fresh_back : linked net b a ≡ false
+  pub few : edge_count net < max_edges
+
+-- what is known where no test of an edge fails
+good_edge : (p q e l m : Bool) → cond (not (p && q)) (Some UnknownNode) (cond e (Some SelfLoop) (cond l (Some AlreadyLinked) (cond m (Some TooManyEdges) None))) ≡ None → (p ≡ true) × (q ≡ true) × (e ≡ false) × (l ≡ false) × (m ≡ false)
+good_edge false q e l m h = absurd cc
+good_edge true false e l m h = absurd cc
+good_edge true true true l m h = absurd cc
+good_edge true true false true m h = absurd cc
+good_edge true true false false true h = absurd cc
+good_edge true true false false false h = (refl, refl, refl, refl, refl)
+
+-- an edge is the same from either end
+linked_flip : (net : Network) (a b : ℕ) → linked net b a ≡ linked net a b
+linked_flip net a b =
+    let low : min b a ≡ min a b = omega arith in
+    let high : max b a ≡ max a b = omega arith in
+    λ i. map.contains_key net.edges (low i, high i)
+
+-- two names that an edge may join are nodes, different and not linked, and there are not too many edges
+pub may_link : (net : Network) (a b : ℕ) → link_fault net a b ≡ None → MayLink net a b
+may_link net a b free =
+    let known = good_edge (present net a) (present net b) (eqb a b) (linked net a b) (nat_le max_edges (edge_count net)) free in
+    record {
+      here_a = known.0;
+      here_b = known.1;
+      apart = known.2;
+      fresh = known.3;
+      fresh_back = linked_flip net a b ∙ known.3;
+      few = leb-false max_edges (edge_count net) known.4;
+    }
 
 -- an edge that may be put in, or not, where the ends are two nodes
 pub link_fault_is : (net : Network) (a b : ℕ) (l m : Bool) → present net a ≡ true → present net b ≡ true → eqb a b ≡ false → linked net a b ≡ l → nat_le max_edges (edge_count net) ≡ m → link_fault net a b ≡ cond l (Some AlreadyLinked) (cond m (Some TooManyEdges) None)

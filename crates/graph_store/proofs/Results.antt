@@ -1,5 +1,5 @@
 -- What `map_err` passes on, and the order of a rising list's places.
-use Rattle.std.proofs.Common.{◌≡◌, ℕ, ◌<◌, ◌≤◌, List, length, get_or, Result, Ok, Err, IfOk, MatchResult, ap, subst, arith, ⊎_elim}
+use Rattle.std.proofs.Common.{◌≡◌, ℕ, ◌<◌, ◌≤◌, List, length, get_or, Result, Ok, Err, IfOk, OnOk, MatchResult, ap, sym, subst, arith, ⊎_elim}
 use Rattle.std.specs.Result.{IsErrAnd}
 use Rattle.std.specs.List.Sorted.{IsStrictlyIncreasing}
 use Rattle.std.proofs.lemmas.Bool.{cases_lt}
@@ -9,6 +9,12 @@ use Rattle.std.proofs.lemmas.List.Kept.{AllPairs-from_increasing}
 pub from_map_err : {T E F : Type 0} (P : T → Type 0) (r : Result T E) (v : Result T F) (x : T) (Q : E → F → Type 0) → v ≡ Ok x → MatchResult r (λ y. v ≡ Ok y) (λ e. IsErrAnd v (Q e)) → IfOk r P → P x
 from_map_err P (Ok y) v x Q is passed h = let same : y ≡ x = cc in subst P same h
 from_map_err P (Err d) v x Q is passed h = absurd (subst (λ w. IsErrAnd w (Q d)) is passed)
+
+-- what follows from an `Ok` holds where `map_err` passed one on
+pub on_ok_map_err : {T E F : Type 0} (P Q : Type 0) (r : Result T E) (v : Result T F) (R : E → F → Type 0) → MatchResult r (λ y. v ≡ Ok y) (λ e. IsErrAnd v (R e)) → (P → Q) → OnOk r P → OnOk v Q
+on_ok_map_err P Q (Ok y) v R passed step h = subst (λ w. OnOk w Q) (sym passed) (step h)
+on_ok_map_err P Q (Err d) (Ok x) R passed step h = absurd passed
+on_ok_map_err P Q (Err d) (Err e) R passed step h = tt
 
 -- a later place of a rising list has no lower name
 pub never_falls : (xs : List ℕ) → IsStrictlyIncreasing xs → (i j : ℕ) → i ≤ j → j < length xs → get_or xs i 0 ≤ get_or xs j 0

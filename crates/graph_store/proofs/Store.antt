@@ -53,6 +53,10 @@ neighbours_row size rows v good =
     filter_agree (linked (network_of size rows) v) (has (row_at rows v)) (λ w. linked_row size rows v w good) (range_with_len 1 size)
     ∙ part_of_names size (row_at rows v) (good.rising v) (good.within v)
 
+-- the same of the network that the rows are seen as
+pub neighbours_by : (size : ℕ) (rows : List (List ℕ)) (net : Network) (v : ℕ) → network_of size rows ≡ net → IsRows size rows → row_at rows v ≡ neighbours net v
+neighbours_by size rows net v seen good = sym (neighbours_row size rows v good) ∙ ap (λ n. neighbours n v) seen
+
 -- linked names are both present
 pub linked_present : (size : ℕ) (rows : List (List ℕ)) (a b : ℕ) → IsRows size rows → linked (network_of size rows) a b ≡ true → (present (network_of size rows) a ≡ true) × (present (network_of size rows) b ≡ true)
 linked_present size rows a b good h =

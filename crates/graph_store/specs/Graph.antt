@@ -1,5 +1,5 @@
 -- A store of edges as contracts see it.
-use Rattle.std.specs.Prelude.{◌≡◌, ℕ, ◌<◌, List, slice_index_or, refl}
+use Rattle.std.specs.Prelude.{ℕ, ◌<◌, List, slice_index_or, refl}
 use Rattle.std.specs.Coded.{Coded, code_by, coded×, coded_ℕ, coded_list}
 use Rattle.rule_machine.specs.Network.{Network, network_code}
 

@@ -1,12 +1,14 @@
 //! The edges of a network.
 
-ghost use Rattle.std.specs.Prelude.{◌≡◌, ◌≤◌, IfOk, IfErr, OnOk, OnErr, IsTrue, All, None, Some};
+ghost use Rattle.std.specs.Prelude.{◌≡◌, ◌≤◌, false, IfOk, IfErr, OnOk, OnErr, IsTrue, All, None, Some};
 ghost use Rattle.rule_machine.specs.Network.{edgeless, node_count, edge_count, present, linked, neighbours, with_edge, without_edge};
 ghost use Rattle.graph_store.specs.Fault.{nodes_fault, ends_fault, link_fault, unlink_fault, Explains};
 ghost use Rattle.graph_store.specs.Graph.{HasRoomFor};
+ghost use Rattle.graph_store.specs.Rows.{IsGapFor};
+ghost use Rattle.graph_store.specs.declared.fault.GraphFault.TheVariants.{Memory};
 
 use crate::GraphFault;
-use crate::rows::{empty_rows, find_place, put_both, take_both};
+use crate::rows::{empty_rows, find_place, put_both, reserve_both, take_both};
 use rule_machine::Node;
 use std::alloc::Global;
 use std::marker::Model;
@@ -119,6 +121,54 @@ impl EdgeStore {
         Ok(())
     }
 
+    // The place where `b` belongs among the neighbours of `a`, if an edge may join the two.
+    fn check_link(&self, a: Node, b: Node) -> Result<usize, GraphFault>
+        ensures free { OnOk result (link_fault self.now.network a b ≡ None) }
+        ensures gap { IfOk result (λ place. IsGapFor (neighbours self.now.network a) b place) }
+        ensures fault { IfErr result (λ fault. link_fault self.now.network a b ≡ Some fault) }
+    {
+        self.check_ends(a, b)?;
+        let Err(place) = find_place(&self.rows[a.place()], b) else {
+            return Err(GraphFault::AlreadyLinked);
+        };
+        if self.edges >= MAX_EDGES {
+            return Err(GraphFault::TooManyEdges);
+        }
+        Ok(place)
+    }
+
+    // The place where `w` belongs among the neighbours of `v`.
+    fn find_gap(&self, v: Node, w: Node) -> usize
+        requires present { IsTrue (present self.now.network v) }
+        requires apart { linked self.now.network v w ≡ false }
+        ensures { IsGapFor (neighbours self.now.network v) w result }
+    {
+        find_place(&self.rows[v.place()], w).unwrap_err()
+    }
+
+    // Makes room for the edge between two nodes.
+    fn make_room(&mut self, a: Node, b: Node) -> Result<(), GraphFault>
+        requires present_a { IsTrue (present self.old.network a) }
+        requires present_b { IsTrue (present self.old.network b) }
+        ensures room { OnOk result (HasRoomFor self.new.room a b) }
+        ensures fault { IfErr result (λ fault. fault ≡ Memory) }
+        ensures unchanged { self.new.network ≡ self.old.network }
+    {
+        reserve_both(&mut self.rows, a, b).map_err(|_| GraphFault::Memory)
+    }
+
+    // Puts in the edge between two nodes, for which there is room, each at its place among the other's neighbours.
+    fn put_edge(&mut self, a: Node, place_in_a: usize, b: Node, place_in_b: usize)
+        requires free { link_fault self.old.network a b ≡ None }
+        requires room { HasRoomFor self.old.room a b }
+        requires gap_in_a { IsGapFor (neighbours self.old.network a) b place_in_a }
+        requires gap_in_b { IsGapFor (neighbours self.old.network b) a place_in_b }
+        ensures { self.new.network ≡ with_edge self.old.network a b }
+    {
+        put_both(&mut self.rows, a, place_in_a, b, place_in_b);
+        self.edges += 1;
+    }
+
     /// Puts in the edge between two nodes: by a look-up by halves and a shift in the rows of the two.
     /// `UnknownNode` where an end is no node of the graph, then `SelfLoop`, then `AlreadyLinked`, then `TooManyEdges`
     /// at 1,048,576 edges, and `Memory` if memory runs out. No fault changes anything.
@@ -127,38 +177,35 @@ impl EdgeStore {
         ensures fault { IfErr result (λ fault. Explains (link_fault self.old.network a b) fault) }
         ensures unchanged { OnErr result (self.new.network ≡ self.old.network) }
     {
-        self.check_ends(a, b)?;
-        let Err(place_in_a) = find_place(&self.rows[a.place()], b) else {
-            return Err(GraphFault::AlreadyLinked);
-        };
-        let Err(place_in_b) = find_place(&self.rows[b.place()], a) else {
-            return Err(GraphFault::AlreadyLinked);
-        };
-        if self.edges >= MAX_EDGES {
-            return Err(GraphFault::TooManyEdges);
-        }
-        put_both(&mut self.rows, a, place_in_a, b, place_in_b).map_err(|_| GraphFault::Memory)?;
-        self.edges += 1;
+        let place_in_a = self.check_link(a, b)?;
+        self.make_room(a, b)?;
+        let place_in_b = self.find_gap(b, a);
+        self.put_edge(a, place_in_a, b, place_in_b);
         Ok(())
     }
 
-    /// Makes room for the edge between two nodes, so that `link_reserved` of them takes no memory. The refusals are those of
-    /// `link`, in its order; no edge changes.
+    /// Makes room for the edge between two nodes, so that `link_reserved` of them takes no memory: a look-up by halves among the
+    /// neighbours of `a`, and the growth of at most two rows. `UnknownNode`, `SelfLoop`, `AlreadyLinked`, `TooManyEdges` and
+    /// `Memory`, in the order of `link`; no edge changes.
     pub fn reserve_link(&mut self, a: Node, b: Node) -> Result<(), GraphFault>
         ensures ok { OnOk result ((link_fault self.old.network a b ≡ None) × HasRoomFor self.new.room a b) }
         ensures fault { IfErr result (λ fault. Explains (link_fault self.old.network a b) fault) }
         ensures unchanged { self.new.network ≡ self.old.network }
     {
-        Ok(())
+        self.check_link(a, b)?;
+        self.make_room(a, b)
     }
 
-    /// Puts in the edge between two nodes for which there is room; takes no memory.
+    /// Puts in the edge between two nodes for which there is room: by a look-up by halves and a shift in the rows of the two.
+    /// Takes no memory.
     pub fn link_reserved(&mut self, a: Node, b: Node)
         requires free { link_fault self.old.network a b ≡ None }
         requires room { HasRoomFor self.old.room a b }
         ensures { self.new.network ≡ with_edge self.old.network a b }
     {
-        self.edges += 1;
+        let place_in_a = self.find_gap(a, b);
+        let place_in_b = self.find_gap(b, a);
+        self.put_edge(a, place_in_a, b, place_in_b);
     }
 
     /// Takes out the edge between two nodes, as `link` puts it in; takes no memory.

@@ -1,6 +1,6 @@
 //! Neighbour lists, which rise.
 
-ghost use Rattle.std.specs.Prelude.{◌≡◌, ◌≢◌, ℕ, ◌+◌, ◌<◌, ◌≤◌, [], length, replicate, slice_set, IfOk, OnOk, OnErr, MatchResult, true, false};
+ghost use Rattle.std.specs.Prelude.{◌≡◌, ◌≢◌, ℕ, ◌+◌, ◌<◌, ◌≤◌, [], length, replicate, slice_set, IfOk, OnOk, MatchResult, true, false};
 ghost use Rattle.std.specs.List.{insert, remove};
 ghost use Rattle.std.specs.List.Sorted.{IsStrictlyIncreasing};
 ghost use Rattle.graph_store.specs.Rows.{contents, row_at, has, IsPlaceOf, IsGapFor, HasRoom};
@@ -48,27 +48,30 @@ fn put_in(rows: &mut [Vec<Node>], node: Node, place: usize, name: Node)
     let _full = rows[node.place()].insert(place, name);
 }
 
-/// Puts two nodes into each other's rows, at these places; changes no names if memory runs out.
-pub fn put_both(
-    rows: &mut [Vec<Node>],
-    a: Node,
-    place_in_a: usize,
-    b: Node,
-    place_in_b: usize,
-) -> Result<(), Want>
+/// Makes room for one more name in each of two nodes' rows, and changes no names.
+pub fn reserve_both(rows: &mut [Vec<Node>], a: Node, b: Node) -> Result<(), Want>
+    requires a_known { a < length rows.old }
+    requires b_known { b < length rows.old }
+    ensures names { contents rows.new ≡ contents rows.old }
+    ensures room { OnOk result (HasRoom rows.new a × HasRoom rows.new b) }
+{
+    make_room(rows, a)?;
+    make_room(rows, b)
+}
+
+/// Puts two nodes into each other's rows, at these places, where there is room for them.
+pub fn put_both(rows: &mut [Vec<Node>], a: Node, place_in_a: usize, b: Node, place_in_b: usize)
     requires apart { a ≢ b }
     requires a_known { a < length rows.old }
     requires b_known { b < length rows.old }
     requires inside_a { place_in_a ≤ length (row_at (contents rows.old) a) }
     requires inside_b { place_in_b ≤ length (row_at (contents rows.old) b) }
-    ensures put { OnOk result (contents rows.new ≡ slice_set (slice_set (contents rows.old) a (insert (row_at (contents rows.old) a) place_in_a b)) b (insert (row_at (contents rows.old) b) place_in_b a)) }
-    ensures refused { OnErr result (contents rows.new ≡ contents rows.old) }
+    requires room_in_a { HasRoom rows.old a }
+    requires room_in_b { HasRoom rows.old b }
+    ensures { contents rows.new ≡ slice_set (slice_set (contents rows.old) a (insert (row_at (contents rows.old) a) place_in_a b)) b (insert (row_at (contents rows.old) b) place_in_b a) }
 {
-    make_room(rows, a)?;
-    make_room(rows, b)?;
     put_in(rows, a, place_in_a, b);
     put_in(rows, b, place_in_b, a);
-    Ok(())
 }
 
 /// Takes the name at a place out of a node's row.
