@@ -9,11 +9,11 @@ use Rattle.suitor_index.proofs.Built.{few_neighbours, some_iff_at, counted_more}
 use Rattle.suitor_index.proofs.index.SuitorIndex.build.Goals as goal
 
 pub count-requires-clause-few : goal.count-requires-clause-few
-count-requires-clause-few g c = few_neighbours c.args.store.now c.unwrap-v.result c.neighbours.result.now c.nodes.result c.neighbours.ensures.all c.nodes.ensures.count c.nodes.ensures.few
+count-requires-clause-few g c = few_neighbours c.args.store.now.network c.unwrap-v.result c.neighbours.result.now c.nodes.result c.neighbours.ensures.all c.nodes.ensures.count c.nodes.ensures.few
 
 pub loop-name-preserved : goal.loop-name-preserved
 loop-name-preserved g c =
-    let s = state_of c.args.store.now c.args.registers.now in
+    let s = state_of c.args.store.now.network c.args.registers.now in
     let opens = g.R.Rules.table.opens in
     let v = c.unwrap-v.result in
     let all = c.neighbours.ensures.all in

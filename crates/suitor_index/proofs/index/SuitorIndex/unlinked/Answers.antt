@@ -11,9 +11,9 @@ discount_end-requires-clause-counted g c =
     let opens = g.R.Rules.table.opens in
     let r = c.args.registers.now in
     let start = c.as_mut_slice-tallies.result.now in
-    let edge = edge_unlinked c.args.store.now b.network r c.args.a c.args.b b.is_state b.was_linked b.not_there b.not_back b.change in
+    let edge = edge_unlinked c.args.store.now.network b.network r c.args.a c.args.b b.is_state b.was_linked b.not_there b.not_back b.change in
     let index = subst (IsIndexOf opens (state_of b.network r)) (sym (c.as_mut_slice-tallies.ensures.value ∙ c.self.view_is)) b.index in
-    end_counted opens c.args.store.now b.network r c.args.b c.args.a start (edge_swapped c.args.store.now b.network r c.args.a c.args.b edge) index
+    end_counted opens c.args.store.now.network b.network r c.args.b c.args.a start (edge_swapped c.args.store.now.network b.network r c.args.a c.args.b edge) index
 
 pub discount_end-requires-2-clause-counted : goal.discount_end-requires-2-clause-counted
 discount_end-requires-2-clause-counted g c =
@@ -21,9 +21,9 @@ discount_end-requires-2-clause-counted g c =
     let opens = g.R.Rules.table.opens in
     let r = c.args.registers.now in
     let start = c.as_mut_slice-tallies.result.now in
-    let edge = edge_unlinked c.args.store.now b.network r c.args.a c.args.b b.is_state b.was_linked b.not_there b.not_back b.change in
+    let edge = edge_unlinked c.args.store.now.network b.network r c.args.a c.args.b b.is_state b.was_linked b.not_there b.not_back b.change in
     let index = subst (IsIndexOf opens (state_of b.network r)) (sym (c.as_mut_slice-tallies.ensures.value ∙ c.self.view_is)) b.index in
-    second_counted opens c.args.store.now b.network r c.args.a c.args.b start c.discount_end.new.tallies edge index c.discount_end.ensures
+    second_counted opens c.args.store.now.network b.network r c.args.a c.args.b start c.discount_end.new.tallies edge index c.discount_end.ensures
 
 pub returns : goal.returns
 returns g c =
@@ -31,8 +31,8 @@ returns g c =
     let opens = g.R.Rules.table.opens in
     let r = c.args.registers.now in
     let start = c.as_mut_slice-tallies.result.now in
-    let edge = edge_unlinked c.args.store.now b.network r c.args.a c.args.b b.is_state b.was_linked b.not_there b.not_back b.change in
+    let edge = edge_unlinked c.args.store.now.network b.network r c.args.a c.args.b b.is_state b.was_linked b.not_there b.not_back b.change in
     let index = subst (IsIndexOf opens (state_of b.network r)) (sym (c.as_mut_slice-tallies.ensures.value ∙ c.self.view_is)) b.index in
     let whole = written_whole c.self.inside.tallies.len c.discount_end-2.new.tallies _ (c.self.inside.tallies.ok.0 ∙ ap length (sym c.as_mut_slice-tallies.ensures.value) ∙ c.discount_end.ensures.places ∙ c.discount_end-2.ensures.places) in
-    subst (IsIndexOf opens (state_of c.args.store.now r)) (sym whole)
-    (index_less opens c.args.store.now b.network r c.args.a c.args.b start c.discount_end.new.tallies c.discount_end-2.new.tallies edge index c.discount_end.ensures c.discount_end-2.ensures)
+    subst (IsIndexOf opens (state_of c.args.store.now.network r)) (sym whole)
+    (index_less opens c.args.store.now.network b.network r c.args.a c.args.b start c.discount_end.new.tallies c.discount_end-2.new.tallies edge index c.discount_end.ensures c.discount_end-2.ensures)
