@@ -16,9 +16,8 @@ use std::alloc::Global;
 use std::marker::Model;
 use suitor_index::SuitorIndex;
 
-/// The edges and the registers of a network, seen in contracts as a state of the rule machine and the room for more
-/// neighbours, with what the guards of the rules
-/// `R` ask of it counted at each node.
+/// The edges and the registers of a network, with what the guards of the rules `R` ask of them counted at each node. Seen in
+/// contracts as a state of the rule machine, and for how many more neighbours each node has room.
 #[derive(Drop)]
 pub struct IndexedState<R: Rules> {
     pub(crate) store: EdgeStore,
@@ -88,8 +87,9 @@ impl<R: Rules> IndexedState<R> {
         NodeView::new(self, node)
     }
 
-    /// Makes room for the edge between two nodes, so that `link_reserved` of them takes no memory. `UnknownNode`, `SelfLoop`,
-    /// `AlreadyLinked`, `TooManyEdges`, `Memory`, in that order; the state stays.
+    /// Makes room for the edge between two nodes, so that `link_reserved` of them takes no memory: a look-up by halves, and the
+    /// growth of at most two neighbour lists. `UnknownNode`, `SelfLoop`, `AlreadyLinked`, `TooManyEdges`, `Memory`, in that
+    /// order; the state stays.
     pub fn reserve_link(&mut self, a: Node, b: Node) -> Result<(), GraphFault>
         ensures ok { OnOk result ((link_fault self.old.state.network a b ≡ None) × HasRoomFor self.new.room a b) }
         ensures fault { IfErr result (λ fault. Explains (link_fault self.old.state.network a b) fault) }
@@ -98,7 +98,8 @@ impl<R: Rules> IndexedState<R> {
         self.store.reserve_link(a, b)
     }
 
-    /// Adds the edge between two nodes for which there is room; takes no memory. A shift in two neighbour lists.
+    /// Adds the edge between two nodes for which there is room: a look-up by halves and a shift in two neighbour lists. Takes no
+    /// memory.
     pub fn link_reserved(&mut self, a: Node, b: Node)
         requires free { link_fault self.old.state.network a b ≡ None }
         requires room { HasRoomFor self.old.room a b }

@@ -7,12 +7,12 @@ use Rattle.indexed_state.proofs.state.IndexedState.new.Goals as goal
 
 pub build-requires : goal.build-requires
 build-requires g c =
-    let is : state_of c.in_ok-store.store c.in-Ok.registers ≡ opening c.args.nodes = ap₂ state_of c.in_ok-store.ensures.ok c.in-Ok.ensures in
+    let is : state_of c.in_ok-store.store.network c.in-Ok.registers ≡ opening c.args.nodes = ap₂ state_of c.in_ok-store.ensures.ok c.in-Ok.ensures in
     subst (λ (s : State). IsState s) (sym is) (opening_is_state c.args.nodes)
 
 pub invariant_of-result : goal.invariant_of-result
 invariant_of-result g c =
-    let is : state_of c.in_ok-store.store c.in-Ok.registers ≡ opening c.args.nodes = ap₂ state_of c.in_ok-store.ensures.ok c.in-Ok.ensures in
+    let is : state_of c.in_ok-store.store.network c.in-Ok.registers ≡ opening c.args.nodes = ap₂ state_of c.in_ok-store.ensures.ok c.in-Ok.ensures in
     record {
       is_state = subst (λ (s : State). IsState s) (sym is) (opening_is_state c.args.nodes);
       index = c.in-Ok-build.ensures;
