@@ -31,9 +31,9 @@ impl Model for NetState {
 
     ghost coded = { state_code };
 
-    ghost view = { λ n. state_of n.store n.registers };
+    ghost view = { λ n. state_of n.store.network n.registers };
 
-    ghost invariant = { λ n. IsState (state_of n.store n.registers) };
+    ghost invariant = { λ n. IsState (state_of n.store.network n.registers) };
 }
 
 impl NetState {

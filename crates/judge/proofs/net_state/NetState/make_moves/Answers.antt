@@ -9,12 +9,12 @@ use Rattle.judge.proofs.net_state.NetState.make_moves.Goals as goal
 
 pub invariant_of-self : goal.invariant_of-self
 invariant_of-self c =
-    let s = state_of c.self.inside.store c.self.inside.registers in
+    let s = state_of c.self.inside.store.network c.self.inside.registers in
     let wrote = c.write_moves.ensures ∙ written_in_two s c.self.invariant c.args.moves.now in
-    moves_leave c.self.inside.store c.self.inside.registers c.write_moves.new.registers c.args.moves.now c.self.invariant (subst (λ (u : State). All (IsMoveIn u.network) c.args.moves.now) (sym c.self.view_is) c.requires) wrote
+    moves_leave c.self.inside.store.network c.self.inside.registers c.write_moves.new.registers c.args.moves.now c.self.invariant (subst (λ (u : State). All (IsMoveIn u.network) c.args.moves.now) (sym c.self.view_is) c.requires) wrote
 
 pub returns : goal.returns
 returns c =
-    let s = state_of c.self.inside.store c.self.inside.registers in
+    let s = state_of c.self.inside.store.network c.self.inside.registers in
     let wrote : c.write_moves.new.registers ≡ registers_after s c.args.moves.now = c.write_moves.ensures ∙ written_in_two s c.self.invariant c.args.moves.now in
-    ap (state_of c.self.inside.store) wrote ∙ ap (λ u. after_moves u c.args.moves.now) c.self.view_is
+    ap (state_of c.self.inside.store.network) wrote ∙ ap (λ u. after_moves u c.args.moves.now) c.self.view_is

@@ -7,16 +7,16 @@ use Rattle.judge.proofs.net_state.NetState.partner.Goals as goal
 
 pub returns-in-Some : goal.returns-in-Some
 returns-in-Some c =
-    let s = state_of c.self.inside.store c.self.inside.registers in
+    let s = state_of c.self.inside.store.network c.self.inside.registers in
     sym (partner_from s c.args.v c.in-Some.w c.self.invariant (sym c.in-Some.ensures) (points_true s c.in-Some.w c.args.v (sym c.points_at.ensures ∙ c.if-points_at.true)))
     ∙ ap (λ u. partner u c.args.v) c.self.view_is
 
 pub returns-in-Some-2 : goal.returns-in-Some-2
 returns-in-Some-2 c =
-    let s = state_of c.self.inside.store c.self.inside.registers in
+    let s = state_of c.self.inside.store.network c.self.inside.registers in
     sym (none_is (partner s c.args.v) (unanswered_unmarried s c.args.v c.in-Some.w (sym c.in-Some.ensures) (λ back. true≢false (sym (points_from s c.in-Some.w c.args.v back) ∙ sym c.points_at.ensures ∙ c.if-points_at.false)))) ∙ ap (λ u. partner u c.args.v) c.self.view_is
 
 pub returns-in-None : goal.returns-in-None
 returns-in-None c =
-    let s = state_of c.self.inside.store c.self.inside.registers in
+    let s = state_of c.self.inside.store.network c.self.inside.registers in
     sym (none_is (partner s c.args.v) (null_unmarried s c.args.v (sym c.in-None.ensures))) ∙ ap (λ u. partner u c.args.v) c.self.view_is
