@@ -10,9 +10,9 @@ use rule_machine::Node;
 
 /// The node that a word picks: of n nodes the one at the place `word mod n`, counted from 0 by rising names.
 pub(crate) fn pick_node(store: &EdgeStore, word: u32) -> Node
-    requires { 0 < node_count store.now }
-    ensures node { result ≡ node_at store.now word }
-    ensures present { IsTrue (present store.now result) }
+    requires { 0 < node_count store.now.network }
+    ensures node { result ≡ node_at store.now.network word }
+    ensures present { IsTrue (present store.now.network result) }
 {
     Node::new(word % store.nodes() + 1).unwrap()
 }
@@ -20,9 +20,9 @@ pub(crate) fn pick_node(store: &EdgeStore, word: u32) -> Node
 /// What a word makes a node's pointer: with d neighbours, null where `word mod (d + 1)` is 0, and else the neighbour
 /// of that number, counted from 1 by rising names. Looks at one neighbour.
 pub(crate) fn pick_target(store: &EdgeStore, node: Node, word: u32) -> Option<Node>
-    requires { IsTrue (present store.now node) }
-    ensures target { result ≡ target_at store.now node word }
-    ensures accepted { point_refusal store.now node result ≡ None }
+    requires { IsTrue (present store.now.network node) }
+    ensures target { result ≡ target_at store.now.network node word }
+    ensures accepted { point_refusal store.now.network node result ≡ None }
 {
     let neighbours = store.neighbours(node);
     let place = word as usize % (neighbours.len() + 1);
