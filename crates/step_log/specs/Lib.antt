@@ -1,4 +1,4 @@
 pub mod Recording
 pub mod Log
-pub mod Draft
 pub mod Epochs
+pub mod Held

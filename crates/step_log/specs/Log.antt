@@ -7,7 +7,6 @@ use Rattle.rule_machine.specs.RuleTable.{RuleTable}
 use Rattle.rule_machine.specs.Least.{reply_of, state_after, spent_by}
 use Rattle.rule_machine.specs.Run.{Entry, Run, beginning}
 use Rattle.step_log.specs.declared.receipt.Receipt.{Receipt}
-use Rattle.step_log.specs.Recording.{Recording}
 pub use Rattle.step_log.specs.Recording.{max_entries}
 
 -- the state of a network, the moves since it was last disturbed, the events and replies that led to it, and how many of
@@ -24,15 +23,6 @@ pub record IsLog (t : RuleTable) (log : Log) : Type 0 where
   pub nodes : node_count log.state.network ≤ 65535
   pub room : length log.entries ≤ log.limit
   pub limit : log.limit ≤ max_entries
-
--- what a recording and the entries that it gave hold together
-abbrev pub log_of : Recording → List Entry → Log
-log_of r entries = record { state = r.state; spent = r.spent; entries = entries; limit = r.limit }
-
--- the entries are a log, and those that the recording has counted
-pub record IsRecorded (t : RuleTable) (r : Recording) (entries : List Entry) : Type 0 where
-  pub log : IsLog t (log_of r entries)
-  pub count : r.len ≡ length entries
 
 -- the log before any event
 abbrev pub empty_log : ℕ → ℕ → Log

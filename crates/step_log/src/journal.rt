@@ -1,23 +1,19 @@
 //! A network with its log.
 
 ghost use Rattle.std.specs.Prelude.{◌≡◌, ◌<◌, ◌≤◌, ◌+◌, ◌-◌, ◌*◌, ◌⊎◌, ◌↔◌, ◌++◌, ◌∷◌, [], ℕ, All, length, min, IfOk, IfErr, OnOk, OnErr, IsErrOf, IsTrue, Option, Some, MatchOption, slice_get, vec_capacity};
-ghost use Rattle.log_entry.specs.Kinds.{fits};
 ghost use Rattle.graph_store.specs.Fault.{nodes_fault, Explains};
 ghost use Rattle.rule_machine.specs.declared.event.Event.TheVariants.{Step};
 ghost use Rattle.rule_engine.specs.Choosing.{verdicts_of};
 ghost use Rattle.step_log.specs.declared.fault.RecordFault.TheVariants.{LogFull};
-ghost use Rattle.step_log.specs.Draft.{most_moves};
 ghost use Rattle.step_log.specs.Epochs.{AreEpochs, IsBounded};
 ghost use Rattle.rule_machine.specs.Network.{node_count, edge_count};
 ghost use Rattle.step_log.specs.Log.{max_entries, IsLog, empty_log, recorded, receipt_of};
-ghost use Rattle.rule_machine.specs.Least.{reply_of};
+ghost use Rattle.step_log.specs.Held.{IsReady, log_of};
 
-use crate::draft::{Draft, item_count};
 use crate::epoch::epochs_of;
-use crate::{Epoch, MAX_ENTRIES, Receipt, RecordFault, Recorder};
+use crate::{Epoch, MAX_ENTRIES, Prepared, Receipt, RecordFault};
 use log_entry::Entry;
 use rule_engine::{Choice, Event, GraphFault, Net, Reply, Rules, Verdict, Want};
-use rule_machine::MAX_ITEMS;
 use std::alloc::Global;
 use std::marker::Model;
 use std::mem::size_of;
@@ -26,33 +22,43 @@ use std::mem::size_of;
 const _: () = prove!(size_of::<Entry>() <= 64);
 
 /// A network under the rules `R` and the log of its events, each with the reply to it: a run of the rule machine from
-/// the opening state to where the network is.
+/// the opening state to where the network is. Contracts see beside these for what there is room.
 #[derive(Drop)]
 pub struct Journal<R: Rules> {
     alloc: Global,
-    recorder: Recorder<R>,
+    net: Net<R>,
     entries: Vec<Entry>,
+    limit: u32,
 }
 
 impl<R: Rules> Model for Journal<R> {
+    ghost use Rattle.std.specs.Prelude.{◌-◌, length, vec_capacity};
     ghost use Rattle.std.specs.Coded.{codes};
     ghost use Rattle.rule_machine.specs.State.{state_code};
-    ghost use Rattle.step_log.specs.Log.{Log, IsRecorded, log_of};
+    ghost use Rattle.step_log.specs.Log.{IsLog};
+    ghost use Rattle.step_log.specs.Held.{Held, log_of};
 
-    ghost Value = { Log };
+    ghost Value = { Held };
 
     ghost coded = { Prim.hlevel (codes, state_code) };
 
-    ghost view = { λ j. log_of j.recorder j.entries.items };
+    ghost view = { λ j. record {
+      state = j.net.state;
+      spent = j.net.spent;
+      entries = j.entries.items;
+      limit = j.limit;
+      room = j.net.room;
+      spare = vec_capacity j.entries - length j.entries.items;
+    } };
 
-    ghost invariant = { λ j. IsRecorded R.table j.recorder j.entries.items };
+    ghost invariant = { λ j. IsLog R.table (record { state = j.net.state; spent = j.net.spent; entries = j.entries.items; limit = j.limit }) };
 }
 
 impl<R: Rules> Journal<R> {
     /// The journal of a new network of the nodes 1 to `nodes`, which may hold 16,777,216 entries. `TooManyNodes`
     /// above 65,535 nodes, and `Memory` if memory runs out.
     pub fn new(alloc: Global, nodes: u32) -> Result<Journal<R>, GraphFault>
-        ensures ok { IfOk result (λ journal. journal ≡ empty_log nodes max_entries) }
+        ensures ok { IfOk result (λ journal. log_of journal ≡ empty_log nodes max_entries) }
         ensures small { OnOk result (nodes ≤ 65535) }
         ensures fault { IfErr result (λ fault. Explains (nodes_fault nodes) fault) }
     {
@@ -61,23 +67,24 @@ impl<R: Rules> Journal<R> {
 
     /// The same with a limit on the entries; a limit above 16,777,216 counts as that.
     pub fn with_limit(alloc: Global, nodes: u32, limit: u32) -> Result<Journal<R>, GraphFault>
-        ensures ok { IfOk result (λ journal. journal ≡ empty_log nodes (min limit max_entries)) }
+        ensures ok { IfOk result (λ journal. log_of journal ≡ empty_log nodes (min limit max_entries)) }
         ensures small { OnOk result (nodes ≤ 65535) }
         ensures fault { IfErr result (λ fault. Explains (nodes_fault nodes) fault) }
     {
         Ok(Journal {
             alloc,
-            recorder: Recorder::with_limit(alloc, nodes, limit)?,
+            net: Net::new(alloc, nodes)?,
             entries: Vec::new(alloc),
+            limit: limit.min(MAX_ENTRIES),
         })
     }
 
     /// How many entries there are.
     pub fn len(&self) -> u32
         ensures count { result ≡ length self.now.entries }
-        ensures run { IsLog R.table self.now }
+        ensures run { IsLog R.table (log_of self.now) }
     {
-        self.recorder.len()
+        self.entries.len() as u32
     }
 
     /// The entry with this number, from 1; `None` at 0 and above `len`.
@@ -96,9 +103,10 @@ impl<R: Rules> Journal<R> {
     pub fn net(&self) -> &Net<R>
         ensures state { result.now.state ≡ self.now.state }
         ensures spent { result.now.spent ≡ self.now.spent }
-        ensures run { IsLog R.table self.now }
+        ensures room { result.now.room ≡ self.now.room }
+        ensures run { IsLog R.table (log_of self.now) }
     {
-        self.recorder.net()
+        &self.net
     }
 
     /// The moves since the last accepted disturbance, or since the start. With the charge they are at most twice the
@@ -107,7 +115,7 @@ impl<R: Rules> Journal<R> {
         ensures count { result ≡ self.now.spent }
         ensures bound { self.now.spent + R.table.charge self.now.state ≤ 2 * edge_count self.now.state.network + R.NODE_WEIGHT * node_count self.now.state.network }
     {
-        self.recorder.spent()
+        self.net.spent()
     }
 
     /// The epochs of the log in order, the first from the start, the last up to now: each has at most twice its edges and
@@ -124,45 +132,68 @@ impl<R: Rules> Journal<R> {
     pub fn is_full(&self) -> bool
         ensures { IsTrue result ↔ (length self.now.entries ≡ self.now.limit) }
     {
-        self.recorder.is_full()
+        self.len() >= self.limit
+    }
+
+    /// The entry that `record` would add for an event, with its receipt and all the memory that recording them takes: `commit`
+    /// does that, and can't fail. The log and the network stay, and where what is prepared is dropped nothing has changed.
+    /// `LogFull` exactly where the log holds as many entries as it may, which comes before all else; `Memory` if memory runs
+    /// out. It has copies of the event and the reply.
+    pub fn prepare(&mut self, event: Event) -> Result<Prepared, RecordFault>
+        ensures receipt { IfOk result (λ prepared. prepared ≡ receipt_of R.table (log_of self.old) event) }
+        ensures ready { IfOk result (λ prepared. IsReady R.table self.new prepared) }
+        ensures full { length self.old.entries ≡ self.old.limit → IsErrOf result LogFull }
+        ensures not_full { IsErrOf result LogFull → length self.old.entries ≡ self.old.limit }
+        ensures kept { log_of self.new ≡ log_of self.old }
+    {
+        let seq = self.make_room()?;
+        let reply = self.net.prepare(&event)?;
+        Ok(Prepared::new(seq, event, reply)?)
+    }
+
+    /// The same for a step, from the verdicts of its items, without a second look at a guard.
+    pub fn prepare_step(
+        &mut self,
+        choice: Choice,
+        verdicts: &[Verdict],
+    ) -> Result<Prepared, RecordFault>
+        requires { verdicts.now ≡ verdicts_of R.table self.old.state choice }
+        ensures receipt { IfOk result (λ prepared. prepared ≡ receipt_of R.table (log_of self.old) (Step choice)) }
+        ensures ready { IfOk result (λ prepared. IsReady R.table self.new prepared) }
+        ensures full { length self.old.entries ≡ self.old.limit → IsErrOf result LogFull }
+        ensures not_full { IsErrOf result LogFull → length self.old.entries ≡ self.old.limit }
+        ensures kept { log_of self.new ≡ log_of self.old }
+    {
+        let seq = self.make_room()?;
+        let reply = self.net.prepare_step(&choice, verdicts)?;
+        Ok(Prepared::new(seq, Event::Step(choice), reply)?)
+    }
+
+    /// Carries out and records what this journal has prepared, where it has recorded nothing since, and gives the receipt. It
+    /// takes no memory.
+    pub fn commit(&mut self, prepared: Prepared) -> Receipt
+        requires { IsReady R.table self.old prepared }
+        ensures receipt { result ≡ prepared }
+        ensures log { log_of self.new ≡ recorded R.table (log_of self.old) prepared.event }
+    {
+        let (entry, receipt) = prepared.parts();
+        self.net.commit(entry.event(), entry.reply());
+        self.entries.push(entry).unwrap();
+        receipt
     }
 
     /// Carries out an event, adds it to the log with the reply to it, and gives a receipt of the entry, which has copies
     /// of the event and the reply. `LogFull` exactly where the log holds as many entries as it may, which comes before all
     /// else; `Memory` if memory runs out. At a fault nothing has changed.
     pub fn record(&mut self, event: Event) -> Result<Receipt, RecordFault>
-        ensures receipt { IfOk result (λ receipt. receipt ≡ receipt_of R.table self.old event) }
-        ensures log { OnOk result (self.new ≡ recorded R.table self.old event) }
+        ensures receipt { IfOk result (λ receipt. receipt ≡ receipt_of R.table (log_of self.old) event) }
+        ensures log { OnOk result (log_of self.new ≡ recorded R.table (log_of self.old) event) }
         ensures full { length self.old.entries ≡ self.old.limit → IsErrOf result LogFull }
         ensures not_full { IsErrOf result LogFull → length self.old.entries ≡ self.old.limit }
-        ensures kept { OnErr result (self.new ≡ self.old) }
+        ensures kept { OnErr result (log_of self.new ≡ log_of self.old) }
     {
-        let seq = make_room(&self.recorder, &mut self.entries)?;
-        let draft = Draft::new(self.alloc, &event)?;
-        let reply = self.recorder.answer(&event)?;
-        let receipt = draft.receipt(seq, &reply)?;
-        self.recorder.count();
-        add_entry(&mut self.entries, event, reply);
-        Ok(receipt)
-    }
-
-    /// The same, and gives the reply once more. All copies are had before the network changes.
-    pub fn record_told(&mut self, event: Event) -> Result<(Receipt, Reply), RecordFault>
-        ensures receipt { IfOk result (λ told. told.0 ≡ receipt_of R.table self.old event) }
-        ensures reply { IfOk result (λ told. told.1 ≡ reply_of R.table self.old.state self.old.spent event) }
-        ensures log { OnOk result (self.new ≡ recorded R.table self.old event) }
-        ensures full { length self.old.entries ≡ self.old.limit → IsErrOf result LogFull }
-        ensures not_full { IsErrOf result LogFull → length self.old.entries ≡ self.old.limit }
-        ensures kept { OnErr result (self.new ≡ self.old) }
-    {
-        let seq = make_room(&self.recorder, &mut self.entries)?;
-        let draft = Draft::new(self.alloc, &event)?;
-        let room = Vec::with_capacity(self.alloc, item_count(&event))?;
-        let reply = self.recorder.answer(&event)?;
-        let told = draft.told(seq, &reply, room)?;
-        self.recorder.count();
-        add_entry(&mut self.entries, event, reply);
-        Ok(told)
+        let prepared = self.prepare(event)?;
+        Ok(self.commit(prepared))
     }
 
     /// The same for a step, from the verdicts of its items: what `record` of the step would do, without a second look
@@ -173,43 +204,13 @@ impl<R: Rules> Journal<R> {
         verdicts: &[Verdict],
     ) -> Result<Receipt, RecordFault>
         requires { verdicts.now ≡ verdicts_of R.table self.old.state choice }
-        ensures receipt { IfOk result (λ receipt. receipt ≡ receipt_of R.table self.old (Step choice)) }
-        ensures log { OnOk result (self.new ≡ recorded R.table self.old (Step choice)) }
+        ensures receipt { IfOk result (λ receipt. receipt ≡ receipt_of R.table (log_of self.old) (Step choice)) }
+        ensures log { OnOk result (log_of self.new ≡ recorded R.table (log_of self.old) (Step choice)) }
         ensures full { length self.old.entries ≡ self.old.limit → IsErrOf result LogFull }
         ensures not_full { IsErrOf result LogFull → length self.old.entries ≡ self.old.limit }
-        ensures kept { OnErr result (self.new ≡ self.old) }
+        ensures kept { OnErr result (log_of self.new ≡ log_of self.old) }
     {
-        let seq = make_room(&self.recorder, &mut self.entries)?;
-        let draft = Draft::of_step(self.alloc, &choice)?;
-        let reply = self.recorder.answer_step(&choice, verdicts)?;
-        let receipt = draft.receipt(seq, &reply)?;
-        self.recorder.count();
-        add_entry(&mut self.entries, Event::Step(choice), reply);
-        Ok(receipt)
+        let prepared = self.prepare_step(choice, verdicts)?;
+        Ok(self.commit(prepared))
     }
-}
-
-/// Makes room for one more entry, and gives its number.
-fn make_room<R: Rules>(recorder: &Recorder<R>, entries: &mut Vec<Entry>) -> Result<u32, RecordFault>
-    ensures number { IfOk result (λ number. number ≡ recorder.now.len + 1) }
-    ensures below { OnOk result (recorder.now.len < recorder.now.limit) }
-    ensures room { OnOk result (length entries.new.items < vec_capacity entries.new) }
-    ensures items { entries.new.items ≡ entries.old.items }
-    ensures full { recorder.now.len ≡ recorder.now.limit → IsErrOf result LogFull }
-    ensures not_full { IsErrOf result LogFull → recorder.now.len ≡ recorder.now.limit }
-{
-    let number = recorder.next_number()?;
-    entries.reserve(1)?;
-    Ok(number)
-}
-
-/// Adds an entry for which there is room.
-fn add_entry(entries: &mut Vec<Entry>, event: Event, reply: Reply)
-    requires fits { most_moves event ≤ 65535 → IsTrue (fits event reply) }
-    requires room { length entries.old.items < vec_capacity entries.old }
-    ensures { entries.new.items ≡ entries.old.items ++ (event, reply) ∷ [] }
-{
-    let items = item_count(&event);
-    prove!(items <= MAX_ITEMS);
-    entries.push(Entry::new(event, reply).unwrap()).unwrap();
 }

@@ -2,10 +2,10 @@
 #![tactic(auto)]
 
 mod answer;
-mod draft;
 mod epoch;
 mod fault;
 mod journal;
+mod prepared;
 mod receipt;
 mod recorder;
 
@@ -14,5 +14,6 @@ pub use epoch::Epoch;
 pub use fault::RecordFault;
 pub use journal::Journal;
 pub use log_entry::Entry;
+pub use prepared::Prepared;
 pub use receipt::Receipt;
 pub use recorder::{MAX_ENTRIES, Recorder};
