@@ -1,5 +1,4 @@
 pub mod Recording
-pub mod Opening
 pub mod Rising
 pub mod Fitting
 pub mod Running

@@ -146,7 +146,7 @@ impl<R: Rules> Journal<R> {
         ensures not_full { IsErrOf result LogFull → length self.old.entries ≡ self.old.limit }
         ensures kept { log_of self.new ≡ log_of self.old }
     {
-        let seq = self.make_room()?;
+        let seq = make_room(&mut self.entries, self.limit)?;
         let reply = self.net.prepare(&event)?;
         Ok(Prepared::new(seq, event, reply)?)
     }
@@ -164,7 +164,7 @@ impl<R: Rules> Journal<R> {
         ensures not_full { IsErrOf result LogFull → length self.old.entries ≡ self.old.limit }
         ensures kept { log_of self.new ≡ log_of self.old }
     {
-        let seq = self.make_room()?;
+        let seq = make_room(&mut self.entries, self.limit)?;
         let reply = self.net.prepare_step(&choice, verdicts)?;
         Ok(Prepared::new(seq, Event::Step(choice), reply)?)
     }
@@ -213,4 +213,22 @@ impl<R: Rules> Journal<R> {
         let prepared = self.prepare_step(choice, verdicts)?;
         Ok(self.commit(prepared))
     }
+}
+
+/// Makes room for one more entry of at most `limit`, and gives its number.
+fn make_room(entries: &mut Vec<Entry>, limit: u32) -> Result<u32, RecordFault>
+    requires { length entries.old.items ≤ limit }
+    ensures number { IfOk result (λ number. number ≡ length entries.old.items + 1) }
+    ensures below { OnOk result (length entries.old.items < limit) }
+    ensures room { OnOk result (length entries.new.items < vec_capacity entries.new) }
+    ensures items { entries.new.items ≡ entries.old.items }
+    ensures full { length entries.old.items ≡ limit → IsErrOf result LogFull }
+    ensures not_full { IsErrOf result LogFull → length entries.old.items ≡ limit }
+{
+    let count = entries.len() as u32;
+    if count >= limit {
+        return Err(RecordFault::LogFull);
+    }
+    entries.reserve(1)?;
+    Ok(count + 1)
 }
