@@ -1,5 +1,5 @@
 -- What an event leaves of a recording.
-use Rattle.std.proofs.Common.{◌≡◌, Result, Ok, Err, IfOk, OnOk, OnErr, sym, subst}
+use Rattle.std.proofs.Common.{◌≡◌, ◌+◌, ◌<◌, sym, subst, arith}
 use Rattle.rule_machine.specs.declared.event.Event.{Event}
 use Rattle.rule_machine.specs.declared.reply.Reply.{Reply}
 use Rattle.rule_machine.specs.State.{IsState}
@@ -12,22 +12,16 @@ use Rattle.machine_laws.specs.LeastAnswers.{least_answers}
 use Rattle.machine_laws.specs.Accepted.{state_after_keeps}
 use Rattle.step_log.specs.Recording.{Recording, IsRecording}
 
--- it is one, also where memory was refused
-pub recording_kept : {E : Type 0} (t : RuleTable) → IsTable t → (r : Recording) → IsRecording r → (event : Event) (m' : Moment) (result : Result Reply E) → OnOk result (m' ≡ moment_after t (record { state = r.state; spent = r.spent }) event) → OnErr result (m' ≡ record { state = r.state; spent = r.spent }) → IsRecording (record { state = m'.state; spent = m'.spent; len = r.len; limit = r.limit })
-recording_kept t table r is event m' (Ok reply) after same = record {
-  is_state = subst (λ (m : Moment). IsState m.state) (sym after) (state_after_keeps t table r.state is.is_state event);
-  room = is.room;
-  limit = is.limit;
-}
-recording_kept t table r is event m' (Err want) after same = record {
-  is_state = subst (λ (m : Moment). IsState m.state) (sym same) is.is_state;
-  room = is.room;
+-- with one more entry it is one
+pub entered_is_recording : (t : RuleTable) → IsTable t → (r : Recording) → IsRecording r → r.len < r.limit → (event : Event) (m : Moment) → m ≡ moment_after t (record { state = r.state; spent = r.spent }) event → IsRecording (record { state = m.state; spent = m.spent; len = r.len + 1; limit = r.limit })
+entered_is_recording t table r is below event m after = record {
+  is_state = subst (λ (n : Moment). IsState n.state) (sym after) (state_after_keeps t table r.state is.is_state event);
+  room = omega (arith, below);
   limit = is.limit;
 }
 
 -- the reply with the least targets is one that the machine may give
-pub reply_answers : {E : Type 0} (t : RuleTable) → IsTable t → (m m' : Moment) → IsState m.state → (event : Event) (result : Result Reply E) → IfOk result (λ reply. reply ≡ reply_of t m.state m.spent event) → OnOk result (m' ≡ moment_after t m event) → IfOk result (λ reply. Answers t m.state m.spent event reply m'.state)
-reply_answers t table m m' good event (Ok reply) replies after =
+pub reply_answers : (t : RuleTable) → IsTable t → (m m' : Moment) → IsState m.state → (event : Event) (reply : Reply) → reply ≡ reply_of t m.state m.spent event → m' ≡ moment_after t m event → Answers t m.state m.spent event reply m'.state
+reply_answers t table m m' good event reply replies after =
     subst (λ (r : Reply). Answers t m.state m.spent event r m'.state) (sym replies)
-    (subst (λ (x : Moment). Answers t m.state m.spent event (reply_of t m.state m.spent event) x.state) (sym after) (least_answers t table m.state good m.spent event))
-reply_answers t table m m' good event (Err want) replies after = tt
+    (subst (λ (n : Moment). Answers t m.state m.spent event (reply_of t m.state m.spent event) n.state) (sym after) (least_answers t table m.state good m.spent event))

@@ -26,15 +26,7 @@ pub record IsRecording (r : Recording) : Type 0 where
 abbrev pub opening_recording : ℕ → ℕ → Recording
 opening_recording nodes limit = record { state = opening nodes; spent = 0; len = 0; limit = limit }
 
--- the event was carried out
-abbrev pub answered : RuleTable → Recording → Event → Recording
-answered t r event =
-    record { state = state_after t r.state event; spent = spent_by t r.state r.spent event; len = r.len; limit = r.limit }
-
--- one entry more
-abbrev pub counted : Recording → Recording
-counted r = record { state = r.state; spent = r.spent; len = r.len + 1; limit = r.limit }
-
 -- the recording after the event's entry
 abbrev pub entered : RuleTable → Recording → Event → Recording
-entered t r event = counted (answered t r event)
+entered t r event =
+    record { state = state_after t r.state event; spent = spent_by t r.state r.spent event; len = r.len + 1; limit = r.limit }

@@ -135,10 +135,10 @@ impl<R: Rules> Journal<R> {
         self.len() >= self.limit
     }
 
-    /// The entry that `record` would add for an event, with its receipt and all the memory that recording them takes: `commit`
-    /// does that, and can't fail. The log and the network stay, and where what is prepared is dropped nothing has changed.
-    /// `LogFull` exactly where the log holds as many entries as it may, which comes before all else; `Memory` if memory runs
-    /// out. It has copies of the event and the reply.
+    /// The entry that `record` would add for an event, with its receipt and all the memory that recording them takes:
+    /// `commit` does that, and can't fail. The log and the network stay, and where what is prepared is dropped nothing
+    /// has changed. `LogFull` exactly where the log holds as many entries as it may, which comes before all else;
+    /// `Memory` if memory runs out. It has copies of the event and the reply.
     pub fn prepare(&mut self, event: Event) -> Result<Prepared, RecordFault>
         ensures receipt { IfOk result (λ prepared. prepared ≡ receipt_of R.table (log_of self.old) event) }
         ensures ready { IfOk result (λ prepared. IsReady R.table self.new prepared) }
@@ -169,8 +169,8 @@ impl<R: Rules> Journal<R> {
         Ok(Prepared::new(seq, Event::Step(choice), reply)?)
     }
 
-    /// Carries out and records what this journal has prepared, where it has recorded nothing since, and gives the receipt. It
-    /// takes no memory.
+    /// Carries out and records what this journal has prepared, where it has recorded nothing since, and gives the
+    /// receipt. It takes no memory.
     pub fn commit(&mut self, prepared: Prepared) -> Receipt
         requires { IsReady R.table self.old prepared }
         ensures receipt { result ≡ prepared }

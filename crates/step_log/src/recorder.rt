@@ -8,10 +8,10 @@ ghost use Rattle.rule_machine.specs.Answer.{Answers};
 ghost use Rattle.rule_machine.specs.Least.{reply_of};
 ghost use Rattle.rule_engine.specs.Choosing.{verdicts_of};
 ghost use Rattle.step_log.specs.declared.fault.RecordFault.TheVariants.{LogFull};
-ghost use Rattle.step_log.specs.Recording.{max_entries, opening_recording, answered, counted, entered};
+ghost use Rattle.step_log.specs.Recording.{max_entries, opening_recording, entered};
 
 use crate::{Answer, RecordFault};
-use rule_engine::{Choice, Event, GraphFault, Net, Reply, Rules, Verdict, Want};
+use rule_engine::{Choice, Event, GraphFault, Net, Reply, Rules, Verdict};
 use std::alloc::Global;
 use std::marker::Model;
 
@@ -110,10 +110,15 @@ impl<R: Rules> Recorder<R> {
         ensures not_full { IsErrOf result LogFull → self.old.len ≡ self.old.limit }
         ensures kept { OnErr result (self.new ≡ self.old) }
     {
-        let seq = self.next_number()?;
-        let reply = self.answer(event)?;
-        self.count();
-        Ok(Answer { seq, reply })
+        if self.is_full() {
+            return Err(RecordFault::LogFull);
+        }
+        let reply = self.net.apply(event)?;
+        self.len += 1;
+        Ok(Answer {
+            seq: self.len,
+            reply,
+        })
     }
 
     /// The same for a step, from the verdicts of its items: what `log` of the step would do, without a second look at a
@@ -129,55 +134,14 @@ impl<R: Rules> Recorder<R> {
         ensures not_full { IsErrOf result LogFull → self.old.len ≡ self.old.limit }
         ensures kept { OnErr result (self.new ≡ self.old) }
     {
-        let seq = self.next_number()?;
-        let reply = self.answer_step(choice, verdicts)?;
-        self.count();
-        Ok(Answer { seq, reply })
-    }
-
-    /// The number of the next entry; `LogFull` where there were as many as there may be.
-    pub(crate) fn next_number(&self) -> Result<u32, RecordFault>
-        ensures number { IfOk result (λ number. number ≡ self.now.len + 1) }
-        ensures below { OnOk result (self.now.len < self.now.limit) }
-        ensures full { OnErr result (self.now.len ≡ self.now.limit) }
-        ensures fault { IfErr result (λ fault. fault ≡ LogFull) }
-    {
         if self.is_full() {
             return Err(RecordFault::LogFull);
         }
-        Ok(self.len + 1)
-    }
-
-    /// Carries out an event, whose entry is not counted yet.
-    pub(crate) fn answer(&mut self, event: &Event) -> Result<Reply, Want>
-        ensures reply { IfOk result (λ reply. reply ≡ reply_of R.table self.old.state self.old.spent event.now) }
-        ensures machine { IfOk result (λ reply. Answers R.table self.old.state self.old.spent event.now reply self.new.state) }
-        ensures recording { OnOk result (self.new ≡ answered R.table self.old event.now) }
-        ensures kept { OnErr result (self.new ≡ self.old) }
-    {
-        self.net.apply(event)
-    }
-
-    /// The same for a step, from the verdicts of its items.
-    pub(crate) fn answer_step(
-        &mut self,
-        choice: &Choice,
-        verdicts: &[Verdict],
-    ) -> Result<Reply, Want>
-        requires { verdicts.now ≡ verdicts_of R.table self.old.state choice.now }
-        ensures reply { IfOk result (λ reply. reply ≡ reply_of R.table self.old.state self.old.spent (Step choice.now)) }
-        ensures machine { IfOk result (λ reply. Answers R.table self.old.state self.old.spent (Step choice.now) reply self.new.state) }
-        ensures recording { OnOk result (self.new ≡ answered R.table self.old (Step choice.now)) }
-        ensures kept { OnErr result (self.new ≡ self.old) }
-    {
-        self.net.apply_step(choice, verdicts)
-    }
-
-    /// Counts an entry.
-    pub(crate) fn count(&mut self)
-        requires { self.old.len < self.old.limit }
-        ensures { self.new ≡ counted self.old }
-    {
+        let reply = self.net.apply_step(choice, verdicts)?;
         self.len += 1;
+        Ok(Answer {
+            seq: self.len,
+            reply,
+        })
     }
 }

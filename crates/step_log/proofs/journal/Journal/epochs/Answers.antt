@@ -6,7 +6,7 @@ use Rattle.machine_laws.specs.LeastMoves.{IsTable}
 use Rattle.charge_laws.specs.Charged.{IsCharged}
 use Rattle.step_log.specs.declared.epoch.Epoch.{Epoch}
 use Rattle.step_log.specs.Epochs.{IsBounded, first_epoch, walked}
-use Rattle.step_log.specs.Log.{Log}
+use Rattle.step_log.specs.Held.{Held, log_of}
 use Rattle.step_log.proofs.Told.{log_told, log_bounded, heavier}
 use Rattle.step_log.proofs.journal.Journal.epochs.Goals as goal
 
@@ -17,9 +17,9 @@ epochs_of-requires-clause-bound g c =
     let weight = g.R.Rules.NODE_WEIGHT in
     let table : IsTable t = record { allowed_is_neighbour = laws.allowed_is_neighbour; allowed_takes_target = laws.allowed_takes_target; has_target = laws.has_target } in
     let charged : IsCharged t weight = record { falls = laws.charge_falls; bounded = laws.charge_is_bounded; zero_is_stable = laws.no_charge_is_stable } in
-    let size = c.nodes.ensures.count ∙ ap (λ (net : Network). node_count net) (c.store.ensures ∙ ap (λ (s : State). s.network) c.net.ensures.state) in
-    let same = c.deref.ensures.value ∙ ap (λ (log : Log). log.entries) c.self.view_is in
-    heavier weight 3 (walked 1 (first_epoch c.nodes.result) c.deref.result.now) laws.is_light (log_bounded t weight table charged c.nodes.result c.args.self.now c.deref.result.now c.net.ensures.run size same)
+    let size = c.nodes.ensures.count ∙ ap (λ (net : Network). node_count net) (c.store.ensures.network ∙ ap (λ (s : State). s.network) c.net.ensures.state) in
+    let same = c.deref.ensures.value ∙ ap (λ (held : Held). held.entries) c.self.view_is in
+    heavier weight 3 (walked 1 (first_epoch c.nodes.result) c.deref.result.now) laws.is_light (log_bounded t weight table charged c.nodes.result (log_of c.args.self.now) c.deref.result.now c.net.ensures.run size same)
 
 pub returns-clause-epochs : goal.returns-clause-epochs
 returns-clause-epochs g c =
@@ -28,9 +28,9 @@ returns-clause-epochs g c =
     let weight = g.R.Rules.NODE_WEIGHT in
     let table : IsTable t = record { allowed_is_neighbour = laws.allowed_is_neighbour; allowed_takes_target = laws.allowed_takes_target; has_target = laws.has_target } in
     let charged : IsCharged t weight = record { falls = laws.charge_falls; bounded = laws.charge_is_bounded; zero_is_stable = laws.no_charge_is_stable } in
-    let size = c.nodes.ensures.count ∙ ap (λ (net : Network). node_count net) (c.store.ensures ∙ ap (λ (s : State). s.network) c.net.ensures.state) in
-    let same = c.deref.ensures.value ∙ ap (λ (log : Log). log.entries) c.self.view_is in
-    IfOk-weaker c.epochs_of.result _ _ (λ epochs are. log_told t weight table charged c.nodes.result c.args.self.now c.deref.result.now epochs.items c.net.ensures.run size same are) c.epochs_of.ensures
+    let size = c.nodes.ensures.count ∙ ap (λ (net : Network). node_count net) (c.store.ensures.network ∙ ap (λ (s : State). s.network) c.net.ensures.state) in
+    let same = c.deref.ensures.value ∙ ap (λ (held : Held). held.entries) c.self.view_is in
+    IfOk-weaker c.epochs_of.result _ _ (λ epochs are. log_told t weight table charged c.nodes.result (log_of c.args.self.now) c.deref.result.now epochs.items c.net.ensures.run size same are) c.epochs_of.ensures
 
 pub returns-clause-bound : goal.returns-clause-bound
 returns-clause-bound g c =
@@ -39,7 +39,7 @@ returns-clause-bound g c =
     let weight = g.R.Rules.NODE_WEIGHT in
     let table : IsTable t = record { allowed_is_neighbour = laws.allowed_is_neighbour; allowed_takes_target = laws.allowed_takes_target; has_target = laws.has_target } in
     let charged : IsCharged t weight = record { falls = laws.charge_falls; bounded = laws.charge_is_bounded; zero_is_stable = laws.no_charge_is_stable } in
-    let size = c.nodes.ensures.count ∙ ap (λ (net : Network). node_count net) (c.store.ensures ∙ ap (λ (s : State). s.network) c.net.ensures.state) in
-    let same = c.deref.ensures.value ∙ ap (λ (log : Log). log.entries) c.self.view_is in
-    let bounded = log_bounded t weight table charged c.nodes.result c.args.self.now c.deref.result.now c.net.ensures.run size same in
+    let size = c.nodes.ensures.count ∙ ap (λ (net : Network). node_count net) (c.store.ensures.network ∙ ap (λ (s : State). s.network) c.net.ensures.state) in
+    let same = c.deref.ensures.value ∙ ap (λ (held : Held). held.entries) c.self.view_is in
+    let bounded = log_bounded t weight table charged c.nodes.result (log_of c.args.self.now) c.deref.result.now c.net.ensures.run size same in
     IfOk-weaker c.epochs_of.result _ _ (λ epochs are. subst (λ (es : List Epoch). All (IsBounded weight) es) (sym are) bounded) c.epochs_of.ensures

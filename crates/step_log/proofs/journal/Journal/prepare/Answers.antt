@@ -2,7 +2,6 @@ use Rattle.std.proofs.Common.{ℕ, ap, ap₂, ◌∙◌}
 use Rattle.rule_machine.specs.declared.reply.Reply.{Reply}
 use Rattle.log_entry.specs.Kinds.{fits}
 use Rattle.machine_laws.specs.LeastMoves.{IsTable}
-use Rattle.step_log.specs.declared.receipt.Receipt.{Receipt}
 use Rattle.step_log.specs.Held.{Held, log_of}
 use Rattle.step_log.specs.Log.{Log, receipt_of}
 use Rattle.step_log.proofs.Running.{next_fits}
