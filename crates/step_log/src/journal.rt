@@ -1,6 +1,6 @@
 //! A network with its log.
 
-ghost use Rattle.std.specs.Prelude.{◌≡◌, ◌<◌, ◌≤◌, ◌+◌, ◌-◌, ◌*◌, ◌⊎◌, ◌↔◌, ◌++◌, ◌∷◌, [], ℕ, All, length, min, IfOk, IfErr, OnOk, OnErr, IsErrOf, IsTrue, Option, Some, MatchOption, slice_get, vec_capacity};
+ghost use Rattle.std.specs.Prelude.{◌≡◌, ◌<◌, ◌≤◌, ◌+◌, ◌-◌, ◌*◌, ◌⊎◌, ◌↔◌, All, length, min, IfOk, IfErr, OnOk, OnErr, IsErrOf, IsTrue, Some, MatchOption, slice_get, vec_capacity};
 ghost use Rattle.graph_store.specs.Fault.{nodes_fault, Explains};
 ghost use Rattle.rule_machine.specs.declared.event.Event.TheVariants.{Step};
 ghost use Rattle.rule_engine.specs.Choosing.{verdicts_of};
@@ -36,7 +36,7 @@ impl<R: Rules> Model for Journal<R> {
     ghost use Rattle.std.specs.Coded.{codes};
     ghost use Rattle.rule_machine.specs.State.{state_code};
     ghost use Rattle.step_log.specs.Log.{IsLog};
-    ghost use Rattle.step_log.specs.Held.{Held, log_of};
+    ghost use Rattle.step_log.specs.Held.{Held};
 
     ghost Value = { Held };
 
