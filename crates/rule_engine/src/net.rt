@@ -15,6 +15,7 @@ ghost use Rattle.rule_machine.specs.declared.event.Event.TheVariants.{Step};
 ghost use Rattle.rule_engine.specs.Kept.{guard_at, IsAnswered};
 ghost use Rattle.rule_engine.specs.Applied.{StopsAt, moment_after_all, takes_memory};
 ghost use Rattle.rule_engine.specs.Choosing.{verdict_of, verdicts_of};
+ghost use Rattle.rule_engine.specs.Prepared.{IsPrepared, moment_of};
 
 use crate::charge::spent_after;
 use crate::engine::Engine;
@@ -26,8 +27,8 @@ use rule_set::Rules;
 use std::alloc::Global;
 use std::marker::Model;
 
-/// A network under the rules `R`, seen in contracts as a moment of the rule machine: its state, and the moves since the
-/// last accepted disturbance, or since the start.
+/// A network under the rules `R`, seen in contracts as a moment of the rule machine (its state, and the moves since the
+/// last accepted disturbance, or since the start) and the room for more neighbours.
 #[derive(Drop)]
 pub struct Net<R: Rules> {
     alloc: Global,
@@ -36,24 +37,24 @@ pub struct Net<R: Rules> {
 }
 
 impl<R: Rules> Model for Net<R> {
-    ghost use Rattle.rule_machine.specs.Run.{Moment, moment_code};
     ghost use Rattle.rule_engine.specs.Kept.{moment};
     ghost use Rattle.rule_engine.specs.Applied.{IsPaid};
+    ghost use Rattle.rule_engine.specs.Prepared.{NetView, net_code};
 
-    ghost Value = { Moment };
+    ghost Value = { NetView };
 
-    ghost coded = { moment_code };
+    ghost coded = { net_code };
 
-    ghost view = { λ n. moment n.engine n.spent };
+    ghost view = { λ n. record { state = n.engine.state; spent = n.spent; room = n.engine.room } };
 
-    ghost invariant = { λ n. IsPaid R.table R.NODE_WEIGHT (moment n.engine n.spent) };
+    ghost invariant = { λ n. IsPaid R.table R.NODE_WEIGHT (moment n.engine.state n.spent) };
 }
 
 impl<R: Rules> Net<R> {
     /// The network of the nodes 1 to `nodes` with no edges, all pointers null and all flags false, and no move spent.
     /// `TooManyNodes` above 65,535, and `Memory` if memory runs out. Takes some fifty bytes a node.
     pub fn new(alloc: Global, nodes: u32) -> Result<Net<R>, GraphFault>
-        ensures ok { IfOk result (λ net. net ≡ beginning nodes) }
+        ensures ok { IfOk result (λ net. moment_of net ≡ beginning nodes) }
         ensures small { OnOk result (nodes ≤ 65535) }
         ensures fault { IfErr result (λ fault. Explains (nodes_fault nodes) fault) }
     {
@@ -67,7 +68,8 @@ impl<R: Rules> Net<R> {
 
     /// The edges.
     pub fn store(&self) -> &EdgeStore
-        ensures { result.now ≡ self.now.state.network }
+        ensures network { result.now.network ≡ self.now.state.network }
+        ensures room { result.now.room ≡ self.now.room }
     {
         self.engine.store()
     }
@@ -133,6 +135,39 @@ impl<R: Rules> Net<R> {
         self.spent
     }
 
+    /// The reply that `apply` would give to an event, with all the memory had that carrying it out takes: `commit` does that, and
+    /// can't fail. The state stays. Want of memory comes after every refusal; `Unlink`, `Point`, `Flag`, `Show` and `Status` take
+    /// none. It costs what `apply` costs but for the writes and the looks after them.
+    pub fn prepare(&mut self, event: &Event) -> Result<Reply, Want>
+        ensures reply { IfOk result (λ reply. reply ≡ reply_of R.table self.old.state self.old.spent event.now) }
+        ensures prepared { IfOk result (λ reply. IsPrepared R.table self.new event.now reply) }
+        ensures kept { moment_of self.new ≡ moment_of self.old }
+        ensures want { OnErr result ((refusal_of R.table self.old.state event.now ≡ None) × IsTrue (takes_memory event.now)) }
+    {
+        self.engine.prepare(event, self.spent)
+    }
+
+    /// The same for a step, from the verdicts of its items, without a second look at a guard.
+    pub fn prepare_step(&mut self, choice: &Choice, verdicts: &[Verdict]) -> Result<Reply, Want>
+        requires { verdicts.now ≡ verdicts_of R.table self.old.state choice.now }
+        ensures reply { IfOk result (λ reply. reply ≡ reply_of R.table self.old.state self.old.spent (Step choice.now)) }
+        ensures prepared { IfOk result (λ reply. IsPrepared R.table self.new (Step choice.now) reply) }
+        ensures kept { moment_of self.new ≡ moment_of self.old }
+        ensures want { OnErr result (refusal_of R.table self.old.state (Step choice.now) ≡ None) }
+    {
+        self.engine.prepare_step(choice, verdicts)
+    }
+
+    /// Carries out an event with the reply that was prepared for it, where nothing has changed since. It takes no memory, and
+    /// looks again at guards near the change alone, as `apply` says.
+    pub fn commit(&mut self, event: &Event, reply: &Reply)
+        requires { IsPrepared R.table self.old event.now reply.now }
+        ensures state { moment_of self.new ≡ moment_after R.table (moment_of self.old) event.now }
+        ensures machine { Answers R.table self.old.state self.old.spent event.now reply.now self.new.state }
+    {
+        self.engine.commit(event, reply);
+    }
+
     /// Carries out an event: a refusal, the change of the network, the moves of a step in which each free target is
     /// the least allowed one, or an answer. Want of memory comes after every refusal and changes nothing; `Unlink`,
     /// `Point`, `Flag`, `Show` and `Status` take no memory. An accepted change looks again at guards near it alone:
@@ -141,9 +176,9 @@ impl<R: Rules> Net<R> {
     /// at every node and at every edge.
     pub fn apply(&mut self, event: &Event) -> Result<Reply, Want>
         ensures reply { IfOk result (λ reply. reply ≡ reply_of R.table self.old.state self.old.spent event.now) }
-        ensures state { OnOk result (self.new ≡ moment_after R.table self.old event.now) }
+        ensures state { OnOk result (moment_of self.new ≡ moment_after R.table (moment_of self.old) event.now) }
         ensures machine { IfOk result (λ reply. Answers R.table self.old.state self.old.spent event.now reply self.new.state) }
-        ensures kept { OnErr result (self.new ≡ self.old) }
+        ensures kept { OnErr result (moment_of self.new ≡ moment_of self.old) }
         ensures want { OnErr result ((refusal_of R.table self.old.state event.now ≡ None) × IsTrue (takes_memory event.now)) }
     {
         let reply = self.engine.apply(event, self.spent)?;
@@ -156,9 +191,9 @@ impl<R: Rules> Net<R> {
     /// the list of the replies.
     pub fn apply_all(&mut self, events: &[Event]) -> Result<Listing<Reply>, Want>
         ensures replies { IfOk result (λ replies. replies ≡ replies_of R.table self.old.state self.old.spent events.now) }
-        ensures state { OnOk result (self.new ≡ moment_after_all R.table self.old events.now) }
-        ensures run { IfOk result (λ replies. Run R.table self.old (zip events.now replies) self.new) }
-        ensures err { OnErr result ((k : ℕ) × StopsAt R.table self.old events.now k self.new) }
+        ensures state { OnOk result (moment_of self.new ≡ moment_after_all R.table (moment_of self.old) events.now) }
+        ensures run { IfOk result (λ replies. Run R.table (moment_of self.old) (zip events.now replies) (moment_of self.new)) }
+        ensures err { OnErr result ((k : ℕ) × StopsAt R.table (moment_of self.old) events.now k (moment_of self.new)) }
     {
         let mut replies = Vec::with_capacity(self.alloc, events.len())?;
         for event in events {
@@ -175,8 +210,8 @@ impl<R: Rules> Net<R> {
     pub fn apply_step(&mut self, choice: &Choice, verdicts: &[Verdict]) -> Result<Reply, Want>
         requires { verdicts.now ≡ verdicts_of R.table self.old.state choice.now }
         ensures reply { IfOk result (λ reply. reply ≡ reply_of R.table self.old.state self.old.spent (Step choice.now)) }
-        ensures state { OnOk result (self.new ≡ moment_after R.table self.old (Step choice.now)) }
-        ensures kept { OnErr result (self.new ≡ self.old) }
+        ensures state { OnOk result (moment_of self.new ≡ moment_after R.table (moment_of self.old) (Step choice.now)) }
+        ensures kept { OnErr result (moment_of self.new ≡ moment_of self.old) }
         ensures want { OnErr result (refusal_of R.table self.old.state (Step choice.now) ≡ None) }
     {
         let reply = self.engine.apply_step(choice, verdicts)?;
