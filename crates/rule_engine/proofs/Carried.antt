@@ -1,34 +1,23 @@
 -- What carrying out the verdicts of a choice that is not refused does.
-use Rattle.std.proofs.Common.{◌≡◌, ℕ, List, [], ◌∷◌, get_or, fold, Option, None, All, IsTrue, refl, sym, ap, ◌∙◌, subst}
-use Rattle.std.proofs.lemmas.List.Elements.{All-from_recursion}
+use Rattle.std.proofs.Common.{◌≡◌, ℕ, List, [], ◌∷◌, get_or, fold, Option, None, All, refl, sym, ap, ◌∙◌, subst}
+use Rattle.std.proofs.lemmas.List.Elements.{All-from_recursion, recursion_from_All}
 use Rattle.rule_machine.specs.declared.act.Act.{Act}
 use Rattle.rule_machine.specs.declared.act.Act.TheVariants.{Update, Marry, Seduce, Abandon}
 use Rattle.rule_machine.specs.declared.choice.Item.{Item}
 use Rattle.rule_machine.specs.declared.moved.Moved.{Moved}
-use Rattle.rule_machine.specs.declared.verdict.Verdict.{Verdict}
-use Rattle.rule_machine.specs.Network.{Network, present}
 use Rattle.rule_machine.specs.State.{State, Registers, IsState, holds_at, points, with_flag}
 use Rattle.rule_machine.specs.RuleTable.{RuleTable}
 use Rattle.rule_machine.specs.Step.{written, after_move, after_moves, registers_after}
-use Rattle.rule_machine.specs.Refuse.{step_refusal}
 use Rattle.rule_machine.specs.Least.{least_moves}
-use Rattle.machine_laws.specs.Keeps.{IsMoveIn}
-use Rattle.machine_laws.specs.LeastMoves.{IsTable, least_moves_in, step_keeps}
-use Rattle.rule_engine.specs.Choosing.{AreLeast, verdicts_of, flag_by, flag_written, flag_read_by, flag_read, pointer_by, pointer_written}
+use Rattle.machine_laws.specs.Keeps.{IsMoveIn, moves_keep}
+use Rattle.machine_laws.specs.LeastMoves.{IsTable, least_moves_in}
+use Rattle.rule_engine.specs.Choosing.{flag_by, flag_written, flag_read_by, flag_read, pointer_by, pointer_written}
 use Rattle.indexed_state.proofs.Partners.{married_answered}
 
--- the moves from verdicts are the least moves of the choice, in a state that is the one that the verdicts are of
-pub least_carried : (t : RuleTable) (s seen : State) (items : List Item) (verdicts : List Verdict) (moves : List Moved) → s ≡ seen → verdicts ≡ verdicts_of t seen items → step_refusal t seen items ≡ None → AreLeast verdicts moves → moves ≡ least_moves t s items
-least_carried t s seen items verdicts moves same is none least = least t seen items is none ∙ ap (λ u. least_moves t u items) (sym same)
-
--- each of them is of a node that is present, to a neighbour if it has a target
+-- each of the least moves of a choice is of a node that is present, to a neighbour if it has a target
 pub moves_in : (t : RuleTable) → IsTable t → (s : State) (items : List Item) (moves : List Moved) → moves ≡ least_moves t s items → All (IsMoveIn s.network) moves
 moves_in t table s items moves is =
     subst (All (IsMoveIn s.network)) (sym is) (All-from_recursion (IsMoveIn s.network) (least_moves t s items) (least_moves_in t table s items))
-
--- and still present in a network that is the same
-pub movers_present : (net net' : Network) (moves : List Moved) → net' ≡ net → All (IsMoveIn net) moves → All (λ m. IsTrue (present net' m.node)) moves
-movers_present net net' moves same all k d below = subst (λ n. IsTrue (present n (get_or moves k d).node)) (sym same) (all k d below).has
 
 -- a move's write is that of its flag, then of its pointer
 split_write : (before : State) (r : Registers) (m : Moved) → after_move before r m ≡ pointer_written (flag_written before r m) m
@@ -102,5 +91,5 @@ carried s u good moves network wrote =
     λ i. record { network = network i; registers = registers i }
 
 -- is one
-pub carried_state : (t : RuleTable) → IsTable t → (s u : State) → IsState s → (items : List Item) (moves : List Moved) → moves ≡ least_moves t s items → u ≡ after_moves s moves → IsState u
-carried_state t table s u good items moves is after = subst IsState (sym (after ∙ ap (after_moves s) is)) (step_keeps t table s good items)
+pub carried_state : (s u : State) → IsState s → (moves : List Moved) → All (IsMoveIn s.network) moves → u ≡ after_moves s moves → IsState u
+carried_state s u good moves all after = subst IsState (sym after) (moves_keep s moves good (recursion_from_All (IsMoveIn s.network) moves all))

@@ -2,6 +2,8 @@ pub mod Found
 pub mod Judged
 pub mod Scanned
 pub mod Keeping
+pub mod Preparing
+pub mod Committing
 pub mod Carried
 pub mod Looked
 pub mod Far

@@ -1,14 +1,17 @@
--- What carrying out an event brings.
-use Rattle.std.specs.Prelude.{◌≡◌, ℕ, ◌<◌, ◌⊎◌, Bool, true, false, List, [], ◌∷◌, length, take, slice_get, IsSomeAnd, None, Result, IfOk, OnOk, OnErr, IsTrue}
+-- What preparing and carrying out an event brings.
+use Rattle.std.specs.Prelude.{◌≡◌, ℕ, ◌<◌, ◌⊎◌, Bool, true, false, List, [], ◌∷◌, length, take, slice_get, IsSomeAnd, None, Result, IfOk, OnErr, IsTrue}
 use Rattle.rule_machine.specs.declared.event.Event.{Event}
 use Rattle.rule_machine.specs.declared.event.Event.TheVariants.{Link, Unlink, Point, Flag, Step, Show, Enabled, Matching, Status}
 use Rattle.rule_machine.specs.declared.reply.Reply.{Reply}
 use Rattle.rule_machine.specs.State.{State, IsState}
 use Rattle.rule_machine.specs.RuleTable.{RuleTable}
 use Rattle.rule_machine.specs.Refuse.{refusal_of}
-use Rattle.rule_machine.specs.Least.{reply_of, state_after}
+use Rattle.rule_machine.specs.Disturbance.{after_link, after_unlink, after_point, after_flag}
+use Rattle.rule_machine.specs.Least.{reply_of}
 use Rattle.rule_machine.specs.Run.{Moment, moment_after}
 use Rattle.charge_laws.specs.Charged.{IsWithinBound}
+use Rattle.indexed_state.specs.Indexed.{Indexed}
+use Rattle.rule_engine.specs.Prepared.{HasRoomTo}
 
 -- whether an event may take memory where it is not refused
 abbrev pub takes_memory : Event → Bool
@@ -22,18 +25,25 @@ takes_memory Enabled = true
 takes_memory Matching = true
 takes_memory Status = false
 
--- the machine's reply, where these moves are spent, and its state; or want of memory, for an event that may take some
--- and is not refused, and nothing has changed
-pub record Applies {E : Type 0} (t : RuleTable) (s : State) (spent : ℕ) (event : Event) (result : Result Reply E) (s' : State) : Type 0 where
-  pub reply : IfOk result (λ r. r ≡ reply_of t s spent event)
-  pub state : OnOk result (s' ≡ state_after t s event)
-  pub kept : OnErr result (s' ≡ s)
-  pub want : OnErr result ((refusal_of t s event ≡ None) × IsTrue (takes_memory event))
+-- The machine's reply, where these moves are spent, and room for what carrying it out adds; or want of memory, for an
+-- event that may take some and is not refused. The state stays.
+pub record Prepares {E : Type 0} (t : RuleTable) (n : Indexed) (spent : ℕ) (event : Event) (result : Result Reply E) (n' : Indexed) : Type 0 where
+  pub reply : IfOk result (λ r. r ≡ reply_of t n.state spent event)
+  pub room : IfOk result (λ r. HasRoomTo event r n'.room)
+  pub kept : n'.state ≡ n.state
+  pub want : OnErr result ((refusal_of t n.state event ≡ None) × IsTrue (takes_memory event))
 
--- the machine's reply and state, without memory
-pub record Answered (t : RuleTable) (s : State) (spent : ℕ) (event : Event) (answer : Reply) (s' : State) : Type 0 where
-  pub reply : answer ≡ reply_of t s spent event
-  pub state : s' ≡ state_after t s event
+-- the state after an edit or a fault; no other event changes it
+abbrev pub disturbed : State → Event → State
+disturbed s (Link a b) = after_link s a b
+disturbed s (Unlink a b) = after_unlink s a b
+disturbed s (Point v target) = after_point s v target
+disturbed s (Flag v value) = after_flag s v value
+disturbed s (Step items) = s
+disturbed s (Show v) = s
+disturbed s Enabled = s
+disturbed s Matching = s
+disturbed s Status = s
 
 -- the state is one, and what is spent and the charge are within the bound of its network
 pub record IsPaid (t : RuleTable) (weight : ℕ) (m : Moment) : Type 0 where

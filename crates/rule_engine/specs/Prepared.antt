@@ -20,7 +20,7 @@ pub record NetView : Type 0 where
 abbrev pub net_code : Coded NetView
 net_code =
     code_by (State × (ℕ × List ℕ)) (coded× state_code (coded× coded_ℕ (coded_list coded_ℕ))) (λ n. (n.state, (n.spent, n.room)))
-        (λ p. record { state = p.0; spent = p.1.0; room = p.1.1 }) (λ _. refl)
+    (λ p. record { state = p.0; spent = p.1.0; room = p.1.1 }) (λ _. refl)
 
 -- the state and the moves spent
 abbrev pub moment_of : NetView → Moment

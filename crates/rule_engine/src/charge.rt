@@ -16,9 +16,9 @@ use rule_set::{Local, Rules, Standing};
 
 /// What the charge looks at, at a node. A few looks.
 fn standing<R: Rules>(state: &IndexedState<R>, v: Node) -> Standing
-    requires { IsTrue (present state.now.network v) }
+    requires { IsTrue (present state.now.state.network v) }
     ensures node { result.node ≡ v }
-    ensures standing { IsStanding state.now result }
+    ensures standing { IsStanding state.now.state result }
 {
     let view = state.at(v);
     let registers = state.registers();
@@ -33,18 +33,18 @@ fn standing<R: Rules>(state: &IndexedState<R>, v: Node) -> Standing
 
 /// Whether another node is the higher end of an edge from this one that is not closed.
 fn is_open_above<R: Rules>(state: &IndexedState<R>, low: &Standing, w: Node) -> bool
-    requires has { IsTrue (present state.now.network w) }
-    requires standing { IsStanding state.now low.now }
-    ensures { result ≡ (nat_lt low.now.node w && not (R.closed state.now (low.now.node, w))) }
+    requires has { IsTrue (present state.now.state.network w) }
+    requires standing { IsStanding state.now.state low.now }
+    ensures { result ≡ (nat_lt low.now.node w && not (R.closed state.now.state (low.now.node, w))) }
 {
     low.node < w && !R::is_closed(low, &standing(state, w))
 }
 
 /// How many edges of which this node is the lower end are not closed.
 fn open_edges<R: Rules>(state: &IndexedState<R>, low: &Standing) -> u32
-    requires has { IsTrue (present state.now.network low.now.node) }
-    requires standing { IsStanding state.now low.now }
-    ensures count { result ≡ open_above (R.closed state.now) state.now.network low.now.node }
+    requires has { IsTrue (present state.now.state.network low.now.node) }
+    requires standing { IsStanding state.now.state low.now }
+    ensures count { result ≡ open_above (R.closed state.now.state) state.now.state.network low.now.node }
     ensures few { result ≤ 65535 }
 {
     let mut open = 0;
@@ -68,8 +68,8 @@ fn is_unanswered(registers: &Registers, node: &Standing) -> bool
 
 /// What a node adds to the charge, with the edges of which it is the lower end.
 fn charge_at<R: Rules>(state: &IndexedState<R>, v: Node) -> u64
-    requires { IsTrue (present state.now.network v) }
-    ensures value { result ≡ node_part (R.closed state.now) (R.adds state.now) state.now v }
+    requires { IsTrue (present state.now.state.network v) }
+    ensures value { result ≡ node_part (R.closed state.now.state) (R.adds state.now.state) state.now.state v }
     ensures little { result < 8589934592 }
 {
     let here = standing(state, v);
@@ -81,7 +81,7 @@ fn charge_at<R: Rules>(state: &IndexedState<R>, v: Node) -> u64
 
 /// What all nodes add to the charge.
 fn charge_of_all<R: Rules>(state: &IndexedState<R>) -> u64
-    ensures { result ≡ sum_by (node_part (R.closed state.now) (R.adds state.now) state.now) (names state.now.network) }
+    ensures { result ≡ sum_by (node_part (R.closed state.now.state) (R.adds state.now.state) state.now.state) (names state.now.state.network) }
 {
     let mut charge = 0;
     for name in 1..state.store().nodes() + 1 {
@@ -92,7 +92,7 @@ fn charge_of_all<R: Rules>(state: &IndexedState<R>) -> u64
 
 /// The charge of a state. A look at every node and at every edge.
 pub(crate) fn charge_of<R: Rules>(state: &IndexedState<R>) -> u32
-    ensures { result ≡ R.table.charge state.now }
+    ensures { result ≡ R.table.charge state.now.state }
 {
     prove!(state.store().edges() <= MAX_EDGES);
     charge_of_all(state) as u32
@@ -100,7 +100,7 @@ pub(crate) fn charge_of<R: Rules>(state: &IndexedState<R>) -> u32
 
 /// The moves that are spent after a reply.
 pub(crate) fn spent_after<R: Rules>(store: &EdgeStore, spent: u32, reply: &Reply) -> u32
-    requires { spent_after spent reply.now ≤ charge_bound R.NODE_WEIGHT store.now }
+    requires { spent_after spent reply.now ≤ charge_bound R.NODE_WEIGHT store.now.network }
     ensures { result ≡ spent_after spent reply.now }
 {
     match reply {

@@ -1,11 +1,12 @@
 //! Refusals of edits and faults.
 
 ghost use Rattle.std.specs.Prelude.{◌≡◌};
-ghost use Rattle.rule_machine.specs.Refuse.{point_refusal};
-ghost use Rattle.rule_engine.specs.Refused.{refused_as};
+ghost use Rattle.rule_machine.specs.Refuse.{unlink_refusal, point_refusal, flag_refusal};
+ghost use Rattle.rule_engine.specs.Refused.{refused_as, edit_reply};
 
 use graph_store::{EdgeStore, GraphFault};
-use rule_machine::{Node, Refusal};
+use rule_machine::{Node, Refusal, Reply};
+use rule_set::Rules;
 
 /// The refusal for which a fault of the edge store stands; none for want of memory.
 pub(crate) fn refusal_of(fault: GraphFault) -> Option<Refusal>
@@ -21,9 +22,47 @@ pub(crate) fn refusal_of(fault: GraphFault) -> Option<Refusal>
     }
 }
 
+/// The reply to an edit or a fault: refused for this reason, or accepted where there is none.
+pub(crate) fn edit_reply(refusal: Option<Refusal>) -> Reply
+    ensures { result ≡ edit_reply refusal }
+{
+    match refusal {
+        Some(refusal) => Reply::Refused(refusal),
+        None => Reply::Accepted,
+    }
+}
+
+/// Why an edge is not taken out, if it is not.
+pub(crate) fn refused_unlink(store: &EdgeStore, a: Node, b: Node) -> Option<Refusal>
+    ensures { result ≡ unlink_refusal store.now.network a b }
+{
+    if !store.has(a) || !store.has(b) {
+        Some(Refusal::UnknownNode)
+    } else if a == b {
+        Some(Refusal::SelfLoop)
+    } else if store.linked(a, b) {
+        None
+    } else {
+        Some(Refusal::NotLinked)
+    }
+}
+
+/// Why a write of a node's flag is refused under the rules `R`, if it is.
+pub(crate) fn refused_flag<R: Rules>(store: &EdgeStore, v: Node) -> Option<Refusal>
+    ensures { result ≡ flag_refusal R.table store.now.network v }
+{
+    if !R::FLAGS {
+        Some(Refusal::NoFlag)
+    } else if store.has(v) {
+        None
+    } else {
+        Some(Refusal::UnknownNode)
+    }
+}
+
 /// Why a write of a node's pointer is refused, if it is.
 pub(crate) fn refused_point(store: &EdgeStore, v: Node, target: Option<Node>) -> Option<Refusal>
-    ensures { result ≡ point_refusal store.now v target }
+    ensures { result ≡ point_refusal store.now.network v target }
 {
     if !store.has(v) {
         return Some(Refusal::UnknownNode);

@@ -1,20 +1,27 @@
 //! A state under a rule set, and what carries out events on it.
 
-ghost use Rattle.std.specs.Prelude.{◌≡◌, ◌<◌, ◌≤◌, ◌↔◌, ℕ, [], IfOk, IfErr, IfSome, OnOk, IsTrue, None, length, slice_get};
+ghost use Rattle.std.specs.Prelude.{All, ◌≡◌, ◌<◌, ◌≤◌, ◌↔◌, ℕ, [], IfOk, IfErr, IfSome, OnOk, IsTrue, None, length, slice_get};
 ghost use Rattle.enabled_set.specs.Members.{members};
 ghost use Rattle.graph_store.specs.Fault.{nodes_fault, Explains};
+ghost use Rattle.graph_store.specs.Graph.{HasRoomFor};
+ghost use Rattle.rule_machine.specs.Network.{present};
 ghost use Rattle.rule_machine.specs.State.{opening, IsState};
 ghost use Rattle.rule_machine.specs.RuleTable.{enabled_names};
-ghost use Rattle.rule_machine.specs.Refuse.{refusal_of};
-ghost use Rattle.rule_machine.specs.Least.{reply_of};
+ghost use Rattle.rule_machine.specs.Disturbance.{after_link, after_unlink, after_point, after_flag};
+ghost use Rattle.rule_machine.specs.Refuse.{refusal_of, link_refusal, unlink_refusal, point_refusal};
+ghost use Rattle.rule_machine.specs.Least.{reply_of, state_after};
+ghost use Rattle.rule_machine.specs.Step.{after_moves};
+ghost use Rattle.machine_laws.specs.Keeps.{IsMoveIn};
 ghost use Rattle.rule_machine.specs.Stable.{IsStable, IsMaximalMatching, mutual_pairs};
-ghost use Rattle.rule_machine.specs.declared.event.Event.TheVariants.{Link, Unlink, Point, Flag, Step, Show, Enabled, Matching, Status};
+ghost use Rattle.rule_machine.specs.declared.event.Event.TheVariants.{Link, Step, Show, Enabled, Matching, Status};
+ghost use Rattle.rule_machine.specs.declared.reply.Reply.TheVariants.{Accepted};
 ghost use Rattle.rule_engine.specs.Kept.{guard_at, IsAnswered};
-ghost use Rattle.rule_engine.specs.Applied.{Applies, Answered};
+ghost use Rattle.rule_engine.specs.Applied.{Prepares, disturbed};
+ghost use Rattle.rule_engine.specs.Prepared.{HasRoomTo};
 ghost use Rattle.rule_engine.specs.Choosing.{verdict_of, verdicts_of};
 
 use crate::charge::charge_of;
-use crate::edits::{refusal_of, refused_point};
+use crate::edits::{edit_reply, refusal_of, refused_flag, refused_point, refused_unlink};
 use crate::guard::{outcome, refused_step, rule_enabled, verdicts};
 use crate::judge::refused_verdicts;
 use crate::listing::{count_pairs, enabled_rules, mutual_edges};
@@ -24,13 +31,15 @@ use enabled_set::EnabledSet;
 use graph_store::{EdgeStore, GraphFault};
 use indexed_state::IndexedState;
 use registers::Registers;
-use rule_machine::{Act, Choice, Counts, Event, Listing, Node, Refusal, Reply, Verdict, Want};
+use rule_machine::{
+    Act, Choice, Counts, Event, Listing, Moved, Node, Refusal, Reply, Verdict, Want,
+};
 use rule_set::Rules;
 use std::alloc::{AllocError, Global};
 use std::marker::Model;
 
 /// A state under the rules `R`: its edges and registers with their index, and who is enabled, seen in contracts as the
-/// state of the rule machine.
+/// state of the rule machine and the room for more neighbours.
 #[derive(Drop)]
 pub(crate) struct Engine<R: Rules> {
     alloc: Global,
@@ -40,23 +49,23 @@ pub(crate) struct Engine<R: Rules> {
 }
 
 impl<R: Rules> Model for Engine<R> {
-    ghost use Rattle.rule_machine.specs.State.{State, state_code};
+    ghost use Rattle.indexed_state.specs.Indexed.{Indexed, indexed_code};
     ghost use Rattle.rule_engine.specs.Kept.{IsKept};
 
-    ghost Value = { State };
+    ghost Value = { Indexed };
 
-    ghost coded = { state_code };
+    ghost coded = { indexed_code };
 
     ghost view = { λ n. n.state };
 
-    ghost invariant = { λ n. IsKept R.table n.state n.enabled n.chosen };
+    ghost invariant = { λ n. IsKept R.table n.state.state n.enabled n.chosen };
 }
 
 impl<R: Rules> Engine<R> {
     /// The network of the nodes 1 to `nodes` with no edges, all pointers null and all flags false.
     /// `TooManyNodes` above 65,535, and `Memory` if memory runs out. Takes some fifty bytes a node.
     pub(crate) fn new(alloc: Global, nodes: u32) -> Result<Engine<R>, GraphFault>
-        ensures ok { IfOk result (λ net. net ≡ opening nodes) }
+        ensures ok { IfOk result (λ net. net.state ≡ opening nodes) }
         ensures small { OnOk result (nodes ≤ 65535) }
         ensures fault { IfErr result (λ fault. Explains (nodes_fault nodes) fault) }
     {
@@ -77,22 +86,23 @@ impl<R: Rules> Engine<R> {
 
     /// The edges.
     pub(crate) fn store(&self) -> &EdgeStore
-        ensures { result.now ≡ self.now.network }
+        ensures network { result.now.network ≡ self.now.state.network }
+        ensures room { result.now.room ≡ self.now.room }
     {
         self.state.store()
     }
 
     /// The registers.
     pub(crate) fn registers(&self) -> &Registers
-        ensures value { result.now ≡ self.now.registers }
-        ensures state { IsState self.now }
+        ensures value { result.now ≡ self.now.state.registers }
+        ensures state { IsState self.now.state }
     {
         self.state.registers()
     }
 
     /// The enabled nodes.
     pub(crate) fn enabled(&self) -> &EnabledSet
-        ensures { members result.now ≡ enabled_names R.table self.now }
+        ensures { members result.now ≡ enabled_names R.table self.now.state }
     {
         &self.enabled
     }
@@ -101,10 +111,10 @@ impl<R: Rules> Engine<R> {
     /// mutual pairs are a maximal matching; and where every pointer is null or answered and the flags are right, they
     /// are one only if the network is stable.
     pub(crate) fn is_quiet(&self) -> bool
-        ensures quiet { IsTrue result ↔ (enabled_names R.table self.now ≡ []) }
-        ensures stable { IsTrue result ↔ IsStable R.table.flags self.now }
-        ensures matching { IsTrue result → IsMaximalMatching self.now.network (mutual_pairs self.now) }
-        ensures only_stable { IsAnswered R.table.flags self.now → IsMaximalMatching self.now.network (mutual_pairs self.now) → IsTrue result }
+        ensures quiet { IsTrue result ↔ (enabled_names R.table self.now.state ≡ []) }
+        ensures stable { IsTrue result ↔ IsStable R.table.flags self.now.state }
+        ensures matching { IsTrue result → IsMaximalMatching self.now.state.network (mutual_pairs self.now.state) }
+        ensures only_stable { IsAnswered R.table.flags self.now.state → IsMaximalMatching self.now.state.network (mutual_pairs self.now.state) → IsTrue result }
     {
         self.enabled.count() == 0
     }
@@ -112,7 +122,7 @@ impl<R: Rules> Engine<R> {
     /// The rule that is enabled at a node, if any is; none at an absent one. What the guard asks about all neighbours is
     /// counted at the node, so that it looks at no list of them.
     pub(crate) fn guard(&self, v: Node) -> Option<Act>
-        ensures { result ≡ guard_at R.table self.now v }
+        ensures { result ≡ guard_at R.table self.now.state v }
     {
         rule_enabled(&self.state, v)
     }
@@ -121,7 +131,7 @@ impl<R: Rules> Engine<R> {
     /// target has to be found.
     pub(crate) fn verdict(&self, choice: &Choice, place: u32) -> Verdict
         requires { place < length choice.now }
-        ensures { IfSome (slice_get choice.now place) (λ item. result ≡ verdict_of R.table self.now place item) }
+        ensures { IfSome (slice_get choice.now place) (λ item. result ≡ verdict_of R.table self.now.state place item) }
     {
         let item = choice.items()[place as usize];
         Verdict {
@@ -133,21 +143,21 @@ impl<R: Rules> Engine<R> {
 
     /// The charge.
     pub(crate) fn charge(&self) -> u32
-        ensures { result ≡ R.table.charge self.now }
+        ensures { result ≡ R.table.charge self.now.state }
     {
         charge_of(&self.state)
     }
 
-    /// Carries out an event, where so many moves are spent.
-    pub(crate) fn apply(&mut self, event: &Event, spent: u32) -> Result<Reply, Want>
-        ensures { Applies R.table self.old spent event.now result self.new }
+    /// The reply to an event where so many moves are spent, with the memory that carrying it out takes. No state changes.
+    pub(crate) fn prepare(&mut self, event: &Event, spent: u32) -> Result<Reply, Want>
+        ensures { Prepares R.table self.old spent event.now result self.new }
     {
         match event {
-            Event::Link(a, b) => self.link(*a, *b),
-            Event::Unlink(a, b) => Ok(self.unlink(*a, *b)),
-            Event::Point(v, target) => Ok(self.point(*v, *target)),
-            Event::Flag(v, value) => Ok(self.flag(*v, *value)),
-            Event::Step(choice) => self.step(choice),
+            Event::Link(a, b) => self.prepare_link(*a, *b),
+            Event::Unlink(a, b) => Ok(edit_reply(refused_unlink(self.store(), *a, *b))),
+            Event::Point(v, target) => Ok(edit_reply(refused_point(self.store(), *v, *target))),
+            Event::Flag(v, _) => Ok(edit_reply(refused_flag::<R>(self.store(), *v))),
+            Event::Step(choice) => self.prepare_choice(choice),
             Event::Show(v) => Ok(self.show(*v)),
             Event::Enabled => self.list_enabled(),
             Event::Matching => self.list_pairs(),
@@ -155,15 +165,11 @@ impl<R: Rules> Engine<R> {
         }
     }
 
-    fn link(&mut self, a: Node, b: Node) -> Result<Reply, Want>
-        ensures { (spent : ℕ) → Applies R.table self.old spent (Link a b) result self.new }
+    fn prepare_link(&mut self, a: Node, b: Node) -> Result<Reply, Want>
+        ensures { (spent : ℕ) → Prepares R.table self.old spent (Link a b) result self.new }
     {
-        match self.state.link(a, b) {
-            Ok(()) => {
-                look_at(&self.state, &mut self.enabled, a);
-                look_at(&self.state, &mut self.enabled, b);
-                Ok(Reply::Accepted)
-            }
+        match self.state.reserve_link(a, b) {
+            Ok(()) => Ok(Reply::Accepted),
             Err(fault) => match refusal_of(fault) {
                 Some(refusal) => Ok(Reply::Refused(refusal)),
                 None => Err(AllocError),
@@ -171,52 +177,37 @@ impl<R: Rules> Engine<R> {
         }
     }
 
-    fn unlink(&mut self, a: Node, b: Node) -> Reply
-        ensures { (spent : ℕ) → Answered R.table self.old spent (Unlink a b) result self.new }
+    fn prepare_choice(&mut self, choice: &Choice) -> Result<Reply, Want>
+        ensures { (spent : ℕ) → Prepares R.table self.old spent (Step choice.now) result self.new }
     {
-        match self.state.unlink(a, b) {
-            Ok(()) => {
-                look_round(&self.state, &mut self.enabled, a);
-                look_round(&self.state, &mut self.enabled, b);
-                Reply::Accepted
-            }
-            Err(fault) => match refusal_of(fault) {
-                Some(refusal) => Reply::Refused(refusal),
-                None => unreachable!(),
-            },
+        let items = choice.items();
+        let refused = refused_step(&self.state, &mut self.chosen, items);
+        if let Some(refusal) = refused {
+            return Ok(Reply::Refused(refusal));
         }
+        let verdicts = verdicts(self.alloc, &self.state, items)?;
+        let moves = ascending_moves(self.alloc, &verdicts)?;
+        Ok(Reply::Moves(moves))
     }
 
-    fn point(&mut self, v: Node, target: Option<Node>) -> Reply
-        ensures { (spent : ℕ) → Answered R.table self.old spent (Point v target) result self.new }
+    /// The reply to a step, from the verdicts of its items, without a second look at a guard.
+    pub(crate) fn prepare_step(
+        &mut self,
+        choice: &Choice,
+        verdicts: &[Verdict],
+    ) -> Result<Reply, Want>
+        requires { verdicts.now ≡ verdicts_of R.table self.old.state choice.now }
+        ensures { (spent : ℕ) → Prepares R.table self.old spent (Step choice.now) result self.new }
     {
-        let wanted = target;
-        match refused_point(self.state.store(), v, wanted) {
-            Some(refusal) => Reply::Refused(refusal),
-            None => {
-                self.state.set_pointer(v, target);
-                look_round(&self.state, &mut self.enabled, v);
-                Reply::Accepted
-            }
+        if let Some(refusal) = refused_verdicts(R::CENTRAL, &mut self.chosen, verdicts) {
+            return Ok(Reply::Refused(refusal));
         }
-    }
-
-    fn flag(&mut self, v: Node, value: bool) -> Reply
-        ensures { (spent : ℕ) → Answered R.table self.old spent (Flag v value) result self.new }
-    {
-        if !R::FLAGS {
-            return Reply::Refused(Refusal::NoFlag);
-        }
-        if !self.state.store().has(v) {
-            return Reply::Refused(Refusal::UnknownNode);
-        }
-        self.state.set_flag(v, value);
-        look_round(&self.state, &mut self.enabled, v);
-        Reply::Accepted
+        let moves = ascending_moves(self.alloc, verdicts)?;
+        Ok(Reply::Moves(moves))
     }
 
     fn show(&self, v: Node) -> Reply
-        ensures { (spent : ℕ) → result ≡ reply_of R.table self.now spent (Show v) }
+        ensures { (spent : ℕ) → result ≡ reply_of R.table self.now.state spent (Show v) }
     {
         if !self.state.store().has(v) {
             return Reply::Refused(Refusal::UnknownNode);
@@ -225,7 +216,7 @@ impl<R: Rules> Engine<R> {
     }
 
     fn list_enabled(&self) -> Result<Reply, Want>
-        ensures { (spent : ℕ) → IfOk result (λ reply. reply ≡ reply_of R.table self.now spent Enabled) }
+        ensures { (spent : ℕ) → IfOk result (λ reply. reply ≡ reply_of R.table self.now.state spent Enabled) }
     {
         let nodes = self.enabled.to_list()?;
         let rules = enabled_rules(self.alloc, &self.state, &nodes)?;
@@ -233,37 +224,14 @@ impl<R: Rules> Engine<R> {
     }
 
     fn list_pairs(&self) -> Result<Reply, Want>
-        ensures { (spent : ℕ) → IfOk result (λ reply. reply ≡ reply_of R.table self.now spent Matching) }
+        ensures { (spent : ℕ) → IfOk result (λ reply. reply ≡ reply_of R.table self.now.state spent Matching) }
     {
         let pairs = mutual_edges(self.alloc, self.state.store(), self.state.registers())?;
         Ok(Reply::Pairs(Listing::from_vec(pairs)))
     }
 
-    fn step(&mut self, choice: &Choice) -> Result<Reply, Want>
-        ensures { (spent : ℕ) → Applies R.table self.old spent (Step choice.now) result self.new }
-    {
-        let items = choice.items();
-        let refused = refused_step(&self.state, &mut self.chosen, items);
-        if let Some(refusal) = refused {
-            return Ok(Reply::Refused(refusal));
-        }
-        let verdicts = verdicts(self.alloc, &self.state, items)?;
-        self.carry_out(choice, &verdicts)
-    }
-
-    fn carry_out(&mut self, choice: &Choice, verdicts: &[Verdict]) -> Result<Reply, Want>
-        requires accepted { refusal_of R.table self.old (Step choice.now) ≡ None }
-        requires verdicts { verdicts.now ≡ verdicts_of R.table self.old choice.now }
-        ensures { (spent : ℕ) → Applies R.table self.old spent (Step choice.now) result self.new }
-    {
-        let moves = ascending_moves(self.alloc, verdicts)?;
-        write_moves(&mut self.state, &moves);
-        look_round_movers(&self.state, &mut self.enabled, &moves);
-        Ok(Reply::Moves(Listing::from_vec(moves)))
-    }
-
     fn status(&self, spent: u32) -> Reply
-        ensures { result ≡ reply_of R.table self.now spent Status }
+        ensures { result ≡ reply_of R.table self.now.state spent Status }
     {
         let store = self.state.store();
         Reply::Counts(Counts {
@@ -276,18 +244,87 @@ impl<R: Rules> Engine<R> {
         })
     }
 
-    /// Carries out a step from the verdicts of its items, without a second look at a guard.
-    pub(crate) fn apply_step(
-        &mut self,
-        choice: &Choice,
-        verdicts: &[Verdict],
-    ) -> Result<Reply, Want>
-        requires { verdicts.now ≡ verdicts_of R.table self.old choice.now }
-        ensures { (spent : ℕ) → Applies R.table self.old spent (Step choice.now) result self.new }
+    /// Carries out an event with the reply that was prepared for it. It takes no memory.
+    pub(crate) fn commit(&mut self, event: &Event, reply: &Reply)
+        requires reply { (spent : ℕ) × (reply.now ≡ reply_of R.table self.old.state spent event.now) }
+        requires room { HasRoomTo event.now reply.now self.old.room }
+        ensures { self.new.state ≡ state_after R.table self.old.state event.now }
     {
-        if let Some(refusal) = refused_verdicts(R::CENTRAL, &mut self.chosen, verdicts) {
-            return Ok(Reply::Refused(refusal));
+        match reply {
+            Reply::Accepted => self.disturb(event),
+            Reply::Moves(moves) => self.make_moves(moves.as_slice()),
+            _ => {}
         }
-        self.carry_out(choice, verdicts)
+    }
+
+    /// Carries out a step as `commit` does.
+    pub(crate) fn commit_step(&mut self, choice: &Choice, reply: &Reply)
+        requires { (spent : ℕ) × (reply.now ≡ reply_of R.table self.old.state spent (Step choice.now)) }
+        ensures { self.new.state ≡ state_after R.table self.old.state (Step choice.now) }
+    {
+        if let Reply::Moves(moves) = reply {
+            self.make_moves(moves.as_slice());
+        }
+    }
+
+    /// Carries out an edit or a fault. A step and a question do nothing.
+    fn disturb(&mut self, event: &Event)
+        requires accepted { refusal_of R.table self.old.state event.now ≡ None }
+        requires room { HasRoomTo event.now Accepted self.old.room }
+        ensures { self.new.state ≡ disturbed self.old.state event.now }
+    {
+        match event {
+            Event::Link(a, b) => self.link(*a, *b),
+            Event::Unlink(a, b) => self.unlink(*a, *b),
+            Event::Point(v, target) => self.point(*v, *target),
+            Event::Flag(v, value) => self.flag(*v, *value),
+            Event::Step(_) | Event::Show(_) | Event::Enabled | Event::Matching | Event::Status => {}
+        }
+    }
+
+    fn link(&mut self, a: Node, b: Node)
+        requires accepted { link_refusal self.old.state.network a b ≡ None }
+        requires room { HasRoomFor self.old.room a b }
+        ensures { self.new.state ≡ after_link self.old.state a b }
+    {
+        self.state.link_reserved(a, b);
+        look_at(&self.state, &mut self.enabled, a);
+        look_at(&self.state, &mut self.enabled, b);
+    }
+
+    fn unlink(&mut self, a: Node, b: Node)
+        requires { unlink_refusal self.old.state.network a b ≡ None }
+        ensures { self.new.state ≡ after_unlink self.old.state a b }
+    {
+        let Ok(()) = self.state.unlink(a, b) else {
+            unreachable!();
+        };
+        look_round(&self.state, &mut self.enabled, a);
+        look_round(&self.state, &mut self.enabled, b);
+    }
+
+    fn point(&mut self, v: Node, target: Option<Node>)
+        requires { point_refusal self.old.state.network v target ≡ None }
+        ensures { self.new.state ≡ after_point self.old.state v target }
+    {
+        self.state.set_pointer(v, target);
+        look_round(&self.state, &mut self.enabled, v);
+    }
+
+    fn flag(&mut self, v: Node, value: bool)
+        requires { IsTrue (present self.old.state.network v) }
+        ensures { self.new.state ≡ after_flag self.old.state v value }
+    {
+        self.state.set_flag(v, value);
+        look_round(&self.state, &mut self.enabled, v);
+    }
+
+    /// Carries out the moves of one step.
+    fn make_moves(&mut self, moves: &[Moved])
+        requires { All (IsMoveIn self.old.state.network) moves.now }
+        ensures { self.new.state ≡ after_moves self.old.state moves.now }
+    {
+        write_moves(&mut self.state, moves);
+        look_round_movers(&self.state, &mut self.enabled, moves);
     }
 }

@@ -16,7 +16,7 @@ use std::alloc::Global;
 
 /// The rule that is enabled at a node, if any is; none at an absent one.
 pub(crate) fn rule_enabled<R: Rules>(state: &IndexedState<R>, v: Node) -> Option<Act>
-    ensures { result ≡ guard_at R.table state.now v }
+    ensures { result ≡ guard_at R.table state.now.state v }
 {
     if !state.store().has(v) {
         return None;
@@ -26,7 +26,7 @@ pub(crate) fn rule_enabled<R: Rules>(state: &IndexedState<R>, v: Node) -> Option
 
 /// What an item would do alone.
 pub(crate) fn outcome<R: Rules>(state: &IndexedState<R>, item: Item) -> Outcome
-    ensures { result ≡ outcome_of R.table state.now item }
+    ensures { result ≡ outcome_of R.table state.now.state item }
 {
     if !state.store().has(item.node) {
         return Outcome::Absent;
@@ -47,10 +47,10 @@ pub(crate) fn outcome<R: Rules>(state: &IndexedState<R>, item: Item) -> Outcome
 
 /// Marks the nodes of items up to the first that is refused.
 fn mark_items<R: Rules>(state: &IndexedState<R>, chosen: &mut EnabledSet, items: &[Item]) -> Marked
-    requires places { length chosen.old ≡ state.now.network.size + 1 }
+    requires places { length chosen.old ≡ state.now.state.network.size + 1 }
     requires clear { AreClear chosen.old }
     ensures count { result.count ≤ length items.now }
-    ensures refusal { result.refusal ≡ items_refusal R.table state.now [] items.now }
+    ensures refusal { result.refusal ≡ items_refusal R.table state.now.state [] items.now }
     ensures marks { AreMarks (is_named (take result.count items.now)) chosen.new }
     ensures len { length chosen.new ≡ length chosen.old }
 {
@@ -88,9 +88,9 @@ pub(crate) fn refused_step<R: Rules>(
     chosen: &mut EnabledSet,
     items: &[Item],
 ) -> Option<Refusal>
-    requires places { length chosen.old ≡ state.now.network.size + 1 }
+    requires places { length chosen.old ≡ state.now.state.network.size + 1 }
     requires clear { AreClear chosen.old }
-    ensures refusal { result ≡ step_refusal R.table state.now items.now }
+    ensures refusal { result ≡ step_refusal R.table state.now.state items.now }
     ensures kept { chosen.new ≡ chosen.old }
 {
     if items.is_empty() {
@@ -111,7 +111,7 @@ pub(crate) fn verdicts<R: Rules>(
     items: &[Item],
 ) -> Result<Vec<Verdict>, Want>
     requires few { length items.now ≤ 65535 }
-    ensures { IfOk result (λ v. v.items ≡ verdicts_of R.table state.now items.now) }
+    ensures { IfOk result (λ v. v.items ≡ verdicts_of R.table state.now.state items.now) }
 {
     let mut verdicts = Vec::with_capacity(alloc, items.len())?;
     for (place, item) in items.iter().enumerate() {

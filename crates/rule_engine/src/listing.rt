@@ -20,8 +20,8 @@ pub(crate) fn enabled_rules<R: Rules>(
     state: &IndexedState<R>,
     nodes: &[Node],
 ) -> Result<Vec<(Node, Act)>, Want>
-    requires { nodes.now ≡ enabled_names R.table state.now }
-    ensures { IfOk result (λ v. v.items ≡ enabled R.table state.now) }
+    requires { nodes.now ≡ enabled_names R.table state.now.state }
+    ensures { IfOk result (λ v. v.items ≡ enabled R.table state.now.state) }
 {
     let mut rules = Vec::with_capacity(alloc, nodes.len())?;
     for &v in nodes {
@@ -51,8 +51,8 @@ pub(crate) fn mutual_edges(
     store: &EdgeStore,
     registers: &Registers,
 ) -> Result<Vec<Edge>, Want>
-    requires { IsState (state_of store.now registers.now) }
-    ensures { IfOk result (λ v. v.items ≡ mutual_pairs (state_of store.now registers.now)) }
+    requires { IsState (state_of store.now.network registers.now) }
+    ensures { IfOk result (λ v. v.items ≡ mutual_pairs (state_of store.now.network registers.now)) }
 {
     let mut pairs = Vec::new(alloc);
     for name in 1..store.nodes() + 1 {
@@ -66,8 +66,8 @@ pub(crate) fn mutual_edges(
 
 /// How many mutual pairs there are, without memory. Looks at each node once.
 pub(crate) fn count_pairs(store: &EdgeStore, registers: &Registers) -> u32
-    requires { IsState (state_of store.now registers.now) }
-    ensures { result ≡ length (mutual_pairs (state_of store.now registers.now)) }
+    requires { IsState (state_of store.now.network registers.now) }
+    ensures { result ≡ length (mutual_pairs (state_of store.now.network registers.now)) }
 {
     let mut count = 0;
     for name in 1..store.nodes() + 1 {

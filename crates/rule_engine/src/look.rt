@@ -12,9 +12,9 @@ use rule_set::Rules;
 
 /// Looks again at a node.
 pub(crate) fn look_at<R: Rules>(state: &IndexedState<R>, enabled: &mut EnabledSet, v: Node)
-    requires has { IsTrue (present state.now.network v) }
-    requires places { length enabled.old ≡ state.now.network.size + 1 }
-    ensures { IsLookedAt R.table state.now (λ w. nat_eq w v) enabled.old enabled.new }
+    requires has { IsTrue (present state.now.state.network v) }
+    requires places { length enabled.old ≡ state.now.state.network.size + 1 }
+    ensures { IsLookedAt R.table state.now.state (λ w. nat_eq w v) enabled.old enabled.new }
 {
     if rule_enabled(state, v).is_some() {
         enabled.insert(v);
@@ -25,9 +25,9 @@ pub(crate) fn look_at<R: Rules>(state: &IndexedState<R>, enabled: &mut EnabledSe
 
 /// Looks again at a node and at its neighbours.
 pub(crate) fn look_round<R: Rules>(state: &IndexedState<R>, enabled: &mut EnabledSet, v: Node)
-    requires has { IsTrue (present state.now.network v) }
-    requires places { length enabled.old ≡ state.now.network.size + 1 }
-    ensures { IsLookedAt R.table state.now (is_near state.now.network v) enabled.old enabled.new }
+    requires has { IsTrue (present state.now.state.network v) }
+    requires places { length enabled.old ≡ state.now.state.network.size + 1 }
+    ensures { IsLookedAt R.table state.now.state (is_near state.now.state.network v) enabled.old enabled.new }
 {
     look_at(state, enabled, v);
     for &w in state.store().neighbours(v) {
@@ -41,9 +41,9 @@ pub(crate) fn look_round_movers<R: Rules>(
     enabled: &mut EnabledSet,
     moves: &[Moved],
 )
-    requires have { All (λ m. IsTrue (present state.now.network m.node)) moves.now }
-    requires places { length enabled.old ≡ state.now.network.size + 1 }
-    ensures { IsLookedAt R.table state.now (is_near_mover state.now.network moves.now) enabled.old enabled.new }
+    requires have { All (λ m. IsTrue (present state.now.state.network m.node)) moves.now }
+    requires places { length enabled.old ≡ state.now.state.network.size + 1 }
+    ensures { IsLookedAt R.table state.now.state (is_near_mover state.now.state.network moves.now) enabled.old enabled.new }
 {
     for moved in moves {
         look_round(state, enabled, moved.node);

@@ -6,7 +6,7 @@ ghost use Rattle.rule_machine.specs.Least.{move_in as move_of_outcome};
 ghost use Rattle.rule_engine.specs.Choosing.{AreLeast, moves_of, flag_read, pointer_written};
 
 use indexed_state::IndexedState;
-use rule_machine::{Act, Moved, Outcome, Verdict, Want};
+use rule_machine::{Act, Listing, Moved, Outcome, Verdict, Want};
 use rule_set::Rules;
 use std::alloc::Global;
 
@@ -34,19 +34,19 @@ fn moves_in_order(alloc: Global, verdicts: &[Verdict]) -> Result<Vec<Moved>, Wan
 }
 
 /// The moves of verdicts, ascending by node; no memory but theirs. Moves that ascend already cost one look each.
-pub(crate) fn ascending_moves(alloc: Global, verdicts: &[Verdict]) -> Result<Vec<Moved>, Want>
-    ensures { IfOk result (λ moves. AreLeast verdicts.now moves.items) }
+pub(crate) fn ascending_moves(alloc: Global, verdicts: &[Verdict]) -> Result<Listing<Moved>, Want>
+    ensures { IfOk result (λ moves. AreLeast verdicts.now moves) }
 {
     let mut moves = moves_in_order(alloc, verdicts)?;
     moves.sort_unstable_by_key(|moved| moved.node.place());
-    Ok(moves)
+    Ok(Listing::from_vec(moves))
 }
 
 /// Writes the flags of moves that update, from the pointers as they are.
 fn write_flags<R: Rules>(state: &mut IndexedState<R>, moves: &[Moved])
-    requires { All (IsMoveIn state.old.network) moves.now }
-    ensures registers { state.new.registers ≡ fold flag_read state.old.registers moves.now }
-    ensures network { state.new.network ≡ state.old.network }
+    requires { All (IsMoveIn state.old.state.network) moves.now }
+    ensures registers { state.new.state.registers ≡ fold flag_read state.old.state.registers moves.now }
+    ensures network { state.new.state.network ≡ state.old.state.network }
 {
     for moved in moves {
         if moved.act == Act::Update {
@@ -58,9 +58,9 @@ fn write_flags<R: Rules>(state: &mut IndexedState<R>, moves: &[Moved])
 
 /// Writes the pointers of moves.
 fn write_pointers<R: Rules>(state: &mut IndexedState<R>, moves: &[Moved])
-    requires { All (IsMoveIn state.old.network) moves.now }
-    ensures registers { state.new.registers ≡ fold pointer_written state.old.registers moves.now }
-    ensures network { state.new.network ≡ state.old.network }
+    requires { All (IsMoveIn state.old.state.network) moves.now }
+    ensures registers { state.new.state.registers ≡ fold pointer_written state.old.state.registers moves.now }
+    ensures network { state.new.state.network ≡ state.old.state.network }
 {
     for moved in moves {
         match moved.act {
@@ -73,9 +73,9 @@ fn write_pointers<R: Rules>(state: &mut IndexedState<R>, moves: &[Moved])
 
 /// Writes all moves of one step: flags first, since they are read from the pointers of before.
 pub(crate) fn write_moves<R: Rules>(state: &mut IndexedState<R>, moves: &[Moved])
-    requires { All (IsMoveIn state.old.network) moves.now }
-    ensures registers { state.new.registers ≡ fold pointer_written (fold flag_read state.old.registers moves.now) moves.now }
-    ensures network { state.new.network ≡ state.old.network }
+    requires { All (IsMoveIn state.old.state.network) moves.now }
+    ensures registers { state.new.state.registers ≡ fold pointer_written (fold flag_read state.old.state.registers moves.now) moves.now }
+    ensures network { state.new.state.network ≡ state.old.state.network }
 {
     write_flags(state, moves);
     write_pointers(state, moves);

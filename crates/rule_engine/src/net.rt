@@ -166,6 +166,7 @@ impl<R: Rules> Net<R> {
         ensures machine { Answers R.table self.old.state self.old.spent event.now reply.now self.new.state }
     {
         self.engine.commit(event, reply);
+        self.spent = spent_after::<R>(self.engine.store(), self.spent, reply);
     }
 
     /// Carries out an event: a refusal, the change of the network, the moves of a step in which each free target is
@@ -181,8 +182,8 @@ impl<R: Rules> Net<R> {
         ensures kept { OnErr result (moment_of self.new ≡ moment_of self.old) }
         ensures want { OnErr result ((refusal_of R.table self.old.state event.now ≡ None) × IsTrue (takes_memory event.now)) }
     {
-        let reply = self.engine.apply(event, self.spent)?;
-        self.spent = spent_after::<R>(self.engine.store(), self.spent, &reply);
+        let reply = self.prepare(event)?;
+        self.commit(event, &reply);
         Ok(reply)
     }
 
@@ -214,8 +215,17 @@ impl<R: Rules> Net<R> {
         ensures kept { OnErr result (moment_of self.new ≡ moment_of self.old) }
         ensures want { OnErr result (refusal_of R.table self.old.state (Step choice.now) ≡ None) }
     {
-        let reply = self.engine.apply_step(choice, verdicts)?;
-        self.spent = spent_after::<R>(self.engine.store(), self.spent, &reply);
+        let reply = self.prepare_step(choice, verdicts)?;
+        self.commit_step(choice, &reply);
         Ok(reply)
+    }
+
+    /// Carries out a step as `commit` does.
+    fn commit_step(&mut self, choice: &Choice, reply: &Reply)
+        requires { IsPrepared R.table self.old (Step choice.now) reply.now }
+        ensures { moment_of self.new ≡ moment_after R.table (moment_of self.old) (Step choice.now) }
+    {
+        self.engine.commit_step(choice, reply);
+        self.spent = spent_after::<R>(self.engine.store(), self.spent, reply);
     }
 }

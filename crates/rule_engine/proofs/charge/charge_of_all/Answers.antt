@@ -6,7 +6,7 @@ use Rattle.rule_engine.proofs.charge.charge_of_all.Goals as goal
 
 pub loop-name-preserved : goal.loop-name-preserved
 loop-name-preserved g c =
-    let s = c.args.state.now in
+    let s = c.args.state.now.state in
     let f : ℕ → ℕ = node_part (g.R.Rules.closed s) (g.R.Rules.adds s) s in
     let named : c.unwrap.result ≡ c.loop-name.name = some_iff_at _ _ _ _ c.new.ensures c.unwrap.ensures in
     let more = c.charge_at-charge.ensures.little in

@@ -6,7 +6,7 @@ use Rattle.rule_engine.proofs.charge.open_edges.Goals.{then-is_open_above, else-
 
 pub overflow_add-open : goal.overflow_add-open
 overflow_add-open g c =
-    let net = c.args.state.now.network in
+    let net = c.args.state.now.state.network in
     let v = c.args.low.now.node in
     let every = ap length (c.neighbours-w-items.ensures.all ∙ ap (λ n. neighbours n v) c.store.ensures.value) in
     let few = few_neighbours net v in
@@ -18,7 +18,7 @@ overflow_add-open g c =
 pub loop-w-preserved : goal.loop-w-preserved
 loop-w-preserved g c =
     let v = c.args.low.now.node in
-    let p : ℕ → Bool = λ x. nat_lt v x && not (g.R.Rules.closed c.args.state.now (v, x)) in
+    let p : ℕ → Bool = λ x. nat_lt v x && not (g.R.Rules.closed c.args.state.now.state (v, x)) in
     let so_far = c.loop-w.invariant.few in
     elim c.if-is_open_above.branch [
       | then-is_open_above w ↦
@@ -37,7 +37,7 @@ loop-w-preserved g c =
 
 pub returns-clause-few : goal.returns-clause-few
 returns-clause-few g c =
-    let net = c.args.state.now.network in
+    let net = c.args.state.now.state.network in
     let v = c.args.low.now.node in
     let every = ap length (c.neighbours-w-items.ensures.all ∙ ap (λ n. neighbours n v) c.store.ensures.value) in
     let few = few_neighbours net v in

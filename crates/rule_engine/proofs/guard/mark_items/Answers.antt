@@ -16,7 +16,7 @@ judged_by t s item o marks refusal judged is = judged ∙ ap (λ (q : Outcome). 
 pub returns-then-is_some-clause-refusal : goal.returns-then-is_some-clause-refusal
 returns-then-is_some-clause-refusal g c =
     let t = g.R.Rules.table in
-    let s = c.args.state.now in
+    let s = c.args.state.now.state in
     let item = c.index-items-place.result in
     let marks = c.loop-place.chosen in
     let judged : c.mark-refusal.result ≡ refused_by (outcome_of t s item) (is_in marks item.node) = judged_by t s item c.outcome.result marks c.mark-refusal.result c.mark-refusal.ensures.refusal c.outcome.ensures in
@@ -26,7 +26,7 @@ returns-then-is_some-clause-refusal g c =
 pub loop-place-preserved : goal.loop-place-preserved
 loop-place-preserved g c =
     let t = g.R.Rules.table in
-    let s = c.args.state.now in
+    let s = c.args.state.now.state in
     let items = c.args.items.now in
     let k = c.loop-place.place in
     let item = c.index-items-place.result in

@@ -6,7 +6,7 @@ use Rattle.rule_engine.proofs.guard.mark_items.Given as goal
 abbrev pub invariant-loop-place : goal.invariant-loop-place
 invariant-loop-place g l =
     let t = g.R.Rules.table in
-    let s = l.state in
+    let s = l.state.state in
     record {
       rest : items_refusal t s (take l.place l.items) (drop l.place l.items) ≡ items_refusal t s [] l.items;
       marks : AreMarks (is_named (take l.place l.items)) l.chosen;

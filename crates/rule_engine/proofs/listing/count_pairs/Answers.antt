@@ -33,7 +33,7 @@ loop-name-preserved c =
 
 pub returns : goal.returns
 returns c =
-    let s = state_of c.args.store.now c.args.registers.now in
+    let s = state_of c.args.store.now.network c.args.registers.now in
     let count : c.loop-name.name - 1 ≡ s.network.size = omega (arith, c.nodes-name-end.ensures.count) in
     c.loop-name.invariant.count ∙ ap (λ n. length (filter_map (λ v. pair_above v (answered_by s.registers v)) (range_with_len 1 n))) count
     ∙ sym (λ i. length (filter_map (λ v. pair_above v (partner_answered s v c.requires i)) (range_with_len 1 s.network.size)))

@@ -7,7 +7,7 @@ use Rattle.rule_engine.proofs.listing.enabled_rules.Goals.{in-Some+in_ok-push, i
 
 pub loop-v-preserved : goal.loop-v-preserved
 loop-v-preserved g c =
-    let f = marked_at g.R.Rules.table c.args.state.now in
+    let f = marked_at g.R.Rules.table c.args.state.now.state in
     let v = c.v-item.result in
     let rule = c.rule_enabled.ensures in
     elim c.match-rule_enabled.branch [
@@ -20,5 +20,5 @@ loop-v-preserved g c =
 pub returns : goal.returns
 returns g c =
     let t = g.R.Rules.table in
-    let s = c.args.state.now in
+    let s = c.args.state.now.state in
     c.loop-v.invariant ∙ ap (filter_map (marked_at t s)) (take_all c.loop-v.v-index c.args.nodes.now (omega arith) ∙ c.requires) ∙ enabled_listed t s

@@ -5,4 +5,4 @@ use Rattle.rule_engine.proofs.look.look_round.Given as goal
 
 abbrev pub invariant-loop-w : goal.invariant-loop-w
 invariant-loop-w g l =
-    IsLookedAt g.R.Rules.table l.state (λ x. nat_eq x l.fn.v || list_any (nat_eq x) (take l.w-index l.w-items)) l.fn.enabled l.enabled
+    IsLookedAt g.R.Rules.table l.state.state (λ x. nat_eq x l.fn.v || list_any (nat_eq x) (take l.w-index l.w-items)) l.fn.enabled l.enabled

@@ -4,6 +4,6 @@ use Rattle.rule_engine.proofs.moves.write_flags.Given as goal
 
 abbrev pub invariant-loop-moved : goal.invariant-loop-moved
 invariant-loop-moved g l = record {
-  rest : fold flag_read l.state.registers (drop l.moved-index l.moves) ≡ fold flag_read l.fn.state.registers l.moves;
-  network : l.state.network ≡ l.fn.state.network;
+  rest : fold flag_read l.state.state.registers (drop l.moved-index l.moves) ≡ fold flag_read l.fn.state.state.registers l.moves;
+  network : l.state.state.network ≡ l.fn.state.state.network;
 }

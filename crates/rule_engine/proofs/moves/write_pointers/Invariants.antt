@@ -4,6 +4,6 @@ use Rattle.rule_engine.proofs.moves.write_pointers.Given as goal
 
 abbrev pub invariant-loop-moved : goal.invariant-loop-moved
 invariant-loop-moved g l = record {
-  rest : fold pointer_written l.state.registers (drop l.moved-index l.moves) ≡ fold pointer_written l.fn.state.registers l.moves;
-  network : l.state.network ≡ l.fn.state.network;
+  rest : fold pointer_written l.state.state.registers (drop l.moved-index l.moves) ≡ fold pointer_written l.fn.state.state.registers l.moves;
+  network : l.state.state.network ≡ l.fn.state.state.network;
 }

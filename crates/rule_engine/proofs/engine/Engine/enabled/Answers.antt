@@ -4,4 +4,4 @@ use Rattle.rule_engine.proofs.Again.{members_on}
 use Rattle.rule_engine.proofs.engine.Engine.enabled.Goals as goal
 
 pub returns : goal.returns
-returns g c = members_on g.R.Rules.table _ _ c.self.invariant.enabled ∙ ap (enabled_names g.R.Rules.table) c.self.view_is
+returns g c = members_on g.R.Rules.table _ _ c.self.invariant.enabled ∙ ap (λ n. enabled_names g.R.Rules.table n.state) c.self.view_is

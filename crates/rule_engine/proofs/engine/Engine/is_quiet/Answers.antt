@@ -1,5 +1,6 @@
 use Rattle.std.proofs.Common.{subst}
-use Rattle.rule_machine.specs.State.{State, IsState}
+use Rattle.indexed_state.specs.Indexed.{Indexed}
+use Rattle.rule_machine.specs.State.{IsState}
 use Rattle.stable_matching.specs.Laws.{maximal_from_stable, stable_from_maximal}
 use Rattle.rule_engine.specs.Kept.{AreOn}
 use Rattle.rule_engine.proofs.Again.{quiet_by_count}
@@ -9,9 +10,9 @@ pub returns : goal.returns
 returns g c =
     let t = g.R.Rules.table in
     let laws = g.met.R.Rules in
-    let s = c.args.self.now in
-    let good : IsState s = subst IsState c.self.view_is c.self.invariant.is_state in
-    let on : AreOn t s c.self.inside.enabled = subst (λ (u : State). AreOn t u c.self.inside.enabled) c.self.view_is c.self.invariant.enabled in
+    let s = c.args.self.now.state in
+    let good : IsState s = subst (λ (n : Indexed). IsState n.state) c.self.view_is c.self.invariant.is_state in
+    let on : AreOn t s c.self.inside.enabled = subst (λ (n : Indexed). AreOn t n.state c.self.inside.enabled) c.self.view_is c.self.invariant.enabled in
     let quiet = quiet_by_count t s c.self.inside.enabled c.count.result on c.count.ensures in
     record {
       quiet = quiet;

@@ -8,5 +8,5 @@ pub returns : goal.returns
 returns g c n =
     ap Pairs (c.from_vec.ensures ∙ c.in_ok-pairs.ensures
     ∙ ap (λ net. mutual_pairs (state_of net c.registers.result.now)) c.store.ensures.value
-    ∙ ap (λ r. mutual_pairs (state_of c.self.inside.state.network r)) c.registers.ensures.value
-    ∙ ap mutual_pairs c.self.view_is)
+    ∙ ap (λ r. mutual_pairs (state_of c.self.inside.state.state.network r)) c.registers.ensures.value
+    ∙ ap (λ n. mutual_pairs n.state) c.self.view_is)

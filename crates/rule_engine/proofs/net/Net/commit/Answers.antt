@@ -1,0 +1,47 @@
+use Rattle.std.proofs.Common.{◌≡◌, ap, sym, subst, arith}
+use Rattle.rule_machine.specs.Least.{reply_of}
+use Rattle.machine_laws.specs.LeastMoves.{IsTable}
+use Rattle.charge_laws.specs.Charged.{charge_bound, IsCharged}
+use Rattle.rule_engine.specs.Applied.{IsPaid}
+use Rattle.rule_engine.specs.Kept.{moment}
+use Rattle.rule_engine.specs.Prepared.{NetView}
+use Rattle.rule_machine.specs.Answer.{Answers}
+use Rattle.rule_engine.proofs.Moments.{turn_answers, turn_is_paid}
+use Rattle.rule_engine.proofs.net.Net.commit.Goals as goal
+
+pub spent_after-self-inside-requires : goal.spent_after-self-inside-requires
+spent_after-self-inside-requires g c =
+    let laws = g.met.R.Rules in
+    let t = g.R.Rules.table in
+    let weight = g.R.Rules.NODE_WEIGHT in
+    let reply = c.args.reply.now in
+    let table : IsTable t = record { allowed_is_neighbour = laws.allowed_is_neighbour; allowed_takes_target = laws.allowed_takes_target; has_target = laws.has_target } in
+    let charged : IsCharged t weight = record { falls = laws.charge_falls; bounded = laws.charge_is_bounded; zero_is_stable = laws.no_charge_is_stable } in
+    let told : reply ≡ reply_of t c.self.inside.engine.state c.self.inside.spent c.args.event.now = subst (λ (n : NetView). reply ≡ reply_of t n.state n.spent c.args.event.now) (sym c.self.view_is) c.requires.reply_is in
+    let paid = turn_is_paid t weight table charged (moment c.self.inside.engine.state c.self.inside.spent) c.self.invariant c.args.event.now reply c.commit.new.self.state told c.commit.ensures in
+    let within = paid.within in
+    let bound = ap (charge_bound weight) c.store.ensures.network in
+    omega (arith, within, bound)
+
+pub invariant_of-self : goal.invariant_of-self
+invariant_of-self g c =
+    let laws = g.met.R.Rules in
+    let t = g.R.Rules.table in
+    let weight = g.R.Rules.NODE_WEIGHT in
+    let reply = c.args.reply.now in
+    let table : IsTable t = record { allowed_is_neighbour = laws.allowed_is_neighbour; allowed_takes_target = laws.allowed_takes_target; has_target = laws.has_target } in
+    let charged : IsCharged t weight = record { falls = laws.charge_falls; bounded = laws.charge_is_bounded; zero_is_stable = laws.no_charge_is_stable } in
+    let told : reply ≡ reply_of t c.self.inside.engine.state c.self.inside.spent c.args.event.now = subst (λ (n : NetView). reply ≡ reply_of t n.state n.spent c.args.event.now) (sym c.self.view_is) c.requires.reply_is in
+    let paid = turn_is_paid t weight table charged (moment c.self.inside.engine.state c.self.inside.spent) c.self.invariant c.args.event.now reply c.commit.new.self.state told c.commit.ensures in
+    subst (λ n. IsPaid t weight (moment c.commit.new.self.state n)) (sym c.spent_after-self-inside.ensures) paid
+
+pub returns-clause-machine : goal.returns-clause-machine
+returns-clause-machine g c =
+    let laws = g.met.R.Rules in
+    let t = g.R.Rules.table in
+    let event = c.args.event.now in
+    let reply = c.args.reply.now in
+    let table : IsTable t = record { allowed_is_neighbour = laws.allowed_is_neighbour; allowed_takes_target = laws.allowed_takes_target; has_target = laws.has_target } in
+    let told : reply ≡ reply_of t c.self.inside.engine.state c.self.inside.spent event = subst (λ (n : NetView). reply ≡ reply_of t n.state n.spent event) (sym c.self.view_is) c.requires.reply_is in
+    subst (λ (n : NetView). Answers t n.state n.spent event reply c.commit.new.self.state) c.self.view_is
+    (turn_answers t table (moment c.self.inside.engine.state c.self.inside.spent) c.self.invariant.is_state event reply c.commit.new.self.state told c.commit.ensures)

@@ -1,0 +1,34 @@
+use Rattle.std.proofs.Common.{◌≡◌, ◌∙◌, None, IfOk, OnErr, ap, sym, subst}
+use Rattle.rule_machine.specs.declared.event.Event.TheVariants.{Step}
+use Rattle.rule_machine.specs.State.{State}
+use Rattle.rule_machine.specs.Refuse.{step_refusal}
+use Rattle.rule_machine.specs.Least.{reply_of}
+use Rattle.rule_engine.specs.Applied.{IsPaid}
+use Rattle.rule_engine.specs.Kept.{moment}
+use Rattle.rule_engine.specs.Prepared.{NetView, moment_of}
+use Rattle.rule_engine.proofs.Preparing.{engine_prepared, engine_allows}
+use Rattle.rule_engine.proofs.net.Net.prepare_step.Goals as goal
+
+pub invariant_of-self : goal.invariant_of-self
+invariant_of-self g c =
+    let done = c.prepare_step.ensures c.self.inside.spent in
+    subst (λ (s : State). IsPaid g.R.Rules.table g.R.Rules.NODE_WEIGHT (moment s c.self.inside.spent)) (sym done.kept) c.self.invariant
+
+pub returns-clause-reply : goal.returns-clause-reply
+returns-clause-reply g c =
+    let done = c.prepare_step.ensures c.self.inside.spent in
+    subst (λ (n : NetView). IfOk c.prepare_step.result (λ reply. reply ≡ reply_of g.R.Rules.table n.state n.spent (Step c.args.choice.now))) c.self.view_is done.reply
+
+pub returns-clause-prepared : goal.returns-clause-prepared
+returns-clause-prepared g c =
+    engine_prepared g.R.Rules.table c.self.inside.engine c.prepare_step.new.self c.self.inside.spent (Step c.args.choice.now) c.prepare_step.result (c.prepare_step.ensures c.self.inside.spent)
+
+pub returns-clause-kept : goal.returns-clause-kept
+returns-clause-kept g c =
+    let done = c.prepare_step.ensures c.self.inside.spent in
+    ap (λ s. moment s c.self.inside.spent) done.kept ∙ ap moment_of c.self.view_is
+
+pub returns-clause-want : goal.returns-clause-want
+returns-clause-want g c =
+    subst (λ (n : NetView). OnErr c.prepare_step.result (step_refusal g.R.Rules.table n.state c.args.choice.now ≡ None)) c.self.view_is
+    (engine_allows g.R.Rules.table c.self.inside.engine c.prepare_step.new.self c.self.inside.spent (Step c.args.choice.now) c.prepare_step.result (c.prepare_step.ensures c.self.inside.spent))
