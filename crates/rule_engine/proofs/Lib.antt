@@ -1,10 +1,9 @@
 pub mod Found
 pub mod Judged
 pub mod Scanned
-pub mod Keeping
+pub mod Carried
 pub mod Preparing
 pub mod Committing
-pub mod Carried
 pub mod Looked
 pub mod Far
 pub mod Again

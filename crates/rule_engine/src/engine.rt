@@ -148,7 +148,7 @@ impl<R: Rules> Engine<R> {
         charge_of(&self.state)
     }
 
-    /// The reply to an event where so many moves are spent, with the memory that carrying it out takes. No state changes.
+    /// The reply to an event where so many moves are spent, with all the memory had that carrying it out takes. The state stays.
     pub(crate) fn prepare(&mut self, event: &Event, spent: u32) -> Result<Reply, Want>
         ensures { Prepares R.table self.old spent event.now result self.new }
     {
@@ -244,7 +244,7 @@ impl<R: Rules> Engine<R> {
         })
     }
 
-    /// Carries out an event with the reply that was prepared for it. It takes no memory.
+    /// Carries out an event with the reply that was prepared for it; takes no memory.
     pub(crate) fn commit(&mut self, event: &Event, reply: &Reply)
         requires reply { (spent : ℕ) × (reply.now ≡ reply_of R.table self.old.state spent event.now) }
         requires room { HasRoomTo event.now reply.now self.old.room }

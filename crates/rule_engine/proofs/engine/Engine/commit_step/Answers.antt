@@ -2,7 +2,7 @@ use Rattle.std.proofs.Common.{All, ◌∙◌, sym, subst}
 use Rattle.rule_machine.specs.declared.event.Event.TheVariants.{Step}
 use Rattle.machine_laws.specs.Keeps.{IsMoveIn}
 use Rattle.machine_laws.specs.LeastMoves.{IsTable}
-use Rattle.rule_engine.proofs.Committing.{moves_are}
+use Rattle.rule_engine.proofs.Committing.{told_moves_in}
 use Rattle.rule_engine.proofs.engine.Engine.commit_step.Goals as goal
 
 pub make_moves-requires : goal.make_moves-requires
@@ -10,5 +10,5 @@ make_moves-requires g c =
     let laws = g.met.R.Rules in
     let table : IsTable g.R.Rules.table = record { allowed_is_neighbour = laws.allowed_is_neighbour; allowed_takes_target = laws.allowed_takes_target; has_target = laws.has_target } in
     let s = c.args.self.now.state in
-    let made = moves_are g.R.Rules.table table s c.requires.0 (Step c.args.choice.now) c.in-Moves.moves (sym c.in-Moves.is ∙ c.requires.1) in
-    subst (All (IsMoveIn s.network)) (sym c.as_slice.ensures) made.all
+    let all = told_moves_in g.R.Rules.table table s c.requires.0 (Step c.args.choice.now) c.in-Moves.moves (sym c.in-Moves.is ∙ c.requires.1) in
+    subst (All (IsMoveIn s.network)) (sym c.as_slice.ensures) all
