@@ -148,7 +148,8 @@ impl<R: Rules> Engine<R> {
         charge_of(&self.state)
     }
 
-    /// The reply to an event where so many moves are spent, with all the memory had that carrying it out takes. The state stays.
+    /// The reply to an event where so many moves are spent, with all the memory had that carrying it out takes. The state
+    /// stays.
     pub(crate) fn prepare(&mut self, event: &Event, spent: u32) -> Result<Reply, Want>
         ensures { Prepares R.table self.old spent event.now result self.new }
     {
