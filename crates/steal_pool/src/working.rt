@@ -52,7 +52,7 @@ fn judge_block<R: Rules, G: Gate, W: Wait>(
     requires within { block.end ≤ length choice.now }
     requires room { length verdicts.old.items + (block.end - block.first) ≤ vec_capacity verdicts.old }
     ensures judged { (taken : List ℕ) → AreOf (verdicts_of R.table net.now.state choice.now) taken verdicts.old.items → AreOf (verdicts_of R.table net.now.state choice.now) (taken ++ block_places block) verdicts.new.items }
-    ensures room { vec_capacity verdicts.new ≡ vec_capacity verdicts.old }
+    ensures room { vec_capacity verdicts.old ≤ vec_capacity verdicts.new }
 {
     for place in block.first..block.end {
         gate.pass(rt, worker, place);
