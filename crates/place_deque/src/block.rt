@@ -12,20 +12,20 @@ pub struct Block {
     ghost some: { first < end },
 }
 
-/// How many blocks in front have one place each: as many as a deque may have ends.
-const SINGLE: u32 = 64;
+// The most ends of a deque, and so the most that take at once.
+const MOST_ENDS: u32 = 64;
 
-/// The most places of a block.
+// The most places of a block: with so many, what it costs to take a block is small beside what its places cost.
 const WIDEST: u32 = 64;
 
-/// How many places the block with this number has, from 0, where so many are left. Who takes it has one place, or a part of what is left
-/// that is no more than one of 64 takers would have.
+/// How many places the block with this number has, from 0, where so many are left. Each end can begin with a block of one place; the others
+/// have at most the part of what is left that would fall to one of 64 ends, so that they grow small again in the end.
 pub(crate) fn width(number: u32, left: u32) -> u32
     requires { 0 < left }
     ensures { (0 < result) × (result ≤ left) }
 {
-    if number < SINGLE {
+    if number < MOST_ENDS {
         return 1;
     }
-    (left / 64).clamp(1, WIDEST)
+    (left / MOST_ENDS).clamp(1, WIDEST)
 }

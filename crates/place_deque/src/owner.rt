@@ -10,7 +10,7 @@ use crate::{Block, Owner, Thief};
 use crossbeam_deque::Worker;
 use std::alloc::{AllocError, Global};
 
-// For how many blocks a deque has room from the start: what 65,535 places want.
+// For how many blocks a deque has room from the start: more than 65,535 places want. It grows beyond.
 const MOST_AT_FIRST: u32 = 2_048;
 
 impl Owner {

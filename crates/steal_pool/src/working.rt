@@ -35,6 +35,8 @@ impl Hand {
         while let Some(block) = end.take(rt) {
             judge_block(rt, net, choice, gate, worker, block, &mut verdicts);
         }
+        // what is left of the room goes back at once, so that the next list need not ask the system for more
+        verdicts.shrink_to_fit();
         Ok(Share { end, verdicts })
     }
 }

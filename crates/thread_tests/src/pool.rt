@@ -8,7 +8,7 @@ use std::process::Abort;
 use std::sync::Wait;
 use std::sync::atomic::{AtomicU64, Ordering};
 use std::thread::Threads;
-use steal_pool::{Gate, NoGate, PoolFault, evaluate};
+use steal_pool::{Gate, NoGate, PoolFault, evaluate, hands, merge};
 
 /// The choice of these names, in this order.
 fn choice_of(rt: &impl Abort, alloc: Global, names: &[u32]) -> Choice {
@@ -94,6 +94,27 @@ fn an_empty_choice_has_no_verdicts(rt: HostRuntime) {
         let found = on_a_star(&rt, rt.alloc(), &[], workers, &NoGate);
         assert!(rt; found.expect(&rt, "verdicts").is_empty());
     }
+}
+
+#[test]
+fn hands_work_one_after_the_other(rt: HostRuntime) {
+    let net = star(&rt, rt.alloc());
+    let choice = choice_of(&rt, rt.alloc(), &[4, 1]);
+    let mut hands = hands(rt.alloc(), &choice, 2).expect(&rt, "hands");
+    let second = hands.pop().expect(&rt, "a hand");
+    let first = hands.pop().expect(&rt, "a hand");
+    assert!(rt; hands.is_empty());
+    let first = first.work(&rt, &net, &choice, &NoGate);
+    let first = first.expect(&rt, "a share");
+    let second = second.work(&rt, &net, &choice, &NoGate);
+    let second = second.expect(&rt, "a share");
+    expect_star(&rt, first.verdicts());
+    assert!(rt; second.verdicts().is_empty());
+    let mut shares = Vec::new(rt.alloc());
+    shares.push(first).expect(&rt, "memory");
+    shares.push(second).expect(&rt, "memory");
+    let found = merge(rt.alloc(), shares, &net, &choice);
+    expect_star(&rt, &found.expect(&rt, "verdicts"));
 }
 
 /// The most looks that a worker waits for others.

@@ -1,4 +1,4 @@
-use Rattle.std.proofs.Common.{ap, ◌∙◌, arith, rules}
+use Rattle.std.proofs.Common.{ap, ◌∙◌, rules}
 use Rattle.place_deque.specs.declared.tally.Tally.{Tally}
 use Rattle.place_deque.specs.Ends.{owner_tally}
 use Rattle.steal_pool.specs.Laid.{taken_in}

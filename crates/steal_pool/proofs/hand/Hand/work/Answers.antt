@@ -1,4 +1,4 @@
-use Rattle.std.proofs.Common.{◌≡◌, List, ℕ, sym, subst, ap, ◌∙◌, arith}
+use Rattle.std.proofs.Common.{List, ℕ, sym, subst, ap, ◌∙◌, arith}
 use Rattle.place_deque.specs.Ends.{Hold, end_taken}
 use Rattle.rule_engine.specs.Choosing.{verdicts_of}
 use Rattle.steal_pool.specs.Hands.{AreOf}
