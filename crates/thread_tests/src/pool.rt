@@ -100,19 +100,23 @@ fn an_empty_choice_has_no_verdicts(rt: HostRuntime) {
 fn hands_work_one_after_the_other(rt: HostRuntime) {
     let net = star(&rt, rt.alloc());
     let choice = choice_of(&rt, rt.alloc(), &[4, 1]);
-    let mut hands = hands(rt.alloc(), &choice, 2).expect(&rt, "hands");
-    let second = hands.pop().expect(&rt, "a hand");
-    let first = hands.pop().expect(&rt, "a hand");
+    let Ok(mut hands) = hands(rt.alloc(), &choice, 2) else {
+        panic!(rt; "no hands");
+    };
+    let (Some(second), Some(first)) = (hands.pop(), hands.pop()) else {
+        panic!(rt; "no two hands");
+    };
     assert!(rt; hands.is_empty());
-    let first = first.work(&rt, &net, &choice, &NoGate);
-    let first = first.expect(&rt, "a share");
-    let second = second.work(&rt, &net, &choice, &NoGate);
-    let second = second.expect(&rt, "a share");
+    let (Ok(first), Ok(second)) = (
+        first.work(&rt, &net, &choice, &NoGate),
+        second.work(&rt, &net, &choice, &NoGate),
+    ) else {
+        panic!(rt; "no shares");
+    };
     expect_star(&rt, first.verdicts());
     assert!(rt; second.verdicts().is_empty());
-    let mut shares = Vec::new(rt.alloc());
-    shares.push(first).expect(&rt, "memory");
-    shares.push(second).expect(&rt, "memory");
+    let shares = Vec::from_array(rt.alloc(), [first, second]);
+    let shares = shares.expect(&rt, "memory");
     let found = merge(rt.alloc(), shares, &net, &choice);
     expect_star(&rt, &found.expect(&rt, "verdicts"));
 }
