@@ -1,5 +1,5 @@
 -- Each move at an end keeps the rule.
-use Rattle.std.proofs.Common.{◌≡◌, ◌≢◌, ℕ, zero, suc, ◌+◌, ◌-◌, ◌<◌, ◌≤◌, List, [], ◌∷◌, ◌++◌, length, set, sym, refl, ap, ◌∙◌, subst, ⊎_elim, add-one, arith}
+use Rattle.std.proofs.Common.{◌≡◌, ◌≢◌, ℕ, zero, suc, ◌+◌, ◌-◌, ◌<◌, ◌≤◌, List, [], ◌∷◌, ◌++◌, length, set, sym, refl, ap, ◌∙◌, subst, ⊎_elim, append-nil, arith}
 use Rattle.std.specs.Prelude.{Option, Some, None, IfSome, MatchOption}
 use Rattle.std.specs.List.{sum_by, range_with_len}
 use Rattle.std.proofs.lemmas.List.Sums.{sum_by-append, sum_by-cons, sum_by_push}
@@ -9,8 +9,9 @@ use Rattle.std.proofs.lemmas.Bool.{cases_lt}
 use Rattle.std.proofs.lemmas.List.FromFn.{length-range_with_len}
 use Rattle.crossbeam_deque.specs.Tasks.{Pushes, Takes as Leaves, Finds, FindsFew, Forks, Merges}
 use Rattle.crossbeam_deque.proofs.Lists.{at_set, at_snoc, set_else}
+use Rattle.place_deque.specs.declared.block.Block.{Block}
 use Rattle.place_deque.specs.declared.tally.Tally.{Tally}
-use Rattle.place_deque.specs.Tallies.{tally, places, Knows, Balanced, with_put, ArePlaces, Takes, KnowsAll, rest_of, part_of, joined}
+use Rattle.place_deque.specs.Tallies.{tally, places, block_places, places_in, Knows, Balanced, with_put, ArePlaces, Takes, KnowsAll, rest_of, part_of, joined}
 
 -- a total after a change of one pass
 total_set : (f : Tally → ℕ) (views : List Tally) (port : ℕ) (v w : Tally) → get_elem? views port ≡ some v → sum_by f (set views port w) + f v ≡ sum_by f views + f w
@@ -69,6 +70,33 @@ one_more : (h : ℕ → ℕ) (a n j : ℕ) → a + n ≡ j → sum_by h (range_w
 one_more h a zero j at = let e : h a ≡ h j = ap h (omega arith) in omega (arith, sum_by-cons h a [])
 one_more h a (suc n) j at = omega (arith, one_more h (a + 1) n j (omega arith), sum_by-cons h a (range_with_len (a + 1) (suc n)), sum_by-cons h a (range_with_len (a + 1) n))
 
+-- numbers behind others weigh both
+behind : (h : ℕ → ℕ) (a n m all b : ℕ) → n + m ≡ all → a + n ≡ b → sum_by h (range_with_len a all) ≡ sum_by h (range_with_len a n) + sum_by h (range_with_len b m)
+behind h a zero m all b size next =
+    let more : sum_by h (range_with_len a all) ≡ sum_by h (range_with_len a m) = (let same : all ≡ m = omega arith in ap (λ (n : ℕ). sum_by h (range_with_len a n)) same) in
+    let start : sum_by h (range_with_len a m) ≡ sum_by h (range_with_len b m) = (let same : a ≡ b = omega arith in ap (λ (c : ℕ). sum_by h (range_with_len c m)) same) in
+    let none : sum_by h (range_with_len a 0) ≡ 0 = refl in
+    omega arith
+behind h a (suc n) m zero b size next = absurd (omega arith)
+behind h a (suc n) m (suc all) b size next =
+    omega (arith, behind h (a + 1) n m all b (omega arith) (omega arith), sum_by-cons h a (range_with_len (a + 1) all), sum_by-cons h a (range_with_len (a + 1) n))
+
+-- the places up to the end of a block are those in front of it and its own
+put_weighs : (h : ℕ → ℕ) (count : ℕ) (b : Block) → count ≡ b.first → sum_by h (places b.end) ≡ sum_by h (places count) + sum_by h (block_places b)
+put_weighs h count b next =
+    let filled : b.first < b.end = b.some in
+    let from : sum_by h (places count) ≡ sum_by h (places b.first) = ap (λ (n : ℕ). sum_by h (places n)) next in
+    omega (arith, behind h 0 b.first (b.end - b.first) b.end b.first (omega arith) (omega arith))
+
+-- blocks weigh what their places do
+blocks_weigh : (h : ℕ → ℕ) (xs ys : List Block) → sum_by h (places_in (xs ++ ys)) ≡ sum_by h (places_in xs) + sum_by h (places_in ys)
+blocks_weigh h [] ys = let none : sum_by h (places_in []) ≡ 0 = refl in omega arith
+blocks_weigh h (x ∷ xs) ys = omega (arith, blocks_weigh h xs ys, sum_by-append h (block_places x) (places_in (xs ++ ys)), sum_by-append h (block_places x) (places_in xs))
+
+-- the places of one block
+pub one_block : (b : Block) → places_in (b ∷ []) ≡ block_places b
+one_block b = append-nil (block_places b)
+
 -- what each pass knows, after a change of one
 known_set : (count : ℕ) (views : List Tally) (port : ℕ) (w : Tally) → Knows count w → ((j : ℕ) (u : Tally) → j ≢ port → get_elem? views j ≡ some u → Knows count u) → (j : ℕ) (u : Tally) → get_elem? (set views port w) j ≡ some u → Knows count u
 known_set count views port w mine others j u at =
@@ -82,25 +110,25 @@ begins = record {
   known = λ port v at. ⊎_elim (λ (x : get_elem? {A = Tally} [] port ≡ some v). absurd (some-ne-none v (sym x))) (λ (x : tally 64 0 [] ≡ v). subst (Knows 0) x ((λ none. absurd (omega arith)), λ _. refl)) (at_snoc [] (tally 64 0 []) v port at);
 }
 
-puts : (port : ℕ) (v : Tally) → v.parts ≡ 64 → Pushes Balanced port v (v.count ∷ []) (λ w. w ≡ with_put v)
-puts port v all items views b at =
-    let w = with_put v in
+pub puts : (port : ℕ) (v : Tally) (block : Block) → v.parts ≡ 64 → v.count ≡ block.first → Pushes Balanced port v (block ∷ []) (λ w. w ≡ with_put v (block ∷ []))
+puts port v block all next items views b at =
+    let w = with_put v (block ∷ []) in
     let total = total_set (λ (u : Tally). u.parts) views port v w at in
     let size : v.count ≡ b.count = (b.known port v at).1 (omega arith) in
     let whole = b.whole in (
       w,
       record {
-        count = v.count + 1;
+        count = block.end;
         whole = omega arith;
         once = λ h.
             let s = total_set (λ (u : Tally). sum_by h u.taken) views port v w at in
             let p = b.once h in
-            let m = one_more h 0 v.count v.count (omega arith) in
+            let m = put_weighs h v.count block next in
             let e : sum_by h (places v.count) ≡ sum_by h (places b.count) = ap (λ n. sum_by h (places n)) size in
-            let a = sum_by_push h items v.count in
-            let next : sum_by h (places (v.count + 1)) ≡ sum_by h (places (suc v.count)) = ap (λ n. sum_by h (places n)) (add-one v.count) in
+            let a = blocks_weigh h items (block ∷ []) in
+            let one : sum_by h (places_in (block ∷ [])) ≡ sum_by h (block_places block) = ap (sum_by h) (one_block block) in
             omega arith;
-        known = known_set (v.count + 1) views port w ((λ none. absurd (omega arith)), λ _. refl)
+        known = known_set block.end views port w ((λ none. absurd (omega arith)), λ _. refl)
             (λ j u other there.
             let idle = no_part views port v at (whole ∙ sym all) j u other there in
             ((b.known j u there).0, λ part. absurd (omega arith)));
@@ -108,20 +136,17 @@ puts port v all items views b at =
       refl,
     )
 
-pub puts_at : (port : ℕ) (v : Tally) (place : ℕ) → v.parts ≡ 64 → v.count ≡ place → Pushes Balanced port v (place ∷ []) (λ w. w ≡ with_put v)
-puts_at port v place all next = subst (λ (x : ℕ). Pushes Balanced port v (x ∷ []) (λ w. w ≡ with_put v)) next (puts port v all)
-
 pub takes : (port : ℕ) (v : Tally) → 0 < v.parts → Leaves Balanced port v 1 (Takes v)
 takes port v part xs items views some_left few b at =
-    let w = tally v.parts v.count (v.taken ++ xs) in
+    let w = tally v.parts v.count (v.taken ++ places_in xs) in
     let total = total_set (λ (u : Tally). u.parts) views port v w at in
     let whole = b.whole in
     let size : v.count ≡ b.count = (b.known port v at).1 part in
-    let once : (h : ℕ → ℕ) → sum_by (λ (u : Tally). sum_by h u.taken) (set views port w) + sum_by h items ≡ sum_by h (places b.count) = λ h.
+    let once : (h : ℕ → ℕ) → sum_by (λ (u : Tally). sum_by h u.taken) (set views port w) + sum_by h (places_in items) ≡ sum_by h (places b.count) = λ h.
     let s = total_set (λ (u : Tally). sum_by h u.taken) views port v w at in
     let p = b.once h in
-    let mine = sum_by-append h v.taken xs in
-    let rest = sum_by-append h xs items in
+    let mine = sum_by-append h v.taken (places_in xs) in
+    let rest = blocks_weigh h xs items in
     omega arith in (
       w,
       record {
@@ -208,11 +233,21 @@ ones : (xs : List ℕ) → sum_by (λ _. 1) xs ≡ length xs
 ones [] = refl
 ones (x ∷ xs) = omega (arith, ones xs, sum_by-cons (λ (_ : ℕ). 1) x xs)
 
--- a place taken is one that was put, and no more are taken than were put
-pub within : (count place : ℕ) (before taken : List ℕ) → taken ≡ before ++ place ∷ [] → ArePlaces count taken → (place < count) × (length taken ≤ count)
-within count place before taken is are = (
-  (let e : sum_by (λ y. y + 1 - count) taken ≡ sum_by (λ y. y + 1 - count) (before ++ place ∷ []) = ap (sum_by (λ y. y + 1 - count)) is in
-      omega (arith, are (λ y. y + 1 - count), zero_below 0 count count (omega arith), sum_by_push (λ (y : ℕ). y + 1 - count) before place)),
+-- numbers of which none is above all end there
+ends_below : (a n b : ℕ) → 0 < n → sum_by (λ y. y + 1 - b) (range_with_len a n) ≡ 0 → a + n ≤ b
+ends_below a zero b filled none = absurd (omega arith)
+ends_below a (suc zero) b filled none = omega (arith, sum_by-cons (λ (y : ℕ). y + 1 - b) a [])
+ends_below a (suc (suc n)) b filled none = omega (arith, ends_below (a + 1) (suc n) b (omega arith) (omega (arith, sum_by-cons (λ (y : ℕ). y + 1 - b) a (range_with_len (a + 1) (suc n)))))
+
+-- the places taken are some that were put, and no more are taken than were put
+pub within : (count : ℕ) (block : Block) (before taken : List ℕ) → taken ≡ before ++ places_in (block ∷ []) → ArePlaces count taken → (block.end ≤ count) × (length taken ≤ count)
+within count block before taken is are = (
+  (let above : ℕ → ℕ = λ y. y + 1 - count in
+      let e : sum_by above taken ≡ sum_by above (before ++ places_in (block ∷ [])) = ap (sum_by above) is in
+      let one : sum_by above (places_in (block ∷ [])) ≡ sum_by above (block_places block) = ap (sum_by above) (one_block block) in
+      let filled : block.first < block.end = block.some in
+      let last = ends_below block.first (block.end - block.first) count (omega arith) (omega (arith, are above, zero_below 0 count count (omega arith), sum_by-append above before (places_in (block ∷ [])))) in
+      omega arith),
   omega (arith, are (λ _. 1), ones taken, ones (places count), length-range_with_len 0 count),
 )
 
@@ -223,6 +258,6 @@ has_place (suc count) k below =
     ⊎_elim (λ (less : k < count). let rest = has_place count k less in omega arith) (λ (last : count ≤ k). omega arith) (cases_lt k count)
 has_place zero k below = absurd (omega arith)
 
-pub taken_within : (P : Type 0) (v w : Tally) (result : Option ℕ) → MatchOption result P (λ place. Takes v (place ∷ []) w) → IfSome result (λ place. (place < v.count) × (length w.taken ≤ v.count))
+pub taken_within : (P : Type 0) (v w : Tally) (result : Option Block) → MatchOption result P (λ block. Takes v (block ∷ []) w) → IfSome result (λ block. (block.end ≤ v.count) × (length w.taken ≤ v.count))
 taken_within P v w None taken = tt
-taken_within P v w (Some place) taken = within v.count place v.taken w.taken (ap (λ (u : Tally). u.taken) taken.0) taken.1
+taken_within P v w (Some block) taken = within v.count block v.taken w.taken (ap (λ (u : Tally). u.taken) taken.0) taken.1

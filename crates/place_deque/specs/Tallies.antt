@@ -1,8 +1,9 @@
 -- The rule of a deque of places, over what it holds and over what each pass knows.
-use Rattle.std.specs.Prelude.{◌≡◌, ℕ, ◌+◌, ◌-◌, ◌<◌, ◌≤◌, List, [], ◌++◌}
+use Rattle.std.specs.Prelude.{◌≡◌, ℕ, ◌+◌, ◌-◌, ◌<◌, ◌≤◌, List, [], ◌∷◌, ◌++◌}
 use Rattle.std.specs.List.{sum_by, range_with_len}
 use mathlib.Core.Option.{some}
 use lib.ListN.{get_elem?}
+use Rattle.place_deque.specs.declared.block.Block.{Block}
 use Rattle.place_deque.specs.declared.tally.Tally.{Tally}
 
 abbrev pub tally : ℕ → ℕ → List ℕ → Tally
@@ -12,29 +13,39 @@ tally parts count taken = record { parts = parts; count = count; taken = taken }
 abbrev pub places : ℕ → List ℕ
 places count = range_with_len 0 count
 
+-- the places of a block
+abbrev pub block_places : Block → List ℕ
+block_places b = range_with_len b.first (b.end - b.first)
+
+-- the places of blocks, one block after another
+abbrev pub places_in : List Block → List ℕ
+places_in [] = []
+places_in (b ∷ bs) = block_places b ++ places_in bs
+
 -- a pass with no part has taken nothing, and one with a part knows how many places were put
 abbrev pub Knows : ℕ → Tally → Type 0
 Knows count v = (v.parts ≡ 0 → v.taken ≡ []) × (0 < v.parts → v.count ≡ count)
 
 -- However places are weighed, the places that were put weigh what the passes have taken and what the deque holds: each is in one of them, once.
 -- The parts of all passes make up the whole.
-pub record Balanced (items : List ℕ) (views : List Tally) : Type 0 where
+pub record Balanced (items : List Block) (views : List Tally) : Type 0 where
   pub count : ℕ
   pub whole : sum_by (λ v. v.parts) views ≡ 64
-  pub once : (h : ℕ → ℕ) → sum_by (λ v. sum_by h v.taken) views + sum_by h items ≡ sum_by h (places count)
+  pub once : (h : ℕ → ℕ) → sum_by (λ v. sum_by h v.taken) views + sum_by h (places_in items) ≡ sum_by h (places count)
   pub known : (port : ℕ) (v : Tally) → get_elem? views port ≡ some v → Knows count v
 
--- one place more was put
-abbrev pub with_put : Tally → Tally
-with_put v = tally v.parts (v.count + 1) v.taken
+-- the places up to the end of a block were put
+abbrev pub with_put : Tally → List Block → Tally
+with_put v [] = v
+with_put v (b ∷ bs) = tally v.parts b.end v.taken
 
 -- these are some of the places that were put, each once
 abbrev pub ArePlaces : ℕ → List ℕ → Type 0
 ArePlaces count taken = (h : ℕ → ℕ) → sum_by h taken ≤ sum_by h (places count)
 
--- these were taken
-abbrev pub Takes : Tally → List ℕ → Tally → Type 0
-Takes v xs w = (w ≡ tally v.parts v.count (v.taken ++ xs)) × ArePlaces v.count w.taken
+-- the places of these blocks were taken
+abbrev pub Takes : Tally → List Block → Tally → Type 0
+Takes v xs w = (w ≡ tally v.parts v.count (v.taken ++ places_in xs)) × ArePlaces v.count w.taken
 
 -- these are all places that were put, each once
 abbrev pub AreAllPlaces : ℕ → List ℕ → Type 0

@@ -1,10 +1,10 @@
 //! The ends of one deque, one for each worker.
 
-ghost use Rattle.std.specs.Prelude.{◌≡◌, ◌<◌, ◌≤◌, ◌++◌, [], ◌∷◌, length, map, All, IfOk, MatchOption, IfSome};
-ghost use Rattle.place_deque.specs.Tallies.{ArePlaces};
+ghost use Rattle.std.specs.Prelude.{◌≡◌, ◌<◌, ◌≤◌, ◌++◌, [], length, map, All, IfOk, MatchOption, IfSome};
+ghost use Rattle.place_deque.specs.Tallies.{ArePlaces, block_places};
 ghost use Rattle.place_deque.specs.Ends.{end_hold, end_taken, AreAllEnds};
 
-use crate::{Owner, Thief};
+use crate::{Block, Owner, Thief};
 use std::alloc::{AllocError, Global};
 use std::sync::Wait;
 
@@ -18,11 +18,11 @@ pub enum End {
 }
 
 impl End {
-    /// Takes the place in front; `None` where there was none at one moment of the call.
-    pub fn take<W: Wait>(&mut self, rt: &W) -> Option<u32>
+    /// Takes the block in front; `None` where there was none at one moment of the call.
+    pub fn take<W: Wait>(&mut self, rt: &W) -> Option<Block>
         ensures hold { end_hold self.new ≡ end_hold self.old }
-        ensures taken { MatchOption result (end_taken self.new ≡ end_taken self.old) (λ place. end_taken self.new ≡ end_taken self.old ++ place ∷ []) }
-        ensures within { IfSome result (λ place. (place < (end_hold self.old).count) × (length (end_taken self.new) ≤ (end_hold self.old).count)) }
+        ensures taken { MatchOption result (end_taken self.new ≡ end_taken self.old) (λ block. end_taken self.new ≡ end_taken self.old ++ block_places block) }
+        ensures within { IfSome result (λ block. (block.end ≤ (end_hold self.old).count) × (length (end_taken self.new) ≤ (end_hold self.old).count)) }
         ensures once { IfSome result (λ _. ArePlaces (end_hold self.old).count (end_taken self.new)) }
     {
         match self {
@@ -32,7 +32,8 @@ impl End {
     }
 }
 
-/// So many ends of one new deque, which holds the places 0 to `count - 1`.
+/// So many ends of one new deque, which holds the places 0 to `count - 1`. The blocks in front have one place each, as many as there may be
+/// ends; of what is left then each has a sixty-fourth at most, and one place at least.
 pub fn ends(alloc: Global, count: u32, workers: u32) -> Result<Vec<End>, AllocError>
     requires some { 0 < workers }
     requires few { workers ≤ 64 }

@@ -1,6 +1,7 @@
-//! The places of a list on one deque, from whose ends workers take them: each place is taken once.
+//! The places of a list on one deque, in blocks, which workers take from its ends: each place is taken once.
 #![tactic(auto)]
 
+mod block;
 mod end;
 mod handles;
 mod joining;
@@ -8,6 +9,7 @@ mod owner;
 mod tally;
 mod thief;
 
+pub use block::Block;
 pub use end::{End, ends};
 pub use handles::{Owner, Thief};
 pub use joining::gather;

@@ -1,25 +1,32 @@
-//! The end that puts the places, shares the whole out and joins it again.
+//! The end that puts the blocks, shares the whole out and joins it again.
 
 ghost use Rattle.std.specs.Prelude.{◌≡◌, ◌<◌, ◌≤◌, [], ◌∷◌, length, IfOk, IfSome, MatchOption};
 ghost use Rattle.place_deque.specs.Tallies.{tally, rest_of, part_of, joined, KnowsAll, Takes};
 ghost use Rattle.place_deque.specs.Ends.{owner_deque, owner_tally, thief_deque, thief_tally};
 
+use crate::block::width;
 use crate::tally::{Cut, EachOnce, Put, Tally, Took};
-use crate::{Owner, Thief};
+use crate::{Block, Owner, Thief};
 use crossbeam_deque::Worker;
 use std::alloc::{AllocError, Global};
+
+// For how many blocks a deque has room from the start: more than 65,535 places want. It grows beyond.
+const MOST_AT_FIRST: u32 = 2_048;
 
 impl Owner {
     /// A new deque that holds the places 0 to `count - 1`, the least in front.
     pub fn filled(alloc: Global, count: u32) -> Result<Owner, AllocError>
         ensures { IfOk result (λ owner. owner_tally owner ≡ tally 64 count []) }
     {
-        let mut worker = Worker::<u32, Global, Tally, EachOnce>::fifo_as(alloc, count as usize)?;
-        for place in 0..count {
-            match worker.push_as::<Put>(place) {
-                Ok(()) => {}
-                Err(_) => unreachable!(),
+        let room = count.min(MOST_AT_FIRST) as usize;
+        let mut worker = Worker::<Block, Global, Tally, EachOnce>::fifo_as(alloc, room)?;
+        let (mut first, mut number) = (0, 0);
+        while first < count {
+            let end = first + width(number, count - first);
+            if worker.push_as::<Put>(Block { first, end }).is_err() {
+                return Err(AllocError);
             }
+            (first, number) = (end, number + 1);
         }
         Ok(Owner { worker })
     }
@@ -35,11 +42,11 @@ impl Owner {
         Ok(Thief::of(stealer, pass))
     }
 
-    /// Takes the place in front; `None` where there was none at one moment of the call.
-    pub fn take(&mut self) -> Option<u32>
+    /// Takes the block in front; `None` where there was none at one moment of the call.
+    pub fn take(&mut self) -> Option<Block>
         ensures same { owner_deque self.new ≡ owner_deque self.old }
-        ensures taken { MatchOption result ((owner_tally self.new ≡ owner_tally self.old) × KnowsAll (owner_tally self.old)) (λ place. Takes (owner_tally self.old) (place ∷ []) (owner_tally self.new)) }
-        ensures within { IfSome result (λ place. (place < (owner_tally self.old).count) × (length (owner_tally self.new).taken ≤ (owner_tally self.old).count)) }
+        ensures taken { MatchOption result ((owner_tally self.new ≡ owner_tally self.old) × KnowsAll (owner_tally self.old)) (λ block. Takes (owner_tally self.old) (block ∷ []) (owner_tally self.new)) }
+        ensures within { IfSome result (λ block. (block.end ≤ (owner_tally self.old).count) × (length (owner_tally self.new).taken ≤ (owner_tally self.old).count)) }
     {
         self.worker.pop_as::<Took>()
     }

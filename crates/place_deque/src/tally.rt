@@ -1,5 +1,6 @@
 //! What is known at an end of the deque, and the rule that every end keeps.
 
+use crate::Block;
 use crossbeam_deque::protocol::{Join, Outcome, Protocol, Split};
 use std::collections::LinkedList;
 
@@ -14,7 +15,7 @@ pub struct Tally {
 /// The rule: what was put is what was taken and what the deque holds, each place once.
 pub struct EachOnce;
 
-impl Protocol<u32, Tally> for EachOnce {
+impl Protocol<Block, Tally> for EachOnce {
     ghost use Rattle.std.specs.Prelude.{[]};
     ghost use Rattle.place_deque.specs.Tallies.{tally, Balanced};
 
@@ -25,20 +26,20 @@ impl Protocol<u32, Tally> for EachOnce {
     ghost guest = { tally 0 0 [] };
 }
 
-/// A place is put.
+/// A block is put.
 pub(crate) struct Put;
 
-impl Outcome<u32, Tally> for Put {
+impl Outcome<Block, Tally> for Put {
     ghost use Rattle.std.specs.Prelude.{◌≡◌};
     ghost use Rattle.place_deque.specs.Tallies.{with_put};
 
-    ghost then = { λ v _ w. w ≡ with_put v };
+    ghost then = { λ v xs w. w ≡ with_put v xs };
 }
 
-/// A place is taken, or none is found.
+/// A block is taken, or none is found.
 pub(crate) struct Took;
 
-impl Outcome<u32, Tally> for Took {
+impl Outcome<Block, Tally> for Took {
     ghost use Rattle.place_deque.specs.Tallies.{Takes, KnowsAll};
 
     ghost then = { Takes };

@@ -5,16 +5,16 @@ ghost use Rattle.crossbeam_deque.specs.Handles.{view, IsPassOf, stealer_deque, s
 ghost use Rattle.place_deque.specs.Tallies.{KnowsAll, Takes};
 ghost use Rattle.place_deque.specs.Ends.{thief_deque, thief_tally};
 
-use crate::Thief;
 use crate::tally::{EachOnce, Tally, Took};
+use crate::{Block, Thief};
 use crossbeam_deque::{Pass, Steal, Stealer};
 use std::alloc::Global;
 use std::sync::Wait;
 
 impl Thief {
     pub(crate) fn of(
-        stealer: Stealer<u32, Global, Tally, EachOnce>,
-        pass: Pass<u32, Tally>,
+        stealer: Stealer<Block, Global, Tally, EachOnce>,
+        pass: Pass<Block, Tally>,
     ) -> Thief
         requires own_deque { IsPassOf (stealer_deque stealer) pass }
         requires in_order { stealer_flavor stealer ≡ 0 }
@@ -24,23 +24,23 @@ impl Thief {
         Thief { stealer, pass }
     }
 
-    pub(crate) fn into_pass(self) -> Pass<u32, Tally>
+    pub(crate) fn into_pass(self) -> Pass<Block, Tally>
         ensures pass { IsPassOf (thief_deque self) result × (view result ≡ thief_tally self) }
     {
         let Thief { stealer: _, pass } = self;
         pass
     }
 
-    /// Takes the place in front; `None` where there was none at one moment of the call. Another thread that takes a place
+    /// Takes the block in front; `None` where there was none at one moment of the call. Another thread that takes a block
     /// first makes it look again.
-    pub fn take<W: Wait>(&mut self, rt: &W) -> Option<u32>
+    pub fn take<W: Wait>(&mut self, rt: &W) -> Option<Block>
         ensures same { thief_deque self.new ≡ thief_deque self.old }
-        ensures taken { MatchOption result (thief_tally self.new ≡ thief_tally self.old) (λ place. Takes (thief_tally self.old) (place ∷ []) (thief_tally self.new)) }
-        ensures within { IfSome result (λ place. (place < (thief_tally self.old).count) × (length (thief_tally self.new).taken ≤ (thief_tally self.old).count)) }
+        ensures taken { MatchOption result (thief_tally self.new ≡ thief_tally self.old) (λ block. Takes (thief_tally self.old) (block ∷ []) (thief_tally self.new)) }
+        ensures within { IfSome result (λ block. (block.end ≤ (thief_tally self.old).count) × (length (thief_tally self.new).taken ≤ (thief_tally self.old).count)) }
     {
         for _ in rt.forever() {
             match self.stealer.steal_as::<Took>(&mut self.pass) {
-                Steal::Success(place) => return Some(place),
+                Steal::Success(block) => return Some(block),
                 Steal::Empty => return None,
                 Steal::Retry => {}
             }

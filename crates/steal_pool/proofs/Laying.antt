@@ -1,17 +1,19 @@
 -- What is laid out by place is the list of all, once every place was taken.
-use Rattle.std.proofs.Common.{◌≡◌, ◌≢◌, ℕ, zero, suc, ◌+◌, ◌<◌, List, [], ◌∷◌, ◌++◌, length, map, take, drop, length-append, true≢false, sym, refl, ap, ◌∙◌, subst, ⊎_elim, arith}
+use Rattle.std.proofs.Common.{◌≡◌, ◌≢◌, ℕ, zero, suc, ◌+◌, ◌-◌, ◌<◌, ◌≤◌, List, [], ◌∷◌, ◌++◌, length, map, take, drop, length-append, append_assoc, true≢false, sym, refl, ap, ◌∙◌, subst, ⊎_elim, arith}
 use Rattle.std.specs.Prelude.{Bool, true, false, if◌then◌else◌, Option, None, Some, slice_get, slice_set, IfSome, MatchOption, All}
-use Rattle.std.specs.List.{sum_by}
+use Rattle.std.specs.List.{sum_by, range_with_len}
 use Rattle.std.proofs.lemmas.Bool.{cases_eq}
-use Rattle.std.proofs.lemmas.List.Sums.{sum_by-cons, sum_by_push}
+use Rattle.std.proofs.lemmas.List.FromFn.{length-range_with_len}
+use Rattle.std.proofs.lemmas.List.Sums.{sum_by-append, sum_by-cons, sum_by_push}
 use Rattle.std.proofs.lemmas.List.Elements.{All-nil, All-cons, All-append, All-take, All-drop}
-use Rattle.place_deque.specs.Tallies.{Takes, KnowsAll, AreAllPlaces}
+use Rattle.place_deque.specs.declared.block.Block.{Block}
+use Rattle.place_deque.specs.Tallies.{tally, Takes, KnowsAll, AreAllPlaces, block_places, places_in}
 use Rattle.std.proofs.lemmas.List.{map-append, append-nil, length-map, take-append-drop}
 use lib.Seq.{take-append_seam, drop-append_seam}
 use Rattle.place_deque.specs.declared.tally.Tally.{Tally}
 use Rattle.place_deque.specs.Ends.{Hold, AreAllEnds}
 use Rattle.place_deque.proofs.Joinings.{moved}
-use Rattle.place_deque.proofs.Balances.{has_place}
+use Rattle.place_deque.proofs.Balances.{has_place, one_block}
 use Rattle.rule_machine.specs.declared.choice.Item.{Item}
 use Rattle.rule_machine.specs.declared.verdict.Verdict.{Verdict}
 use Rattle.rule_machine.specs.State.{State}
@@ -55,7 +57,7 @@ get_set_else (x ∷ xs) zero (suc j) v other = refl
 get_set_else (x ∷ xs) (suc i) zero v other = refl
 get_set_else (x ∷ xs) (suc i) (suc j) v other = get_set_else xs i j v (λ e. other (ap suc e))
 
-set_length : (xs : List Verdict) (i : ℕ) (v : Verdict) → length (slice_set xs i v) ≡ length xs
+pub set_length : (xs : List Verdict) (i : ℕ) (v : Verdict) → length (slice_set xs i v) ≡ length xs
 set_length [] i v = refl
 set_length (x ∷ xs) zero v = refl
 set_length (x ∷ xs) (suc i) v = ap suc (set_length xs i v)
@@ -134,10 +136,31 @@ but_last P xs ys x is all =
       subst (All P) (drop-append_seam ys (x ∷ [])) (All-drop P (length ys) (ys ++ x ∷ []) there) 0 x (omega arith),
     )
 
+-- one number more, behind others
+more_numbers : (a n j m : ℕ) → a + n ≡ j → n + 1 ≡ m → range_with_len a m ≡ range_with_len a n ++ j ∷ []
+more_numbers a n j zero at size = absurd (omega arith)
+more_numbers a zero j (suc m) at size =
+    let here : a ≡ j = omega arith in
+    let none : m ≡ 0 = omega arith in
+    ap (λ (k : ℕ). k ∷ range_with_len (a + 1) m) here ∙ ap (λ (k : ℕ). j ∷ range_with_len (a + 1) k) none
+more_numbers a (suc n) j (suc m) at size = ap (λ (l : List ℕ). a ∷ l) (more_numbers (a + 1) n j m (omega arith) (omega arith))
+
+pub more_places : (first place : ℕ) → first ≤ place → range_with_len first (place + 1 - first) ≡ range_with_len first (place - first) ++ place ∷ []
+more_places first place from = more_numbers first (place - first) place (place + 1 - first) (omega arith) (omega arith)
+
 -- one verdict more
 pub judges : (all : List Verdict) (taken more : List ℕ) (place : ℕ) (verdicts next : List Verdict) (v : Verdict) → slice_get all place ≡ Some v → more ≡ taken ++ place ∷ [] → next ≡ verdicts ++ v ∷ [] → AreOf all taken verdicts → AreOf all more next
 judges all taken more place verdicts next v is took push so_far =
     ap (map Some) push ∙ map-append Some verdicts (v ∷ []) ∙ ap (λ l. l ++ Some v ∷ []) so_far ∙ ap (λ o. map (slice_get all) taken ++ o ∷ []) (sym is) ∙ sym (ap (map (slice_get all)) took ∙ map-append (slice_get all) taken (place ∷ []))
+
+-- one verdict more, of a block's next place
+pub judges_one : (all : List Verdict) (taken : List ℕ) (first place : ℕ) (verdicts next : List Verdict) (v : Verdict) → first ≤ place → slice_get all place ≡ Some v → next ≡ verdicts ++ v ∷ [] → AreOf all (taken ++ range_with_len first (place - first)) verdicts → AreOf all (taken ++ range_with_len first (place + 1 - first)) next
+judges_one all taken first place verdicts next v from is push so_far =
+    judges all (taken ++ range_with_len first (place - first)) (taken ++ range_with_len first (place + 1 - first)) place verdicts next v is (ap (λ (l : List ℕ). taken ++ l) (more_places first place from) ∙ sym (append_assoc taken (range_with_len first (place - first)) (place ∷ []))) push so_far
+
+-- so many places more were taken
+pub more_taken : (before after : List ℕ) (block : Block) → after ≡ before ++ block_places block → length after ≡ length before + (block.end - block.first)
+more_taken before after block took = omega (arith, ap length took, length-append before (block_places block), length-range_with_len block.first (block.end - block.first))
 
 -- as many verdicts as places
 pub as_many : (all : List Verdict) (taken : List ℕ) (verdicts : List Verdict) → AreOf all taken verdicts → length verdicts ≡ length taken
@@ -146,9 +169,24 @@ as_many all taken verdicts are = sym (length-map verdicts Some) ∙ ap length ar
 pub reweighed : (all table : List Verdict) (before after : ℕ → ℕ) → ((k : ℕ) → after k ≡ before k) → IsRight all table before → IsRight all table after
 reweighed all table before after same r = record { size = r.size; right = λ k below some. r.right k below (omega (arith, same k)) }
 
--- whoever takes a place and writes its verdict keeps the table right
-pub takes_one : (all table : List Verdict) (v w : Tally) (place : ℕ) (verdict : Verdict) → slice_get all place ≡ Some verdict → w.taken ≡ v.taken ++ place ∷ [] → place < length table → IsRight all table (taken_in v) → IsRight all (slice_set table place verdict) (taken_in w)
-takes_one all table v w place verdict is took below r = writes all table (taken_in v) (taken_in w) place verdict is (λ k. ap (sum_by (at_place k)) took ∙ sum_by_push (at_place k) v.taken place) r below
+-- no number stands between a number and itself
+pub no_places : (first : ℕ) → range_with_len first (first - first) ≡ []
+no_places first = let none : first - first ≡ 0 = omega arith in ap (range_with_len first) none
+
+-- a table with the verdict of one place more
+pub writes_one : (all table : List Verdict) (times : ℕ → ℕ) (first place : ℕ) (verdict : Verdict) → first ≤ place → slice_get all place ≡ Some verdict → place < length table → IsRight all table (λ k. times k + sum_by (at_place k) (range_with_len first (place - first))) → IsRight all (slice_set table place verdict) (λ k. times k + sum_by (at_place k) (range_with_len first (place + 1 - first)))
+writes_one all table times first place verdict from is below r =
+    writes all table (λ k. times k + sum_by (at_place k) (range_with_len first (place - first))) (λ k. times k + sum_by (at_place k) (range_with_len first (place + 1 - first))) place verdict is
+    (λ k.
+    let more : sum_by (at_place k) (range_with_len first (place + 1 - first)) ≡ sum_by (at_place k) (range_with_len first (place - first) ++ place ∷ []) = ap (sum_by (at_place k)) (more_places first place from) in
+    omega (arith, sum_by_push (at_place k) (range_with_len first (place - first)) place)) r below
+
+-- what was taken, with one block more
+pub takes_block : (v w : Tally) (block : Block) → w ≡ tally v.parts v.count (v.taken ++ places_in (block ∷ [])) → (k : ℕ) → taken_in w k ≡ taken_in v k + sum_by (at_place k) (block_places block)
+takes_block v w block took k =
+    let all : sum_by (at_place k) w.taken ≡ sum_by (at_place k) (v.taken ++ places_in (block ∷ [])) = ap (λ (u : Tally). sum_by (at_place k) u.taken) took in
+    let one : sum_by (at_place k) (places_in (block ∷ [])) ≡ sum_by (at_place k) (block_places block) = ap (sum_by (at_place k)) (one_block block) in
+    omega (arith, sum_by-append (at_place k) v.taken (places_in (block ∷ [])))
 
 pub pushed : {X : Type 0} → (went : Bool) (old new : List X) (x : X) → new ≡ (if went then old ++ x ∷ [] else old) → went ≡ true → new ≡ old ++ x ∷ []
 pushed true old new x is ok = is
@@ -161,9 +199,9 @@ as_long xs xs' ys ys' x y more less size = omega (arith, ap length more, ap leng
 pub all_known : (v : Tally) (count : ℕ) → v.parts ≡ 64 → v.count ≡ count → KnowsAll v → AreAllPlaces count v.taken
 all_known v count whole is knows = subst (λ (n : ℕ). AreAllPlaces n v.taken) is (knows whole)
 
-pub finds_none : (v w : Tally) (result : Option ℕ) → result ≡ None → MatchOption result ((w ≡ v) × KnowsAll v) (λ place. Takes v (place ∷ []) w) → KnowsAll v
+pub finds_none : (v w : Tally) (result : Option Block) → result ≡ None → MatchOption result ((w ≡ v) × KnowsAll v) (λ block. Takes v (block ∷ []) w) → KnowsAll v
 finds_none v w None none told = told.1
-finds_none v w (Some place) none told = absurd cc
+finds_none v w (Some block) none told = absurd cc
 
 -- what all say of a list's names, said of its items
 pub unmapped : {X : Type 0} → (f : X → Hold) (P : Hold → Type 0) (xs : List X) → All P (map f xs) → All (λ x. P (f x)) xs

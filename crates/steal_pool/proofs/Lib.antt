@@ -1,2 +1,3 @@
 pub mod NextVerdict
 pub mod Laying
+pub mod Callers

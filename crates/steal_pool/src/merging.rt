@@ -1,13 +1,15 @@
 //! The verdicts of all shares, by place.
 
-ghost use Rattle.std.specs.Prelude.{◌≡◌, ◌<◌, ◌≤◌, length, map, All, IfOk};
+ghost use Rattle.std.specs.Prelude.{◌≡◌, ◌<◌, ◌≤◌, ◌+◌, ℕ, length, map, All, IfOk};
+ghost use Rattle.std.specs.List.{sum_by};
 ghost use Rattle.place_deque.specs.Ends.{end_hold, owner_tally, AreAllEnds};
+ghost use Rattle.place_deque.specs.Tallies.{block_places};
 ghost use Rattle.rule_engine.specs.Choosing.{verdicts_of};
 ghost use Rattle.steal_pool.specs.Hands.{share_hold, AreJudged};
-ghost use Rattle.steal_pool.specs.Laid.{laid, Fit, IsRight, taken_by, taken_in};
+ghost use Rattle.steal_pool.specs.Laid.{at_place, laid, Fit, IsRight, taken_by, taken_in};
 
 use crate::Share;
-use place_deque::{End, Owner, gather};
+use place_deque::{Block, End, Owner, gather};
 use rule_engine::{Choice, Net, Outcome, Rules, Verdict, Want};
 use std::alloc::Global;
 
@@ -72,14 +74,25 @@ fn lay(table: &mut [Verdict], verdicts: &[Verdict])
     }
 }
 
-// Takes what is left on the deque, judges each place and writes it there.
+// Takes the blocks that are left on the deque and judges them.
 fn judge_left<R: Rules>(mut owner: Owner, net: &Net<R>, choice: &Choice, table: &mut [Verdict])
     requires whole { (owner_tally owner).parts ≡ 64 }
     requires count { (owner_tally owner).count ≡ length choice.now }
     requires right { IsRight (verdicts_of R.table net.now.state choice.now) table.old (taken_in (owner_tally owner)) }
     ensures { table.new ≡ verdicts_of R.table net.now.state choice.now }
 {
-    while let Some(place) = owner.take() {
+    while let Some(block) = owner.take() {
+        write_block(net, choice, block, table);
+    }
+}
+
+// Judges each place of a block and writes it there.
+fn write_block<R: Rules>(net: &Net<R>, choice: &Choice, block: Block, table: &mut [Verdict])
+    requires within { block.end ≤ length choice.now }
+    requires size { length table.old ≡ length choice.now }
+    ensures { (times : ℕ → ℕ) → IsRight (verdicts_of R.table net.now.state choice.now) table.old times → IsRight (verdicts_of R.table net.now.state choice.now) table.new (λ k. times k + sum_by (at_place k) (block_places block)) }
+{
+    for place in block.first..block.end {
         table[place as usize] = net.verdict(choice, place);
     }
 }

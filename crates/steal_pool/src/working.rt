@@ -1,14 +1,17 @@
 //! What a worker does.
 
-ghost use Rattle.std.specs.Prelude.{◌≡◌, length, IfOk};
-ghost use Rattle.steal_pool.specs.Hands.{hand_hold, share_hold, share_verdicts, AreJudged};
+ghost use Rattle.std.specs.Prelude.{◌≡◌, ◌≤◌, ◌+◌, ◌-◌, ℕ, List, ◌++◌, length, IfOk, vec_capacity};
+ghost use Rattle.place_deque.specs.Tallies.{block_places};
+ghost use Rattle.rule_engine.specs.Choosing.{verdicts_of};
+ghost use Rattle.steal_pool.specs.Hands.{hand_hold, share_hold, share_verdicts, AreJudged, AreOf};
 
 use crate::{Gate, Hand, Share};
+use place_deque::Block;
 use rule_engine::{Choice, Net, Rules, Verdict, Want};
 use std::sync::Wait;
 
 impl Hand {
-    /// Takes places of the choice until none is found, and judges each; before each it passes the gate with its own number and
+    /// Takes places of the choice until none is found, a block of them at a time, and judges each; before each it passes the gate with its own number and
     /// the place. The choice must be the one that `hands` was given: what a hand keeps of that is how many places were put, and
     /// the choice must have as many. At want of memory it has taken none, and the hand is used up. It may wait at the gate, and
     /// where another worker takes a place first it looks again.
@@ -29,11 +32,33 @@ impl Hand {
             mut end,
         } = self;
         let mut verdicts = Vec::with_capacity(alloc, choice.items().len())?;
-        while let Some(place) = end.take(rt) {
-            gate.pass(rt, worker, place);
-            verdicts.push(net.verdict(choice, place)).unwrap();
+        while let Some(block) = end.take(rt) {
+            judge_block(rt, net, choice, gate, worker, block, &mut verdicts);
         }
+        // what is left of the room goes back at once, so that the next list need not ask the system for more
+        verdicts.shrink_to_fit();
         Ok(Share { end, verdicts })
+    }
+}
+
+// Judges each place of a block, behind the gate, into verdicts with room for them.
+fn judge_block<R: Rules, G: Gate, W: Wait>(
+    rt: &W,
+    net: &Net<R>,
+    choice: &Choice,
+    gate: &G,
+    worker: u32,
+    block: Block,
+    verdicts: &mut Vec<Verdict>,
+)
+    requires within { block.end ≤ length choice.now }
+    requires room { length verdicts.old.items + (block.end - block.first) ≤ vec_capacity verdicts.old }
+    ensures judged { (taken : List ℕ) → AreOf (verdicts_of R.table net.now.state choice.now) taken verdicts.old.items → AreOf (verdicts_of R.table net.now.state choice.now) (taken ++ block_places block) verdicts.new.items }
+    ensures room { vec_capacity verdicts.old ≤ vec_capacity verdicts.new }
+{
+    for place in block.first..block.end {
+        gate.pass(rt, worker, place);
+        verdicts.push(net.verdict(choice, place)).unwrap();
     }
 }
 

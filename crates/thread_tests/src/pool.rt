@@ -8,7 +8,7 @@ use std::process::Abort;
 use std::sync::Wait;
 use std::sync::atomic::{AtomicU64, Ordering};
 use std::thread::Threads;
-use steal_pool::{Gate, NoGate, PoolFault, evaluate};
+use steal_pool::{Gate, NoGate, PoolFault, evaluate, hands, merge};
 
 /// The choice of these names, in this order.
 fn choice_of(rt: &impl Abort, alloc: Global, names: &[u32]) -> Choice {
@@ -94,6 +94,32 @@ fn an_empty_choice_has_no_verdicts(rt: HostRuntime) {
         let found = on_a_star(&rt, rt.alloc(), &[], workers, &NoGate);
         assert!(rt; found.expect(&rt, "verdicts").is_empty());
     }
+}
+
+#[test]
+fn hands_work_one_after_the_other(rt: HostRuntime) {
+    let net = star(&rt, rt.alloc());
+    let choice = choice_of(&rt, rt.alloc(), &[4, 1]);
+    let Ok(mut hands) = hands(rt.alloc(), &choice, 2) else {
+        panic!(rt; "no hands");
+    };
+    let (Some(second), Some(first)) = (hands.pop(), hands.pop()) else {
+        panic!(rt; "no two hands");
+    };
+    assert!(rt; hands.is_empty());
+    let Ok(first_share) = first.work(&rt, &net, &choice, &NoGate) else {
+        panic!(rt; "no share");
+    };
+    let Ok(second_share) = second.work(&rt, &net, &choice, &NoGate) else {
+        panic!(rt; "no share");
+    };
+    expect_star(&rt, first_share.verdicts());
+    assert!(rt; second_share.verdicts().is_empty());
+    let Ok(shares) = Vec::from_array(rt.alloc(), [first_share, second_share]) else {
+        panic!(rt; "no memory");
+    };
+    let found = merge(rt.alloc(), shares, &net, &choice);
+    expect_star(&rt, &found.expect(&rt, "verdicts"));
 }
 
 /// The most looks that a worker waits for others.

@@ -4,12 +4,12 @@ use Rattle.rule_engine.specs.Choosing.{verdicts_of}
 use Rattle.steal_pool.specs.Laid.{IsRight, taken_in}
 use Rattle.steal_pool.proofs.merging.judge_left.Given as goal
 
-abbrev pub invariant-loop-place : goal.invariant-loop-place
-invariant-loop-place g l = record {
+abbrev pub invariant-loop-block : goal.invariant-loop-block
+invariant-loop-block g l = record {
   whole : (owner_tally l.owner).parts ≡ 64;
   count : (owner_tally l.owner).count ≡ length l.choice;
   right : IsRight (verdicts_of g.R.Rules.table l.net.state l.choice) l.table (taken_in (owner_tally l.owner));
 }
 
-abbrev pub decreases-loop-place : goal.decreases-loop-place
-decreases-loop-place g l = length l.choice - length (owner_tally l.owner).taken
+abbrev pub decreases-loop-block : goal.decreases-loop-block
+decreases-loop-block g l = length l.choice - length (owner_tally l.owner).taken

@@ -1,17 +1,21 @@
-use Rattle.std.proofs.Common.{ap, ◌∙◌, arith}
-use Rattle.std.specs.Result.{is_ok}
+use Rattle.std.proofs.Common.{List, ℕ, sym, subst, ap, ◌∙◌, arith}
 use Rattle.place_deque.specs.Ends.{Hold, end_taken}
-use Rattle.steal_pool.proofs.Laying.{judges, verdict_there, pushed}
+use Rattle.rule_engine.specs.Choosing.{verdicts_of}
+use Rattle.steal_pool.specs.Hands.{AreOf}
+use Rattle.steal_pool.proofs.Laying.{as_many, more_taken}
 use Rattle.steal_pool.proofs.hand.Hand.work.Goals as goal
 
-pub loop-place-preserved : goal.loop-place-preserved
-loop-place-preserved g c =
-    let loop = c.loop-place.invariant in
+pub judge_block-requires-clause-room : goal.judge_block-requires-clause-room
+judge_block-requires-clause-room g c =
+    let loop = c.loop-block.invariant in
     let count = ap (λ (h : Hold). h.count) loop.hold ∙ c.requires.choice in
-    let below = c.in-Some.ensures.within.0 in
-    let there = verdict_there g.R.Rules.table c.args.net.now.state c.args.choice.now c.in-Some.place c.verdict.result (omega arith) c.verdict.ensures in
+    omega (arith, loop.room, c.in-Some.ensures.within, as_many _ (end_taken c.loop-block.end) c.loop-block.verdicts.items loop.judged, more_taken (end_taken c.loop-block.end) (end_taken c.take.new.self) c.in-Some.block c.in-Some.ensures.taken)
+
+pub loop-block-preserved : goal.loop-block-preserved
+loop-block-preserved g c =
+    let loop = c.loop-block.invariant in
     record {
       hold = c.in-Some.ensures.hold ∙ loop.hold;
-      judged = judges _ (end_taken c.loop-place.end) _ c.in-Some.place c.loop-place.verdicts.items c.push.new.self.items c.verdict.result there c.in-Some.ensures.taken (pushed (is_ok c.push.result) c.loop-place.verdicts.items c.push.new.self.items c.verdict.result c.push.ensures.items (ap is_ok c.unwrap.ensures)) loop.judged;
-      room = omega (arith, loop.room, c.push.ensures.capacity);
+      judged = subst (λ (l : List ℕ). AreOf (verdicts_of g.R.Rules.table c.args.net.now.state c.args.choice.now) l c.judge_block.new.verdicts.items) (sym c.in-Some.ensures.taken) (c.judge_block.ensures.judged (end_taken c.loop-block.end) loop.judged);
+      room = omega (arith, loop.room, c.judge_block.ensures.room);
     }

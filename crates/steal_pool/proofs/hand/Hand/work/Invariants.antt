@@ -4,12 +4,12 @@ use Rattle.rule_engine.specs.Choosing.{verdicts_of}
 use Rattle.steal_pool.specs.Hands.{hand_hold, AreOf}
 use Rattle.steal_pool.proofs.hand.Hand.work.Given as goal
 
-abbrev pub invariant-loop-place : goal.invariant-loop-place
-invariant-loop-place g l = record {
+abbrev pub invariant-loop-block : goal.invariant-loop-block
+invariant-loop-block g l = record {
   hold : end_hold l.end ≡ hand_hold l.fn.self;
   judged : AreOf (verdicts_of g.R.Rules.table l.net.state l.choice) (end_taken l.end) l.verdicts.items;
   room : length l.choice ≤ vec_capacity l.verdicts;
 }
 
-abbrev pub decreases-loop-place : goal.decreases-loop-place
-decreases-loop-place g l = length l.choice - length (end_taken l.end)
+abbrev pub decreases-loop-block : goal.decreases-loop-block
+decreases-loop-block g l = length l.choice - length (end_taken l.end)
