@@ -53,13 +53,14 @@ impl<R: Rules> Run<R> {
     }
 
     // Carries out an event and adds the text of its entry; false where the log is full.
-    fn log(&mut self, event: Event) -> Result<bool, Want>
-        ensures ends { EventEnds R.table self.old.recorder.limit event (progress self.old.recorder self.old.text.items) (progress self.new.recorder self.new.text.items) result }
+    #[inline(always)]
+    fn log(&mut self, event: &Event) -> Result<bool, Want>
+        ensures ends { EventEnds R.table self.old.recorder.limit event.now (progress self.old.recorder self.old.text.items) (progress self.new.recorder self.new.text.items) result }
         ensures limit { self.new.recorder.limit ≡ self.old.recorder.limit }
     {
-        match self.recorder.log(&event) {
+        match self.recorder.log(event) {
             Ok(answer) => {
-                put_entry(&mut self.text, answer.seq, &event, &answer.reply)?;
+                put_entry(&mut self.text, answer.seq, event, &answer.reply)?;
                 Ok(true)
             }
             Err(RecordFault::LogFull) => Ok(false),
@@ -81,7 +82,7 @@ impl<R: Rules> Run<R> {
             let Some(event) = source.next_event(self.recorder.net())? else {
                 return Ok(true);
             };
-            if !self.log(event)? {
+            if !self.log(&event)? {
                 return Ok(false);
             }
         }
@@ -95,16 +96,16 @@ impl<R: Rules + Sync> Run<R> {
         &mut self,
         rt: &T,
         alloc: Global,
-        command: Command,
+        command: &Command,
     ) -> Result<bool, Want>
-        ensures ends { CommandEnds R.table self.old.recorder.limit command (progress self.old.recorder self.old.text.items) (progress self.new.recorder self.new.text.items) result }
+        ensures ends { CommandEnds R.table self.old.recorder.limit command.now (progress self.old.recorder self.old.text.items) (progress self.new.recorder self.new.text.items) result }
         ensures limit { self.new.recorder.limit ≡ self.old.recorder.limit }
     {
         match command {
-            Command::Tell(Event::Step(choice)) if self.workers > 1 => {
-                self.log_step(rt, alloc, choice)
-            }
-            Command::Tell(event) => self.log(event),
+            Command::Tell(event) => match event {
+                Event::Step(choice) if self.workers > 1 => self.log_step(rt, alloc, event, choice),
+                _ => self.log(event),
+            },
             Command::Drive(turns) => {
                 let mut daemon = DaemonTurns::new(alloc, turns.seed);
                 self.take_turns(&mut daemon, turns.count)
@@ -134,7 +135,7 @@ impl<R: Rules + Sync> Run<R> {
             return Ok(Some(Stop::BadLine { line: number }));
         };
         let len = self.text.len();
-        match self.follow(rt, alloc, command) {
+        match self.follow(rt, alloc, &command) {
             Ok(true) => Ok(None),
             Ok(false) => Ok(Some(Stop::LogFull)),
             Err(want) => {
