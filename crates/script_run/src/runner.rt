@@ -52,7 +52,8 @@ impl<R: Rules> Run<R> {
         })
     }
 
-    // Carries out an event and adds the text of its entry; false where the log is full.
+    // Carries out an event and adds the text of its entry; false where the log is full. It stands in line with what reads the
+    // event, as all that lies between does: so no event is copied from call to call.
     #[inline(always)]
     fn log(&mut self, event: &Event) -> Result<bool, Want>
         ensures ends { EventEnds R.table self.old.recorder.limit event.now (progress self.old.recorder self.old.text.items) (progress self.new.recorder self.new.text.items) result }
@@ -92,6 +93,7 @@ impl<R: Rules> Run<R> {
 
 impl<R: Rules + Sync> Run<R> {
     // Follows a command; false where it meets a full log.
+    #[inline(always)]
     fn follow<T: Threads + Wait + Sync>(
         &mut self,
         rt: &T,
@@ -118,6 +120,7 @@ impl<R: Rules + Sync> Run<R> {
     }
 
     // Carries out the line with this number: what in it stops the run, if anything does.
+    #[inline(always)]
     pub fn carry_out<T: Threads + Wait + Sync>(
         &mut self,
         rt: &T,
