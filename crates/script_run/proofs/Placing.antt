@@ -6,7 +6,7 @@ use Rattle.std.specs.Prelude.{IsErr, IfSome}
 use Rattle.std.proofs.KnownBytes.{Appends-nil, Appends-trans, Consumes-trans}
 use Rattle.std.specs.Io.KnownBytes.{Consumes}
 use Rattle.rule_machine.specs.RuleTable.{RuleTable}
-use Rattle.script_machine.specs.Script.{Progress, LineDoes, LinesDo, IsLine, IsBadLine, lines_of}
+use Rattle.script_machine.specs.Script.{Progress, LinesDo, IsLine, IsBadLine, lines_of}
 use Rattle.script_machine.proofs.Ending.{GoesOn, goes_on, line_joined, lines_of-ended, lines_of-last}
 use Rattle.script_machine.proofs.Lengths.{long_says_nothing}
 use Rattle.byte_output.specs.Beginning.{AppendsBeginning, AppendsLess}
