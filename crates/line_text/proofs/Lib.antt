@@ -1,3 +1,4 @@
+pub mod Decimals
 pub mod Growing
 pub mod Digits
 pub mod ItemsOnce

@@ -78,6 +78,7 @@ fn read_flag(bytes: &[u8]) -> Option<(Node, bool)>
 
 /// Reads the command that a line is; `None` where it is none. Memory is for the items of a step alone: every other line,
 /// a bad one too, is read without.
+#[inline(always)]
 pub fn read_command(alloc: Global, line: &[u8]) -> Result<Option<Event>, Want>
     ensures command { IfOk result
         (λ found. MatchOption found (NotACommand line.now) (λ event. Spells line.now event)) }

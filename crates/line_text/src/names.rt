@@ -11,18 +11,21 @@ use rule_machine::Node;
 /// The most digits that a name has.
 const MAX_DIGITS: usize = 5;
 
-// How many digits stand at the front.
-fn count_digits(bytes: &[u8]) -> usize
-    ensures within { result ≤ length bytes.now }
-    ensures digits { AllDigits 10 (take result bytes.now) }
-    ensures ends { NoDigit (drop result bytes.now) }
+// How many digits stand at the front, and the number that they say where they are no more than a name has.
+fn read_digits(bytes: &[u8]) -> (usize, u32)
+    ensures within { result.0 ≤ length bytes.now }
+    ensures digits { AllDigits 10 (take result.0 bytes.now) }
+    ensures ends { NoDigit (drop result.0 bytes.now) }
+    ensures value { result.0 ≤ 5 → result.1 ≡ digits_value 10 (take result.0 bytes.now) }
 {
+    let mut value = 0u32;
     for (i, byte) in bytes.iter().enumerate() {
         if !byte.is_ascii_digit() {
-            return i;
+            return (i, value);
         }
+        value = value.wrapping_mul(10).wrapping_add(u32::from(*byte - b'0'));
     }
-    bytes.len()
+    (bytes.len(), value)
 }
 
 /// The number that the digits say.
@@ -44,15 +47,14 @@ pub(crate) fn read_name(bytes: &[u8]) -> Option<(Node, &[u8])>
         ((name : ℕ) (rest : List ℕ) → NameThen bytes.now name rest → ⊥)
         (λ found. NameThen bytes.now found.0 found.1.now) }
 {
-    let len = count_digits(bytes);
+    let (len, value) = read_digits(bytes);
     if len == 0 || len > MAX_DIGITS || bytes[0] == b'0' {
         return None;
     }
-    let (digits, rest) = bytes.split_at(len);
-    let Some(node) = Node::new(value_of(digits)) else {
+    let Some(node) = Node::new(value) else {
         return None;
     };
-    Some((node, rest))
+    Some((node, &bytes[len..]))
 }
 
 /// Reads a name that nothing follows.

@@ -1,6 +1,6 @@
 //! Numbers and names at the end of a text.
 
-ghost use Rattle.std.specs.Prelude.{◌≡◌, ◌++◌, IfSome, codes, OnOk, OnErr};
+ghost use Rattle.std.specs.Prelude.{◌≡◌, ◌+◌, ◌/◌, ◌%◌, ◌<◌, ◌≤◌, ◌++◌, IfSome, codes, OnOk, OnErr};
 ghost use Rattle.line_text.specs.Words.{number_text, IsName, marked_text};
 ghost use Rattle.line_text.specs.EventText.{target_text};
 ghost use Rattle.line_text.specs.Growth.{Extends};
@@ -8,13 +8,71 @@ ghost use Rattle.line_text.specs.Growth.{Extends};
 use itoa::Buffer;
 use rule_machine::{Node, Want};
 
+/// The two digits of each number below 100.
+static PAIRS: [u8; 200] =
+    *b"00010203040506070809101112131415161718192021222324252627282930313233343536373839404142434445464748495051525354555657585960616263646566676869707172737475767778798081828384858687888990919293949596979899";
+
+// The two digits of a number below 100.
+#[inline(always)]
+fn pair(number: u32) -> (u8, u8)
+    requires { number < 100 }
+    ensures tens { result.0 ≡ 48 + number / 10 }
+    ensures ones { result.1 ≡ 48 + number % 10 }
+{
+    let at = number as usize * 2;
+    (PAIRS[at], PAIRS[at + 1])
+}
+
+// Writes a number of at most four digits.
+fn put_short(out: &mut Vec<u8>, number: u32) -> Result<(), Want>
+    requires { number < 10000 }
+    ensures ok { OnOk result (out.new.items ≡ out.old.items ++ number_text number) }
+    ensures err { OnErr result (out.new.items ≡ out.old.items) }
+{
+    if number < 10 {
+        return out.extend_from_slice(&[b'0' + number as u8]);
+    }
+    let (front, back) = (number / 100, number % 100);
+    let (tens, ones) = pair(back);
+    if front == 0 {
+        return out.extend_from_slice(&[tens, ones]);
+    }
+    if front < 10 {
+        return out.extend_from_slice(&[b'0' + front as u8, tens, ones]);
+    }
+    let (first, second) = pair(front);
+    out.extend_from_slice(&[first, second, tens, ones])
+}
+
+// Writes a number of more than four digits.
+fn put_long(out: &mut Vec<u8>, number: u32) -> Result<(), Want>
+    requires { 10000 ≤ number }
+    ensures ok { OnOk result (out.new.items ≡ out.old.items ++ number_text number) }
+    ensures err { OnErr result (out.new.items ≡ out.old.items) }
+{
+    if number >= 1_000_000 {
+        return out.extend_from_slice(Buffer::new().format(number).as_bytes());
+    }
+    let (front, back) = (number / 10_000, number % 10_000);
+    let (thousands, hundreds) = pair(back / 100);
+    let (tens, ones) = pair(back % 100);
+    if front < 10 {
+        let first = b'0' + front as u8;
+        return out.extend_from_slice(&[first, thousands, hundreds, tens, ones]);
+    }
+    let (first, second) = pair(front);
+    out.extend_from_slice(&[first, second, thousands, hundreds, tens, ones])
+}
+
 /// Writes a number in decimal.
 pub(crate) fn put_number(out: &mut Vec<u8>, number: u32) -> Result<(), Want>
     ensures ok { OnOk result (out.new.items ≡ out.old.items ++ number_text number) }
     ensures err { OnErr result (out.new.items ≡ out.old.items) }
 {
-    let mut digits = Buffer::new();
-    out.extend_from_slice(digits.format(number).as_bytes())
+    if number < 10_000 {
+        return put_short(out, number);
+    }
+    put_long(out, number)
 }
 
 /// Writes a node's name.

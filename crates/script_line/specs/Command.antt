@@ -29,6 +29,10 @@ IsCommand (Scramble turns) = IsTurns turns
 abbrev pub Says : List ℕ → Command → Type 0
 Says line command = IsCommand command × (line ≡ command_text command)
 
+-- the line asks for no turns
+abbrev pub SaysNoTurns : List ℕ → Type 0
+SaysNoTurns line = (turns : Turns) → IsTurns turns → (line ≡ codes "drive " ++ turns_text turns → ⊥) × (line ≡ codes "scramble " ++ turns_text turns → ⊥)
+
 -- the line is no command
 abbrev pub SaysNothing : List ℕ → Type 0
 SaysNothing line = (command : Command) → Says line command → ⊥

@@ -2,7 +2,7 @@
 
 ghost use Rattle.std.specs.Prelude.{IfOk, MatchOption};
 ghost use Rattle.line_text.specs.Reading.{Reads};
-ghost use Rattle.script_line.specs.Command.{IsTurns, turns_text, Says, SaysNothing};
+ghost use Rattle.script_line.specs.Command.{IsTurns, turns_text, Says, SaysNothing, SaysNoTurns};
 
 use crate::{Command, MAX_TURNS, Turns};
 use line_text::{after, read_command, read_number};
@@ -29,15 +29,26 @@ fn read_turns(bytes: &[u8]) -> Option<Turns>
     })
 }
 
+// Reads the turns that a line asks for.
+fn read_turning(line: &[u8]) -> Option<Command>
+    ensures { MatchOption result (SaysNoTurns line.now) (λ command. Says line.now command) }
+{
+    if let Some(rest) = after(line, b"drive ") {
+        return read_turns(rest).map(|turns| Command::Drive(turns));
+    }
+    if let Some(rest) = after(line, b"scramble ") {
+        return read_turns(rest).map(|turns| Command::Scramble(turns));
+    }
+    None
+}
+
 /// Reads the command that a line is; `None` where it is none. Memory is for the items of a step alone.
+#[inline(always)]
 pub fn read_line(alloc: Global, line: &[u8]) -> Result<Option<Command>, Want>
     ensures { IfOk result (λ found. MatchOption found (SaysNothing line.now) (λ command. Says line.now command)) }
 {
-    if let Some(rest) = after(line, b"drive ") {
-        return Ok(read_turns(rest).map(|turns| Command::Drive(turns)));
+    if let Some(event) = read_command(alloc, line)? {
+        return Ok(Some(Command::Tell(event)));
     }
-    if let Some(rest) = after(line, b"scramble ") {
-        return Ok(read_turns(rest).map(|turns| Command::Scramble(turns)));
-    }
-    Ok(read_command(alloc, line)?.map(|event| Command::Tell(event)))
+    Ok(read_turning(line))
 }

@@ -3,10 +3,10 @@ use Rattle.std.proofs.Common.{◌≡◌, ◌∙◌, ℕ, zero, suc, ◌+◌, ◌
 use Rattle.std.proofs.lemmas.Bool.{true≢false}
 use Rattle.std.proofs.Math.Seq.{take-append_seam}
 use Rattle.std.specs.Prelude.{IsErr, IfSome}
-use Rattle.std.proofs.KnownBytes.{Appends-nil, Appends-trans}
+use Rattle.std.proofs.KnownBytes.{Appends-nil, Appends-trans, Consumes-trans}
 use Rattle.std.specs.Io.KnownBytes.{Consumes}
 use Rattle.rule_machine.specs.RuleTable.{RuleTable}
-use Rattle.script_machine.specs.Script.{Progress, LineDoes, LinesDo, IsLine, IsBadLine, lines_of}
+use Rattle.script_machine.specs.Script.{Progress, LinesDo, IsLine, IsBadLine, lines_of}
 use Rattle.script_machine.proofs.Ending.{GoesOn, goes_on, line_joined, lines_of-ended, lines_of-last}
 use Rattle.script_machine.proofs.Lengths.{long_says_nothing}
 use Rattle.byte_output.specs.Beginning.{AppendsBeginning, AppendsLess}
@@ -19,7 +19,7 @@ use Rattle.script_run.specs.Halted.{Hands, Halts}
 use Rattle.script_run.specs.Line.{LineEnds}
 use Rattle.script_run.specs.Place.{Stands, PieceEnds}
 use Rattle.script_run.proofs.Shifting.{at_line, line_adds, meeting_adds}
-use Rattle.script_run.proofs.Running.{LinesDo-more, LeadsTo-before, Hands-less, Hands-begun}
+use Rattle.script_run.proofs.Running.{LineEnds-done, LinesDo-more, LeadsTo-before, Hands-less, Hands-begun}
 
 -- a buffer that a read has filled anew
 pub refilled : (k : ℕ) (new old : List ℕ) → length new ≡ k → take k (new ++ drop (length new) old) ≡ new
@@ -92,11 +92,12 @@ module _ (t : RuleTable) (limit : ℕ) (start : Progress) (old : Option (List �
       ∙ ap lines_of (sym (append_assoc begun line (10 ∷ (behind ++ more))))
       ∙ lines_of-ended (begun ++ line) (behind ++ more) (line_joined begun line front back)
 
-  pub Stands-line : (read begun line behind rest : List ℕ) (n : ℕ) (now after : Progress) (known : Option (List ℕ))
+  pub Stands-line : {E : Type 0} (k : ℕ) (read begun line behind rest : List ℕ) (n : ℕ) (now after : Progress) (known : Option (List ℕ)) (result : Result (Option Stop) E)
       → Stands t limit start old read begun rest n now known → IsLine line → rest ≡ line ++ 10 ∷ behind
-      → LineDoes t limit (begun ++ line) now after
+      → k ≡ limit → LineEnds t k (n + 1) (begun ++ line) now after result → result ≡ Ok None
       → Stands t limit start old read [] behind (n + 1) after known
-  Stands-line read begun line behind rest n now after known h ended e line_does =
+  Stands-line k read begun line behind rest n now after known result h ended e same ends is =
+      let line_does = LineEnds-done t limit (n + 1) (begun ++ line) now after result (subst (λ m. LineEnds t m (n + 1) (begun ++ line) now after result) same ends) is in
       let adds = line_adds t limit (begun ++ line) now.moment after.moment now.count after.count now.text after.text line_does in record {
         before = h.before ++ (begun ++ line) ∷ [];
         text = h.text ++ adds.more;
@@ -293,6 +294,18 @@ module _ (t : RuleTable) (limit : ℕ) (start : Progress) (old : Option (List �
   piece_at k read bytes begun begun' n n' now now' known known' result same piece h =
       let P : ℕ → Type 0 = λ m. Stands t m start old (read ++ bytes) begun bytes n now known → PieceEnds t m start old (read ++ bytes) begun' n' now' known' result in
       subst P same (piece start old (read ++ bytes)) (Stands-read read begun bytes n now known h)
+
+  -- a piece that was read behind all that was written so far is carried out
+  pub piece_read : {E : Type 0} (k : ℕ) (a b c : Option (List ℕ)) (read chunk buffer : List ℕ) (len : ℕ) (begun begun' : List ℕ) (n n' : ℕ) (now held now' : Progress) (known known' known'' : Option (List ℕ)) (result : Result (Option End) E)
+      → Consumes a b read → Stands t limit start old read begun [] n now known
+      → now.moment ≡ held.moment → now.count ≡ held.count → Hands known known' now.text held.text
+      → chunk ≡ buffer → Consumes b c (take len chunk) → k ≡ limit
+      → ((start : Progress) (old : Option (List ℕ)) (read : List ℕ) → Stands t k start old read begun (take len buffer) n held known' → PieceEnds t k start old read begun' n' now' known'' result)
+      → Consumes a c (read ++ take len buffer) × PieceEnds t limit start old (read ++ take len buffer) begun' n' now' known'' result
+  piece_read k a b c read chunk buffer len begun begun' n n' now held now' known known' known'' result used stands moment count handed same bytes limits piece = (
+    Consumes-trans a b c read (take len buffer) used (subst (λ l. Consumes b c (take len l)) same bytes),
+    piece_at k read (take len buffer) begun begun' n n' held now' known' known'' result limits piece (Stands-handed read begun [] n now held known known' stands moment count handed),
+  )
 
   pub last_at : (k : ℕ) (read begun : List ℕ) (n : ℕ) (now : Progress) (known : Option (List ℕ)) (held : List ℕ) (end : End) → k ≡ limit
       → ((start : Progress) (old known : Option (List ℕ)) (read : List ℕ) → Stands t k start old read begun [] n now known → Halts t k (lines_of read) start end (λ text. Hands old known text held))

@@ -36,11 +36,12 @@ impl<R: Rules + Sync> Run<R> {
         ensures begun { OnOk result (place.new.begun.items ≡ []) }
     {
         place.lines += 1;
-        if place.begun.is_empty() {
-            return self.carry_out(rt, alloc, place.lines, end);
+        let joined = !place.begun.is_empty();
+        if joined {
+            place.begun.extend_from_slice(end)?;
         }
-        place.begun.extend_from_slice(end)?;
-        let stop = self.carry_out(rt, alloc, place.lines, &place.begun)?;
+        let line = if joined { place.begun.as_slice() } else { end };
+        let stop = self.carry_out(rt, alloc, place.lines, line)?;
         place.begun.clear();
         Ok(stop)
     }

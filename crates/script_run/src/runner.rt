@@ -52,14 +52,16 @@ impl<R: Rules> Run<R> {
         })
     }
 
-    // Carries out an event and adds the text of its entry; false where the log is full.
-    fn log(&mut self, event: Event) -> Result<bool, Want>
-        ensures ends { EventEnds R.table self.old.recorder.limit event (progress self.old.recorder self.old.text.items) (progress self.new.recorder self.new.text.items) result }
+    // Carries out an event and adds the text of its entry; false where the log is full. It stands in line with what reads the
+    // event, as all that lies between does: so no event is copied from call to call.
+    #[inline(always)]
+    fn log(&mut self, event: &Event) -> Result<bool, Want>
+        ensures ends { EventEnds R.table self.old.recorder.limit event.now (progress self.old.recorder self.old.text.items) (progress self.new.recorder self.new.text.items) result }
         ensures limit { self.new.recorder.limit ≡ self.old.recorder.limit }
     {
-        match self.recorder.log(&event) {
+        match self.recorder.log(event) {
             Ok(answer) => {
-                put_entry(&mut self.text, answer.seq, &event, &answer.reply)?;
+                put_entry(&mut self.text, answer.seq, event, &answer.reply)?;
                 Ok(true)
             }
             Err(RecordFault::LogFull) => Ok(false),
@@ -81,7 +83,7 @@ impl<R: Rules> Run<R> {
             let Some(event) = source.next_event(self.recorder.net())? else {
                 return Ok(true);
             };
-            if !self.log(event)? {
+            if !self.log(&event)? {
                 return Ok(false);
             }
         }
@@ -91,20 +93,21 @@ impl<R: Rules> Run<R> {
 
 impl<R: Rules + Sync> Run<R> {
     // Follows a command; false where it meets a full log.
+    #[inline(always)]
     fn follow<T: Threads + Wait + Sync>(
         &mut self,
         rt: &T,
         alloc: Global,
-        command: Command,
+        command: &Command,
     ) -> Result<bool, Want>
-        ensures ends { CommandEnds R.table self.old.recorder.limit command (progress self.old.recorder self.old.text.items) (progress self.new.recorder self.new.text.items) result }
+        ensures ends { CommandEnds R.table self.old.recorder.limit command.now (progress self.old.recorder self.old.text.items) (progress self.new.recorder self.new.text.items) result }
         ensures limit { self.new.recorder.limit ≡ self.old.recorder.limit }
     {
         match command {
-            Command::Tell(Event::Step(choice)) if self.workers > 1 => {
-                self.log_step(rt, alloc, choice)
-            }
-            Command::Tell(event) => self.log(event),
+            Command::Tell(event) => match event {
+                Event::Step(choice) if self.workers > 1 => self.log_step(rt, alloc, event, choice),
+                _ => self.log(event),
+            },
             Command::Drive(turns) => {
                 let mut daemon = DaemonTurns::new(alloc, turns.seed);
                 self.take_turns(&mut daemon, turns.count)
@@ -117,6 +120,7 @@ impl<R: Rules + Sync> Run<R> {
     }
 
     // Carries out the line with this number: what in it stops the run, if anything does.
+    #[inline(always)]
     pub fn carry_out<T: Threads + Wait + Sync>(
         &mut self,
         rt: &T,
@@ -134,7 +138,7 @@ impl<R: Rules + Sync> Run<R> {
             return Ok(Some(Stop::BadLine { line: number }));
         };
         let len = self.text.len();
-        match self.follow(rt, alloc, command) {
+        match self.follow(rt, alloc, &command) {
             Ok(true) => Ok(None),
             Ok(false) => Ok(Some(Stop::LogFull)),
             Err(want) => {

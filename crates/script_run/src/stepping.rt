@@ -21,9 +21,11 @@ impl<R: Rules + Sync> Run<R> {
         &mut self,
         rt: &T,
         alloc: Global,
-        choice: Choice,
+        event: &Event,
+        choice: &Choice,
     ) -> Result<bool, Want>
-        ensures ends { EventEnds R.table self.old.recorder.limit (Step choice) (progress self.old.recorder self.old.text.items) (progress self.new.recorder self.new.text.items) result }
+        requires { event.now ≡ Step choice.now }
+        ensures ends { EventEnds R.table self.old.recorder.limit event.now (progress self.old.recorder self.old.text.items) (progress self.new.recorder self.new.text.items) result }
         ensures full { self.old.recorder.len ≡ self.old.recorder.limit → IsOk result }
         ensures limit { self.new.recorder.limit ≡ self.old.recorder.limit }
     {
@@ -31,13 +33,12 @@ impl<R: Rules + Sync> Run<R> {
             return Ok(false);
         }
         let net = self.recorder.net();
-        let Ok(verdicts) = evaluate(rt, alloc, net, &choice, self.workers, &NoGate) else {
+        let Ok(verdicts) = evaluate(rt, alloc, net, choice, self.workers, &NoGate) else {
             return Err(AllocError);
         };
-        match self.recorder.log_step(&choice, &verdicts) {
+        match self.recorder.log_step(choice, &verdicts) {
             Ok(answer) => {
-                let event = Event::Step(choice);
-                put_entry(&mut self.text, answer.seq, &event, &answer.reply)?;
+                put_entry(&mut self.text, answer.seq, event, &answer.reply)?;
                 Ok(true)
             }
             Err(RecordFault::LogFull) => Ok(false),

@@ -1,4 +1,4 @@
-use Rattle.std.proofs.Common.{◌≡◌, ◌∙◌, ◌++◌, ℕ, List, [], Option, Ok, length, take, refl, sym, ap, subst, append-nil, arith}
+use Rattle.std.proofs.Common.{◌≡◌, ◌∙◌, ◌++◌, ℕ, [], Option, Ok, length, take, refl, sym, ap, subst, append-nil, arith}
 use Rattle.std.proofs.KnownBytes.{Consumes-nil, Consumes-trans, Consumes-whole}
 use Rattle.std.specs.Io.KnownBytes.{Consumes}
 use Rattle.std.specs.Prelude.{IsNone}
@@ -10,7 +10,7 @@ use Rattle.script_run.specs.Outcome.{LeadsTo}
 use Rattle.script_run.specs.Halted.{Hands, Halts}
 use Rattle.script_run.specs.Line.{progress}
 use Rattle.script_run.proofs.Running.{OnErr-holds}
-use Rattle.script_run.proofs.Placing.{refilled, take_short, known_read, moved_on, Stands-none, Stands-handed, Stands-began, Stands-unread, Stands-memory, piece_at, last_at, piece_goes_on, piece_stops, piece_fails}
+use Rattle.script_run.proofs.Placing.{refilled, take_short, known_read, moved_on, Stands-none, Stands-handed, Stands-began, Stands-unread, Stands-memory, piece_read, last_at, piece_goes_on, piece_stops, piece_fails}
 use Rattle.script_run.proofs.runner.Run.carry_out_all.Goals as goal
 
 pub returns-in_default-clause-ok : goal.returns-in_default-clause-ok
@@ -90,21 +90,18 @@ returns-in_err-end-clause-fault g c =
     let later = c.carry_out_piece.new.place in
     let start = progress begun.recorder begun.text.items in
     let old = g.Out.Write.contents c.args.writer.now in
-    let known = g.Out.Write.contents c.hand_over_all.new.writer in
     let known' = g.Out.Write.contents c.carry_out_piece.new.writer in
-    let held = c.hand_over_all.new.text.items in
     let left = g.In.Read.remaining in
     let stood = c.loop.invariant.stands in
-    let handed = Stands-handed g.R.Rules.table begun.recorder.limit start old stood.0 place.begun.items [] place.lines (progress run.recorder run.text.items) (progress run.recorder held) (g.Out.Write.contents c.loop.writer) known stood.2 refl refl c.in_ok-hand_over_all.ensures.ok in
     let piece = take c.in-Ok-read_on.len c.deref-in-loop.result.now in
     let same : c.read_on.new.chunk ≡ c.deref-in-loop.result.now = sym (refilled c.loop.chunk.len c.read_on.new.chunk c.loop.chunk.items (c.read_on.ensures.room ∙ c.deref_mut.ensures.len)) ∙ sym c.deref-in-loop.ensures.value in
-    let bytes = subst (λ (l : List ℕ). Consumes (left c.loop.reader) (left c.read_on.new.reader) (take c.in-Ok-read_on.len l)) same c.in-Ok-read_on.ensures.bytes in
-    let used = Consumes-trans (left c.args.reader.now) (left c.loop.reader) (left c.read_on.new.reader) stood.0 piece stood.1 bytes in
-    let ends = piece_at g.R.Rules.table begun.recorder.limit start old run.recorder.limit stood.0 piece place.begun.items later.begun.items place.lines later.lines (progress run.recorder held) (progress after.recorder after.text.items) known known' c.carry_out_piece.result c.loop.invariant.limit c.carry_out_piece.ensures.piece handed in
+    let done = piece_read g.R.Rules.table begun.recorder.limit start old run.recorder.limit (left c.args.reader.now) (left c.loop.reader) (left c.read_on.new.reader) stood.0 c.read_on.new.chunk c.deref-in-loop.result.now c.in-Ok-read_on.len place.begun.items later.begun.items place.lines later.lines
+    (progress run.recorder run.text.items) (progress run.recorder c.hand_over_all.new.text.items) (progress after.recorder after.text.items) (g.Out.Write.contents c.loop.writer) (g.Out.Write.contents c.hand_over_all.new.writer) known' c.carry_out_piece.result
+    stood.1 stood.2 refl refl c.in_ok-hand_over_all.ensures.ok same c.in-Ok-read_on.ensures.bytes c.loop.invariant.limit c.carry_out_piece.ensures.piece in
     OnErr-holds c.from_residual-in_err-end.result
     (known_read (left c.args.reader.now) (left c.read_on.new.reader) (stood.0 ++ piece)
-    (λ script. (end : Progress) × LeadsTo g.R.Rules.table begun.recorder.limit (lines_of script) start end × AppendsBeginning old known' end.text) used
-    (piece_fails g.R.Rules.table begun.recorder.limit start old (stood.0 ++ piece) later.begun.items later.lines (progress after.recorder after.text.items) known' c.carry_out_piece.result c.in_err-end.field-0.0 ends c.in_err-end.was))
+    (λ script. (end : Progress) × LeadsTo g.R.Rules.table begun.recorder.limit (lines_of script) start end × AppendsBeginning old known' end.text) done.0
+    (piece_fails g.R.Rules.table begun.recorder.limit start old (stood.0 ++ piece) later.begun.items later.lines (progress after.recorder after.text.items) known' c.carry_out_piece.result c.in_err-end.field-0.0 done.1 c.in_err-end.was))
 
 pub returns-in-Some-clause-ok : goal.returns-in-Some-clause-ok
 returns-in-Some-clause-ok g c =
@@ -115,20 +112,17 @@ returns-in-Some-clause-ok g c =
     let later = c.carry_out_piece.new.place in
     let start = progress begun.recorder begun.text.items in
     let old = g.Out.Write.contents c.args.writer.now in
-    let known = g.Out.Write.contents c.hand_over_all.new.writer in
     let known' = g.Out.Write.contents c.carry_out_piece.new.writer in
-    let held = c.hand_over_all.new.text.items in
     let left = g.In.Read.remaining in
     let stood = c.loop.invariant.stands in
-    let handed = Stands-handed g.R.Rules.table begun.recorder.limit start old stood.0 place.begun.items [] place.lines (progress run.recorder run.text.items) (progress run.recorder held) (g.Out.Write.contents c.loop.writer) known stood.2 refl refl c.in_ok-hand_over_all.ensures.ok in
     let piece = take c.in-Ok-read_on.len c.deref-in-loop.result.now in
     let same : c.read_on.new.chunk ≡ c.deref-in-loop.result.now = sym (refilled c.loop.chunk.len c.read_on.new.chunk c.loop.chunk.items (c.read_on.ensures.room ∙ c.deref_mut.ensures.len)) ∙ sym c.deref-in-loop.ensures.value in
-    let bytes = subst (λ (l : List ℕ). Consumes (left c.loop.reader) (left c.read_on.new.reader) (take c.in-Ok-read_on.len l)) same c.in-Ok-read_on.ensures.bytes in
-    let used = Consumes-trans (left c.args.reader.now) (left c.loop.reader) (left c.read_on.new.reader) stood.0 piece stood.1 bytes in
-    let ends = piece_at g.R.Rules.table begun.recorder.limit start old run.recorder.limit stood.0 piece place.begun.items later.begun.items place.lines later.lines (progress run.recorder held) (progress after.recorder after.text.items) known known' c.carry_out_piece.result c.loop.invariant.limit c.carry_out_piece.ensures.piece handed in
+    let done = piece_read g.R.Rules.table begun.recorder.limit start old run.recorder.limit (left c.args.reader.now) (left c.loop.reader) (left c.read_on.new.reader) stood.0 c.read_on.new.chunk c.deref-in-loop.result.now c.in-Ok-read_on.len place.begun.items later.begun.items place.lines later.lines
+    (progress run.recorder run.text.items) (progress run.recorder c.hand_over_all.new.text.items) (progress after.recorder after.text.items) (g.Out.Write.contents c.loop.writer) (g.Out.Write.contents c.hand_over_all.new.writer) known' c.carry_out_piece.result
+    stood.1 stood.2 refl refl c.in_ok-hand_over_all.ensures.ok same c.in-Ok-read_on.ensures.bytes c.loop.invariant.limit c.carry_out_piece.ensures.piece in
     known_read (left c.args.reader.now) (left c.read_on.new.reader) (stood.0 ++ piece)
-    (λ script. Halts g.R.Rules.table begun.recorder.limit (lines_of script) start c.in-Some.end (λ text. Hands old known' text after.text.items)) used
-    (piece_stops g.R.Rules.table begun.recorder.limit start old (stood.0 ++ piece) later.begun.items later.lines (progress after.recorder after.text.items) known' c.carry_out_piece.result c.in-Some.end ends (c.in_ok-end.was ∙ ap (λ (o : Option End). Ok o) c.in-Some.is))
+    (λ script. Halts g.R.Rules.table begun.recorder.limit (lines_of script) start c.in-Some.end (λ text. Hands old known' text after.text.items)) done.0
+    (piece_stops g.R.Rules.table begun.recorder.limit start old (stood.0 ++ piece) later.begun.items later.lines (progress after.recorder after.text.items) known' c.carry_out_piece.result c.in-Some.end done.1 (c.in_ok-end.was ∙ ap (λ (o : Option End). Ok o) c.in-Some.is))
 
 pub loop-preserved : goal.loop-preserved
 loop-preserved g c =
@@ -139,20 +133,17 @@ loop-preserved g c =
     let later = c.carry_out_piece.new.place in
     let start = progress begun.recorder begun.text.items in
     let old = g.Out.Write.contents c.args.writer.now in
-    let known = g.Out.Write.contents c.hand_over_all.new.writer in
     let known' = g.Out.Write.contents c.carry_out_piece.new.writer in
-    let held = c.hand_over_all.new.text.items in
     let left = g.In.Read.remaining in
     let stood = c.loop.invariant.stands in
-    let handed = Stands-handed g.R.Rules.table begun.recorder.limit start old stood.0 place.begun.items [] place.lines (progress run.recorder run.text.items) (progress run.recorder held) (g.Out.Write.contents c.loop.writer) known stood.2 refl refl c.in_ok-hand_over_all.ensures.ok in
     let piece = take c.in-Ok-read_on.len c.deref-in-loop.result.now in
     let same : c.read_on.new.chunk ≡ c.deref-in-loop.result.now = sym (refilled c.loop.chunk.len c.read_on.new.chunk c.loop.chunk.items (c.read_on.ensures.room ∙ c.deref_mut.ensures.len)) ∙ sym c.deref-in-loop.ensures.value in
-    let bytes = subst (λ (l : List ℕ). Consumes (left c.loop.reader) (left c.read_on.new.reader) (take c.in-Ok-read_on.len l)) same c.in-Ok-read_on.ensures.bytes in
-    let used = Consumes-trans (left c.args.reader.now) (left c.loop.reader) (left c.read_on.new.reader) stood.0 piece stood.1 bytes in
-    let ends = piece_at g.R.Rules.table begun.recorder.limit start old run.recorder.limit stood.0 piece place.begun.items later.begun.items place.lines later.lines (progress run.recorder held) (progress after.recorder after.text.items) known known' c.carry_out_piece.result c.loop.invariant.limit c.carry_out_piece.ensures.piece handed in
+    let done = piece_read g.R.Rules.table begun.recorder.limit start old run.recorder.limit (left c.args.reader.now) (left c.loop.reader) (left c.read_on.new.reader) stood.0 c.read_on.new.chunk c.deref-in-loop.result.now c.in-Ok-read_on.len place.begun.items later.begun.items place.lines later.lines
+    (progress run.recorder run.text.items) (progress run.recorder c.hand_over_all.new.text.items) (progress after.recorder after.text.items) (g.Out.Write.contents c.loop.writer) (g.Out.Write.contents c.hand_over_all.new.writer) known' c.carry_out_piece.result
+    stood.1 stood.2 refl refl c.in_ok-hand_over_all.ensures.ok same c.in-Ok-read_on.ensures.bytes c.loop.invariant.limit c.carry_out_piece.ensures.piece in
     record {
       limit = c.carry_out_piece.ensures.limit ∙ c.loop.invariant.limit;
-      stands = (stood.0 ++ piece, used, piece_goes_on g.R.Rules.table begun.recorder.limit start old (stood.0 ++ piece) later.begun.items later.lines (progress after.recorder after.text.items) known' c.carry_out_piece.result ends (c.in_ok-end.was ∙ ap (λ (o : Option End). Ok o) c.in_default-2.is));
+      stands = (stood.0 ++ piece, done.0, piece_goes_on g.R.Rules.table begun.recorder.limit start old (stood.0 ++ piece) later.begun.items later.lines (progress after.recorder after.text.items) known' c.carry_out_piece.result done.1 (c.in_ok-end.was ∙ ap (λ (o : Option End). Ok o) c.in_default-2.is));
       room =
           let full : length c.read_on.new.chunk ≡ 65536 = grind arith in
           let bound = c.in_ok-end.ensures.room (subst (λ (o : Option End). IsNone o) (sym c.in_default-2.is) refl) in

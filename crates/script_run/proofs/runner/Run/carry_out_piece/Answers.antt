@@ -1,6 +1,5 @@
 use Rattle.std.proofs.Common.{◌≡◌, ◌∙◌, ◌+◌, ◌++◌, ℕ, [], length, refl, ap, subst, arith}
 use Rattle.script_run.specs.Line.{progress, LineEnds}
-use Rattle.script_run.proofs.Running.{LineEnds-done}
 use Rattle.script_run.proofs.Placing.{moved_on, Stands-line, Stands-handed, Stands-failed, Stands-stopped, Stands-memory, Stands-long, PieceEnds-failed}
 use Rattle.script_run.proofs.runner.Run.carry_out_piece.Goals as goal
 
@@ -32,13 +31,10 @@ returns-in_err-hand_over-clause-piece g c start old read h =
     let place = c.loop-end.place in
     let later = c.carry_out_ended.new.place in
     let after = c.carry_out_ended.new.self in
-    let line = place.begun.items ++ c.in-Some.end.now in
     let before = progress run.recorder run.text.items in
     let carried = progress after.recorder after.text.items in
-    let ends = subst (λ (k : ℕ). LineEnds g.R.Rules.table k (place.lines + 1) line before carried c.carry_out_ended.result) c.loop-end.invariant.limit c.carry_out_ended.ensures.ends in
-    let does = LineEnds-done g.R.Rules.table limit (place.lines + 1) line before carried c.carry_out_ended.result ends (cc) in
     let known = g.Out.Write.contents c.loop-end.writer in
-    let stands = Stands-line g.R.Rules.table limit start old read place.begun.items c.in-Some.end.now c.in-Some.behind.now c.loop-end.rest.now place.lines before carried known (c.loop-end.invariant.stands start old read h) c.in-Some.ensures.line.0 c.in-Some.ensures.line.1 does in
+    let stands = Stands-line g.R.Rules.table limit start old run.recorder.limit read place.begun.items c.in-Some.end.now c.in-Some.behind.now c.loop-end.rest.now place.lines before carried known c.carry_out_ended.result (c.loop-end.invariant.stands start old read h) c.in-Some.ensures.line.0 c.in-Some.ensures.line.1 c.loop-end.invariant.limit c.carry_out_ended.ensures.ends (cc) in
     PieceEnds-failed g.R.Rules.table limit start old read later.begun.items later.lines (progress after.recorder c.hand_over.new.text.items) (g.Out.Write.contents c.hand_over.new.writer) c.from_residual.result c.from_residual.ensures.0
     (Stands-failed g.R.Rules.table limit start old read _ c.in-Some.behind.now (place.lines + 1) carried known (g.Out.Write.contents c.hand_over.new.writer) stands c.in_err-hand_over.ensures.fault)
 
@@ -49,18 +45,15 @@ loop-end-preserved g c =
     let place = c.loop-end.place in
     let later = c.carry_out_ended.new.place in
     let after = c.carry_out_ended.new.self in
-    let line = place.begun.items ++ c.in-Some.end.now in
     let before = progress run.recorder run.text.items in
     let carried = progress after.recorder after.text.items in
-    let ends = subst (λ (k : ℕ). LineEnds g.R.Rules.table k (place.lines + 1) line before carried c.carry_out_ended.result) c.loop-end.invariant.limit c.carry_out_ended.ensures.ends in
-    let does = LineEnds-done g.R.Rules.table limit (place.lines + 1) line before carried c.carry_out_ended.result ends (cc) in
     let known = g.Out.Write.contents c.loop-end.writer in
     let none : later.begun.items ≡ [] = grind arith in
     let lines : later.lines ≡ place.lines + 1 = grind arith in
     record {
       limit = c.carry_out_ended.ensures.limit ∙ c.loop-end.invariant.limit;
       stands = λ start old read h.
-          let stands = Stands-line g.R.Rules.table limit start old read place.begun.items c.in-Some.end.now c.in-Some.behind.now c.loop-end.rest.now place.lines before carried known (c.loop-end.invariant.stands start old read h) c.in-Some.ensures.line.0 c.in-Some.ensures.line.1 does in
+          let stands = Stands-line g.R.Rules.table limit start old run.recorder.limit read place.begun.items c.in-Some.end.now c.in-Some.behind.now c.loop-end.rest.now place.lines before carried known c.carry_out_ended.result (c.loop-end.invariant.stands start old read h) c.in-Some.ensures.line.0 c.in-Some.ensures.line.1 c.loop-end.invariant.limit c.carry_out_ended.ensures.ends (cc) in
           let handed = Stands-handed g.R.Rules.table limit start old read [] c.in-Some.behind.now (place.lines + 1) carried (progress after.recorder c.hand_over.new.text.items) known (g.Out.Write.contents c.hand_over.new.writer) stands refl refl c.in_ok-hand_over.ensures.ok in
           moved_on g.R.Rules.table limit start old read later.begun.items c.in-Some.behind.now (place.lines + 1) later.lines (progress after.recorder c.hand_over.new.text.items) (g.Out.Write.contents c.hand_over.new.writer) none lines handed;
       room = omega (arith, c.loop-end.invariant.room, c.in-Some.ensures.shorter, lines, ap length none);

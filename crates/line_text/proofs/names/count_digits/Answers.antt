@@ -1,6 +1,0 @@
-use Rattle.std.proofs.lemmas.Int.Digits.{digits_more}
-use Rattle.line_text.proofs.names.count_digits.Goals as goal
-
-pub loop-i-preserved : goal.loop-i-preserved
-loop-i-preserved c =
-    digits_more 10 c.args.bytes.now c.loop-i.i c.loop-i-test.true c.loop-i.invariant c.if-not-is_ascii_digit.ensures.bound
