@@ -7,3 +7,4 @@ pub mod Nets
 pub mod Roaming
 pub mod Roamed
 pub mod Stepping
+pub mod Seen

@@ -4,11 +4,11 @@ use Rattle.std.specs.Prelude.{◌≡◌, ℕ, ◌+◌, ◌-◌, ◌<◌, Bool, t
 use Rattle.std.specs.List.{sum_by, count_by}
 use Rattle.rule_machine.specs.Run.{Entry}
 use Rattle.step_log.specs.declared.receipt.Receipt.{Receipt}
-use Rattle.locked_net.specs.Receipts.{RiseAbove}
+use Rattle.locked_net.specs.Receipts.{ClerkView, RiseAbove}
 use Rattle.locked_net.specs.Settled.{StandsAt, IsBefore, Agrees}
 
 -- a receipt before place p of clerk c has the number n
-pub record IsNumbered (clerks : List (List Receipt)) (c p n : ℕ) : Type 0 where
+pub record IsNumbered (clerks : List ClerkView) (c p n : ℕ) : Type 0 where
   pub clerk : ℕ
   pub place : ℕ
   pub receipt : Receipt
@@ -21,10 +21,10 @@ abbrev pub mark_of : List Bool → ℕ → Bool
 mark_of marks number = slice_index_or marks (number - 1) false
 
 -- All receipts before place p of clerk c agree, the clerks before c rise, and the marks are those of these receipts, one each.
-pub record IsMarked (log : List Entry) (clerks : List (List Receipt)) (c p : ℕ) (marks : List Bool) : Type 0 where
+pub record IsMarked (log : List Entry) (clerks : List ClerkView) (c p : ℕ) (marks : List Bool) : Type 0 where
   pub size : length marks ≡ length log
   pub agree : (d q : ℕ) (other : Receipt) → IsBefore d q c p → StandsAt clerks d q other → Agrees log clerks d q other
-  pub rise : (d : ℕ) (receipts : List Receipt) → d < c → slice_get clerks d ≡ Some receipts → RiseAbove 0 receipts
+  pub rise : (d : ℕ) (clerk : ClerkView) → d < c → slice_get clerks d ≡ Some clerk → RiseAbove 0 clerk.receipts
   pub marked : (d q : ℕ) (other : Receipt) → IsBefore d q c p → StandsAt clerks d q other → mark_of marks other.seq ≡ true
   pub numbered : (k : ℕ) → slice_index_or marks k false ≡ true → IsNumbered clerks c p (k + 1)
-  pub count : count_by (λ mark. mark) marks ≡ sum_by length (take c clerks) + p
+  pub count : count_by (λ mark. mark) marks ≡ sum_by (λ clerk. length clerk.receipts) (take c clerks) + p

@@ -1,8 +1,10 @@
--- What a clerk keeps: a receipt for each reply that it got, each with the number of its entry in the log. A clerk is seen as
--- its list of receipts, oldest first.
-use Rattle.std.specs.Prelude.{◌≡◌, ℕ, ◌<◌, ◌-◌, List, [], ◌∷◌, Some, slice_get}
+-- What a clerk keeps: a receipt for each reply that it got, oldest first, each with the number of its entry in the log; and a note of what was
+-- published when it got the last.
+use Rattle.std.specs.Prelude.{◌≡◌, ℕ, ◌<◌, ◌-◌, List, [], ◌∷◌, Option, None, Some, IsSomeAnd, slice_get}
 use Rattle.rule_machine.specs.Run.{Entry}
 use Rattle.step_log.specs.declared.receipt.Receipt.{Receipt}
+use Rattle.logbook.specs.Pages.{Book}
+use Rattle.board.specs.Views.{Told}
 
 -- the number of the last receipt, and the number handed in where there is none
 abbrev pub front_from : ℕ → List Receipt → ℕ
@@ -22,3 +24,36 @@ RiseAbove low (receipt ∷ receipts) = (low < receipt.seq) × RiseAbove receipt.
 pub record IsEntry (log : List Entry) (receipt : Receipt) : Type 0 where
   pub numbered : 0 < receipt.seq
   pub same : slice_get log (receipt.seq - 1) ≡ Some (receipt.event, receipt.reply)
+
+-- a clerk as contracts see it
+pub record ClerkView : Type 0 where
+  pub receipts : List Receipt
+  pub note : Option Told
+
+-- one who has called nobody
+abbrev pub fresh : ClerkView
+fresh = record { receipts = []; note = None }
+
+-- the last receipt is the log's entry at its number
+abbrev pub StandsLastFrom : List Entry → Receipt → List Receipt → Type 0
+StandsLastFrom log receipt [] = IsEntry log receipt
+StandsLastFrom log receipt (next ∷ receipts) = StandsLastFrom log next receipts
+
+-- so it is, if there is one
+abbrev pub StandsLast : List Entry → List Receipt → Type 0
+StandsLast log [] = Unit {0}
+StandsLast log (receipt ∷ receipts) = StandsLastFrom log receipt receipts
+
+-- who has a receipt has a note, in whose log the last one stands
+abbrev pub NotesLast : List Receipt → Option Told → Type 0
+NotesLast receipts None = receipts ≡ []
+NotesLast receipts (Some told) = StandsLast told.log receipts
+
+-- the numbers rise, and the note has the last
+pub record IsClerk (clerk : ClerkView) : Type 0 where
+  pub rise : RiseAbove 0 clerk.receipts
+  pub last : NotesLast clerk.receipts clerk.note
+
+-- there is a note, of this history
+abbrev pub HasNoteOf : Book → ClerkView → Type 0
+HasNoteOf book clerk = IsSomeAnd clerk.note (λ told. told.book ≡ book)

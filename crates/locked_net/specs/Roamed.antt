@@ -3,15 +3,16 @@
 -- A clerk that roams takes its turns one after another, each under one hold of the network's lock: between two of them anybody may
 -- have recorded anything. So a turn is taken on some log, a run of the rule machine, and what it tells the clerk is what this log
 -- makes of it.
-use Rattle.std.specs.Prelude.{◌≡◌, ℕ, zero, suc, ◌<◌, ◌≤◌, List, [], ◌∷◌, ◌++◌, length, take, drop, slice_get, Option, None, Some}
+use Rattle.std.specs.Prelude.{◌≡◌, ℕ, zero, suc, ◌<◌, ◌≤◌, ◌⊎◌, List, [], ◌∷◌, ◌++◌, length, take, drop, slice_get, Option, None, Some}
 use Rattle.std.specs.List.{All}
 use Rattle.std.specs.Option.{option_or}
 use Rattle.rule_machine.specs.declared.moved.Moved.{Moved}
 use Rattle.rule_machine.specs.declared.reply.Reply.TheVariants.{Moves}
 use Rattle.rule_machine.specs.RuleTable.{RuleTable}
 use Rattle.step_log.specs.declared.receipt.Receipt.{Receipt}
+use Rattle.logbook.specs.Pages.{Book}
 use Rattle.step_log.specs.Log.{Log, IsLog}
-use Rattle.locked_net.specs.Receipts.{front_of}
+use Rattle.locked_net.specs.Receipts.{ClerkView, HasNoteOf, front_of}
 use Rattle.locked_net.specs.Roaming.{lone_step, receipts_of_turn, fault_of_turn, FaultInTurn}
 use Rattle.locked_net.specs.declared.call_fault.CallFault.{CallFault}
 use Rattle.locked_net.specs.declared.call_fault.CallFault.TheVariants as call_fault
@@ -36,27 +37,37 @@ pub record Roams (turns : ℕ) (old new : List Receipt) : Type 0 where
   pub lone : All IsLoneStep own
 
 -- so has each of these clerks
-abbrev pub AllRoam : ℕ → List (List Receipt) → List (List Receipt) → Type 0
+abbrev pub AllRoam : ℕ → List ClerkView → List ClerkView → Type 0
 AllRoam turns [] [] = Unit {0}
-AllRoam turns (old ∷ olds) (new ∷ news) = Roams turns old new × AllRoam turns olds news
+AllRoam turns (old ∷ olds) (new ∷ news) = Roams turns old.receipts new.receipts × AllRoam turns olds news
 AllRoam turns olds news = ⊥
 
 -- So has each of the first 64 clerks; the others are as before.
-pub record Roamed (turns : ℕ) (old new : List (List Receipt)) : Type 0 where
+pub record Roamed (turns : ℕ) (old new : List ClerkView) : Type 0 where
   pub workers : AllRoam turns (take 64 old) (take 64 new)
   pub others : drop 64 new ≡ drop 64 old
 
 -- One of the first 64 clerks has seen so many entries, and met a log of fewer.
-pub record IsBehind (clerks : List (List Receipt)) (front seen : ℕ) : Type 0 where
+pub record IsBehind (clerks : List ClerkView) (front seen : ℕ) : Type 0 where
   pub clerk : ℕ
-  pub receipts : List Receipt
+  pub view : ClerkView
   pub worker : clerk < 64
-  pub has : slice_get clerks clerk ≡ Some receipts
-  pub own : seen ≡ front_of receipts
+  pub has : slice_get clerks clerk ≡ Some view
+  pub own : seen ≡ front_of view.receipts
   pub fewer : front < seen
 
+-- a clerk's note is as it was, or one of this history
+abbrev pub KeepsNote : Book → ClerkView → ClerkView → Type 0
+KeepsNote book old new = (new.note ≡ old.note) ⊎ HasNoteOf book new
+
+-- so is each of these
+abbrev pub AllKeepNotes : Book → List ClerkView → List ClerkView → Type 0
+AllKeepNotes book [] [] = Unit {0}
+AllKeepNotes book (old ∷ olds) (new ∷ news) = KeepsNote book old new × AllKeepNotes book olds news
+AllKeepNotes book olds news = ⊥
+
 -- what can be told of a fault without a look at the log
-abbrev pub MayStop : List (List Receipt) → RoamFault → Type 0
+abbrev pub MayStop : List ClerkView → RoamFault → Type 0
 MayStop clerks ZeroWorkers = clerks ≡ []
 MayStop clerks Thread = ⊥
 MayStop clerks (Behind front seen) = IsBehind clerks front seen
@@ -84,9 +95,9 @@ TakesTurns t zero old new = new ≡ old
 TakesTurns t (suc turn) old new = (before : List Receipt) × TakesTurns t turn old before × TakesTurn t turn before new
 
 -- each of these clerks took so many
-abbrev pub AllTakeTurns : RuleTable → ℕ → List (List Receipt) → List (List Receipt) → Type 0
+abbrev pub AllTakeTurns : RuleTable → ℕ → List ClerkView → List ClerkView → Type 0
 AllTakeTurns t turns [] [] = Unit {0}
-AllTakeTurns t turns (old ∷ olds) (new ∷ news) = TakesTurns t turns old new × AllTakeTurns t turns olds news
+AllTakeTurns t turns (old ∷ olds) (new ∷ news) = TakesTurns t turns old.receipts new.receipts × AllTakeTurns t turns olds news
 AllTakeTurns t turns olds news = ⊥
 
 -- Fewer were taken, and the next met a fault.
@@ -102,10 +113,10 @@ MayEnd t turns old new None = TakesTurns t turns old new
 MayEnd t turns old new (Some fault) = BreaksOff t turns old new fault
 
 -- Each clerk roamed; the fault is the first that a clerk met, in their order, and there is none where each took all its turns.
-abbrev pub AllEnd : RuleTable → ℕ → List (List Receipt) → List (List Receipt) → Option CallFault → Type 0
+abbrev pub AllEnd : RuleTable → ℕ → List ClerkView → List ClerkView → Option CallFault → Type 0
 AllEnd t turns [] [] fault = fault ≡ None
 AllEnd t turns (old ∷ olds) (new ∷ news) fault =
-    (own : Option CallFault) × (others : Option CallFault) × (fault ≡ option_or own others) × MayEnd t turns old new own × AllEnd t turns olds news others
+    (own : Option CallFault) × (others : Option CallFault) × (fault ≡ option_or own others) × MayEnd t turns old.receipts new.receipts own × AllEnd t turns olds news others
 AllEnd t turns olds news fault = ⊥
 
 -- a call's fault as that of the clerks

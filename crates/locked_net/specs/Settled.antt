@@ -1,6 +1,6 @@
 -- When the receipts of some clerks account for a log, and why they do not.
 --
--- Each clerk stands as its list of receipts. That a log and clerks are settled says two things of them together: each reply
+-- Each clerk stands with its list of receipts. That a log and clerks are settled says two things of them together: each reply
 -- that a clerk was given is the log's reply to that event, at the number that the clerk was told; and nothing else is in
 -- the log, since each of its entries was handed to one of these clerks, and to one alone.
 use Rattle.std.specs.Prelude.{◌≡◌, ◌≢◌, ℕ, ◌<◌, ◌≤◌, ◌⊎◌, List, Some, length, slice_get}
@@ -9,20 +9,20 @@ use Rattle.rule_machine.specs.Run.{Entry}
 use Rattle.step_log.specs.declared.receipt.Receipt.{Receipt}
 use Rattle.locked_net.specs.declared.settle_fault.SettleFault.{SettleFault}
 use Rattle.locked_net.specs.declared.settle_fault.SettleFault.TheVariants.{CountDiffers, Stranger, Memory}
-use Rattle.locked_net.specs.Receipts.{RiseAbove, IsEntry}
+use Rattle.locked_net.specs.Receipts.{ClerkView, RiseAbove, IsEntry}
 
 -- how many receipts the clerks have together
-abbrev pub receipt_count : List (List Receipt) → ℕ
-receipt_count clerks = sum_by length clerks
+abbrev pub receipt_count : List ClerkView → ℕ
+receipt_count clerks = sum_by (λ clerk. length clerk.receipts) clerks
 
 -- the clerk at place c of the list has, at place p of its own, this receipt; both places from 0
-pub record StandsAt (clerks : List (List Receipt)) (c p : ℕ) (receipt : Receipt) : Type 0 where
-  pub receipts : List Receipt
-  pub of_clerk : slice_get clerks c ≡ Some receipts
-  pub at_place : slice_get receipts p ≡ Some receipt
+pub record StandsAt (clerks : List ClerkView) (c p : ℕ) (receipt : Receipt) : Type 0 where
+  pub clerk : ClerkView
+  pub of_clerk : slice_get clerks c ≡ Some clerk
+  pub at_place : slice_get clerk.receipts p ≡ Some receipt
 
 -- clerk c has a receipt with the number n
-pub record Holds (clerks : List (List Receipt)) (c n : ℕ) : Type 0 where
+pub record Holds (clerks : List ClerkView) (c n : ℕ) : Type 0 where
   pub place : ℕ
   pub receipt : Receipt
   pub stands : StandsAt clerks c place receipt
@@ -34,9 +34,9 @@ pub record Holds (clerks : List (List Receipt)) (c n : ℕ) : Type 0 where
 -- * count: there are exactly as many receipts as entries;
 -- * held: each entry was handed to a clerk, and
 -- * once: to no other.
-pub record Settled (log : List Entry) (clerks : List (List Receipt)) : Type 0 where
-  pub told : (c p : ℕ) (receipts : List Receipt) (receipt : Receipt) → slice_get clerks c ≡ Some receipts → slice_get receipts p ≡ Some receipt → IsEntry log receipt
-  pub rise : (c : ℕ) (receipts : List Receipt) → slice_get clerks c ≡ Some receipts → RiseAbove 0 receipts
+pub record Settled (log : List Entry) (clerks : List ClerkView) : Type 0 where
+  pub told : (c p : ℕ) (clerk : ClerkView) (receipt : Receipt) → slice_get clerks c ≡ Some clerk → slice_get clerk.receipts p ≡ Some receipt → IsEntry log receipt
+  pub rise : (c : ℕ) (clerk : ClerkView) → slice_get clerks c ≡ Some clerk → RiseAbove 0 clerk.receipts
   pub count : receipt_count clerks ≡ length log
   pub held : (n : ℕ) → 0 < n → n ≤ length log → (c : ℕ) × Holds clerks c n
   pub once : (n c d : ℕ) → Holds clerks c n → Holds clerks d n → c ≡ d
@@ -46,12 +46,12 @@ abbrev pub IsBefore : ℕ → ℕ → ℕ → ℕ → Type 0
 IsBefore d q c p = (d < c) ⊎ ((d ≡ c) × (q < p))
 
 -- The receipt at place p of clerk c agrees: it is the log's entry at its number, and no receipt before it has that number.
-pub record Agrees (log : List Entry) (clerks : List (List Receipt)) (c p : ℕ) (receipt : Receipt) : Type 0 where
+pub record Agrees (log : List Entry) (clerks : List ClerkView) (c p : ℕ) (receipt : Receipt) : Type 0 where
   pub entry : IsEntry log receipt
   pub new : (d q : ℕ) (other : Receipt) → IsBefore d q c p → StandsAt clerks d q other → other.seq ≢ receipt.seq
 
 -- The receipt at place p of clerk c does not agree, and all before it do.
-pub record IsFirstStranger (log : List Entry) (clerks : List (List Receipt)) (c p : ℕ) : Type 0 where
+pub record IsFirstStranger (log : List Entry) (clerks : List ClerkView) (c p : ℕ) : Type 0 where
   pub receipt : Receipt
   pub stands : StandsAt clerks c p receipt
   pub strange : Agrees log clerks c p receipt → ⊥
@@ -59,7 +59,7 @@ pub record IsFirstStranger (log : List Entry) (clerks : List (List Receipt)) (c 
 
 -- Why the log and the clerks were not settled: that the numbers of receipts and of entries differ comes before a stranger.
 -- Want of memory says nothing of either.
-abbrev pub Unsettles : List Entry → List (List Receipt) → SettleFault → Type 0
+abbrev pub Unsettles : List Entry → List ClerkView → SettleFault → Type 0
 Unsettles log clerks CountDiffers = receipt_count clerks ≢ length log
 Unsettles log clerks (Stranger clerk place) = (receipt_count clerks ≡ length log) × IsFirstStranger log clerks clerk place
 Unsettles log clerks Memory = Unit {0}

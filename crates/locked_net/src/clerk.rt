@@ -1,41 +1,41 @@
 //! Who calls a network and keeps what it was told.
 
-ghost use Rattle.std.specs.Prelude.{◌≡◌, []};
-ghost use Rattle.locked_net.specs.Receipts.{front_of, RiseAbove};
+ghost use Rattle.std.specs.Prelude.{◌≡◌};
+ghost use Rattle.locked_net.specs.Receipts.{fresh, front_of, RiseAbove};
 
+use board::Note;
 use std::alloc::Global;
 use std::marker::Model;
 use step_log::Receipt;
 
-mod calls;
-mod chosen;
-mod judged;
 mod locked;
-mod lone;
 
-/// A caller of a network, seen in contracts as its receipts, oldest first: one for each of its calls that was answered. Their
-/// numbers rise strictly.
+/// A caller of a network, seen in contracts as its receipts, oldest first (one for each of its calls that was answered; their
+/// numbers rise strictly), and its note of what was published when it got the last.
 #[derive(Drop)]
 pub struct Clerk {
     receipts: Vec<Receipt>,
+    note: Option<Note>,
 }
 
 impl Model for Clerk {
-    ghost use Rattle.std.specs.Prelude.{List};
-    ghost use Rattle.step_log.specs.declared.receipt.Receipt.{Receipt};
-    ghost use Rattle.locked_net.specs.Receipts.{RiseAbove};
+    ghost use Rattle.std.specs.Coded.{codes};
+    ghost use Rattle.logbook.specs.Pages.{book_coded};
+    ghost use Rattle.locked_net.specs.Receipts.{ClerkView, IsClerk};
 
-    ghost Value = { List Receipt };
+    ghost Value = { ClerkView };
 
-    ghost view = { λ c. c.receipts.items };
+    ghost coded = { Prim.hlevel (codes, book_coded) };
 
-    ghost invariant = { λ c. RiseAbove 0 c.receipts.items };
+    ghost view = { λ c. record { receipts = c.receipts.items; note = c.note } };
+
+    ghost invariant = { λ c. IsClerk (record { receipts = c.receipts.items; note = c.note }) };
 }
 
 impl Clerk {
     /// A clerk without receipts. It takes no memory.
     pub(crate) fn new(alloc: Global) -> Clerk
-        ensures { result ≡ [] }
+        ensures { result ≡ fresh }
     {
         Clerk {
             receipts: Vec::new(alloc),
@@ -44,7 +44,7 @@ impl Clerk {
 
     /// The greatest entry number that this clerk has seen: that of its last receipt, 0 where it has none.
     pub fn front(&self) -> u32
-        ensures { result ≡ front_of self.now }
+        ensures { result ≡ front_of self.now.receipts }
     {
         match self.receipts.last() {
             Some(receipt) => receipt.seq,
@@ -54,8 +54,8 @@ impl Clerk {
 
     /// Its receipts, oldest first.
     pub fn receipts(&self) -> &[Receipt]
-        ensures receipts { result.now ≡ self.now }
-        ensures rise { RiseAbove 0 self.now }
+        ensures receipts { result.now ≡ self.now.receipts }
+        ensures rise { RiseAbove 0 self.now.receipts }
     {
         &self.receipts
     }

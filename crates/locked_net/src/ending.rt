@@ -2,6 +2,7 @@
 
 ghost use Rattle.std.specs.Prelude.{◌≡◌, IfOk, IfErr};
 ghost use Rattle.rule_machine.specs.Network.{node_count};
+ghost use Rattle.step_log.specs.Held.{log_of};
 ghost use Rattle.step_log.specs.Log.{IsLog};
 ghost use Rattle.locked_net.specs.Nets.{nodes_of, limit_of};
 ghost use Rattle.locked_net.specs.Settled.{Settled, Unsettles};
@@ -19,7 +20,7 @@ pub fn settle<R: Rules, W: Wait>(
     clerks: Vec<Clerk>,
 ) -> Result<Journal<R>, Unsettled<R>>
     ensures settled { IfOk result (λ journal. Settled journal.entries clerks.items) }
-    ensures run { IfOk result (λ journal. IsLog R.table journal) }
+    ensures run { IfOk result (λ journal. IsLog R.table (log_of journal)) }
     ensures size { IfOk result (λ journal. (node_count journal.state.network ≡ nodes_of net) × (journal.limit ≡ limit_of net)) }
     ensures fault { IfErr result (λ unsettled. Unsettles unsettled.journal.entries clerks.items unsettled.why) }
 {

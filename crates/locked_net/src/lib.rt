@@ -1,26 +1,27 @@
 //! One network for many callers, each of whom keeps receipts, and the settling of these against the log.
 #![tactic(auto)]
 
+mod board_reader;
 mod call_fault;
 mod clerk;
 mod ending;
-mod forks;
 mod law;
 mod net;
+mod read_fault;
 mod roam_fault;
 mod roaming;
-mod round;
 mod settle_fault;
-mod settling;
 mod size;
 mod step_fault;
 mod unsettled;
 
+pub use board_reader::{BoardReader, SeenPartner, SeenPointer};
 pub use call_fault::CallFault;
 pub use clerk::Clerk;
 pub use ending::settle;
 pub use law::{own_numbers_never_clash, settling_is_exact};
 pub use net::LockedNet;
+pub use read_fault::{NoView, ReadFault, ReaderFault};
 pub use roam_fault::RoamFault;
 pub use roaming::roam;
 pub use settle_fault::SettleFault;

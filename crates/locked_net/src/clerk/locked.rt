@@ -1,9 +1,9 @@
 //! A clerk's calls: each takes the network's lock, and gives it back when it is done.
 
-ghost use Rattle.std.specs.Prelude.{◌≡◌, ◌↔◌, ◌<◌, IsNone, IfOk, IfErr, OnOk, OnErr, MatchOption};
+ghost use Rattle.std.specs.Prelude.{◌≡◌, ◌↔◌, ◌<◌, IsNone, IfOk, IfErr, IfSome, OnOk, OnErr, MatchOption};
 ghost use Rattle.rule_machine.specs.declared.event.Event.TheVariants.{Step};
-ghost use Rattle.locked_net.specs.Nets.{nodes_of};
-ghost use Rattle.locked_net.specs.Receipts.{front_of};
+ghost use Rattle.locked_net.specs.Nets.{nodes_of, book_of};
+ghost use Rattle.locked_net.specs.Receipts.{HasNoteOf, front_of};
 ghost use Rattle.locked_net.specs.Calls.{MayAnswer, Keeps, KeepsStep, KeepsFault};
 ghost use Rattle.locked_net.specs.Stepping.{MayAnswerStep};
 
@@ -28,8 +28,9 @@ impl Clerk {
         net: &LockedNet<R>,
         event: Event,
     ) -> Result<Reply, CallFault>
-        ensures receipt { IfOk result (λ reply. Keeps self.old self.new event reply) }
-        ensures fault { IfErr result (λ fault. MayAnswer (front_of self.old) fault) }
+        ensures receipt { IfOk result (λ reply. Keeps self.old.receipts self.new.receipts event reply) }
+        ensures note { OnOk result (HasNoteOf (book_of net.now) self.new) }
+        ensures fault { IfErr result (λ fault. MayAnswer (front_of self.old.receipts) fault) }
         ensures kept { OnErr result (self.new ≡ self.old) }
     {
         let (mut journal, hold) = net.take(rt);
@@ -51,9 +52,10 @@ impl Clerk {
         workers: u32,
         gate: &G,
     ) -> Result<Reply, StepFault>
-        ensures receipt { IfOk result (λ reply. Keeps self.old self.new (Step choice) reply) }
+        ensures receipt { IfOk result (λ reply. Keeps self.old.receipts self.new.receipts (Step choice) reply) }
+        ensures note { OnOk result (HasNoteOf (book_of net.now) self.new) }
         ensures some { OnOk result (0 < workers) }
-        ensures fault { IfErr result (λ fault. MayAnswerStep (front_of self.old) workers fault) }
+        ensures fault { IfErr result (λ fault. MayAnswerStep (front_of self.old.receipts) workers fault) }
         ensures kept { OnErr result (self.new ≡ self.old) }
     {
         let (mut journal, hold) = net.take(rt);
@@ -74,8 +76,9 @@ impl Clerk {
         net: &LockedNet<R>,
         daemon: &mut D,
     ) -> Result<Option<Reply>, CallFault>
-        ensures step { IfOk result (λ told. MatchOption told (self.new ≡ self.old) (KeepsStep R.table.central self.old self.new)) }
-        ensures fault { IfErr result (λ fault. MayAnswer (front_of self.old) fault) }
+        ensures note { IfOk result (λ told. IfSome told (λ _. HasNoteOf (book_of net.now) self.new)) }
+        ensures step { IfOk result (λ told. MatchOption told (self.new ≡ self.old) (KeepsStep R.table.central self.old.receipts self.new.receipts)) }
+        ensures fault { IfErr result (λ fault. MayAnswer (front_of self.old.receipts) fault) }
         ensures kept { OnErr result (self.new ≡ self.old) }
     {
         let (mut journal, hold) = net.take(rt);
@@ -93,8 +96,9 @@ impl Clerk {
         injector: &mut Injector<G>,
     ) -> Result<Option<Reply>, CallFault>
         ensures none { IfOk result (λ told. IsNone told ↔ (nodes_of net.now ≡ 0)) }
-        ensures register { IfOk result (λ told. MatchOption told (self.new ≡ self.old) (KeepsFault self.old self.new)) }
-        ensures fault { IfErr result (λ fault. MayAnswer (front_of self.old) fault) }
+        ensures note { IfOk result (λ told. IfSome told (λ _. HasNoteOf (book_of net.now) self.new)) }
+        ensures register { IfOk result (λ told. MatchOption told (self.new ≡ self.old) (KeepsFault self.old.receipts self.new.receipts)) }
+        ensures fault { IfErr result (λ fault. MayAnswer (front_of self.old.receipts) fault) }
         ensures kept { OnErr result (self.new ≡ self.old) }
     {
         let (mut journal, hold) = net.take(rt);

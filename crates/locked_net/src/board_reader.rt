@@ -1,0 +1,112 @@
+//! Who looks at a network and waits for nobody.
+
+ghost use Rattle.std.specs.Prelude.{◌≡◌, ◌<◌, ◌≤◌, ℕ, length, IfOk, IfErr, IfSome, OnOk, OnErr, IsErrOf};
+ghost use mathlib.Core.List.{IsPrefix};
+ghost use Rattle.rule_machine.specs.State.{pointer};
+ghost use Rattle.board.specs.Row.{partner_in};
+ghost use Rattle.locked_net.specs.Receipts.{StandsLast};
+ghost use Rattle.locked_net.specs.Seen.{Shows};
+ghost use Rattle.locked_net.specs.declared.read_fault.ReadFault.TheVariants.{UnknownNode, NoView as NoLook};
+
+use crate::{Clerk, NoView, ReadFault};
+use board::{Reader, Runs};
+use rule_engine::{Node, Rules};
+use std::marker::Model;
+
+/// A node's pointer at one moment.
+#[derive(Clone, Copy, Debug, PartialEq, Eq)]
+pub struct SeenPointer {
+    /// How many entries were published then.
+    pub front: u32,
+    /// Where the node pointed.
+    pub pointer: Option<Node>,
+}
+
+/// A node's partner at one moment.
+#[derive(Clone, Copy, Debug, PartialEq, Eq)]
+pub struct SeenPartner {
+    /// How many entries were published then.
+    pub front: u32,
+    /// The node at which it pointed, if that pointed back.
+    pub partner: Option<Node>,
+}
+
+/// A reader of a network. It waits for nobody and takes no memory. Contracts see the entries that it saw last, which are its view,
+/// those that each later view has at least, and whose they are. A view is a beginning of the network's log, and grows.
+#[derive(Drop)]
+pub struct BoardReader<R: Rules> {
+    reader: Reader<Runs<R>>,
+}
+
+impl<R: Rules> Model for BoardReader<R> {
+    ghost use Rattle.std.specs.Coded.{codes};
+    ghost use Rattle.logbook.specs.Pages.{book_coded};
+    ghost use Rattle.board.specs.Views.{Reading};
+
+    ghost Value = { Reading };
+
+    ghost coded = { Prim.hlevel (codes, book_coded) };
+
+    ghost view = { λ r. r.reader };
+}
+
+impl<R: Rules> BoardReader<R> {
+    pub(crate) fn over(reader: Reader<Runs<R>>) -> BoardReader<R>
+        ensures { result ≡ reader }
+    {
+        BoardReader { reader }
+    }
+
+    /// Where a node points, after the first `front` entries of the log: a view that has all that this reader has seen and all that
+    /// it has learnt, and is a run of the rules. `UnknownNode` exactly where the network has no such node, unless `NoView` comes: where
+    /// the network has ended, or what is published lacks a part of what was learnt, which never comes; the view stays then. A few
+    /// steps.
+    pub fn pointer(&mut self, v: Node) -> Result<SeenPointer, ReadFault>
+        ensures view { IsPrefix self.old.list self.new.list }
+        ensures kept { (self.new.learnt ≡ self.old.learnt) × (self.new.name ≡ self.old.name) }
+        ensures learnt { OnOk result (IsPrefix self.old.learnt self.new.list) }
+        ensures present { OnOk result (v < self.old.name.places) }
+        ensures front { IfOk result (λ seen. seen.front ≡ length self.new.list) }
+        ensures found { IfOk result (λ seen. Shows R.table self.old.name.places self.new.list (λ s. seen.pointer ≡ pointer s v)) }
+        ensures unknown { IsErrOf result UnknownNode → self.old.name.places ≤ v }
+        ensures no_view { IsErrOf result NoLook → self.new.list ≡ self.old.list }
+    {
+    }
+
+    /// The node with which a node is paired, after the first `front` entries of the log, as `pointer` does: that at which it points,
+    /// if that points back at the same moment.
+    pub fn partner(&mut self, v: Node) -> Result<SeenPartner, ReadFault>
+        ensures view { IsPrefix self.old.list self.new.list }
+        ensures kept { (self.new.learnt ≡ self.old.learnt) × (self.new.name ≡ self.old.name) }
+        ensures learnt { OnOk result (IsPrefix self.old.learnt self.new.list) }
+        ensures present { OnOk result (v < self.old.name.places) }
+        ensures front { IfOk result (λ seen. seen.front ≡ length self.new.list) }
+        ensures found { IfOk result (λ seen. Shows R.table self.old.name.places self.new.list (λ s. seen.partner ≡ partner_in s.registers.pointers v)) }
+        ensures unknown { IsErrOf result UnknownNode → self.old.name.places ≤ v }
+        ensures no_view { IsErrOf result NoLook → self.new.list ≡ self.old.list }
+    {
+    }
+
+    /// How many entries are published, as `pointer` does.
+    pub fn front(&mut self) -> Result<u32, NoView>
+        ensures view { IsPrefix self.old.list self.new.list }
+        ensures kept { (self.new.learnt ≡ self.old.learnt) × (self.new.name ≡ self.old.name) }
+        ensures learnt { OnOk result (IsPrefix self.old.learnt self.new.list) }
+        ensures front { IfOk result (λ front. front ≡ length self.new.list) }
+        ensures found { OnOk result (Shows R.table self.old.name.places self.new.list (λ _. Unit {0})) }
+        ensures no_view { OnErr result (self.new.list ≡ self.old.list) }
+    {
+    }
+
+    /// Takes in a clerk's note: each later view has all that was published when the clerk got its last receipt, and so the
+    /// entry of that receipt. The clerk must be one that has called the reader's own network, or nobody; it stays as it is.
+    pub fn learn(&mut self, clerk: &mut Clerk)
+        requires { IfSome clerk.old.note (λ told. told.book ≡ self.old.name.book) }
+        ensures clerk { clerk.new ≡ clerk.old }
+        ensures kept { (self.new.list ≡ self.old.list) × (self.new.name ≡ self.old.name) }
+        ensures learnt { IsPrefix self.old.learnt self.new.learnt }
+        ensures note { IfSome clerk.old.note (λ told. IsPrefix told.log self.new.learnt) }
+        ensures last { StandsLast self.new.learnt clerk.old.receipts }
+    {
+    }
+}
