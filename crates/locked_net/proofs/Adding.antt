@@ -1,10 +1,16 @@
--- A clerk's numbers still rise when it adds the receipt of an entry behind all that it has seen.
-use Rattle.std.proofs.Common.{◌≡◌, ℕ, ◌+◌, ◌<◌, ◌≤◌, Bool, true, false, List, [], ◌∷◌, ◌++◌, length, Option, None, Some, Result, Ok, Err, OnOk, OnErr, if◌then◌else◌, nat_eq, nat_lt, refl, sym, subst, arith}
+-- A clerk that adds the receipt of an entry behind all that it has seen, and a note of what is published then, is one.
+use Rattle.std.proofs.Common.{◌≡◌, ℕ, ◌+◌, ◌-◌, ◌<◌, ◌≤◌, Bool, true, false, List, [], ◌∷◌, ◌++◌, length, Option, None, Some, if◌then◌else◌, nat_eq, nat_lt, refl, sym, ap, ◌∙◌, subst, arith, length-append}
+use Rattle.std.specs.List.{slice_get}
 use Rattle.std.proofs.lemmas.Bool.{ltb-false}
-use Rattle.std.proofs.lemmas.Option.{none-some}
+use Rattle.std.proofs.lemmas.Option.{none-some, slice_get-get_or}
+use Rattle.std.proofs.Math.Seq.{get_or-append_seam}
+use Rattle.rule_machine.specs.declared.event.Event.{Event}
+use Rattle.rule_machine.specs.RuleTable.{RuleTable}
+use Rattle.rule_machine.specs.Run.{Entry}
+use Rattle.board.specs.Views.{Told}
 use Rattle.step_log.specs.declared.receipt.Receipt.{Receipt}
-use Rattle.step_log.specs.Log.{Log}
-use Rattle.locked_net.specs.Receipts.{front_from, front_of, RiseAbove}
+use Rattle.step_log.specs.Log.{Log, entry_of, recorded, receipt_of}
+use Rattle.locked_net.specs.Receipts.{front_from, front_of, RiseAbove, IsEntry, StandsLastFrom, StandsLast, NotesLast, IsClerk}
 use Rattle.locked_net.specs.declared.call_fault.CallFault.{CallFault}
 use Rattle.locked_net.specs.declared.call_fault.CallFault.TheVariants.{Behind, LogFull}
 use Rattle.locked_net.specs.Calls.{call_fault}
@@ -23,10 +29,39 @@ rise_more : (low : ℕ) (receipts : List Receipt) (receipt : Receipt) → RiseAb
 rise_more low [] receipt rise above = (above, tt)
 rise_more low (first ∷ receipts) receipt rise above = (rise.0, rise_more first.seq receipts receipt rise.1 above)
 
--- numbers rise after a call that adds a receipt of the next entry, or none
-pub rise_after : {A B : Type 0} (result : Result A B) (log : Log) (old new : List Receipt) (receipt : Receipt) → RiseAbove 0 old → call_fault (front_of old) log ≡ None → receipt.seq ≡ length log.entries + 1
-    → OnOk result (new ≡ old ++ receipt ∷ []) → OnErr result (new ≡ old) → RiseAbove 0 new
-rise_after (Ok a) log old new receipt rise none next added kept =
-    let few = seen_few (front_of old) log none in
-    subst (RiseAbove 0) (sym added) (rise_more 0 old receipt rise (omega (arith, few, next)))
-rise_after (Err b) log old new receipt rise none next added kept = subst (RiseAbove 0) (sym kept) rise
+-- ---- the last receipt
+
+-- an entry stands at the end of a log to which it was added
+last_entry : (log : List Entry) (entry : Entry) → slice_get (log ++ entry ∷ []) (length log) ≡ Some entry
+last_entry log entry =
+    slice_get-get_or (log ++ entry ∷ []) (length log) entry (omega (arith, length-append log (entry ∷ []))) ∙ ap Some (get_or-append_seam log entry [] entry)
+
+added_is_entry : (t : RuleTable) (log : Log) (event : Event) → IsEntry (recorded t log event).entries (receipt_of t log event)
+added_is_entry t log event =
+    let place : length log.entries + 1 - 1 ≡ length log.entries = omega arith in
+    record {
+      numbered = omega arith;
+      same = ap (λ n. slice_get (recorded t log event).entries n) place ∙ last_entry log.entries (entry_of t log event);
+    }
+
+stands_from : (log : List Entry) (first : Receipt) (receipts : List Receipt) (receipt : Receipt) → IsEntry log receipt → StandsLastFrom log first (receipts ++ receipt ∷ [])
+stands_from log first [] receipt is = is
+stands_from log first (next ∷ receipts) receipt is = stands_from log next receipts receipt is
+
+stands_last : (log : List Entry) (receipts : List Receipt) (receipt : Receipt) → IsEntry log receipt → StandsLast log (receipts ++ receipt ∷ [])
+stands_last log [] receipt is = is
+stands_last log (first ∷ receipts) receipt is = stands_from log first receipts receipt is
+
+-- a clerk that adds the receipt of an entry, and a note of the log with that entry, is one
+pub is_clerk_after : (t : RuleTable) (log after : Log) (event : Event) (told : Told) (old new : List Receipt) (note : Option Told) → RiseAbove 0 old → call_fault (front_of old) log ≡ None
+    → after ≡ recorded t log event → told.log ≡ after.entries → new ≡ old ++ receipt_of t log event ∷ [] → note ≡ Some told → IsClerk (record { receipts = new; note = note })
+is_clerk_after t log after event told old new note rise free is tells added noted =
+    let receipt : Receipt = receipt_of t log event in
+    let few = seen_few (front_of old) log free in
+    let shown : told.log ≡ (recorded t log event).entries = tells ∙ ap (λ (l : Log). l.entries) is in
+    let stands : StandsLast told.log (old ++ receipt ∷ []) =
+    subst (λ l. StandsLast l (old ++ receipt ∷ [])) (sym shown) (stands_last (recorded t log event).entries old receipt (added_is_entry t log event)) in
+    record {
+      rise = subst (RiseAbove 0) (sym added) (rise_more 0 old receipt rise (omega (arith, few)));
+      last = subst (λ o. NotesLast new o) (sym noted) (subst (λ rs. NotesLast rs (Some told)) (sym added) stands);
+    }

@@ -2,7 +2,8 @@ pub mod Receipts
 pub mod Settled
 pub mod Calls
 pub mod Marks
-pub mod Sizes
+pub mod Keys
+pub mod Desks
 pub mod Nets
 pub mod Roaming
 pub mod Roamed

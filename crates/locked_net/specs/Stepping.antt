@@ -1,7 +1,5 @@
 -- Which step is not carried out where workers judge it.
 use Rattle.std.specs.Prelude.{◌≡◌, ℕ, zero, suc, ◌<◌, Option, None, Some}
-use Rattle.rule_machine.specs.declared.reply.Reply.{Reply}
-use Rattle.rule_machine.specs.declared.reply.Reply.TheVariants.{Moves, Refused}
 use Rattle.steal_pool.specs.declared.fault.PoolFault.{PoolFault}
 use Rattle.steal_pool.specs.declared.fault.PoolFault.TheVariants.{ZeroWorkers}
 use Rattle.steal_pool.specs.declared.fault.PoolFault.TheVariants as pool_fault
@@ -29,9 +27,3 @@ abbrev pub step_fault : PoolFault → StepFault
 step_fault pool_fault.ZeroWorkers = Pool ZeroWorkers
 step_fault pool_fault.Thread = Pool pool_fault.Thread
 step_fault pool_fault.Memory = Call Memory
-
--- a reply to a step
-abbrev pub IsOfStep : Reply → Type 0
-IsOfStep (Moves moves) = Unit {0}
-IsOfStep (Refused refusal) = Unit {0}
-IsOfStep other = ⊥

@@ -9,7 +9,7 @@ ghost use Rattle.locked_net.specs.Seen.{Shows};
 ghost use Rattle.locked_net.specs.declared.read_fault.ReadFault.TheVariants.{UnknownNode, NoView as NoLook};
 
 use crate::{Clerk, NoView, ReadFault};
-use board::{Reader, Runs};
+use board::{Look, Reader, Runs};
 use rule_engine::{Node, Rules};
 use std::marker::Model;
 
@@ -71,6 +71,13 @@ impl<R: Rules> BoardReader<R> {
         ensures unknown { IsErrOf result UnknownNode → self.old.name.places ≤ v }
         ensures no_view { IsErrOf result NoLook → self.new.list ≡ self.old.list }
     {
+        let Some(Look { front, found }) = self.reader.look(v.place()) else {
+            return Err(ReadFault::NoView);
+        };
+        let Some((pointer, _)) = found else {
+            return Err(ReadFault::UnknownNode);
+        };
+        Ok(SeenPointer { front, pointer })
     }
 
     /// The node with which a node is paired, after the first `front` entries of the log, as `pointer` does: that at which it points,
@@ -85,6 +92,13 @@ impl<R: Rules> BoardReader<R> {
         ensures unknown { IsErrOf result UnknownNode → self.old.name.places ≤ v }
         ensures no_view { IsErrOf result NoLook → self.new.list ≡ self.old.list }
     {
+        let Some(Look { front, found }) = self.reader.look(v.place()) else {
+            return Err(ReadFault::NoView);
+        };
+        let Some((_, partner)) = found else {
+            return Err(ReadFault::UnknownNode);
+        };
+        Ok(SeenPartner { front, partner })
     }
 
     /// How many entries are published, as `pointer` does.
@@ -96,6 +110,10 @@ impl<R: Rules> BoardReader<R> {
         ensures found { OnOk result (Shows R.table self.old.name.places self.new.list (λ _. Unit {0})) }
         ensures no_view { OnErr result (self.new.list ≡ self.old.list) }
     {
+        let Some(front) = self.reader.front() else {
+            return Err(NoView);
+        };
+        Ok(front)
     }
 
     /// Takes in a clerk's note: each later view has all that was published when the clerk got its last receipt, and so the
@@ -108,5 +126,8 @@ impl<R: Rules> BoardReader<R> {
         ensures note { IfSome clerk.old.note (λ told. IsPrefix told.log self.new.learnt) }
         ensures last { StandsLast self.new.learnt clerk.old.receipts }
     {
+        if let Some(note) = clerk.note() {
+            self.reader.learn(note);
+        }
     }
 }

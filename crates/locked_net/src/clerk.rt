@@ -1,14 +1,18 @@
 //! Who calls a network and keeps what it was told.
 
-ghost use Rattle.std.specs.Prelude.{◌≡◌};
-ghost use Rattle.locked_net.specs.Receipts.{fresh, front_of, RiseAbove};
+ghost use Rattle.std.specs.Prelude.{◌≡◌, None, Some, MatchOption};
+ghost use Rattle.locked_net.specs.Receipts.{fresh, front_of, IsClerk, RiseAbove};
 
 use board::Note;
 use std::alloc::Global;
 use std::marker::Model;
 use step_log::Receipt;
 
+mod calls;
+mod chosen;
+mod judged;
 mod locked;
+mod lone;
 
 /// A caller of a network, seen in contracts as its receipts, oldest first (one for each of its calls that was answered; their
 /// numbers rise strictly), and its note of what was published when it got the last.
@@ -39,6 +43,7 @@ impl Clerk {
     {
         Clerk {
             receipts: Vec::new(alloc),
+            note: None,
         }
     }
 
@@ -58,5 +63,13 @@ impl Clerk {
         ensures rise { RiseAbove 0 self.now.receipts }
     {
         &self.receipts
+    }
+
+    /// The note that it got with its last receipt.
+    pub(crate) fn note(&self) -> Option<&Note>
+        ensures note { MatchOption result (self.now.note ≡ None) (λ note. self.now.note ≡ Some note.now) }
+        ensures last { IsClerk self.now }
+    {
+        self.note.as_ref()
     }
 }

@@ -4,14 +4,18 @@
 mod board_reader;
 mod call_fault;
 mod clerk;
+mod desk;
 mod ending;
+mod forks;
+mod key;
 mod law;
 mod net;
 mod read_fault;
 mod roam_fault;
 mod roaming;
+mod round;
 mod settle_fault;
-mod size;
+mod settling;
 mod step_fault;
 mod unsettled;
 

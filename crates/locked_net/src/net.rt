@@ -1,17 +1,17 @@
 //! A network that many callers share.
 
-ghost use Rattle.std.specs.Prelude.{◌≡◌, ◌≤◌, [], min, IfOk, IfErr, OnOk};
+ghost use Rattle.std.specs.Prelude.{◌≡◌, ◌≤◌, min, IfOk, IfErr, OnOk};
 ghost use Rattle.rule_machine.specs.Network.{node_count};
 ghost use Rattle.step_log.specs.Log.{IsLog, max_entries};
 ghost use Rattle.graph_store.specs.Fault.{nodes_fault, Explains};
 
+use crate::desk::Desk;
+use crate::key::{NetKey, OfKey};
 use crate::{BoardReader, Clerk, ReaderFault};
-use crate::size::{NetSize, OfSize};
-use board::Note;
 use keyed_lock::{Hold, KeyedLock};
 use rule_engine::{GraphFault, Rules};
 use rule_machine::Want;
-use std::alloc::Global;
+use std::alloc::{AllocFailed, Global};
 use std::sync::Wait;
 use step_log::{Journal, MAX_ENTRIES};
 
@@ -20,12 +20,13 @@ use step_log::{Journal, MAX_ENTRIES};
 /// is free the log is a run of the rule machine, and just this log is published. It can't be dropped: `into_journal` ends it.
 pub struct LockedNet<R: Rules> {
     alloc: Global,
-    lock: KeyedLock<Journal<R>, NetSize, OfSize>,
-    opening: Note,
+    lock: KeyedLock<Desk<R>, NetKey, OfKey>,
 }
 
 impl<R: Rules> LockedNet<R> {
-    ghost use Rattle.locked_net.specs.Nets.{nodes_of, limit_of, name_of};
+    ghost use Rattle.keyed_lock.specs.Locks.{IsHoldOf};
+    ghost use Rattle.locked_net.specs.Keys.{IsOfKey};
+    ghost use Rattle.locked_net.specs.Nets.{net_key_of, nodes_of, limit_of, name_of};
     ghost use Rattle.locked_net.specs.Receipts.{fresh};
     ghost use Rattle.locked_net.specs.declared.read_fault.ReaderFault.TheVariants.{NoPlace};
     ghost use Rattle.step_log.specs.Held.{log_of};
@@ -38,7 +39,7 @@ impl<R: Rules> LockedNet<R> {
         ensures small { OnOk result (nodes ≤ 65535) }
         ensures fault { IfErr result (λ fault. Explains (nodes_fault nodes) fault) }
     {
-        LockedNet::with_limit(alloc, nodes, MAX_ENTRIES)
+        LockedNet::with_limit(alloc, rt, nodes, MAX_ENTRIES)
     }
 
     /// The same with a limit on the entries; a limit above 16,777,216 counts as that.
@@ -53,14 +54,18 @@ impl<R: Rules> LockedNet<R> {
         ensures small { OnOk result (nodes ≤ 65535) }
         ensures fault { IfErr result (λ fault. Explains (nodes_fault nodes) fault) }
     {
-        let journal = Journal::with_limit(alloc, nodes, limit)?;
-        let size = NetSize {
+        let desk = Desk::new(alloc, rt, nodes, limit)?;
+        let key = NetKey {
             nodes,
             limit: limit.min(MAX_ENTRIES),
+            opening: desk.note(),
         };
-        match KeyedLock::new(alloc, journal, &size) {
+        match KeyedLock::new(alloc, desk, &key) {
             Ok(lock) => Ok(LockedNet { alloc, lock }),
-            Err(_) => Err(GraphFault::Memory),
+            Err(AllocFailed { value: desk }) => {
+                desk.close(rt);
+                Err(GraphFault::Memory)
+            }
         }
     }
 
@@ -77,6 +82,34 @@ impl<R: Rules> LockedNet<R> {
         ensures name { IfOk result (λ reader. reader.name ≡ name_of self.now) }
         ensures fault { IfErr result (λ fault. fault ≡ NoPlace) }
     {
+        let (mut desk, hold) = self.take(rt);
+        let place = desk.reader();
+        self.give(hold, desk);
+        match place {
+            Ok(reader) => Ok(BoardReader::over(reader)),
+            Err(_) => Err(ReaderFault::NoPlace),
+        }
+    }
+
+    /// Its allocator.
+    pub(crate) fn alloc(&self) -> Global {
+        self.alloc
+    }
+
+    /// Waits for the lock, and takes the desk out.
+    pub(crate) fn take<W: Wait>(&self, rt: &W) -> (Desk<R>, Hold<Desk<R>, NetKey>)
+        ensures key { IsOfKey (net_key_of self.now) result.0 }
+        ensures hold { IsHoldOf self.now.lock result.1 }
+    {
+        self.lock.take(rt)
+    }
+
+    /// Gives the desk back, and frees the lock.
+    pub(crate) fn give(&self, hold: Hold<Desk<R>, NetKey>, desk: Desk<R>)
+        requires key { IsOfKey (net_key_of self.now) desk }
+        requires hold { IsHoldOf self.now.lock hold }
+    {
+        self.lock.give(hold, desk);
     }
 
     /// The journal of a network that no thread shares any more: a run of the rule machine. It would wait for a call that is
@@ -87,6 +120,6 @@ impl<R: Rules> LockedNet<R> {
         ensures limit { result.limit ≡ limit_of self }
     {
         let LockedNet { alloc: _, lock } = self;
-        lock.into_inner(rt)
+        lock.into_inner(rt).close(rt)
     }
 }

@@ -2,7 +2,8 @@
 
 ghost use Rattle.std.specs.Prelude.{◌≡◌, IfErr, OnOk, OnErr};
 ghost use Rattle.std.specs.Result.{result_err};
-ghost use Rattle.locked_net.specs.Roamed.{TakesTurn, MeetsFault, MayEnd};
+ghost use Rattle.locked_net.specs.Nets.{book_of};
+ghost use Rattle.locked_net.specs.Roamed.{KeepsNote, TakesTurn, MeetsFault, MayEnd};
 
 use crate::{CallFault, Clerk, LockedNet};
 use rule_engine::Rules;
@@ -24,13 +25,14 @@ fn take_turn<R: Rules, W: Wait>(
     clerk: &mut Clerk,
     turn: u32,
 ) -> Result<(), CallFault>
-    ensures turn { OnOk result (TakesTurn R.table turn clerk.old clerk.new) }
-    ensures fault { IfErr result (λ fault. MeetsFault R.table turn clerk.old fault) }
+    ensures turn { OnOk result (TakesTurn R.table turn clerk.old.receipts clerk.new.receipts) }
+    ensures fault { IfErr result (λ fault. MeetsFault R.table turn clerk.old.receipts fault) }
+    ensures note { KeepsNote (book_of net.now) clerk.old clerk.new }
     ensures kept { OnErr result (clerk.new ≡ clerk.old) }
 {
-    let (mut journal, hold) = net.take(rt);
-    let answer = clerk.roam_on(net.alloc(), &mut journal, turn);
-    net.give(hold, journal);
+    let (mut desk, hold) = net.take(rt);
+    let answer = clerk.roam_on(rt, net.alloc(), &mut desk, turn);
+    net.give(hold, desk);
     answer
 }
 
@@ -42,7 +44,8 @@ pub(crate) fn take_turns<R: Rules, G: Gate, W: Wait>(
     worker: u32,
     clerk: &mut Clerk,
 ) -> Result<(), CallFault>
-    ensures { MayEnd R.table round.now.turns clerk.old clerk.new (result_err result) }
+    ensures turns { MayEnd R.table round.now.turns clerk.old.receipts clerk.new.receipts (result_err result) }
+    ensures note { KeepsNote (book_of round.now.net.now) clerk.old clerk.new }
 {
     for turn in 0..round.turns {
         round.gate.pass(rt, worker, turn);

@@ -1,70 +1,95 @@
-//! What a clerk does with a journal that it is lent.
+//! What a clerk does with a desk that it is lent.
 
-ghost use Rattle.std.specs.Prelude.{◌≡◌, ◌≢◌, ◌<◌, ◌++◌, ◌∷◌, [], length, None, Some, IfOk, IfErr, OnOk, OnErr, vec_capacity};
+ghost use Rattle.std.specs.Prelude.{◌≡◌, ◌<◌, ◌++◌, ◌∷◌, [], length, None, Some, IfOk, IfErr, OnOk, OnErr, vec_capacity};
 ghost use Rattle.step_log.specs.Log.{recorded, receipt_of};
-ghost use Rattle.locked_net.specs.Receipts.{front_of};
-ghost use Rattle.locked_net.specs.Sizes.{KeepsSize};
+ghost use Rattle.locked_net.specs.Receipts.{HasNoteOf, front_of};
+ghost use Rattle.locked_net.specs.Keys.{KeepsKey};
 ghost use Rattle.locked_net.specs.Calls.{call_fault, Explains};
 ghost use Rattle.locked_net.specs.declared.call_fault.CallFault.TheVariants.{Memory};
 
 use super::Clerk;
 use crate::CallFault;
+use crate::desk::{Desk, Recorded};
+use board::Note;
 use rule_engine::{Event, Reply, Rules};
-use step_log::{Journal, Receipt};
+use std::sync::Wait;
+use step_log::Receipt;
 
 impl Clerk {
-    /// `call` on a journal that the clerk is lent.
-    pub(crate) fn call_on<R: Rules>(
+    /// `call` on a desk that the clerk is lent.
+    pub(crate) fn call_on<R: Rules, W: Wait>(
         &mut self,
-        journal: &mut Journal<R>,
+        rt: &W,
+        desk: &mut Desk<R>,
         event: Event,
     ) -> Result<Reply, CallFault>
-        ensures log { OnOk result (journal.new ≡ recorded R.table journal.old event) }
-        ensures receipt { OnOk result (self.new ≡ self.old ++ receipt_of R.table journal.old event ∷ []) }
-        ensures reply { IfOk result (λ reply. reply ≡ (receipt_of R.table journal.old event).reply) }
-        ensures size { KeepsSize journal.old journal.new }
-        ensures seen { OnOk result (call_fault (front_of self.old) journal.old ≡ None) }
-        ensures fault { IfErr result (λ fault. Explains (call_fault (front_of self.old) journal.old) fault) }
-        ensures kept { OnErr result ((self.new ≡ self.old) × (journal.new ≡ journal.old)) }
+        ensures log { OnOk result (desk.new.log ≡ recorded R.table desk.old.log event) }
+        ensures receipt { OnOk result (self.new.receipts ≡ self.old.receipts ++ receipt_of R.table desk.old.log event ∷ []) }
+        ensures reply { IfOk result (λ reply. reply ≡ (receipt_of R.table desk.old.log event).reply) }
+        ensures note { OnOk result (HasNoteOf desk.old.name.book self.new) }
+        ensures key { KeepsKey desk.old desk.new }
+        ensures seen { OnOk result (call_fault (front_of self.old.receipts) desk.old.log ≡ None) }
+        ensures fault { IfErr result (λ fault. Explains (call_fault (front_of self.old.receipts) desk.old.log) fault) }
+        ensures kept { OnErr result ((self.new ≡ self.old) × (desk.new ≡ desk.old)) }
     {
-        admit(journal, self.front())?;
+        admit(desk, self.front())?;
+        self.record_on(rt, desk, event)
+    }
+
+    /// Records an event for a clerk who may call, and keeps its receipt and the note of what is published then.
+    pub(super) fn record_on<R: Rules, W: Wait>(
+        &mut self,
+        rt: &W,
+        desk: &mut Desk<R>,
+        event: Event,
+    ) -> Result<Reply, CallFault>
+        requires { call_fault (front_of self.old.receipts) desk.old.log ≡ None }
+        ensures log { OnOk result (desk.new.log ≡ recorded R.table desk.old.log event) }
+        ensures receipt { OnOk result (self.new.receipts ≡ self.old.receipts ++ receipt_of R.table desk.old.log event ∷ []) }
+        ensures reply { IfOk result (λ reply. reply ≡ (receipt_of R.table desk.old.log event).reply) }
+        ensures note { OnOk result (HasNoteOf desk.old.name.book self.new) }
+        ensures key { KeepsKey desk.old desk.new }
+        ensures fault { IfErr result (λ fault. fault ≡ Memory) }
+        ensures kept { OnErr result ((self.new ≡ self.old) × (desk.new ≡ desk.old)) }
+    {
         self.receipts.reserve(1)?;
-        record_into(&mut self.receipts, journal, event)
+        let recorded = desk.record(rt, event)?;
+        Ok(keep(&mut self.receipts, &mut self.note, recorded))
     }
 }
 
 /// Whether a clerk who has seen that many entries may call: `Behind` where the log holds fewer, then `LogFull`.
-pub(super) fn admit<R: Rules>(journal: &Journal<R>, seen: u32) -> Result<(), CallFault>
-    ensures ok { OnOk result (call_fault seen journal.now ≡ None) }
-    ensures fault { IfErr result (λ fault. call_fault seen journal.now ≡ Some fault) }
+pub(super) fn admit<R: Rules>(desk: &Desk<R>, seen: u32) -> Result<(), CallFault>
+    ensures ok { OnOk result (call_fault seen desk.now.log ≡ None) }
+    ensures fault { IfErr result (λ fault. call_fault seen desk.now.log ≡ Some fault) }
 {
-    let front = journal.len();
+    let front = desk.len();
     if front < seen {
         return Err(CallFault::Behind { front, seen });
     }
-    if journal.is_full() {
+    if desk.is_full() {
         return Err(CallFault::LogFull);
     }
     Ok(())
 }
 
-/// Records an event, and keeps its receipt in the room for one.
-pub(super) fn record_into<R: Rules>(
+/// Keeps a receipt, in the room for one, and a note, and answers the reply.
+pub(super) fn keep(
     receipts: &mut Vec<Receipt>,
-    journal: &mut Journal<R>,
-    event: Event,
-) -> Result<Reply, CallFault>
+    note: &mut Option<Note>,
+    recorded: Recorded,
+) -> Reply
     requires room { length receipts.old.items < vec_capacity receipts.old }
-    requires not_full { length journal.old.entries ≢ journal.old.limit }
-    ensures log { OnOk result (journal.new ≡ recorded R.table journal.old event) }
-    ensures receipt { OnOk result (receipts.new.items ≡ receipts.old.items ++ receipt_of R.table journal.old event ∷ []) }
-    ensures reply { IfOk result (λ reply. reply ≡ (receipt_of R.table journal.old event).reply) }
-    ensures fault { IfErr result (λ fault. fault ≡ Memory) }
-    ensures kept { OnErr result (receipts.new.items ≡ receipts.old.items) }
-    ensures size { KeepsSize journal.old journal.new }
-    ensures unchanged { OnErr result (journal.new ≡ journal.old) }
+    ensures receipt { receipts.new.items ≡ receipts.old.items ++ recorded.receipt ∷ [] }
+    ensures note { note.new ≡ Some recorded.note }
+    ensures reply { result ≡ recorded.reply }
 {
-    let (receipt, reply) = journal.record_told(event)?;
+    let Recorded {
+        receipt,
+        reply,
+        note: told,
+    } = recorded;
     receipts.push(receipt).unwrap();
-    Ok(reply)
+    *note = Some(told);
+    reply
 }

@@ -1,66 +1,65 @@
-//! What a clerk does with a journal that it is lent, where somebody else chooses the event.
+//! What a clerk does with a desk that it is lent, where somebody else chooses the event.
 
-ghost use Rattle.std.specs.Prelude.{◌≡◌, ◌↔◌, None, IsNone, IfOk, IfErr, OnOk, OnErr, MatchOption};
+ghost use Rattle.std.specs.Prelude.{◌≡◌, ◌↔◌, None, IsNone, IfOk, IfErr, IfSome, OnOk, OnErr, MatchOption};
 ghost use Rattle.rule_machine.specs.Network.{node_count};
-ghost use Rattle.locked_net.specs.Receipts.{front_of};
-ghost use Rattle.locked_net.specs.Sizes.{KeepsSize};
+ghost use Rattle.locked_net.specs.Receipts.{HasNoteOf, front_of};
+ghost use Rattle.locked_net.specs.Keys.{KeepsKey};
 ghost use Rattle.locked_net.specs.Calls.{call_fault, Explains, Drives, Breaks};
 
 use super::Clerk;
-use super::calls::{admit, record_into};
+use super::calls::admit;
 use crate::CallFault;
+use crate::desk::Desk;
 use daemon::Daemon;
 use fault_injector::Injector;
 use rand_core::Rng;
 use rule_engine::{Event, Reply, Rules};
-use step_log::Journal;
+use std::sync::Wait;
 
 impl Clerk {
-    /// `drive_with` on a journal that the clerk is lent.
-    pub(crate) fn drive_on<R: Rules, D: Daemon>(
+    /// `drive_with` on a desk that the clerk is lent.
+    pub(crate) fn drive_on<R: Rules, W: Wait, D: Daemon>(
         &mut self,
-        journal: &mut Journal<R>,
+        rt: &W,
+        desk: &mut Desk<R>,
         daemon: &mut D,
     ) -> Result<Option<Reply>, CallFault>
         ensures step { IfOk result (λ told. MatchOption told
-            ((self.new ≡ self.old) × (journal.new ≡ journal.old))
-            (λ reply. Drives R.table journal.old journal.new self.old self.new reply)) }
-        ensures size { KeepsSize journal.old journal.new }
-        ensures seen { OnOk result (call_fault (front_of self.old) journal.old ≡ None) }
-        ensures fault { IfErr result (λ fault. Explains (call_fault (front_of self.old) journal.old) fault) }
-        ensures kept { OnErr result ((self.new ≡ self.old) × (journal.new ≡ journal.old)) }
+            ((self.new ≡ self.old) × (desk.new ≡ desk.old))
+            (λ reply. Drives R.table desk.old.log desk.new.log self.old.receipts self.new.receipts reply)) }
+        ensures note { IfOk result (λ told. IfSome told (λ _. HasNoteOf desk.old.name.book self.new)) }
+        ensures key { KeepsKey desk.old desk.new }
+        ensures seen { OnOk result (call_fault (front_of self.old.receipts) desk.old.log ≡ None) }
+        ensures fault { IfErr result (λ fault. Explains (call_fault (front_of self.old.receipts) desk.old.log) fault) }
+        ensures kept { OnErr result ((self.new ≡ self.old) × (desk.new ≡ desk.old)) }
     {
-        admit(journal, self.front())?;
-        self.receipts.reserve(1)?;
-        match daemon.choose(journal.net().enabled(), R::CENTRAL)? {
-            Some(choice) => Ok(Some(record_into(
-                &mut self.receipts,
-                journal,
-                Event::Step(choice),
-            )?)),
+        admit(desk, self.front())?;
+        match daemon.choose(desk.net().enabled(), R::CENTRAL)? {
+            Some(choice) => Ok(Some(self.record_on(rt, desk, Event::Step(choice))?)),
             None => Ok(None),
         }
     }
 
-    /// `fault_with` on a journal that the clerk is lent.
-    pub(crate) fn fault_on<R: Rules, G: Rng>(
+    /// `fault_with` on a desk that the clerk is lent.
+    pub(crate) fn fault_on<R: Rules, W: Wait, G: Rng>(
         &mut self,
-        journal: &mut Journal<R>,
+        rt: &W,
+        desk: &mut Desk<R>,
         injector: &mut Injector<G>,
     ) -> Result<Option<Reply>, CallFault>
         ensures register { IfOk result (λ told. MatchOption told
-            ((self.new ≡ self.old) × (journal.new ≡ journal.old))
-            (λ reply. Breaks R.table journal.old journal.new self.old self.new reply)) }
-        ensures none { IfOk result (λ told. IsNone told ↔ (node_count journal.old.state.network ≡ 0)) }
-        ensures size { KeepsSize journal.old journal.new }
-        ensures seen { OnOk result (call_fault (front_of self.old) journal.old ≡ None) }
-        ensures fault { IfErr result (λ fault. Explains (call_fault (front_of self.old) journal.old) fault) }
-        ensures kept { OnErr result ((self.new ≡ self.old) × (journal.new ≡ journal.old)) }
+            ((self.new ≡ self.old) × (desk.new ≡ desk.old))
+            (λ reply. Breaks R.table desk.old.log desk.new.log self.old.receipts self.new.receipts reply)) }
+        ensures none { IfOk result (λ told. IsNone told ↔ (node_count desk.old.log.state.network ≡ 0)) }
+        ensures note { IfOk result (λ told. IfSome told (λ _. HasNoteOf desk.old.name.book self.new)) }
+        ensures key { KeepsKey desk.old desk.new }
+        ensures seen { OnOk result (call_fault (front_of self.old.receipts) desk.old.log ≡ None) }
+        ensures fault { IfErr result (λ fault. Explains (call_fault (front_of self.old.receipts) desk.old.log) fault) }
+        ensures kept { OnErr result ((self.new ≡ self.old) × (desk.new ≡ desk.old)) }
     {
-        admit(journal, self.front())?;
-        self.receipts.reserve(1)?;
-        match injector.draw(journal.net()) {
-            Some(event) => Ok(Some(record_into(&mut self.receipts, journal, event)?)),
+        admit(desk, self.front())?;
+        match injector.draw(desk.net()) {
+            Some(event) => Ok(Some(self.record_on(rt, desk, event)?)),
             None => Ok(None),
         }
     }

@@ -33,9 +33,9 @@ impl Clerk {
         ensures fault { IfErr result (λ fault. MayAnswer (front_of self.old.receipts) fault) }
         ensures kept { OnErr result (self.new ≡ self.old) }
     {
-        let (mut journal, hold) = net.take(rt);
-        let answer = self.call_on(&mut journal, event);
-        net.give(hold, journal);
+        let (mut desk, hold) = net.take(rt);
+        let answer = self.call_on(rt, &mut desk, event);
+        net.give(hold, desk);
         answer
     }
 
@@ -58,9 +58,9 @@ impl Clerk {
         ensures fault { IfErr result (λ fault. MayAnswerStep (front_of self.old.receipts) workers fault) }
         ensures kept { OnErr result (self.new ≡ self.old) }
     {
-        let (mut journal, hold) = net.take(rt);
-        let answer = self.step_on(rt, net.alloc(), &mut journal, choice, workers, gate);
-        net.give(hold, journal);
+        let (mut desk, hold) = net.take(rt);
+        let answer = self.step_on(rt, net.alloc(), &mut desk, choice, workers, gate);
+        net.give(hold, desk);
         answer
     }
 
@@ -81,9 +81,9 @@ impl Clerk {
         ensures fault { IfErr result (λ fault. MayAnswer (front_of self.old.receipts) fault) }
         ensures kept { OnErr result (self.new ≡ self.old) }
     {
-        let (mut journal, hold) = net.take(rt);
-        let answer = self.drive_on(&mut journal, daemon);
-        net.give(hold, journal);
+        let (mut desk, hold) = net.take(rt);
+        let answer = self.drive_on(rt, &mut desk, daemon);
+        net.give(hold, desk);
         answer
     }
 
@@ -101,9 +101,9 @@ impl Clerk {
         ensures fault { IfErr result (λ fault. MayAnswer (front_of self.old.receipts) fault) }
         ensures kept { OnErr result (self.new ≡ self.old) }
     {
-        let (mut journal, hold) = net.take(rt);
-        let answer = self.fault_on(&mut journal, injector);
-        net.give(hold, journal);
+        let (mut desk, hold) = net.take(rt);
+        let answer = self.fault_on(rt, &mut desk, injector);
+        net.give(hold, desk);
         answer
     }
 }

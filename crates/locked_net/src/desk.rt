@@ -1,0 +1,188 @@
+//! What lies behind a network's lock.
+
+ghost use Rattle.std.specs.Prelude.{◌≡◌, ◌+◌, ◌≤◌, ◌↔◌, length, min, IfOk, IfErr, OnOk, OnErr, IsErrOf, IsTrue};
+ghost use Rattle.graph_store.specs.Fault.{nodes_fault, Explains};
+ghost use Rattle.rule_machine.specs.Network.{node_count};
+ghost use Rattle.rule_machine.specs.declared.event.Event.TheVariants.{Step};
+ghost use Rattle.rule_engine.specs.Choosing.{verdicts_of};
+ghost use Rattle.step_log.specs.declared.fault.RecordFault.TheVariants.{LogFull};
+ghost use Rattle.step_log.specs.Held.{IsReady, log_of};
+ghost use Rattle.step_log.specs.Log.{IsLog, max_entries, recorded, receipt_of};
+ghost use Rattle.locked_net.specs.Desks.{IsDesk};
+ghost use Rattle.locked_net.specs.Keys.{KeepsKey};
+
+use board::{Board, NoPlace, Note, Reader, Runs};
+use rule_engine::{Choice, Event, GraphFault, Net, Reply, Rules, Verdict};
+use std::alloc::{AllocError, Global};
+use std::marker::Model;
+use std::sync::Wait;
+use step_log::{Journal, Prepared, Receipt, RecordFault};
+
+/// How many readers of a network there may be at once.
+const READERS: usize = 64;
+
+/// A journal and the board that publishes it: whatever is recorded is published. Contracts see the log, and the board's name. It
+/// can't be dropped: `close` ends it.
+pub(crate) struct Desk<R: Rules> {
+    journal: Journal<R>,
+    board: Board<Runs<R>>,
+}
+
+impl<R: Rules> Model for Desk<R> {
+    ghost use Rattle.std.specs.Coded.{codes};
+    ghost use Rattle.rule_machine.specs.State.{state_code};
+    ghost use Rattle.logbook.specs.Pages.{book_coded};
+    ghost use Rattle.step_log.specs.Held.{log_of};
+    ghost use Rattle.locked_net.specs.Desks.{DeskView, IsDesk};
+
+    ghost Value = { DeskView };
+
+    ghost coded = { Prim.hlevel (codes, state_code, book_coded) };
+
+    ghost view = { λ d. record { log = log_of d.journal; name = d.board.name } };
+
+    ghost invariant = { λ d. IsDesk (log_of d.journal) d.board };
+}
+
+/// What came of an event: the receipt of its entry, the reply, and a note of what is published, with the entry at its end.
+#[derive(Drop)]
+pub(crate) struct Recorded {
+    pub(crate) receipt: Receipt,
+    pub(crate) reply: Reply,
+    pub(crate) note: Note,
+}
+
+impl<R: Rules> Desk<R> {
+    /// A new network of the nodes 1 to `nodes`, with a limit on its entries, none of which is there yet.
+    pub(crate) fn new<W: Wait>(
+        alloc: Global,
+        rt: &W,
+        nodes: u32,
+        limit: u32,
+    ) -> Result<Desk<R>, GraphFault>
+        ensures nodes { IfOk result (λ desk. node_count desk.log.state.network ≡ nodes) }
+        ensures limit { IfOk result (λ desk. desk.log.limit ≡ min limit max_entries) }
+        ensures places { IfOk result (λ desk. desk.name.places ≡ nodes + 1) }
+        ensures small { OnOk result (nodes ≤ 65535) }
+        ensures fault { IfErr result (λ fault. Explains (nodes_fault nodes) fault) }
+    {
+        let journal = Journal::with_limit(alloc, nodes, limit)?;
+        match Board::new(alloc, rt, nodes as usize + 1, READERS) {
+            Ok(board) => Ok(Desk { journal, board }),
+            Err(_) => Err(GraphFault::Memory),
+        }
+    }
+
+    /// How many entries there are.
+    pub(crate) fn len(&self) -> u32
+        ensures { result ≡ length self.now.log.entries }
+    {
+        self.journal.len()
+    }
+
+    /// Whether there are as many entries as there may be.
+    pub(crate) fn is_full(&self) -> bool
+        ensures { IsTrue result ↔ (length self.now.log.entries ≡ self.now.log.limit) }
+    {
+        self.journal.is_full()
+    }
+
+    /// The network as the entries have left it.
+    pub(crate) fn net(&self) -> &Net<R>
+        ensures state { result.now.state ≡ self.now.log.state }
+        ensures run { IsLog R.table self.now.log }
+    {
+        self.journal.net()
+    }
+
+    /// Tells what is published.
+    pub(crate) fn note(&self) -> Note
+        ensures { (result.log ≡ self.now.log.entries) × (result.book ≡ self.now.name.book) }
+    {
+        self.board.note()
+    }
+
+    /// Carries out an event, records it and publishes its entry. At a fault nothing has changed.
+    pub(crate) fn record<W: Wait>(&mut self, rt: &W, event: Event) -> Result<Recorded, RecordFault>
+        ensures log { OnOk result (self.new.log ≡ recorded R.table self.old.log event) }
+        ensures receipt { IfOk result (λ told. told.receipt ≡ receipt_of R.table self.old.log event) }
+        ensures reply { IfOk result (λ told. told.reply ≡ (receipt_of R.table self.old.log event).reply) }
+        ensures note { IfOk result (λ told. (told.note.log ≡ self.new.log.entries) × (told.note.book ≡ self.old.name.book)) }
+        ensures full { IsErrOf result LogFull → length self.old.log.entries ≡ self.old.log.limit }
+        ensures kept { OnErr result (self.new ≡ self.old) }
+        ensures key { KeepsKey self.old self.new }
+    {
+        let prepared = self.journal.prepare(event)?;
+        Ok(finish(&mut self.journal, &mut self.board, rt, prepared)?)
+    }
+
+    /// The same for a step, from the verdicts of its items.
+    pub(crate) fn record_step<W: Wait>(
+        &mut self,
+        rt: &W,
+        choice: Choice,
+        verdicts: &[Verdict],
+    ) -> Result<Recorded, RecordFault>
+        requires { verdicts.now ≡ verdicts_of R.table self.old.log.state choice }
+        ensures log { OnOk result (self.new.log ≡ recorded R.table self.old.log (Step choice)) }
+        ensures receipt { IfOk result (λ told. told.receipt ≡ receipt_of R.table self.old.log (Step choice)) }
+        ensures reply { IfOk result (λ told. told.reply ≡ (receipt_of R.table self.old.log (Step choice)).reply) }
+        ensures note { IfOk result (λ told. (told.note.log ≡ self.new.log.entries) × (told.note.book ≡ self.old.name.book)) }
+        ensures full { IsErrOf result LogFull → length self.old.log.entries ≡ self.old.log.limit }
+        ensures kept { OnErr result (self.new ≡ self.old) }
+        ensures key { KeepsKey self.old self.new }
+    {
+        let prepared = self.journal.prepare_step(choice, verdicts)?;
+        Ok(finish(&mut self.journal, &mut self.board, rt, prepared)?)
+    }
+
+    /// A reader of what is published.
+    pub(crate) fn reader(&mut self) -> Result<Reader<Runs<R>>, NoPlace>
+        ensures kept { self.new ≡ self.old }
+        ensures name { IfOk result (λ reader. reader.name ≡ self.old.name) }
+        ensures seen { IfOk result (λ reader. reader.list ≡ self.old.log.entries) }
+    {
+        self.board.reader()
+    }
+
+    /// The journal; nothing is published any more.
+    pub(crate) fn close<W: Wait>(self, rt: &W) -> Journal<R>
+        ensures log { log_of result ≡ self.log }
+        ensures run { IsLog R.table self.log }
+    {
+        let Desk { journal, board } = self;
+        board.end(rt);
+        prove!(journal.len() <= step_log::MAX_ENTRIES);
+        journal
+    }
+}
+
+/// Records what is prepared, and publishes it: once its entry is posted nothing fails.
+fn finish<R: Rules, W: Wait>(
+    journal: &mut Journal<R>,
+    board: &mut Board<Runs<R>>,
+    rt: &W,
+    prepared: Prepared,
+) -> Result<Recorded, AllocError>
+    requires ready { IsReady R.table journal.old prepared }
+    requires desk { IsDesk (log_of journal.old) board.old }
+    ensures log { OnOk result (log_of journal.new ≡ recorded R.table (log_of journal.old) prepared.event) }
+    ensures desk { IsDesk (log_of journal.new) board.new }
+    ensures receipt { IfOk result (λ told. told.receipt ≡ prepared) }
+    ensures reply { IfOk result (λ told. told.reply ≡ prepared.reply) }
+    ensures note { IfOk result (λ told. (told.note.log ≡ journal.new.entries) × (told.note.book ≡ board.old.name.book)) }
+    ensures name { board.new.name ≡ board.old.name }
+    ensures kept { OnErr result (log_of journal.new ≡ log_of journal.old) }
+{
+    let reply = prepared.receipt().reply.clone()?;
+    prove!(journal.len() < step_log::MAX_ENTRIES);
+    board.post(prepared.entry())?;
+    let receipt = journal.commit(prepared);
+    prove!(receipt.seq == journal.len());
+    let note = board.publish(rt);
+    Ok(Recorded {
+        receipt,
+        reply,
+        note,
+    })
+}
