@@ -8,7 +8,7 @@ use Rattle.std.proofs.lemmas.List.Elements.{All-nil, All-cons, All-append}
 use Rattle.rule_machine.specs.RuleTable.{RuleTable}
 use Rattle.step_log.specs.declared.receipt.Receipt.{Receipt}
 use Rattle.step_log.specs.Log.{Log, receipt_of}
-use Rattle.locked_net.specs.Receipts.{front_of}
+use Rattle.locked_net.specs.Receipts.{ClerkView, front_of}
 use Rattle.locked_net.specs.declared.call_fault.CallFault.{CallFault}
 use Rattle.locked_net.specs.declared.call_fault.CallFault.TheVariants.{Behind, LogFull, Memory}
 use Rattle.locked_net.specs.declared.roam_fault.RoamFault.{RoamFault}
@@ -51,11 +51,11 @@ end_roams t turns old new (Some fault) broken =
     let some = turns_roam t broken.turn old new broken.taken in
     record { own = some.own; added = some.added; few = omega (arith, some.few, broken.below); lone = some.lone }
 
-all_roam : (t : RuleTable) (turns : ℕ) (olds news : List (List Receipt)) (fault : Option CallFault) → AllEnd t turns olds news fault → AllRoam turns olds news
+all_roam : (t : RuleTable) (turns : ℕ) (olds news : List ClerkView) (fault : Option CallFault) → AllEnd t turns olds news fault → AllRoam turns olds news
 all_roam t turns [] [] fault ends = tt
 all_roam t turns [] (new ∷ news) fault ends = absurd ends
 all_roam t turns (old ∷ olds) [] fault ends = absurd ends
-all_roam t turns (old ∷ olds) (new ∷ news) fault (own, others, is, ended, ends) = (end_roams t turns old new own ended, all_roam t turns olds news others ends)
+all_roam t turns (old ∷ olds) (new ∷ news) fault (own, others, is, ended, ends) = (end_roams t turns old.receipts new.receipts own ended, all_roam t turns olds news others ends)
 
 -- ---- the first of them
 
@@ -77,21 +77,21 @@ empty [] none = refl
 empty (x ∷ xs) none = absurd (omega (arith, none))
 
 -- the first 64 of a row, or all
-record IsFront (whole part rest : List (List Receipt)) : Type 0 where
+record IsFront (whole part rest : List ClerkView) : Type 0 where
   few : length part ≤ 64
   all : length part < 64 → rest ≡ []
 
-front_of_row : (whole part rest : List (List Receipt)) → whole ≡ part ++ rest → length part ≡ min (length whole) 64 → IsFront whole part rest
+front_of_row : (whole part rest : List ClerkView) → whole ≡ part ++ rest → length part ≡ min (length whole) 64 → IsFront whole part rest
 front_of_row whole part rest value size =
     let lengths : length whole ≡ length part + length rest = ap length value ∙ length-append part rest in
     record { few = omega (arith, size); all = λ less. empty rest (omega (arith, less, size, lengths)) }
 
-record IsSplit (whole part new rest : List (List Receipt)) : Type 0 where
+record IsSplit (whole part new rest : List ClerkView) : Type 0 where
   olds : take 64 whole ≡ part
   news : take 64 (new ++ rest) ≡ new
   others : drop 64 (new ++ rest) ≡ drop 64 whole
 
-splits : (whole part new rest : List (List Receipt)) → whole ≡ part ++ rest → length part ≡ min (length whole) 64 → length new ≡ length part → IsSplit whole part new rest
+splits : (whole part new rest : List ClerkView) → whole ≡ part ++ rest → length part ≡ min (length whole) 64 → length new ≡ length part → IsSplit whole part new rest
 splits whole part new rest value size same =
     let front = front_of_row whole part rest value size in
     let more : length new < 64 → rest ≡ [] = λ less. front.all (omega (arith, less, same)) in
@@ -102,7 +102,7 @@ splits whole part new rest value size same =
       others = back_part 64 new rest few more ∙ sym (ap (drop 64) value ∙ back_part 64 part rest front.few front.all);
     }
 
-pub first_roamed : (t : RuleTable) (turns count : ℕ) (whole part new rest : List (List Receipt)) (fault : Option CallFault) → whole ≡ part ++ rest → length part ≡ count → count ≡ min (length whole) 64 → length new ≡ length part
+pub first_roamed : (t : RuleTable) (turns count : ℕ) (whole part new rest : List ClerkView) (fault : Option CallFault) → whole ≡ part ++ rest → length part ≡ count → count ≡ min (length whole) 64 → length new ≡ length part
     → AllEnd t turns part new fault → Roamed turns whole (new ++ rest)
 first_roamed t turns count whole part new rest fault value size few same ends =
     let rows = splits whole part new rest value (size ∙ few) same in
@@ -112,14 +112,14 @@ first_roamed t turns count whole part new rest fault value size few same ends =
     }
 
 -- where there was no fault, each took all its turns
-all_taken : (t : RuleTable) (turns : ℕ) (olds news : List (List Receipt)) (fault : Option CallFault) → fault ≡ None → AllEnd t turns olds news fault → AllTakeTurns t turns olds news
+all_taken : (t : RuleTable) (turns : ℕ) (olds news : List ClerkView) (fault : Option CallFault) → fault ≡ None → AllEnd t turns olds news fault → AllTakeTurns t turns olds news
 all_taken t turns [] [] fault none ends = tt
 all_taken t turns [] (new ∷ news) fault none ends = absurd ends
 all_taken t turns (old ∷ olds) [] fault none ends = absurd ends
 all_taken t turns (old ∷ olds) (new ∷ news) fault none (None, others, is, taken, ends) = (taken, all_taken t turns olds news others (sym is ∙ none) ends)
 all_taken t turns (old ∷ olds) (new ∷ news) fault none (Some own, others, is, broken, ends) = absurd (none-some own (sym none ∙ is))
 
-pub first_taken : (t : RuleTable) (turns count : ℕ) (whole part new rest : List (List Receipt)) (fault : Option CallFault) → whole ≡ part ++ rest → length part ≡ count → count ≡ min (length whole) 64 → length new ≡ length part
+pub first_taken : (t : RuleTable) (turns count : ℕ) (whole part new rest : List ClerkView) (fault : Option CallFault) → whole ≡ part ++ rest → length part ≡ count → count ≡ min (length whole) 64 → length new ≡ length part
     → AllEnd t turns part new fault → fault ≡ None → AllTakeTurns t turns (take 64 whole) (take 64 (new ++ rest))
 first_taken t turns count whole part new rest fault value size few same ends none =
     let rows = splits whole part new rest value (size ∙ few) same in
@@ -138,32 +138,32 @@ met_answers seen log None fault met = absurd met
 met_answers seen log (Some v) fault met = explained seen log fault (nat_lt (length log.entries) seen) (nat_eq (length log.entries) log.limit) refl met
 
 -- one of these clerks met the fault
-record IsMet (clerks : List (List Receipt)) (workers : ℕ) (fault : CallFault) : Type 0 where
+record IsMet (clerks : List ClerkView) (workers : ℕ) (fault : CallFault) : Type 0 where
   clerk : ℕ
-  receipts : List Receipt
+  view : ClerkView
   worker : clerk < workers
-  has : slice_get clerks clerk ≡ Some receipts
-  may : MayAnswer (front_of receipts) fault
+  has : slice_get clerks clerk ≡ Some view
+  may : MayAnswer (front_of view.receipts) fault
 
-fault_met : (t : RuleTable) (turns : ℕ) (olds news rest : List (List Receipt)) (first : Option CallFault) (fault : CallFault) → AllEnd t turns olds news first → first ≡ Some fault → IsMet (news ++ rest) (length olds) fault
+fault_met : (t : RuleTable) (turns : ℕ) (olds news rest : List ClerkView) (first : Option CallFault) (fault : CallFault) → AllEnd t turns olds news first → first ≡ Some fault → IsMet (news ++ rest) (length olds) fault
 fault_met t turns [] [] rest first fault ends is = absurd (none-some fault (sym ends ∙ is))
 fault_met t turns [] (new ∷ news) rest first fault ends is = absurd ends
 fault_met t turns (old ∷ olds) [] rest first fault ends is = absurd ends
 fault_met t turns (old ∷ olds) (new ∷ news) rest first fault (None, others, first_is, ended, ends) is =
     let later = fault_met t turns olds news rest others fault ends (sym first_is ∙ is) in
-    record { clerk = suc later.clerk; receipts = later.receipts; worker = omega (arith, later.worker); has = later.has; may = later.may }
+    record { clerk = suc later.clerk; view = later.view; worker = omega (arith, later.worker); has = later.has; may = later.may }
 fault_met t turns (old ∷ olds) (new ∷ news) rest first fault (Some own, others, first_is, ended, ends) is =
     let same : own ≡ fault = same_Some own fault (sym first_is ∙ is) in
-    let may = met_answers (front_of new) ended.met.log (mover t ended.met.log.state ended.turn) own ended.met.met in
-    record { clerk = 0; receipts = new; worker = omega arith; has = refl; may = subst (MayAnswer (front_of new)) same may }
+    let may = met_answers (front_of new.receipts) ended.met.log (mover t ended.met.log.state ended.turn) own ended.met.met in
+    record { clerk = 0; view = new; worker = omega arith; has = refl; may = subst (MayAnswer (front_of new.receipts)) same may }
 
-stops : (clerks : List (List Receipt)) (workers : ℕ) (fault : CallFault) → workers ≤ 64 → IsMet clerks workers fault → MayStop clerks (roam_fault fault)
+stops : (clerks : List ClerkView) (workers : ℕ) (fault : CallFault) → workers ≤ 64 → IsMet clerks workers fault → MayStop clerks (roam_fault fault)
 stops clerks workers (Behind front seen) few met =
-    record { clerk = met.clerk; receipts = met.receipts; worker = omega (arith, few, met.worker); has = met.has; own = met.may.0; fewer = subst (λ n. front < n) (sym met.may.0) met.may.1 }
+    record { clerk = met.clerk; view = met.view; worker = omega (arith, few, met.worker); has = met.has; own = met.may.0; fewer = subst (λ n. front < n) (sym met.may.0) met.may.1 }
 stops clerks workers LogFull few met = tt
 stops clerks workers Memory few met = tt
 
-pub may_stop : (t : RuleTable) (turns count : ℕ) (whole part new rest : List (List Receipt)) (first : Option CallFault) (fault : CallFault) (told : RoamFault) → whole ≡ part ++ rest → length part ≡ count → count ≡ min (length whole) 64
+pub may_stop : (t : RuleTable) (turns count : ℕ) (whole part new rest : List ClerkView) (first : Option CallFault) (fault : CallFault) (told : RoamFault) → whole ≡ part ++ rest → length part ≡ count → count ≡ min (length whole) 64
     → AllEnd t turns part new first → first ≡ Some fault → told ≡ roam_fault fault → MayStop (new ++ rest) told
 may_stop t turns count whole part new rest first fault told value size few ends is told_is =
     let front = front_of_row whole part rest value (size ∙ few) in
