@@ -1,5 +1,5 @@
 -- What lies behind a network's lock, as contracts see it: a log, and what is published of it.
-use Rattle.std.specs.Prelude.{◌≡◌, ℕ, ◌+◌, []}
+use Rattle.std.specs.Prelude.{◌≡◌, ◌+◌, []}
 use Rattle.rule_machine.specs.Network.{node_count}
 use Rattle.board.specs.Views.{Name, Standing}
 use Rattle.step_log.specs.Log.{Log}

@@ -1,4 +1,4 @@
-use Rattle.std.proofs.Common.{◌≡◌, Some, ◌∙◌, sym, subst}
+use Rattle.std.proofs.Common.{subst}
 use Rattle.locked_net.specs.Receipts.{NotesLast, StandsLast}
 use Rattle.locked_net.proofs.Seeing.{stays_last}
 use Rattle.locked_net.proofs.board_reader.BoardReader.learn.Goals as goal

@@ -1,4 +1,4 @@
-use Rattle.std.proofs.Common.{◌≡◌, ◌∷◌, ◌++◌, [], None, sym, ap, ap₂, ◌∙◌, subst}
+use Rattle.std.proofs.Common.{◌≡◌, ◌∷◌, ◌++◌, [], None, sym, ap₂, ◌∙◌, subst}
 use Rattle.rule_machine.specs.declared.event.Event.TheVariants.{Step}
 use Rattle.step_log.specs.declared.receipt.Receipt.{Receipt}
 use Rattle.locked_net.specs.Receipts.{ClerkView, front_of}
