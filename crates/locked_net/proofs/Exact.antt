@@ -6,7 +6,7 @@ use Rattle.rule_machine.specs.Run.{Entry}
 use Rattle.step_log.specs.declared.receipt.Receipt.{Receipt}
 use Rattle.locked_net.specs.declared.settle_fault.SettleFault.{SettleFault}
 use Rattle.locked_net.specs.declared.settle_fault.SettleFault.TheVariants.{CountDiffers, Stranger, Memory}
-use Rattle.locked_net.specs.Receipts.{RiseAbove, IsEntry}
+use Rattle.locked_net.specs.Receipts.{ClerkView, RiseAbove, IsEntry}
 use Rattle.locked_net.specs.Settled.{StandsAt, Holds, Agrees, Settled, Unsettles}
 
 -- each number is above where the rise begins
@@ -25,15 +25,15 @@ later_is_greater low (first ∷ receipts) (suc q) zero one other rises at_q at_p
 later_is_greater low (first ∷ receipts) (suc q) (suc p) one other rises at_q at_p lt = later_is_greater first.seq receipts q p one other rises.1 at_q at_p (omega arith)
 
 -- two receipts of a clerk whose numbers rise have two numbers
-apart : (clerks : List (List Receipt)) (d c q p : ℕ) (one other : Receipt) → ((k : ℕ) (receipts : List Receipt) → slice_get clerks k ≡ Some receipts → RiseAbove 0 receipts) → d ≡ c → q < p → StandsAt clerks d q one → StandsAt clerks c p other → one.seq ≡ other.seq → ⊥
+apart : (clerks : List ClerkView) (d c q p : ℕ) (one other : Receipt) → ((k : ℕ) (clerk : ClerkView) → slice_get clerks k ≡ Some clerk → RiseAbove 0 clerk.receipts) → d ≡ c → q < p → StandsAt clerks d q one → StandsAt clerks c p other → one.seq ≡ other.seq → ⊥
 apart clerks d c q p one other rise e lt stands here same =
-    let lists : stands.receipts ≡ here.receipts = same_Some stands.receipts here.receipts (sym stands.of_clerk ∙ subst (λ k. slice_get clerks k ≡ Some here.receipts) (sym e) here.of_clerk) in
-    let at_q : slice_get here.receipts q ≡ Some one = subst (λ l. slice_get l q ≡ Some one) lists stands.at_place in
-    let less = later_is_greater 0 here.receipts q p one other (rise c here.receipts here.of_clerk) at_q here.at_place lt in
+    let own : stands.clerk ≡ here.clerk = same_Some stands.clerk here.clerk (sym stands.of_clerk ∙ subst (λ k. slice_get clerks k ≡ Some here.clerk) (sym e) here.of_clerk) in
+    let at_q : slice_get here.clerk.receipts q ≡ Some one = subst (λ (k : ClerkView). slice_get k.receipts q ≡ Some one) own stands.at_place in
+    let less = later_is_greater 0 here.clerk.receipts q p one other (rise c here.clerk here.of_clerk) at_q here.at_place lt in
     omega (arith, less, same)
 
 -- an earlier receipt with the number is an earlier clerk's
-pub agrees_by_clerks : (log : List Entry) (clerks : List (List Receipt)) (c p : ℕ) (receipt : Receipt) → ((d : ℕ) (receipts : List Receipt) → slice_get clerks d ≡ Some receipts → RiseAbove 0 receipts) → StandsAt clerks c p receipt → Agrees log clerks c p receipt ↔ (IsEntry log receipt × ((d : ℕ) → d < c → Holds clerks d receipt.seq → ⊥))
+pub agrees_by_clerks : (log : List Entry) (clerks : List ClerkView) (c p : ℕ) (receipt : Receipt) → ((d : ℕ) (clerk : ClerkView) → slice_get clerks d ≡ Some clerk → RiseAbove 0 clerk.receipts) → StandsAt clerks c p receipt → Agrees log clerks c p receipt ↔ (IsEntry log receipt × ((d : ℕ) → d < c → Holds clerks d receipt.seq → ⊥))
 agrees_by_clerks log clerks c p receipt rise here = (
   λ agrees. (agrees.entry, λ d below holds. agrees.new d holds.place holds.receipt (inl below) holds.stands holds.numbered),
   λ own. record {
@@ -46,15 +46,15 @@ agrees_by_clerks log clerks c p receipt rise here = (
   },
 )
 
-pub all_agree : (log : List Entry) (clerks : List (List Receipt)) (c p : ℕ) (receipt : Receipt) → Settled log clerks → StandsAt clerks c p receipt → Agrees log clerks c p receipt
+pub all_agree : (log : List Entry) (clerks : List ClerkView) (c p : ℕ) (receipt : Receipt) → Settled log clerks → StandsAt clerks c p receipt → Agrees log clerks c p receipt
 all_agree log clerks c p receipt settled here =
     let own : Holds clerks c receipt.seq = record { place = p; receipt = receipt; stands = here; numbered = refl } in
     (agrees_by_clerks log clerks c p receipt settled.rise here).1 (
-      settled.told c p here.receipts receipt here.of_clerk here.at_place,
+      settled.told c p here.clerk receipt here.of_clerk here.at_place,
       λ d below holds. let same = settled.once receipt.seq d c holds own in omega (arith, below, same),
     )
 
-pub settled_not_refused : (log : List Entry) (clerks : List (List Receipt)) (why : SettleFault) → Settled log clerks → Unsettles log clerks why → why ≡ Memory
+pub settled_not_refused : (log : List Entry) (clerks : List ClerkView) (why : SettleFault) → Settled log clerks → Unsettles log clerks why → why ≡ Memory
 settled_not_refused log clerks CountDiffers settled differs = absurd (differs settled.count)
 settled_not_refused log clerks (Stranger c p) settled found = absurd (found.1.strange (all_agree log clerks c p found.1.receipt settled found.1.stands))
 settled_not_refused log clerks Memory settled _ = refl

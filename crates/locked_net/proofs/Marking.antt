@@ -15,17 +15,17 @@ use Rattle.std.proofs.lemmas.List.Sums.{sum_by-cons, sum_by-set, sum_by_more, ge
 use Rattle.std.proofs.lemmas.Option.{slice_get_read, slice_get_within, get_or_from_slice_get, same_Some}
 use Rattle.rule_machine.specs.Run.{Entry}
 use Rattle.step_log.specs.declared.receipt.Receipt.{Receipt}
-use Rattle.locked_net.specs.Receipts.{RiseAbove, IsEntry}
+use Rattle.locked_net.specs.Receipts.{ClerkView, RiseAbove, IsEntry}
 use Rattle.locked_net.specs.Settled.{receipt_count, StandsAt, Settled, IsBefore, Agrees, IsFirstStranger}
 use Rattle.locked_net.specs.Marks.{mark_of, IsMarked}
 
 -- ---- places
 
 -- at one place stands one receipt
-pub same_receipt : (clerks : List (List Receipt)) (c p : ℕ) (a b : Receipt) → StandsAt clerks c p a → StandsAt clerks c p b → a ≡ b
+pub same_receipt : (clerks : List ClerkView) (c p : ℕ) (a b : Receipt) → StandsAt clerks c p a → StandsAt clerks c p b → a ≡ b
 same_receipt clerks c p a b one other =
-    let lists : one.receipts ≡ other.receipts = same_Some one.receipts other.receipts (sym one.of_clerk ∙ other.of_clerk) in
-    same_Some a b (sym one.at_place ∙ subst (λ receipts. slice_get receipts p ≡ Some b) (sym lists) other.at_place)
+    let same : one.clerk ≡ other.clerk = same_Some one.clerk other.clerk (sym one.of_clerk ∙ other.of_clerk) in
+    same_Some a b (sym one.at_place ∙ subst (λ (k : ClerkView). slice_get k.receipts p ≡ Some b) (sym same) other.at_place)
 
 -- what comes before the next place comes before this one, or stands there
 before_more : (d q c p : ℕ) → IsBefore d q c (p + 1) → IsBefore d q c p ⊎ ((d ≡ c) × (q ≡ p))
@@ -44,16 +44,16 @@ before_less d q c p before =
     ⊎_elim (λ (h : d < c). inl h) (λ (h : (d ≡ c) × (q < p)). let below : q < p + 1 = omega (arith, h.1) in inr (h.0, below)) before
 
 -- what comes before the next clerk comes before this one's end
-before_next : (clerks : List (List Receipt)) (c : ℕ) (receipts : List Receipt) (d q : ℕ) (other : Receipt) → slice_get clerks c ≡ Some receipts → StandsAt clerks d q other → IsBefore d q (c + 1) 0 → IsBefore d q c (length receipts)
-before_next clerks c receipts d q other of_clerk stands before =
+before_next : (clerks : List ClerkView) (c : ℕ) (clerk : ClerkView) (d q : ℕ) (other : Receipt) → slice_get clerks c ≡ Some clerk → StandsAt clerks d q other → IsBefore d q (c + 1) 0 → IsBefore d q c (length clerk.receipts)
+before_next clerks c clerk d q other of_clerk stands before =
     ⊎_elim
     (λ (h : d < c + 1).
     ⊎_elim
     (λ (below : d < c). inl below)
     (λ (above : c ≤ d).
     let e : d ≡ c = omega (arith, h) in
-    let lists : stands.receipts ≡ receipts = same_Some stands.receipts receipts (sym stands.of_clerk ∙ (subst (λ k. slice_get clerks k ≡ Some receipts) (sym e) of_clerk)) in
-    inr (e, slice_get_within receipts q other (subst (λ l. slice_get l q ≡ Some other) lists stands.at_place)))
+    let same : stands.clerk ≡ clerk = same_Some stands.clerk clerk (sym stands.of_clerk ∙ (subst (λ k. slice_get clerks k ≡ Some clerk) (sym e) of_clerk)) in
+    inr (e, slice_get_within clerk.receipts q other (subst (λ (k : ClerkView). slice_get k.receipts q ≡ Some other) same stands.at_place)))
     (cases_lt d c))
     (λ (h : (d ≡ c + 1) × (q < 0)). absurd (omega (arith, h.1)))
     before
@@ -98,19 +98,19 @@ all_set (false ∷ marks) k full inside =
 -- ---- the steps
 
 -- the receipt is the log's entry, and no receipt before has marked it: it agrees
-fresh_agrees : (log : List Entry) (clerks : List (List Receipt)) (c p : ℕ) (marks : List Bool) (receipt : Receipt) → IsMarked log clerks c p marks → IsEntry log receipt → mark_of marks receipt.seq ≡ false → Agrees log clerks c p receipt
+fresh_agrees : (log : List Entry) (clerks : List ClerkView) (c p : ℕ) (marks : List Bool) (receipt : Receipt) → IsMarked log clerks c p marks → IsEntry log receipt → mark_of marks receipt.seq ≡ false → Agrees log clerks c p receipt
 fresh_agrees log clerks c p marks receipt so_far entry clear = record {
   entry = entry;
   new = λ d q other before stands same. false≢true (sym clear ∙ subst (λ n. mark_of marks n ≡ true) same (so_far.marked d q other before stands));
 }
 
 -- what is at the place is the receipt there
-at_place : (clerks : List (List Receipt)) (d q c p : ℕ) (other receipt : Receipt) → (d ≡ c) × (q ≡ p) → StandsAt clerks d q other → StandsAt clerks c p receipt → other ≡ receipt
+at_place : (clerks : List ClerkView) (d q c p : ℕ) (other receipt : Receipt) → (d ≡ c) × (q ≡ p) → StandsAt clerks d q other → StandsAt clerks c p receipt → other ≡ receipt
 at_place clerks d q c p other receipt e stands here =
     same_receipt clerks c p other receipt (subst (λ k. StandsAt clerks k p other) e.0 (subst (λ k. StandsAt clerks d k other) e.1 stands)) here
 
 -- one more receipt agrees, and its entry is marked
-pub place_more : (log : List Entry) (clerks : List (List Receipt)) (c p : ℕ) (marks : List Bool) (receipt : Receipt) → IsMarked log clerks c p marks → StandsAt clerks c p receipt → IsEntry log receipt → mark_of marks receipt.seq ≡ false → IsMarked log clerks c (p + 1) (set marks (receipt.seq - 1) true)
+pub place_more : (log : List Entry) (clerks : List ClerkView) (c p : ℕ) (marks : List Bool) (receipt : Receipt) → IsMarked log clerks c p marks → StandsAt clerks c p receipt → IsEntry log receipt → mark_of marks receipt.seq ≡ false → IsMarked log clerks c (p + 1) (set marks (receipt.seq - 1) true)
 place_more log clerks c p marks receipt so_far here entry clear =
     let inside : receipt.seq - 1 < length marks = let within = slice_get_within log (receipt.seq - 1) (receipt.event, receipt.reply) entry.same in omega (arith, within, so_far.size) in
     let agrees = fresh_agrees log clerks c p marks receipt so_far entry clear in
@@ -156,39 +156,40 @@ place_more log clerks c p marks receipt so_far here entry clear =
     }
 
 -- all receipts of a clerk agree, and its numbers rise
-pub clerk_more : (log : List Entry) (clerks : List (List Receipt)) (c : ℕ) (receipts : List Receipt) (marks : List Bool) → slice_get clerks c ≡ Some receipts → RiseAbove 0 receipts → IsMarked log clerks c (length receipts) marks → IsMarked log clerks (c + 1) 0 marks
-clerk_more log clerks c receipts marks of_clerk rises so_far =
-    let within = slice_get_within clerks c receipts of_clerk in
+pub clerk_more : (log : List Entry) (clerks : List ClerkView) (c : ℕ) (clerk : ClerkView) (marks : List Bool) → slice_get clerks c ≡ Some clerk → RiseAbove 0 clerk.receipts → IsMarked log clerks c (length clerk.receipts) marks → IsMarked log clerks (c + 1) 0 marks
+clerk_more log clerks c clerk marks of_clerk rises so_far =
+    let within = slice_get_within clerks c clerk of_clerk in
     record {
       size = so_far.size;
-      agree = λ d q other before stands. so_far.agree d q other (before_next clerks c receipts d q other of_clerk stands before) stands;
-      rise = λ d list below of_d.
+      agree = λ d q other before stands. so_far.agree d q other (before_next clerks c clerk d q other of_clerk stands before) stands;
+      rise = λ d other below of_d.
           ⊎_elim
-          (λ (earlier : d < c). so_far.rise d list earlier of_d)
+          (λ (earlier : d < c). so_far.rise d other earlier of_d)
           (λ (not_earlier : c ≤ d).
           let e : d ≡ c = omega (arith, below, not_earlier) in
-          let same : list ≡ receipts = same_Some list receipts (sym of_d ∙ subst (λ k. slice_get clerks k ≡ Some receipts) (sym e) of_clerk) in
-          subst (RiseAbove 0) (sym same) rises)
+          let same : other ≡ clerk = same_Some other clerk (sym of_d ∙ subst (λ k. slice_get clerks k ≡ Some clerk) (sym e) of_clerk) in
+          subst (λ (k : ClerkView). RiseAbove 0 k.receipts) (sym same) rises)
           (cases_lt d c);
-      marked = λ d q other before stands. so_far.marked d q other (before_next clerks c receipts d q other of_clerk stands before) stands;
+      marked = λ d q other before stands. so_far.marked d q other (before_next clerks c clerk d q other of_clerk stands before) stands;
       numbered = λ k there.
           let old = so_far.numbered k there in
           record {
             clerk = old.clerk;
             place = old.place;
             receipt = old.receipt;
-            before = before_own old.clerk old.place c (length receipts) old.before;
+            before = before_own old.clerk old.place c (length clerk.receipts) old.before;
             stands = old.stands;
             numbered = old.numbered;
           };
       count =
-          let more = sum_by_more length clerks c receipts within in
-          let own : length (get_or clerks c receipts) ≡ length receipts = ap length (get_or_from_slice_get clerks c receipts receipts of_clerk) in
+          let count_of : ClerkView → ℕ = λ k. length k.receipts in
+          let more = sum_by_more count_of clerks c clerk within in
+          let own : count_of (get_or clerks c clerk) ≡ length clerk.receipts = ap count_of (get_or_from_slice_get clerks c clerk clerk of_clerk) in
           omega (arith, more, own, so_far.count);
     }
 
 -- a receipt whose entry is marked already, or that is not the log's entry, is the first stranger
-pub stranger_found : (log : List Entry) (clerks : List (List Receipt)) (c p : ℕ) (marks : List Bool) (receipt : Receipt) → IsMarked log clerks c p marks → StandsAt clerks c p receipt → (IsEntry log receipt → mark_of marks receipt.seq ≡ true) → IsFirstStranger log clerks c p
+pub stranger_found : (log : List Entry) (clerks : List ClerkView) (c p : ℕ) (marks : List Bool) (receipt : Receipt) → IsMarked log clerks c p marks → StandsAt clerks c p receipt → (IsEntry log receipt → mark_of marks receipt.seq ≡ true) → IsFirstStranger log clerks c p
 stranger_found log clerks c p marks receipt so_far here taken = record {
   receipt = receipt;
   stands = here;
@@ -203,16 +204,16 @@ stranger_found log clerks c p marks receipt so_far here taken = record {
 
 -- All receipts agree, and there are as many as entries: all is settled. Each mark is set, since as many are set as there are
 -- marks, so each entry has a receipt; and no receipt has the number of an earlier one, so no entry has two clerks.
-pub settles : (log : List Entry) (clerks : List (List Receipt)) (marks : List Bool) → receipt_count clerks ≡ length log → IsMarked log clerks (length clerks) 0 marks → Settled log clerks
+pub settles : (log : List Entry) (clerks : List ClerkView) (marks : List Bool) → receipt_count clerks ≡ length log → IsMarked log clerks (length clerks) 0 marks → Settled log clerks
 settles log clerks marks counted all =
     let agree : (c p : ℕ) (receipt : Receipt) → StandsAt clerks c p receipt → Agrees log clerks c p receipt = λ c p receipt stands.
-    all.agree c p receipt (inl (slice_get_within clerks c stands.receipts stands.of_clerk)) stands in
+    all.agree c p receipt (inl (slice_get_within clerks c stands.clerk stands.of_clerk)) stands in
     let full : count_by (λ mark. mark) marks ≡ length marks =
-    let whole : sum_by length (take (length clerks) clerks) ≡ receipt_count clerks = ap (λ l. sum_by length l) (take_all (length clerks) clerks (omega arith)) in
+    let whole : receipt_count (take (length clerks) clerks) ≡ receipt_count clerks = ap receipt_count (take_all (length clerks) clerks (omega arith)) in
     omega (arith, all.count, whole, counted, all.size) in
     record {
-      told = λ c p receipts receipt of_clerk at_place. (agree c p receipt (record { receipts = receipts; of_clerk = of_clerk; at_place = at_place })).entry;
-      rise = λ c receipts of_clerk. all.rise c receipts (slice_get_within clerks c receipts of_clerk) of_clerk;
+      told = λ c p clerk receipt of_clerk at_place. (agree c p receipt (record { clerk = clerk; of_clerk = of_clerk; at_place = at_place })).entry;
+      rise = λ c clerk of_clerk. all.rise c clerk (slice_get_within clerks c clerk of_clerk) of_clerk;
       count = counted;
       held = λ n above within.
           let it = all.numbered (n - 1) (all_set marks (n - 1) full (omega (arith, above, within, all.size))) in
@@ -231,18 +232,20 @@ settles log clerks marks counted all =
 -- ---- what the code reads
 
 -- the receipt that is read at a place of a clerk's list stands there
-pub standing : (clerks : List (List Receipt)) (c p : ℕ) (list items : List Receipt) (receipt : Receipt) → c < length clerks → list ≡ get_or clerks c list → items ≡ list → p < length items → receipt ≡ get_or items p receipt → StandsAt clerks c p receipt
-standing clerks c p list items receipt there is same inside read = record {
-  receipts = list;
-  of_clerk = slice_get_read clerks (length clerks) c list refl there is;
+pub standing : (clerks : List ClerkView) (c p : ℕ) (clerk : ClerkView) (items : List Receipt) (receipt : Receipt) → c < length clerks → clerk ≡ get_or clerks c clerk → items ≡ clerk.receipts → p < length items → receipt ≡ get_or items p receipt → StandsAt clerks c p receipt
+standing clerks c p clerk items receipt there is same inside read = record {
+  clerk = clerk;
+  of_clerk = slice_get_read clerks (length clerks) c clerk refl there is;
   at_place = subst (λ l. slice_get l p ≡ Some receipt) same (slice_get_read items (length items) p receipt refl inside read);
 }
 
 -- a stranger's place is below the number of receipts
-pub place_within : (log : List Entry) (clerks : List (List Receipt)) (c p : ℕ) → IsFirstStranger log clerks c p → p < receipt_count clerks
+pub place_within : (log : List Entry) (clerks : List ClerkView) (c p : ℕ) → IsFirstStranger log clerks c p → p < receipt_count clerks
 place_within log clerks c p found =
     let of_clerk = found.stands.of_clerk in
-    let own : length (get_or clerks c found.stands.receipts) ≡ length found.stands.receipts = ap length (get_or_from_slice_get clerks c found.stands.receipts found.stands.receipts of_clerk) in
-    let all = get_or-le-sum_by length clerks c found.stands.receipts (slice_get_within clerks c found.stands.receipts of_clerk) in
-    let within = slice_get_within found.stands.receipts p found.receipt found.stands.at_place in
+    let clerk : ClerkView = found.stands.clerk in
+    let count_of : ClerkView → ℕ = λ k. length k.receipts in
+    let own : count_of (get_or clerks c clerk) ≡ length clerk.receipts = ap count_of (get_or_from_slice_get clerks c clerk clerk of_clerk) in
+    let all = get_or-le-sum_by count_of clerks c clerk (slice_get_within clerks c clerk of_clerk) in
+    let within = slice_get_within clerk.receipts p found.receipt found.stands.at_place in
     omega (arith, own, all, within)

@@ -23,7 +23,7 @@ loop-place-preserved g c =
 pub returns : goal.returns
 returns g c =
     let of_clerk = slice_get_read c.args.clerks.now (length c.args.clerks.now) c.args.clerk c.index-clerks-clerk.result refl c.requires.inside c.index-clerks-clerk.is in
-    let same : length c.receipts-receipt-items.result.now ≡ length c.index-clerks-clerk.result = ap length c.receipts-receipt-items.ensures.receipts in
-    let all : c.loop-place.place ≡ length c.index-clerks-clerk.result = omega (arith, same, c.loop-place-test.false, c.loop-place.auto.place-end) in
+    let same : length c.receipts-receipt-items.result.now ≡ length c.index-clerks-clerk.result.receipts = ap length c.receipts-receipt-items.ensures.receipts in
+    let all : c.loop-place.place ≡ length c.index-clerks-clerk.result.receipts = omega (arith, same, c.loop-place-test.false, c.loop-place.auto.place-end) in
     clerk_more c.args.journal.now.entries c.args.clerks.now c.args.clerk c.index-clerks-clerk.result c.loop-place.taken of_clerk c.receipts-receipt-items.ensures.rise
     (subst (λ place. IsMarked c.args.journal.now.entries c.args.clerks.now c.args.clerk place c.loop-place.taken) all c.loop-place.invariant)
