@@ -1,17 +1,17 @@
 -- Rows of clerks that roamed in two parts.
-use Rattle.std.proofs.Common.{◌≡◌, ◌∙◌, ℕ, List, [], ◌∷◌, ◌++◌, take, drop, Option, None, Some, refl, sym, ap, subst}
+use Rattle.std.proofs.Common.{◌≡◌, ◌∙◌, ℕ, List, [], ◌∷◌, ◌++◌, Option, None, Some, inl, refl, sym, ap, subst}
 use Rattle.std.specs.Option.{option_or}
-use Rattle.std.proofs.lemmas.List.{take-append-drop}
+use Rattle.logbook.specs.Pages.{Book}
 use Rattle.rule_machine.specs.RuleTable.{RuleTable}
-use Rattle.step_log.specs.declared.receipt.Receipt.{Receipt}
 use Rattle.locked_net.specs.declared.call_fault.CallFault.{CallFault}
-use Rattle.locked_net.specs.Roamed.{AllEnd}
+use Rattle.locked_net.specs.Receipts.{ClerkView}
+use Rattle.locked_net.specs.Roamed.{AllEnd, AllKeepNotes}
 
 or_assoc : {A : Type 0} (a b c : Option A) → option_or (option_or a b) c ≡ option_or a (option_or b c)
 or_assoc None b c = refl
 or_assoc (Some x) b c = refl
 
-ends_joined : (t : RuleTable) (turns : ℕ) (olds mores news others : List (List Receipt)) (fault other : Option CallFault)
+ends_joined : (t : RuleTable) (turns : ℕ) (olds mores news others : List ClerkView) (fault other : Option CallFault)
     → AllEnd t turns olds news fault → AllEnd t turns mores others other → AllEnd t turns (olds ++ mores) (news ++ others) (option_or fault other)
 ends_joined t turns [] mores [] others fault other none rest = subst (λ f. AllEnd t turns mores others (option_or f other)) (sym none) rest
 ends_joined t turns [] mores (new ∷ news) others fault other ends rest = absurd ends
@@ -20,9 +20,25 @@ ends_joined t turns (old ∷ olds) mores (new ∷ news) others fault other (own,
     (own, option_or behind other, ap (λ f. option_or f other) is ∙ or_assoc own behind other, ended, ends_joined t turns olds mores news others behind other ends rest)
 
 -- the two parts of a row
-pub halves_ended : (t : RuleTable) (turns : ℕ) (olds left right ours theirs : List (List Receipt)) (k : ℕ) (fault other first : Option CallFault)
-    → left ≡ take k olds → right ≡ drop k olds → first ≡ option_or fault other → AllEnd t turns left ours fault → AllEnd t turns right theirs other → AllEnd t turns olds (ours ++ theirs) first
-halves_ended t turns olds left right ours theirs k fault other first front back is ended rest =
-    let whole : left ++ right ≡ olds = ap (λ rs. rs ++ right) front ∙ ap (λ rs. take k olds ++ rs) back ∙ take-append-drop k olds in
-    subst (λ rs. AllEnd t turns rs (ours ++ theirs) first) whole
+pub parts_ended : (t : RuleTable) (turns : ℕ) (olds left right ours theirs : List ClerkView) (fault other first : Option CallFault)
+    → olds ≡ left ++ right → first ≡ option_or fault other → AllEnd t turns left ours fault → AllEnd t turns right theirs other → AllEnd t turns olds (ours ++ theirs) first
+parts_ended t turns olds left right ours theirs fault other first whole is ended rest =
+    subst (λ rs. AllEnd t turns rs (ours ++ theirs) first) (sym whole)
     (subst (AllEnd t turns (left ++ right) (ours ++ theirs)) (sym is) (ends_joined t turns left right ours theirs fault other ended rest))
+
+-- ---- their notes
+
+notes_joined : (book : Book) (olds mores news others : List ClerkView) → AllKeepNotes book olds news → AllKeepNotes book mores others → AllKeepNotes book (olds ++ mores) (news ++ others)
+notes_joined book [] mores [] others kept rest = rest
+notes_joined book [] mores (new ∷ news) others kept rest = absurd kept
+notes_joined book (old ∷ olds) mores [] others kept rest = absurd kept
+notes_joined book (old ∷ olds) mores (new ∷ news) others (own, kept) rest = (own, notes_joined book olds mores news others kept rest)
+
+pub parts_kept : (book : Book) (olds left right ours theirs : List ClerkView) → olds ≡ left ++ right → AllKeepNotes book left ours → AllKeepNotes book right theirs → AllKeepNotes book olds (ours ++ theirs)
+parts_kept book olds left right ours theirs whole kept rest =
+    subst (λ rs. AllKeepNotes book rs (ours ++ theirs)) (sym whole) (notes_joined book left right ours theirs kept rest)
+
+-- nobody's note changes where nobody roams
+pub notes_stay : (book : Book) (clerks : List ClerkView) → AllKeepNotes book clerks clerks
+notes_stay book [] = tt
+notes_stay book (clerk ∷ clerks) = (inl refl, notes_stay book clerks)

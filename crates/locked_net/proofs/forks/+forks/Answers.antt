@@ -1,8 +1,15 @@
-use Rattle.locked_net.proofs.Ends.{halves_ended}
+use Rattle.locked_net.specs.Nets.{book_of}
+use Rattle.locked_net.proofs.Ends.{parts_ended, parts_kept}
 use Rattle.locked_net.proofs.forks.+forks.Goals as goal
 
-pub roam_all-returns : goal.roam_all-returns
-roam_all-returns g t c =
+pub roam_all-returns-clause-ends : goal.roam_all-returns-clause-ends
+roam_all-returns-clause-ends g t c =
     let rows = c.split_at_mut-ours in
     let told = c.roam_halves-fault in
-    halves_ended g.R.Rules.table c.args.round.now.turns c.args.clerks.now rows.result.0.now rows.result.1.now told.new.ours told.new.theirs _ told.result.0 told.result.1 c.or.result rows.ensures.front rows.ensures.back c.or.ensures told.ensures.ours told.ensures.theirs
+    parts_ended g.R.Rules.table c.args.round.now.turns c.args.clerks.now rows.result.0.now rows.result.1.now told.new.ours told.new.theirs told.result.0 told.result.1 c.or.result rows.ensures.value c.or.ensures told.ensures.ours told.ensures.theirs
+
+pub roam_all-returns-clause-notes : goal.roam_all-returns-clause-notes
+roam_all-returns-clause-notes g t c =
+    let rows = c.split_at_mut-ours in
+    let told = c.roam_halves-fault in
+    parts_kept (book_of c.args.round.now.net.now) c.args.clerks.now rows.result.0.now rows.result.1.now told.new.ours told.new.theirs rows.ensures.value told.ensures.our_notes told.ensures.their_notes
