@@ -7,6 +7,7 @@ use Rattle.std.proofs.lemmas.List.Elements.{All-nil, All-push}
 use Rattle.rule_machine.specs.declared.reply.Reply.{Reply}
 use Rattle.rule_machine.specs.declared.event.Event.TheVariants.{Step}
 use Rattle.step_log.specs.declared.receipt.Receipt.{Receipt}
+use Rattle.locked_net.specs.Receipts.{ClerkView}
 use Rattle.locked_net.specs.Calls.{KeepsStep, KeepsFault}
 use Rattle.storm_run.specs.Storm.{IsOfStep, IsOfFault}
 use Rattle.storm_run.specs.Played.{Adds}
@@ -53,11 +54,11 @@ gains_fault old new reply kept = record {
 }
 
 -- a turn of a daemon that did not find nothing
-pub stepped : (central : Bool) (old new : List Receipt) (told : Option Reply) (b : Bool) → MatchOption told (new ≡ old) (KeepsStep central old new) → is_some told ≡ not b → b ≡ false → Gains IsOfStep old new
+pub stepped : (central : Bool) (old new : ClerkView) (told : Option Reply) (b : Bool) → MatchOption told (new ≡ old) (KeepsStep central old.receipts new.receipts) → is_some told ≡ not b → b ≡ false → Gains IsOfStep old.receipts new.receipts
 stepped central old new None b kept e f = absurd (false≢true (e ∙ ap not f))
-stepped central old new (Some reply) b kept e f = gains_step central old new reply kept
+stepped central old new (Some reply) b kept e f = gains_step central old.receipts new.receipts reply kept
 
 -- the same of an injector
-pub struck : (old new : List Receipt) (told : Option Reply) (b : Bool) → MatchOption told (new ≡ old) (KeepsFault old new) → is_some told ≡ not b → b ≡ false → Gains IsOfFault old new
+pub struck : (old new : ClerkView) (told : Option Reply) (b : Bool) → MatchOption told (new ≡ old) (KeepsFault old.receipts new.receipts) → is_some told ≡ not b → b ≡ false → Gains IsOfFault old.receipts new.receipts
 struck old new None b kept e f = absurd (false≢true (e ∙ ap not f))
-struck old new (Some reply) b kept e f = gains_fault old new reply kept
+struck old new (Some reply) b kept e f = gains_fault old.receipts new.receipts reply kept

@@ -18,6 +18,7 @@ use Rattle.fault_injector.specs.Drawn.{is_register_fault}
 use Rattle.step_log.specs.declared.receipt.Receipt.{Receipt}
 use Rattle.script_line.specs.declared.command.Command.{Command}
 use Rattle.script_line.specs.declared.command.Command.TheVariants.{Tell, Drive, Scramble}
+use Rattle.locked_net.specs.Receipts.{ClerkView}
 use Rattle.locked_net.specs.Settled.{Settled}
 use Rattle.locked_net.specs.Roamed.{IsLoneStep, TakesTurns}
 use Rattle.locked_net.specs.declared.call_fault.CallFault.{CallFault}
@@ -73,10 +74,10 @@ MayStop lines receipts (Some fault) = StandsInPart lines receipts
 
 -- Each script was played by the clerk at its place; the fault is the first that a script met, in the order of the scripts, and
 -- there is none where all were played to their ends.
-abbrev pub AllPlayed : List (List ScriptLine) → List (List Receipt) → Option CallFault → Type 0
+abbrev pub AllPlayed : List (List ScriptLine) → List ClerkView → Option CallFault → Type 0
 AllPlayed [] [] fault = fault ≡ None
-AllPlayed (script ∷ scripts) (receipts ∷ clerks) fault =
-    (own : Option CallFault) × (others : Option CallFault) × (fault ≡ option_or own others) × MayStop script receipts own × AllPlayed scripts clerks others
+AllPlayed (script ∷ scripts) (clerk ∷ clerks) fault =
+    (own : Option CallFault) × (others : Option CallFault) × (fault ≡ option_or own others) × MayStop script clerk.receipts own × AllPlayed scripts clerks others
 AllPlayed scripts clerks fault = ⊥
 
 -- what a worker is told who roams for so many turns: steps of one node alone, one a turn at most
@@ -86,22 +87,22 @@ IsRoaming turns own = (length own ≤ turns) × All IsLoneStep own
 -- The clerks of a storm are one for each script, by which it was played, and behind them one for each worker that roamed. The fault
 -- is the first that a script met, in the order of the scripts; where none did, it is one that a worker met, if there are workers and
 -- one of them met any. Where none of these did, each took all its turns, and each turn was one on a run of the rules.
-pub record AllTold (t : RuleTable) (scripts : List (List ScriptLine)) (roamers turns : ℕ) (clerks : List (List Receipt)) (fault : Option CallFault) : Type 0 where
-  pub own : List (List Receipt)
-  pub roaming : List (List Receipt)
+pub record AllTold (t : RuleTable) (scripts : List (List ScriptLine)) (roamers turns : ℕ) (clerks : List ClerkView) (fault : Option CallFault) : Type 0 where
+  pub own : List ClerkView
+  pub roaming : List ClerkView
   pub met : Option CallFault
   pub other : Option CallFault
   pub all : clerks ≡ own ++ roaming
   pub played : AllPlayed scripts own met
   pub as_many : length roaming ≡ roamers
-  pub roamed : All (IsRoaming turns) roaming
+  pub roamed : All (λ clerk. IsRoaming turns clerk.receipts) roaming
   pub first : fault ≡ option_or met other
   pub nobody : roamers ≡ 0 → other ≡ None
-  pub whole : other ≡ None → All (λ own. TakesTurns t turns [] own) roaming
+  pub whole : other ≡ None → All (λ clerk. TakesTurns t turns [] clerk.receipts) roaming
 
 -- The log that these scripts leave with so many workers beside them, and the first fault that was met: the clerks account for the
 -- whole log.
 pub record IsStorm (t : RuleTable) (log : List Entry) (scripts : List (List ScriptLine)) (roamers turns : ℕ) (fault : Option CallFault) : Type 0 where
-  pub clerks : List (List Receipt)
+  pub clerks : List ClerkView
   pub settled : Settled log clerks
   pub told : AllTold t scripts roamers turns clerks fault

@@ -27,7 +27,7 @@ pub(crate) fn play_beside<R: Rules + Send + Sync, G: Gate + Sync, T: Threads + W
 ) -> Option<CallFault>
     requires size { length clerks.old ≡ length scripts.now + stage.now.crew.roamers }
     requires few { length scripts.now ≤ 64 }
-    requires fresh { All (λ receipts. receipts ≡ []) clerks.old }
+    requires fresh { All (λ clerk. clerk.receipts ≡ []) clerks.old }
     ensures { AllTold R.table scripts.now stage.now.crew.roamers stage.now.crew.turns clerks.new result }
 {
     let (own, roaming) = clerks.split_at_mut(scripts.len());
@@ -46,8 +46,8 @@ fn play_and_roam<R: Rules + Send + Sync, G: Gate + Sync, T: Threads + Wait + Syn
     requires size { length scripts.now ≡ length own.old }
     requires few_scripts { length scripts.now ≤ 64 }
     requires few_workers { length roaming.old ≤ 64 }
-    requires own_fresh { All (λ receipts. receipts ≡ []) own.old }
-    requires roaming_fresh { All (λ receipts. receipts ≡ []) roaming.old }
+    requires own_fresh { All (λ clerk. clerk.receipts ≡ []) own.old }
+    requires roaming_fresh { All (λ clerk. clerk.receipts ≡ []) roaming.old }
     ensures played { AllPlayed scripts.now own.new result.0 }
     ensures roamed { RoamedAfresh R.table stage.now.crew.turns roaming.old roaming.new result.1 }
 {
@@ -61,11 +61,11 @@ fn play_and_roam<R: Rules + Send + Sync, G: Gate + Sync, T: Threads + Wait + Syn
     let (roamed, met) = join_mut(
         rt,
         &mut || -> Result<(), RoamFault>
-            requires { IsSync T.row × IsSend R.row × (length roaming.now ≤ 64) × All (λ receipts. receipts ≡ []) roaming.now }
+            requires { IsSync T.row × IsSend R.row × (length roaming.now ≤ 64) × All (λ clerk. clerk.receipts ≡ []) roaming.now }
             ensures { RoamedAfresh R.table turns roaming.entry.now roaming.exit.now result }
         { roam_new(rt, stage, turns, roaming) },
         &mut || -> Option<CallFault>
-            requires { IsSync T.row × IsSync G.row × IsSend R.row × IsSync R.row × (length scripts.now ≡ length own.now) × (length scripts.now ≤ 64) × All (λ receipts. receipts ≡ []) own.now }
+            requires { IsSync T.row × IsSync G.row × IsSend R.row × IsSync R.row × (length scripts.now ≡ length own.now) × (length scripts.now ≤ 64) × All (λ clerk. clerk.receipts ≡ []) own.now }
             ensures { AllPlayed scripts.entry.now own.exit.now result }
         { play_all(rt, stage, 0, scripts, own) },
     );
@@ -80,7 +80,7 @@ fn roam_new<R: Rules + Send, G: Gate, T: Threads + Wait + Sync>(
     clerks: &mut [Clerk],
 ) -> Result<(), RoamFault>
     requires few { length clerks.old ≤ 64 }
-    requires fresh { All (λ receipts. receipts ≡ []) clerks.old }
+    requires fresh { All (λ clerk. clerk.receipts ≡ []) clerks.old }
     ensures { RoamedAfresh R.table turns clerks.old clerks.new result }
 {
     roam(rt, stage.net, clerks, turns, &NoGate)

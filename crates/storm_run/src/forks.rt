@@ -25,7 +25,7 @@ pub(crate) fn play_all<R: Rules + Send + Sync, G: Gate + Sync, T: Threads + Wait
 ) -> Option<CallFault>
     requires size { length scripts.now ≡ length clerks.old }
     requires numbers { first + length scripts.now < 2 ^ 32 }
-    requires fresh { All (λ receipts. receipts ≡ []) clerks.old }
+    requires fresh { All (λ clerk. clerk.receipts ≡ []) clerks.old }
     ensures { AllPlayed scripts.now clerks.new result }
 {
     if scripts.len() < 2 {
@@ -52,8 +52,8 @@ fn play_halves<R: Rules + Send + Sync, G: Gate + Sync, T: Threads + Wait + Sync>
     requires left_size { length left.now ≡ length ours.old }
     requires right_size { length right.now ≡ length theirs.old }
     requires numbers { first + length left.now + length right.now < 2 ^ 32 }
-    requires left_fresh { All (λ receipts. receipts ≡ []) ours.old }
-    requires right_fresh { All (λ receipts. receipts ≡ []) theirs.old }
+    requires left_fresh { All (λ clerk. clerk.receipts ≡ []) ours.old }
+    requires right_fresh { All (λ clerk. clerk.receipts ≡ []) theirs.old }
     ensures left { AllPlayed left.now ours.new result.0 }
     ensures right { AllPlayed right.now theirs.new result.1 }
 {
@@ -61,11 +61,11 @@ fn play_halves<R: Rules + Send + Sync, G: Gate + Sync, T: Threads + Wait + Sync>
     join_mut(
         rt,
         &mut || -> Option<CallFault>
-            requires { IsSync T.row × IsSync G.row × IsSend R.row × IsSync R.row × (length left.now ≡ length ours.now) × (first + length left.now < 2 ^ 32) × All (λ receipts. receipts ≡ []) ours.now }
+            requires { IsSync T.row × IsSync G.row × IsSend R.row × IsSync R.row × (length left.now ≡ length ours.now) × (first + length left.now < 2 ^ 32) × All (λ clerk. clerk.receipts ≡ []) ours.now }
             ensures { AllPlayed left.entry.now ours.exit.now result }
         { play_all(rt, stage, first, left, ours) },
         &mut || -> Option<CallFault>
-            requires { IsSync T.row × IsSync G.row × IsSend R.row × IsSync R.row × (length right.now ≡ length theirs.now) × (second + length right.now < 2 ^ 32) × All (λ receipts. receipts ≡ []) theirs.now }
+            requires { IsSync T.row × IsSync G.row × IsSend R.row × IsSync R.row × (length right.now ≡ length theirs.now) × (second + length right.now < 2 ^ 32) × All (λ clerk. clerk.receipts ≡ []) theirs.now }
             ensures { AllPlayed right.entry.now theirs.exit.now result }
         { play_all(rt, stage, second, right, theirs) },
     )

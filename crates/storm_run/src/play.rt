@@ -21,7 +21,7 @@ fn step<R: Rules + Sync, G: Gate, T: Threads + Wait + Sync>(
     clerk: &mut Clerk,
     choice: Choice,
 ) -> Result<(), CallFault>
-    ensures { Plays (Tell (Step choice)) clerk.old clerk.new result }
+    ensures { Plays (Tell (Step choice)) clerk.old.receipts clerk.new.receipts result }
 {
     match clerk.step_with(rt, stage.net, choice, stage.crew.workers, &NoGate) {
         Ok(_) => Ok(()),
@@ -36,7 +36,7 @@ fn tell<R: Rules + Sync, G: Gate, T: Threads + Wait + Sync>(
     clerk: &mut Clerk,
     event: &Event,
 ) -> Result<(), CallFault>
-    ensures { Plays (Tell event.now) clerk.old clerk.new result }
+    ensures { Plays (Tell event.now) clerk.old.receipts clerk.new.receipts result }
 {
     match event.clone()? {
         Event::Step(choice) => step(rt, stage, clerk, choice),
@@ -54,7 +54,7 @@ pub(crate) fn play<R: Rules + Sync, G: Gate, T: Threads + Wait + Sync>(
     clerk: &mut Clerk,
     command: &Command,
 ) -> Result<(), CallFault>
-    ensures { Plays command.now clerk.old clerk.new result }
+    ensures { Plays command.now clerk.old.receipts clerk.new.receipts result }
 {
     match command {
         Command::Tell(event) => tell(rt, stage, clerk, event),

@@ -3,6 +3,7 @@
 ghost use Rattle.std.specs.Prelude.{◌≡◌, ◌≤◌, [], length, IfOk, vec_len};
 ghost use Rattle.std.specs.List.{All};
 ghost use Rattle.rule_machine.specs.Network.{node_count};
+ghost use Rattle.step_log.specs.Held.{log_of};
 ghost use Rattle.step_log.specs.Log.{IsLog};
 ghost use Rattle.locked_net.specs.Nets.{nodes_of, limit_of};
 ghost use Rattle.storm_run.specs.Storm.{IsStorm};
@@ -22,7 +23,7 @@ use step_log::Journal;
 /// As many clerks, who have called nobody.
 fn clerks_of<R: Rules>(alloc: Global, net: &LockedNet<R>, count: usize) -> Result<Vec<Clerk>, Want>
     ensures count { IfOk result (λ clerks. vec_len clerks ≡ count) }
-    ensures fresh { IfOk result (λ clerks. All (λ receipts. receipts ≡ []) clerks.items) }
+    ensures fresh { IfOk result (λ clerks. All (λ clerk. clerk.receipts ≡ []) clerks.items) }
 {
     let mut clerks = Vec::new(alloc);
     for _ in 0..count {
@@ -53,7 +54,7 @@ pub fn storm<R: Rules + Send + Sync, G: Gate + Sync, T: Threads + Wait + Sync>(
 ) -> Result<(Journal<R>, Option<CallFault>), PlayFault>
     requires { length scripts.now ≤ 64 }
     ensures storm { IfOk result (λ left. IsStorm R.table left.0.entries scripts.now crew.roamers crew.turns left.1) }
-    ensures run { IfOk result (λ left. IsLog R.table left.0) }
+    ensures run { IfOk result (λ left. IsLog R.table (log_of left.0)) }
     ensures size { IfOk result (λ left. (node_count left.0.state.network ≡ nodes_of net) × (left.0.limit ≡ limit_of net)) }
 {
     let count = scripts.len() + crew.roamers as usize;

@@ -32,8 +32,8 @@ fn play_script<R: Rules + Sync, G: Gate, T: Threads + Wait + Sync>(
     script: &Script,
     clerk: &mut Clerk,
 ) -> Result<(), CallFault>
-    requires { clerk.old ≡ [] }
-    ensures { MayStop script.now clerk.new (result_err result) }
+    requires { clerk.old.receipts ≡ [] }
+    ensures { MayStop script.now clerk.new.receipts (result_err result) }
 {
     for line in script.lines() {
         stage.gate.pass(rt, number, line.line);
@@ -52,7 +52,7 @@ pub(crate) fn play_first<R: Rules + Sync, G: Gate, T: Threads + Wait + Sync>(
 ) -> Option<CallFault>
     requires few { length scripts.now < 2 }
     requires size { length scripts.now ≡ length clerks.old }
-    requires fresh { All (λ receipts. receipts ≡ []) clerks.old }
+    requires fresh { All (λ clerk. clerk.receipts ≡ []) clerks.old }
     ensures { AllPlayed scripts.now clerks.new result }
 {
     if scripts.is_empty() {

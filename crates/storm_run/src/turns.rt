@@ -21,7 +21,7 @@ pub(crate) fn drive<R: Rules, W: Wait>(
     clerk: &mut Clerk,
     turns: Turns,
 ) -> Result<(), CallFault>
-    ensures { AddsUpTo IsOfStep turns.count clerk.old clerk.new result }
+    ensures { AddsUpTo IsOfStep turns.count clerk.old.receipts clerk.new.receipts result }
 {
     let mut daemon = Seeded::new(alloc, Pcg32::seed_from_u64(turns.seed));
     for _ in 0..turns.count {
@@ -39,7 +39,7 @@ pub(crate) fn scramble<R: Rules, W: Wait>(
     clerk: &mut Clerk,
     turns: Turns,
 ) -> Result<(), CallFault>
-    ensures { AddsUpTo IsOfFault turns.count clerk.old clerk.new result }
+    ensures { AddsUpTo IsOfFault turns.count clerk.old.receipts clerk.new.receipts result }
 {
     let mut injector = Injector::new(Pcg32::seed_from_u64(turns.seed));
     for _ in 0..turns.count {

@@ -3,4 +3,4 @@ use Rattle.std.specs.List.{All}
 use Rattle.storm_run.proofs.run.clerks_of.Given as goal
 
 abbrev pub invariant-loop : goal.invariant-loop
-invariant-loop g l = record { count : vec_len l.clerks ≡ l.counter; fresh : All (λ receipts. receipts ≡ []) l.clerks.items }
+invariant-loop g l = record { count : vec_len l.clerks ≡ l.counter; fresh : All (λ clerk. clerk.receipts ≡ []) l.clerks.items }

@@ -3,4 +3,4 @@ use Rattle.storm_run.specs.Storm.{Stands}
 use Rattle.storm_run.proofs.stage.play_script.Given as goal
 
 abbrev pub invariant-loop-line : goal.invariant-loop-line
-invariant-loop-line g l = Stands (take l.line-index l.line-items) l.clerk
+invariant-loop-line g l = Stands (take l.line-index l.line-items) l.clerk.receipts

@@ -3,4 +3,4 @@ use Rattle.storm_run.proofs.Adding.{UpTo}
 use Rattle.storm_run.proofs.turns.scramble.Given as goal
 
 abbrev pub invariant-loop : goal.invariant-loop
-invariant-loop g l = UpTo IsOfFault l.counter l.fn.clerk l.clerk
+invariant-loop g l = UpTo IsOfFault l.counter l.fn.clerk.receipts l.clerk.receipts
