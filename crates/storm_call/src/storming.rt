@@ -2,6 +2,7 @@
 
 ghost use Rattle.std.specs.Prelude.{◌≤◌, length, map, IfOk, IfErr};
 ghost use Rattle.script_run.specs.Asked.{asked_of};
+ghost use Rattle.step_log.specs.Held.{log_of};
 ghost use Rattle.storm_call.specs.Outcome.{Leaves, Ends, IsOutcome};
 ghost use Rattle.storm_call.specs.Parts.{FailsToPlay};
 
@@ -31,10 +32,10 @@ fn play<R: Rules + Send + Sync, G: Gate + Sync, T: Threads + Wait + Sync>(
     gate: &G,
 ) -> Result<(Journal<R>, Option<CallFault>), StormFault>
     requires { length scripts.now ≤ 64 }
-    ensures log { IfOk result (λ left. Leaves R.table (asked_of options.now) scripts.now left.1 left.0) }
+    ensures log { IfOk result (λ left. Leaves R.table (asked_of options.now) scripts.now left.1 (log_of left.0)) }
     ensures fault { IfErr result FailsToPlay }
 {
-    let Ok(net) = LockedNet::<R>::with_limit(alloc, options.nodes(), options.limit()) else {
+    let Ok(net) = LockedNet::<R>::with_limit(alloc, rt, options.nodes(), options.limit()) else {
         return Err(StormFault::Memory);
     };
     let crew = Crew {
