@@ -14,12 +14,12 @@ use std::process::Abort;
 use std::sync::Wait;
 
 pub(crate) fn shared<R: Rules>(
-    rt: &impl Abort,
+    rt: &(impl Abort + Wait),
     alloc: Global,
     nodes: u32,
     limit: u32,
 ) -> LockedNet<R> {
-    LockedNet::with_limit(alloc, nodes, limit).expect(rt, "a network")
+    LockedNet::with_limit(alloc, rt, nodes, limit).expect(rt, "a network")
 }
 
 pub(crate) fn clerk_of<R: Rules>(rt: &impl Abort, net: &LockedNet<R>) -> Clerk {
@@ -27,7 +27,7 @@ pub(crate) fn clerk_of<R: Rules>(rt: &impl Abort, net: &LockedNet<R>) -> Clerk {
 }
 
 /// The event that links two nodes.
-fn link(rt: &impl Abort, a: u32, b: u32) -> Event {
+pub(crate) fn link(rt: &impl Abort, a: u32, b: u32) -> Event {
     Event::Link(named(rt, a), named(rt, b))
 }
 

@@ -1,4 +1,4 @@
-//! Tests of what threads share: boards and their readers, clerks of one network and those that roam, scripts that are played at
+//! Tests of what threads share: boards and networks and their readers, clerks of one network and those that roam, scripts that are played at
 //! once, and workers that share a choice.
 #![tactic(auto)]
 
@@ -12,6 +12,8 @@ mod helpers;
 mod judged_steps;
 #[cfg(test)]
 mod pool;
+#[cfg(test)]
+mod readers;
 #[cfg(test)]
 mod roaming;
 #[cfg(test)]

@@ -1,15 +1,14 @@
 //! Clerks that roam.
 
 use crate::clerks::{both, clerk_of, expect_link, shared};
-use crate::helpers::named;
+use crate::helpers::{Meeting, MeetingAt, named};
 use locked_net::{Clerk, LockedNet, RoamFault, roam, settle};
 use rule_engine::{Edge, Event, Reply, Rules};
 use rules_hsu_huang::HsuHuang;
 use std::alloc::Global;
 use std::process::Abort;
 use std::sync::Wait;
-use std::sync::atomic::{AtomicU64, Ordering};
-use steal_pool::{Gate, NoGate};
+use steal_pool::NoGate;
 use step_log::Journal;
 
 /// Two clerks who have called nobody.
@@ -90,46 +89,15 @@ fn clerks_roam_until_the_log_is_full(rt: HostRuntime) {
     assert!(rt; settled(&rt, net, clerks, first).len() == 2);
 }
 
-/// The most looks that a worker waits for the other.
-const LOOKS: u64 = 100_000_000;
-
-/// A gate at which the first turns of two workers wait for each other, and which notes whether one waited in vain.
-#[derive(Drop)]
-struct Meeting {
-    first: AtomicU64,
-    second: AtomicU64,
-    missed: AtomicU64,
-}
-
-impl Gate for Meeting {
-    fn pass<W: Wait>(&self, _rt: &W, worker: u32, place: u32) {
-        if place != 0 {
-            return;
-        }
-        let (own, other) = match worker {
-            0 => (&self.first, &self.second),
-            _ => (&self.second, &self.first),
-        };
-        own.store(1, Ordering::SeqCst);
-        for _ in 0..LOOKS {
-            if other.load(Ordering::SeqCst) == 1 {
-                return;
-            }
-        }
-        self.missed.store(1, Ordering::SeqCst);
-    }
-}
-
 #[test]
 fn two_roamers_meet(rt: HostRuntime) {
-    let gate = Meeting {
-        first: AtomicU64::new(0),
-        second: AtomicU64::new(0),
-        missed: AtomicU64::new(0),
+    let gate = MeetingAt {
+        place: 0,
+        meeting: Meeting::new(),
     };
     let (net, first) = linked_pair(&rt, rt.alloc(), 9);
     let mut clerks = two_clerks(&rt, rt.alloc(), &net);
     assert!(rt; roam(&rt, &net, &mut clerks, 100, &gate) == Ok(()));
-    assert!(rt; gate.missed.load(Ordering::SeqCst) == 0);
+    assert!(rt; !gate.meeting.is_missed());
     assert!(rt; settled(&rt, net, clerks, first).len() == 3);
 }

@@ -1,11 +1,11 @@
 //! Storms: scripts that share one network.
 
+use crate::helpers::{Meeting, MeetingAt};
 use auditor::{Summary, audit_bytes};
 use script_run::{Options, RuleSet};
 use std::alloc::Global;
 use std::process::Abort;
 use std::sync::Wait;
-use std::sync::atomic::{AtomicU64, Ordering};
 use std::thread::Threads;
 use steal_pool::{Gate, NoGate};
 use storm_call::{StormFault, storm, storm_end};
@@ -121,46 +121,15 @@ fn a_storm_has_64_scripts_at_most(rt: HostRuntime) {
     expect_counts(&rt, rt.alloc(), &text, 64, 1, 0);
 }
 
-/// The most looks that a script waits for the other.
-const LOOKS: u64 = 100_000_000;
-
-/// A gate at which the first commands of two scripts wait for each other, and which notes whether one waited in vain.
-#[derive(Drop)]
-struct Meeting {
-    first: AtomicU64,
-    second: AtomicU64,
-    missed: AtomicU64,
-}
-
-impl Gate for Meeting {
-    fn pass<W: Wait>(&self, _rt: &W, worker: u32, place: u32) {
-        if place != 1 {
-            return;
-        }
-        let (own, other) = match worker {
-            0 => (&self.first, &self.second),
-            _ => (&self.second, &self.first),
-        };
-        own.store(1, Ordering::SeqCst);
-        for _ in 0..LOOKS {
-            if other.load(Ordering::SeqCst) == 1 {
-                return;
-            }
-        }
-        self.missed.store(1, Ordering::SeqCst);
-    }
-}
-
 #[test]
 fn two_scripts_run_at_once(rt: HostRuntime) {
-    let gate = Meeting {
-        first: AtomicU64::new(0),
-        second: AtomicU64::new(0),
-        missed: AtomicU64::new(0),
+    let gate = MeetingAt {
+        place: 1,
+        meeting: Meeting::new(),
     };
     let (ended, text) = play(&rt, rt.alloc(), 4, &[FIRST, SECOND], &gate);
     assert!(rt; ended == Ok(()));
-    assert!(rt; gate.missed.load(Ordering::SeqCst) == 0);
+    assert!(rt; !gate.meeting.is_missed());
     expect_counts(&rt, rt.alloc(), &text, 6, 5, 0);
 }
 
