@@ -7,11 +7,16 @@ use rules_hsu_huang::HsuHuang;
 use std::alloc::Global;
 use std::process::Abort;
 
+fn link(rt: &impl Abort, state: &mut IndexedState<HsuHuang>, a: Node, b: Node) {
+    state.reserve_link(a, b).expect(rt, "room");
+    state.link_reserved(a, b);
+}
+
 /// The path 1-2-3, all pointers null.
 fn path(rt: &impl Abort, alloc: Global) -> IndexedState<HsuHuang> {
     let mut path = IndexedState::new(alloc, 3).expect(rt, "a state");
-    path.link(named(rt, 1), named(rt, 2)).expect(rt, "an edge");
-    path.link(named(rt, 2), named(rt, 3)).expect(rt, "an edge");
+    link(rt, &mut path, named(rt, 1), named(rt, 2));
+    link(rt, &mut path, named(rt, 2), named(rt, 3));
     path
 }
 
@@ -49,7 +54,7 @@ fn an_edge_makes_open_neighbours(rt: HostRuntime) {
     let mut state = path(&rt, rt.alloc());
     let (one, three) = (named(&rt, 1), named(&rt, 3));
     point(&rt, &mut state, one, named(&rt, 2));
-    state.link(one, three).expect(&rt, "an edge");
+    link(&rt, &mut state, one, three);
     assert!(rt; state.store().has(one));
     let view = state.at(one);
     assert!(rt; view.first_open() == Some(named(&rt, 2)));

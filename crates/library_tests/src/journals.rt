@@ -107,13 +107,3 @@ fn an_entry_is_numbered_and_not_kept(rt: HostRuntime) {
     assert!(rt; recorder.log(&Event::Enabled) == Err(RecordFault::LogFull));
     assert!(rt; recorder.len() == 1);
 }
-
-#[test]
-fn a_reply_is_told_beside_its_receipt(rt: HostRuntime) {
-    let mut journal = journal_of::<HsuHuang>(&rt, rt.alloc(), 2, 2);
-    let link = Event::Link(named(&rt, 1), named(&rt, 2));
-    let told = journal.record_told(link).expect(&rt, "room");
-    assert!(rt; told.0.seq == 1 && told.1 == Reply::Accepted);
-    let told = journal.record_told(Event::Enabled).expect(&rt, "room");
-    assert!(rt; told.0.seq == 2 && told.0.reply == told.1);
-}

@@ -42,6 +42,8 @@ mod plain_answers;
 #[cfg(test)]
 mod plain_types;
 #[cfg(test)]
+mod prepared;
+#[cfg(test)]
 mod replays;
 #[cfg(test)]
 mod script_runs;

@@ -13,7 +13,7 @@ use std::alloc::{AllocError, Global};
 use std::process::Abort;
 
 /// The verdicts of a choice, each asked of the network.
-fn verdicts<R: Rules>(
+pub(crate) fn verdicts<R: Rules>(
     alloc: Global,
     net: &Net<R>,
     choice: &Choice,

@@ -1,0 +1,115 @@
+//! What is prepared before it is committed.
+
+ghost use Rattle.step_log.specs.Held.{IsReady};
+
+use crate::helpers::named;
+use crate::journals::journal_of;
+use crate::machines::{Machine, net_of};
+use crate::verdicts::verdicts;
+use graph_store::EdgeStore;
+use log_entry::Entry;
+use rule_engine::{Choice, Event, Reply, Rules};
+use rules_hsu_huang::HsuHuang;
+use std::alloc::Global;
+use std::process::Abort;
+use step_log::{Journal, Prepared};
+
+/// A journal that prepares each entry before it commits it, and a step from its verdicts.
+#[derive(Drop)]
+pub(crate) struct InTwoSteps<R: Rules>(pub(crate) Journal<R>);
+
+/// The entry of a step, prepared from its verdicts.
+fn prepared_step<R: Rules>(
+    rt: &impl Abort,
+    alloc: Global,
+    journal: &mut Journal<R>,
+    choice: &Choice,
+) -> Prepared
+    ensures { IsReady R.table journal.new result }
+{
+    let verdicts = verdicts(alloc, journal.net(), choice).expect(rt, "memory");
+    let choice = choice.clone().expect(rt, "memory");
+    journal.prepare_step(choice, &verdicts).expect(rt, "room")
+}
+
+fn prepared<R: Rules>(
+    rt: &impl Abort,
+    alloc: Global,
+    journal: &mut Journal<R>,
+    event: &Event,
+) -> Prepared
+    ensures { IsReady R.table journal.new result }
+{
+    match event {
+        Event::Step(choice) => prepared_step(rt, alloc, journal, choice),
+        other => {
+            let event = other.clone().expect(rt, "memory");
+            journal.prepare(event).expect(rt, "room")
+        }
+    }
+}
+
+impl<R: Rules> Machine for InTwoSteps<R> {
+    fn answers(&mut self, rt: &impl Abort, alloc: Global, entry: &Entry) -> bool {
+        let before = self.0.len();
+        let prepared = prepared(rt, alloc, &mut self.0, entry.event());
+        assert!(rt; self.0.len() == before);
+        let is_told = prepared.receipt().reply == *entry.reply();
+        let receipt = self.0.commit(prepared);
+        assert!(rt; receipt.seq == self.0.len());
+        is_told && receipt.reply == *entry.reply()
+    }
+
+    fn charge(&self) -> Option<u64> {
+        Machine::charge(self.0.net())
+    }
+}
+
+/// The event that links 1 and 2.
+fn link(rt: &impl Abort) -> Event {
+    Event::Link(named(rt, 1), named(rt, 2))
+}
+
+#[test]
+fn an_entry_is_there_once_it_is_committed(rt: HostRuntime) {
+    let mut journal = journal_of::<HsuHuang>(&rt, rt.alloc(), 2, 9);
+    let prepared = journal.prepare(link(&rt)).expect(&rt, "room");
+    assert!(rt; prepared.receipt().seq == 1);
+    assert!(rt; prepared.receipt().reply == Reply::Accepted);
+    assert!(rt; journal.len() == 0);
+    let receipt = journal.commit(prepared);
+    assert!(rt; receipt.event == link(&rt));
+    assert!(rt; journal.len() == 1);
+}
+
+#[test]
+fn what_is_dropped_has_changed_nothing(rt: HostRuntime) {
+    let mut journal = journal_of::<HsuHuang>(&rt, rt.alloc(), 2, 9);
+    let dropped = journal.prepare(link(&rt)).is_ok();
+    assert!(rt; dropped && journal.len() == 0);
+    assert!(rt; journal.net().store().edges() == 0);
+    let prepared = journal.prepare(link(&rt)).expect(&rt, "room");
+    assert!(rt; prepared.receipt().seq == 1);
+    assert!(rt; prepared.receipt().reply == Reply::Accepted);
+}
+
+#[test]
+fn a_network_changes_once_it_is_committed(rt: HostRuntime) {
+    let mut net = net_of::<HsuHuang>(&rt, rt.alloc(), 2);
+    let event = link(&rt);
+    let reply = net.prepare(&event).expect(&rt, "memory");
+    assert!(rt; reply == Reply::Accepted);
+    assert!(rt; net.charge() == 0);
+    net.commit(&event, &reply);
+    assert!(rt; net.charge() == 2);
+}
+
+#[test]
+fn an_edge_is_there_once_it_is_linked(rt: HostRuntime) {
+    let (one, two) = (named(&rt, 1), named(&rt, 2));
+    let mut store = EdgeStore::new(rt.alloc(), 2).expect(&rt, "a store");
+    assert!(rt; store.reserve_link(one, two) == Ok(()));
+    assert!(rt; store.edges() == 0);
+    store.link_reserved(one, two);
+    assert!(rt; store.edges() == 1);
+}
