@@ -1,5 +1,5 @@
 -- What a look at a board says of the log that the board shows.
-use Rattle.std.proofs.Common.{◌≡◌, ℕ, ◌<◌, ◌≤◌, Bool, true, false, List, [], ◌∷◌, ◌++◌, length, fold, Option, None, Some, if◌then◌else◌, nat_lt, refl, sym, ap, ◌∙◌, subst, arith, length-append}
+use Rattle.std.proofs.Common.{◌≡◌, ℕ, ◌<◌, ◌≤◌, Bool, true, false, List, [], ◌∷◌, ◌++◌, length, fold, Option, None, Some, IfSome, if◌then◌else◌, nat_lt, refl, sym, ap, ◌∙◌, subst, arith, length-append}
 use Rattle.std.specs.List.{slice_get}
 use Rattle.std.specs.Prelude.{replicate}
 use Rattle.std.proofs.lemmas.Bool.{ltb-true, ltb-false}
@@ -12,11 +12,11 @@ use Rattle.rule_machine.specs.Run.{Entry, beginning}
 use Rattle.board.specs.Row.{Row, pointer_in, partner_in, effect, pointers_after}
 use Rattle.board.specs.Runs.{IsRun}
 use Rattle.board.specs.Sight.{found_in}
-use Rattle.board.specs.Views.{Name}
+use Rattle.board.specs.Views.{Name, Told}
 use Rattle.board.proofs.Machine.{run_pointers}
 use Rattle.board.proofs.Rows.{effect_length}
 use Rattle.step_log.specs.declared.receipt.Receipt.{Receipt}
-use Rattle.locked_net.specs.Receipts.{IsEntry, StandsLastFrom, StandsLast}
+use Rattle.locked_net.specs.Receipts.{ClerkView, IsClerk, IsEntry, NotesLast, StandsLastFrom, StandsLast}
 use Rattle.locked_net.specs.Seen.{Shows}
 
 -- ---- the places
@@ -106,3 +106,11 @@ stays_from some all first (next ∷ receipts) p is = stays_from some all next re
 pub stays_last : (some all : List Entry) (receipts : List Receipt) → IsPrefix some all → StandsLast some receipts → StandsLast all receipts
 stays_last some all [] p is = tt
 stays_last some all (first ∷ receipts) p is = stays_from some all first receipts p is
+
+last_of : (receipts : List Receipt) (note : Option Told) (all : List Entry) → NotesLast receipts note → IfSome note (λ told. IsPrefix told.log all) → StandsLast all receipts
+last_of receipts None all none p = subst (StandsLast all) (sym none) tt
+last_of receipts (Some told) all stands p = stays_last told.log all receipts p stands
+
+-- so it does in each that goes on from a clerk's note
+pub noted_last : (clerk : ClerkView) (all : List Entry) → IsClerk clerk → IfSome clerk.note (λ told. IsPrefix told.log all) → StandsLast all clerk.receipts
+noted_last clerk all is p = last_of clerk.receipts clerk.note all is.last p

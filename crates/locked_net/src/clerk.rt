@@ -68,7 +68,7 @@ impl Clerk {
     /// The note that it got with its last receipt.
     pub(crate) fn note(&self) -> Option<&Note>
         ensures note { MatchOption result (self.now.note ≡ None) (λ note. self.now.note ≡ Some note.now) }
-        ensures last { IsClerk self.now }
+        ensures clerk { IsClerk self.now }
     {
         self.note.as_ref()
     }

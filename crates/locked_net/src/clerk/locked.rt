@@ -18,7 +18,8 @@ use std::thread::Threads;
 use steal_pool::Gate;
 
 impl Clerk {
-    /// Carries out an event on the network, keeps a receipt of it, and answers the reply. Waits for the network's lock.
+    /// Carries out an event on the network, keeps a receipt of it, and answers the reply. Waits for the network's lock,
+    /// and for readers that still look at the copy of before.
     ///
     /// `Behind` where the log holds fewer entries than this clerk has seen, then `LogFull`, then `Memory`; at a fault
     /// nothing has changed. Takes the memory of three replies and the journal's.
