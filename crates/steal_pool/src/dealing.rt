@@ -15,7 +15,7 @@ pub(crate) const MAX_WORKERS: u32 = 64;
 
 /// Puts every place of the choice once on a new deque, and gives as many ends of it as there are workers; more than 64 count as
 /// 64, and an empty choice gives hands all the same. `ZeroWorkers` where there is no worker, which is told first; else `Memory`
-/// where memory runs out. Takes some fifty bytes a place.
+/// where memory runs out. Takes some fifty bytes a place, and for more than 2,048 places no more than for these.
 pub fn hands(alloc: Global, choice: &Choice, workers: u32) -> Result<Vec<Hand>, PoolFault>
     ensures number { IfOk result (λ hands. (0 < workers) × (length hands.items ≡ min workers 64)) }
     ensures all { IfOk result (λ hands. AreAllEnds (length choice.now) (map hand_hold hands.items)) }
