@@ -1,6 +1,6 @@
 //! Workers that take the places of a choice from one another.
 
-use crate::helpers::named;
+use crate::helpers::{Meeting, named};
 use rule_engine::{Act, Choice, Event, Item, Moved, Net, Outcome, Verdict};
 use rules_manne::Manne;
 use std::alloc::Global;
@@ -125,40 +125,22 @@ fn hands_work_one_after_the_other(rt: HostRuntime) {
 /// The most looks that a worker waits for others.
 const LOOKS: u64 = 100_000_000;
 
-/// A gate at which the tasks of the places 0 and 1 wait for each other, and which notes whether one waited in vain.
+/// A gate at which the tasks of the places 0 and 1 wait for each other.
 #[derive(Drop)]
-struct Meeting {
-    first: AtomicU64,
-    second: AtomicU64,
-    missed: AtomicU64,
-}
+struct TwoGuards(Meeting);
 
-impl Gate for Meeting {
+impl Gate for TwoGuards {
     fn pass<W: Wait>(&self, _rt: &W, _worker: u32, place: u32) {
-        let (own, other) = match place {
-            0 => (&self.first, &self.second),
-            _ => (&self.second, &self.first),
-        };
-        own.store(1, Ordering::SeqCst);
-        for _ in 0..LOOKS {
-            if other.load(Ordering::SeqCst) == 1 {
-                return;
-            }
-        }
-        self.missed.store(1, Ordering::SeqCst);
+        self.0.meet(place == 0);
     }
 }
 
 #[test]
 fn two_guards_meet(rt: HostRuntime) {
-    let gate = Meeting {
-        first: AtomicU64::new(0),
-        second: AtomicU64::new(0),
-        missed: AtomicU64::new(0),
-    };
+    let gate = TwoGuards(Meeting::new());
     let found = on_a_star(&rt, rt.alloc(), &[4, 1], 2, &gate);
     expect_star(&rt, &found.expect(&rt, "verdicts"));
-    assert!(rt; gate.missed.load(Ordering::SeqCst) == 0);
+    assert!(rt; !gate.0.is_missed());
 }
 
 /// How many nodes are chosen where many are.

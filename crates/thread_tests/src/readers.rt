@@ -124,7 +124,8 @@ fn looks(
 ) -> Vec<SeenPointer> {
     let mut seen = Vec::with_capacity(alloc, LOOKS).expect(rt, "memory");
     for _ in 0..LOOKS {
-        seen.push(reader.pointer(v).expect(rt, "a view")).expect(rt, "memory");
+        seen.push(reader.pointer(v).expect(rt, "a view"))
+            .expect(rt, "memory");
     }
     seen
 }
@@ -191,8 +192,8 @@ fn a_reader_beside_busy_clerks_sees_what_the_log_has(rt: HostRuntime) {
     expect_accepted(&rt, &mut second, &net, link(&rt, 3, 4));
     let mut reader = reader_of(&rt, &net);
     let seen = seen_beside(&rt, rt.alloc(), &net, &mut first, &mut second, &mut reader);
+    expect_accepted(&rt, &mut first, &net, point(&rt, 1, 2));
     reader.learn(&mut first);
-    reader.learn(&mut second);
     let whole = reader.front();
     let journal = net.into_journal(&rt);
     assert!(rt; whole == Ok(journal.len()));

@@ -8,12 +8,12 @@ use Rattle.thread_tests.proofs.pool.hands_work_one_after_the_other.Goals as goal
 pub work-requires : goal.work-requires
 work-requires g c =
     let both = c.in-Some-Some in
-    record { choice = (both_of _ _ _ _ both.first both.second c.in-Ok.ensures.all c.in-Ok.ensures.number.1 both.ensures.items both.ensures'.items).0; }
+    record { choice = (both_of _ _ _ _ both.first both.second c.in-Ok.ensures.all c.in-Ok.ensures.number.1 both.ensures.items both.ensures'.items).0 }
 
 pub work-requires-2 : goal.work-requires-2
 work-requires-2 g c =
     let both = c.in-Some-Some in
-    record { choice = (both_of _ _ _ _ both.first both.second c.in-Ok.ensures.all c.in-Ok.ensures.number.1 both.ensures.items both.ensures'.items).1; }
+    record { choice = (both_of _ _ _ _ both.first both.second c.in-Ok.ensures.all c.in-Ok.ensures.number.1 both.ensures.items both.ensures'.items).1 }
 
 pub merge-found-requires : goal.merge-found-requires
 merge-found-requires g c =
