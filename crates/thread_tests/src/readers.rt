@@ -193,8 +193,9 @@ fn a_reader_beside_busy_clerks_sees_what_the_log_has(rt: HostRuntime) {
     let mut reader = reader_of(&rt, &net);
     let seen = seen_beside(&rt, rt.alloc(), &net, &mut first, &mut second, &mut reader);
     expect_accepted(&rt, &mut first, &net, point(&rt, 1, 2));
-    reader.learn(&mut first);
-    let whole = reader.front();
+    let mut late = reader_of(&rt, &net);
+    late.learn(&mut first);
+    let whole = late.front();
     let journal = net.into_journal(&rt);
     assert!(rt; whole == Ok(journal.len()));
     let mut front = 0;
