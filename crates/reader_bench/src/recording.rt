@@ -29,7 +29,11 @@ impl Pair {
         if number == 0 {
             return Event::Link(self.one, self.two);
         }
-        let target = if number % 2 == 1 { Some(self.two) } else { None };
+        let target = if number % 2 == 1 {
+            Some(self.two)
+        } else {
+            None
+        };
         Event::Point(self.one, target)
     }
 }
@@ -59,12 +63,7 @@ pub(crate) fn call_alone<W: Wait>(rt: &W, alloc: Global, count: u32) -> Option<b
     Some(journal.len() == count)
 }
 
-fn call_by_one<W: Wait>(
-    rt: &W,
-    net: &LockedNet<HsuHuang>,
-    pair: &Pair,
-    count: u32,
-) -> Option<()> {
+fn call_by_one<W: Wait>(rt: &W, net: &LockedNet<HsuHuang>, pair: &Pair, count: u32) -> Option<()> {
     let mut clerk = net.clerk().ok()?;
     call_all(rt, &mut clerk, net, pair, count)
 }
@@ -76,7 +75,9 @@ pub(crate) fn record_alone(alloc: Global, count: u32) -> Option<bool> {
     let mut journal = Journal::<HsuHuang>::new(alloc, 2).ok()?;
     let mut receipts = Vec::new(alloc);
     for number in 0..count {
-        receipts.push(journal.record(pair.event(number)).ok()?).ok()?;
+        receipts
+            .push(journal.record(pair.event(number)).ok()?)
+            .ok()?;
     }
     Some(journal.len() == count)
 }
