@@ -1,5 +1,5 @@
-//! Tests of what threads share: boards and networks and their readers, clerks of one network and those that roam, scripts that are played at
-//! once, and workers that share a choice.
+//! Tests of what threads share: boards and networks and their readers, clerks of one network and those that roam, and workers that share a
+//! choice.
 #![tactic(auto)]
 
 #[cfg(test)]
@@ -16,5 +16,3 @@ mod pool;
 mod readers;
 #[cfg(test)]
 mod roaming;
-#[cfg(test)]
-mod storms;
