@@ -3,6 +3,8 @@
 
 mod command;
 mod read;
+mod script;
 
 pub use command::{Command, MAX_TURNS, Turns};
 pub use read::read_line;
+pub use script::{Script, ScriptLine};

@@ -1,7 +1,7 @@
 -- As many scripts as readers.
 use Rattle.std.proofs.Common.{◌≡◌, ℕ, ◌≤◌, List, [], ◌∷◌, ◌++◌, length, map, drop, Option, Result, Ok, Err, IfOk, refl, sym, ap, subst, arith}
 use Rattle.std.proofs.lemmas.List.{append-nil, drop_all}
-use Rattle.storm_run.specs.declared.script.ScriptLine.{ScriptLine}
+use Rattle.script_line.specs.declared.script.ScriptLine.{ScriptLine}
 use Rattle.script_texts.specs.Readers.{AllHold}
 
 -- behind the last reader there is none

@@ -1,7 +1,7 @@
 -- The lines of a text, one after another.
 use Rattle.std.proofs.Common.{◌≡◌, ◌∙◌, ℕ, ◌+◌, inr, List, [], ◌∷◌, ◌++◌, refl, sym, ap, subst, append_assoc}
 use Rattle.std.proofs.lemmas.List.{append-nil}
-use Rattle.storm_run.specs.declared.script.ScriptLine.{ScriptLine}
+use Rattle.script_line.specs.declared.script.ScriptLine.{ScriptLine}
 use Rattle.script_texts.specs.Texts.{LineHolds, LinesHold, IsGoodLine, FirstBad}
 
 -- a line that was added is good

@@ -1,7 +1,7 @@
 -- What some readers' texts say, where these are known.
 use Rattle.std.specs.Prelude.{◌≡◌, ◌≢◌, ℕ, ◌+◌, ◌<◌, ◌⊎◌, List, [], ◌∷◌, length, Option, IfSome}
 use Rattle.script_machine.specs.Script.{lines_of}
-use Rattle.storm_run.specs.declared.script.ScriptLine.{ScriptLine}
+use Rattle.script_line.specs.declared.script.ScriptLine.{ScriptLine}
 use Rattle.script_texts.specs.declared.fault.TextsFault.{TextsFault}
 use Rattle.script_texts.specs.declared.fault.TextsFault.TheVariants.{TooManyScripts, BadLine, Read, Memory}
 use Rattle.script_texts.specs.Texts.{TextHolds, FirstBad}

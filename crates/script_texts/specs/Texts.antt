@@ -3,7 +3,7 @@ use Rattle.std.specs.Prelude.{◌≡◌, ℕ, ◌+◌, ◌⊎◌, List, [], ◌�
 use Rattle.script_line.specs.declared.command.Command.{Command}
 use Rattle.script_line.specs.Command.{Says}
 use Rattle.script_machine.specs.Script.{IsBadLine, lines_of}
-use Rattle.storm_run.specs.declared.script.ScriptLine.{ScriptLine}
+use Rattle.script_line.specs.declared.script.ScriptLine.{ScriptLine}
 use Rattle.script_texts.specs.declared.fault.TextFault.{TextFault}
 use Rattle.script_texts.specs.declared.fault.TextFault.TheVariants.{BadLine, Memory}
 

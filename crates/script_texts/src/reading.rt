@@ -7,9 +7,9 @@ ghost use Rattle.script_texts.specs.Readers.{AllHold, IsFault, IsReaderFault};
 
 use crate::{TextFault, TextsFault, read_text};
 use byte_input::{InputFault, read_whole};
+use script_line::Script;
 use std::alloc::Global;
 use std::io::Read;
-use storm_run::Script;
 
 /// The most scripts that there may be.
 pub const MAX_SCRIPTS: usize = 64;

@@ -1,14 +1,13 @@
 //! One script.
 
 ghost use Rattle.std.specs.Prelude.{◌≡◌, ◌++◌, List, IfOk, IfErr, OnOk};
-ghost use Rattle.storm_run.specs.declared.script.ScriptLine.{ScriptLine};
+ghost use Rattle.script_line.specs.declared.script.ScriptLine.{ScriptLine};
 ghost use Rattle.script_texts.specs.Texts.{LineHolds, TextHolds, IsLineFault, IsTextFault};
 
 use crate::TextFault;
-use script_line::read_line;
+use script_line::{Script, ScriptLine, read_line};
 use script_machine::next_line;
 use std::alloc::Global;
-use storm_run::{Script, ScriptLine};
 
 /// The greatest number that a script line tells.
 const LAST_NUMBER: u64 = 4_294_967_295;

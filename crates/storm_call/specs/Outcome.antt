@@ -15,7 +15,7 @@ use Rattle.step_log.specs.Log.{Log, IsLog}
 use Rattle.locked_net.specs.declared.call_fault.CallFault.{CallFault}
 use Rattle.locked_net.specs.declared.call_fault.CallFault.TheVariants as call
 use Rattle.locked_net.specs.declared.settle_fault.SettleFault.TheVariants as settle
-use Rattle.storm_run.specs.declared.script.ScriptLine.{ScriptLine}
+use Rattle.script_line.specs.declared.script.ScriptLine.{ScriptLine}
 use Rattle.storm_run.specs.Storm.{IsStorm}
 use Rattle.script_run.specs.Asked.{Asked}
 use Rattle.script_texts.specs.Readers.{AllHold, FirstBadScript}

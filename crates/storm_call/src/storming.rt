@@ -13,6 +13,7 @@ use rule_machine::RuleSet;
 use rule_set::Rules;
 use rules_hsu_huang::HsuHuang;
 use rules_manne::Manne;
+use script_line::Script;
 use script_run::Options;
 use script_texts::read_scripts;
 use std::alloc::Global;
@@ -21,7 +22,7 @@ use std::sync::Wait;
 use std::thread::Threads;
 use steal_pool::Gate;
 use step_log::Journal;
-use storm_run::{Crew, Script};
+use storm_run::Crew;
 
 // Plays scripts on a new network, with workers who roam beside them: the log that they leave, with the first fault that was met.
 fn play<R: Rules + Send + Sync, G: Gate + Sync, T: Threads + Wait + Sync>(

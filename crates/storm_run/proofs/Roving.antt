@@ -11,7 +11,7 @@ use Rattle.locked_net.specs.declared.roam_fault.RoamFault.{RoamFault}
 use Rattle.locked_net.specs.declared.roam_fault.RoamFault.TheVariants.{ZeroWorkers, Thread}
 use Rattle.locked_net.specs.declared.roam_fault.RoamFault.TheVariants as roam
 use Rattle.locked_net.specs.declared.call_fault.CallFault.{CallFault}
-use Rattle.storm_run.specs.declared.script.ScriptLine.{ScriptLine}
+use Rattle.script_line.specs.declared.script.ScriptLine.{ScriptLine}
 use Rattle.storm_run.specs.Storm.{AllPlayed, IsRoaming, AllTold}
 use Rattle.storm_run.specs.Roaming.{RoamedAfresh, roam_fault}
 

@@ -5,7 +5,7 @@ use Rattle.std.proofs.lemmas.Bool.{false≢true}
 use Rattle.std.specs.Result.{IsErr, result_err}
 use Rattle.step_log.specs.declared.receipt.Receipt.{Receipt}
 use Rattle.locked_net.specs.declared.call_fault.CallFault.{CallFault}
-use Rattle.storm_run.specs.declared.script.ScriptLine.{ScriptLine}
+use Rattle.script_line.specs.declared.script.ScriptLine.{ScriptLine}
 use Rattle.storm_run.specs.Storm.{IsFor, IsPartOf, Stands, StandsInPart, MayStop}
 use Rattle.storm_run.specs.Played.{Adds}
 

@@ -22,7 +22,7 @@ use Rattle.locked_net.specs.Receipts.{ClerkView}
 use Rattle.locked_net.specs.Settled.{Settled}
 use Rattle.locked_net.specs.Roamed.{IsLoneStep, TakesTurns}
 use Rattle.locked_net.specs.declared.call_fault.CallFault.{CallFault}
-use Rattle.storm_run.specs.declared.script.ScriptLine.{ScriptLine}
+use Rattle.script_line.specs.declared.script.ScriptLine.{ScriptLine}
 
 -- the receipt of a step that was answered by its moves
 pub record IsOfStep (receipt : Receipt) : Type 0 where

@@ -8,11 +8,11 @@ ghost use Rattle.locked_net.specs.declared.roam_fault.RoamFault.TheVariants.{Thr
 ghost use Rattle.storm_run.specs.Storm.{AllPlayed, AllTold};
 ghost use Rattle.storm_run.specs.Roaming.{RoamedAfresh, roam_fault};
 
-use crate::Script;
 use crate::forks::play_all;
 use crate::stage::Stage;
 use locked_net::{CallFault, Clerk, RoamFault, roam};
 use rule_set::Rules;
+use script_line::Script;
 use std::sync::Wait;
 use std::thread::{Threads, join_mut};
 use steal_pool::{Gate, NoGate};

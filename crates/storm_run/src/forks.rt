@@ -5,10 +5,10 @@ ghost use Rattle.std.specs.List.{All};
 ghost use Rattle.std.specs.Thread.{IsSync, IsSend};
 ghost use Rattle.storm_run.specs.Storm.{AllPlayed};
 
-use crate::Script;
 use crate::stage::{Stage, play_first};
 use locked_net::{CallFault, Clerk};
 use rule_set::Rules;
+use script_line::Script;
 use std::sync::Wait;
 use std::thread::{Threads, join_mut};
 use steal_pool::Gate;

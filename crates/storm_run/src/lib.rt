@@ -7,11 +7,9 @@ mod fault;
 mod forks;
 mod play;
 mod run;
-mod script;
 mod stage;
 mod turns;
 
 pub use crew::Crew;
 pub use fault::PlayFault;
 pub use run::storm;
-pub use script::{Script, ScriptLine};

@@ -10,10 +10,11 @@ ghost use Rattle.storm_run.specs.Storm.{IsStorm};
 
 use crate::beside::play_beside;
 use crate::stage::Stage;
-use crate::{Crew, PlayFault, Script};
+use crate::{Crew, PlayFault};
 use locked_net::{CallFault, Clerk, LockedNet, settle};
 use rule_machine::Want;
 use rule_set::Rules;
+use script_line::Script;
 use std::alloc::Global;
 use std::sync::Wait;
 use std::thread::Threads;

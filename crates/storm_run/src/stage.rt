@@ -5,10 +5,11 @@ ghost use Rattle.std.specs.List.{All};
 ghost use Rattle.std.specs.Result.{result_err};
 ghost use Rattle.storm_run.specs.Storm.{MayStop, AllPlayed};
 
+use crate::Crew;
 use crate::play::play;
-use crate::{Crew, Script};
 use locked_net::{CallFault, Clerk, LockedNet};
 use rule_set::Rules;
+use script_line::Script;
 use std::alloc::Global;
 use std::sync::Wait;
 use std::thread::Threads;

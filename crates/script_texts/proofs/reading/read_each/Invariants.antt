@@ -1,5 +1,5 @@
 use Rattle.std.proofs.Common.{◌≡◌, ◌+◌, ◌++◌, ℕ, List, length, map, drop}
-use Rattle.storm_run.specs.declared.script.ScriptLine.{ScriptLine}
+use Rattle.script_line.specs.declared.script.ScriptLine.{ScriptLine}
 use Rattle.script_texts.specs.Readers.{AllHold, FirstBadScript}
 use Rattle.script_texts.proofs.reading.read_each.Given as goal
 

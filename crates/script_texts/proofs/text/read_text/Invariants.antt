@@ -1,6 +1,6 @@
 use Rattle.std.proofs.Common.{◌+◌, ◌≤◌, ◌++◌, ℕ, List, length}
 use Rattle.script_machine.specs.Script.{lines_of}
-use Rattle.storm_run.specs.declared.script.ScriptLine.{ScriptLine}
+use Rattle.script_line.specs.declared.script.ScriptLine.{ScriptLine}
 use Rattle.script_texts.specs.Texts.{LinesHold, FirstBad}
 use Rattle.script_texts.proofs.text.read_text.Given as goal
 

@@ -2,7 +2,7 @@
 
 ghost use Rattle.std.specs.Prelude.{◌≡◌};
 
-use script_line::Command;
+use crate::Command;
 use std::marker::Model;
 
 /// A line of a script that is not empty.
@@ -22,7 +22,7 @@ pub struct Script {
 
 impl Model for Script {
     ghost use Rattle.std.specs.Prelude.{List};
-    ghost use Rattle.storm_run.specs.declared.script.ScriptLine.{ScriptLine};
+    ghost use Rattle.script_line.specs.declared.script.ScriptLine.{ScriptLine};
 
     ghost Value = { List ScriptLine };
 
