@@ -52,6 +52,46 @@ pub(crate) fn both(rt: &impl Abort, alloc: Global, first: Clerk, second: Clerk) 
     clerks
 }
 
+/// Expects that a network's log has so many entries at its end.
+pub(crate) fn expect_log<R: Rules, W: Wait + Abort>(rt: &W, net: LockedNet<R>, entries: u32) {
+    assert!(rt; net.into_journal(rt).len() == entries);
+}
+
+/// Expects that a call of a clerk is not answered, and that it gets no receipt.
+fn expect_fault<R: Rules, W: Wait + Abort>(
+    rt: &W,
+    clerk: &mut Clerk,
+    net: &LockedNet<R>,
+    event: Event,
+    fault: CallFault,
+) {
+    let receipts = clerk.receipts().len();
+    assert!(rt; clerk.call(rt, net, event) == Err(fault));
+    assert!(rt; clerk.receipts().len() == receipts);
+}
+
+/// The list of one clerk.
+fn alone(rt: &impl Abort, alloc: Global, clerk: Clerk) -> Vec<Clerk> {
+    let mut clerks = Vec::new(alloc);
+    clerks.push(clerk).expect(rt, "memory");
+    clerks
+}
+
+/// Why these clerks do not settle, where they do not. The log has so many entries either way.
+fn fault_of<R: Rules, W: Wait + Abort>(
+    rt: &W,
+    net: LockedNet<R>,
+    clerks: Vec<Clerk>,
+    entries: u32,
+) -> Option<SettleFault> {
+    let (journal, why) = match settle(rt, net, clerks) {
+        Ok(journal) => (journal, None),
+        Err(unsettled) => (unsettled.journal, Some(unsettled.why)),
+    };
+    assert!(rt; journal.len() == entries);
+    why
+}
+
 #[test]
 fn two_clerks_settle(rt: HostRuntime) {
     let net = shared::<HsuHuang>(&rt, rt.alloc(), 3, 9);
@@ -62,10 +102,7 @@ fn two_clerks_settle(rt: HostRuntime) {
     expect_link(&rt, &mut first, &net, 1, 3);
     assert!(rt; first.receipts().len() == 2);
     let clerks = both(&rt, rt.alloc(), first, second);
-    let Ok(journal) = settle(&rt, net, clerks) else {
-        panic!(rt; "they do not settle");
-    };
-    assert!(rt; journal.len() == 3);
+    assert!(rt; fault_of(&rt, net, clerks, 3).is_none());
 }
 
 #[test]
@@ -75,13 +112,17 @@ fn a_clerk_that_is_missing_is_missed(rt: HostRuntime) {
     let mut second = clerk_of(&rt, &net);
     expect_link(&rt, &mut first, &net, 1, 2);
     expect_link(&rt, &mut second, &net, 2, 3);
-    let mut clerks = Vec::new(rt.alloc());
-    clerks.push(first).expect(&rt, "memory");
-    let Err(unsettled) = settle(&rt, net, clerks) else {
-        panic!(rt; "they settle");
-    };
-    assert!(rt; unsettled.why == SettleFault::CountDiffers);
-    assert!(rt; unsettled.journal.len() == 2);
+    let clerks = alone(&rt, rt.alloc(), first);
+    assert!(rt; fault_of(&rt, net, clerks, 2) == Some(SettleFault::CountDiffers));
+}
+
+/// A clerk of another network, in which it linked 1 and 3.
+fn stranger<W: Wait + Abort>(rt: &W, alloc: Global) -> Clerk {
+    let net = shared::<HsuHuang>(rt, alloc, 3, 9);
+    let mut clerk = clerk_of(rt, &net);
+    expect_link(rt, &mut clerk, &net, 1, 3);
+    expect_log(rt, net, 1);
+    clerk
 }
 
 /// The answer to settling a network in which 1 was linked to `b`, with the clerk of another in which 1 was linked to 3.
@@ -89,16 +130,8 @@ fn settled_with_another<W: Wait + Abort>(rt: &W, alloc: Global, b: u32) -> Optio
     let net = shared::<HsuHuang>(rt, alloc, 3, 9);
     let mut own = clerk_of(rt, &net);
     expect_link(rt, &mut own, &net, 1, b);
-    let other = shared::<HsuHuang>(rt, alloc, 3, 9);
-    let mut stranger = clerk_of(rt, &other);
-    expect_link(rt, &mut stranger, &other, 1, 3);
-    let _ = other.into_journal(rt);
-    let mut clerks = Vec::new(alloc);
-    clerks.push(stranger).expect(rt, "memory");
-    match settle(rt, net, clerks) {
-        Ok(_) => None,
-        Err(unsettled) => Some(unsettled.why),
-    }
+    let clerks = alone(rt, alloc, stranger(rt, alloc));
+    fault_of(rt, net, clerks, 1)
 }
 
 #[test]
@@ -108,20 +141,24 @@ fn a_stranger_is_named(rt: HostRuntime) {
     assert!(rt; settled_with_another(&rt, rt.alloc(), 3).is_none());
 }
 
+/// Expects that a network with an empty log takes no call of a clerk that saw two entries of another.
+fn expect_behind<W: Wait + Abort>(rt: &W, alloc: Global, clerk: &mut Clerk) {
+    let net = shared::<HsuHuang>(rt, alloc, 3, 9);
+    let behind = CallFault::Behind { front: 0, seen: 2 };
+    expect_fault(rt, clerk, &net, link(rt, 1, 2), behind);
+    expect_log(rt, net, 0);
+}
+
 #[test]
 fn a_clerk_may_be_behind(rt: HostRuntime) {
     let net = shared::<HsuHuang>(&rt, rt.alloc(), 3, 9);
     let mut clerk = clerk_of(&rt, &net);
     expect_link(&rt, &mut clerk, &net, 1, 2);
     expect_link(&rt, &mut clerk, &net, 1, 3);
-    let new = shared::<HsuHuang>(&rt, rt.alloc(), 3, 9);
-    let behind = CallFault::Behind { front: 0, seen: 2 };
-    assert!(rt; clerk.call(&rt, &new, link(&rt, 1, 2)) == Err(behind));
-    assert!(rt; clerk.receipts().len() == 2);
-    assert!(rt; new.into_journal(&rt).len() == 0);
+    expect_behind(&rt, rt.alloc(), &mut clerk);
     expect_link(&rt, &mut clerk, &net, 2, 3);
     assert!(rt; clerk.front() == 3);
-    assert!(rt; net.into_journal(&rt).len() == 3);
+    expect_log(&rt, net, 3);
 }
 
 #[test]
@@ -129,10 +166,10 @@ fn a_full_log_takes_no_call(rt: HostRuntime) {
     let net = shared::<HsuHuang>(&rt, rt.alloc(), 2, 1);
     let mut clerk = clerk_of(&rt, &net);
     expect_link(&rt, &mut clerk, &net, 1, 2);
-    assert!(rt; clerk.call(&rt, &net, Event::Enabled) == Err(CallFault::LogFull));
+    expect_fault(&rt, &mut clerk, &net, Event::Enabled, CallFault::LogFull);
     let mut daemon = Seeded::new(rt.alloc(), Pcg32::seed_from_u64(7));
     assert!(rt; clerk.drive_with(&rt, &net, &mut daemon) == Err(CallFault::LogFull));
-    assert!(rt; net.into_journal(&rt).len() == 1);
+    expect_log(&rt, net, 1);
 }
 
 /// The move of the second of a pair, which marries the first.
@@ -164,7 +201,7 @@ fn a_clerk_drives_until_nobody_is_enabled(rt: HostRuntime) {
     let mut daemon = Seeded::new(rt.alloc(), Pcg32::seed_from_u64(7));
     assert!(rt; is_marriage(&rt, clerk.drive_with(&rt, &net, &mut daemon)));
     assert!(rt; clerk.drive_with(&rt, &net, &mut daemon) == Ok(None));
-    assert!(rt; net.into_journal(&rt).len() == 3);
+    expect_log(&rt, net, 3);
 }
 
 #[test]
@@ -173,9 +210,9 @@ fn a_clerk_breaks_registers(rt: HostRuntime) {
     let empty = shared::<Manne>(&rt, rt.alloc(), 0, 9);
     let mut clerk = clerk_of(&rt, &empty);
     assert!(rt; clerk.fault_with(&rt, &empty, &mut injector) == Ok(None));
-    assert!(rt; empty.into_journal(&rt).len() == 0);
+    expect_log(&rt, empty, 0);
     let net = shared::<HsuHuang>(&rt, rt.alloc(), 1, 9);
     let told = clerk.fault_with(&rt, &net, &mut injector);
     assert!(rt; told == Ok(Some(Reply::Accepted)));
-    assert!(rt; net.into_journal(&rt).len() == 1);
+    expect_log(&rt, net, 1);
 }

@@ -1,6 +1,6 @@
 //! Clerks whose steps workers judge.
 
-use crate::clerks::{clerk_of, expect_link, shared};
+use crate::clerks::{clerk_of, expect_link, expect_log, shared};
 use crate::helpers::named;
 use locked_net::{CallFault, Clerk, LockedNet, StepFault};
 use rule_engine::{Act, Choice, Event, Item, Moved, Reply};
@@ -58,7 +58,7 @@ fn workers_judge_a_step(rt: HostRuntime) {
     let told = clerk.step_with(&rt, &net, choice, 4, &NoGate);
     assert!(rt; are_moves(&rt, told));
     assert!(rt; clerk.front() == 5);
-    assert!(rt; net.into_journal(&rt).len() == 5);
+    expect_log(&rt, net, 5);
 }
 
 #[test]
@@ -68,7 +68,7 @@ fn no_workers_judge_nothing(rt: HostRuntime) {
     let told = clerk.step_with(&rt, &net, choice, 0, &NoGate);
     assert!(rt; told == Err(StepFault::Pool(PoolFault::ZeroWorkers)));
     assert!(rt; clerk.receipts().len() == 4);
-    assert!(rt; net.into_journal(&rt).len() == 4);
+    expect_log(&rt, net, 4);
 }
 
 #[test]
@@ -79,6 +79,6 @@ fn a_clerk_behind_is_told_before_its_workers_are_counted(rt: HostRuntime) {
     let behind = StepFault::Call(CallFault::Behind { front: 0, seen: 4 });
     let told = clerk.step_with(&rt, &new, choice, 0, &NoGate);
     assert!(rt; told == Err(behind));
-    assert!(rt; new.into_journal(&rt).len() == 0);
-    assert!(rt; net.into_journal(&rt).len() == 4);
+    expect_log(&rt, new, 0);
+    expect_log(&rt, net, 4);
 }

@@ -5,7 +5,7 @@ ghost use Rattle.std.specs.Thread.{IsSync};
 ghost use Rattle.locked_net.specs.Nets.{book_of, name_of};
 ghost use Rattle.locked_net.specs.Receipts.{HasNoteOf};
 
-use crate::clerks::{clerk_of, link, shared};
+use crate::clerks::{clerk_of, expect_log, link, shared};
 use crate::helpers::named;
 use locked_net::{BoardReader, Clerk, LockedNet, NoView, ReadFault, ReaderFault, SeenPointer};
 use rule_engine::{Event, Node, Reply};
@@ -63,12 +63,19 @@ fn a_reader_sees_what_its_clerk_wrote(rt: HostRuntime) {
     assert!(rt; reader.front().expect(&rt, "a view") >= 2);
     assert!(rt; seen_at(&rt, &mut reader, 1) == Some(2));
     assert!(rt; partner_of(&rt, &mut reader, 1) == None);
-    assert!(rt; reader.pointer(named(&rt, 3)) == Err(ReadFault::UnknownNode));
-    assert!(rt; reader.partner(named(&rt, 3)) == Err(ReadFault::UnknownNode));
     expect_accepted(&rt, &mut clerk, &net, point(&rt, 2, 1));
     reader.learn(&mut clerk);
     assert!(rt; partner_of(&rt, &mut reader, 1) == Some(2));
-    assert!(rt; net.into_journal(&rt).len() == 3);
+    expect_log(&rt, net, 3);
+}
+
+#[test]
+fn a_reader_knows_no_node_that_is_not_there(rt: HostRuntime) {
+    let net = shared::<HsuHuang>(&rt, rt.alloc(), 2, 9);
+    let mut reader = reader_of(&rt, &net);
+    assert!(rt; reader.pointer(named(&rt, 3)) == Err(ReadFault::UnknownNode));
+    assert!(rt; reader.partner(named(&rt, 3)) == Err(ReadFault::UnknownNode));
+    expect_log(&rt, net, 0);
 }
 
 #[test]
@@ -83,7 +90,7 @@ fn a_reader_goes_on_without_its_clerk(rt: HostRuntime) {
     }
     assert!(rt; reader.front() == Ok(1));
     assert!(rt; seen_at(&rt, &mut reader, 2) == None);
-    assert!(rt; net.into_journal(&rt).len() == 1);
+    expect_log(&rt, net, 1);
     assert!(rt; reader.front() == Err(NoView));
     assert!(rt; reader.pointer(named(&rt, 1)) == Err(ReadFault::NoView));
 }
@@ -98,7 +105,7 @@ fn a_network_has_64_readers_at_most(rt: HostRuntime) {
     assert!(rt; net.reader(&rt).err() == Some(ReaderFault::NoPlace));
     readers.pop();
     assert!(rt; net.reader(&rt).is_ok());
-    assert!(rt; net.into_journal(&rt).len() == 0);
+    expect_log(&rt, net, 0);
 }
 
 /// How often a busy clerk writes.
@@ -183,6 +190,16 @@ fn pointer_of_one(rt: &impl Abort, journal: &Journal<HsuHuang>, front: u32) -> O
     None
 }
 
+/// Expects that each look saw node 1 as it was after some first entries of a log, never fewer than the look before.
+fn expect_seen(rt: &impl Abort, journal: &Journal<HsuHuang>, seen: &[SeenPointer]) {
+    let mut front = 0;
+    for look in seen {
+        assert!(rt; front <= look.front && look.front <= journal.len());
+        assert!(rt; look.pointer == pointer_of_one(rt, journal, look.front));
+        front = look.front;
+    }
+}
+
 #[test]
 fn a_reader_beside_busy_clerks_sees_what_the_log_has(rt: HostRuntime) {
     let net = shared::<HsuHuang>(&rt, rt.alloc(), 4, 9_999);
@@ -198,10 +215,5 @@ fn a_reader_beside_busy_clerks_sees_what_the_log_has(rt: HostRuntime) {
     let whole = late.front();
     let journal = net.into_journal(&rt);
     assert!(rt; whole == Ok(journal.len()));
-    let mut front = 0;
-    for look in &seen {
-        assert!(rt; front <= look.front && look.front <= journal.len());
-        assert!(rt; look.pointer == pointer_of_one(&rt, &journal, look.front));
-        front = look.front;
-    }
+    expect_seen(&rt, &journal, &seen);
 }

@@ -1,6 +1,6 @@
 //! Clerks that roam.
 
-use crate::clerks::{both, clerk_of, expect_link, shared};
+use crate::clerks::{both, clerk_of, expect_link, expect_log, shared};
 use crate::helpers::{Meeting, MeetingAt, named};
 use locked_net::{Clerk, LockedNet, RoamFault, roam, settle};
 use rule_engine::{Edge, Event, Reply, Rules};
@@ -76,7 +76,7 @@ fn nobody_roams(rt: HostRuntime) {
     let mut clerks = Vec::new(rt.alloc());
     let ended = roam(&rt, &net, &mut clerks, 100, &NoGate);
     assert!(rt; ended == Err(RoamFault::ZeroWorkers));
-    assert!(rt; net.into_journal(&rt).len() == 1);
+    expect_log(&rt, net, 1);
 }
 
 #[test]

@@ -1,0 +1,130 @@
+"""Where the functions of a crate stand in its files, by the layout of rt fmt, and the crate without the bodies of most."""
+import os
+import re
+
+HEAD = re.compile(r"( *)(?:pub(?:\([^)]*\))? )?(?:const )?fn (\w+)")
+CYCLE = re.compile(r" *#\[cycle\((\w+)\)\]$")
+TYPE = re.compile(r"(?m)^(?:pub(?:\([^)]*\))? )?(?:struct|enum) (\w+)")
+HOLDER = re.compile(r"(?:impl\b|(?:pub(?:\([^)]*\))? )?trait )")
+LEFT_OUT = "unreachable!()"
+
+
+class Function:
+    """A function with a body: its path below the crate as the prover names it, its file, its line there, the lines of its
+    body from `first` to before `end`, and the cycle of calls that it says it is in, with the module before it."""
+
+    def __init__(self, path, file, line, first, end, cycle):
+        self.path, self.file, self.line, self.first, self.end, self.cycle = path, file, line, first, end, cycle
+
+
+def sources_of(folder):
+    """The texts of a crate's sources, by their path below its folder."""
+    texts = {}
+    for at, _, names in os.walk(f"{folder}/src"):
+        for name in sorted(names):
+            if name.endswith(".rt"):
+                with open(f"{at}/{name}", encoding="utf-8") as file:
+                    texts[os.path.relpath(f"{at}/{name}", folder)] = file.read()
+    return texts
+
+
+def module_of(file):
+    """The module that a file below src/ is, '' for the crate's root."""
+    module = file.removeprefix("src/").removesuffix(".rt").replace("/", "::")
+    return "" if module in ("lib", "main") else module
+
+
+def joined(*parts):
+    return "::".join(it for it in parts if it)
+
+
+def words_in(text):
+    return [it[0].upper() + it[1:] for it in re.findall(r"[A-Za-z]\w*", re.sub(r"'\w+", "", text))]
+
+
+def without_parameters(head):
+    """What stands behind `impl` and its parameters."""
+    text, depth = head.removeprefix("impl"), 0
+    for at, sign in enumerate(text):
+        depth += (sign == "<") - (sign == ">")
+        if not depth:
+            return text[at + (sign == ">") :].strip()
+    return text
+
+
+def holder_of(head, module, modules):
+    """The path of what an `impl` or a trait holds: a type's own functions stand where the type does, those of a trait for a
+    type in the module of the `impl`, under both names."""
+    if not head.startswith("impl"):
+        return joined(module, re.search(r"trait (\w+)", head)[1])
+    what = re.split(r" where\b| \{$", without_parameters(head))[0]
+    trait, _, owner = what.rpartition(" for ")
+    if owner.startswith("("):
+        words = words_in(owner)
+        name = f"Tuple{len(words)}{''.join(words)}"
+    else:
+        name = words_in(owner.partition("<")[0])[-1]
+    if not trait:
+        return joined(modules.get(name, module), name)
+    own, _, parameters = trait.partition("<")
+    return joined(module, name + words_in(own)[-1] + "".join(words_in(parameters)))
+
+
+def body_of(lines, at, indent):
+    """The lines of the body of the function whose head begins in a line, or None where it has none."""
+    first = at
+    while lines[first] != f"{indent}{{":
+        opens = first == at or lines[first].startswith(f"{indent})")
+        if opens and lines[first].endswith("{"):
+            break
+        if not lines[first].strip() or lines[first].endswith((";", " }")) and opens:
+            return None
+        first += 1
+        if first == len(lines):
+            return None
+    return first + 1, lines.index(f"{indent}}}", first + 1)
+
+
+def functions_of_file(text, file, modules):
+    lines, holder, found, cycle = text.split("\n"), "", [], None
+    for at, line in enumerate(lines):
+        if found and at <= found[-1].end:
+            continue
+        head = HEAD.match(line)
+        if HOLDER.match(line):
+            whole = at + next((k for k, it in enumerate(lines[at:]) if it.endswith("{")), 0)
+            holder = holder_of(" ".join(it.strip() for it in lines[at : whole + 1]), module_of(file), modules)
+        elif line == "}":
+            holder = ""
+        elif CYCLE.match(line):
+            cycle = joined(module_of(file), f"+{CYCLE.match(line)[1]}")
+        elif head and (holder or not head[1]):
+            body = body_of(lines, at, head[1])
+            if body:
+                place = holder if head[1] else module_of(file)
+                found.append(Function(joined(place, head[2]), file, at, *body, cycle))
+            cycle = None
+    return found
+
+
+def functions_of(texts):
+    """The functions with a body in the sources of a crate, but those of modules of tests."""
+    modules = {name: module_of(file) for file, text in texts.items() for name in TYPE.findall(text)}
+    return [it for file, text in texts.items() for it in functions_of_file(text, file, modules)]
+
+
+def without_bodies(texts, kept):
+    """The texts with a body that nothing can reach in place of each function's that is neither kept nor in a cycle of calls
+    with one that is; and the paths of the functions, and of the cycles, that lost theirs. What a caller rests on stands
+    above the body."""
+    functions = functions_of(texts)
+    cycles = {it.cycle for it in functions if it.path in kept and it.cycle}
+    left_out = [it for it in functions if it.path not in kept and it.cycle not in cycles]
+    lines = {file: text.split("\n") for file, text in texts.items()}
+    for it in sorted(left_out, key=lambda it: -it.first):
+        own = lines[it.file]
+        own[it.first : it.end] = [" " * (len(own[it.end]) + 3) + LEFT_OUT]
+        if it.cycle:
+            del own[next(at for at in range(it.line - 1, -1, -1) if CYCLE.match(own[at]))]
+    paths = {it.path for it in left_out} | {it.cycle for it in left_out if it.cycle}
+    return {file: "\n".join(its) for file, its in lines.items()}, sorted(paths)
