@@ -71,18 +71,15 @@ def holder_of(head, module, modules):
 
 
 def body_of(lines, at, indent):
-    """The lines of the body of the function whose head begins in a line, or None where it has none."""
-    first = at
-    while lines[first] != f"{indent}{{":
-        opens = first == at or lines[first].startswith(f"{indent})")
-        if opens and lines[first].endswith("{"):
-            break
-        if not lines[first].strip() or lines[first].endswith((";", " }")) and opens:
+    """The lines of the body of the function whose head begins in a line, or None where it has none, or one of one line."""
+    for first in range(at, len(lines)):
+        line = lines[first]
+        ends_its_head = first == at or line.startswith(f"{indent})")
+        if line == f"{indent}{{" or (ends_its_head and line.endswith("{")):
+            return first + 1, lines.index(f"{indent}}}", first + 1)
+        if not line.strip() or line.endswith(";") or (ends_its_head and line.endswith("}")):
             return None
-        first += 1
-        if first == len(lines):
-            return None
-    return first + 1, lines.index(f"{indent}}}", first + 1)
+    return None
 
 
 def functions_of_file(text, file, modules):
