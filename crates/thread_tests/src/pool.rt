@@ -1,7 +1,5 @@
 //! Workers that take the places of a choice from one another.
 
-ghost use Rattle.std.specs.Prelude.{◌≤◌};
-
 use crate::helpers::{Meeting, named};
 use rule_engine::{Act, Choice, Event, Item, Moved, Net, Outcome, Verdict};
 use rules_manne::Manne;
@@ -148,12 +146,10 @@ fn two_guards_meet(rt: HostRuntime) {
 /// How many nodes are chosen where many are.
 const MANY: u32 = 1_000;
 
-/// Sets the flags of a network's first nodes, which each is enabled by, and chooses them all.
-fn flagged(rt: &impl Abort, alloc: Global, net: &mut Net<Manne>, nodes: u32) -> Choice
-    requires { nodes ≤ 1000 }
-{
+/// Sets the flags of many nodes, so that each of them is enabled, and chooses them all.
+fn flag_many(rt: &impl Abort, alloc: Global, net: &mut Net<Manne>) -> Choice {
     let mut items = Vec::new(alloc);
-    for v in 1..nodes + 1 {
+    for v in 1..MANY + 1 {
         let node = named(rt, v);
         net.apply(&Event::Flag(node, true)).expect(rt, "memory");
         items.push(Item { node, wish: None }).expect(rt, "memory");
@@ -169,7 +165,7 @@ fn on_many<G: Gate + Sync, T: Threads + Wait + Sync + Abort>(
     gate: &G,
 ) {
     let mut net = Net::<Manne>::new(alloc, MANY).expect(rt, "a network");
-    let choice = flagged(rt, alloc, &mut net, MANY);
+    let choice = flag_many(rt, alloc, &mut net);
     let found = evaluate(rt, alloc, &net, &choice, workers, gate);
     assert!(rt; found.expect(rt, "verdicts").len() == MANY as usize);
 }

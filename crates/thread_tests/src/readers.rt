@@ -63,19 +63,12 @@ fn a_reader_sees_what_its_clerk_wrote(rt: HostRuntime) {
     assert!(rt; reader.front().expect(&rt, "a view") >= 2);
     assert!(rt; seen_at(&rt, &mut reader, 1) == Some(2));
     assert!(rt; partner_of(&rt, &mut reader, 1) == None);
+    assert!(rt; reader.pointer(named(&rt, 3)) == Err(ReadFault::UnknownNode));
+    assert!(rt; reader.partner(named(&rt, 3)) == Err(ReadFault::UnknownNode));
     expect_accepted(&rt, &mut clerk, &net, point(&rt, 2, 1));
     reader.learn(&mut clerk);
     assert!(rt; partner_of(&rt, &mut reader, 1) == Some(2));
     expect_log(&rt, net, 3);
-}
-
-#[test]
-fn a_reader_knows_no_node_that_is_not_there(rt: HostRuntime) {
-    let net = shared::<HsuHuang>(&rt, rt.alloc(), 2, 9);
-    let mut reader = reader_of(&rt, &net);
-    assert!(rt; reader.pointer(named(&rt, 3)) == Err(ReadFault::UnknownNode));
-    assert!(rt; reader.partner(named(&rt, 3)) == Err(ReadFault::UnknownNode));
-    expect_log(&rt, net, 0);
 }
 
 #[test]
