@@ -5,6 +5,7 @@ use crate::helpers::named;
 use crate::machines::{net_of, play};
 use rule_engine::{Act, GraphFault, Net, RuleSet};
 use rules_hsu_huang::HsuHuang;
+use std::process::Abort;
 
 const NO_NODE: &str = "\
 enabled = none
@@ -139,16 +140,21 @@ fn a_guard_is_the_nodes_rule(rt: HostRuntime) {
     }
 }
 
+/// Compares how many edges a network has, and whether its first two nodes point at each other.
+fn expect_parts(rt: &impl Abort, net: &Net<HsuHuang>, edges: u32, are_married: bool) {
+    let (one, two) = (named(rt, 1), named(rt, 2));
+    assert!(rt; net.store().edges() == edges);
+    assert!(rt; net.registers().points_at(one, two) == are_married);
+    assert!(rt; net.registers().points_at(two, one) == are_married);
+}
+
 #[test]
 fn the_parts_follow_the_rows(rt: HostRuntime) {
-    let (one, two) = (named(&rt, 1), named(&rt, 2));
     let mut net = net_of::<HsuHuang>(&rt, rt.alloc(), 2);
     play(&rt, rt.alloc(), &mut net, A_PAIR);
-    assert!(rt; net.store().edges() == 1);
-    assert!(rt; net.registers().points_at(one, two));
-    assert!(rt; net.registers().points_at(two, one));
+    expect_parts(&rt, &net, 1, true);
     play(&rt, rt.alloc(), &mut net, "unlink 1 2 = ok");
-    assert!(rt; net.store().edges() == 0);
+    expect_parts(&rt, &net, 0, false);
 }
 
 #[test]

@@ -25,38 +25,56 @@ fn point(rt: &impl Abort, state: &mut IndexedState<HsuHuang>, v: Node, w: Node) 
     state.set_pointer(v, Some(w));
 }
 
+/// Compares a node's first open neighbour, and the last one above it.
+fn expect_open(
+    rt: &impl Abort,
+    state: &IndexedState<HsuHuang>,
+    v: Node,
+    first: Node,
+    last_above: Node,
+) {
+    assert!(rt; state.store().has(v));
+    let view = state.at(v);
+    assert!(rt; view.first_open() == Some(first));
+    assert!(rt; view.last_open_above() == Some(last_above));
+}
+
+/// Compares a node's first suitor.
+fn expect_suitor(rt: &impl Abort, state: &IndexedState<HsuHuang>, v: Node, suitor: Option<Node>) {
+    assert!(rt; state.store().has(v));
+    assert!(rt; state.at(v).first_suitor() == suitor);
+}
+
+/// A node's neighbour is its suitor, and not open.
+fn expect_courted(rt: &impl Abort, state: &IndexedState<HsuHuang>, v: Node, suitor: Node) {
+    assert!(rt; state.store().has(v));
+    assert!(rt; state.at(v).is_suitor(suitor));
+    assert!(rt; !state.at(v).is_open(suitor));
+}
+
 #[test]
 fn a_path_has_open_neighbours(rt: HostRuntime) {
     let state = path(&rt, rt.alloc());
     let two = named(&rt, 2);
-    assert!(rt; state.store().has(two));
-    let view = state.at(two);
-    assert!(rt; view.first_suitor().is_none());
-    assert!(rt; view.first_open() == Some(named(&rt, 1)));
-    assert!(rt; view.last_open_above() == Some(named(&rt, 3)));
+    expect_suitor(&rt, &state, two, None);
+    expect_open(&rt, &state, two, named(&rt, 1), named(&rt, 3));
 }
 
 #[test]
 fn a_pointer_makes_a_suitor(rt: HostRuntime) {
     let mut state = path(&rt, rt.alloc());
-    let (one, two) = (named(&rt, 1), named(&rt, 2));
+    let (one, two, three) = (named(&rt, 1), named(&rt, 2), named(&rt, 3));
     point(&rt, &mut state, one, two);
-    assert!(rt; state.store().has(two));
-    let view = state.at(two);
-    assert!(rt; view.first_suitor() == Some(one));
-    assert!(rt; view.is_suitor(one));
-    assert!(rt; !view.is_open(one));
-    assert!(rt; view.first_open() == Some(named(&rt, 3)));
+    expect_suitor(&rt, &state, two, Some(one));
+    expect_courted(&rt, &state, two, one);
+    expect_open(&rt, &state, two, three, three);
 }
 
 #[test]
 fn an_edge_makes_open_neighbours(rt: HostRuntime) {
     let mut state = path(&rt, rt.alloc());
-    let (one, three) = (named(&rt, 1), named(&rt, 3));
-    point(&rt, &mut state, one, named(&rt, 2));
+    let (one, two, three) = (named(&rt, 1), named(&rt, 2), named(&rt, 3));
+    point(&rt, &mut state, one, two);
     link(&rt, &mut state, one, three);
-    assert!(rt; state.store().has(one));
-    let view = state.at(one);
-    assert!(rt; view.first_open() == Some(named(&rt, 2)));
-    assert!(rt; view.last_open_above() == Some(three));
+    expect_open(&rt, &state, one, two, three);
 }

@@ -44,30 +44,44 @@ fn has<R: Rules>(
     journal.entry(number) == Some(&entry_of(rt, alloc, row))
 }
 
+/// Compares the number of a journal's last entry.
+fn expect_last<R: Rules>(rt: &impl Abort, journal: &Journal<R>, last: u32) {
+    assert!(rt; journal.len() == last);
+    assert!(rt; journal.entry(0).is_none());
+    assert!(rt; journal.entry(last).is_some() == (last > 0));
+    assert!(rt; journal.entry(last.saturating_add(1)).is_none());
+}
+
+fn expect_edges<R: Rules>(rt: &impl Abort, journal: &Journal<R>, edges: u32) {
+    assert!(rt; journal.net().store().edges() == edges);
+}
+
 #[test]
 fn an_event_is_an_entry_and_a_receipt(rt: HostRuntime) {
     let mut journal = Journal::<HsuHuang>::new(rt.alloc(), 2).expect(&rt, "a journal");
-    assert!(rt; journal.len() == 0);
+    expect_last(&rt, &journal, 0);
     let rows = "link 1 2 = ok\nlink 2 1 = refused 3 already-linked";
     play(&rt, rt.alloc(), &mut journal, rows);
     assert!(rt; has(&rt, rt.alloc(), &journal, 1, "link 1 2 = ok"));
-    assert!(rt; journal.entry(0).is_none());
-    assert!(rt; journal.entry(2).is_some());
-    assert!(rt; journal.entry(3).is_none());
-    assert!(rt; journal.net().store().edges() == 1);
+    expect_last(&rt, &journal, 2);
+    expect_edges(&rt, &journal, 1);
+}
+
+/// A journal has no room for an event.
+fn has_no_room<R: Rules>(rt: &impl Abort, journal: &mut Journal<R>, event: Event) {
+    assert!(rt; journal.is_full());
+    assert!(rt; journal.record(event).err() == Some(RecordFault::LogFull));
 }
 
 #[test]
 fn a_full_log_takes_no_event(rt: HostRuntime) {
     let mut journal = journal_of::<HsuHuang>(&rt, rt.alloc(), 2, 1);
     play(&rt, rt.alloc(), &mut journal, "link 1 2 = ok");
-    let status = journal.record(Event::Status).err();
-    assert!(rt; status == Some(RecordFault::LogFull));
-    assert!(rt; journal.is_full());
+    has_no_room(&rt, &mut journal, Event::Status);
     let unlink = Event::Unlink(named(&rt, 1), named(&rt, 2));
-    assert!(rt; journal.record(unlink).err() == Some(RecordFault::LogFull));
-    assert!(rt; journal.len() == 1);
-    assert!(rt; journal.net().store().edges() == 1);
+    has_no_room(&rt, &mut journal, unlink);
+    expect_last(&rt, &journal, 1);
+    expect_edges(&rt, &journal, 1);
 }
 
 #[test]
@@ -96,14 +110,31 @@ fn a_journal_has_at_most_65535_nodes(rt: HostRuntime) {
     assert!(rt; fault == Some(GraphFault::TooManyNodes));
 }
 
+/// Compares the number of the entry that an accepted event makes, or why there is none.
+fn logs<R: Rules>(
+    rt: &impl Abort,
+    recorder: &mut Recorder<R>,
+    event: &Event,
+    wanted: Result<u32, RecordFault>,
+) {
+    match recorder.log(event) {
+        Ok(answer) => assert!(rt; answer.reply == Reply::Accepted && wanted == Ok(answer.seq)),
+        Err(fault) => assert!(rt; wanted == Err(fault)),
+    }
+}
+
 #[test]
 fn an_entry_is_numbered_and_not_kept(rt: HostRuntime) {
     let mut recorder = Recorder::<HsuHuang>::with_limit(rt.alloc(), 2, 1).expect(&rt, "memory");
     assert!(rt; !recorder.is_full());
     let link = Event::Link(named(&rt, 1), named(&rt, 2));
-    let answer = recorder.log(&link).expect(&rt, "room");
-    assert!(rt; answer.seq == 1 && answer.reply == Reply::Accepted);
+    logs(&rt, &mut recorder, &link, Ok(1));
     assert!(rt; recorder.is_full());
-    assert!(rt; recorder.log(&Event::Enabled) == Err(RecordFault::LogFull));
+    logs(
+        &rt,
+        &mut recorder,
+        &Event::Enabled,
+        Err(RecordFault::LogFull),
+    );
     assert!(rt; recorder.len() == 1);
 }

@@ -26,8 +26,6 @@ mod indexed_states;
 #[cfg(test)]
 mod journals;
 #[cfg(test)]
-mod long_path;
-#[cfg(test)]
 mod long_runs;
 #[cfg(test)]
 mod machines;
@@ -46,13 +44,9 @@ mod prepared;
 #[cfg(test)]
 mod replays;
 #[cfg(test)]
-mod script_runs;
-#[cfg(test)]
 mod small_networks;
 #[cfg(test)]
 mod stores;
-#[cfg(test)]
-mod told;
 #[cfg(test)]
 mod unread_transcripts;
 #[cfg(test)]

@@ -1,9 +1,6 @@
 //! Writers that take little or fail.
 
-use auditor::Summary;
 use byte_output::{OutputFault, finish, write_whole};
-use command_line::{CheckEnd, check};
-use script_run::RunFault;
 use std::io::{self, Error, ErrorKind, Write};
 
 /// A writer that takes at most `at_once` bytes a call, and counts. Its call number `fails_at` is interrupted, and the
@@ -59,23 +56,4 @@ fn an_interrupted_write_is_not_tried_again(rt: HostRuntime) {
     let mut full = writer_of(0, 0);
     assert!(rt; write_whole(&mut full, b"0") == Err(OutputFault));
     assert!(rt; full.calls == 1);
-}
-
-#[test]
-fn a_verdict_is_one_write(rt: HostRuntime) {
-    let header = b"matching hh 2\n".as_slice();
-    let line = b"accepted: 0 entries, 1 epochs, 0 moves\n".as_slice();
-    let counted = Summary {
-        entries: 0,
-        epochs: 1,
-        moves: 0,
-    };
-    let (mut reader, mut writer) = (header, writer_of(1_000, 0));
-    let end = check(rt.alloc(), &mut reader, &mut writer);
-    assert!(rt; end == Ok(CheckEnd::Accepted(counted)));
-    assert!(rt; writer.calls == 1 && writer.taken == line.len() && writer.flushes == 1);
-    let (mut again, mut broken) = (header, writer_of(1_000, 1));
-    let failed = check(rt.alloc(), &mut again, &mut broken);
-    assert!(rt; failed == Err(RunFault::Write));
-    assert!(rt; broken.calls == 1 && broken.flushes == 0);
 }

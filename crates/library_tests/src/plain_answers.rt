@@ -2,7 +2,26 @@
 
 use crate::helpers::named;
 use crate::machines::{plain_of, play};
-use rule_machine::{Act, Event, Item, Outcome, RuleSet};
+use plain_machine::PlainNet;
+use rule_machine::{Act, Event, Item, Node, Outcome, RuleSet};
+use std::alloc::Global;
+use std::process::Abort;
+
+/// Compares the targets of a node that may seduce.
+fn expect_targets(
+    rt: &impl Abort,
+    alloc: Global,
+    net: &PlainNet,
+    v: Node,
+    first: Node,
+    second: Node,
+) {
+    let targets = net.allowed_targets(alloc, RuleSet::Hh, v, Act::Seduce);
+    let targets = targets.expect(rt, "memory");
+    assert!(rt; targets.as_slice() == [first, second].as_slice());
+    assert!(rt; net.least_target(RuleSet::Hh, v, Act::Seduce) == Some(first));
+    assert!(rt; net.is_allowed(RuleSet::Hh, v, Act::Seduce, first));
+}
 
 /// Node 1 is between 2 and 3, and all pointers are null.
 #[test]
@@ -11,17 +30,11 @@ fn a_rule_has_its_targets(rt: HostRuntime) {
     let mut plain = plain_of(&rt, rt.alloc(), RuleSet::Hh, 3);
     play(&rt, rt.alloc(), &mut plain, "link 1 2 = ok\nlink 1 3 = ok");
     assert!(rt; plain.net.rule_at(RuleSet::Hh, one) == Some(Act::Seduce));
-    assert!(rt; plain.net.least_target(RuleSet::Hh, one, Act::Seduce) == Some(two));
-    assert!(rt; plain.net.is_allowed(RuleSet::Hh, one, Act::Seduce, two));
+    expect_targets(&rt, rt.alloc(), &plain.net, one, two, three);
     assert!(rt; plain.net.refusal(RuleSet::Hh, &Event::Show(one)).is_none());
     let wish = Item {
         node: two,
         wish: Some(three),
     };
     assert!(rt; plain.net.outcome(RuleSet::Hh, wish) == Outcome::Wrong);
-    let targets = plain
-        .net
-        .allowed_targets(rt.alloc(), RuleSet::Hh, one, Act::Seduce)
-        .expect(&rt, "memory");
-    assert!(rt; targets.as_slice() == [two, three].as_slice());
 }

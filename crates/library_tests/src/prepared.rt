@@ -70,27 +70,36 @@ fn link(rt: &impl Abort) -> Event {
     Event::Link(named(rt, 1), named(rt, 2))
 }
 
+/// What is prepared is the first entry, of an accepted event.
+fn expect_first(rt: &impl Abort, prepared: &Prepared) {
+    assert!(rt; prepared.receipt().seq == 1);
+    assert!(rt; prepared.receipt().reply == Reply::Accepted);
+}
+
 #[test]
 fn an_entry_is_there_once_it_is_committed(rt: HostRuntime) {
     let mut journal = journal_of::<HsuHuang>(&rt, rt.alloc(), 2, 9);
     let prepared = journal.prepare(link(&rt)).expect(&rt, "room");
-    assert!(rt; prepared.receipt().seq == 1);
-    assert!(rt; prepared.receipt().reply == Reply::Accepted);
+    expect_first(&rt, &prepared);
     assert!(rt; journal.len() == 0);
     let receipt = journal.commit(prepared);
     assert!(rt; receipt.event == link(&rt));
     assert!(rt; journal.len() == 1);
 }
 
+/// Prepares an event and drops it.
+fn drop_prepared<R: Rules>(rt: &impl Abort, journal: &mut Journal<R>, event: Event) {
+    assert!(rt; journal.prepare(event).is_ok());
+    assert!(rt; journal.len() == 0);
+    assert!(rt; journal.net().store().edges() == 0);
+}
+
 #[test]
 fn what_is_dropped_has_changed_nothing(rt: HostRuntime) {
     let mut journal = journal_of::<HsuHuang>(&rt, rt.alloc(), 2, 9);
-    let dropped = journal.prepare(link(&rt)).is_ok();
-    assert!(rt; dropped && journal.len() == 0);
-    assert!(rt; journal.net().store().edges() == 0);
+    drop_prepared(&rt, &mut journal, link(&rt));
     let prepared = journal.prepare(link(&rt)).expect(&rt, "room");
-    assert!(rt; prepared.receipt().seq == 1);
-    assert!(rt; prepared.receipt().reply == Reply::Accepted);
+    expect_first(&rt, &prepared);
 }
 
 #[test]

@@ -8,6 +8,8 @@
 //! and at three 1 with no edge, 4 with one (3 networks), 12 with two (3 networks) and 27 with three: 76. With flags
 //! each counts twice for each node.
 
+ghost use Rattle.std.specs.Prelude.{◌<◌};
+
 use crate::helpers::named;
 use crate::machines::{Plain, moves_in, net_of, plain_of};
 use judge::Judge;
@@ -146,11 +148,18 @@ impl<R: Rules> Twins<R> {
     }
 }
 
+/// How many values a digit of a choice's number has: 1 + (n + 1)(n + 2).
+fn digits_of(nodes: u8) -> u32
+    ensures { 0 < result }
+{
+    let names = u32::from(nodes) + 2;
+    1 + (names - 1) * names
+}
+
 /// The choice of a number: its digits in base 1 + (n + 1)(n + 2), the lowest first, where 0 stands for no item, and each
 /// other counts a node 1 to n + 1, and its wish 1 to n + 1, or 0 for none.
 fn choice_of(rt: &impl Abort, alloc: Global, nodes: u8, number: u32) -> Choice {
-    let names = u32::from(nodes) + 2;
-    let digits = 1 + (names - 1) * names;
+    let (names, digits) = (u32::from(nodes) + 2, digits_of(nodes));
     let mut rest = number;
     let mut items = Vec::new(alloc);
     for _ in 0..3 {
@@ -166,8 +175,7 @@ fn choice_of(rt: &impl Abort, alloc: Global, nodes: u8, number: u32) -> Choice {
 
 /// Every choice of up to two items in the state. Answers how many.
 fn try_pairs<R: Rules>(rt: &impl Abort, alloc: Global, twins: &mut Twins<R>) -> u64 {
-    let names = u32::from(twins.nodes) + 2;
-    let digits = 1 + (names - 1) * names;
+    let digits = digits_of(twins.nodes);
     let mut tried = 0u64;
     for number in 0..digits.wrapping_mul(digits) {
         if number == 0 || number % digits > 0 {

@@ -1,5 +1,5 @@
 //! Tests of what threads share: boards and networks and their readers, clerks of one network and those that roam, and workers that share a
-//! choice.
+//! choice; and of runs with a limit on their log, which may have such workers.
 #![tactic(auto)]
 
 #[cfg(test)]
@@ -16,3 +16,5 @@ mod pool;
 mod readers;
 #[cfg(test)]
 mod roaming;
+#[cfg(test)]
+mod script_runs;

@@ -52,6 +52,14 @@ fn partner_of(rt: &impl Abort, reader: &mut BoardReader<HsuHuang>, v: u32) -> Op
     seen.partner.map(Node::name)
 }
 
+/// A reader knows no node of this name.
+fn expect_unknown(rt: &impl Abort, reader: &mut BoardReader<HsuHuang>, v: u32)
+    ensures { reader.new.name ≡ reader.old.name }
+{
+    assert!(rt; reader.pointer(named(rt, v)) == Err(ReadFault::UnknownNode));
+    assert!(rt; reader.partner(named(rt, v)) == Err(ReadFault::UnknownNode));
+}
+
 #[test]
 fn a_reader_sees_what_its_clerk_wrote(rt: HostRuntime) {
     let net = shared::<HsuHuang>(&rt, rt.alloc(), 2, 9);
@@ -63,8 +71,7 @@ fn a_reader_sees_what_its_clerk_wrote(rt: HostRuntime) {
     assert!(rt; reader.front().expect(&rt, "a view") >= 2);
     assert!(rt; seen_at(&rt, &mut reader, 1) == Some(2));
     assert!(rt; partner_of(&rt, &mut reader, 1) == None);
-    assert!(rt; reader.pointer(named(&rt, 3)) == Err(ReadFault::UnknownNode));
-    assert!(rt; reader.partner(named(&rt, 3)) == Err(ReadFault::UnknownNode));
+    expect_unknown(&rt, &mut reader, 3);
     expect_accepted(&rt, &mut clerk, &net, point(&rt, 2, 1));
     reader.learn(&mut clerk);
     assert!(rt; partner_of(&rt, &mut reader, 1) == Some(2));
