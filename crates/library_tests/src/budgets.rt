@@ -27,7 +27,7 @@ fn epoch(start: u32, moves: u32, edges: u32, nodes: u32) -> Epoch {
     }
 }
 
-const TWO_DISTURBANCES: &str = "\
+const A_PAIR: &str = "\
 link 1 2 = ok
 step 1 = 1:seduce>2
 link 1 2 = refused 3 already-linked
@@ -35,14 +35,15 @@ point 1 1 = refused 6 not-neighbour
 status = nodes=2 edges=1 pairs=0 enabled=1 charge=3 spent=1
 step 2 = 2:marry>1
 step 2 1 = 1:update 2:update
-unlink 1 2 = ok
 ";
 
 /// Refusals and questions begin no epoch.
 #[test]
 fn an_epoch_begins_at_a_disturbance(rt: HostRuntime) {
     let mut journal = journal_of::<Manne>(&rt, rt.alloc(), 2, 9);
-    play(&rt, rt.alloc(), &mut journal, TWO_DISTURBANCES);
+    play(&rt, rt.alloc(), &mut journal, A_PAIR);
+    assert!(rt; journal.spent() == 4);
+    play(&rt, rt.alloc(), &mut journal, "unlink 1 2 = ok");
     assert!(rt; journal.spent() == 0);
     let wanted = [epoch(0, 0, 0, 2), epoch(1, 4, 1, 2), epoch(8, 0, 0, 2)];
     expect_epochs(&rt, &journal, &wanted);

@@ -200,20 +200,40 @@ fn expect_seen(rt: &impl Abort, journal: &Journal<HsuHuang>, seen: &[SeenPointer
     }
 }
 
+/// What a reader sees of 1 beside two busy clerks, each of which has an edge of its own; at last the first lets 1 point at 2.
+fn seen_beside_two<T: Threads + Wait + Sync + Abort>(
+    rt: &T,
+    alloc: Global,
+    net: &Net,
+    first: &mut Clerk,
+) -> Vec<SeenPointer>
+    ensures { HasNoteOf (book_of net.now) first.new }
+{
+    let mut second = clerk_of(rt, net);
+    expect_accepted(rt, first, net, link(rt, 1, 2));
+    expect_accepted(rt, &mut second, net, link(rt, 3, 4));
+    let mut reader = reader_of(rt, net);
+    let seen = seen_beside(rt, alloc, net, first, &mut second, &mut reader);
+    expect_accepted(rt, first, net, point(rt, 1, 2));
+    seen
+}
+
+/// How many entries a new reader has seen once it has learnt of a clerk.
+fn front_behind<W: Wait + Abort>(rt: &W, net: &Net, clerk: &mut Clerk) -> u32
+    requires { HasNoteOf (book_of net.now) clerk.old }
+{
+    let mut reader = reader_of(rt, net);
+    reader.learn(clerk);
+    reader.front().expect(rt, "a view")
+}
+
 #[test]
 fn a_reader_beside_busy_clerks_sees_what_the_log_has(rt: HostRuntime) {
     let net = shared::<HsuHuang>(&rt, rt.alloc(), 4, 9_999);
     let mut first = clerk_of(&rt, &net);
-    let mut second = clerk_of(&rt, &net);
-    expect_accepted(&rt, &mut first, &net, link(&rt, 1, 2));
-    expect_accepted(&rt, &mut second, &net, link(&rt, 3, 4));
-    let mut reader = reader_of(&rt, &net);
-    let seen = seen_beside(&rt, rt.alloc(), &net, &mut first, &mut second, &mut reader);
-    expect_accepted(&rt, &mut first, &net, point(&rt, 1, 2));
-    let mut late = reader_of(&rt, &net);
-    late.learn(&mut first);
-    let whole = late.front();
+    let seen = seen_beside_two(&rt, rt.alloc(), &net, &mut first);
+    let whole = front_behind(&rt, &net, &mut first);
     let journal = net.into_journal(&rt);
-    assert!(rt; whole == Ok(journal.len()));
+    assert!(rt; whole == journal.len());
     expect_seen(&rt, &journal, &seen);
 }

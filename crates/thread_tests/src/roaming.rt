@@ -8,7 +8,8 @@ use rules_hsu_huang::HsuHuang;
 use std::alloc::Global;
 use std::process::Abort;
 use std::sync::Wait;
-use steal_pool::NoGate;
+use std::thread::Threads;
+use steal_pool::{Gate, NoGate};
 use step_log::Journal;
 
 /// Two clerks who have called nobody.
@@ -22,6 +23,16 @@ fn linked_pair<W: Wait + Abort>(rt: &W, alloc: Global, limit: u32) -> (LockedNet
     let mut clerk = clerk_of(rt, &net);
     expect_link(rt, &mut clerk, &net, 1, 2);
     (net, clerk)
+}
+
+/// Lets clerks roam, each for 100 turns at most.
+fn roam_a_while<G: Gate + Sync, T: Threads + Wait + Sync>(
+    rt: &T,
+    net: &LockedNet<HsuHuang>,
+    clerks: &mut [Clerk],
+    gate: &G,
+) -> Result<(), RoamFault> {
+    roam(rt, net, clerks, 100, gate)
 }
 
 /// How many receipts these clerks have together.
@@ -63,7 +74,7 @@ fn is_paired(rt: &impl Abort, journal: &mut Journal<HsuHuang>) -> bool {
 fn two_clerks_roam(rt: HostRuntime) {
     let (net, first) = linked_pair(&rt, rt.alloc(), 9);
     let mut clerks = two_clerks(&rt, rt.alloc(), &net);
-    assert!(rt; roam(&rt, &net, &mut clerks, 100, &NoGate) == Ok(()));
+    assert!(rt; roam_a_while(&rt, &net, &mut clerks, &NoGate) == Ok(()));
     assert!(rt; receipt_count(&clerks) == 2);
     let mut journal = settled(&rt, net, clerks, first);
     assert!(rt; journal.len() == 3);
@@ -74,7 +85,7 @@ fn two_clerks_roam(rt: HostRuntime) {
 fn nobody_roams(rt: HostRuntime) {
     let (net, _) = linked_pair(&rt, rt.alloc(), 9);
     let mut clerks = Vec::new(rt.alloc());
-    let ended = roam(&rt, &net, &mut clerks, 100, &NoGate);
+    let ended = roam_a_while(&rt, &net, &mut clerks, &NoGate);
     assert!(rt; ended == Err(RoamFault::ZeroWorkers));
     expect_log(&rt, net, 1);
 }
@@ -83,7 +94,7 @@ fn nobody_roams(rt: HostRuntime) {
 fn clerks_roam_until_the_log_is_full(rt: HostRuntime) {
     let (net, first) = linked_pair(&rt, rt.alloc(), 2);
     let mut clerks = two_clerks(&rt, rt.alloc(), &net);
-    let ended = roam(&rt, &net, &mut clerks, 100, &NoGate);
+    let ended = roam_a_while(&rt, &net, &mut clerks, &NoGate);
     assert!(rt; ended == Err(RoamFault::LogFull));
     assert!(rt; receipt_count(&clerks) == 1);
     assert!(rt; settled(&rt, net, clerks, first).len() == 2);
@@ -97,7 +108,7 @@ fn two_roamers_meet(rt: HostRuntime) {
     };
     let (net, first) = linked_pair(&rt, rt.alloc(), 9);
     let mut clerks = two_clerks(&rt, rt.alloc(), &net);
-    assert!(rt; roam(&rt, &net, &mut clerks, 100, &gate) == Ok(()));
+    assert!(rt; roam_a_while(&rt, &net, &mut clerks, &gate) == Ok(()));
     assert!(rt; !gate.meeting.is_missed());
     assert!(rt; settled(&rt, net, clerks, first).len() == 3);
 }
