@@ -40,11 +40,13 @@ step 2 1 = 1:update 2:update
 /// Refusals and questions begin no epoch.
 #[test]
 fn an_epoch_begins_at_a_disturbance(rt: HostRuntime) {
+    let [start, pair, parted] = [epoch(0, 0, 0, 2), epoch(1, 4, 1, 2), epoch(8, 0, 0, 2)];
     let mut journal = journal_of::<Manne>(&rt, rt.alloc(), 2, 9);
+    expect_epochs(&rt, &journal, &[start]);
     play(&rt, rt.alloc(), &mut journal, A_PAIR);
     assert!(rt; journal.spent() == 4);
+    expect_epochs(&rt, &journal, &[start, pair]);
     play(&rt, rt.alloc(), &mut journal, "unlink 1 2 = ok");
     assert!(rt; journal.spent() == 0);
-    let wanted = [epoch(0, 0, 0, 2), epoch(1, 4, 1, 2), epoch(8, 0, 0, 2)];
-    expect_epochs(&rt, &journal, &wanted);
+    expect_epochs(&rt, &journal, &[start, pair, parted]);
 }

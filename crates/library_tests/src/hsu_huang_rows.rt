@@ -21,6 +21,7 @@ charge 2
 step 1 = 1:seduce>2
 enabled = 2:marry
 charge 1
+status = nodes=2 edges=1 pairs=0 enabled=1 charge=1 spent=1
 step 2 = 2:marry>1
 matching = 1-2
 enabled = none

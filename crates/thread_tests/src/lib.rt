@@ -1,5 +1,5 @@
 //! Tests of what threads share: boards and networks and their readers, clerks of one network and those that roam, and workers that share a
-//! choice; and of runs with a limit on their log, which may have such workers.
+//! choice; and of runs, which may have such workers, where their log has a limit or a stream fails.
 #![tactic(auto)]
 
 #[cfg(test)]
@@ -18,3 +18,5 @@ mod readers;
 mod roaming;
 #[cfg(test)]
 mod script_runs;
+#[cfg(test)]
+mod told;

@@ -1,7 +1,8 @@
-//! Runs with a limit on their log.
+//! Runs with a limit on their log, or with a writer that fails, and the texts of their faults.
 
 use script_run::{Options, RuleSet, RunFault, run};
 use std::alloc::Global;
+use std::io::{self, Error, ErrorKind, Write};
 use std::process::Abort;
 use std::sync::Wait;
 use std::thread::Threads;
@@ -62,4 +63,83 @@ fn a_full_log_ends_turns(rt: HostRuntime) {
             (three, end),
         );
     }
+}
+
+/// Compares the text of a fault with what was wanted.
+fn tells(rt: &impl Abort, alloc: Global, fault: RunFault, wanted: &str) {
+    let text = fault.to_string(alloc).expect(rt, "memory");
+    assert!(rt; text.as_str() == wanted, "{wanted}");
+}
+
+#[test]
+fn faults_are_named(rt: HostRuntime) {
+    for (fault, text) in [
+        (RunFault::BadLine { line: 3 }, "line 3: not a command"),
+        (RunFault::LogFull, "log full"),
+        (RunFault::Read, "read failed"),
+        (RunFault::Write, "write failed"),
+        (RunFault::Memory, "out of memory"),
+    ] {
+        tells(&rt, rt.alloc(), fault, text);
+    }
+}
+
+/// A writer that takes a byte at a time, and then as many as `left` none, or fails.
+#[derive(Drop)]
+struct Full {
+    left: usize,
+    fails: bool,
+}
+
+impl Write for Full {
+    fn write(&mut self, buf: &[u8]) -> io::Result<usize> {
+        if buf.is_empty() {
+            return Ok(0);
+        }
+        if self.left == 0 && self.fails {
+            return Err(Error::from(ErrorKind::Interrupted));
+        }
+        if self.left == 0 {
+            return Ok(0);
+        }
+        self.left -= 1;
+        Ok(1)
+    }
+
+    fn flush(&mut self) -> io::Result<()> {
+        if self.left == 0 {
+            return Err(Error::from(ErrorKind::Other));
+        }
+        Ok(())
+    }
+}
+
+/// How a run of one question ends at this writer.
+fn end_at(
+    rt: &(impl Abort + Threads + Wait + Sync),
+    alloc: Global,
+    mut writer: Full,
+) -> Result<(), RunFault> {
+    let mut script = b"show 1\n".as_slice();
+    run(rt, alloc, &mut script, &mut writer, &options(rt, 1, 9))
+}
+
+#[test]
+fn faults_of_a_writer_end_a_run(rt: HostRuntime) {
+    // The header has 14 bytes and the entry 13; then a flush fails.
+    for left in 0..28 {
+        for fails in [false, true] {
+            let end = end_at(&rt, rt.alloc(), Full { left, fails });
+            assert!(rt; end == Err(RunFault::Write));
+        }
+    }
+    let end = end_at(
+        &rt,
+        rt.alloc(),
+        Full {
+            left: 28,
+            fails: true,
+        },
+    );
+    assert!(rt; end == Ok(()));
 }
