@@ -1,4 +1,4 @@
-//! What is told of words and faults, where the program can't be brought to tell it.
+//! What the calls that tell of words and faults say, also where the program can't be brought to make them.
 
 use command_line::{start, tell, tell_no_words};
 use script_run::RunFault;
