@@ -2,8 +2,8 @@
 use Rattle.std.proofs.Common.{◌≡◌, ℕ, ◌⊎◌, inl, inr, List, Option, None, Some, IfSome, Result, Ok, Err, IfOk, IfErr, OnOk, refl, sym, ap, subst}
 use Rattle.std.specs.Io.KnownBytes.{Consumes, IsAtEnd}
 use Rattle.std.proofs.KnownBytes.{Consumes-whole}
-use Rattle.byte_input.specs.declared.fault.InputFault.{InputFault}
-use Rattle.byte_input.specs.declared.fault.InputFault.TheVariants as input
+use Rattle.byte_streams.specs.declared.input_fault.InputFault.{InputFault}
+use Rattle.byte_streams.specs.declared.input_fault.InputFault.TheVariants as input
 use Rattle.auditor.specs.declared.damage.Damage.{Damage}
 use Rattle.auditor.specs.declared.damage.Damage.TheVariants.{BadHeader, NotALine, OutOfOrder, NotTheMachines}
 use Rattle.auditor.specs.declared.damage.JudgeFault.{JudgeFault}

@@ -1,7 +1,7 @@
 -- What the answers of an audit say of the bytes that were judged.
 use Rattle.std.specs.Prelude.{◌≡◌, ℕ, List, Result, Ok, Err, ◌⊎◌}
-use Rattle.byte_input.specs.declared.fault.InputFault.{InputFault}
-use Rattle.byte_input.specs.declared.fault.InputFault.TheVariants as input
+use Rattle.byte_streams.specs.declared.input_fault.InputFault.{InputFault}
+use Rattle.byte_streams.specs.declared.input_fault.InputFault.TheVariants as input
 use Rattle.auditor.specs.declared.damage.Damage.{Damage}
 use Rattle.auditor.specs.declared.damage.Damage.TheVariants as damage
 use Rattle.auditor.specs.declared.damage.JudgeFault.{JudgeFault}

@@ -1,7 +1,7 @@
 //! Why bytes are no transcript.
 
 use crate::damage::{Damage, JudgeFault};
-use byte_input::InputFault;
+use byte_streams::InputFault;
 use thiserror::Error;
 
 /// Why bytes were not accepted: the first line that fails, and the first check that it fails. Lines count from 1.

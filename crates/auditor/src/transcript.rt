@@ -12,7 +12,7 @@ ghost use Rattle.auditor.specs.Verdict.{IsJudged, IsAudited, IsFault, AcceptsRun
 use crate::check::Audit;
 use crate::lines::split_line;
 use crate::{AuditFault, Damage, JudgeFault, Summary};
-use byte_input::{InputFault, read_whole};
+use byte_streams::{InputFault, read_whole};
 use entry_grammar::read_header;
 use std::alloc::Global;
 use std::io::Read;

@@ -11,7 +11,7 @@ use Rattle.rule_machine.specs.Network.{linked, present, names}
 use Rattle.rule_machine.specs.State.{State, IsState, pointer, flag, married}
 use Rattle.rule_machine.specs.RuleTable.{RuleTable, acts, rule_at}
 use Rattle.rule_machine.specs.Step.{IsTarget, IsMoveOf, IsStep, registers_after, after_moves}
-use Rattle.state_lemmas.specs.Neighbours.{present_range}
+use Rattle.machine_laws.specs.Neighbours.{present_range}
 use Rattle.machine_laws.specs.Keeps.{IsMoveIn, moves_keep}
 use Rattle.machine_laws.specs.LeastMoves.{find_passes}
 use Rattle.charge_laws.specs.Counting.{IsIn, IsWithoutRepeats}

@@ -8,8 +8,8 @@ use Rattle.rule_machine.specs.State.{State, IsState, pointer, points, married, h
 use Rattle.rule_machine.specs.Charge.{awaits, is_courted, hsu_huang_closed, hsu_huang_charge}
 use Rattle.rule_machine.specs.HsuHuang.{hsu_huang}
 use Rattle.rule_machine.specs.Step.{IsStep}
-use Rattle.state_lemmas.specs.Neighbours.{linked_apart}
-use Rattle.state_lemmas.specs.Pointers.{points_true, points_from, pointer_linked, no_suitor, suitor_some, suitor_from}
+use Rattle.machine_laws.specs.Neighbours.{linked_apart}
+use Rattle.machine_laws.specs.Pointers.{points_true, points_from, pointer_linked, no_suitor, suitor_some, suitor_from}
 use Rattle.charge_laws.specs.Counting.{IsIn, count_into, count_agree, open_falls}
 use Rattle.charge_laws.specs.Members.{names_without_repeats, in_edges, edge_either}
 use Rattle.charge_laws.specs.Stances.{stance, is_waiting, null_from, null_is, not_null, unanswered_is, married_is}

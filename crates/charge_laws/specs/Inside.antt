@@ -9,8 +9,8 @@ use Rattle.rule_machine.specs.State.{State, IsState, pointer, flag, married, hol
 use Rattle.rule_machine.specs.RuleTable.{RuleTable}
 use Rattle.rule_machine.specs.HsuHuang.{hsu_huang}
 use Rattle.rule_machine.specs.Manne.{manne}
-use Rattle.state_lemmas.specs.Neighbours.{linked_present, near_some}
-use Rattle.state_lemmas.specs.Pointers.{some_is, pointer_linked, suitor_linked, suitor_some, married_some}
+use Rattle.machine_laws.specs.Neighbours.{linked_present, near_some}
+use Rattle.machine_laws.specs.Pointers.{some_is, pointer_linked, suitor_linked, suitor_some, married_some}
 use Rattle.charge_laws.specs.Counting.{IsIn}
 use Rattle.charge_laws.specs.Members.{in_names}
 use Rattle.charge_laws.specs.Deeds.{IsInside, IsDone}

@@ -8,8 +8,8 @@ use Rattle.rule_machine.specs.State.{State, IsState, pointer, flag, points, marr
 use Rattle.rule_machine.specs.Charge.{manne_closed, manne_node_charge, manne_charge}
 use Rattle.rule_machine.specs.Manne.{manne, may_court}
 use Rattle.rule_machine.specs.Step.{IsStep}
-use Rattle.state_lemmas.specs.Neighbours.{linked_pair}
-use Rattle.state_lemmas.specs.Pointers.{points_true, points_from, pointer_linked, null_unmarried, unanswered_unmarried}
+use Rattle.machine_laws.specs.Neighbours.{linked_pair}
+use Rattle.machine_laws.specs.Pointers.{points_true, points_from, pointer_linked, null_unmarried, unanswered_unmarried}
 use Rattle.charge_laws.specs.Counting.{IsIn, sum_agree, count_into, count_agree, open_falls}
 use Rattle.charge_laws.specs.Members.{names_without_repeats, in_edges, edges_contain}
 use Rattle.charge_laws.specs.Stances.{stance, is_waiting, is_paired, null_from, unanswered_is, married_is}

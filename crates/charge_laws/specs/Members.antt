@@ -9,7 +9,7 @@ use Rattle.std.proofs.lemmas.List.{length-map}
 use Rattle.std.proofs.lemmas.List.FromFn.{length-range_with_len}
 use Rattle.std.proofs.lemmas.Cmp.{eq_by_cmp_equiv}
 use Rattle.rule_machine.specs.Network.{Network, pair_cmp, edge, names, present, edge_list, node_count, edge_count}
-use Rattle.state_lemmas.specs.Neighbours.{present_range, present_from}
+use Rattle.machine_laws.specs.Neighbours.{present_range, present_from}
 use Rattle.machine_laws.specs.Edges.{pair_total, pair_exact}
 use Rattle.charge_laws.specs.Counting.{IsIn, IsWithoutRepeats}
 

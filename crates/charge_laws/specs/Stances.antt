@@ -2,7 +2,7 @@
 use Rattle.std.proofs.Common.{◌≡◌, ◌≢◌, ℕ, Bool, true, false, cond, not, Option, None, Some, is_some, is_none, IsTrue, refl, sym, ap, ◌∙◌, true≢false}
 use Rattle.std.proofs.lemmas.Bool.{cond-true, cond-false, false_from_ne_true}
 use Rattle.rule_machine.specs.State.{State, IsState, is_at, holds_at, pointer, is_unanswered, married}
-use Rattle.state_lemmas.specs.Pointers.{at_true, at_from, married_from, null_unmarried, unanswered_unmarried}
+use Rattle.machine_laws.specs.Pointers.{at_true, at_from, married_from, null_unmarried, unanswered_unmarried}
 
 pub data Stance : Type 0 where
   Free : Stance

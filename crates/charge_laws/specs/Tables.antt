@@ -10,8 +10,8 @@ use Rattle.rule_machine.specs.RuleTable.{RuleTable, is_open, least_target}
 use Rattle.rule_machine.specs.HsuHuang.{hsu_huang, hsu_huang_opens}
 use Rattle.rule_machine.specs.Manne.{manne, may_court}
 use Rattle.rule_set.specs.Target.{takes_target}
-use Rattle.state_lemmas.specs.Neighbours.{near_some, near_found, near_fails, present_range, linked_present, linked_back}
-use Rattle.state_lemmas.specs.Pointers.{some_is}
+use Rattle.machine_laws.specs.Neighbours.{near_some, near_found, near_fails, present_range, linked_present, linked_back}
+use Rattle.machine_laws.specs.Pointers.{some_is}
 use Rattle.machine_laws.specs.LeastMoves.{IsTable}
 use Rattle.charge_laws.specs.Inside.{hsu_huang_inside, manne_inside}
 

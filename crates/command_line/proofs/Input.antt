@@ -3,7 +3,7 @@ use Rattle.std.proofs.Common.{◌≡◌, List, ℕ, None, Some, Result, Ok, Err,
 use Rattle.std.specs.Prelude.{IfOk, IfErr, IfSome, OnOk}
 use Rattle.std.specs.Io.KnownBytes.{Consumes, IsAtEnd}
 use Rattle.std.proofs.KnownBytes.{Consumes-whole}
-use Rattle.byte_input.specs.declared.fault.InputFault.{InputFault}
+use Rattle.byte_streams.specs.declared.input_fault.InputFault.{InputFault}
 use Rattle.transcript_view.specs.declared.view.View.{View}
 use Rattle.command_line.specs.Viewed.{Known, TellsView, Views}
 

@@ -1,7 +1,7 @@
 -- What a check of a transcript says.
 use Rattle.std.specs.Prelude.{◌≢◌, ℕ, List, Option, Result, Ok, Err}
 use Rattle.std.specs.Io.KnownBytes.{Appends, Keeps}
-use Rattle.byte_output.specs.Beginning.{AppendsBeginning}
+use Rattle.byte_streams.specs.Beginning.{AppendsBeginning}
 use Rattle.script_run.specs.declared.fault.RunFault.{RunFault}
 use Rattle.script_run.specs.declared.fault.RunFault.TheVariants.{BadLine, LogFull, Read, Write, Memory, Pool}
 use Rattle.auditor.specs.declared.fault.AuditFault.TheVariants as fault

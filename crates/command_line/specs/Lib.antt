@@ -1,3 +1,5 @@
+pub mod Mistake
+pub mod Wanted
 pub mod Status
 pub mod VerdictText
 pub mod FaultText

@@ -1,9 +1,9 @@
 -- How it ends where a transcript is shown: what the writers have got, and the exit status.
 use Rattle.std.specs.Prelude.{◌≡◌, ◌⊎◌, ℕ, List, ◌++◌, Option, Result, Ok, Err, IfOk, codes}
 use Rattle.std.specs.Io.KnownBytes.{Appends, Keeps}
-use Rattle.byte_input.specs.declared.fault.InputFault.{InputFault}
-use Rattle.byte_input.specs.declared.fault.InputFault.TheVariants as input
-use Rattle.byte_output.specs.Beginning.{AppendsBeginning}
+use Rattle.byte_streams.specs.declared.input_fault.InputFault.{InputFault}
+use Rattle.byte_streams.specs.declared.input_fault.InputFault.TheVariants as input
+use Rattle.byte_streams.specs.Beginning.{AppendsBeginning}
 use Rattle.line_text.specs.Words.{number_text}
 use Rattle.auditor.specs.Verdict.{of_damage}
 use Rattle.script_run.specs.declared.fault.RunFault.{RunFault}

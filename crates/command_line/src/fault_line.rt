@@ -2,11 +2,11 @@
 
 ghost use Rattle.std.specs.Prelude.{◌≡◌, ◌++◌, codes, OnOk, OnErr};
 ghost use Rattle.std.specs.Io.KnownBytes.{Appends};
-ghost use Rattle.byte_output.specs.Beginning.{AppendsBeginning};
+ghost use Rattle.byte_streams.specs.Beginning.{AppendsBeginning};
 ghost use Rattle.line_text.specs.Words.{number_text};
 ghost use Rattle.command_line.specs.FaultText.{fault_line, IsPlain};
 
-use byte_output::{OutputFault, finish, write_whole};
+use byte_streams::{OutputFault, finish, write_whole};
 use itoa::Buffer;
 use script_run::RunFault;
 use std::io::Write;

@@ -3,7 +3,7 @@
 ghost use Rattle.std.specs.Prelude.{◌≡◌};
 ghost use Rattle.std.specs.Io.KnownBytes.{Appends};
 
-use byte_output::{OutputFault, flush_once, write_whole};
+use byte_streams::{OutputFault, flush_once, write_whole};
 use clap::Error;
 use std::fmt::{self, Write as _};
 use std::io::Write;

@@ -5,7 +5,7 @@ ghost use Rattle.command_line.specs.Checked.{IsVerdict, TellsVerdict, verdict_of
 
 use crate::verdict_line::verdict_line;
 use auditor::{AuditFault, Summary, audit};
-use byte_output::finish;
+use byte_streams::finish;
 use script_run::RunFault;
 use std::alloc::Global;
 use std::io::{Read, Write};

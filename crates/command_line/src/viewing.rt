@@ -2,7 +2,7 @@
 
 ghost use Rattle.std.specs.Prelude.{◌≡◌, ◌⊎◌, ◌++◌, Err, IfErr, IfOk, IfSome};
 ghost use Rattle.auditor.specs.Verdict.{of_damage};
-ghost use Rattle.byte_output.specs.Beginning.{AppendsBeginning};
+ghost use Rattle.byte_streams.specs.Beginning.{AppendsBeginning};
 ghost use Rattle.transcript_view.specs.Views.{IsPicture, IsTable};
 ghost use Rattle.command_line.specs.FaultText.{fault_line};
 ghost use Rattle.command_line.specs.Status.{IsStatus};
@@ -13,8 +13,7 @@ use crate::program::tell;
 use crate::verdict::CheckEnd;
 use crate::verdict_line::{put_number, verdict_line};
 use auditor::{AuditFault, Damage};
-use byte_input::{InputFault, read_whole};
-use byte_output::finish;
+use byte_streams::{InputFault, finish, read_whole};
 use script_run::RunFault;
 use std::alloc::{AllocError, Global};
 use std::io::{Read, Write};

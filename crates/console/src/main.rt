@@ -2,8 +2,7 @@
 //! scripts from files at once.
 #![tactic(auto)]
 
-use command_line::{end_words, start, tell_no_words};
-use command_words::read_storm;
+use command_line::{end_words, read_storm, start, tell_no_words};
 use script_run::Options;
 use std::fs::File;
 use std::process::ExitCode;

@@ -2,8 +2,8 @@
 use Rattle.std.proofs.Common.{◌≡◌, ℕ, Bool, true, false, cond, Option, None, Some, is_some, option_and_then, refl, sym, ap, ◌∙◌, ⊎_elim}
 use Rattle.std.proofs.lemmas.Bool.{true≢false}
 use Rattle.rule_machine.specs.State.{State, Registers, IsState, pointer, pointer_of, points, partner, married, holds_at}
-use Rattle.state_lemmas.specs.Neighbours.{option_cases}
-use Rattle.state_lemmas.specs.Pointers.{none_is, partner_from, null_unmarried, unanswered_unmarried, points_true, points_from}
+use Rattle.machine_laws.specs.Neighbours.{option_cases}
+use Rattle.machine_laws.specs.Pointers.{none_is, partner_from, null_unmarried, unanswered_unmarried, points_true, points_from}
 
 -- the node that v points at, if it points back
 abbrev pub answered_by : Registers → ℕ → Option ℕ

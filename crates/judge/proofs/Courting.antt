@@ -3,8 +3,8 @@ use Rattle.std.proofs.Common.{◌≡◌, ℕ, ◌+◌, ◌<◌, ◌≤◌, ◌�
 use Rattle.std.proofs.lemmas.Bool.{cases_lt}
 use Rattle.std.proofs.lemmas.Option.{none-some}
 use Rattle.rule_machine.specs.State.{State, IsState, pointer, has_suitor}
-use Rattle.state_lemmas.specs.Neighbours.{present_range, linked_present}
-use Rattle.state_lemmas.specs.Pointers.{pointer_linked, suitor_linked, suitor_some, suitor_from}
+use Rattle.machine_laws.specs.Neighbours.{present_range, linked_present}
+use Rattle.machine_laws.specs.Pointers.{pointer_linked, suitor_linked, suitor_some, suitor_from}
 use Rattle.judge.specs.Courting.{mark_at}
 
 some_same : (x y : ℕ) → Some x ≡ Some y → x ≡ y

@@ -10,7 +10,7 @@ use Rattle.rule_machine.specs.Disturbance.{without_pointer}
 use Rattle.rule_machine.specs.Step.{registers_after}
 use Rattle.rule_machine.specs.Refuse.{both_present, link_refusal, point_refusal}
 use Rattle.machine_laws.specs.Keeps.{link_keeps, unlink_keeps, point_keeps, IsMoveIn, moves_keep}
-use Rattle.state_lemmas.specs.Search.{cond-none}
+use Rattle.machine_laws.specs.Search.{cond-none}
 use Rattle.judge.specs.States.{state_of}
 
 true_from_not : (b : Bool) → not b ≡ false → b ≡ true

@@ -15,8 +15,8 @@ use Rattle.rule_machine.specs.declared.refusal.Refusal.TheVariants.{UnknownNode,
 use Rattle.rule_machine.specs.Refuse.{step_refusal, items_refusal, rule_refusal}
 use Rattle.rule_machine.specs.Least.{item_of}
 use Rattle.machine_laws.specs.Accepted.{choice_from_none, taken_at}
-use Rattle.state_lemmas.specs.Pointers.{none_is}
-use Rattle.replay_laws.specs.Judged.{is_move_of, is_asked, is_answered}
+use Rattle.machine_laws.specs.Pointers.{none_is}
+use Rattle.machine_laws.specs.Judged.{is_move_of, is_asked, is_answered}
 use Rattle.judge.specs.Choices.{item_at, Holds, is_named, is_mover, IsWithin, IsClear, ArePresent, refused_item, is_move_by}
 
 -- ---- searches

@@ -10,7 +10,7 @@ use Rattle.rule_machine.specs.State.{State}
 use Rattle.rule_machine.specs.RuleTable.{RuleTable, rule_at}
 use Rattle.rule_machine.specs.Refuse.{rule_refusal}
 use Rattle.rule_machine.specs.Least.{item_of}
-use Rattle.replay_laws.specs.Judged.{is_move_of}
+use Rattle.machine_laws.specs.Judged.{is_move_of}
 
 -- the item at a name
 abbrev pub item_at : List (Option Item) → ℕ → Option Item

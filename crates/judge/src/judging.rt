@@ -6,7 +6,7 @@ ghost use Rattle.rule_machine.specs.Refuse.{refusal_of};
 ghost use Rattle.rule_machine.specs.RuleTable.{RuleTable};
 ghost use Rattle.rule_machine.specs.State.{State};
 ghost use Rattle.rule_machine.specs.Tables.{table_of};
-ghost use Rattle.replay_laws.specs.Followed.{followed, disturbed};
+ghost use Rattle.machine_laws.specs.Followed.{followed, disturbed};
 ghost use Rattle.judge.specs.Choices.{Holds, IsWithin, IsReady};
 ghost use Rattle.judge.specs.Judging.{TakesMemory, is_link, items_of};
 

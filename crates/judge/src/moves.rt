@@ -2,7 +2,7 @@
 
 ghost use Rattle.std.specs.Prelude.{◌≡◌, ◌<◌, All, fold, length};
 ghost use Rattle.rule_machine.specs.Disturbance.{without_pointer};
-ghost use Rattle.replay_laws.specs.Passes.{flag_read, pointer_written};
+ghost use Rattle.machine_laws.specs.Passes.{flag_read, pointer_written};
 
 use registers::Registers;
 use rule_machine::{Act, Moved, Node};

@@ -8,7 +8,7 @@ ghost use Rattle.rule_machine.specs.RuleTable.{rule_at};
 ghost use Rattle.rule_machine.specs.Refuse as refuse;
 ghost use Rattle.rule_machine.specs.Step.{IsStep, after_moves};
 ghost use Rattle.rule_machine.specs.Tables.{table_of};
-ghost use Rattle.replay_laws.specs.Judged as judged;
+ghost use Rattle.machine_laws.specs.Judged as judged;
 ghost use Rattle.judge.specs.Choices.{item_at, Holds, IsWithin, IsClear, ArePresent, refused_item, is_move_by};
 
 use crate::{Chosen, NetState};

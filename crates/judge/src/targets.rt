@@ -5,7 +5,7 @@ ghost use Rattle.rule_machine.specs.HsuHuang.{hsu_huang_allowed};
 ghost use Rattle.rule_machine.specs.Manne.{manne_allowed};
 ghost use Rattle.rule_machine.specs.Step.{takes_target};
 ghost use Rattle.rule_machine.specs.Tables.{table_of};
-ghost use Rattle.replay_laws.specs.Judged as judged;
+ghost use Rattle.machine_laws.specs.Judged as judged;
 
 use crate::NetState;
 use rule_machine::{Act, Item, Node, RuleSet};

@@ -2,8 +2,7 @@
 
 use crate::helpers::entry_of;
 use log_entry::Entry;
-use plain_judge::replay;
-use plain_machine::PlainNet;
+use plain_machine::{PlainNet, replay};
 use rule_engine::{Act, Event, Net, Node, Reply, RuleSet, Rules};
 use std::alloc::Global;
 use std::process::Abort;

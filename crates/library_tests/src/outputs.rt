@@ -1,6 +1,6 @@
 //! Writers that take little or fail.
 
-use byte_output::{OutputFault, finish, write_whole};
+use byte_streams::{OutputFault, finish, write_whole};
 use std::io::{self, Error, ErrorKind, Write};
 
 /// A writer that takes at most `at_once` bytes a call, and counts. Its call number `fails_at` is interrupted, and the

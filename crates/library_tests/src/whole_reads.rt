@@ -1,6 +1,6 @@
 //! The whole of a reader's bytes, from readers that give little or fail.
 
-use byte_input::{InputFault, read_whole};
+use byte_streams::{InputFault, read_whole};
 use std::io::{self, Error, ErrorKind, Read};
 
 /// A reader that gives a byte at a time. Its read number `fails_at` fails, and the reads after it give bytes again.

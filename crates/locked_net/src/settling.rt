@@ -7,8 +7,8 @@ ghost use Rattle.locked_net.specs.Settled.{receipt_count, Settled, IsFirstStrang
 ghost use Rattle.locked_net.specs.Marks.{IsMarked};
 
 use crate::{Clerk, SettleFault};
+use log_entry::{same_event, same_reply};
 use rule_engine::Rules;
-use same_entry::{same_event, same_reply};
 use std::alloc::Global;
 use step_log::{Journal, Receipt};
 

@@ -1,3 +1,8 @@
+pub mod Search
+pub mod Neighbours
+pub mod Pointers
+pub mod Enabled
+pub mod Shown
 pub mod Edges
 pub mod Writes
 pub mod Keeps
@@ -5,3 +10,10 @@ pub mod LeastMoves
 pub mod Accepted
 pub mod LeastAnswers
 pub mod Runs
+pub mod Judged
+pub mod Followed
+pub mod StepTests
+pub mod AscendingMoves
+pub mod Passes
+pub mod Pairs
+pub mod Laws

@@ -1,3 +1,4 @@
+pub mod Memory
 pub mod Ascending
 pub mod Names
 pub mod Spurned

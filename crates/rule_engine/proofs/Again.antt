@@ -11,8 +11,8 @@ use Rattle.rule_machine.specs.RuleTable.{RuleTable, acts, rule_at, enabled_names
 use Rattle.rule_machine.specs.Disturbance.{after_link, after_unlink, after_point, after_flag}
 use Rattle.rule_machine.specs.Step.{after_moves}
 use Rattle.rule_set.specs.Near.{SameAt}
-use Rattle.state_lemmas.specs.Neighbours.{present_from}
-use Rattle.state_lemmas.specs.Enabled.{quiet_at, act_none}
+use Rattle.machine_laws.specs.Neighbours.{present_from}
+use Rattle.machine_laws.specs.Enabled.{quiet_at, act_none}
 use Rattle.enabled_set.specs.Members.{is_in, members}
 use Rattle.rule_engine.specs.Kept.{is_on, AreOn, IsKept}
 use Rattle.rule_engine.specs.Looked.{is_near, is_near_mover, IsLookedAt}

@@ -20,7 +20,7 @@ use Rattle.rule_machine.specs.State.{State}
 use Rattle.rule_machine.specs.RuleTable.{RuleTable}
 use Rattle.rule_machine.specs.Refuse.{item_refusal, items_refusal}
 use Rattle.rule_machine.specs.Least.{outcome_of, move_in, item_of, least_moves}
-use Rattle.stable_matching.specs.Pairs.{contains_first, contains_rest, contains_empty, contains_cases, filter_map_from}
+use Rattle.machine_laws.specs.Pairs.{contains_first, contains_rest, contains_empty, contains_cases, filter_map_from}
 use Rattle.machine_laws.specs.LeastMoves.{makes_from_outcome, move_at, find_passes}
 use Rattle.machine_laws.specs.LeastAnswers.{find_contains, filter_map_contains, filter_map_nodes, range_increasing, names_contains}
 use Rattle.machine_laws.specs.Accepted.{taken_from_none, taken_at, choice_from_none}

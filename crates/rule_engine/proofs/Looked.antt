@@ -7,7 +7,7 @@ use Rattle.std.proofs.lemmas.List.Folds.{list_any_more}
 use Rattle.rule_machine.specs.Network.{Network, IsNetwork, linked, neighbours}
 use Rattle.rule_machine.specs.State.{State}
 use Rattle.rule_machine.specs.RuleTable.{RuleTable}
-use Rattle.state_lemmas.specs.Neighbours.{present_range, linked_present, linked_back}
+use Rattle.machine_laws.specs.Neighbours.{present_range, linked_present, linked_back}
 use Rattle.rule_engine.specs.Kept.{is_on}
 use Rattle.rule_engine.specs.Looked.{IsLookedAt}
 

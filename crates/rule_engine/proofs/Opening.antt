@@ -5,7 +5,7 @@ use Rattle.std.proofs.lemmas.List.{length-replicate, get_or-replicate, get_or_pa
 use Rattle.rule_machine.specs.Network.{edge}
 use Rattle.rule_machine.specs.State.{opening, pointer}
 use Rattle.rule_machine.specs.Stable.{IsStable}
-use Rattle.state_lemmas.specs.Pointers.{null_unmarried}
+use Rattle.machine_laws.specs.Pointers.{null_unmarried}
 use Rattle.machine_laws.specs.Edges.{contains-empty}
 
 -- a table of one value

@@ -7,7 +7,7 @@ use Rattle.rule_machine.specs.declared.act.Act.{Act}
 use Rattle.rule_machine.specs.Network.{present}
 use Rattle.rule_machine.specs.State.{State}
 use Rattle.rule_machine.specs.RuleTable.{RuleTable, rule_at, enabled_names, enabled}
-use Rattle.state_lemmas.specs.Neighbours.{present_from}
+use Rattle.machine_laws.specs.Neighbours.{present_from}
 use Rattle.rule_engine.specs.Kept.{guard_at, marked_at}
 use Rattle.rule_engine.proofs.Found.{push_is_take, one_found}
 

@@ -7,9 +7,9 @@ use Rattle.rule_machine.specs.State.{State, IsState, pointer, points, holds_at, 
 use Rattle.rule_machine.specs.RuleTable.{enabled_names, is_open}
 use Rattle.rule_machine.specs.HsuHuang.{hsu_huang, hsu_huang_opens}
 use Rattle.rule_machine.specs.Stable.{IsStable}
-use Rattle.state_lemmas.specs.Neighbours.{option_cases, linked_back, linked_present, near_found, near_fails}
-use Rattle.state_lemmas.specs.Pointers.{if_some, if_some_from, points_true, points_from, pointer_linked, suitor_from, suitor_some}
-use Rattle.state_lemmas.specs.Enabled.{quiet_at, quiet_from}
+use Rattle.machine_laws.specs.Neighbours.{option_cases, linked_back, linked_present, near_found, near_fails}
+use Rattle.machine_laws.specs.Pointers.{if_some, if_some_from, points_true, points_from, pointer_linked, suitor_from, suitor_some}
+use Rattle.machine_laws.specs.Enabled.{quiet_at, quiet_from}
 use Rattle.rules_hsu_huang.specs.Rule.{is_taken, has_open}
 
 module _ (s : State) (is_state : IsState s) (quiet : enabled_names hsu_huang s ≡ []) where

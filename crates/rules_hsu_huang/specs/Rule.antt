@@ -6,8 +6,8 @@ use Rattle.rule_machine.specs.State.{State, IsState, pointer, points, is_at, hol
 use Rattle.rule_machine.specs.RuleTable.{rule_at, is_open, first_open}
 use Rattle.rule_machine.specs.HsuHuang.{hsu_huang, hsu_huang_opens}
 use Rattle.rule_set.specs.Near.{SameAt}
-use Rattle.state_lemmas.specs.Shown.{same_find, same_pointer, same_suitor}
-use Rattle.state_lemmas.specs.Pointers.{pointer_linked}
+use Rattle.machine_laws.specs.Shown.{same_find, same_pointer, same_suitor}
+use Rattle.machine_laws.specs.Pointers.{pointer_linked}
 
 -- the rule of a node that points at this, has a suitor or not, has an open neighbour or not, and leaves whom it tests
 abbrev pub rule_by : Option ℕ → Bool → Bool → (ℕ → Bool) → Option Act

@@ -9,8 +9,8 @@ use Rattle.rule_machine.specs.State.{State, IsState, pointer, suits, first_suito
 use Rattle.rule_machine.specs.RuleTable.{rule_at, least_target, is_open, first_open}
 use Rattle.rule_machine.specs.HsuHuang.{hsu_huang, hsu_huang_opens}
 use Rattle.rule_set.specs.Target.{target_by, target_at, takes_target}
-use Rattle.state_lemmas.specs.Neighbours.{near_found, near_fails, near_agree}
-use Rattle.state_lemmas.specs.Pointers.{some_is}
+use Rattle.machine_laws.specs.Neighbours.{near_found, near_fails, near_agree}
+use Rattle.machine_laws.specs.Pointers.{some_is}
 use Rattle.rules_hsu_huang.specs.Rule.{rule_by, rule_cases, is_taken, has_open}
 
 -- an allowed target is a neighbour, of a rule that takes one

@@ -9,7 +9,7 @@ use Rattle.rule_machine.specs.Network.{IsNetwork, linked, neighbours, names}
 use Rattle.rule_machine.specs.State.{State}
 use Rattle.rule_machine.specs.RuleTable.{last_open_above}
 use Rattle.rule_machine.specs.Manne.{manne_opens, may_court}
-use Rattle.state_lemmas.specs.Neighbours.{option_cases, present_range, linked_back, linked_present, near_found, near_fails}
+use Rattle.machine_laws.specs.Neighbours.{option_cases, present_range, linked_back, linked_present, near_found, near_fails}
 
 -- the last item that passes
 abbrev pub last : {X : Type 0} → (X → Bool) → List X → Option X

@@ -7,9 +7,9 @@ use Rattle.rule_machine.specs.State.{State, IsState, pointer, flag, points, hold
 use Rattle.rule_machine.specs.RuleTable.{enabled_names, is_open}
 use Rattle.rule_machine.specs.Manne.{manne, manne_opens, may_court}
 use Rattle.rule_machine.specs.Stable.{IsStable}
-use Rattle.state_lemmas.specs.Neighbours.{option_cases, present_range, linked_back, linked_present, linked_apart, near_found, near_fails}
-use Rattle.state_lemmas.specs.Pointers.{if_some, if_some_from, points_true, points_from, pointer_linked, suitor_from, suitor_some, married_from, null_unmarried}
-use Rattle.state_lemmas.specs.Enabled.{quiet_at, quiet_from}
+use Rattle.machine_laws.specs.Neighbours.{option_cases, present_range, linked_back, linked_present, linked_apart, near_found, near_fails}
+use Rattle.machine_laws.specs.Pointers.{if_some, if_some_from, points_true, points_from, pointer_linked, suitor_from, suitor_some, married_from, null_unmarried}
+use Rattle.machine_laws.specs.Enabled.{quiet_at, quiet_from}
 use Rattle.rules_manne.specs.Rule.{is_lost, courts, flag_from_settled, settled_from_flag}
 
 -- a test of four parts

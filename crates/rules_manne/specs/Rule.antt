@@ -8,8 +8,8 @@ use Rattle.rule_machine.specs.State.{State, IsState, pointer, flag, points, is_a
 use Rattle.rule_machine.specs.RuleTable.{rule_at}
 use Rattle.rule_machine.specs.Manne.{manne, manne_opens, may_court}
 use Rattle.rule_set.specs.Near.{SameAt}
-use Rattle.state_lemmas.specs.Shown.{same_find, same_pointer, same_suitor, same_married}
-use Rattle.state_lemmas.specs.Pointers.{pointer_linked}
+use Rattle.machine_laws.specs.Shown.{same_find, same_pointer, same_suitor, same_married}
+use Rattle.machine_laws.specs.Pointers.{pointer_linked}
 use Rattle.rules_manne.specs.Greatest.{greatest, greatest_reaches}
 
 -- the rule of a node that is settled or not, points at this, has a suitor or not, may court someone or not, and leaves

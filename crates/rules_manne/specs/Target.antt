@@ -9,8 +9,8 @@ use Rattle.rule_machine.specs.State.{State, IsState, pointer, flag, is_at, suits
 use Rattle.rule_machine.specs.RuleTable.{rule_at, least_target}
 use Rattle.rule_machine.specs.Manne.{manne, may_court}
 use Rattle.rule_set.specs.Target.{target_by, target_at, takes_target}
-use Rattle.state_lemmas.specs.Neighbours.{option_cases, near_none, near_some, near_found, near_fails, near_agree}
-use Rattle.state_lemmas.specs.Pointers.{none_is, at_true, at_from, null_unmarried}
+use Rattle.machine_laws.specs.Neighbours.{option_cases, near_none, near_some, near_found, near_fails, near_agree}
+use Rattle.machine_laws.specs.Pointers.{none_is, at_true, at_from, null_unmarried}
 use Rattle.rules_manne.specs.Greatest.{greatest, greatest_none, greatest_some, greatest_reaches}
 use Rattle.rules_manne.specs.Rule.{rule_by, rule_cases, null_rule, is_lost, courts}
 

@@ -6,10 +6,10 @@ use Rattle.std.specs.Io.KnownBytes.{Appends}
 use Rattle.std.proofs.KnownBytes.{Appends-nil, Appends-trans}
 use Rattle.rule_machine.specs.RuleTable.{RuleTable}
 use Rattle.std.specs.Prelude.{OnErr, IsErr, IfSome}
-use Rattle.script_line.specs.declared.command.Command.{Command}
-use Rattle.script_line.specs.Command.{Says}
-use Rattle.script_machine.specs.Script.{Progress, CommandDoes, LineDoes, LinesDo}
-use Rattle.byte_output.specs.Beginning.{AppendsBeginning, AppendsLess}
+use Rattle.script_text.specs.declared.command.Command.{Command}
+use Rattle.script_text.specs.Command.{Says}
+use Rattle.script_text.specs.Script.{Progress, CommandDoes, LineDoes, LinesDo}
+use Rattle.byte_streams.specs.Beginning.{AppendsBeginning, AppendsLess}
 use Rattle.script_run.specs.declared.stop.Stop.{Stop}
 use Rattle.script_run.specs.declared.stop.Stop.TheVariants.{BadLine, LogFull}
 use Rattle.script_run.specs.declared.stop.End.{End}

@@ -6,10 +6,10 @@ use Rattle.rule_machine.specs.RuleTable.{RuleTable}
 use Rattle.rule_machine.specs.Least.{reply_of}
 use Rattle.rule_machine.specs.Run.{Moment}
 use Rattle.line_text.specs.EntryText.{entry_line}
-use Rattle.script_line.specs.declared.command.Command.{Command}
-use Rattle.script_line.specs.declared.command.Command.TheVariants.{Tell, Drive, Scramble}
+use Rattle.script_text.specs.declared.command.Command.{Command}
+use Rattle.script_text.specs.declared.command.Command.TheVariants.{Tell, Drive, Scramble}
 use Rattle.seeded_turns.specs.Drawn.{Draws, seeded_stream, drawn_step, drawn_fault}
-use Rattle.script_machine.specs.Script.{Progress, IsEntry, IsFull, EventDoes, TurnDoes, TurnsDo, TurnFills, TurnsFill, CommandDoes, CommandFills, LineDoes, MeetsFullLog}
+use Rattle.script_text.specs.Script.{Progress, IsEntry, IsFull, EventDoes, TurnDoes, TurnsDo, TurnFills, TurnsFill, CommandDoes, CommandFills, LineDoes, MeetsFullLog}
 
 -- where a run stands
 abbrev pub at_line : Moment → ℕ → List ℕ → Progress

@@ -7,7 +7,7 @@ use Rattle.rule_machine.specs.RuleTable.{RuleTable}
 use Rattle.rule_machine.specs.Least.{reply_of}
 use Rattle.line_text.specs.EntryText.{entry_line}
 use Rattle.seeded_turns.specs.Drawn.{Draws}
-use Rattle.script_machine.specs.Script.{Progress, IsEntry, EventDoes, TurnDoes, TurnsDo, TurnFills, TurnsFill}
+use Rattle.script_text.specs.Script.{Progress, IsEntry, EventDoes, TurnDoes, TurnsDo, TurnFills, TurnsFill}
 use Rattle.script_run.specs.Line.{Grows, EventEnds}
 
 -- So many turns were taken: what the others do from here on, all do from the beginning on.

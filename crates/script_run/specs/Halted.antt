@@ -2,7 +2,7 @@
 use Rattle.std.specs.Prelude.{◌≡◌, ℕ, List, ◌++◌, Option, Result, Ok, Err}
 use Rattle.std.specs.Io.KnownBytes.{Appends}
 use Rattle.rule_machine.specs.RuleTable.{RuleTable}
-use Rattle.script_machine.specs.Script.{Progress, LinesDo}
+use Rattle.script_text.specs.Script.{Progress, LinesDo}
 use Rattle.script_run.specs.declared.fault.RunFault.{RunFault}
 use Rattle.script_run.specs.declared.fault.RunFault.TheVariants as fault
 use Rattle.script_run.specs.declared.stop.Stop.TheVariants.{BadLine, LogFull}

@@ -1,6 +1,6 @@
 -- What a fault of the input is in a run.
-use Rattle.byte_input.specs.declared.fault.InputFault.{InputFault}
-use Rattle.byte_input.specs.declared.fault.InputFault.TheVariants as input
+use Rattle.byte_streams.specs.declared.input_fault.InputFault.{InputFault}
+use Rattle.byte_streams.specs.declared.input_fault.InputFault.TheVariants as input
 use Rattle.script_run.specs.declared.fault.RunFault.{RunFault}
 use Rattle.script_run.specs.declared.fault.RunFault.TheVariants.{Read, Memory}
 

@@ -5,9 +5,9 @@ use Rattle.rule_machine.specs.declared.event.Event.{Event}
 use Rattle.rule_machine.specs.RuleTable.{RuleTable}
 use Rattle.rule_machine.specs.Run.{Moment}
 use Rattle.step_log.specs.Recording.{Recording}
-use Rattle.script_line.specs.declared.command.Command.{Command}
+use Rattle.script_text.specs.declared.command.Command.{Command}
 use Rattle.seeded_turns.specs.Drawn.{Draws}
-use Rattle.script_machine.specs.Script.{Progress, EventDoes, TurnsDo, TurnsFill, CommandDoes, CommandFills, LineDoes, IsBadLine, MeetsFullLog}
+use Rattle.script_text.specs.Script.{Progress, EventDoes, TurnsDo, TurnsFill, CommandDoes, CommandFills, LineDoes, IsBadLine, MeetsFullLog}
 use Rattle.script_run.specs.declared.stop.Stop.{Stop}
 use Rattle.script_run.specs.declared.stop.Stop.TheVariants.{BadLine, LogFull}
 

@@ -6,8 +6,8 @@ use Rattle.rule_machine.specs.RuleTable.{RuleTable}
 use Rattle.rule_machine.specs.Run as run
 use Rattle.rule_machine.specs.Tables.{table_of}
 use Rattle.line_text.specs.EntryText.{header_line}
-use Rattle.script_machine.specs.Script.{Progress, LinesDo, IsBadLine, MeetsFullLog, lines_of}
-use Rattle.byte_output.specs.Beginning.{AppendsBeginning}
+use Rattle.script_text.specs.Script.{Progress, LinesDo, IsBadLine, MeetsFullLog, lines_of}
+use Rattle.byte_streams.specs.Beginning.{AppendsBeginning}
 use Rattle.script_run.specs.declared.fault.RunFault.{RunFault}
 use Rattle.script_run.specs.declared.fault.RunFault.TheVariants.{BadLine, LogFull, Read, Write, Memory, Pool}
 

@@ -1,8 +1,8 @@
 -- How far a script was read and carried out.
 use Rattle.std.specs.Prelude.{◌≡◌, ℕ, List, [], ◌++◌, length, Option, None, Some, Result, Ok, Err}
 use Rattle.rule_machine.specs.RuleTable.{RuleTable}
-use Rattle.script_machine.specs.Script.{Progress, LinesDo, IsLine, lines_of}
-use Rattle.byte_output.specs.Beginning.{AppendsLess}
+use Rattle.script_text.specs.Script.{Progress, LinesDo, IsLine, lines_of}
+use Rattle.byte_streams.specs.Beginning.{AppendsLess}
 use Rattle.script_run.specs.declared.stop.End.{End}
 use Rattle.script_run.specs.Halted.{Hands, Halts}
 use Rattle.script_run.specs.Outcome.{LeadsTo}

@@ -1,7 +1,6 @@
 //! Why a run ends early.
 
-use byte_input::InputFault;
-use byte_output::OutputFault;
+use byte_streams::{InputFault, OutputFault};
 use steal_pool::PoolFault;
 use thiserror::Error;
 

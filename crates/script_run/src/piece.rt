@@ -1,7 +1,7 @@
 //! The lines in a piece of a script.
 
 ghost use Rattle.std.specs.Prelude.{◌≡◌, ◌<◌, ◌≤◌, ◌+◌, ◌^◌, ◌++◌, ℕ, List, [], Option, length, IfOk, IfSome, IsNone, OnOk};
-ghost use Rattle.script_machine.specs.Script.{Progress, lines_of};
+ghost use Rattle.script_text.specs.Script.{Progress, lines_of};
 ghost use Rattle.script_run.specs.declared.stop.End.TheVariants.{Whole};
 ghost use Rattle.script_run.specs.Halted.{Halts, Hands};
 ghost use Rattle.script_run.specs.Line.{progress, LineEnds};
@@ -11,10 +11,10 @@ use crate::place::Place;
 use crate::runner::Run;
 use crate::stop::{End, Stop};
 use crate::writing::hand_over;
-use byte_output::OutputFault;
+use byte_streams::OutputFault;
 use rule_machine::Want;
 use rule_set::Rules;
-use script_machine::{MAX_LINE, ended_line};
+use script_text::{MAX_LINE, ended_line};
 use std::alloc::Global;
 use std::io::Write;
 use std::sync::Wait;

@@ -3,7 +3,7 @@
 ghost use Rattle.std.specs.Prelude.{◌≡◌, ◌<◌, ◌≤◌, [], length, take, IfOk};
 ghost use Rattle.std.specs.Io.KnownBytes.{Consumes, IsAtEnd};
 
-use byte_input::InputFault;
+use byte_streams::InputFault;
 use std::alloc::{AllocError, Global};
 use std::io::Read;
 

@@ -2,8 +2,8 @@
 
 ghost use Rattle.std.specs.Prelude.{◌≡◌, IfOk, IfSome, OnErr, length};
 ghost use Rattle.std.specs.Io.KnownBytes.{Appends, IsAtEnd};
-ghost use Rattle.script_machine.specs.Script.{Progress, lines_of};
-ghost use Rattle.byte_output.specs.Beginning.{AppendsBeginning};
+ghost use Rattle.script_text.specs.Script.{Progress, lines_of};
+ghost use Rattle.byte_streams.specs.Beginning.{AppendsBeginning};
 ghost use Rattle.script_run.specs.Halted.{Halts, Hands, answered};
 ghost use Rattle.script_run.specs.Line.{progress, EventEnds, TurnsEnd, CommandEnds, LineEnds};
 ghost use Rattle.script_run.specs.declared.stop.End.TheVariants.{Whole};
@@ -14,11 +14,11 @@ use crate::place::Place;
 use crate::reading::{chunk_of, read_on};
 use crate::stop::{End, Stop};
 use crate::writing::hand_over_all;
-use byte_output::{OutputFault, finish};
+use byte_streams::{OutputFault, finish};
 use line_text::{put_entry, put_header};
 use rule_machine::{Event, Want};
 use rule_set::Rules;
-use script_line::{Command, read_line};
+use script_text::{Command, read_line};
 use seeded_turns::{DaemonTurns, EventSource, FaultTurns};
 use std::alloc::{AllocError, Global};
 use std::io::{Read, Write};

@@ -1,10 +1,10 @@
 //! When the text of a run is written.
 
 ghost use Rattle.std.specs.Prelude.{◌≡◌, ◌<◌, [], length, OnOk, OnErr};
-ghost use Rattle.byte_output.specs.Beginning.{AppendsBeginning, AppendsLess};
+ghost use Rattle.byte_streams.specs.Beginning.{AppendsBeginning, AppendsLess};
 ghost use Rattle.script_run.specs.Halted.{Hands};
 
-use byte_output::{OutputFault, finish, write_whole};
+use byte_streams::{OutputFault, finish, write_whole};
 use std::io::Write;
 
 /// How long a text grows before it is handed over.

@@ -3,7 +3,7 @@ use Rattle.std.proofs.Common.{◌≡◌, ◌+◌, ℕ, List, ◌++◌, length, t
 use Rattle.std.proofs.Math.Seq.{take-append-add}
 use Rattle.std.specs.Io.KnownBytes.{Appends}
 use Rattle.std.proofs.KnownBytes.{Appends-trans}
-use Rattle.byte_output.specs.Beginning.{AppendsLess}
+use Rattle.byte_streams.specs.Beginning.{AppendsLess}
 
 -- a front of a text, and less than what follows it, are less than all of it
 front_less : (old mid new : Option (List ℕ)) (front text : List ℕ) → Appends old mid front → AppendsLess mid new text → AppendsLess old new (front ++ text)

@@ -6,9 +6,9 @@ use Rattle.line_text.specs.LogText.{transcript}
 use Rattle.step_log.specs.Log.{Log}
 use Rattle.locked_net.specs.declared.call_fault.CallFault.{CallFault}
 use Rattle.locked_net.specs.declared.call_fault.CallFault.TheVariants.{Behind, LogFull, Memory}
-use Rattle.script_line.specs.declared.script.ScriptLine.{ScriptLine}
+use Rattle.script_text.specs.declared.script.ScriptLine.{ScriptLine}
 use Rattle.script_run.specs.Asked.{Asked}
-use Rattle.script_texts.specs.Readers.{AllHold}
+use Rattle.script_text.specs.Readers.{AllHold}
 use Rattle.storm_call.specs.declared.fault.StormFault.{StormFault}
 use Rattle.storm_call.specs.declared.fault.StormFault.TheVariants as storm
 use Rattle.storm_call.specs.Faults.{of_call}

@@ -2,10 +2,10 @@
 use Rattle.locked_net.specs.declared.call_fault.CallFault.{CallFault}
 use Rattle.locked_net.specs.declared.call_fault.CallFault.TheVariants as call
 use Rattle.locked_net.specs.declared.settle_fault.SettleFault.TheVariants as settle
-use Rattle.script_texts.specs.declared.fault.TextsFault.{TextsFault}
-use Rattle.script_texts.specs.declared.fault.TextsFault.TheVariants as texts
-use Rattle.storm_run.specs.declared.fault.PlayFault.{PlayFault}
-use Rattle.storm_run.specs.declared.fault.PlayFault.TheVariants as play
+use Rattle.script_text.specs.declared.fault.TextsFault.{TextsFault}
+use Rattle.script_text.specs.declared.fault.TextsFault.TheVariants as texts
+use Rattle.storm_call.specs.declared.play_fault.PlayFault.{PlayFault}
+use Rattle.storm_call.specs.declared.play_fault.PlayFault.TheVariants as play
 use Rattle.storm_call.specs.declared.fault.StormFault.{StormFault}
 use Rattle.storm_call.specs.declared.fault.StormFault.TheVariants.{TooManyScripts, BadLine, LogFull, Read, Memory, Behind, Unsettled}
 

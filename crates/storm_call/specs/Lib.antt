@@ -1,3 +1,7 @@
+pub mod Storm
+pub mod Played
+pub mod PlayFaults
+pub mod Roaming
 pub mod Faults
 pub mod FaultText
 pub mod Status

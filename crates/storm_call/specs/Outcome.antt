@@ -10,15 +10,15 @@ use Rattle.rule_machine.specs.Network.{node_count}
 use Rattle.rule_machine.specs.RuleTable.{RuleTable}
 use Rattle.rule_machine.specs.Tables.{table_of}
 use Rattle.line_text.specs.LogText.{transcript}
-use Rattle.byte_output.specs.Beginning.{AppendsBeginning}
+use Rattle.byte_streams.specs.Beginning.{AppendsBeginning}
 use Rattle.step_log.specs.Log.{Log, IsLog}
 use Rattle.locked_net.specs.declared.call_fault.CallFault.{CallFault}
 use Rattle.locked_net.specs.declared.call_fault.CallFault.TheVariants as call
 use Rattle.locked_net.specs.declared.settle_fault.SettleFault.TheVariants as settle
-use Rattle.script_line.specs.declared.script.ScriptLine.{ScriptLine}
-use Rattle.storm_run.specs.Storm.{IsStorm}
+use Rattle.script_text.specs.declared.script.ScriptLine.{ScriptLine}
+use Rattle.storm_call.specs.Storm.{IsStorm}
 use Rattle.script_run.specs.Asked.{Asked}
-use Rattle.script_texts.specs.Readers.{AllHold, FirstBadScript}
+use Rattle.script_text.specs.Readers.{AllHold, FirstBadScript}
 use Rattle.storm_call.specs.declared.fault.StormFault.{StormFault}
 use Rattle.storm_call.specs.declared.fault.StormFault.TheVariants.{TooManyScripts, BadLine, LogFull, Read, Write, Memory, Behind, Thread, Unsettled}
 

@@ -1,7 +1,7 @@
 -- How the parts of a storm fail.
 use Rattle.std.specs.Prelude.{◌≢◌, ℕ, List, Option}
 use Rattle.std.specs.Io.KnownBytes.{Keeps}
-use Rattle.byte_output.specs.Beginning.{AppendsBeginning}
+use Rattle.byte_streams.specs.Beginning.{AppendsBeginning}
 use Rattle.locked_net.specs.declared.settle_fault.SettleFault.TheVariants as settle
 use Rattle.storm_call.specs.declared.fault.StormFault.{StormFault}
 use Rattle.storm_call.specs.declared.fault.StormFault.TheVariants.{Write, Memory, Unsettled}

@@ -1,7 +1,7 @@
 //! How a program ends that ran a storm.
 
 ghost use Rattle.std.specs.Prelude.{◌≡◌};
-ghost use Rattle.byte_output.specs.Beginning.{AppendsBeginning};
+ghost use Rattle.byte_streams.specs.Beginning.{AppendsBeginning};
 ghost use Rattle.storm_call.specs.FaultText.{end_line};
 ghost use Rattle.storm_call.specs.Status.{status_of, end_status};
 

@@ -1,10 +1,10 @@
 //! Why a storm of scripts ends as it should not.
 
-use byte_output::OutputFault;
+use crate::PlayFault;
+use byte_streams::OutputFault;
 use locked_net::{CallFault, SettleFault};
-use script_texts::TextsFault;
+use script_text::TextsFault;
 use std::alloc::AllocError;
-use storm_run::PlayFault;
 use thiserror::Error;
 
 /// Why scripts were not all read, played to their ends and written.

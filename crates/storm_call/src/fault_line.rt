@@ -2,12 +2,12 @@
 
 ghost use Rattle.std.specs.Prelude.{◌≡◌, ◌++◌, codes, OnOk, OnErr};
 ghost use Rattle.std.specs.Io.KnownBytes.{Appends};
-ghost use Rattle.byte_output.specs.Beginning.{AppendsBeginning, AppendsLess};
+ghost use Rattle.byte_streams.specs.Beginning.{AppendsBeginning, AppendsLess};
 ghost use Rattle.line_text.specs.Words.{number_text};
 ghost use Rattle.storm_call.specs.FaultText.{fault_line, IsPlain};
 
 use crate::StormFault;
-use byte_output::{OutputFault, finish, write_whole};
+use byte_streams::{OutputFault, finish, write_whole};
 use itoa::Buffer;
 use locked_net::SettleFault;
 use std::io::Write;

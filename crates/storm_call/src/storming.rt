@@ -6,23 +6,21 @@ ghost use Rattle.step_log.specs.Held.{log_of};
 ghost use Rattle.storm_call.specs.Outcome.{Leaves, Ends, IsOutcome};
 ghost use Rattle.storm_call.specs.Parts.{FailsToPlay};
 
-use crate::StormFault;
 use crate::text::write_log;
+use crate::{Crew, StormFault, play_scripts};
 use locked_net::{CallFault, LockedNet};
 use rule_machine::RuleSet;
 use rule_set::Rules;
 use rules_hsu_huang::HsuHuang;
 use rules_manne::Manne;
-use script_line::Script;
 use script_run::Options;
-use script_texts::read_scripts;
+use script_text::{Script, read_scripts};
 use std::alloc::Global;
 use std::io::{Read, Write};
 use std::sync::Wait;
 use std::thread::Threads;
 use steal_pool::Gate;
 use step_log::Journal;
-use storm_run::Crew;
 
 // Plays scripts on a new network, with workers who roam beside them: the log that they leave, with the first fault that was met.
 fn play<R: Rules + Send + Sync, G: Gate + Sync, T: Threads + Wait + Sync>(
@@ -44,7 +42,7 @@ fn play<R: Rules + Send + Sync, G: Gate + Sync, T: Threads + Wait + Sync>(
         roamers: options.roamers(),
         turns: options.turns(),
     };
-    Ok(storm_run::storm(rt, alloc, net, scripts, crew, gate)?)
+    Ok(play_scripts(rt, alloc, net, scripts, crew, gate)?)
 }
 
 fn storm_on<

@@ -5,9 +5,8 @@ ghost use Rattle.std.specs.Io.KnownBytes.{Appends};
 ghost use Rattle.line_text.specs.LogText.{transcript};
 ghost use Rattle.storm_call.specs.Parts.{FailsToWrite};
 
-use crate::StormFault;
-use byte_output::finish;
-use log_text::put_log;
+use crate::{StormFault, put_log};
+use byte_streams::finish;
 use rule_set::Rules;
 use script_run::Options;
 use std::alloc::Global;

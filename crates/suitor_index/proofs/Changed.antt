@@ -6,8 +6,8 @@ use Rattle.rule_machine.specs.Network.{Network, linked, neighbours, present}
 use Rattle.rule_machine.specs.State.{State, Registers, IsState, pointer_of, flag_of}
 use Rattle.rule_machine.specs.RuleTable.{is_open}
 use Rattle.machine_laws.specs.Writes.{pointer-with_pointer_other, flag-with_flag_other, if_some_from}
-use Rattle.state_lemmas.specs.Neighbours.{linked_back, linked_present, present_range}
-use Rattle.state_lemmas.specs.Pointers.{pointer_linked}
+use Rattle.machine_laws.specs.Neighbours.{linked_back, linked_present, present_range}
+use Rattle.machine_laws.specs.Pointers.{pointer_linked}
 use Rattle.suitor_index.specs.declared.tally.Tally.{Tally}
 use Rattle.suitor_index.specs.Tallies.{state_of, tally_of, IsIndexOf}
 use Rattle.suitor_index.specs.Told.{IsCourted, IsRepointed, IsTurned, HasSuitor, HasRoomFor, CanTurn}

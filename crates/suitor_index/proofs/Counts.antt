@@ -4,7 +4,7 @@ use Rattle.std.specs.List.{sum_by}
 use Rattle.rule_machine.specs.Network.{present, neighbours}
 use Rattle.rule_machine.specs.State.{State, IsState, suits, has_suitor, first_suitor}
 use Rattle.rule_machine.specs.RuleTable.{is_open, first_open, last_open_above}
-use Rattle.state_lemmas.specs.Neighbours.{near_some, linked_back, linked_present, present_range}
+use Rattle.machine_laws.specs.Neighbours.{near_some, linked_back, linked_present, present_range}
 use Rattle.suitor_index.specs.declared.tally.Tally.{Tally}
 use Rattle.suitor_index.specs.Tallies.{tally_of, is_open_above, name_if, IsIndexOf}
 use Rattle.suitor_index.proofs.Sums.{count_some, count_none, count_one, count_reverse}

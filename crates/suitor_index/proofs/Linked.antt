@@ -8,9 +8,9 @@ use Rattle.rule_machine.specs.Network.{Network, pair_cmp, edge, linked, present,
 use Rattle.rule_machine.specs.State.{Registers, IsState, points, pointer_of, flag_of}
 use Rattle.rule_machine.specs.Refuse.{link_refusal, both_present}
 use Rattle.machine_laws.specs.Edges.{pair_total, pair_exact, contains-insert, contains-remove, edge_ends, linked_comm}
-use Rattle.state_lemmas.specs.Search.{cond-none}
-use Rattle.state_lemmas.specs.Neighbours.{linked_apart, linked_present, linked_back}
-use Rattle.state_lemmas.specs.Pointers.{points_true, pointer_linked}
+use Rattle.machine_laws.specs.Search.{cond-none}
+use Rattle.machine_laws.specs.Neighbours.{linked_apart, linked_present, linked_back}
+use Rattle.machine_laws.specs.Pointers.{points_true, pointer_linked}
 use Rattle.suitor_index.specs.declared.tally.Tally.{Tally}
 use Rattle.suitor_index.specs.Tallies.{state_of, tally_of, IsIndexOf}
 use Rattle.suitor_index.specs.Told.{one_if, IsOpenTo, CanOpen, CountsOpen}

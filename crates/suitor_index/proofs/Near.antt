@@ -8,7 +8,7 @@ use Rattle.std.proofs.lemmas.List.FromFn.{length-range_with_len, get_or-range_wi
 use Rattle.std.proofs.lemmas.List.Kept.{IsStrictlyIncreasing-filter}
 use Rattle.std.proofs.lemmas.List.Sums.{sum_by-cons}
 use Rattle.rule_machine.specs.Network.{Network, IsNetwork, linked, neighbours, names, present}
-use Rattle.state_lemmas.specs.Neighbours.{linked_back, linked_present, present_range}
+use Rattle.machine_laws.specs.Neighbours.{linked_back, linked_present, present_range}
 use Rattle.suitor_index.proofs.Sums.{sum_filter, sum_same, sum_turn, sum_small, sum_ones}
 
 -- the term of a name that may be a neighbour

@@ -5,8 +5,8 @@ use Rattle.std.proofs.lemmas.Bool.{lt-ltb}
 use Rattle.rule_machine.specs.Network.{Network, IsNetwork, linked, neighbours, present}
 use Rattle.rule_machine.specs.State.{State, Registers, IsState, is_at, points, pointer_of, flag_of}
 use Rattle.rule_machine.specs.RuleTable.{is_open}
-use Rattle.state_lemmas.specs.Neighbours.{linked_back}
-use Rattle.state_lemmas.specs.Pointers.{points_true, suitor_linked, at_from}
+use Rattle.machine_laws.specs.Neighbours.{linked_back}
+use Rattle.machine_laws.specs.Pointers.{points_true, suitor_linked, at_from}
 use Rattle.suitor_index.specs.declared.tally.Tally.{Tally}
 use Rattle.suitor_index.specs.Tallies.{state_of, tally_of, tally_at, is_open_above, IsIndexOf}
 use Rattle.suitor_index.specs.Told.{one_if, IsCourted, IsRepointed, IsTurned, HasSuitor, HasRoomFor, CanTurn}

@@ -5,7 +5,7 @@ use Rattle.rule_machine.specs.State.{State, IsState, pointer, flag, flag_of, poi
 use Rattle.rule_machine.specs.Refuse.{link_refusal}
 use Rattle.rule_machine.specs.Disturbance.{after_link, after_point, after_flag}
 use Rattle.machine_laws.specs.Writes.{pointer-with_pointer_same, flag-with_flag_same}
-use Rattle.state_lemmas.specs.Neighbours.{present_range}
+use Rattle.machine_laws.specs.Neighbours.{present_range}
 use Rattle.suitor_index.specs.declared.tally.Tally.{Tally}
 use Rattle.suitor_index.specs.Tallies.{IsIndexOf}
 use Rattle.suitor_index.specs.Before.{IsBeforeLink, IsBeforeUnlink, IsBeforePoint, IsBeforeFlag}

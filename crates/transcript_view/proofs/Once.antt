@@ -3,7 +3,7 @@ use Rattle.std.proofs.Common.{◌≡◌, ◌∙◌, ℕ, List, Option, map, sym,
 use Rattle.rule_machine.specs.declared.rules.RuleSet.{RuleSet}
 use Rattle.rule_machine.specs.State.{State}
 use Rattle.rule_machine.specs.Run.{Epoch}
-use Rattle.picture_text.specs.Picture.{picture_of}
+use Rattle.transcript_view.specs.Picture.{picture_of}
 use Rattle.transcript_view.specs.Table.{epoch_table}
 use Rattle.transcript_view.specs.Views.{IsPicture, IsPictureOf, IsTable, IsTableOf, SameView}
 use Rattle.transcript_view.specs.declared.view.View.{View}

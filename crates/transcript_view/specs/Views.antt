@@ -6,7 +6,7 @@ use Rattle.rule_machine.specs.Run.{Epoch}
 use Rattle.auditor.specs.Damage.{IsDamage}
 use Rattle.auditor.specs.Epochs.{AreEpochs, IsWithinItsBound}
 use Rattle.auditor.specs.Reached.{HasTooFew, IsLookedAt, IsStateAfter, line_of}
-use Rattle.picture_text.specs.Picture.{picture_of}
+use Rattle.transcript_view.specs.Picture.{picture_of}
 use Rattle.transcript_view.specs.declared.view.View.{View}
 use Rattle.transcript_view.specs.declared.view.View.TheVariants.{Text, Refused, TooFew}
 use Rattle.transcript_view.specs.Table.{epoch_table}

@@ -3,9 +3,9 @@
 ghost use Rattle.std.specs.Prelude.{◌≡◌, IfOk};
 ghost use Rattle.transcript_view.specs.Views.{IsPicture, IsTable};
 
+use crate::picture;
 use crate::table::epoch_table;
 use auditor::{Damage, JudgeFault, ReplayFault, epochs_of, state_after};
-use picture_text::picture;
 use rule_machine::Want;
 use std::alloc::{AllocError, Global};
 

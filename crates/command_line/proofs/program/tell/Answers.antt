@@ -1,5 +1,5 @@
 use Rattle.command_line.specs.FaultText.{fault_line}
-use Rattle.byte_output.proofs.Telling.{either_begins}
+use Rattle.byte_streams.proofs.Telling.{either_begins}
 use Rattle.command_line.proofs.program.tell.Goals as goal
 
 pub returns-clause-told : goal.returns-clause-told

@@ -3,9 +3,9 @@ use Rattle.std.specs.declared.io.ErrorKind as io
 use Rattle.std.specs.declared.io.ErrorKind.TheVariants.{InvalidData}
 use Rattle.std.specs.contracts.io.ErrorKind.{the_type}
 use denote.Enum.Bare.{same_true}
-use Rattle.byte_output.specs.Beginning.{AppendsBeginning}
+use Rattle.byte_streams.specs.Beginning.{AppendsBeginning}
 use Rattle.command_line.specs.FaultText.{no_words_line}
-use Rattle.byte_output.proofs.Telling.{either_begins}
+use Rattle.byte_streams.proofs.Telling.{either_begins}
 use Rattle.command_line.proofs.program.tell_no_words.Goals as goal
 
 pub returns-then-eq-clause-told : goal.returns-then-eq-clause-told

@@ -1,5 +1,5 @@
 use Rattle.std.proofs.Common.{◌≡◌, fold, drop, length}
-use Rattle.replay_laws.specs.Passes.{pointer_written}
+use Rattle.machine_laws.specs.Passes.{pointer_written}
 use Rattle.judge.proofs.moves.write_pointers.Given as goal
 
 abbrev pub invariant-loop-made : goal.invariant-loop-made

@@ -1,6 +1,6 @@
 use Rattle.std.proofs.Common.{◌-◌, get_or, arith}
 use Rattle.std.proofs.lemmas.Bool.{false≢true}
-use Rattle.replay_laws.specs.AscendingMoves.{above, not_above, one_more, not_here}
+use Rattle.machine_laws.specs.AscendingMoves.{above, not_above, one_more, not_here}
 use Rattle.judge.proofs.steps.are_ascending.Goals as goal
 
 pub returns-then-le : goal.returns-then-le

@@ -1,7 +1,7 @@
 use Rattle.std.proofs.Common.{subst}
 use Rattle.std.specs.Io.KnownBytes.{Appends}
-use Rattle.script_machine.specs.Script.{Progress, lines_of}
-use Rattle.byte_output.specs.Beginning.{AppendsBeginning}
+use Rattle.script_text.specs.Script.{Progress, lines_of}
+use Rattle.byte_streams.specs.Beginning.{AppendsBeginning}
 use Rattle.script_run.specs.Halted.{Hands, Halts, ended, answered}
 use Rattle.script_run.specs.Line.{progress}
 use Rattle.script_run.specs.Outcome.{Ends, LeadsTo, beginning}

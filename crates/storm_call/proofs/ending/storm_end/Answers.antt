@@ -1,6 +1,6 @@
 use Rattle.std.proofs.Common.{Result, sym, subst}
-use Rattle.byte_output.specs.Beginning.{AppendsBeginning}
-use Rattle.byte_output.proofs.Telling.{either_begins}
+use Rattle.byte_streams.specs.Beginning.{AppendsBeginning}
+use Rattle.byte_streams.proofs.Telling.{either_begins}
 use Rattle.storm_call.specs.declared.fault.StormFault.{StormFault}
 use Rattle.storm_call.specs.FaultText.{fault_line, end_line}
 use Rattle.storm_call.proofs.ending.storm_end.Goals as goal

@@ -1,6 +1,6 @@
 use Rattle.std.proofs.Common.{◌++◌, codes}
 use Rattle.line_text.specs.Words.{number_text}
-use Rattle.byte_output.proofs.Telling.{front_begins, less_begins, third_whole, third_begins, begins_at_err}
+use Rattle.byte_streams.proofs.Telling.{front_begins, less_begins, third_whole, third_begins, begins_at_err}
 use Rattle.storm_call.proofs.fault_line.write_bad_line.Goals as goal
 
 pub returns-in_err-write_numbered-clause-fault : goal.returns-in_err-write_numbered-clause-fault

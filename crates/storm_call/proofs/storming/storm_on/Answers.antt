@@ -1,6 +1,6 @@
 use Rattle.std.proofs.Common.{List, map, subst}
 use Rattle.script_run.specs.Asked.{asked_of}
-use Rattle.script_line.specs.declared.script.ScriptLine.{ScriptLine}
+use Rattle.script_text.specs.declared.script.ScriptLine.{ScriptLine}
 use Rattle.step_log.specs.Held.{log_of}
 use Rattle.storm_call.specs.Outcome.{Leaves}
 use Rattle.storm_call.proofs.Outcomes.{told_failed, told_met, done_all}

@@ -1,7 +1,7 @@
 use Rattle.std.proofs.Common.{◌∙◌, ◌&&◌, true, sym, ap}
 use Rattle.std.specs.List.{list_all}
 use Rattle.rule_machine.specs.Tables.{table_of}
-use Rattle.replay_laws.specs.Judged.{is_asked, is_answered}
+use Rattle.machine_laws.specs.Judged.{is_asked, is_answered}
 use Rattle.judge.proofs.Table.{held_present, asked_by, left_answered, within_left, within_from_all}
 use Rattle.judge.proofs.net_state.NetState.are_of_items.Goals as goal
 use Rattle.judge.proofs.net_state.NetState.are_of_items.Goals.{then-not-fits_daemon-via-then-not-fits_daemon, then-not-fits_daemon-via-else-not-fits_daemon+then-not-are_asked}

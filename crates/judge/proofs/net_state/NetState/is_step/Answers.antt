@@ -1,6 +1,6 @@
 use Rattle.std.proofs.Common.{sym, ◌∙◌}
 use Rattle.rule_machine.specs.Tables.{table_of}
-use Rattle.replay_laws.specs.StepTests.{step_from_tests, tests_from_step}
+use Rattle.machine_laws.specs.StepTests.{step_from_tests, tests_from_step}
 use Rattle.judge.proofs.Table.{within_from_all}
 use Rattle.judge.proofs.net_state.NetState.is_step.Goals as goal
 

@@ -2,7 +2,7 @@ use Rattle.std.proofs.Common.{◌≡◌, ◌<◌, ◌≤◌, ◌∙◌, None, So
 use Rattle.std.proofs.lemmas.List.{length-set}
 use Rattle.std.proofs.lemmas.Bool.{leb-true, and_parts}
 use Rattle.rule_machine.specs.Tables.{table_of}
-use Rattle.state_lemmas.specs.Pointers.{none_is}
+use Rattle.machine_laws.specs.Pointers.{none_is}
 use Rattle.judge.specs.Choices.{item_at, refused_item, is_named}
 use Rattle.judge.proofs.Table.{item_refused, refusal_more, refusal_here, held_more, item_taken, within_from_held}
 use Rattle.judge.proofs.net_state.NetState.items_refusal.Goals as goal

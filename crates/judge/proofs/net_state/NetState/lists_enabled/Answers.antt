@@ -6,7 +6,7 @@ use Rattle.rule_machine.specs.declared.act.Act.{Act}
 use Rattle.std.specs.Prelude.{slice_get}
 use Rattle.rule_machine.specs.Tables.{table_of}
 use Rattle.rule_machine.specs.RuleTable.{rule_at, enabled}
-use Rattle.state_lemmas.specs.Neighbours.{present_from}
+use Rattle.machine_laws.specs.Neighbours.{present_from}
 use Rattle.judge.proofs.Listed.{some_iff_at, passed, stood, differs, ended}
 use Rattle.judge.proofs.net_state.NetState.lists_enabled.Goals as goal
 use Rattle.judge.proofs.net_state.NetState.lists_enabled.Goals.{in-Some+else-not-has_rule, in_default}

@@ -5,7 +5,7 @@ use Rattle.std.proofs.lemmas.Option.{slice_get_within}
 use Rattle.std.specs.Prelude.{slice_get}
 use Rattle.rule_machine.specs.State.{partner}
 use Rattle.rule_machine.specs.Stable.{mutual_pairs, pair_above}
-use Rattle.state_lemmas.specs.Neighbours.{present_from}
+use Rattle.machine_laws.specs.Neighbours.{present_from}
 use Rattle.judge.proofs.Listed.{some_iff_at, passed, stood, differs, ended}
 use Rattle.judge.proofs.net_state.NetState.lists_pairs.Goals as goal
 use Rattle.judge.proofs.net_state.NetState.lists_pairs.Goals.{in-Some+else-not-has_pair, in_default}

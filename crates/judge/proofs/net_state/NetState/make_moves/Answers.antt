@@ -2,7 +2,7 @@ use Rattle.std.proofs.Common.{◌≡◌, All, ap, sym, subst, ◌∙◌}
 use Rattle.rule_machine.specs.State.{State}
 use Rattle.rule_machine.specs.Step.{registers_after, after_moves}
 use Rattle.machine_laws.specs.Keeps.{IsMoveIn}
-use Rattle.replay_laws.specs.Passes.{written_in_two}
+use Rattle.machine_laws.specs.Passes.{written_in_two}
 use Rattle.judge.specs.States.{state_of}
 use Rattle.judge.proofs.Keeping.{moves_leave}
 use Rattle.judge.proofs.net_state.NetState.make_moves.Goals as goal

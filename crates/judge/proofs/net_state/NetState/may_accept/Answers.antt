@@ -2,7 +2,7 @@ use Rattle.std.proofs.Common.{◌≡◌, ◌↔◌, ◌∙◌, IsTrue, sym, ap, 
 use Rattle.rule_machine.specs.Answer.{Does}
 use Rattle.rule_machine.specs.declared.event.Event.TheVariants.{Step}
 use Rattle.rule_machine.specs.Tables.{table_of}
-use Rattle.replay_laws.specs.Followed.{followed}
+use Rattle.machine_laws.specs.Followed.{followed}
 use Rattle.judge.proofs.net_state.NetState.may_accept.Goals as goal
 
 pub returns-in-Step-clause-value : goal.returns-in-Step-clause-value

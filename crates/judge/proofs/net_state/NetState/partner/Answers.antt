@@ -1,7 +1,7 @@
 use Rattle.std.proofs.Common.{sym, ap, ◌∙◌}
 use Rattle.std.proofs.lemmas.Bool.{true≢false}
 use Rattle.rule_machine.specs.State.{partner}
-use Rattle.state_lemmas.specs.Pointers.{none_is, partner_from, null_unmarried, unanswered_unmarried, points_true, points_from}
+use Rattle.machine_laws.specs.Pointers.{none_is, partner_from, null_unmarried, unanswered_unmarried, points_true, points_from}
 use Rattle.judge.specs.States.{state_of}
 use Rattle.judge.proofs.net_state.NetState.partner.Goals as goal
 

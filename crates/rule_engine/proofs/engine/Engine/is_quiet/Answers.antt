@@ -1,7 +1,7 @@
 use Rattle.std.proofs.Common.{subst}
 use Rattle.indexed_state.specs.Indexed.{Indexed}
 use Rattle.rule_machine.specs.State.{IsState}
-use Rattle.stable_matching.specs.Laws.{maximal_from_stable, stable_from_maximal}
+use Rattle.machine_laws.specs.Laws.{maximal_from_stable, stable_from_maximal}
 use Rattle.rule_engine.specs.Kept.{AreOn}
 use Rattle.rule_engine.proofs.Again.{quiet_by_count}
 use Rattle.rule_engine.proofs.engine.Engine.is_quiet.Goals as goal

@@ -2,8 +2,8 @@ use Rattle.std.proofs.Common.{◌≡◌, ◌∙◌, ◌++◌, ℕ, [], Option, O
 use Rattle.std.proofs.KnownBytes.{Consumes-nil, Consumes-trans, Consumes-whole}
 use Rattle.std.specs.Io.KnownBytes.{Consumes}
 use Rattle.std.specs.Prelude.{IsNone}
-use Rattle.script_machine.specs.Script.{Progress, lines_of}
-use Rattle.byte_output.specs.Beginning.{AppendsBeginning}
+use Rattle.script_text.specs.Script.{Progress, lines_of}
+use Rattle.byte_streams.specs.Beginning.{AppendsBeginning}
 use Rattle.script_run.specs.declared.stop.End.{End}
 use Rattle.script_run.specs.declared.stop.End.TheVariants.{Unread, Memory}
 use Rattle.script_run.specs.Outcome.{LeadsTo}

@@ -1,5 +1,5 @@
 use Rattle.std.proofs.Common.{◌≡◌, ◌≤◌, ◌+◌, ℕ, List, Option, length}
-use Rattle.script_machine.specs.Script.{Progress}
+use Rattle.script_text.specs.Script.{Progress}
 use Rattle.script_run.specs.Line.{progress}
 use Rattle.script_run.specs.Place.{Stands}
 use Rattle.script_run.proofs.runner.Run.carry_out_piece.Given as goal

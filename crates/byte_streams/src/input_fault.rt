@@ -1,0 +1,26 @@
+//! Why input was not had.
+
+use std::alloc::AllocError;
+use thiserror::Error;
+
+/// Why a reader was not read to its end.
+#[derive(Clone, Copy, Debug, PartialEq, Eq, Error)]
+pub enum InputFault {
+    /// A read failed, or there were 4,294,967,295 of them.
+    #[error("read failed")]
+    Read,
+    /// A growth of memory was refused.
+    #[error("out of memory")]
+    Memory,
+}
+
+impl From<AllocError> for InputFault {
+    ghost use Rattle.std.specs.Prelude.{◌≡◌};
+    ghost use Rattle.byte_streams.specs.declared.input_fault.InputFault.TheVariants.{Memory};
+
+    ghost from_gives = { λ _ fault. fault ≡ Memory };
+
+    fn from(_: AllocError) -> InputFault {
+        InputFault::Memory
+    }
+}

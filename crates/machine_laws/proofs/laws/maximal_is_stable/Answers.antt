@@ -1,0 +1,5 @@
+use Rattle.machine_laws.specs.Laws.{stable_from_maximal}
+use Rattle.machine_laws.proofs.laws.maximal_is_stable.Goals as goal
+
+pub returns : goal.returns
+returns c = stable_from_maximal

@@ -1,0 +1,91 @@
+-- Edges, and searches among the neighbours of a node.
+use Rattle.std.proofs.Common.{◌≡◌, ◌≢◌, ℕ, ◌<◌, ◌≤◌, Bool, true, false, ◌&&◌, min, max, Option, None, Some, find, IsTrue, refl, sym, ap, ap₂, ◌∙◌, inl, inr, ⊎_elim, ◌⊎◌, arith, le-leb, leb-true}
+use Rattle.std.specs.FinMap as map
+use Rattle.std.proofs.lemmas.Bool.{cases_order, and_parts, and_from}
+use Rattle.rule_machine.specs.Network.{Network, IsNetwork, linked, neighbours, names, present}
+use Rattle.machine_laws.specs.Search.{find-filter, find-agree, range_none, range_some}
+
+-- an option is empty or holds something
+pub option_cases : {X : Type 0} (o : Option X) → (o ≡ None) ⊎ ((x : X) × (o ≡ Some x))
+option_cases None = inl refl
+option_cases (Some x) = inr (x, refl)
+
+-- a present name is one of the range
+pub present_range : (net : Network) (v : ℕ) → IsTrue (present net v) → (1 ≤ v) × (v ≤ net.size)
+present_range net v h =
+    let parts = and_parts _ _ h in (leb-true 1 v parts.0, leb-true v net.size parts.1)
+
+pub present_from : (net : Network) (v : ℕ) → 1 ≤ v → v ≤ net.size → IsTrue (present net v)
+present_from net v low high = and_from _ _ (le-leb 1 v low) (le-leb v net.size high)
+
+-- an edge has no direction
+pub linked_back : (net : Network) (v w : ℕ) → linked net v w ≡ linked net w v
+linked_back net v w =
+    let low : min v w ≡ min w v = omega arith in
+    let high : max v w ≡ max w v = omega arith in
+    ap₂ (λ a b. map.contains_key net.edges (a, b)) low high
+
+-- the edge of a lower and a higher name
+pub linked_pair : (net : Network) (v w : ℕ) → v < w → linked net v w ≡ map.contains_key net.edges (v, w)
+linked_pair net v w below =
+    let low : min v w ≡ v = omega arith in
+    let high : max v w ≡ w = omega arith in
+    ap₂ (λ a b. map.contains_key net.edges (a, b)) low high
+
+-- the ends of an edge are two
+pub linked_apart : (net : Network) (v w : ℕ) → IsNetwork net → IsTrue (linked net v w) → v ≢ w
+linked_apart net v w is_network h same =
+    let low = is_network.low_first (min v w) (max v w) h in absurd (omega arith)
+
+-- and both are present
+pub linked_present : (net : Network) (v w : ℕ) → IsNetwork net → IsTrue (linked net v w) → IsTrue (present net v)
+linked_present net v w is_network h =
+    ⊎_elim
+    (λ same. absurd (linked_apart net v w is_network h same))
+    (
+    ⊎_elim
+    (λ below. is_network.low_present v w (sym (linked_pair net v w below) ∙ h))
+    (λ above. is_network.high_present w v (sym (linked_pair net w v above) ∙ linked_back net w v ∙ h))
+    )
+    (cases_order v w)
+
+-- no neighbour passes
+pub near_none : (net : Network) (p : ℕ → Bool) (v : ℕ) → IsNetwork net → find p (neighbours net v) ≡ None → (w : ℕ) → IsTrue (linked net v w) → p w ≡ false
+near_none net p v is_network e w h =
+    let all = sym (find-filter p (linked net v) (names net)) ∙ e in
+    let bounds = present_range net w (linked_present net w v is_network (linked_back net w v ∙ h)) in
+    let fails = range_none (λ x. linked net v x && p x) 1 net.size all w bounds.0 (omega arith) in
+    ap (λ b. b && p w) (sym h) ∙ fails
+
+-- a neighbour passes
+pub near_some : (net : Network) (p : ℕ → Bool) (v w : ℕ) → find p (neighbours net v) ≡ Some w → IsTrue (linked net v w) × IsTrue (p w)
+near_some net p v w e =
+    let all = sym (find-filter p (linked net v) (names net)) ∙ e in
+    and_parts _ _ (range_some (λ x. linked net v x && p x) 1 net.size w all).2
+
+-- a search among the neighbours in which one passes
+pub near_found : (net : Network) (p : ℕ → Bool) (v w : ℕ) → IsNetwork net → IsTrue (linked net v w) → IsTrue (p w) → (x : ℕ) × (find p (neighbours net v) ≡ Some x)
+near_found net p v w is_network h passes =
+    ⊎_elim
+    (λ none. let fails = near_none net p v is_network none w h in absurd cc)
+    (λ some. some)
+    (option_cases (find p (neighbours net v)))
+
+-- one in which none does
+pub near_fails : (net : Network) (p : ℕ → Bool) (v : ℕ) → ((w : ℕ) → IsTrue (linked net v w) → p w ≡ false) → find p (neighbours net v) ≡ None
+near_fails net p v h =
+    ⊎_elim
+    (λ none. none)
+    (λ some. let found = near_some net p v some.0 some.1 in let fails = h some.0 found.0 in absurd cc)
+    (option_cases (find p (neighbours net v)))
+
+-- two tests that agree at each neighbour
+pub near_agree : (net : Network) (p q : ℕ → Bool) (v : ℕ) → ((w : ℕ) → IsTrue (linked net v w) → p w ≡ q w) → find p (neighbours net v) ≡ find q (neighbours net v)
+near_agree net p q v h =
+    find-filter p (linked net v) (names net)
+    ∙ find-agree (λ x. linked net v x && p x) (λ x. linked net v x && q x) (names net) (λ x. both (linked net v x) (p x) (q x) (h x))
+    ∙ sym (find-filter q (linked net v) (names net))
+  where
+    both : (b c d : Bool) → (IsTrue b → c ≡ d) → (b && c) ≡ (b && d)
+    both true c d k = k refl
+    both false c d k = refl

@@ -1,8 +1,0 @@
-use Rattle.std.proofs.Common.{◌≡◌, ◌++◌, ◌-◌}
-use Rattle.std.specs.List.{range_with_len, flat_map}
-use Rattle.rule_machine.specs.Tables.{table_of}
-use Rattle.picture_text.specs.Picture.{node_line}
-use Rattle.picture_text.proofs.nodes.put_nodes.Given as goal
-
-abbrev pub invariant-loop-name : goal.invariant-loop-name
-invariant-loop-name l = l.out.items ≡ l.fn.out.items ++ flat_map (node_line (table_of l.rules) l.judge) (range_with_len 1 (l.name - 1))

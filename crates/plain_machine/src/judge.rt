@@ -1,0 +1,93 @@
+//! The judge: whether the machine may give a reply, and what the reply does.
+
+ghost use Rattle.std.specs.Prelude.{◌≡◌, None, false, IsTrue, IfOk, OnOk, OnErr};
+ghost use Rattle.rule_machine.specs.Answer.{Answers, Does};
+ghost use Rattle.rule_machine.specs.declared.reply.Reply.TheVariants.{Accepted};
+ghost use Rattle.rule_machine.specs.Refuse.{refusal_of};
+ghost use Rattle.rule_machine.specs.RuleTable.{RuleTable};
+ghost use Rattle.rule_machine.specs.State.{State};
+ghost use Rattle.rule_machine.specs.Tables.{table_of};
+ghost use Rattle.machine_laws.specs.Followed.{followed, disturbed};
+ghost use Rattle.plain_machine.specs.Memory.{TakesMemory, takes_memory, following_takes};
+
+use crate::PlainNet;
+use crate::replies::{is_refusal, may_accept};
+use rule_machine::{Event, Reply, RuleSet, Want};
+use std::alloc::Global;
+
+/// Whether the machine may give this reply to the event, where these moves are spent since the last accepted
+/// disturbance; where it may, the event is carried out as the reply says. Where no target is wished, any allowed one is
+/// right. A wrong reply changes nothing, and neither does want of memory, which comes only at an event that is not
+/// refused, where the reply accepts a link, has moves or is a list. A step of k moves takes some k·k comparisons of
+/// nodes, and n·m steps for each move, with n nodes and m edges.
+pub fn replay(
+    net: &mut PlainNet,
+    alloc: Global,
+    rules: RuleSet,
+    spent: u64,
+    event: &Event,
+    reply: &Reply,
+) -> Result<bool, Want>
+    ensures right { IfOk result (λ right. IsTrue right → Answers (table_of rules) net.old spent event.now reply.now net.new) }
+    ensures wrong { IfOk result (λ right. right ≡ false → ((s : State) → Answers (table_of rules) net.old spent event.now reply.now s → ⊥) × (net.new ≡ net.old)) }
+    ensures err { OnErr result (net.new ≡ net.old) }
+    ensures want { OnErr result (TakesMemory (table_of rules) net.old event.now reply.now) }
+{
+    match net.refusal(rules, event) {
+        Some(refusal) => Ok(is_refusal(reply, refusal)),
+        None => replay_accepted(net, alloc, rules, spent, event, reply),
+    }
+}
+
+/// Whether the machine may give this reply to an event that is not refused, and what the reply does.
+fn replay_accepted(
+    net: &mut PlainNet,
+    alloc: Global,
+    rules: RuleSet,
+    spent: u64,
+    event: &Event,
+    reply: &Reply,
+) -> Result<bool, Want>
+    requires { refusal_of (table_of rules) net.old event.now ≡ None }
+    ensures right { IfOk result (λ right. IsTrue right → Does (table_of rules) net.old spent event.now reply.now net.new) }
+    ensures wrong { IfOk result (λ right. right ≡ false → ((s : State) → Does (table_of rules) net.old spent event.now reply.now s → ⊥) × (net.new ≡ net.old)) }
+    ensures err { OnErr result (net.new ≡ net.old) }
+    ensures want { OnErr result (IsTrue (takes_memory event.now reply.now)) }
+{
+    if !may_accept(net, alloc, rules, spent, event, reply)? {
+        return Ok(false);
+    }
+    follow(net, alloc, event, reply)?;
+    Ok(true)
+}
+
+/// Carries out an event as a reply says.
+fn follow(net: &mut PlainNet, alloc: Global, event: &Event, reply: &Reply) -> Result<(), Want>
+    requires { (t : RuleTable) × (refusal_of t net.old event.now ≡ None) }
+    ensures ok { OnOk result (net.new ≡ followed net.old event.now reply.now) }
+    ensures err { OnErr result (net.new ≡ net.old) }
+    ensures want { OnErr result (IsTrue (following_takes reply.now event.now)) }
+{
+    match reply {
+        Reply::Accepted => disturb(net, event),
+        Reply::Moves(moves) => net.make_moves(alloc, moves.as_slice()),
+        _ => Ok(()),
+    }
+}
+
+/// Carries out a disturbance. A step and a question do nothing.
+fn disturb(net: &mut PlainNet, event: &Event) -> Result<(), Want>
+    requires { (t : RuleTable) × (refusal_of t net.old event.now ≡ None) }
+    ensures ok { OnOk result (net.new ≡ disturbed net.old event.now) }
+    ensures err { OnErr result (net.new ≡ net.old) }
+    ensures want { OnErr result (IsTrue (takes_memory event.now Accepted)) }
+{
+    match event {
+        Event::Link(a, b) => net.link(*a, *b)?,
+        Event::Unlink(a, b) => net.unlink(*a, *b),
+        Event::Point(v, target) => net.point(*v, *target),
+        Event::Flag(v, value) => net.set_flag(*v, *value),
+        Event::Step(_) | Event::Show(_) | Event::Enabled | Event::Matching | Event::Status => {}
+    }
+    Ok(())
+}

@@ -1,0 +1,7 @@
+pub mod Words
+pub mod Once
+pub mod Cutting
+pub mod Lengths
+pub mod Ending
+pub mod Lining
+pub mod Counting

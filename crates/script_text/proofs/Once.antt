@@ -1,0 +1,129 @@
+-- A line says one command, and commands lead to one end.
+use Rattle.std.proofs.Common.{◌≡◌, ℕ, zero, suc, ◌+◌, ◌*◌, List, [], ◌∷◌, ◌++◌, Option, None, Some, get_or, codes, refl, sym, ap, subst, ◌∙◌, append_assoc, arith}
+use Rattle.std.specs.Int.{IsInRange}
+use Rattle.std.proofs.lemmas.List.{append_cancel_left}
+use Rattle.std.proofs.lemmas.Fmt.{digits_decimal, decimal_injective}
+use Rattle.rand_core.specs.Stream.{Stream}
+use Rattle.rule_machine.specs.declared.event.Event.{Event}
+use Rattle.rule_machine.specs.declared.event.Event.TheVariants.{Link, Unlink, Point, Flag, Step, Show, Enabled, Matching, Status}
+use Rattle.rule_machine.specs.Run.{Moment}
+use Rattle.rule_machine.specs.RuleTable.{RuleTable}
+use Rattle.line_text.specs.Words.{number_text}
+use Rattle.line_text.specs.EventText.{event_text}
+use Rattle.line_text.proofs.Digits.{own, run_once}
+use Rattle.line_text.proofs.EventsOnce.{spells_once}
+use Rattle.script_text.specs.declared.command.Command.{Command}
+use Rattle.script_text.specs.declared.command.Command.TheVariants.{Tell, Drive, Scramble}
+use Rattle.script_text.specs.declared.command.Turns.{Turns}
+use Rattle.script_text.specs.Command.{IsTurns, IsCommand, turns_text, command_text, Says}
+use Rattle.seeded_turns.specs.Drawn.{Draws, seeded_stream, drawn_step, drawn_fault}
+use Rattle.script_text.specs.Script.{Progress, IsEntry, TurnDoes, TurnsDo, CommandDoes, LineDoes, LinesDo}
+
+turns_of : ℕ → ℕ → Turns
+turns_of s c = record { seed = s; count = c }
+
+-- a seed and a count have one text
+turns_once : (a b : Turns) → IsTurns a → IsTurns b → turns_text a ≡ turns_text b → a ≡ b
+unfolding turns_of
+turns_once a b f g e =
+    let x : List ℕ = number_text a.count in
+    let y : List ℕ = number_text b.count in
+    let digits_a = digits_decimal own a.seed (omega (arith, f.0)) in
+    let digits_b = digits_decimal own b.seed (omega (arith, g.0)) in
+    let r = run_once (number_text a.seed) (number_text b.seed) (32 ∷ x) (32 ∷ y) digits_a digits_b (λ (p : IsInRange 48 57 32). omega (arith, p.0)) (λ (p : IsInRange 48 57 32). omega (arith, p.0))
+    (sym (append_assoc (number_text a.seed) (32 ∷ []) x) ∙ e ∙ append_assoc (number_text b.seed) (32 ∷ []) y) in
+    let seeds = decimal_injective a.seed b.seed (omega (arith, f.0)) (omega (arith, g.0)) r.0 in
+    let counts = decimal_injective a.count b.count (omega (arith, f.1)) (omega (arith, g.1)) (append_cancel_left (32 ∷ []) x y r.1) in
+    ap (λ n. turns_of n a.count) seeds ∙ ap (λ n. turns_of b.seed n) counts
+
+-- the first two bytes, which tell the commands apart
+abbrev head_of : List ℕ → ℕ
+head_of line = get_or line 0 0 + 256 * get_or line 1 0
+
+-- the head of an event's text
+no_drive : (e : Event) (u : Turns) → event_text e ≡ codes "drive " ++ turns_text u → ⊥
+no_drive (Link a b) u e = omega (arith, ap head_of e)
+no_drive (Unlink a b) u e = omega (arith, ap head_of e)
+no_drive (Point v w) u e = omega (arith, ap head_of e)
+no_drive (Flag v b) u e = omega (arith, ap head_of e)
+no_drive (Step items) u e = omega (arith, ap head_of e)
+no_drive (Show v) u e = omega (arith, ap head_of e)
+no_drive Enabled u e = omega (arith, ap head_of e)
+no_drive Matching u e = omega (arith, ap head_of e)
+no_drive Status u e = omega (arith, ap head_of e)
+
+no_scramble : (e : Event) (u : Turns) → event_text e ≡ codes "scramble " ++ turns_text u → ⊥
+no_scramble (Link a b) u e = omega (arith, ap head_of e)
+no_scramble (Unlink a b) u e = omega (arith, ap head_of e)
+no_scramble (Point v w) u e = omega (arith, ap head_of e)
+no_scramble (Flag v b) u e = omega (arith, ap head_of e)
+no_scramble (Step items) u e = omega (arith, ap head_of e)
+no_scramble (Show v) u e = omega (arith, ap head_of e)
+no_scramble Enabled u e = omega (arith, ap head_of e)
+no_scramble Matching u e = omega (arith, ap head_of e)
+no_scramble Status u e = omega (arith, ap head_of e)
+
+-- a command has one text
+command_once : (c d : Command) → IsCommand c → IsCommand d → command_text c ≡ command_text d → c ≡ d
+command_once (Tell a) (Tell b) f g e = ap (λ (x : Event). Tell x) (spells_once (event_text a) a b (f, refl) (g, e))
+command_once (Drive a) (Drive b) f g e = ap (λ (x : Turns). Drive x) (turns_once a b f g (append_cancel_left (codes "drive ") (turns_text a) (turns_text b) e))
+command_once (Scramble a) (Scramble b) f g e = ap (λ (x : Turns). Scramble x) (turns_once a b f g (append_cancel_left (codes "scramble ") (turns_text a) (turns_text b) e))
+command_once (Tell a) (Drive b) f g e = absurd (no_drive a b e)
+command_once (Drive a) (Tell b) f g e = absurd (no_drive b a (sym e))
+command_once (Tell a) (Scramble b) f g e = absurd (no_scramble a b e)
+command_once (Scramble a) (Tell b) f g e = absurd (no_scramble b a (sym e))
+command_once (Drive a) (Scramble b) f g e = absurd (omega (arith, ap head_of e))
+command_once (Scramble a) (Drive b) f g e = absurd (omega (arith, ap head_of e))
+
+-- a line says one command
+pub says_once : (line : List ℕ) (c d : Command) → Says line c → Says line d → c ≡ d
+says_once line c d p q = command_once c d p.0 q.0 (sym p.1 ∙ q.1)
+
+-- the parts of a progress
+progress_of : Moment → ℕ → List ℕ → Progress
+progress_of m n x = record { moment = m; count = n; text = x }
+
+same_progress : (p q : Progress) → p.moment ≡ q.moment → p.count ≡ q.count → p.text ≡ q.text → p ≡ q
+unfolding progress_of
+same_progress p q m n x =
+    ap (λ (z : Moment). progress_of z p.count p.text) m ∙ ap (λ (z : ℕ). progress_of q.moment z p.text) n ∙ ap (λ (z : List ℕ). progress_of q.moment q.count z) x
+
+-- an event leads to one progress
+entry_once : (t : RuleTable) (event : Event) (before after other : Progress) → IsEntry t event before after → IsEntry t event before other → after ≡ other
+entry_once t event before after other p q = same_progress after other (p.moment ∙ sym q.moment) (p.count ∙ sym q.count) (p.text ∙ sym q.text)
+
+-- a turn leads to one progress, if those behind it do
+turn_once : (t : RuleTable) (drawn : Option Event) (P Q : Progress → Type 0) (before after other : Progress)
+    → ((next : Progress) → P next → Q next → after ≡ other)
+    → TurnDoes t drawn P before after → TurnDoes t drawn Q before other → after ≡ other
+turn_once t None P Q before after other later p q = p ∙ sym q
+turn_once t (Some event) P Q before after other later p q =
+    later q.0 (subst P (entry_once t event before p.0 q.0 p.1 q.1) p.2) q.2
+
+-- turns lead to one progress
+turns_lead_once : (draws : Draws) (t : RuleTable) (limit turns : ℕ) (stream : Stream) (before after other : Progress)
+    → TurnsDo draws t limit turns stream before after → TurnsDo draws t limit turns stream before other → after ≡ other
+turns_lead_once draws t limit zero stream before after other p q = p ∙ sym q
+turns_lead_once draws t limit (suc turns) stream before after other p q =
+    let drawn = draws t before.moment.state stream in
+    turn_once t drawn.0 (λ next. TurnsDo draws t limit turns drawn.1 next after) (λ next. TurnsDo draws t limit turns drawn.1 next other) before after other
+    (λ next p q. turns_lead_once draws t limit turns drawn.1 next after other p q) p.1 q.1
+
+-- a command leads to one progress
+command_leads_once : (t : RuleTable) (limit : ℕ) (c : Command) (before after other : Progress) → CommandDoes t limit c before after → CommandDoes t limit c before other → after ≡ other
+command_leads_once t limit (Tell event) before after other p q = entry_once t event before after other p.1 q.1
+command_leads_once t limit (Drive turns) before after other p q = turns_lead_once drawn_step t limit turns.count (seeded_stream turns.seed) before after other p q
+command_leads_once t limit (Scramble turns) before after other p q = turns_lead_once drawn_fault t limit turns.count (seeded_stream turns.seed) before after other p q
+
+-- a line leads to one progress
+line_once : (t : RuleTable) (limit : ℕ) (line : List ℕ) (before after other : Progress) → LineDoes t limit line before after → LineDoes t limit line before other → after ≡ other
+line_once t limit [] before after other p q = p ∙ sym q
+line_once t limit (b ∷ line) before after other p q =
+    command_leads_once t limit q.0 before after other (subst (λ (c : Command). CommandDoes t limit c before after) (says_once (b ∷ line) p.0 q.0 p.1 q.1) p.2) q.2
+
+-- lines lead to one progress
+pub lines_once : (t : RuleTable) (limit : ℕ) (lines : List (List ℕ)) (before after other : Progress) → LinesDo t limit lines before after → LinesDo t limit lines before other → after ≡ other
+lines_once t limit [] before after other p q = p ∙ sym q
+lines_once t limit (line ∷ lines) before after other p q =
+    let same = line_once t limit line before p.0 q.0 p.1 q.1 in
+    lines_once t limit lines q.0 after other (subst (λ (x : Progress). LinesDo t limit lines x after) same p.2) q.2

@@ -1,0 +1,38 @@
+-- What a line of a script asks for, and the one spelling of it.
+use Rattle.std.specs.Prelude.{◌≡◌, ℕ, ◌≤◌, List, ◌++◌, codes}
+use Rattle.line_text.specs.Words.{number_text}
+use Rattle.line_text.specs.EventText.{IsEvent, event_text}
+use Rattle.script_text.specs.declared.command.Command.{Command}
+use Rattle.script_text.specs.declared.command.Command.TheVariants.{Tell, Drive, Scramble}
+use Rattle.script_text.specs.declared.command.Turns.{Turns}
+
+-- a seed that a generator may have, and at most a million turns
+abbrev pub IsTurns : Turns → Type 0
+IsTurns turns = (turns.seed ≤ 18446744073709551615) × (turns.count ≤ 1000000)
+
+-- the seed, and the number of turns
+abbrev pub turns_text : Turns → List ℕ
+turns_text turns = number_text turns.seed ++ codes " " ++ number_text turns.count
+
+abbrev pub command_text : Command → List ℕ
+command_text (Tell event) = event_text event
+command_text (Drive turns) = codes "drive " ++ turns_text turns
+command_text (Scramble turns) = codes "scramble " ++ turns_text turns
+
+-- what each value of the program's type of commands meets
+abbrev pub IsCommand : Command → Type 0
+IsCommand (Tell event) = IsEvent event
+IsCommand (Drive turns) = IsTurns turns
+IsCommand (Scramble turns) = IsTurns turns
+
+-- the line is the command's text
+abbrev pub Says : List ℕ → Command → Type 0
+Says line command = IsCommand command × (line ≡ command_text command)
+
+-- the line asks for no turns
+abbrev pub SaysNoTurns : List ℕ → Type 0
+SaysNoTurns line = (turns : Turns) → IsTurns turns → (line ≡ codes "drive " ++ turns_text turns → ⊥) × (line ≡ codes "scramble " ++ turns_text turns → ⊥)
+
+-- the line is no command
+abbrev pub SaysNothing : List ℕ → Type 0
+SaysNothing line = (command : Command) → Says line command → ⊥

@@ -1,0 +1,4 @@
+pub mod Command
+pub mod Script
+pub mod Texts
+pub mod Readers

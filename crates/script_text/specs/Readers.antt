@@ -1,0 +1,39 @@
+-- What some readers' texts say, where these are known.
+use Rattle.std.specs.Prelude.{◌≡◌, ◌≢◌, ℕ, ◌+◌, ◌<◌, ◌⊎◌, List, [], ◌∷◌, length, Option, IfSome}
+use Rattle.script_text.specs.Script.{lines_of}
+use Rattle.script_text.specs.declared.script.ScriptLine.{ScriptLine}
+use Rattle.script_text.specs.declared.fault.TextsFault.{TextsFault}
+use Rattle.script_text.specs.declared.fault.TextsFault.TheVariants.{TooManyScripts, BadLine, Read, Memory}
+use Rattle.script_text.specs.Texts.{TextHolds, FirstBad}
+
+-- there are as many scripts as texts, and each has the commands of the text at its place
+abbrev pub AllHold : List (Option (List ℕ)) → List (List ScriptLine) → Type 0
+AllHold [] [] = Unit {0}
+AllHold (known ∷ texts) (script ∷ scripts) = IfSome known (λ text. TextHolds text script) × AllHold texts scripts
+AllHold texts scripts = ⊥
+
+-- the text is a script: it has no bad line
+abbrev pub IsScript : List ℕ → Type 0
+IsScript text = (script : List ScriptLine) × TextHolds text script
+
+-- among texts, the first of which has this number, that line of that script is bad, and all lines before it and all texts
+-- before that are good
+abbrev pub FirstBadScript : ℕ → List (Option (List ℕ)) → ℕ → ℕ → Type 0
+FirstBadScript number [] script line = ⊥
+FirstBadScript number (known ∷ texts) script line =
+    ((script ≡ number) × IfSome known (λ text. FirstBad 1 (lines_of text) line))
+    ⊎ (IfSome known IsScript × FirstBadScript (number + 1) texts script line)
+
+-- why the script with this number was not read
+abbrev pub IsReaderFault : ℕ → Option (List ℕ) → TextsFault → Type 0
+IsReaderFault number known TooManyScripts = ⊥
+IsReaderFault number known (BadLine script line) = (script ≡ number) × IfSome known (λ text. FirstBad 1 (lines_of text) line)
+IsReaderFault number known Read = Unit {0}
+IsReaderFault number known Memory = Unit {0}
+
+-- why scripts were not read
+abbrev pub IsFault : List (Option (List ℕ)) → TextsFault → Type 0
+IsFault texts TooManyScripts = 64 < length texts
+IsFault texts (BadLine script line) = FirstBadScript 1 texts script line
+IsFault texts Read = texts ≢ []
+IsFault texts Memory = Unit {0}

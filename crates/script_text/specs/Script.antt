@@ -1,0 +1,100 @@
+-- A script: its lines, and what they do one after another.
+use Rattle.std.specs.Prelude.{◌≡◌, ◌≢◌, ℕ, zero, suc, ◌+◌, ◌<◌, ◌≤◌, ◌⊎◌, List, [], ◌∷◌, ◌++◌, ◌==◌, if◌then◌else◌, Option, None, Some}
+use Rattle.std.specs.List.{AllByRecursion}
+use Rattle.rand_core.specs.Stream.{Stream}
+use Rattle.rule_machine.specs.declared.event.Event.{Event}
+use Rattle.rule_machine.specs.RuleTable.{RuleTable}
+use Rattle.rule_machine.specs.Least.{reply_of}
+use Rattle.rule_machine.specs.Run.{Moment, moment_after}
+use Rattle.line_text.specs.EntryText.{entry_line}
+use Rattle.script_text.specs.declared.command.Command.{Command}
+use Rattle.script_text.specs.declared.command.Command.TheVariants.{Tell, Drive, Scramble}
+use Rattle.script_text.specs.Command.{Says, SaysNothing}
+use Rattle.seeded_turns.specs.Drawn.{Draws, seeded_stream, drawn_step, drawn_fault}
+
+-- a byte in front of the first line
+abbrev pub onto_first : ℕ → List (List ℕ) → List (List ℕ)
+onto_first b [] = (b ∷ []) ∷ []
+onto_first b (line ∷ lines) = (b ∷ line) ∷ lines
+
+-- the lines in order, without the LFs that end them; the last may have none
+abbrev pub lines_of : List ℕ → List (List ℕ)
+lines_of [] = []
+lines_of (b ∷ bytes) = if b == 10 then [] ∷ lines_of bytes else onto_first b (lines_of bytes)
+
+-- bytes of one line: no LF is among them
+abbrev pub IsLine : List ℕ → Type 0
+IsLine bytes = AllByRecursion (λ b. b ≢ 10) bytes
+
+-- where a run stands: the state and what is spent, how many entries there are, and their text
+pub record Progress : Type 0 where
+  pub moment : Moment
+  pub count : ℕ
+  pub text : List ℕ
+
+-- the machine answers the event, and its entry goes to the end of the text
+pub record IsEntry (t : RuleTable) (event : Event) (before after : Progress) : Type 0 where
+  pub moment : after.moment ≡ moment_after t before.moment event
+  pub count : after.count ≡ before.count + 1
+  pub text : after.text ≡ before.text ++ entry_line (before.count + 1) event (reply_of t before.moment.state before.moment.spent event)
+
+-- an event is an entry while there are fewer than the limit
+abbrev pub EventDoes : RuleTable → ℕ → Event → Progress → Progress → Type 0
+EventDoes t limit event before after = (before.count < limit) × IsEntry t event before after
+
+-- a turn: with no event it ends them all, and an event is an entry, behind which the other turns go on
+abbrev pub TurnDoes : RuleTable → Option Event → (Progress → Type 0) → Progress → Progress → Type 0
+TurnDoes t None Others before after = after ≡ before
+TurnDoes t (Some event) Others before after = (next : Progress) × IsEntry t event before next × Others next
+
+-- so many turns at most, while there are fewer entries than the limit: each draws its event in the state that stands then
+abbrev pub TurnsDo : Draws → RuleTable → ℕ → ℕ → Stream → Progress → Progress → Type 0
+TurnsDo draws t limit zero stream before after = after ≡ before
+TurnsDo draws t limit (suc turns) stream before after =
+    (before.count < limit) × TurnDoes t (draws t before.moment.state stream).0 (λ next. TurnsDo draws t limit turns (draws t before.moment.state stream).1 next after) before after
+
+-- what a command does
+abbrev pub CommandDoes : RuleTable → ℕ → Command → Progress → Progress → Type 0
+CommandDoes t limit (Tell event) before after = EventDoes t limit event before after
+CommandDoes t limit (Drive turns) before after = TurnsDo drawn_step t limit turns.count (seeded_stream turns.seed) before after
+CommandDoes t limit (Scramble turns) before after = TurnsDo drawn_fault t limit turns.count (seeded_stream turns.seed) before after
+
+-- an empty line does nothing; any other says a command
+abbrev pub LineDoes : RuleTable → ℕ → List ℕ → Progress → Progress → Type 0
+LineDoes t limit [] before after = after ≡ before
+LineDoes t limit (b ∷ line) before after = (command : Command) × Says (b ∷ line) command × CommandDoes t limit command before after
+
+abbrev pub LinesDo : RuleTable → ℕ → List (List ℕ) → Progress → Progress → Type 0
+LinesDo t limit [] before after = after ≡ before
+LinesDo t limit (line ∷ lines) before after =
+    (next : Progress) × LineDoes t limit line before next × LinesDo t limit lines next after
+
+-- neither empty nor a command
+abbrev pub IsBadLine : List ℕ → Type 0
+IsBadLine line = (line ≢ []) × SaysNothing line
+
+-- there are as many entries as there may be, and nothing was done
+abbrev pub IsFull : ℕ → Progress → Progress → Type 0
+IsFull limit before after = (limit ≤ before.count) × (after ≡ before)
+
+-- a turn behind which one meets a full log
+abbrev pub TurnFills : RuleTable → Option Event → (Progress → Type 0) → Progress → Type 0
+TurnFills t None Others before = ⊥
+TurnFills t (Some event) Others before = (next : Progress) × IsEntry t event before next × Others next
+
+-- one of so many turns meets a full log, behind those before it; nothing is drawn in it
+abbrev pub TurnsFill : Draws → RuleTable → ℕ → ℕ → Stream → Progress → Progress → Type 0
+TurnsFill draws t limit zero stream before after = ⊥
+TurnsFill draws t limit (suc turns) stream before after =
+    IsFull limit before after
+    ⊎ ((before.count < limit) × TurnFills t (draws t before.moment.state stream).0 (λ next. TurnsFill draws t limit turns (draws t before.moment.state stream).1 next after) before)
+
+-- the command, or a turn of it, comes when there are as many entries as there may be
+abbrev pub CommandFills : RuleTable → ℕ → Command → Progress → Progress → Type 0
+CommandFills t limit (Tell event) before after = IsFull limit before after
+CommandFills t limit (Drive turns) before after = TurnsFill drawn_step t limit turns.count (seeded_stream turns.seed) before after
+CommandFills t limit (Scramble turns) before after = TurnsFill drawn_fault t limit turns.count (seeded_stream turns.seed) before after
+
+-- a line says a command that meets a full log
+abbrev pub MeetsFullLog : RuleTable → ℕ → List ℕ → Progress → Progress → Type 0
+MeetsFullLog t limit line before after = (command : Command) × Says line command × CommandFills t limit command before after

@@ -1,0 +1,49 @@
+-- What the text of a script says, line by line, and which of its lines is the first that says nothing.
+use Rattle.std.specs.Prelude.{◌≡◌, ℕ, ◌+◌, ◌⊎◌, List, [], ◌∷◌, ◌++◌, min}
+use Rattle.script_text.specs.declared.command.Command.{Command}
+use Rattle.script_text.specs.Command.{Says}
+use Rattle.script_text.specs.Script.{IsBadLine, lines_of}
+use Rattle.script_text.specs.declared.script.ScriptLine.{ScriptLine}
+use Rattle.script_text.specs.declared.fault.TextFault.{TextFault}
+use Rattle.script_text.specs.declared.fault.TextFault.TheVariants.{BadLine, Memory}
+
+-- the greatest number that a script line tells: it stands for all numbers beyond it too
+abbrev pub last_number : ℕ
+last_number = 4294967295
+
+-- what the line with this number adds to its script: its command, and nothing where it is empty
+abbrev pub LineHolds : ℕ → List ℕ → List ScriptLine → Type 0
+LineHolds number [] own = own ≡ []
+LineHolds number (b ∷ line) own =
+    (command : Command) × Says (b ∷ line) command × (own ≡ record { line = min number last_number; command = command } ∷ [])
+
+-- what lines add in turn, the first of which has this number
+abbrev pub LinesHold : ℕ → List (List ℕ) → List ScriptLine → Type 0
+LinesHold number [] script = script ≡ []
+LinesHold number (line ∷ lines) script =
+    (own : List ScriptLine) × (rest : List ScriptLine) × (script ≡ own ++ rest) × LineHolds number line own × LinesHold (number + 1) lines rest
+
+-- the script has the commands of the text's lines, in order, with their numbers
+abbrev pub TextHolds : List ℕ → List ScriptLine → Type 0
+TextHolds text script = LinesHold 1 (lines_of text) script
+
+-- an empty line, or a command
+abbrev pub IsGoodLine : List ℕ → Type 0
+IsGoodLine [] = Unit {0}
+IsGoodLine (b ∷ line) = (command : Command) × Says (b ∷ line) command
+
+-- among lines, the first of which has this number, the one with that number is bad, and all before it are good
+abbrev pub FirstBad : ℕ → List (List ℕ) → ℕ → Type 0
+FirstBad number [] bad = ⊥
+FirstBad number (line ∷ lines) bad =
+    ((bad ≡ number) × IsBadLine line) ⊎ (IsGoodLine line × FirstBad (number + 1) lines bad)
+
+-- why a line was not added
+abbrev pub IsLineFault : ℕ → List ℕ → TextFault → Type 0
+IsLineFault number line (BadLine bad) = (bad ≡ number) × IsBadLine line
+IsLineFault number line Memory = Unit {0}
+
+-- why a text was not read as a script
+abbrev pub IsTextFault : List ℕ → TextFault → Type 0
+IsTextFault text (BadLine bad) = FirstBad 1 (lines_of text) bad
+IsTextFault text Memory = Unit {0}

@@ -1,0 +1,54 @@
+//! Reading a line of a script.
+
+ghost use Rattle.std.specs.Prelude.{IfOk, MatchOption};
+ghost use Rattle.line_text.specs.Reading.{Reads};
+ghost use Rattle.script_text.specs.Command.{IsTurns, turns_text, Says, SaysNothing, SaysNoTurns};
+
+use crate::{Command, MAX_TURNS, Turns};
+use line_text::{after, read_command, read_number};
+use memchr::memchr;
+use rule_machine::Want;
+use std::alloc::Global;
+
+/// Reads a seed, and how many turns it is for.
+fn read_turns(bytes: &[u8]) -> Option<Turns>
+    ensures { Reads IsTurns turns_text bytes.now result }
+{
+    let Some(at) = memchr(b' ', bytes) else {
+        return None;
+    };
+    let Some(seed) = read_number(&bytes[..at], u64::MAX) else {
+        return None;
+    };
+    let Some(count) = read_number(&bytes[at + 1..], u64::from(MAX_TURNS)) else {
+        return None;
+    };
+    Some(Turns {
+        seed,
+        count: count as u32,
+    })
+}
+
+// Reads the turns that a line asks for.
+fn read_turning(line: &[u8]) -> Option<Command>
+    ensures { MatchOption result (SaysNoTurns line.now) (λ command. Says line.now command) }
+{
+    if let Some(rest) = after(line, b"drive ") {
+        return read_turns(rest).map(|turns| Command::Drive(turns));
+    }
+    if let Some(rest) = after(line, b"scramble ") {
+        return read_turns(rest).map(|turns| Command::Scramble(turns));
+    }
+    None
+}
+
+/// Reads the command that a line is; `None` where it is none. Memory is for the items of a step alone.
+#[inline(always)]
+pub fn read_line(alloc: Global, line: &[u8]) -> Result<Option<Command>, Want>
+    ensures { IfOk result (λ found. MatchOption found (SaysNothing line.now) (λ command. Says line.now command)) }
+{
+    if let Some(event) = read_command(alloc, line)? {
+        return Ok(Some(Command::Tell(event)));
+    }
+    Ok(read_turning(line))
+}

@@ -1,0 +1,72 @@
+//! Some scripts, each from a reader of its own.
+
+ghost use Rattle.std.specs.Prelude.{◌≡◌, ◌<◌, ◌≤◌, ◌+◌, ◌↔◌, length, map, IfOk, IfErr, IsErrOf, IfSome};
+ghost use Rattle.script_text.specs.declared.fault.TextsFault.TheVariants.{TooManyScripts};
+ghost use Rattle.script_text.specs.Texts.{TextHolds};
+ghost use Rattle.script_text.specs.Readers.{AllHold, IsFault, IsReaderFault};
+
+use crate::{Script, TextFault, TextsFault, read_text};
+use byte_streams::{InputFault, read_whole};
+use std::alloc::Global;
+use std::io::Read;
+
+/// The most scripts that there may be.
+pub const MAX_SCRIPTS: usize = 64;
+
+// Reads the script with this number.
+fn read_from<In: Read>(alloc: Global, number: u32, reader: &mut In) -> Result<Script, TextsFault>
+    ensures script { IfOk result (λ script. IfSome (In.remaining reader.old) (λ text. TextHolds text script)) }
+    ensures fault { IfErr result (IsReaderFault number (In.remaining reader.old)) }
+{
+    let text = match read_whole(alloc, reader) {
+        Ok(text) => text,
+        Err(InputFault::Read) => return Err(TextsFault::Read),
+        Err(InputFault::Memory) => return Err(TextsFault::Memory),
+    };
+    match read_text(alloc, &text) {
+        Ok(script) => Ok(script),
+        Err(TextFault::BadLine { line }) => Err(TextsFault::BadLine {
+            script: number,
+            line,
+        }),
+        Err(TextFault::Memory) => Err(TextsFault::Memory),
+    }
+}
+
+// Reads them in turn.
+fn read_each<In: Read + Drop>(alloc: Global, readers: Vec<In>) -> Result<Vec<Script>, TextsFault>
+    requires { length readers.items ≤ 64 }
+    ensures scripts { IfOk result (λ scripts. AllHold (map In.remaining readers.items) scripts.items) }
+    ensures fault { IfErr result (IsFault (map In.remaining readers.items)) }
+{
+    let mut scripts = Vec::new(alloc);
+    let mut number: u32 = 0;
+    for reader in readers {
+        let mut reader = reader;
+        number += 1;
+        let script = read_from(alloc, number, &mut reader)?;
+        scripts.reserve(1)?;
+        scripts.push(script).unwrap();
+    }
+    Ok(scripts)
+}
+
+/// Reads as many scripts as there are readers, each to its end and checked before the next is read.
+///
+/// `TooManyScripts` above 64, before any is read; then, script by script, `Read` at the first error of its reader, which is
+/// not tried again, or after 4,294,967,295 reads, before `BadLine` at the first of its lines that is neither empty nor a
+/// command. `Memory` if memory runs out. Holds one script's text at a time.
+pub fn read_scripts<In: Read + Drop>(
+    alloc: Global,
+    readers: Vec<In>,
+) -> Result<Vec<Script>, TextsFault>
+    ensures scripts { IfOk result (λ scripts. AllHold (map In.remaining readers.items) scripts.items) }
+    ensures few { IfOk result (λ scripts. length scripts.items ≤ 64) }
+    ensures many { IsErrOf result TooManyScripts ↔ (64 < length readers.items) }
+    ensures fault { IfErr result (IsFault (map In.remaining readers.items)) }
+{
+    if readers.len() > MAX_SCRIPTS {
+        return Err(TextsFault::TooManyScripts);
+    }
+    read_each(alloc, readers)
+}

@@ -1,0 +1,46 @@
+//! The commands of a script, with where they stand in it.
+
+ghost use Rattle.std.specs.Prelude.{◌≡◌};
+
+use crate::Command;
+use std::marker::Model;
+
+/// A line of a script that is not empty.
+#[derive(Drop)]
+pub struct ScriptLine {
+    /// The number of the line, from 1; empty lines count.
+    pub line: u32,
+    /// What it asks for.
+    pub command: Command,
+}
+
+/// A script, seen in contracts as its lines in order, without the empty ones.
+#[derive(Drop)]
+pub struct Script {
+    lines: Vec<ScriptLine>,
+}
+
+impl Model for Script {
+    ghost use Rattle.std.specs.Prelude.{List};
+    ghost use Rattle.script_text.specs.declared.script.ScriptLine.{ScriptLine};
+
+    ghost Value = { List ScriptLine };
+
+    ghost view = { λ s. s.lines.items };
+}
+
+impl Script {
+    /// The script of these lines. Takes no memory.
+    pub fn from_vec(lines: Vec<ScriptLine>) -> Script
+        ensures { result ≡ lines.items }
+    {
+        Script { lines }
+    }
+
+    /// Its lines in order, without the empty ones.
+    pub fn lines(&self) -> &[ScriptLine]
+        ensures { result.now ≡ self.now }
+    {
+        &self.lines
+    }
+}

@@ -1,0 +1,52 @@
+//! One script.
+
+ghost use Rattle.std.specs.Prelude.{◌≡◌, ◌++◌, List, IfOk, IfErr, OnOk};
+ghost use Rattle.script_text.specs.declared.script.ScriptLine.{ScriptLine};
+ghost use Rattle.script_text.specs.Texts.{LineHolds, TextHolds, IsLineFault, IsTextFault};
+
+use crate::{Script, ScriptLine, TextFault, next_line, read_line};
+use std::alloc::Global;
+
+/// The greatest number that a script line tells.
+const LAST_NUMBER: u64 = 4_294_967_295;
+
+// Reads the line with this number, and adds its command.
+fn add_line(
+    alloc: Global,
+    lines: &mut Vec<ScriptLine>,
+    number: u64,
+    line: &[u8],
+) -> Result<(), TextFault>
+    ensures line { OnOk result ((own : List ScriptLine) × (lines.new.items ≡ lines.old.items ++ own) × LineHolds number line.now own) }
+    ensures fault { IfErr result (IsLineFault number line.now) }
+{
+    if line.is_empty() {
+        return Ok(());
+    }
+    let Some(command) = read_line(alloc, line)? else {
+        return Err(TextFault::BadLine { line: number });
+    };
+    let line = number.min(LAST_NUMBER) as u32;
+    match lines.push(ScriptLine { line, command }) {
+        Ok(()) => Ok(()),
+        Err(_) => Err(TextFault::Memory),
+    }
+}
+
+/// Reads a text as a script: its lines in order, each ended by an LF, which the last may lack, without the empty ones. The
+/// lines keep their numbers, from 1, the empty ones counted; 4,294,967,295 stands for all numbers beyond it too. `BadLine` at
+/// the first line that is neither empty nor a command, and `Memory` if memory runs out before.
+pub fn read_text(alloc: Global, text: &[u8]) -> Result<Script, TextFault>
+    ensures script { IfOk result (TextHolds text.now) }
+    ensures fault { IfErr result (IsTextFault text.now) }
+{
+    let mut lines = Vec::new(alloc);
+    let mut rest = text;
+    let mut number: u64 = 0;
+    while let Some((line, behind)) = next_line(rest) {
+        number += 1;
+        add_line(alloc, &mut lines, number, line)?;
+        rest = behind;
+    }
+    Ok(Script::from_vec(lines))
+}

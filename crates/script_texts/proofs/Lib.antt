@@ -1,2 +1,0 @@
-pub mod Lining
-pub mod Counting

@@ -1,0 +1,97 @@
+-- What clerks have that had called nobody before they roamed.
+use Rattle.std.proofs.Common.{◌≡◌, ◌≢◌, ◌↔◌, ◌∙◌, ℕ, suc, ◌≤◌, List, [], ◌∷◌, ◌++◌, length, take, Result, Ok, Err, Option, None, IfErr, OnOk, IsErrOf, refl, sym, ap, subst, arith}
+use Rattle.std.specs.List.{All}
+use Rattle.std.proofs.lemmas.List.{length-drop, take_all}
+use Rattle.std.proofs.lemmas.List.Elements.{All-nil, All-cons, All-head, All-tail}
+use Rattle.std.specs.Option.{option_or}
+use Rattle.rule_machine.specs.RuleTable.{RuleTable}
+use Rattle.locked_net.specs.Receipts.{ClerkView}
+use Rattle.locked_net.specs.Roamed.{AllRoam, Roamed, TakesTurns, AllTakeTurns, MayStop}
+use Rattle.locked_net.specs.declared.roam_fault.RoamFault.{RoamFault}
+use Rattle.locked_net.specs.declared.roam_fault.RoamFault.TheVariants.{ZeroWorkers, Thread}
+use Rattle.locked_net.specs.declared.roam_fault.RoamFault.TheVariants as roam
+use Rattle.locked_net.specs.declared.call_fault.CallFault.{CallFault}
+use Rattle.script_text.specs.declared.script.ScriptLine.{ScriptLine}
+use Rattle.storm_call.specs.Storm.{AllPlayed, IsRoaming, AllTold}
+use Rattle.storm_call.specs.Roaming.{RoamedAfresh, roam_fault}
+
+-- that of their turns alone
+all_turns : (turns : ℕ) (old new : List ClerkView) → AllRoam turns old new → All (λ clerk. clerk.receipts ≡ []) old → (length new ≡ length old) × All (λ clerk. IsRoaming turns clerk.receipts) new
+all_turns turns [] [] roamed fresh = (refl, All-nil (λ clerk. IsRoaming turns clerk.receipts))
+all_turns turns [] (new ∷ news) roamed fresh = absurd roamed
+all_turns turns (old ∷ olds) [] roamed fresh = absurd roamed
+all_turns turns (old ∷ olds) (new ∷ news) (roams, others) fresh =
+    let none = λ (clerk : ClerkView). clerk.receipts ≡ [] in
+    let rest = all_turns turns olds news others (All-tail none old olds fresh) in
+    let is : new.receipts ≡ roams.own = roams.added ∙ ap (λ rs. rs ++ roams.own) (All-head none old olds fresh) in
+    (ap suc rest.0, All-cons (λ clerk. IsRoaming turns clerk.receipts) new news (subst (IsRoaming turns) (sym is) (roams.few, roams.lone)) rest.1)
+
+-- none of them is beyond the first 64
+all_workers : (turns : ℕ) (old new : List ClerkView) → length old ≤ 64 → Roamed turns old new → AllRoam turns old new
+all_workers turns old new few roamed =
+    let left : length new ≤ 64 = omega (arith, ap length roamed.others, length-drop 64 new, length-drop 64 old) in
+    subst (λ news. AllRoam turns old news) (take_all 64 new left) (subst (λ olds. AllRoam turns olds (take 64 new)) (take_all 64 old few) roamed.workers)
+
+-- none of them wanted a thread
+no_thread : (clerks : List ClerkView) (ended : Result Unit RoamFault) → IfErr ended (λ fault. MayStop clerks fault) → IfErr ended (λ fault. fault ≢ Thread)
+no_thread clerks (Ok done) may_stop = tt
+no_thread clerks (Err fault) may_stop = λ is. subst (MayStop clerks) is may_stop
+
+-- none of them had turns before
+fresh_turns : (t : RuleTable) (turns : ℕ) (old new : List ClerkView) → AllTakeTurns t turns old new → All (λ clerk. clerk.receipts ≡ []) old → All (λ clerk. TakesTurns t turns [] clerk.receipts) new
+fresh_turns t turns [] [] took fresh = All-nil (λ clerk. TakesTurns t turns [] clerk.receipts)
+fresh_turns t turns [] (new ∷ news) took fresh = absurd took
+fresh_turns t turns (old ∷ olds) [] took fresh = absurd took
+fresh_turns t turns (old ∷ olds) (new ∷ news) (own, others) fresh =
+    let none = λ (clerk : ClerkView). clerk.receipts ≡ [] in
+    let took : TakesTurns t turns [] new.receipts = subst (λ before. TakesTurns t turns before new.receipts) (All-head none old olds fresh) own in
+    All-cons (λ clerk. TakesTurns t turns [] clerk.receipts) new news took (fresh_turns t turns olds news others (All-tail none old olds fresh))
+
+all_took : (t : RuleTable) (turns : ℕ) (old new : List ClerkView) (ended : Result Unit RoamFault) → length old ≤ 64 → length new ≡ length old → All (λ clerk. clerk.receipts ≡ []) old
+    → OnOk ended (AllTakeTurns t turns (take 64 old) (take 64 new)) → OnOk ended (All (λ clerk. TakesTurns t turns [] clerk.receipts) new)
+all_took t turns old new (Err fault) few same fresh took = tt
+all_took t turns old new (Ok done) few same fresh took =
+    let left : length new ≤ 64 = omega (arith, few, same) in
+    fresh_turns t turns old new (subst (λ news. AllTakeTurns t turns old news) (take_all 64 new left) (subst (λ olds. AllTakeTurns t turns olds (take 64 new)) (take_all 64 old few) took)) fresh
+
+pub roamed_afresh : (t : RuleTable) (turns : ℕ) (old new : List ClerkView) (ended : Result Unit RoamFault) → length old ≤ 64 → All (λ clerk. clerk.receipts ≡ []) old
+    → Roamed turns old new → OnOk ended (AllTakeTurns t turns (take 64 old) (take 64 new)) → (IsErrOf ended ZeroWorkers ↔ (old ≡ [])) → IfErr ended (λ fault. MayStop new fault) → RoamedAfresh t turns old new ended
+roamed_afresh t turns old new ended few fresh roamed took none may_stop =
+    let all = all_turns turns old new (all_workers turns old new few roamed) fresh in
+    record { as_many = all.0; steps = all.1; whole = all_took t turns old new ended few all.0 fresh took; nobody = none; thread = no_thread new ended may_stop }
+
+-- ---- beside scripts
+
+no_clerk : (clerks : List ClerkView) → length clerks ≡ 0 → clerks ≡ []
+no_clerk [] none = refl
+no_clerk (own ∷ clerks) none = absurd (omega (arith, none))
+
+nobody_met : (ended : Result Unit RoamFault) → IsErrOf ended ZeroWorkers → roam_fault ended ≡ None
+nobody_met ended nobody = ap (λ (e : Result Unit RoamFault). roam_fault e) nobody
+
+-- where they met no fault, or nobody was there
+whole_turns : (t : RuleTable) (turns : ℕ) (old new : List ClerkView) (ended : Result Unit RoamFault) → RoamedAfresh t turns old new ended → roam_fault ended ≡ None → All (λ clerk. TakesTurns t turns [] clerk.receipts) new
+whole_turns t turns old new (Ok done) roamed none = roamed.whole
+whole_turns t turns old new (Err roam.ZeroWorkers) roamed none =
+    let left : new ≡ [] = no_clerk new (roamed.as_many ∙ ap length (roamed.nobody.0 refl)) in
+    subst (λ news. All (λ clerk. TakesTurns t turns [] clerk.receipts) news) (sym left) (All-nil (λ clerk. TakesTurns t turns [] clerk.receipts))
+whole_turns t turns old new (Err roam.Thread) roamed none = absurd (roamed.thread refl)
+whole_turns t turns old new (Err (roam.Behind front seen)) roamed none = cc
+whole_turns t turns old new (Err roam.LogFull) roamed none = cc
+whole_turns t turns old new (Err roam.Memory) roamed none = cc
+
+pub told_beside : (t : RuleTable) (scripts : List (List ScriptLine)) (roamers turns : ℕ) (own before roaming : List ClerkView) (met fault : Option CallFault) (ended : Result Unit RoamFault)
+    → AllPlayed scripts own met → RoamedAfresh t turns before roaming ended → length before ≡ roamers → fault ≡ option_or met (roam_fault ended) → AllTold t scripts roamers turns (own ++ roaming) fault
+told_beside t scripts roamers turns own before roaming met fault ended played roamed size first = record {
+  own = own;
+  roaming = roaming;
+  met = met;
+  other = roam_fault ended;
+  all = refl;
+  played = played;
+  as_many = roamed.as_many ∙ size;
+  roamed = roamed.steps;
+  first = first;
+  nobody = λ none. nobody_met ended (roamed.nobody.1 (no_clerk before (size ∙ none)));
+  whole = whole_turns t turns before roaming ended roamed;
+}

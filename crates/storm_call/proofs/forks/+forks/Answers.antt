@@ -1,0 +1,8 @@
+use Rattle.storm_call.proofs.Forking.{halves_played}
+use Rattle.storm_call.proofs.forks.+forks.Goals as goal
+
+pub play_all-returns : goal.play_all-returns
+play_all-returns g t c =
+    let parts = c.split_at.result in
+    let told = c.play_halves-fault in
+    halves_played c.args.scripts.now parts.0.now parts.1.now _ told.new.ours told.new.theirs told.result.0 told.result.1 c.or.result c.split_at.ensures.front c.split_at.ensures.back c.or.ensures told.ensures.left told.ensures.right

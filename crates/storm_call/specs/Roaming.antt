@@ -1,0 +1,29 @@
+-- How workers roam beside scripts, and what their fault is to a storm.
+use Rattle.std.specs.Prelude.{◌≡◌, ◌≢◌, ◌↔◌, ℕ, List, [], length, Option, None, Some, Result, Ok, Err, IfErr, OnOk, IsErrOf}
+use Rattle.std.specs.List.{All}
+use Rattle.rule_machine.specs.RuleTable.{RuleTable}
+use Rattle.locked_net.specs.Receipts.{ClerkView}
+use Rattle.locked_net.specs.Roamed.{TakesTurns}
+use Rattle.locked_net.specs.declared.call_fault.CallFault.{CallFault}
+use Rattle.locked_net.specs.declared.call_fault.CallFault.TheVariants.{Behind, LogFull, Memory}
+use Rattle.locked_net.specs.declared.roam_fault.RoamFault.{RoamFault}
+use Rattle.locked_net.specs.declared.roam_fault.RoamFault.TheVariants as roam
+use Rattle.storm_call.specs.Storm.{IsRoaming}
+
+-- Clerks who had called nobody have roamed for so many turns, and it ended so: each took them all where it ended well, nobody was
+-- there exactly where there are no clerks, and no thread was wanted.
+pub record RoamedAfresh (t : RuleTable) (turns : ℕ) (old new : List ClerkView) (ended : Result Unit RoamFault) : Type 0 where
+  pub as_many : length new ≡ length old
+  pub steps : All (λ clerk. IsRoaming turns clerk.receipts) new
+  pub whole : OnOk ended (All (λ clerk. TakesTurns t turns [] clerk.receipts) new)
+  pub nobody : IsErrOf ended roam.ZeroWorkers ↔ (old ≡ [])
+  pub thread : IfErr ended (λ fault. fault ≢ roam.Thread)
+
+-- the fault as that of a call; none where nobody was there
+abbrev pub roam_fault : Result Unit RoamFault → Option CallFault
+roam_fault (Ok done) = None
+roam_fault (Err roam.ZeroWorkers) = None
+roam_fault (Err roam.Thread) = None
+roam_fault (Err (roam.Behind front seen)) = Some (Behind front seen)
+roam_fault (Err roam.LogFull) = Some LogFull
+roam_fault (Err roam.Memory) = Some Memory

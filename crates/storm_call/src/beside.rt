@@ -1,0 +1,102 @@
+//! Scripts that are played while workers roam beside them.
+
+ghost use Rattle.std.specs.Prelude.{◌≡◌, ◌≢◌, ◌+◌, ◌≤◌, [], length, IfErr};
+ghost use Rattle.std.specs.List.{All};
+ghost use Rattle.std.specs.Option.{option_or};
+ghost use Rattle.std.specs.Thread.{IsSync, IsSend};
+ghost use Rattle.locked_net.specs.declared.roam_fault.RoamFault.TheVariants.{Thread};
+ghost use Rattle.storm_call.specs.Storm.{AllPlayed, AllTold};
+ghost use Rattle.storm_call.specs.Roaming.{RoamedAfresh, roam_fault};
+
+use crate::forks::play_all;
+use crate::stage::Stage;
+use locked_net::{CallFault, Clerk, RoamFault, roam};
+use rule_set::Rules;
+use script_text::Script;
+use std::sync::Wait;
+use std::thread::{Threads, join_mut};
+use steal_pool::{Gate, NoGate};
+
+/// Plays each script by the clerk at its place, and lets the clerks behind those of the scripts roam at the same time, where a
+/// thread can be had.
+pub(crate) fn play_beside<R: Rules + Send + Sync, G: Gate + Sync, T: Threads + Wait + Sync>(
+    rt: &T,
+    stage: &Stage<R, G>,
+    scripts: &[Script],
+    clerks: &mut [Clerk],
+) -> Option<CallFault>
+    requires size { length clerks.old ≡ length scripts.now + stage.now.crew.roamers }
+    requires few { length scripts.now ≤ 64 }
+    requires fresh { All (λ clerk. clerk.receipts ≡ []) clerks.old }
+    ensures { AllTold R.table scripts.now stage.now.crew.roamers stage.now.crew.turns clerks.new result }
+{
+    let (own, roaming) = clerks.split_at_mut(scripts.len());
+    let (met, roamed) = play_and_roam(rt, stage, scripts, own, roaming);
+    first_fault(met, roamed)
+}
+
+/// What the scripts met, and the workers.
+fn play_and_roam<R: Rules + Send + Sync, G: Gate + Sync, T: Threads + Wait + Sync>(
+    rt: &T,
+    stage: &Stage<R, G>,
+    scripts: &[Script],
+    own: &mut [Clerk],
+    roaming: &mut [Clerk],
+) -> (Option<CallFault>, Result<(), RoamFault>)
+    requires size { length scripts.now ≡ length own.old }
+    requires few_scripts { length scripts.now ≤ 64 }
+    requires few_workers { length roaming.old ≤ 64 }
+    requires own_fresh { All (λ clerk. clerk.receipts ≡ []) own.old }
+    requires roaming_fresh { All (λ clerk. clerk.receipts ≡ []) roaming.old }
+    ensures played { AllPlayed scripts.now own.new result.0 }
+    ensures roamed { RoamedAfresh R.table stage.now.crew.turns roaming.old roaming.new result.1 }
+{
+    if roaming.is_empty() {
+        return (
+            play_all(rt, stage, 0, scripts, own),
+            Err(RoamFault::ZeroWorkers),
+        );
+    }
+    let turns = stage.crew.turns;
+    let (roamed, met) = join_mut(
+        rt,
+        &mut || -> Result<(), RoamFault>
+            requires { IsSync T.row × IsSend R.row × (length roaming.now ≤ 64) × All (λ clerk. clerk.receipts ≡ []) roaming.now }
+            ensures { RoamedAfresh R.table turns roaming.entry.now roaming.exit.now result }
+        { roam_new(rt, stage, turns, roaming) },
+        &mut || -> Option<CallFault>
+            requires { IsSync T.row × IsSync G.row × IsSend R.row × IsSync R.row × (length scripts.now ≡ length own.now) × (length scripts.now ≤ 64) × All (λ clerk. clerk.receipts ≡ []) own.now }
+            ensures { AllPlayed scripts.entry.now own.exit.now result }
+        { play_all(rt, stage, 0, scripts, own) },
+    );
+    (met, roamed)
+}
+
+/// Lets clerks roam who have called nobody, each for so many turns.
+fn roam_new<R: Rules + Send, G: Gate, T: Threads + Wait + Sync>(
+    rt: &T,
+    stage: &Stage<R, G>,
+    turns: u32,
+    clerks: &mut [Clerk],
+) -> Result<(), RoamFault>
+    requires few { length clerks.old ≤ 64 }
+    requires fresh { All (λ clerk. clerk.receipts ≡ []) clerks.old }
+    ensures { RoamedAfresh R.table turns clerks.old clerks.new result }
+{
+    roam(rt, stage.net, clerks, turns, &NoGate)
+}
+
+/// The fault that a storm tells: the scripts', and the workers' where the scripts met none.
+fn first_fault(met: Option<CallFault>, roamed: Result<(), RoamFault>) -> Option<CallFault>
+    requires { IfErr roamed (λ fault. fault ≢ Thread) }
+    ensures { result ≡ option_or met (roam_fault roamed) }
+{
+    let other = match roamed {
+        Ok(()) | Err(RoamFault::ZeroWorkers) => None,
+        Err(RoamFault::Thread) => unreachable!(),
+        Err(RoamFault::Behind { front, seen }) => Some(CallFault::Behind { front, seen }),
+        Err(RoamFault::LogFull) => Some(CallFault::LogFull),
+        Err(RoamFault::Memory) => Some(CallFault::Memory),
+    };
+    met.or(other)
+}

@@ -1,0 +1,72 @@
+//! How many scripts are played at once.
+
+ghost use Rattle.std.specs.Prelude.{◌≡◌, ◌+◌, ◌<◌, ◌^◌, [], length};
+ghost use Rattle.std.specs.List.{All};
+ghost use Rattle.std.specs.Thread.{IsSync, IsSend};
+ghost use Rattle.storm_call.specs.Storm.{AllPlayed};
+
+use crate::stage::{Stage, play_first};
+use locked_net::{CallFault, Clerk};
+use rule_set::Rules;
+use script_text::Script;
+use std::sync::Wait;
+use std::thread::{Threads, join_mut};
+use steal_pool::Gate;
+
+/// Plays each script by the clerk at its place, all at once where threads can be had, and answers the first fault in their
+/// order. The first script has the number handed in.
+#[cycle(forks)]
+pub(crate) fn play_all<R: Rules + Send + Sync, G: Gate + Sync, T: Threads + Wait + Sync>(
+    rt: &T,
+    stage: &Stage<R, G>,
+    first: u32,
+    scripts: &[Script],
+    clerks: &mut [Clerk],
+) -> Option<CallFault>
+    requires size { length scripts.now ≡ length clerks.old }
+    requires numbers { first + length scripts.now < 2 ^ 32 }
+    requires fresh { All (λ clerk. clerk.receipts ≡ []) clerks.old }
+    ensures { AllPlayed scripts.now clerks.new result }
+{
+    if scripts.len() < 2 {
+        return play_first(rt, stage, first, scripts, clerks);
+    }
+    let middle = scripts.len() / 2;
+    let (left, right) = scripts.split_at(middle);
+    let (ours, theirs) = clerks.split_at_mut(middle);
+    let (fault, other) = play_halves(rt, stage, first, left, right, ours, theirs);
+    fault.or(other)
+}
+
+/// Plays two rows of scripts at once, where a thread can be had.
+#[cycle(forks)]
+fn play_halves<R: Rules + Send + Sync, G: Gate + Sync, T: Threads + Wait + Sync>(
+    rt: &T,
+    stage: &Stage<R, G>,
+    first: u32,
+    left: &[Script],
+    right: &[Script],
+    ours: &mut [Clerk],
+    theirs: &mut [Clerk],
+) -> (Option<CallFault>, Option<CallFault>)
+    requires left_size { length left.now ≡ length ours.old }
+    requires right_size { length right.now ≡ length theirs.old }
+    requires numbers { first + length left.now + length right.now < 2 ^ 32 }
+    requires left_fresh { All (λ clerk. clerk.receipts ≡ []) ours.old }
+    requires right_fresh { All (λ clerk. clerk.receipts ≡ []) theirs.old }
+    ensures left { AllPlayed left.now ours.new result.0 }
+    ensures right { AllPlayed right.now theirs.new result.1 }
+{
+    let second = first + left.len() as u32;
+    join_mut(
+        rt,
+        &mut || -> Option<CallFault>
+            requires { IsSync T.row × IsSync G.row × IsSend R.row × IsSync R.row × (length left.now ≡ length ours.now) × (first + length left.now < 2 ^ 32) × All (λ clerk. clerk.receipts ≡ []) ours.now }
+            ensures { AllPlayed left.entry.now ours.exit.now result }
+        { play_all(rt, stage, first, left, ours) },
+        &mut || -> Option<CallFault>
+            requires { IsSync T.row × IsSync G.row × IsSend R.row × IsSync R.row × (length right.now ≡ length theirs.now) × (second + length right.now < 2 ^ 32) × All (λ clerk. clerk.receipts ≡ []) theirs.now }
+            ensures { AllPlayed right.entry.now theirs.exit.now result }
+        { play_all(rt, stage, second, right, theirs) },
+    )
+}

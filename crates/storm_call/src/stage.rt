@@ -1,0 +1,63 @@
+//! How one script is played.
+
+ghost use Rattle.std.specs.Prelude.{◌≡◌, ◌<◌, [], length};
+ghost use Rattle.std.specs.List.{All};
+ghost use Rattle.std.specs.Result.{result_err};
+ghost use Rattle.storm_call.specs.Storm.{MayStop, AllPlayed};
+
+use crate::Crew;
+use crate::play::play;
+use locked_net::{CallFault, Clerk, LockedNet};
+use rule_set::Rules;
+use script_text::Script;
+use std::alloc::Global;
+use std::sync::Wait;
+use std::thread::Threads;
+use steal_pool::Gate;
+
+/// The network on which scripts are played, the gate that they pass, and who works beside them.
+#[derive(Drop)]
+pub(crate) struct Stage<'a, R: Rules, G: Gate> {
+    pub alloc: Global,
+    pub net: &'a LockedNet<R>,
+    pub gate: &'a G,
+    pub crew: Crew,
+}
+
+/// Plays a script line by line, up to its end or a fault. Before each line, the gate is passed with the number of the script,
+/// from 0, and that of the line.
+fn play_script<R: Rules + Sync, G: Gate, T: Threads + Wait + Sync>(
+    rt: &T,
+    stage: &Stage<R, G>,
+    number: u32,
+    script: &Script,
+    clerk: &mut Clerk,
+) -> Result<(), CallFault>
+    requires { clerk.old.receipts ≡ [] }
+    ensures { MayStop script.now clerk.new.receipts (result_err result) }
+{
+    for line in script.lines() {
+        stage.gate.pass(rt, number, line.line);
+        play(rt, stage, clerk, &line.command)?;
+    }
+    Ok(())
+}
+
+/// Plays the script, if there is one.
+pub(crate) fn play_first<R: Rules + Sync, G: Gate, T: Threads + Wait + Sync>(
+    rt: &T,
+    stage: &Stage<R, G>,
+    number: u32,
+    scripts: &[Script],
+    clerks: &mut [Clerk],
+) -> Option<CallFault>
+    requires few { length scripts.now < 2 }
+    requires size { length scripts.now ≡ length clerks.old }
+    requires fresh { All (λ clerk. clerk.receipts ≡ []) clerks.old }
+    ensures { AllPlayed scripts.now clerks.new result }
+{
+    if scripts.is_empty() {
+        return None;
+    }
+    play_script(rt, stage, number, &scripts[0], &mut clerks[0]).err()
+}

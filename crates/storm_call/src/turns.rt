@@ -1,0 +1,51 @@
+//! How the turns of one line are taken.
+
+ghost use Rattle.storm_call.specs.Storm.{IsOfStep, IsOfFault};
+ghost use Rattle.storm_call.specs.Played.{AddsUpTo};
+
+use daemon::Seeded;
+use fault_injector::Injector;
+use locked_net::{CallFault, Clerk, LockedNet};
+use rand_core::SeedableRng;
+use rand_pcg::Pcg32;
+use rule_set::Rules;
+use script_text::Turns;
+use std::alloc::Global;
+use std::sync::Wait;
+
+/// Steps of a daemon that draws its choices from the generator with this seed, up to one that finds no node enabled.
+pub(crate) fn drive<R: Rules, W: Wait>(
+    rt: &W,
+    alloc: Global,
+    net: &LockedNet<R>,
+    clerk: &mut Clerk,
+    turns: Turns,
+) -> Result<(), CallFault>
+    ensures { AddsUpTo IsOfStep turns.count clerk.old.receipts clerk.new.receipts result }
+{
+    let mut daemon = Seeded::new(alloc, Pcg32::seed_from_u64(turns.seed));
+    for _ in 0..turns.count {
+        if clerk.drive_with(rt, net, &mut daemon)?.is_none() {
+            return Ok(());
+        }
+    }
+    Ok(())
+}
+
+/// Register faults that are drawn from the generator with this seed; none where the network has no node.
+pub(crate) fn scramble<R: Rules, W: Wait>(
+    rt: &W,
+    net: &LockedNet<R>,
+    clerk: &mut Clerk,
+    turns: Turns,
+) -> Result<(), CallFault>
+    ensures { AddsUpTo IsOfFault turns.count clerk.old.receipts clerk.new.receipts result }
+{
+    let mut injector = Injector::new(Pcg32::seed_from_u64(turns.seed));
+    for _ in 0..turns.count {
+        if clerk.fault_with(rt, net, &mut injector)?.is_none() {
+            return Ok(());
+        }
+    }
+    Ok(())
+}

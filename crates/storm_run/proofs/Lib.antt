@@ -1,4 +1,0 @@
-pub mod Adding
-pub mod Standing
-pub mod Forking
-pub mod Roving

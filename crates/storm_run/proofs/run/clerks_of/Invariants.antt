@@ -1,6 +1,0 @@
-use Rattle.std.proofs.Common.{◌≡◌, [], vec_len}
-use Rattle.std.specs.List.{All}
-use Rattle.storm_run.proofs.run.clerks_of.Given as goal
-
-abbrev pub invariant-loop : goal.invariant-loop
-invariant-loop g l = record { count : vec_len l.clerks ≡ l.counter; fresh : All (λ clerk. clerk.receipts ≡ []) l.clerks.items }

@@ -1,4 +1,0 @@
-pub mod Storm
-pub mod Played
-pub mod Faults
-pub mod Roaming

@@ -1,0 +1,56 @@
+//! The lines of edges.
+
+ghost use Rattle.std.specs.Prelude.{◌≡◌, ◌++◌, IsTrue, OnOk};
+ghost use Rattle.std.specs.List.{flat_map};
+ghost use Rattle.rule_machine.specs.Network.{names, present};
+ghost use Rattle.transcript_view.specs.Picture.{edge_line, edges_at, style_text};
+
+use crate::words::put_name;
+use judge::Judge;
+use rule_machine::{Node, Want};
+
+// Writes how an edge is drawn, by whether its lower end points along it, and its higher end.
+fn put_style(out: &mut Vec<u8>, forward: bool, back: bool) -> Result<(), Want>
+    ensures { OnOk result (out.new.items ≡ out.old.items ++ style_text forward back) }
+{
+    match (forward, back) {
+        (true, true) => out.extend_from_slice(b" [style=bold]"),
+        (true, false) => out.extend_from_slice(b" [dir=forward]"),
+        (false, true) => out.extend_from_slice(b" [dir=back]"),
+        (false, false) => Ok(()),
+    }
+}
+
+fn put_edge(out: &mut Vec<u8>, judge: &Judge, a: Node, b: Node) -> Result<(), Want>
+    ensures { OnOk result (out.new.items ≡ out.old.items ++ edge_line judge.now a b) }
+{
+    put_name(out, a)?;
+    out.extend_from_slice(b" -- ")?;
+    put_name(out, b)?;
+    put_style(out, judge.points(a, b), judge.points(b, a))?;
+    out.extend_from_slice(b";\n")
+}
+
+// Writes a line for each edge of which a node is the lower end.
+fn put_edges_at(out: &mut Vec<u8>, judge: &Judge, v: Node) -> Result<(), Want>
+    requires { IsTrue (present judge.now.network v) }
+    ensures { OnOk result (out.new.items ≡ out.old.items ++ edges_at judge.now v) }
+{
+    for &w in judge.neighbours(v) {
+        if v < w {
+            put_edge(out, judge, v, w)?;
+        }
+    }
+    Ok(())
+}
+
+/// Writes a line for each edge, ascending.
+pub(crate) fn put_edges(out: &mut Vec<u8>, judge: &Judge) -> Result<(), Want>
+    ensures { OnOk result (out.new.items ≡ out.old.items ++ flat_map (edges_at judge.now) (names judge.now.network)) }
+{
+    for name in 1..judge.nodes() + 1 {
+        let v = Node::new(name).unwrap();
+        put_edges_at(out, judge, v)?;
+    }
+    Ok(())
+}

@@ -1,0 +1,56 @@
+//! The lines of nodes.
+
+ghost use Rattle.std.specs.Prelude.{◌≡◌, ◌++◌, IsTrue, OnOk};
+ghost use Rattle.std.specs.List.{flat_map};
+ghost use Rattle.rule_machine.specs.Network.{names, present};
+ghost use Rattle.rule_machine.specs.Tables.{table_of};
+ghost use Rattle.transcript_view.specs.Picture.{fill_text, node_line, rule_text};
+
+use crate::words::{put_act, put_name};
+use judge::Judge;
+use rule_machine::{Act, Node, RuleSet, Want};
+
+// Writes a node's rule, where one is enabled at it.
+fn put_rule(out: &mut Vec<u8>, rule: Option<Act>) -> Result<(), Want>
+    ensures { OnOk result (out.new.items ≡ out.old.items ++ rule_text rule) }
+{
+    if let Some(act) = rule {
+        out.extend_from_slice(b"\\n")?;
+        put_act(out, act)?;
+    }
+    Ok(())
+}
+
+// Writes that a node is filled, where it is married.
+fn put_fill(out: &mut Vec<u8>, married: bool) -> Result<(), Want>
+    ensures { OnOk result (out.new.items ≡ out.old.items ++ fill_text married) }
+{
+    if married {
+        out.extend_from_slice(b", style=filled")?;
+    }
+    Ok(())
+}
+
+fn put_node(out: &mut Vec<u8>, judge: &Judge, rules: RuleSet, v: Node) -> Result<(), Want>
+    requires { IsTrue (present judge.now.network v) }
+    ensures { OnOk result (out.new.items ≡ out.old.items ++ node_line (table_of rules) judge.now v) }
+{
+    put_name(out, v)?;
+    out.extend_from_slice(b" [label=\"")?;
+    put_name(out, v)?;
+    put_rule(out, judge.rule_at(rules, v))?;
+    out.extend_from_slice(b"\"")?;
+    put_fill(out, judge.married(v))?;
+    out.extend_from_slice(b"];\n")
+}
+
+/// Writes a line for each node, ascending.
+pub(crate) fn put_nodes(out: &mut Vec<u8>, judge: &Judge, rules: RuleSet) -> Result<(), Want>
+    ensures { OnOk result (out.new.items ≡ out.old.items ++ flat_map (node_line (table_of rules) judge.now) (names judge.now.network)) }
+{
+    for name in 1..judge.nodes() + 1 {
+        let v = Node::new(name).unwrap();
+        put_node(out, judge, rules, v)?;
+    }
+    Ok(())
+}
