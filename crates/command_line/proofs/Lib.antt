@@ -1,7 +1,2 @@
-pub mod Adding
-pub mod Found
-pub mod Read
-pub mod GoodWords
-pub mod StormRead
 pub mod OneVerdict
 pub mod Input

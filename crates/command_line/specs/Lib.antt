@@ -1,5 +1,3 @@
-pub mod Mistake
-pub mod Wanted
 pub mod Status
 pub mod VerdictText
 pub mod FaultText

@@ -2,8 +2,8 @@
 
 ghost use Rattle.std.specs.Prelude.{◌≡◌, ◌⊎◌, IfErr, IfOk, IfSome, Result, map};
 ghost use Rattle.clap.specs.declared.error.kind.ErrorKind.TheVariants.{OutOfMemory};
-ghost use Rattle.command_line.specs.declared.task.Task.{Task};
-ghost use Rattle.command_line.specs.Wanted.{Answers, Wants};
+ghost use Rattle.command_words.specs.declared.task.Task.{Task};
+ghost use Rattle.command_words.specs.Wanted.{Answers, Wants};
 ghost use Rattle.clap.specs.declared.error.Error.{Error};
 ghost use Rattle.clap.specs.Words.{kind_of};
 ghost use Rattle.byte_streams.specs.Beginning.{AppendsBeginning};
@@ -15,10 +15,10 @@ use crate::fault_line::write_fault;
 use crate::once::write_text;
 use crate::verdict::check;
 use crate::viewing::{draw, list_epochs};
-use crate::{Task, read_words};
 use byte_streams::finish;
 use clap::Error;
 use clap::error::ErrorKind;
+use command_words::{Task, read_words};
 use script_run::{Options, RunFault, run};
 use std::alloc::Global;
 use std::convert::AsStr;

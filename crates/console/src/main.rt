@@ -2,7 +2,8 @@
 //! scripts from files at once.
 #![tactic(auto)]
 
-use command_line::{end_words, read_storm, start, tell_no_words};
+use command_line::{end_words, start, tell_no_words};
+use command_words::read_storm;
 use script_run::Options;
 use std::fs::File;
 use std::process::ExitCode;

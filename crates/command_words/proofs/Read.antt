@@ -1,0 +1,41 @@
+-- What the words were read as.
+use Rattle.std.proofs.Common.{◌≡◌, List, Option, None, Some, Result, Ok, Err, refl, sym, subst, true}
+use Rattle.std.specs.Prelude.{IfErr}
+use Rattle.clap.specs.Words.{App, HasMatchesOf, Row, Text, subcommand_of, subcommand_rows_of, takes}
+use Rattle.clap.specs.declared.parser.matches.ArgMatches.{ArgMatches}
+use Rattle.clap.specs.declared.error.Error.{Error}
+use Rattle.command_words.specs.declared.task.Task.{Task}
+use Rattle.command_words.specs.declared.task.Task.TheVariants.{Run, Audit, Picture, Epochs, Show}
+use Rattle.command_words.specs.Wanted.{Names, AreRules, console_app, Holds, Answers, Wants}
+
+-- what a parse found is what the command makes of the words
+pub matched : (a : App) (names : Names) (words : List Text) (m : ArgMatches) → a ≡ console_app names → HasMatchesOf a words m → subcommand_rows_of m ≡ subcommand_of (console_app names) words
+matched a names words m e h =
+    let exact = subst (λ (z : App). HasMatchesOf z words m) e h in
+    (exact refl).1
+
+-- no text is held
+no_text : (o : Option (Text × List Row)) (text : Error) → Holds o (Show text) → ⊥
+no_text None text h = h
+no_text (Some p) text h = h
+
+-- what is held is answered
+pub answered : (names : Names) (words : List Text) (o : Option (Text × List Row)) (task : Task) → AreRules names → o ≡ subcommand_of (console_app names) words → Holds o task → Answers words task
+answered names words o (Run r n k) a e h = (names, a, subst (λ (z : Option (Text × List Row)). Holds z (Run r n k)) e h)
+answered names words o Audit a e h = (names, a, subst (λ (z : Option (Text × List Row)). Holds z Audit) e h)
+answered names words o (Picture entry) a e h = (names, a, subst (λ (z : Option (Text × List Row)). Holds z (Picture entry)) e h)
+answered names words o Epochs a e h = (names, a, subst (λ (z : Option (Text × List Row)). Holds z Epochs) e h)
+answered names words o (Show text) a e h = absurd (no_text o text h)
+
+-- nothing is wanted where no task is held
+pub unwanted : (names : Names) (words : List Text) (o : Option (Text × List Row)) → AreRules names → o ≡ subcommand_of (console_app names) words → ((task : Task) → Holds o task → ⊥) → (task : Task) → Wants words task → ⊥
+unwanted names words o a e none task w = none task (subst (λ (z : Option (Text × List Row)). Holds z task) (sym e) (w names a).1)
+
+-- words that are wanted are taken
+pub taken : (a : App) (names : Names) (words : List Text) (task : Task) → AreRules names → a ≡ console_app names → Wants words task → takes a words ≡ true
+taken a names words task r e w = subst (λ (z : App). takes z words ≡ true) (sym e) (w names r).0
+
+-- what holds of whatever error
+pub of_error : {T E : Type 0} (r : Result T E) (P : E → Type 0) → ((e : E) → P e) → IfErr r P
+of_error (Ok x) P h = tt
+of_error (Err e) P h = h e

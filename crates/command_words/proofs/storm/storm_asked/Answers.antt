@@ -1,0 +1,14 @@
+use Rattle.std.proofs.Common.{◌≡◌, rules, ap, Some, ◌∙◌}
+use Rattle.std.specs.Prelude.{codes}
+use Rattle.clap.specs.Words.{Text, found_of, rows_of, subcommand_rows_of}
+use Rattle.clap.specs.declared.parser.matches.ArgMatches.TheViews.{out-ArgMatches}
+use Rattle.command_words.proofs.Found.{parts_are}
+use Rattle.command_words.proofs.StormRead.{storm_found}
+use Rattle.command_words.proofs.storm.storm_asked.Goals as goal
+
+pub returns-then-eq-clause-read : goal.returns-then-eq-clause-read
+returns-then-eq-clause-read c =
+    let rows = rows_of (found_of c.in-Some.inner.now) in
+    let storm : c.in-Some.name.now ≡ codes "storm" = search rules in
+    let parts : subcommand_rows_of c.args.found.now ≡ Some (c.in-Some.name.now, rows) = parts_are _ _ (out-ArgMatches c.args.found.now).subcommand c.in-Some.name.now rows c.in-Some.ensures.name c.in-Some.ensures.rows in
+    storm_found (subcommand_rows_of c.args.found.now) rows c.storm_words.result (parts ∙ ap (λ (z : Text). Some (z, rows)) storm) c.storm_words.ensures.read

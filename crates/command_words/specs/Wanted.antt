@@ -1,0 +1,200 @@
+-- What the words of the command line ask for, by clap's account of what a command makes of words.
+use Rattle.std.specs.Prelude.{◌≡◌, ◌⊎◌, ℕ, ◌<◌, ◌≤◌, ◌^◌, List, [], ◌∷◌, ◌++◌, map, Option, None, Some, pos, true, codes}
+use Rattle.std.specs.Borrow.{Bor}
+use Rattle.std.specs.Fmt.{decimal}
+use Rattle.std.specs.Str.Parse.{IsNumeral, digits_value, without_leading_plus}
+use Rattle.clap.specs.Lexer.{usize_max}
+use Rattle.clap.specs.Words.{App, Row, Rule, Text, all_of, first_of, kind_of, new_app, new_rule, one_of, subcommand_of, takes, with_rule, with_subcommand}
+use Rattle.clap.specs.declared.builder.value_parser.ValueParser.TheVariants as vp
+use Rattle.clap.specs.declared.error.kind.ErrorKind.TheVariants.{DisplayHelp, DisplayVersion}
+use Rattle.rule_machine.specs.declared.rules.RuleSet.{RuleSet}
+use Rattle.rule_machine.specs.Tables.{rules_word}
+use Rattle.command_words.specs.declared.storm.StormWords.{StormWords}
+use Rattle.command_words.specs.declared.task.Task.{Task}
+use Rattle.command_words.specs.declared.task.Task.TheVariants.{Run, Audit, Picture, Epochs, Show}
+
+-- texts, as a parser of values refers to them
+abbrev pub Names : Type 0
+Names = Bor (List (Bor Text))
+
+-- the texts are the words for the rule sets
+abbrev pub AreRules : Names → Type 0
+AreRules names = map (λ s. s.now) names.now ≡ codes "hh" ∷ codes "manne" ∷ []
+
+-- `--NAME` and one value
+abbrev pub valued_rule : Text → Rule
+valued_rule name = record (new_rule name) { long = Some name; value_names = 1 }
+
+-- `--rules` and one of the names, which is required
+abbrev pub rules_rule : Names → Rule
+rules_rule names = record (valued_rule (codes "rules")) { parser = Some (vp.Names names); required = true }
+
+-- `--nodes` and a number from 0 to 65,535, which is required
+abbrev pub nodes_rule : Rule
+nodes_rule = record (valued_rule (codes "nodes")) { parser = Some (vp.Signed (pos 0) (pos 65535)); required = true }
+
+-- `--workers` and a number from 1 to 64, which is 1 where it is left out
+abbrev pub workers_rule : Rule
+workers_rule = record (valued_rule (codes "workers")) { defaults = codes "1" ∷ []; parser = Some (vp.Signed (pos 1) (pos 64)) }
+
+-- a subcommand and these three
+abbrev pub network_app : App → Names → App
+network_app app names = with_rule (with_rule (with_rule app (rules_rule names)) nodes_rule) workers_rule
+
+-- the subcommand `run`
+abbrev pub run_app : Names → App
+run_app names = network_app (new_app (codes "run")) names
+
+-- `--entry` and a number from 0 to 16,777,216, which may be left out
+abbrev pub entry_rule : Rule
+entry_rule = record (valued_rule (codes "entry")) { parser = Some (vp.Signed (pos 0) (pos 16777216)) }
+
+-- the subcommand `picture`
+abbrev pub picture_app : App
+picture_app = with_rule (new_app (codes "picture")) entry_rule
+
+-- a command with a version, which needs a subcommand, and shows its help where there is none
+abbrev pub top_app : App
+top_app = record (new_app (codes "console")) {
+  top = record (new_app (codes "console")).top { has_version = true; subcommand_required = true; arg_required_else_help = true };
+}
+
+-- the command with the subcommands that run and judge
+abbrev pub judging_app : Names → App
+judging_app names = with_subcommand (with_subcommand top_app (run_app names).top) (new_app (codes "audit")).top
+
+-- `--roam` and a number from 0 to 64, which is 0 where it is left out
+abbrev pub roam_rule : Rule
+roam_rule = record (valued_rule (codes "roam")) { defaults = codes "0" ∷ []; parser = Some (vp.Signed (pos 0) (pos 64)) }
+
+-- `--turns` and a number from 0 to 1,000,000, which is 1,000 where it is left out
+abbrev pub turns_rule : Rule
+turns_rule = record (valued_rule (codes "turns")) { defaults = codes "1000" ∷ []; parser = Some (vp.Signed (pos 0) (pos 1000000)) }
+
+-- the names of files, one or more
+abbrev pub script_rule : Rule
+script_rule = record (new_rule (codes "SCRIPT")) { range = Some (record { start_inclusive = 1; end_inclusive = usize_max }); required = true }
+
+-- the subcommand `storm`
+abbrev pub storm_app : Names → App
+storm_app names = with_rule (with_rule (with_rule (network_app (new_app (codes "storm")) names) roam_rule) turns_rule) script_rule
+
+-- the command with these, and with the subcommands that show
+abbrev pub showing_app : Names → App
+showing_app names = with_subcommand (with_subcommand (judging_app names) picture_app.top) (new_app (codes "epochs")).top
+
+-- the command with all five
+abbrev pub console_app : Names → App
+console_app names = with_subcommand (showing_app names) (storm_app names).top
+
+-- the text is a number below the limit in decimal; a plus and zeros may stand in front
+abbrev pub IsNumber : ℕ → Text → ℕ → Type 0
+IsNumber limit text n = (IsNumeral 10 (without_leading_plus text) × (digits_value 10 (without_leading_plus text) < limit)) × (n ≡ digits_value 10 (without_leading_plus text))
+
+-- what was found for an argument is this number
+pub record GivesNumber (limit : ℕ) (id : Text) (found : List Row) (n : ℕ) : Type 0 where
+  pub text : Text
+  pub given : one_of id found ≡ Some text
+  pub is : IsNumber limit text n
+
+-- what was found for `run` are this rule set, this number of nodes and this number of workers
+pub record HoldsRun (found : List Row) (rules : RuleSet) (nodes workers : ℕ) : Type 0 where
+  pub rules_is : first_of (codes "rules") found ≡ Some (rules_word rules)
+  pub nodes_is : GivesNumber (2 ^ 16) (codes "nodes") found nodes
+  pub workers_is : GivesNumber (2 ^ 16) (codes "workers") found workers
+
+-- what was found for `picture` is this entry, or none
+abbrev pub HoldsPicture : List Row → Option ℕ → Type 0
+HoldsPicture found None = one_of (codes "entry") found ≡ None
+HoldsPicture found (Some entry) = (text : Text) × (one_of (codes "entry") found ≡ Some text) × IsNumber (2 ^ 32) text entry
+
+-- the subcommand, and what was found for it, are the task's
+abbrev pub Holds : Option (Text × List Row) → Task → Type 0
+Holds (Some p) (Run rules nodes workers) = (p.0 ≡ codes "run") × HoldsRun p.1 rules nodes workers
+Holds (Some p) Audit = p.0 ≡ codes "audit"
+Holds (Some p) (Picture entry) = (p.0 ≡ codes "picture") × HoldsPicture p.1 entry
+Holds (Some p) Epochs = p.0 ≡ codes "epochs"
+Holds found task = ⊥
+
+-- the words are read as the task
+abbrev pub Asks : List Text → Task → Type 0
+Asks words task = (names : Names) × AreRules names × Holds (subcommand_of (console_app names) words) task
+
+-- what is answered for the words: the help or the version where that is asked for, or what they are read as
+abbrev pub Answers : List Text → Task → Type 0
+Answers words (Show text) = (kind_of text ≡ DisplayHelp) ⊎ (kind_of text ≡ DisplayVersion)
+Answers words task = Asks words task
+
+-- the words are good, and are read as the task
+abbrev pub Wants : List Text → Task → Type 0
+Wants words task =
+    (names : Names) → AreRules names → (takes (console_app names) words ≡ true) × Holds (subcommand_of (console_app names) words) task
+
+-- a storm: its rule set, how many nodes there are, how many workers evaluate a step, how many roam and for how many turns, and the
+-- names of the scripts' files
+pub record Storm : Type 0 where
+  pub rules : RuleSet
+  pub nodes : ℕ
+  pub workers : ℕ
+  pub roamers : ℕ
+  pub turns : ℕ
+  pub scripts : List Text
+
+abbrev pub storm_of : StormWords → Storm
+storm_of words = record {
+  rules = words.rules;
+  nodes = words.nodes;
+  workers = words.workers;
+  roamers = words.roamers;
+  turns = words.turns;
+  scripts = map (λ s. s.now) words.scripts.items;
+}
+
+-- what was found for `storm` is this one
+pub record HoldsStorm (found : List Row) (storm : Storm) : Type 0 where
+  pub run_is : HoldsRun found storm.rules storm.nodes storm.workers
+  pub roamers_is : GivesNumber (2 ^ 16) (codes "roam") found storm.roamers
+  pub turns_is : GivesNumber (2 ^ 32) (codes "turns") found storm.turns
+  pub scripts_is : all_of (codes "SCRIPT") found ≡ Some storm.scripts
+
+-- the subcommand is `storm`, and this was found for it
+abbrev pub IsStorm : Option (Text × List Row) → Storm → Type 0
+IsStorm None storm = ⊥
+IsStorm (Some p) storm = (p.0 ≡ codes "storm") × HoldsStorm p.1 storm
+
+-- the words are read as the storm
+abbrev pub AsksStorm : List Text → Storm → Type 0
+AsksStorm words storm = (names : Names) × AreRules names × IsStorm (subcommand_of (console_app names) words) storm
+
+-- the words are good, and are read as the storm
+abbrev pub WantsStorm : List Text → Storm → Type 0
+WantsStorm words storm =
+    (names : Names) → AreRules names → (takes (console_app names) words ≡ true) × IsStorm (subcommand_of (console_app names) words) storm
+
+-- `--workers`, where a number is named
+abbrev pub workers_words : Option ℕ → List Text
+workers_words None = []
+workers_words (Some k) = (codes "--workers=" ++ decimal k) ∷ []
+
+-- a number of workers, where one is named
+abbrev pub AreWorkers : Option ℕ → Type 0
+AreWorkers None = Unit {0}
+AreWorkers (Some k) = (1 ≤ k) × (k ≤ 64)
+
+-- the usual words for a run
+abbrev pub run_words : Text → RuleSet → ℕ → Option ℕ → List Text
+run_words program rules nodes workers =
+    program ∷ codes "run" ∷ (codes "--rules=" ++ rules_word rules) ∷ (codes "--nodes=" ++ decimal nodes) ∷ workers_words workers
+
+-- the words for an audit
+abbrev pub audit_words : Text → List Text
+audit_words program = program ∷ codes "audit" ∷ []
+
+-- the words for a picture
+abbrev pub picture_words : Text → Option ℕ → List Text
+picture_words program None = program ∷ codes "picture" ∷ []
+picture_words program (Some entry) = program ∷ codes "picture" ∷ (codes "--entry=" ++ decimal entry) ∷ []
+
+-- the words for the epochs
+abbrev pub epochs_words : Text → List Text
+epochs_words program = program ∷ codes "epochs" ∷ []

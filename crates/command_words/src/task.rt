@@ -1,0 +1,130 @@
+//! What words ask for.
+
+ghost use Rattle.std.specs.Prelude.{◌≡◌, ◌^◌, ℕ, Option, Some, MatchOption, codes};
+ghost use Rattle.clap.specs.Words.{found_of, rows_of, subcommand_rows_of};
+ghost use Rattle.rule_machine.specs.declared.rules.RuleSet.{RuleSet};
+ghost use Rattle.rule_machine.specs.Tables.{rules_word};
+ghost use Rattle.command_words.specs.declared.task.Task.{Task};
+ghost use Rattle.command_words.specs.Wanted.{GivesNumber, HoldsPicture, HoldsRun, Holds};
+
+use clap::{ArgMatches, Error};
+use rule_machine::RuleSet;
+
+/// What good words ask for.
+#[derive(Debug, Drop)]
+pub enum Task {
+    /// To run a script under a rule set, on the nodes 1 to `nodes`, with so many workers for each step.
+    Run {
+        rules: RuleSet,
+        nodes: u16,
+        workers: u16,
+    },
+    /// To judge a transcript.
+    Audit,
+    /// To draw the network behind this entry of a transcript, or behind the last.
+    Picture {
+        entry: Option<u32>,
+    },
+    /// To list the epochs of a transcript.
+    Epochs,
+    /// To show the help or the version, of which this is the text.
+    Show(Error),
+}
+
+// The rule set with this word.
+fn rules_named(word: &str) -> Option<RuleSet>
+    ensures { MatchOption result
+        ((rules : RuleSet) → word.now ≡ rules_word rules → ⊥)
+        (λ rules. word.now ≡ rules_word rules) }
+{
+    if word == RuleSet::Hh.word() {
+        return Some(RuleSet::Hh);
+    }
+    if word == RuleSet::Manne.word() {
+        return Some(RuleSet::Manne);
+    }
+    None
+}
+
+/// The number that was found for an argument; `None` where there is none below 65,536.
+pub(crate) fn number(found: &ArgMatches<'_>, id: &str) -> Option<u16>
+    ensures { MatchOption result
+        ((n : ℕ) → GivesNumber (2 ^ 16) id.now (rows_of (found_of found.now)) n → ⊥)
+        (λ n. GivesNumber (2 ^ 16) id.now (rows_of (found_of found.now)) n) }
+{
+    found.get_one::<u16>(id)
+}
+
+/// The rule set, the number of nodes and that of workers that were found; `None` where a value is missing, or is none of its
+/// argument's.
+pub(crate) fn network(found: &ArgMatches<'_>) -> Option<(RuleSet, u16, u16)>
+    ensures { MatchOption result
+        ((rules : RuleSet) (nodes workers : ℕ) → HoldsRun (rows_of (found_of found.now)) rules nodes workers → ⊥)
+        (λ network. HoldsRun (rows_of (found_of found.now)) network.0 network.1 network.2) }
+{
+    let Some(word) = found.get_str("rules") else {
+        return None;
+    };
+    let Some(rules) = rules_named(word) else {
+        return None;
+    };
+    let Some(nodes) = number(found, "nodes") else {
+        return None;
+    };
+    let Some(workers) = number(found, "workers") else {
+        return None;
+    };
+    Some((rules, nodes, workers))
+}
+
+// What was found for `run`; `None` where a value is missing, or is none of its argument's.
+fn run_task(run: &ArgMatches<'_>) -> Option<Task>
+    ensures { MatchOption result
+        ((rules : RuleSet) (nodes workers : ℕ) → HoldsRun (rows_of (found_of run.now)) rules nodes workers → ⊥)
+        (λ task. Holds (Some (codes "run", rows_of (found_of run.now))) task) }
+{
+    let Some((rules, nodes, workers)) = network(run) else {
+        return None;
+    };
+    Some(Task::Run {
+        rules,
+        nodes,
+        workers,
+    })
+}
+
+// What was found for `picture`; `None` where the value is no number.
+fn picture_task(picture: &ArgMatches<'_>) -> Option<Task>
+    ensures { MatchOption result
+        ((entry : Option ℕ) → HoldsPicture (rows_of (found_of picture.now)) entry → ⊥)
+        (λ task. Holds (Some (codes "picture", rows_of (found_of picture.now))) task) }
+{
+    match picture.try_get_one::<u32>("entry") {
+        Ok(entry) => Some(Task::Picture { entry }),
+        Err(_) => None,
+    }
+}
+
+/// What was found in the words; `None` where it is no task.
+pub(crate) fn asked(found: &ArgMatches<'_>) -> Option<Task>
+    ensures { MatchOption result
+        ((task : Task) → Holds (subcommand_rows_of found.now) task → ⊥)
+        (λ task. Holds (subcommand_rows_of found.now) task) }
+{
+    let Some((name, inner)) = found.subcommand() else {
+        return None;
+    };
+    if name == "run" {
+        return run_task(inner);
+    }
+    if name == "audit" {
+        return Some(Task::Audit);
+    }
+    if name == "picture" {
+        return picture_task(inner);
+    }
+    if name == "epochs" {
+        return Some(Task::Epochs);
+    }
+    None
+}
