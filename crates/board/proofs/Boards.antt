@@ -1,10 +1,11 @@
 -- What posting and publishing make of a board.
-use Rattle.std.proofs.Common.{◌≡◌, ℕ, ◌+◌, List, [], ◌∷◌, ◌++◌, length, Option, Some, inr, ⊎_elim, refl, ap, sym, ◌∙◌, subst}
+use Rattle.std.proofs.Common.{◌≡◌, ℕ, ◌+◌, ◌<◌, List, [], ◌∷◌, ◌++◌, length, Option, Some, inr, ⊎_elim, refl, ap, sym, ◌∙◌, subst, arith, length-append}
 use Rattle.std.proofs.lemmas.List.Sums.{fold-append}
 use Rattle.rule_machine.specs.Run.{Entry}
 use Rattle.logbook.specs.Pages.{Book}
 use Rattle.board.specs.declared.image.Posted.{Posted}
 use Rattle.board.specs.History.{Mark, marked, standing, published, posted, shown}
+use Rattle.board.specs.Kept.{max_marks}
 use Rattle.board.specs.Sight.{Sight}
 use Rattle.board.specs.Rule.{Follows}
 use Rattle.board.specs.Boards.{entries_of, absorbed, IsReady, Fits, IsBoard}
@@ -21,13 +22,13 @@ post_standing marks entry = fold-append marked ([], []) marks (Some entry ∷ []
 module _ (law : ℕ → List Entry → Type 0) (x : Sight) (known : Option Sight) (marks : List Mark) (book : Book) (told : List Mark) where
   -- the entry that was appended is the one that the history has posted last
   pub posts : (marks' : List Mark) (book' : Book) (p : Posted) → IsBoard law x known [] marks book told → marks' ≡ marks ++ Some p.entry ∷ [] → book' ≡ book
-      → p.past.seen.log ≡ marks' → p.past.seen.book ≡ book' → p.front ≡ length (shown x.marks) + 1 → IsBoard law x known (p ∷ []) marks' book' told
-  posts marks' book' p b is same log at number = record {
+      → p.past.seen.log ≡ marks' → p.past.seen.book ≡ book' → p.front ≡ length (shown x.marks) + 1 → length marks + 1 < max_marks → IsBoard law x known (p ∷ []) marks' book' told
+  posts marks' book' p b is same log at number room = record {
     sound = b.sound;
     knows = b.knows;
     same = same ∙ b.same;
     list = ap published is ∙ (ap (λ s. s.0) (post_standing marks p.entry) ∙ b.list);
-    ready = inr (p, refl, record { past = log; same = at; number = number; last = ap posted is ∙ ap (λ s. s.1) (post_standing marks p.entry) });
+    ready = inr (p, refl, record { past = log; same = at; number = number; last = ap posted is ∙ ap (λ s. s.1) (post_standing marks p.entry); room = rw is (omega (arith, room, length-append marks (Some p.entry ∷ []))) });
     is_told = b.is_told;
   }
 

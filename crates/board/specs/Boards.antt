@@ -1,10 +1,11 @@
 -- How the parts of a board, of a reader and of a look hang together.
-use Rattle.std.specs.Prelude.{◌≡◌, ◌⊎◌, ℕ, ◌+◌, List, [], ◌∷◌, length, map, fold, Option, Some}
+use Rattle.std.specs.Prelude.{◌≡◌, ◌⊎◌, ℕ, ◌+◌, ◌<◌, List, [], ◌∷◌, length, map, fold, Option, Some}
 use mathlib.Core.List.{IsPrefix}
 use Rattle.rule_machine.specs.Run.{Entry}
 use Rattle.logbook.specs.Pages.{Book}
 use Rattle.board.specs.declared.image.Posted.{Posted}
 use Rattle.board.specs.History.{Mark, published, posted, shown}
+use Rattle.board.specs.Kept.{max_marks}
 use Rattle.board.specs.Sight.{Sight, after}
 use Rattle.board.specs.Rule.{Follows, IsSound}
 
@@ -19,12 +20,13 @@ absorbed x p = after x p.entry p.front p.past.seen.log p.past.seen.book
 abbrev pub IsReady : (ℕ → List Entry → Type 0) → Sight → List Posted → Type 0
 IsReady law x pending = (IsSound law x → IsSound law (fold absorbed x pending)) × Follows (Some x) (fold absorbed x pending)
 
--- it is the entry that the history has posted last, with its number
+-- it is the entry that the history has posted last, with its number; one mark more can be counted
 pub record Fits (x : Sight) (marks : List Mark) (book : Book) (p : Posted) : Type 0 where
   pub past : p.past.seen.log ≡ marks
   pub same : p.past.seen.book ≡ book
   pub number : p.front ≡ length (shown x.marks) + 1
   pub last : posted marks ≡ p.entry ∷ []
+  pub room : length marks < max_marks
 
 -- The copy that readers take shows what the history published, the writer knows it, and at most one entry is pending.
 pub record IsBoard (law : ℕ → List Entry → Type 0) (x : Sight) (known : Option Sight) (pending : List Posted) (marks : List Mark) (book : Book) (told : List Mark) : Type 0 where

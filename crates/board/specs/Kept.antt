@@ -7,6 +7,10 @@ use Rattle.board.specs.History.{Mark}
 abbrev pub IsKept : List Cell → List Mark → Type 0
 IsKept cells marks = cells ≡ (length marks, true) ∷ (0, true) ∷ []
 
+-- how many marks the word counts
+abbrev pub max_marks : ℕ
+max_marks = 18446744073709551615
+
 -- the word of a book that is the number of its marks
 abbrev pub head_of : Book → Named
 head_of b = record { tracked = true; key = 0; book = b }

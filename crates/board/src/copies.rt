@@ -140,6 +140,9 @@ impl<L: Law> Board<L> {
         ensures kept { OnErr result (self.new ≡ self.old) }
     {
         let copy = copied(entry)?;
+        if !self.history.has_room() {
+            return Err(AllocError);
+        }
         if !self.history.add::<Entry, Posts>(entry) {
             return Err(AllocError);
         }
@@ -163,6 +166,8 @@ impl<L: Law> Board<L> {
     {
         if self.writer.has_pending_operations() {
             replace_with(&mut self.writer, rt, show::<L, R>);
+            // `post` left room for the mark. It is refused where another was added: nobody else has the word, but it is
+            // stepped through `&`, and no contract of `logbook` knows its value between two steps.
             if !self.history.add::<(), Publishes>(&()) {
                 for _ in rt.forever() {}
                 unreachable!()

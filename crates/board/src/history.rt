@@ -1,9 +1,10 @@
 //! The history of a board, which exists in contracts alone, and the beginnings of it that were seen.
 
-ghost use Rattle.std.specs.Prelude.{◌≡◌, ◌⊎◌, ◌∷◌, ◌++◌, [], None, length, IsTrue, MatchBool};
+ghost use Rattle.std.specs.Prelude.{◌≡◌, ◌⊎◌, ◌+◌, ◌<◌, ◌∷◌, ◌++◌, [], None, length, IsTrue, MatchBool};
 ghost use mathlib.Core.List.{IsPrefix};
 ghost use Rattle.board.specs.History.{published, shown};
-ghost use Rattle.board.specs.Kept.{head_of};
+ghost use Rattle.board.specs.Kept.{head_of, max_marks};
+ghost use Rattle.board.specs.OneLog.{IsOneLog, AreOneLog, AreComparable};
 
 use log_entry::Entry;
 use logbook::{Gain, Offer, Plain, Play, Rule, Seen, Start, Word};
@@ -113,6 +114,18 @@ impl Front {
         both.learn(&other.seen);
         self.count.saturating_sub(1) <= other.count
     }
+
+    /// What was published here and what is shown there are of one log, and so are what both published and what both
+    /// show. Nothing runs.
+    pub(crate) fn meets(&self, other: &Front)
+        requires { other.now.seen.book ≡ self.now.seen.book }
+        ensures told { AreComparable (published self.now.seen.log) (published other.now.seen.log) }
+        ensures shown { AreOneLog (shown self.now.seen.log) (shown other.now.seen.log) }
+        ensures both { IsOneLog (published self.now.seen.log) (shown other.now.seen.log) }
+    {
+        let mut both = self.seen.again();
+        both.learn(&other.seen);
+    }
 }
 
 /// The one place where marks are added, with all marks so far.
@@ -135,17 +148,21 @@ impl History {
         }
     }
 
-    /// Adds a mark, and says whether it did. It did not where another added one, or where a `u64` counts no more, and
-    /// neither ever comes.
+    /// Whether a `u64` can count two marks more.
+    pub(crate) fn has_room(&self) -> bool
+        ensures { IsTrue result → length self.now.front.seen.log + 1 < max_marks }
+    {
+        self.front.count < u64::MAX - 1
+    }
+
+    /// Adds a mark, and says whether it did. It did not where another added one, which never comes.
     pub(crate) fn add<X, M: Plain<X, Option<Entry>, u64>>(&mut self, about: &X) -> bool
-        requires { M.state about.now ≡ None }
+        requires state { M.state about.now ≡ None }
+        requires room { length self.old.front.seen.log < max_marks }
         ensures book { self.new.front.seen.book ≡ self.old.front.seen.book }
         ensures marks { MatchBool result (self.new.front.seen.log ≡ self.old.front.seen.log ++ M.ask about.now ∷ []) (self.new.front.seen ≡ self.old.front.seen) }
     {
         let count = self.front.count;
-        if count == u64::MAX {
-            return false;
-        }
         let mut seen = self.front.seen.again();
         let mut offer: Offer<Option<Entry>, u64, Numbered, Nothing> = seen.plain::<Nothing, X, M>(
             about,

@@ -4,6 +4,7 @@ ghost use Rattle.std.specs.Prelude.{◌≡◌, ◌<◌, ◌≤◌, length, IfSom
 ghost use mathlib.Core.List.{IsPrefix};
 ghost use Rattle.left_right.specs.Sides.{view as known};
 ghost use Rattle.board.specs.History.{published, shown};
+ghost use Rattle.board.specs.OneLog.{IsOneLog, AreOneLog, AreComparable};
 ghost use Rattle.board.specs.Row.{pointers_after, pointer_in, partner_in};
 ghost use Rattle.board.specs.Sight.{Sight, found_in};
 ghost use Rattle.board.specs.Rule.{Sees};
@@ -131,12 +132,27 @@ impl<L: Law> Reader<L> {
         Some(look.front)
     }
 
-    /// Takes in a note of the reader's own board: from now on a look shows at least what the note tells.
+    /// What two readers of one board saw is of one log, and so is what they learnt. Nothing runs.
+    pub fn agrees_with(&self, other: &Reader<L>)
+        requires { other.now.name.book ≡ self.now.name.book }
+        ensures views { AreOneLog self.now.list other.now.list }
+        ensures learnt { AreComparable self.now.learnt other.now.learnt }
+        ensures both { IsOneLog self.now.learnt other.now.list }
+    {
+        self.seen.meets(&other.seen);
+        self.learnt.meets(&other.learnt);
+        self.learnt.meets(&other.seen);
+    }
+
+    /// Takes in a note of the reader's own board: from now on a look shows at least what the note tells. What it saw
+    /// last and what the note tells are of one log.
     pub fn learn(&mut self, note: &Note)
         requires { note.now.book ≡ self.old.name.book }
+        ensures one_log { IsOneLog note.now.log self.old.list }
         ensures learnt { IsPrefix self.old.learnt self.new.learnt × IsPrefix note.now.log self.new.learnt }
         ensures kept { (self.new.list ≡ self.old.list) × (self.new.name ≡ self.old.name) }
     {
+        note.front.meets(&self.seen);
         self.learnt = self.learnt.longer(&note.front);
     }
 }

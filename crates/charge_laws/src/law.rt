@@ -19,6 +19,18 @@ pub fn moves_are_bounded()
         → moves_in log ≤ 2 * edge_count start.state.network + 3 * node_count start.state.network }
 {}
 
+/// What each moment of a run without a disturbance has cost: the moves so far and the charge that is left are no more than the charge
+/// was at its start, from whatever state and whatever the daemon chooses; and that is at most 2m + n by the rules of Hsu and Huang, at
+/// most 2m + 3n by those of Manne and others.
+pub fn moves_are_paid()
+    ensures hsu_huang { (start : Moment) → IsState start.state → (log : List Entry) (end : Moment) → Run hsu_huang start log end → IsUndisturbed log
+        → (moves_in log + hsu_huang.charge end.state ≤ hsu_huang.charge start.state)
+        × (hsu_huang.charge start.state ≤ 2 * edge_count start.state.network + node_count start.state.network) }
+    ensures manne { (start : Moment) → IsState start.state → (log : List Entry) (end : Moment) → Run manne start log end → IsUndisturbed log
+        → (moves_in log + manne.charge end.state ≤ manne.charge start.state)
+        × (manne.charge start.state ≤ 2 * edge_count start.state.network + 3 * node_count start.state.network) }
+{}
+
 /// A run without a disturbance that has as many moves as the charge was at its start ends in a stable state.
 pub fn enough_moves_settle()
     ensures hsu_huang { (start : Moment) → IsState start.state → (log : List Entry) (end : Moment) → Run hsu_huang start log end → IsUndisturbed log

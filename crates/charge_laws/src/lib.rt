@@ -3,4 +3,6 @@
 
 mod law;
 
-pub use law::{enough_moves_settle, epochs_are_bounded, moves_are_bounded, spending_is_bounded};
+pub use law::{
+    enough_moves_settle, epochs_are_bounded, moves_are_bounded, moves_are_paid, spending_is_bounded,
+};

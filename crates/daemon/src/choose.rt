@@ -1,6 +1,8 @@
 //! What every daemon owes.
 
-ghost use Rattle.std.specs.Prelude.{IfOk, IfSome};
+ghost use Rattle.std.specs.Prelude.{ℕ, Bool, List, Option, IfOk, IfSome};
+ghost use Rattle.enabled_set.specs.Members.{members};
+ghost use Rattle.rule_machine.specs.declared.choice.Item.{Item};
 ghost use Rattle.daemon.specs.Lawful.{IsLawful};
 
 use enabled_set::EnabledSet;
@@ -8,8 +10,12 @@ use rule_machine::{Choice, Want};
 
 /// One who chooses the nodes of a step out of the set of the enabled ones.
 pub trait Daemon {
+    /// What it chooses among these names, ascending, central or not, and which daemon is left.
+    ghost chooses: { List ℕ → Bool → Self → Option (List Item) → Self → Type 0 };
+
     /// The choice for the next step: distinct members of the set, ascending, one at least, none with a wish, and no more
     /// than one where the daemon is to be central; so it has 65,535 items at most. `None` where it has no choice to make.
     fn choose(&mut self, set: &EnabledSet, central: bool) -> Result<Option<Choice>, Want>
-        ensures { IfOk result (λ choice. IfSome choice (IsLawful set.now central)) };
+        ensures lawful { IfOk result (λ choice. IfSome choice (IsLawful set.now central)) }
+        ensures chosen { IfOk result (λ choice. chooses (members set.now) central self.old choice self.new) };
 }

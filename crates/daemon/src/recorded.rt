@@ -120,6 +120,8 @@ impl Recorded {
 }
 
 impl Daemon for Recorded {
+    ghost chooses = { λ names central old choice new. (choice, new) ≡ played central names old };
+
     /// The choice of the next list that has one; `None` exactly where no list that is left names a member, and all are used
     /// up then. At want of memory no list has been used. It takes a list of the members, and for each list that it looks at
     /// a table of 65,536 bytes, a write for each node of the list and a look at each member.

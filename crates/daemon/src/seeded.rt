@@ -123,6 +123,8 @@ impl<G: Rng> Seeded<G> {
 }
 
 impl<G: Rng> Daemon for Seeded<G> {
+    ghost chooses = { λ names central old choice new. (choice, G.stream new) ≡ drawn central names (G.stream old) };
+
     /// The choice that the generator's next words make; `None` exactly where the set is empty. At want of memory no word has
     /// been drawn. A central daemon takes one word, some 64 looks and room for one item; any other a word for each member,
     /// and room for as many nodes and items as there are members, which are 65,535 at most.

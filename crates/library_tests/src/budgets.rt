@@ -3,6 +3,7 @@
 use crate::journals::journal_of;
 use crate::machines::play;
 use rule_engine::Rules;
+use rules_hsu_huang::HsuHuang;
 use rules_manne::Manne;
 use std::alloc::Global;
 use std::process::Abort;
@@ -49,4 +50,11 @@ fn an_epoch_begins_at_a_disturbance(rt: HostRuntime) {
     play(&rt, rt.alloc(), &mut journal, "unlink 1 2 = ok");
     assert!(rt; journal.spent() == 0);
     expect_epochs(&rt, &journal, &[start, pair, parted]);
+}
+
+#[test]
+fn a_link_begins_an_epoch(rt: HostRuntime) {
+    let mut journal = journal_of::<HsuHuang>(&rt, rt.alloc(), 2, 1);
+    play(&rt, rt.alloc(), &mut journal, "link 1 2 = ok");
+    expect_epochs(&rt, &journal, &[epoch(0, 0, 0, 2), epoch(1, 0, 1, 2)]);
 }

@@ -2,6 +2,8 @@
 
 use crate::helpers::{entry_of, named};
 use crate::machines::{Machine, play};
+use crate::manne_rows::A_STAR;
+use crate::verdicts::verdicts;
 use log_entry::Entry;
 use rule_engine::{Choice, Event, GraphFault, Refusal, Reply, Rules, Verdict};
 use rules_hsu_huang::HsuHuang;
@@ -91,6 +93,32 @@ fn a_step_is_recorded_from_its_moves(rt: HostRuntime) {
     play(&rt, rt.alloc(), &mut journal, rows);
     let (one, two) = (named(&rt, 1), named(&rt, 2));
     assert!(rt; journal.net().registers().points_at(one, two));
+}
+
+/// Whether a journal answers the step of a row so, recorded from its verdicts.
+fn answers_step<R: Rules>(
+    rt: &impl Abort,
+    alloc: Global,
+    journal: &mut Journal<R>,
+    row: &Entry,
+) -> bool {
+    let Event::Step(choice) = row.event() else {
+        return false;
+    };
+    let verdicts = verdicts(alloc, journal.net(), choice).expect(rt, "memory");
+    let choice = choice.clone().expect(rt, "memory");
+    let receipt = journal.record_step(choice, &verdicts).expect(rt, "room");
+    receipt.reply == *row.reply()
+}
+
+#[test]
+fn a_step_of_two_is_recorded_from_its_verdicts(rt: HostRuntime) {
+    let mut journal = journal_of::<Manne>(&rt, rt.alloc(), 4, 9);
+    play(&rt, rt.alloc(), &mut journal, A_STAR);
+    let row = "step 4 1 = 1:seduce>3 4:update";
+    let wanted = entry_of(&rt, rt.alloc(), row);
+    assert!(rt; answers_step(&rt, rt.alloc(), &mut journal, &wanted));
+    assert!(rt; has(&rt, rt.alloc(), &journal, journal.len(), row));
 }
 
 #[test]

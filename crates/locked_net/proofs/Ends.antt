@@ -2,7 +2,7 @@
 use Rattle.std.proofs.Common.{◌≡◌, ◌∙◌, ℕ, List, [], ◌∷◌, ◌++◌, Option, None, Some, inl, refl, sym, ap, subst}
 use Rattle.std.specs.Option.{option_or}
 use Rattle.logbook.specs.Pages.{Book}
-use Rattle.rule_machine.specs.RuleTable.{RuleTable}
+use Rattle.locked_net.specs.Settings.{Setting}
 use Rattle.locked_net.specs.declared.call_fault.CallFault.{CallFault}
 use Rattle.locked_net.specs.Receipts.{ClerkView}
 use Rattle.locked_net.specs.Roamed.{AllEnd, AllKeepNotes}
@@ -11,20 +11,20 @@ or_assoc : {A : Type 0} (a b c : Option A) → option_or (option_or a b) c ≡ o
 or_assoc None b c = refl
 or_assoc (Some x) b c = refl
 
-ends_joined : (t : RuleTable) (turns : ℕ) (olds mores news others : List ClerkView) (fault other : Option CallFault)
-    → AllEnd t turns olds news fault → AllEnd t turns mores others other → AllEnd t turns (olds ++ mores) (news ++ others) (option_or fault other)
-ends_joined t turns [] mores [] others fault other none rest = subst (λ f. AllEnd t turns mores others (option_or f other)) (sym none) rest
-ends_joined t turns [] mores (new ∷ news) others fault other ends rest = absurd ends
-ends_joined t turns (old ∷ olds) mores [] others fault other ends rest = absurd ends
-ends_joined t turns (old ∷ olds) mores (new ∷ news) others fault other (own, behind, is, ended, ends) rest =
-    (own, option_or behind other, ap (λ f. option_or f other) is ∙ or_assoc own behind other, ended, ends_joined t turns olds mores news others behind other ends rest)
+ends_joined : (setting : Setting) (turns : ℕ) (olds mores news others : List ClerkView) (fault other : Option CallFault)
+    → AllEnd setting turns olds news fault → AllEnd setting turns mores others other → AllEnd setting turns (olds ++ mores) (news ++ others) (option_or fault other)
+ends_joined setting turns [] mores [] others fault other none rest = subst (λ f. AllEnd setting turns mores others (option_or f other)) (sym none) rest
+ends_joined setting turns [] mores (new ∷ news) others fault other ends rest = absurd ends
+ends_joined setting turns (old ∷ olds) mores [] others fault other ends rest = absurd ends
+ends_joined setting turns (old ∷ olds) mores (new ∷ news) others fault other (own, behind, is, ended, ends) rest =
+    (own, option_or behind other, ap (λ f. option_or f other) is ∙ or_assoc own behind other, ended, ends_joined setting turns olds mores news others behind other ends rest)
 
 -- the two parts of a row
-pub parts_ended : (t : RuleTable) (turns : ℕ) (olds left right ours theirs : List ClerkView) (fault other first : Option CallFault)
-    → olds ≡ left ++ right → first ≡ option_or fault other → AllEnd t turns left ours fault → AllEnd t turns right theirs other → AllEnd t turns olds (ours ++ theirs) first
-parts_ended t turns olds left right ours theirs fault other first whole is ended rest =
-    subst (λ rs. AllEnd t turns rs (ours ++ theirs) first) (sym whole)
-    (subst (AllEnd t turns (left ++ right) (ours ++ theirs)) (sym is) (ends_joined t turns left right ours theirs fault other ended rest))
+pub parts_ended : (setting : Setting) (turns : ℕ) (olds left right ours theirs : List ClerkView) (fault other first : Option CallFault)
+    → olds ≡ left ++ right → first ≡ option_or fault other → AllEnd setting turns left ours fault → AllEnd setting turns right theirs other → AllEnd setting turns olds (ours ++ theirs) first
+parts_ended setting turns olds left right ours theirs fault other first whole is ended rest =
+    subst (λ rs. AllEnd setting turns rs (ours ++ theirs) first) (sym whole)
+    (subst (AllEnd setting turns (left ++ right) (ours ++ theirs)) (sym is) (ends_joined setting turns left right ours theirs fault other ended rest))
 
 -- ---- their notes
 

@@ -9,6 +9,7 @@ use Rattle.rule_machine.specs.RuleTable.{RuleTable}
 use Rattle.step_log.specs.declared.receipt.Receipt.{Receipt}
 use Rattle.step_log.specs.Log.{Log, receipt_of}
 use Rattle.locked_net.specs.Receipts.{ClerkView, front_of}
+use Rattle.locked_net.specs.Settings.{Setting}
 use Rattle.locked_net.specs.declared.call_fault.CallFault.{CallFault}
 use Rattle.locked_net.specs.declared.call_fault.CallFault.TheVariants.{Behind, LogFull, Memory}
 use Rattle.locked_net.specs.declared.roam_fault.RoamFault.{RoamFault}
@@ -32,12 +33,12 @@ turn_told t log turn (Some v) is =
     let own : IsLoneStep receipt = record { node = v; move = answered.move; stepped = refl; moved = answered.answer; own = answered.own } in
     record { few = omega arith; lone = All-cons IsLoneStep receipt [] own (All-nil IsLoneStep) }
 
-turns_roam : (t : RuleTable) (turns : ℕ) (old new : List Receipt) → TakesTurns t turns old new → Roams turns old new
-turns_roam t zero old new is = record { own = []; added = is ∙ sym (append-nil old); few = omega arith; lone = All-nil IsLoneStep }
-turns_roam t (suc turn) old new (before, taken, last) =
-    let so_far = turns_roam t turn old before taken in
-    let told = receipts_of_turn t last.log turn in
-    let more = turn_told t last.log turn (mover t last.log.state turn) refl in
+turns_roam : (setting : Setting) (turns : ℕ) (old new : List Receipt) → TakesTurns setting turns old new → Roams turns old new
+turns_roam setting zero old new is = record { own = []; added = is ∙ sym (append-nil old); few = omega arith; lone = All-nil IsLoneStep }
+turns_roam setting (suc turn) old new (before, taken, last) =
+    let so_far = turns_roam setting turn old before taken in
+    let told = receipts_of_turn setting.table last.log turn in
+    let more = turn_told setting.table last.log turn (mover setting.table last.log.state turn) refl in
     record {
       own = so_far.own ++ told;
       added = last.added ∙ ap (λ rs. rs ++ told) so_far.added ∙ append_assoc old so_far.own told;
@@ -45,17 +46,17 @@ turns_roam t (suc turn) old new (before, taken, last) =
       lone = All-append IsLoneStep so_far.own told so_far.lone more.lone;
     }
 
-end_roams : (t : RuleTable) (turns : ℕ) (old new : List Receipt) (fault : Option CallFault) → MayEnd t turns old new fault → Roams turns old new
-end_roams t turns old new None taken = turns_roam t turns old new taken
-end_roams t turns old new (Some fault) broken =
-    let some = turns_roam t broken.turn old new broken.taken in
+end_roams : (setting : Setting) (turns : ℕ) (old new : List Receipt) (fault : Option CallFault) → MayEnd setting turns old new fault → Roams turns old new
+end_roams setting turns old new None taken = turns_roam setting turns old new taken
+end_roams setting turns old new (Some fault) broken =
+    let some = turns_roam setting broken.turn old new broken.taken in
     record { own = some.own; added = some.added; few = omega (arith, some.few, broken.below); lone = some.lone }
 
-all_roam : (t : RuleTable) (turns : ℕ) (olds news : List ClerkView) (fault : Option CallFault) → AllEnd t turns olds news fault → AllRoam turns olds news
-all_roam t turns [] [] fault ends = tt
-all_roam t turns [] (new ∷ news) fault ends = absurd ends
-all_roam t turns (old ∷ olds) [] fault ends = absurd ends
-all_roam t turns (old ∷ olds) (new ∷ news) fault (own, others, is, ended, ends) = (end_roams t turns old.receipts new.receipts own ended, all_roam t turns olds news others ends)
+all_roam : (setting : Setting) (turns : ℕ) (olds news : List ClerkView) (fault : Option CallFault) → AllEnd setting turns olds news fault → AllRoam turns olds news
+all_roam setting turns [] [] fault ends = tt
+all_roam setting turns [] (new ∷ news) fault ends = absurd ends
+all_roam setting turns (old ∷ olds) [] fault ends = absurd ends
+all_roam setting turns (old ∷ olds) (new ∷ news) fault (own, others, is, ended, ends) = (end_roams setting turns old.receipts new.receipts own ended, all_roam setting turns olds news others ends)
 
 -- ---- the first of them
 
@@ -102,28 +103,28 @@ splits whole part new rest value size same =
       others = back_part 64 new rest few more ∙ sym (ap (drop 64) value ∙ back_part 64 part rest front.few front.all);
     }
 
-pub first_roamed : (t : RuleTable) (turns count : ℕ) (whole part new rest : List ClerkView) (fault : Option CallFault) → whole ≡ part ++ rest → length part ≡ count → count ≡ min (length whole) 64 → length new ≡ length part
-    → AllEnd t turns part new fault → Roamed turns whole (new ++ rest)
-first_roamed t turns count whole part new rest fault value size few same ends =
+pub first_roamed : (setting : Setting) (turns count : ℕ) (whole part new rest : List ClerkView) (fault : Option CallFault) → whole ≡ part ++ rest → length part ≡ count → count ≡ min (length whole) 64 → length new ≡ length part
+    → AllEnd setting turns part new fault → Roamed turns whole (new ++ rest)
+first_roamed setting turns count whole part new rest fault value size few same ends =
     let rows = splits whole part new rest value (size ∙ few) same in
     record {
-      workers = subst (λ rs. AllRoam turns rs (take 64 (new ++ rest))) (sym rows.olds) (subst (AllRoam turns part) (sym rows.news) (all_roam t turns part new fault ends));
+      workers = subst (λ rs. AllRoam turns rs (take 64 (new ++ rest))) (sym rows.olds) (subst (AllRoam turns part) (sym rows.news) (all_roam setting turns part new fault ends));
       others = rows.others;
     }
 
 -- where there was no fault, each took all its turns
-all_taken : (t : RuleTable) (turns : ℕ) (olds news : List ClerkView) (fault : Option CallFault) → fault ≡ None → AllEnd t turns olds news fault → AllTakeTurns t turns olds news
-all_taken t turns [] [] fault none ends = tt
-all_taken t turns [] (new ∷ news) fault none ends = absurd ends
-all_taken t turns (old ∷ olds) [] fault none ends = absurd ends
-all_taken t turns (old ∷ olds) (new ∷ news) fault none (None, others, is, taken, ends) = (taken, all_taken t turns olds news others (sym is ∙ none) ends)
-all_taken t turns (old ∷ olds) (new ∷ news) fault none (Some own, others, is, broken, ends) = absurd (none-some own (sym none ∙ is))
+all_taken : (setting : Setting) (turns : ℕ) (olds news : List ClerkView) (fault : Option CallFault) → fault ≡ None → AllEnd setting turns olds news fault → AllTakeTurns setting turns olds news
+all_taken setting turns [] [] fault none ends = tt
+all_taken setting turns [] (new ∷ news) fault none ends = absurd ends
+all_taken setting turns (old ∷ olds) [] fault none ends = absurd ends
+all_taken setting turns (old ∷ olds) (new ∷ news) fault none (None, others, is, taken, ends) = (taken, all_taken setting turns olds news others (sym is ∙ none) ends)
+all_taken setting turns (old ∷ olds) (new ∷ news) fault none (Some own, others, is, broken, ends) = absurd (none-some own (sym none ∙ is))
 
-pub first_taken : (t : RuleTable) (turns count : ℕ) (whole part new rest : List ClerkView) (fault : Option CallFault) → whole ≡ part ++ rest → length part ≡ count → count ≡ min (length whole) 64 → length new ≡ length part
-    → AllEnd t turns part new fault → fault ≡ None → AllTakeTurns t turns (take 64 whole) (take 64 (new ++ rest))
-first_taken t turns count whole part new rest fault value size few same ends none =
+pub first_taken : (setting : Setting) (turns count : ℕ) (whole part new rest : List ClerkView) (fault : Option CallFault) → whole ≡ part ++ rest → length part ≡ count → count ≡ min (length whole) 64 → length new ≡ length part
+    → AllEnd setting turns part new fault → fault ≡ None → AllTakeTurns setting turns (take 64 whole) (take 64 (new ++ rest))
+first_taken setting turns count whole part new rest fault value size few same ends none =
     let rows = splits whole part new rest value (size ∙ few) same in
-    subst (λ rs. AllTakeTurns t turns rs (take 64 (new ++ rest))) (sym rows.olds) (subst (AllTakeTurns t turns part) (sym rows.news) (all_taken t turns part new fault none ends))
+    subst (λ rs. AllTakeTurns setting turns rs (take 64 (new ++ rest))) (sym rows.olds) (subst (AllTakeTurns setting turns part) (sym rows.news) (all_taken setting turns part new fault none ends))
 
 -- ---- the fault
 
@@ -145,16 +146,16 @@ record IsMet (clerks : List ClerkView) (workers : ℕ) (fault : CallFault) : Typ
   has : slice_get clerks clerk ≡ Some view
   may : MayAnswer (front_of view.receipts) fault
 
-fault_met : (t : RuleTable) (turns : ℕ) (olds news rest : List ClerkView) (first : Option CallFault) (fault : CallFault) → AllEnd t turns olds news first → first ≡ Some fault → IsMet (news ++ rest) (length olds) fault
-fault_met t turns [] [] rest first fault ends is = absurd (none-some fault (sym ends ∙ is))
-fault_met t turns [] (new ∷ news) rest first fault ends is = absurd ends
-fault_met t turns (old ∷ olds) [] rest first fault ends is = absurd ends
-fault_met t turns (old ∷ olds) (new ∷ news) rest first fault (None, others, first_is, ended, ends) is =
-    let later = fault_met t turns olds news rest others fault ends (sym first_is ∙ is) in
+fault_met : (setting : Setting) (turns : ℕ) (olds news rest : List ClerkView) (first : Option CallFault) (fault : CallFault) → AllEnd setting turns olds news first → first ≡ Some fault → IsMet (news ++ rest) (length olds) fault
+fault_met setting turns [] [] rest first fault ends is = absurd (none-some fault (sym ends ∙ is))
+fault_met setting turns [] (new ∷ news) rest first fault ends is = absurd ends
+fault_met setting turns (old ∷ olds) [] rest first fault ends is = absurd ends
+fault_met setting turns (old ∷ olds) (new ∷ news) rest first fault (None, others, first_is, ended, ends) is =
+    let later = fault_met setting turns olds news rest others fault ends (sym first_is ∙ is) in
     record { clerk = suc later.clerk; view = later.view; worker = omega (arith, later.worker); has = later.has; may = later.may }
-fault_met t turns (old ∷ olds) (new ∷ news) rest first fault (Some own, others, first_is, ended, ends) is =
+fault_met setting turns (old ∷ olds) (new ∷ news) rest first fault (Some own, others, first_is, ended, ends) is =
     let same : own ≡ fault = same_Some own fault (sym first_is ∙ is) in
-    let may = met_answers (front_of new.receipts) ended.met.log (mover t ended.met.log.state ended.turn) own ended.met.met in
+    let may = met_answers (front_of new.receipts) ended.met.log (mover setting.table ended.met.log.state ended.turn) own ended.met.met in
     record { clerk = 0; view = new; worker = omega arith; has = refl; may = subst (MayAnswer (front_of new.receipts)) same may }
 
 stops : (clerks : List ClerkView) (workers : ℕ) (fault : CallFault) → workers ≤ 64 → IsMet clerks workers fault → MayStop clerks (roam_fault fault)
@@ -163,8 +164,8 @@ stops clerks workers (Behind front seen) few met =
 stops clerks workers LogFull few met = tt
 stops clerks workers Memory few met = tt
 
-pub may_stop : (t : RuleTable) (turns count : ℕ) (whole part new rest : List ClerkView) (first : Option CallFault) (fault : CallFault) (told : RoamFault) → whole ≡ part ++ rest → length part ≡ count → count ≡ min (length whole) 64
-    → AllEnd t turns part new first → first ≡ Some fault → told ≡ roam_fault fault → MayStop (new ++ rest) told
-may_stop t turns count whole part new rest first fault told value size few ends is told_is =
+pub may_stop : (setting : Setting) (turns count : ℕ) (whole part new rest : List ClerkView) (first : Option CallFault) (fault : CallFault) (told : RoamFault) → whole ≡ part ++ rest → length part ≡ count → count ≡ min (length whole) 64
+    → AllEnd setting turns part new first → first ≡ Some fault → told ≡ roam_fault fault → MayStop (new ++ rest) told
+may_stop setting turns count whole part new rest first fault told value size few ends is told_is =
     let front = front_of_row whole part rest value (size ∙ few) in
-    subst (MayStop (new ++ rest)) (sym told_is) (stops (new ++ rest) (length part) fault front.few (fault_met t turns part new rest first fault ends is))
+    subst (MayStop (new ++ rest)) (sym told_is) (stops (new ++ rest) (length part) fault front.few (fault_met setting turns part new rest first fault ends is))

@@ -1,6 +1,8 @@
 pub mod Receipts
 pub mod Settled
+pub mod Settings
 pub mod Calls
+pub mod Choosing
 pub mod Marks
 pub mod Keys
 pub mod Desks
@@ -9,3 +11,4 @@ pub mod Roaming
 pub mod Roamed
 pub mod Stepping
 pub mod Seen
+pub mod Headline

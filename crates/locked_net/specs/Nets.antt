@@ -1,8 +1,13 @@
 -- What a clause says of a locked network.
-use Rattle.std.specs.Prelude.{ℕ}
+use Rattle.std.specs.Prelude.{◌≡◌, ℕ}
+use Rattle.rule_machine.specs.Network.{node_count}
+use Rattle.rule_machine.specs.RuleTable.{RuleTable}
 use Rattle.logbook.specs.Pages.{Book}
-use Rattle.board.specs.Views.{Name}
+use Rattle.board.specs.Views.{Name, Reading}
+use Rattle.step_log.specs.Log.{Log, IsLog}
 use Rattle.keyed_lock.specs.Locks.{key_of}
+use Rattle.rule_machine.specs.RuleTable.{RuleTable}
+use Rattle.locked_net.specs.Settings.{Setting}
 use Rattle.locked_net.specs.Keys.{name_from}
 use Rattle.locked_net.specs.declared.key.NetKey.{NetKey}
 use Rattle.locked_net.specs.declared.net.LockedNet.{LockedNet}
@@ -19,6 +24,10 @@ module _ {R : Type 0} where
   abbrev pub limit_of : LockedNet R → ℕ
   limit_of net = (net_key_of net).limit
 
+  -- both, with the rules that it is under
+  abbrev pub setting_of : RuleTable → LockedNet R → Setting
+  setting_of t net = record { table = t; nodes = nodes_of net; limit = limit_of net }
+
   -- which history its readers see
   abbrev pub book_of : LockedNet R → Book
   book_of net = (net_key_of net).opening.book
@@ -26,3 +35,9 @@ module _ {R : Type 0} where
   -- that, and how many places its copies have: one for each node, and place 0, which is nobody's
   abbrev pub name_of : LockedNet R → Name
   name_of net = name_from (net_key_of net)
+
+  -- The reader has seen, and learnt, just the log that lay behind the net's lock at one moment: a run of the rules from the opening state of
+  -- its nodes, within its limit.
+  abbrev pub HasSeenLog : RuleTable → LockedNet R → Reading → Type 0
+  HasSeenLog t net reader =
+      (log : Log) × IsLog t log × (node_count log.state.network ≡ nodes_of net) × (log.limit ≡ limit_of net) × (reader.list ≡ log.entries) × (reader.learnt ≡ log.entries)

@@ -8,10 +8,10 @@ use Rattle.std.specs.List.{All}
 use Rattle.std.specs.Option.{option_or}
 use Rattle.rule_machine.specs.declared.moved.Moved.{Moved}
 use Rattle.rule_machine.specs.declared.reply.Reply.TheVariants.{Moves}
-use Rattle.rule_machine.specs.RuleTable.{RuleTable}
 use Rattle.step_log.specs.declared.receipt.Receipt.{Receipt}
 use Rattle.logbook.specs.Pages.{Book}
-use Rattle.step_log.specs.Log.{Log, IsLog}
+use Rattle.step_log.specs.Log.{Log}
+use Rattle.locked_net.specs.Settings.{Setting, IsLogIn}
 use Rattle.locked_net.specs.Receipts.{ClerkView, HasNoteOf, front_of}
 use Rattle.locked_net.specs.Roaming.{lone_step, receipts_of_turn, fault_of_turn, FaultInTurn}
 use Rattle.locked_net.specs.declared.call_fault.CallFault.{CallFault}
@@ -77,47 +77,47 @@ MayStop clerks Memory = Unit {0}
 -- ---- turn for turn
 
 -- A turn was taken.
-pub record TakesTurn (t : RuleTable) (turn : ℕ) (old new : List Receipt) : Type 0 where
+pub record TakesTurn (setting : Setting) (turn : ℕ) (old new : List Receipt) : Type 0 where
   pub log : Log
-  pub run : IsLog t log
-  pub free : fault_of_turn t (front_of old) log turn ≡ None
-  pub added : new ≡ old ++ receipts_of_turn t log turn
+  pub own : IsLogIn setting log
+  pub free : fault_of_turn setting.table (front_of old) log turn ≡ None
+  pub added : new ≡ old ++ receipts_of_turn setting.table log turn
 
 -- A turn met a fault.
-pub record MeetsFault (t : RuleTable) (turn : ℕ) (receipts : List Receipt) (fault : CallFault) : Type 0 where
+pub record MeetsFault (setting : Setting) (turn : ℕ) (receipts : List Receipt) (fault : CallFault) : Type 0 where
   pub log : Log
-  pub run : IsLog t log
-  pub met : FaultInTurn t (front_of receipts) log turn fault
+  pub own : IsLogIn setting log
+  pub met : FaultInTurn setting.table (front_of receipts) log turn fault
 
 -- so many turns were taken, from turn 0
-abbrev pub TakesTurns : RuleTable → ℕ → List Receipt → List Receipt → Type 0
-TakesTurns t zero old new = new ≡ old
-TakesTurns t (suc turn) old new = (before : List Receipt) × TakesTurns t turn old before × TakesTurn t turn before new
+abbrev pub TakesTurns : Setting → ℕ → List Receipt → List Receipt → Type 0
+TakesTurns setting zero old new = new ≡ old
+TakesTurns setting (suc turn) old new = (before : List Receipt) × TakesTurns setting turn old before × TakesTurn setting turn before new
 
 -- each of these clerks took so many
-abbrev pub AllTakeTurns : RuleTable → ℕ → List ClerkView → List ClerkView → Type 0
-AllTakeTurns t turns [] [] = Unit {0}
-AllTakeTurns t turns (old ∷ olds) (new ∷ news) = TakesTurns t turns old.receipts new.receipts × AllTakeTurns t turns olds news
-AllTakeTurns t turns olds news = ⊥
+abbrev pub AllTakeTurns : Setting → ℕ → List ClerkView → List ClerkView → Type 0
+AllTakeTurns setting turns [] [] = Unit {0}
+AllTakeTurns setting turns (old ∷ olds) (new ∷ news) = TakesTurns setting turns old.receipts new.receipts × AllTakeTurns setting turns olds news
+AllTakeTurns setting turns olds news = ⊥
 
 -- Fewer were taken, and the next met a fault.
-pub record BreaksOff (t : RuleTable) (turns : ℕ) (old new : List Receipt) (fault : CallFault) : Type 0 where
+pub record BreaksOff (setting : Setting) (turns : ℕ) (old new : List Receipt) (fault : CallFault) : Type 0 where
   pub turn : ℕ
   pub below : turn < turns
-  pub taken : TakesTurns t turn old new
-  pub met : MeetsFault t turn new fault
+  pub taken : TakesTurns setting turn old new
+  pub met : MeetsFault setting turn new fault
 
 -- a clerk roamed to its last turn, or up to a fault
-abbrev pub MayEnd : RuleTable → ℕ → List Receipt → List Receipt → Option CallFault → Type 0
-MayEnd t turns old new None = TakesTurns t turns old new
-MayEnd t turns old new (Some fault) = BreaksOff t turns old new fault
+abbrev pub MayEnd : Setting → ℕ → List Receipt → List Receipt → Option CallFault → Type 0
+MayEnd setting turns old new None = TakesTurns setting turns old new
+MayEnd setting turns old new (Some fault) = BreaksOff setting turns old new fault
 
 -- Each clerk roamed; the fault is the first that a clerk met, in their order, and there is none where each took all its turns.
-abbrev pub AllEnd : RuleTable → ℕ → List ClerkView → List ClerkView → Option CallFault → Type 0
-AllEnd t turns [] [] fault = fault ≡ None
-AllEnd t turns (old ∷ olds) (new ∷ news) fault =
-    (own : Option CallFault) × (others : Option CallFault) × (fault ≡ option_or own others) × MayEnd t turns old.receipts new.receipts own × AllEnd t turns olds news others
-AllEnd t turns olds news fault = ⊥
+abbrev pub AllEnd : Setting → ℕ → List ClerkView → List ClerkView → Option CallFault → Type 0
+AllEnd setting turns [] [] fault = fault ≡ None
+AllEnd setting turns (old ∷ olds) (new ∷ news) fault =
+    (own : Option CallFault) × (others : Option CallFault) × (fault ≡ option_or own others) × MayEnd setting turns old.receipts new.receipts own × AllEnd setting turns olds news others
+AllEnd setting turns olds news fault = ⊥
 
 -- a call's fault as that of the clerks
 abbrev pub roam_fault : CallFault → RoamFault

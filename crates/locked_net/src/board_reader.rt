@@ -3,9 +3,10 @@
 ghost use Rattle.std.specs.Prelude.{◌≡◌, ◌<◌, ◌≤◌, ℕ, length, IfOk, IfErr, IfSome, OnOk, OnErr, IsErrOf};
 ghost use mathlib.Core.List.{IsPrefix};
 ghost use Rattle.rule_machine.specs.State.{pointer};
+ghost use Rattle.board.specs.OneLog.{IsOneLog, AreOneLog, AreComparable};
 ghost use Rattle.board.specs.Row.{partner_in};
 ghost use Rattle.locked_net.specs.Receipts.{StandsLast};
-ghost use Rattle.locked_net.specs.Seen.{Shows};
+ghost use Rattle.locked_net.specs.Seen.{Shows, OnView};
 ghost use Rattle.locked_net.specs.declared.read_fault.ReadFault.TheVariants.{UnknownNode, NoView as NoLook};
 
 use crate::{Clerk, NoView, ReadFault};
@@ -57,26 +58,44 @@ impl<R: Rules> BoardReader<R> {
         BoardReader { reader }
     }
 
-    /// Where a node points, after the first `front` entries of the log: a view that has all that this reader has seen and all that
-    /// it has learnt, and is a run of the rules. `UnknownNode` exactly where the network has no such node, unless `NoView` comes: where
-    /// the network has ended, or what is published lacks a part of what was learnt, which never comes; the view stays then. A few
-    /// steps.
-    pub fn pointer(&mut self, v: Node) -> Result<SeenPointer, ReadFault>
+    /// Looks at a node: how many entries are published, with its pointer and its partner then.
+    fn look(&mut self, v: Node) -> Result<(u32, (Option<Node>, Option<Node>)), ReadFault>
         ensures view { IsPrefix self.old.list self.new.list }
         ensures kept { (self.new.learnt ≡ self.old.learnt) × (self.new.name ≡ self.old.name) }
-        ensures learnt { OnOk result (IsPrefix self.old.learnt self.new.list) }
+        ensures learnt { OnView result (IsPrefix self.old.learnt self.new.list) }
+        ensures run { OnView result (Shows R.table self.old.name.places self.new.list (λ _. Unit {0})) }
         ensures present { OnOk result (v < self.old.name.places) }
-        ensures front { IfOk result (λ seen. seen.front ≡ length self.new.list) }
-        ensures found { IfOk result (λ seen. Shows R.table self.old.name.places self.new.list (λ s. seen.pointer ≡ pointer s v)) }
+        ensures front { IfOk result (λ seen. seen.0 ≡ length self.new.list) }
+        ensures pointer { IfOk result (λ seen. Shows R.table self.old.name.places self.new.list (λ s. seen.1.0 ≡ pointer s v)) }
+        ensures partner { IfOk result (λ seen. Shows R.table self.old.name.places self.new.list (λ s. seen.1.1 ≡ partner_in s.registers.pointers v)) }
         ensures unknown { IsErrOf result UnknownNode → self.old.name.places ≤ v }
         ensures no_view { IsErrOf result NoLook → self.new.list ≡ self.old.list }
     {
         let Some(Look { front, found }) = self.reader.look(v.place()) else {
             return Err(ReadFault::NoView);
         };
-        let Some((pointer, _)) = found else {
+        let Some(seen) = found else {
             return Err(ReadFault::UnknownNode);
         };
+        Ok((front, seen))
+    }
+
+    /// Where a node points, after the first `front` entries of the log: a view that has all that this reader has seen and all that
+    /// it has learnt, and is a run of the rules. `UnknownNode`, of such a view too, exactly where the network has no such node, unless
+    /// `NoView` comes: where the network has ended, or what is published lacks a part of what was learnt, which never comes; the view
+    /// stays then. A few steps.
+    pub fn pointer(&mut self, v: Node) -> Result<SeenPointer, ReadFault>
+        ensures view { IsPrefix self.old.list self.new.list }
+        ensures kept { (self.new.learnt ≡ self.old.learnt) × (self.new.name ≡ self.old.name) }
+        ensures learnt { OnView result (IsPrefix self.old.learnt self.new.list) }
+        ensures run { OnView result (Shows R.table self.old.name.places self.new.list (λ _. Unit {0})) }
+        ensures present { OnOk result (v < self.old.name.places) }
+        ensures front { IfOk result (λ seen. seen.front ≡ length self.new.list) }
+        ensures found { IfOk result (λ seen. Shows R.table self.old.name.places self.new.list (λ s. seen.pointer ≡ pointer s v)) }
+        ensures unknown { IsErrOf result UnknownNode → self.old.name.places ≤ v }
+        ensures no_view { IsErrOf result NoLook → self.new.list ≡ self.old.list }
+    {
+        let (front, (pointer, _)) = self.look(v)?;
         Ok(SeenPointer { front, pointer })
     }
 
@@ -85,19 +104,15 @@ impl<R: Rules> BoardReader<R> {
     pub fn partner(&mut self, v: Node) -> Result<SeenPartner, ReadFault>
         ensures view { IsPrefix self.old.list self.new.list }
         ensures kept { (self.new.learnt ≡ self.old.learnt) × (self.new.name ≡ self.old.name) }
-        ensures learnt { OnOk result (IsPrefix self.old.learnt self.new.list) }
+        ensures learnt { OnView result (IsPrefix self.old.learnt self.new.list) }
+        ensures run { OnView result (Shows R.table self.old.name.places self.new.list (λ _. Unit {0})) }
         ensures present { OnOk result (v < self.old.name.places) }
         ensures front { IfOk result (λ seen. seen.front ≡ length self.new.list) }
         ensures found { IfOk result (λ seen. Shows R.table self.old.name.places self.new.list (λ s. seen.partner ≡ partner_in s.registers.pointers v)) }
         ensures unknown { IsErrOf result UnknownNode → self.old.name.places ≤ v }
         ensures no_view { IsErrOf result NoLook → self.new.list ≡ self.old.list }
     {
-        let Some(Look { front, found }) = self.reader.look(v.place()) else {
-            return Err(ReadFault::NoView);
-        };
-        let Some((_, partner)) = found else {
-            return Err(ReadFault::UnknownNode);
-        };
+        let (front, (_, partner)) = self.look(v)?;
         Ok(SeenPartner { front, partner })
     }
 
@@ -116,8 +131,18 @@ impl<R: Rules> BoardReader<R> {
         Ok(front)
     }
 
+    /// What two readers of one network have seen is of one log, and so is what they have learnt. Nothing runs.
+    pub fn agrees_with(&self, other: &BoardReader<R>)
+        requires { other.now.name.book ≡ self.now.name.book }
+        ensures views { AreOneLog self.now.list other.now.list }
+        ensures learnt { AreComparable self.now.learnt other.now.learnt }
+        ensures both { IsOneLog self.now.learnt other.now.list }
+    {
+        self.reader.agrees_with(&other.reader);
+    }
+
     /// Takes in a clerk's note: each later view has all that was published when the clerk got its last receipt, and so the
-    /// entry of that receipt. The clerk must be one that has called the reader's own network, or nobody; it stays as it is.
+    /// entry of that receipt. What the note tells and the view are of one log. The clerk must be one that has called the reader's own network, or nobody; it stays as it is.
     #[tactic(auto, using(crate::proofs::Seeing::noted_last))]
     pub fn learn(&mut self, clerk: &mut Clerk)
         requires { IfSome clerk.old.note (λ told. told.book ≡ self.old.name.book) }
@@ -125,6 +150,7 @@ impl<R: Rules> BoardReader<R> {
         ensures kept { (self.new.list ≡ self.old.list) × (self.new.name ≡ self.old.name) }
         ensures learnt { IsPrefix self.old.learnt self.new.learnt }
         ensures note { IfSome clerk.old.note (λ told. IsPrefix told.log self.new.learnt) }
+        ensures one_log { IfSome clerk.old.note (λ told. IsOneLog told.log self.old.list) }
         ensures last { StandsLast self.new.learnt clerk.old.receipts }
     {
         if let Some(note) = clerk.note() {

@@ -140,8 +140,10 @@ impl<R: Rules> Desk<R> {
     pub(crate) fn reader(&mut self) -> Result<Reader<Runs<R>>, NoPlace>
         ensures kept { self.new ≡ self.old }
         ensures name { IfOk result (λ reader. reader.name ≡ self.old.name) }
-        ensures seen { IfOk result (λ reader. reader.list ≡ self.old.log.entries) }
+        ensures seen { IfOk result (λ reader. (reader.list ≡ self.old.log.entries) × (reader.learnt ≡ self.old.log.entries)) }
+        ensures run { IsLog R.table self.old.log }
     {
+        prove!(self.journal.len() <= step_log::MAX_ENTRIES);
         self.board.reader()
     }
 

@@ -4,6 +4,7 @@ ghost use Rattle.std.specs.Prelude.{◌≡◌, IfOk, IfErr};
 ghost use Rattle.rule_machine.specs.Network.{node_count};
 ghost use Rattle.step_log.specs.Held.{log_of};
 ghost use Rattle.step_log.specs.Log.{IsLog};
+ghost use Rattle.locked_net.specs.Headline.{Headline};
 ghost use Rattle.locked_net.specs.Nets.{nodes_of, limit_of};
 ghost use Rattle.locked_net.specs.Settled.{Settled, Unsettles};
 
@@ -19,6 +20,7 @@ pub fn settle<R: Rules, W: Wait>(
     net: LockedNet<R>,
     clerks: Vec<Clerk>,
 ) -> Result<Journal<R>, Unsettled<R>>
+    ensures headline { IfOk result (λ journal. Headline R.table R.NODE_WEIGHT (log_of journal) clerks.items) }
     ensures settled { IfOk result (λ journal. Settled journal.entries clerks.items) }
     ensures run { IfOk result (λ journal. IsLog R.table (log_of journal)) }
     ensures size { IfOk result (λ journal. (node_count journal.state.network ≡ nodes_of net) × (journal.limit ≡ limit_of net)) }

@@ -26,7 +26,7 @@ pub struct LockedNet<R: Rules> {
 impl<R: Rules> LockedNet<R> {
     ghost use Rattle.keyed_lock.specs.Locks.{IsHoldOf};
     ghost use Rattle.locked_net.specs.Keys.{IsOfKey};
-    ghost use Rattle.locked_net.specs.Nets.{net_key_of, nodes_of, limit_of, name_of};
+    ghost use Rattle.locked_net.specs.Nets.{net_key_of, nodes_of, limit_of, name_of, HasSeenLog};
     ghost use Rattle.locked_net.specs.Receipts.{fresh};
     ghost use Rattle.locked_net.specs.declared.read_fault.ReaderFault.TheVariants.{NoPlace};
     ghost use Rattle.step_log.specs.Held.{log_of};
@@ -76,10 +76,11 @@ impl<R: Rules> LockedNet<R> {
         Ok(Clerk::new(self.alloc))
     }
 
-    /// A reader of this network, who sees at least what is published now. There are places for 64 readers at once; a reader keeps
+    /// A reader of this network, who has seen the log as it is now, and sees at least that. There are places for 64 readers at once; a reader keeps
     /// its place until it is dropped. Nothing is said of when no place is found. Waits for the network's lock.
     pub fn reader<W: Wait>(&self, rt: &W) -> Result<BoardReader<R>, ReaderFault>
         ensures name { IfOk result (λ reader. reader.name ≡ name_of self.now) }
+        ensures seen { IfOk result (λ reader. HasSeenLog R.table self.now reader) }
         ensures fault { IfErr result (λ fault. fault ≡ NoPlace) }
     {
         let (mut desk, hold) = self.take(rt);

@@ -1,7 +1,7 @@
 //! Clerks that roam.
 
 ghost use Rattle.std.specs.Prelude.{◌≡◌, ◌↔◌, [], take, IfErr, OnOk, IsErrOf};
-ghost use Rattle.locked_net.specs.Nets.{book_of};
+ghost use Rattle.locked_net.specs.Nets.{book_of, setting_of};
 ghost use Rattle.locked_net.specs.Roamed.{Roamed, AllTakeTurns, AllKeepNotes, MayStop};
 ghost use Rattle.locked_net.specs.declared.roam_fault.RoamFault.TheVariants.{ZeroWorkers};
 
@@ -37,7 +37,7 @@ pub fn roam<R: Rules + Send, G: Gate + Sync, T: Threads + Wait + Sync>(
     gate: &G,
 ) -> Result<(), RoamFault>
     ensures roamed { Roamed turns clerks.old clerks.new }
-    ensures turns { OnOk result (AllTakeTurns R.table turns (take 64 clerks.old) (take 64 clerks.new)) }
+    ensures turns { OnOk result (AllTakeTurns (setting_of R.table net.now) turns (take 64 clerks.old) (take 64 clerks.new)) }
     ensures notes { AllKeepNotes (book_of net.now) clerks.old clerks.new }
     ensures none { IsErrOf result ZeroWorkers ↔ (clerks.old ≡ []) }
     ensures fault { IfErr result (λ fault. MayStop clerks.new fault) }

@@ -2,7 +2,7 @@
 
 ghost use Rattle.std.specs.Prelude.{◌≡◌, IfErr, OnOk, OnErr};
 ghost use Rattle.std.specs.Result.{result_err};
-ghost use Rattle.locked_net.specs.Nets.{book_of};
+ghost use Rattle.locked_net.specs.Nets.{book_of, setting_of};
 ghost use Rattle.locked_net.specs.Roamed.{KeepsNote, TakesTurn, MeetsFault, MayEnd};
 
 use crate::{CallFault, Clerk, LockedNet};
@@ -25,8 +25,8 @@ fn take_turn<R: Rules, W: Wait>(
     clerk: &mut Clerk,
     turn: u32,
 ) -> Result<(), CallFault>
-    ensures turn { OnOk result (TakesTurn R.table turn clerk.old.receipts clerk.new.receipts) }
-    ensures fault { IfErr result (λ fault. MeetsFault R.table turn clerk.old.receipts fault) }
+    ensures turn { OnOk result (TakesTurn (setting_of R.table net.now) turn clerk.old.receipts clerk.new.receipts) }
+    ensures fault { IfErr result (λ fault. MeetsFault (setting_of R.table net.now) turn clerk.old.receipts fault) }
     ensures note { KeepsNote (book_of net.now) clerk.old clerk.new }
     ensures kept { OnErr result (clerk.new ≡ clerk.old) }
 {
@@ -44,7 +44,7 @@ pub(crate) fn take_turns<R: Rules, G: Gate, W: Wait>(
     worker: u32,
     clerk: &mut Clerk,
 ) -> Result<(), CallFault>
-    ensures turns { MayEnd R.table round.now.turns clerk.old.receipts clerk.new.receipts (result_err result) }
+    ensures turns { MayEnd (setting_of R.table round.now.net.now) round.now.turns clerk.old.receipts clerk.new.receipts (result_err result) }
     ensures note { KeepsNote (book_of round.now.net.now) clerk.old clerk.new }
 {
     for turn in 0..round.turns {

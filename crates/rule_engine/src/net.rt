@@ -118,10 +118,11 @@ impl<R: Rules> Net<R> {
         self.engine.verdict(choice, place)
     }
 
-    /// The charge, at most 2,293,757: no more moves than this can come before the next accepted disturbance. Takes no
-    /// memory, and a look at every node and at every edge.
+    /// The charge, at most 2,293,757: no more moves than this can come before the next accepted disturbance, and where it is zero
+    /// the network is stable. Takes no memory, and a look at every node and at every edge.
     pub fn charge(&self) -> u32
         ensures charge { result ≡ R.table.charge self.now.state }
+        ensures settled { result ≡ 0 → IsStable R.table.flags self.now.state }
     {
         self.engine.charge()
     }

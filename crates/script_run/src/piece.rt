@@ -2,7 +2,7 @@
 
 ghost use Rattle.std.specs.Prelude.{◌≡◌, ◌<◌, ◌≤◌, ◌+◌, ◌^◌, ◌++◌, ℕ, List, [], Option, length, IfOk, IfSome, IsNone, OnOk};
 ghost use Rattle.script_text.specs.Script.{Progress, lines_of};
-ghost use Rattle.script_run.specs.declared.stop.End.TheVariants.{Whole};
+ghost use Rattle.script_run.specs.declared.stop.End.TheVariants.{Whole, Unread};
 ghost use Rattle.script_run.specs.Halted.{Halts, Hands};
 ghost use Rattle.script_run.specs.Line.{progress, LineEnds};
 ghost use Rattle.script_run.specs.Place.{Stands, PieceEnds};
@@ -61,6 +61,7 @@ impl<R: Rules + Sync> Run<R> {
             → Stands R.table self.old.recorder.limit start old read place.old.begun.items piece.now place.old.lines (progress self.old.recorder self.old.text.items) (Out.contents writer.old)
             → PieceEnds R.table self.old.recorder.limit start old read place.new.begun.items place.new.lines (progress self.new.recorder self.new.text.items) (Out.contents writer.new) result }
         ensures stops { IfOk result (λ end. IfSome end (λ how. how ≡ Whole → ⊥)) }
+        ensures reads { IfOk result (λ end. IfSome end (λ how. how ≡ Unread → ⊥)) }
         ensures room { IfOk result (λ end. IsNone end → place.new.lines + length place.new.begun.items ≤ place.old.lines + length place.old.begun.items + length piece.now) }
         ensures limit { self.new.recorder.limit ≡ self.old.recorder.limit }
     {
@@ -92,6 +93,7 @@ impl<R: Rules + Sync> Run<R> {
         place: &Place,
     ) -> End
         requires { place.now.lines + 1 < 2 ^ 64 }
+        ensures reads { result ≡ Unread → ⊥ }
         ensures last { (start : Progress) (old known : Option (List ℕ)) (read : List ℕ)
             → Stands R.table self.old.recorder.limit start old read place.now.begun.items [] place.now.lines (progress self.old.recorder self.old.text.items) known
             → Halts R.table self.old.recorder.limit (lines_of read) start result (λ text. Hands old known text self.new.text.items) }

@@ -39,7 +39,7 @@ pub verdict_there : (t : RuleTable) (s : State) (items : List Item) (place : ℕ
 verdict_there t s items place v below same = verdict_from t s 0 items place place v (omega arith) below same
 
 -- each verdict has the number of its place
-place_from : (t : RuleTable) (s : State) (from : ℕ) (items : List Item) (k : ℕ) (v : Verdict) → slice_get (verdicts_from t s from items) k ≡ Some v → (k < length items) × (v.place ≡ from + k)
+pub place_from : (t : RuleTable) (s : State) (from : ℕ) (items : List Item) (k : ℕ) (v : Verdict) → slice_get (verdicts_from t s from items) k ≡ Some v → (k < length items) × (v.place ≡ from + k)
 place_from t s from [] k v is = absurd cc
 place_from t s from (i ∷ rest) zero v is = (omega arith, (let e : verdict_of t s from i ≡ v = cc in ap (λ (x : Verdict). x.place) (sym e) ∙ omega arith))
 place_from t s from (i ∷ rest) (suc k) v is = let later = place_from t s (from + 1) rest k v is in (omega arith, omega arith)
@@ -137,7 +137,7 @@ but_last P xs ys x is all =
     )
 
 -- one number more, behind others
-more_numbers : (a n j m : ℕ) → a + n ≡ j → n + 1 ≡ m → range_with_len a m ≡ range_with_len a n ++ j ∷ []
+pub more_numbers : (a n j m : ℕ) → a + n ≡ j → n + 1 ≡ m → range_with_len a m ≡ range_with_len a n ++ j ∷ []
 more_numbers a n j zero at size = absurd (omega arith)
 more_numbers a zero j (suc m) at size =
     let here : a ≡ j = omega arith in

@@ -1,3 +1,4 @@
 pub mod NextVerdict
 pub mod Laying
+mod EachPlace
 pub mod Callers

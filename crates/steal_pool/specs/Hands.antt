@@ -1,5 +1,5 @@
 -- What clauses say of hands and shares.
-use Rattle.std.specs.Prelude.{◌≡◌, ℕ, List, map, Some, slice_get}
+use Rattle.std.specs.Prelude.{◌≡◌, ℕ, List, [], ◌∷◌, ◌++◌, map, Some, slice_get}
 use Rattle.place_deque.specs.Ends.{Hold, end_hold, end_taken}
 use Rattle.rule_machine.specs.declared.choice.Item.{Item}
 use Rattle.rule_machine.specs.declared.verdict.Verdict.{Verdict}
@@ -13,12 +13,21 @@ use Rattle.steal_pool.specs.declared.hand.Share.{Share}
 abbrev pub hand_hold : Hand → Hold
 hand_hold hand = end_hold hand.end
 
+-- a worker's number
+abbrev pub hand_number : Hand → ℕ
+hand_number hand = hand.worker
+
 abbrev pub share_hold : Share → Hold
 share_hold share = end_hold share.end
 
 -- the places that the worker took, in that order
 abbrev pub share_taken : Share → List ℕ
 share_taken share = end_taken share.end
+
+-- the places that the workers of these shares took, one worker's behind another's
+abbrev pub all_taken : List Share → List ℕ
+all_taken [] = []
+all_taken (share ∷ shares) = share_taken share ++ all_taken shares
 
 abbrev pub share_verdicts : Share → List Verdict
 share_verdicts share = share.verdicts.items

@@ -1,7 +1,8 @@
 //! One worker's end of the work, before and after.
 
 ghost use Rattle.std.specs.Prelude.{◌≡◌, []};
-ghost use Rattle.place_deque.specs.Ends.{end_taken};
+ghost use Rattle.place_deque.specs.Ends.{end_hold, end_taken};
+ghost use Rattle.steal_pool.specs.Once.{StandOnce, places_of};
 
 use place_deque::End;
 use rule_engine::Verdict;
@@ -16,9 +17,11 @@ pub struct Hand {
     ghost fresh: { end_taken end ≡ [] },
 }
 
-/// What one worker took from the deque, each place judged, with its end.
+/// What one worker took from the deque, each place judged once, with its end.
 #[derive(Drop)]
 pub struct Share {
     pub(crate) end: End,
     pub(crate) verdicts: Vec<Verdict>,
+    ghost taken: { places_of verdicts.items ≡ end_taken end },
+    ghost once: { StandOnce (end_hold end).count (places_of verdicts.items) },
 }

@@ -1,12 +1,13 @@
 //! The verdicts of all shares, by place.
 
-ghost use Rattle.std.specs.Prelude.{◌≡◌, ◌<◌, ◌≤◌, ◌+◌, ℕ, length, map, All, IfOk};
+ghost use Rattle.std.specs.Prelude.{◌≡◌, ◌<◌, ◌≤◌, ◌+◌, ℕ, List, ◌++◌, length, map, All, IfOk};
 ghost use Rattle.std.specs.List.{sum_by};
-ghost use Rattle.place_deque.specs.Ends.{end_hold, owner_tally, AreAllEnds};
-ghost use Rattle.place_deque.specs.Tallies.{block_places};
+ghost use Rattle.place_deque.specs.Ends.{end_hold, end_taken, owner_tally, AreAllEnds};
+ghost use Rattle.place_deque.specs.Tallies.{block_places, AreAllPlaces};
 ghost use Rattle.rule_engine.specs.Choosing.{verdicts_of};
-ghost use Rattle.steal_pool.specs.Hands.{share_hold, AreJudged};
+ghost use Rattle.steal_pool.specs.Hands.{all_taken, share_hold, AreJudged};
 ghost use Rattle.steal_pool.specs.Laid.{at_place, laid, Fit, IsRight, taken_by, taken_in};
+ghost use Rattle.steal_pool.specs.Once.{AllStandOnce};
 
 use crate::Share;
 use place_deque::{Block, End, Owner, gather};
@@ -14,8 +15,8 @@ use rule_engine::{Choice, Net, Outcome, Rules, Verdict, Want};
 use std::alloc::Global;
 
 /// Joins all shares of one call of `hands`, which worked with its choice on this net: takes and judges what is left on the
-/// deque, passing no gate, and gives the verdicts in order of place. Each place was put once and is taken once, so none is
-/// missing and none is doubled. At want of memory the shares are used up.
+/// deque, passing no gate, and gives the verdicts in order of place. Each place was put once and is taken once, by a hand
+/// or here, so none is missing and none is doubled. At want of memory the shares are used up.
 pub fn merge<R: Rules>(
     alloc: Global,
     shares: Vec<Share>,
@@ -24,7 +25,8 @@ pub fn merge<R: Rules>(
 ) -> Result<Vec<Verdict>, Want>
     requires all { AreAllEnds (length choice.now) (map share_hold shares.items) }
     requires judged { All (AreJudged R.table net.now.state choice.now) shares.items }
-    ensures { IfOk result (λ verdicts. verdicts.items ≡ verdicts_of R.table net.now.state choice.now) }
+    ensures verdicts { IfOk result (λ verdicts. verdicts.items ≡ verdicts_of R.table net.now.state choice.now) }
+    ensures places { IfOk result (λ _. (left : List ℕ) × AllStandOnce (length choice.now) (all_taken shares.items ++ left)) }
 {
     let Some(first) = choice.items().first() else {
         return Ok(Vec::new(alloc));
@@ -54,6 +56,7 @@ fn lay_out<R: Rules>(
     requires judged { All (AreJudged R.table net.now.state choice.now) shares.items }
     ensures all { IfOk result (λ ends. AreAllEnds (length choice.now) (map end_hold ends.items)) }
     ensures right { IfOk result (λ ends. IsRight (verdicts_of R.table net.now.state choice.now) table.new (taken_by ends.items)) }
+    ensures taken { IfOk result (λ ends. (h : ℕ → ℕ) → sum_by (λ e. sum_by h (end_taken e)) ends.items ≡ sum_by h (all_taken shares.items)) }
 {
     let mut ends = Vec::with_capacity(alloc, shares.len())?;
     while let Some(share) = shares.pop() {
@@ -79,7 +82,8 @@ fn judge_left<R: Rules>(mut owner: Owner, net: &Net<R>, choice: &Choice, table: 
     requires whole { (owner_tally owner).parts ≡ 64 }
     requires count { (owner_tally owner).count ≡ length choice.now }
     requires right { IsRight (verdicts_of R.table net.now.state choice.now) table.old (taken_in (owner_tally owner)) }
-    ensures { table.new ≡ verdicts_of R.table net.now.state choice.now }
+    ensures verdicts { table.new ≡ verdicts_of R.table net.now.state choice.now }
+    ensures places { (left : List ℕ) × AreAllPlaces (length choice.now) ((owner_tally owner).taken ++ left) }
 {
     while let Some(block) = owner.take() {
         write_block(net, choice, block, table);

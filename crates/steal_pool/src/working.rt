@@ -3,7 +3,8 @@
 ghost use Rattle.std.specs.Prelude.{◌≡◌, ◌≤◌, ◌+◌, ◌-◌, ℕ, List, ◌++◌, length, IfOk, vec_capacity};
 ghost use Rattle.place_deque.specs.Tallies.{block_places};
 ghost use Rattle.rule_engine.specs.Choosing.{verdicts_of};
-ghost use Rattle.steal_pool.specs.Hands.{hand_hold, share_hold, share_verdicts, AreJudged, AreOf};
+ghost use Rattle.steal_pool.specs.Hands.{hand_hold, share_hold, share_taken, share_verdicts, AreJudged, AreOf};
+ghost use Rattle.steal_pool.specs.Once.{StandOnce, places_of};
 
 use crate::{Gate, Hand, Share};
 use place_deque::Block;
@@ -25,6 +26,7 @@ impl Hand {
         requires choice { (hand_hold self).count ≡ length choice.now }
         ensures hold { IfOk result (λ share. share_hold share ≡ hand_hold self) }
         ensures judged { IfOk result (AreJudged R.table net.now.state choice.now) }
+        ensures once { IfOk result (λ share. StandOnce (length choice.now) (places_of (share_verdicts share))) }
     {
         let Hand {
             alloc,
@@ -65,7 +67,9 @@ fn judge_block<R: Rules, G: Gate, W: Wait>(
 impl Share {
     /// What `Net::verdict` gives for each place that the worker took, once, in the order in which it took them, and no other.
     pub fn verdicts(&self) -> &[Verdict]
-        ensures { result.now ≡ share_verdicts self.now }
+        ensures verdicts { result.now ≡ share_verdicts self.now }
+        ensures taken { places_of result.now ≡ share_taken self.now }
+        ensures once { StandOnce (share_hold self.now).count (places_of result.now) }
     {
         &self.verdicts
     }

@@ -4,3 +4,4 @@ pub mod Fitting
 pub mod Running
 pub mod Walking
 pub mod Told
+pub mod Upheld

@@ -2,3 +2,4 @@ pub mod Recording
 pub mod Log
 pub mod Epochs
 pub mod Held
+pub mod Headline

@@ -9,6 +9,7 @@ ghost use Rattle.step_log.specs.Epochs.{AreEpochs, IsBounded};
 ghost use Rattle.rule_machine.specs.Network.{node_count, edge_count};
 ghost use Rattle.step_log.specs.Log.{max_entries, IsLog, empty_log, recorded, receipt_of};
 ghost use Rattle.step_log.specs.Held.{IsReady, log_of};
+ghost use Rattle.step_log.specs.Headline.{Upholds};
 
 use crate::epoch::epochs_of;
 use crate::{Epoch, MAX_ENTRIES, Prepared, Receipt, RecordFault};
@@ -105,6 +106,7 @@ impl<R: Rules> Journal<R> {
         ensures spent { result.now.spent ≡ self.now.spent }
         ensures room { result.now.room ≡ self.now.room }
         ensures run { IsLog R.table (log_of self.now) }
+        ensures upheld { Upholds R.table R.NODE_WEIGHT (log_of self.now) }
     {
         &self.net
     }

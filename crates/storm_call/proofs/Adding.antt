@@ -1,16 +1,30 @@
--- Receipts that are added one by one.
-use Rattle.std.proofs.Common.{◌≡◌, ◌∙◌, ℕ, ◌+◌, ◌≤◌, Bool, false, not, List, [], ◌∷◌, ◌++◌, length, Option, None, Some, MatchOption, refl, sym, ap, append_assoc, append-nil, length-append, arith}
+-- Turns that are taken one by one.
+use Rattle.std.proofs.Common.{◌≡◌, ◌∙◌, ℕ, ◌+◌, ◌≤◌, Bool, false, true, not, List, [], ◌∷◌, ◌++◌, length, Option, None, Some, MatchOption, refl, sym, ap, subst, append_assoc, length-append, arith}
 use Rattle.std.specs.List.{All}
-use Rattle.std.specs.Option.{is_some}
+use Rattle.std.specs.Option.{is_some, option_map}
 use Rattle.std.proofs.lemmas.Bool.{false≢true}
-use Rattle.std.proofs.lemmas.List.Elements.{All-nil, All-push}
+use Rattle.std.proofs.lemmas.List.{append_cancel_left}
+use Rattle.std.proofs.lemmas.List.Elements.{All-push}
+use Rattle.rand_core.specs.Stream.{Stream}
+use Rattle.rule_machine.specs.declared.choice.Item.{Item}
 use Rattle.rule_machine.specs.declared.reply.Reply.{Reply}
+use Rattle.rule_machine.specs.declared.event.Event.{Event}
 use Rattle.rule_machine.specs.declared.event.Event.TheVariants.{Step}
+use Rattle.rule_machine.specs.RuleTable.{enabled_names}
+use Rattle.daemon.specs.Drawn.{drawn}
+use Rattle.daemon.proofs.Rests.{rests}
+use Rattle.seeded_turns.specs.Drawn.{Draws, drawn_step}
 use Rattle.step_log.specs.declared.receipt.Receipt.{Receipt}
-use Rattle.locked_net.specs.Receipts.{ClerkView}
+use Rattle.step_log.specs.Log.{Log, receipt_of}
+use Rattle.locked_net.specs.Receipts.{ClerkView, front_from, front_of}
+use Rattle.locked_net.specs.Settings.{Setting}
 use Rattle.locked_net.specs.Calls.{KeepsStep, KeepsFault}
+use Rattle.locked_net.specs.Choosing.{ChoosesStep, IsTold, TakesChoice}
+use Rattle.locked_net.proofs.Adding.{seen_few}
 use Rattle.storm_call.specs.Storm.{IsOfStep, IsOfFault}
-use Rattle.storm_call.specs.Played.{Adds}
+use Rattle.storm_call.specs.Turns.{IsTurn, AreTurns, DrawnFrom, IsQuietBehind}
+
+-- ---- one turn
 
 -- a receipt of the kind was added
 pub record Gains (P : Receipt → Type 0) (old new : List Receipt) : Type 0 where
@@ -18,35 +32,14 @@ pub record Gains (P : Receipt → Type 0) (old new : List Receipt) : Type 0 wher
   pub added : new ≡ old ++ receipt ∷ []
   pub is : P receipt
 
--- receipts of the kind were added, so many at most
-abbrev pub UpTo : (Receipt → Type 0) → ℕ → List Receipt → List Receipt → Type 0
-UpTo P count old new = Adds (λ own. (length own ≤ count) × All P own) old new
-
-pub none_yet : (P : Receipt → Type 0) (receipts : List Receipt) → UpTo P 0 receipts receipts
-none_yet P receipts = record { own = []; added = sym (append-nil receipts); fits = (omega arith, All-nil P) }
-
-pub one_more : (P : Receipt → Type 0) (count : ℕ) (old mid new : List Receipt) → UpTo P count old mid → Gains P mid new → UpTo P (count + 1) old new
-one_more P count old mid new so_far gains =
-    let own = so_far.own in
-    let last = gains.receipt in
-    let few = so_far.fits.0 in record {
-      own = own ++ last ∷ [];
-      added = gains.added ∙ ap (λ rs. rs ++ last ∷ []) so_far.added ∙ append_assoc old own (last ∷ []);
-      fits = (omega (arith, few, length-append own (last ∷ [])), All-push P own last so_far.fits.1 gains.is);
-    }
-
-pub up_to_more : (P : Receipt → Type 0) (low high : ℕ) (old new : List Receipt) → low ≤ high → UpTo P low old new → UpTo P high old new
-up_to_more P low high old new le so_far =
-    let few = so_far.fits.0 in record { own = so_far.own; added = so_far.added; fits = (omega (arith, few, le), so_far.fits.1) }
-
-pub gains_step : (central : Bool) (old new : List Receipt) (reply : Reply) → KeepsStep central old new reply → Gains IsOfStep old new
+gains_step : (central : Bool) (old new : List Receipt) (reply : Reply) → KeepsStep central old new reply → Gains IsOfStep old new
 gains_step central old new reply kept = record {
   receipt = record { seq = kept.kept.seq; event = Step kept.items; reply = reply };
   added = kept.kept.added;
   is = record { items = kept.items; moves = kept.moves; stepped = refl; moved = kept.moved };
 }
 
-pub gains_fault : (old new : List Receipt) (reply : Reply) → KeepsFault old new reply → Gains IsOfFault old new
+gains_fault : (old new : List Receipt) (reply : Reply) → KeepsFault old new reply → Gains IsOfFault old new
 gains_fault old new reply kept = record {
   receipt = record { seq = kept.kept.seq; event = kept.event; reply = reply };
   added = kept.kept.added;
@@ -62,3 +55,104 @@ stepped central old new (Some reply) b kept e f = gains_step central old.receipt
 pub struck : (old new : ClerkView) (told : Option Reply) (b : Bool) → MatchOption told (new ≡ old) (KeepsFault old.receipts new.receipts) → is_some told ≡ not b → b ≡ false → Gains IsOfFault old.receipts new.receipts
 struck old new None b kept e f = absurd (false≢true (e ∙ ap not f))
 struck old new (Some reply) b kept e f = gains_fault old.receipts new.receipts reply kept
+
+-- ---- the words of a turn
+
+-- what these words draw in the state of a log was recorded, if anything, and those are left
+abbrev pub Draw : Setting → Draws → Stream → Stream → List Receipt → List Receipt → Option Reply → Type 0
+Draw setting draws words left old new told = TakesChoice setting (λ s event. (event, left) ≡ draws setting.table s words) old new told
+
+-- a daemon's choice by its words is its event
+pub drew_step : (setting : Setting) (words left : Stream) (old new : List Receipt) (told : Option Reply)
+    → TakesChoice setting (ChoosesStep setting.table (λ names choice. (choice, left) ≡ drawn setting.table.central names words)) old new told → Draw setting drawn_step words left old new told
+drew_step setting words left old new told took =
+    let chosen = took.taken.chosen in
+    record {
+      log = took.log;
+      own = took.own;
+      free = took.free;
+      taken = record {
+        event = took.taken.event;
+        chosen =
+            ap (λ (event : Option Event). (event, left)) chosen.1
+            ∙ ap (λ (d : Option (List Item) × Stream). (option_map (λ items. Step items) d.0, d.1)) chosen.2;
+        is_told = took.taken.is_told;
+      };
+    }
+
+-- the receipt of a turn that was answered is the one that was added
+first_of : (r other : Receipt) → r ∷ [] ≡ other ∷ [] → r ≡ other
+first_of r other same = cc
+
+turn_at : (setting : Setting) (draws : Draws) (words left : Stream) (old new : List Receipt) (told : Option Reply) (receipt : Receipt) (took : Draw setting draws words left old new told) (event : Option Event)
+    → (event, left) ≡ draws setting.table took.log.state words → IsTold setting.table took.log event old new told → is_some told ≡ true → new ≡ old ++ receipt ∷ [] → IsTurn setting draws words receipt left
+turn_at setting draws words left old new told receipt took None is (none, same) some added = absurd (false≢true (sym (ap is_some none) ∙ some))
+turn_at setting draws words left old new told receipt took (Some event) is (answer, more) some added =
+    let same : receipt_of setting.table took.log event ≡ receipt = first_of (receipt_of setting.table took.log event) receipt (append_cancel_left old _ _ (sym more ∙ added)) in
+    subst (λ r. IsTurn setting draws words r left) same (record { log = took.log; own = took.own; drawn = is; told = refl })
+
+-- ---- some turns
+
+-- so many turns were taken
+pub record Took (setting : Setting) (draws : Draws) (P : Receipt → Type 0) (words : Stream) (count : ℕ) (old new : List Receipt) (left : Stream) : Type 0 where
+  pub own : List Receipt
+  pub added : new ≡ old ++ own
+  pub as_many : length own ≡ count
+  pub kind : All P own
+  pub turns : AreTurns setting draws words own left
+
+are_more : (setting : Setting) (draws : Draws) (words next left : Stream) (own : List Receipt) (receipt : Receipt) → AreTurns setting draws words own next → IsTurn setting draws next receipt left
+    → AreTurns setting draws words (own ++ receipt ∷ []) left
+are_more setting draws words next left [] receipt same turn = (left, subst (λ w. IsTurn setting draws w receipt left) same turn, refl)
+are_more setting draws words next left (first ∷ own) receipt (second, taken, turns) turn =
+    (second, taken, are_more setting draws second next left own receipt turns turn)
+
+pub one_more : (setting : Setting) (draws : Draws) (P : Receipt → Type 0) (words next left : Stream) (count : ℕ) (old mid new : List Receipt) (told : Option Reply) (b : Bool)
+    → Took setting draws P words count old mid next → Gains P mid new → Draw setting draws next left mid new told → is_some told ≡ not b → b ≡ false → Took setting draws P words (count + 1) old new left
+one_more setting draws P words next left count old mid new told b so_far gains took e f =
+    let own = so_far.own in
+    let last = gains.receipt in
+    let turn = turn_at setting draws next left mid new told last took took.taken.event took.taken.chosen took.taken.is_told (e ∙ ap not f) gains.added in
+    let as_many = so_far.as_many in record {
+      own = own ++ last ∷ [];
+      added = gains.added ∙ ap (λ rs. rs ++ last ∷ []) so_far.added ∙ append_assoc old own (last ∷ []);
+      as_many = omega (arith, as_many, length-append own (last ∷ []));
+      kind = All-push P own last so_far.kind gains.is;
+      turns = are_more setting draws words next left own last so_far.turns turn;
+    }
+
+-- ---- where they end
+
+pub drawn_from : (setting : Setting) (draws : Draws) (P : Receipt → Type 0) (words left : Stream) (count : ℕ) (old new : List Receipt) (so_far : Took setting draws P words count old new left) → DrawnFrom setting draws words P so_far.own
+drawn_from setting draws P words left count old new so_far = (so_far.kind, (left, so_far.turns))
+
+-- the front of some receipts is not beyond that of all
+front_low : (own old : List Receipt) (low : ℕ) → front_of own ≤ front_from low (old ++ own)
+front_low [] old low = omega arith
+front_low (receipt ∷ own) [] low = omega arith
+front_low (receipt ∷ own) (first ∷ old) low = front_low (receipt ∷ own) old first.seq
+
+no_event : {A B : Type 0} (f : A → B) (choice : Option A) → option_map f choice ≡ None → choice ≡ None
+no_event f None none = refl
+no_event f (Some a) none = cc
+
+none_drawn : (setting : Setting) (log : Log) (old new : List Receipt) (told : Option Reply) (event : Option Event) → IsTold setting.table log event old new told → is_some told ≡ false → event ≡ None
+none_drawn setting log old new told None is none = refl
+none_drawn setting log old new told (Some event) (answer, more) none = absurd (false≢true (sym none ∙ ap is_some answer))
+
+-- a daemon that finds nothing finds no node enabled, behind all that its clerk has seen
+pub quiet_behind : (setting : Setting) (words left : Stream) (old mid new own : List Receipt) (told : Option Reply) (b : Bool) → mid ≡ old ++ own → Draw setting drawn_step words left mid new told → is_some told ≡ not b → b ≡ true
+    → IsQuietBehind setting own
+quiet_behind setting words left old mid new own told b added took e f =
+    let names = enabled_names setting.table took.log.state in
+    let none = none_drawn setting took.log mid new told took.taken.event took.taken.is_told (e ∙ ap not f) in
+    let nobody : option_map (λ items. Step items) (drawn setting.table.central names words).0 ≡ None =
+    sym (ap (λ (d : Option Event × Stream). d.0) took.taken.chosen) ∙ none in
+    let few : front_of mid ≤ length took.log.entries = seen_few (front_of mid) took.log took.free in
+    let low : front_of own ≤ front_of mid = subst (λ rs. front_of own ≤ front_of rs) (sym added) (front_low own old 0) in
+    record {
+      log = took.log;
+      is_own = took.own;
+      behind = omega (arith, few, low);
+      quiet = (rests setting.table.central names words).0 (no_event (λ items. Step items) (drawn setting.table.central names words).0 nobody);
+    }

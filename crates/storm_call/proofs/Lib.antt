@@ -1,7 +1,9 @@
 pub mod Adding
+pub mod Turning
 pub mod Standing
 pub mod Forking
 pub mod Roving
 pub mod Writing
 pub mod Numbered
 pub mod Outcomes
+pub mod Leaving

@@ -4,8 +4,8 @@ use Rattle.std.specs.List.{All}
 use Rattle.std.proofs.lemmas.List.{length-drop, take_all}
 use Rattle.std.proofs.lemmas.List.Elements.{All-nil, All-cons, All-head, All-tail}
 use Rattle.std.specs.Option.{option_or}
-use Rattle.rule_machine.specs.RuleTable.{RuleTable}
 use Rattle.locked_net.specs.Receipts.{ClerkView}
+use Rattle.locked_net.specs.Settings.{Setting}
 use Rattle.locked_net.specs.Roamed.{AllRoam, Roamed, TakesTurns, AllTakeTurns, MayStop}
 use Rattle.locked_net.specs.declared.roam_fault.RoamFault.{RoamFault}
 use Rattle.locked_net.specs.declared.roam_fault.RoamFault.TheVariants.{ZeroWorkers, Thread}
@@ -38,27 +38,27 @@ no_thread clerks (Ok done) may_stop = tt
 no_thread clerks (Err fault) may_stop = λ is. subst (MayStop clerks) is may_stop
 
 -- none of them had turns before
-fresh_turns : (t : RuleTable) (turns : ℕ) (old new : List ClerkView) → AllTakeTurns t turns old new → All (λ clerk. clerk.receipts ≡ []) old → All (λ clerk. TakesTurns t turns [] clerk.receipts) new
-fresh_turns t turns [] [] took fresh = All-nil (λ clerk. TakesTurns t turns [] clerk.receipts)
-fresh_turns t turns [] (new ∷ news) took fresh = absurd took
-fresh_turns t turns (old ∷ olds) [] took fresh = absurd took
-fresh_turns t turns (old ∷ olds) (new ∷ news) (own, others) fresh =
+fresh_turns : (setting : Setting) (turns : ℕ) (old new : List ClerkView) → AllTakeTurns setting turns old new → All (λ clerk. clerk.receipts ≡ []) old → All (λ clerk. TakesTurns setting turns [] clerk.receipts) new
+fresh_turns setting turns [] [] took fresh = All-nil (λ clerk. TakesTurns setting turns [] clerk.receipts)
+fresh_turns setting turns [] (new ∷ news) took fresh = absurd took
+fresh_turns setting turns (old ∷ olds) [] took fresh = absurd took
+fresh_turns setting turns (old ∷ olds) (new ∷ news) (own, others) fresh =
     let none = λ (clerk : ClerkView). clerk.receipts ≡ [] in
-    let took : TakesTurns t turns [] new.receipts = subst (λ before. TakesTurns t turns before new.receipts) (All-head none old olds fresh) own in
-    All-cons (λ clerk. TakesTurns t turns [] clerk.receipts) new news took (fresh_turns t turns olds news others (All-tail none old olds fresh))
+    let took : TakesTurns setting turns [] new.receipts = subst (λ before. TakesTurns setting turns before new.receipts) (All-head none old olds fresh) own in
+    All-cons (λ clerk. TakesTurns setting turns [] clerk.receipts) new news took (fresh_turns setting turns olds news others (All-tail none old olds fresh))
 
-all_took : (t : RuleTable) (turns : ℕ) (old new : List ClerkView) (ended : Result Unit RoamFault) → length old ≤ 64 → length new ≡ length old → All (λ clerk. clerk.receipts ≡ []) old
-    → OnOk ended (AllTakeTurns t turns (take 64 old) (take 64 new)) → OnOk ended (All (λ clerk. TakesTurns t turns [] clerk.receipts) new)
-all_took t turns old new (Err fault) few same fresh took = tt
-all_took t turns old new (Ok done) few same fresh took =
+all_took : (setting : Setting) (turns : ℕ) (old new : List ClerkView) (ended : Result Unit RoamFault) → length old ≤ 64 → length new ≡ length old → All (λ clerk. clerk.receipts ≡ []) old
+    → OnOk ended (AllTakeTurns setting turns (take 64 old) (take 64 new)) → OnOk ended (All (λ clerk. TakesTurns setting turns [] clerk.receipts) new)
+all_took setting turns old new (Err fault) few same fresh took = tt
+all_took setting turns old new (Ok done) few same fresh took =
     let left : length new ≤ 64 = omega (arith, few, same) in
-    fresh_turns t turns old new (subst (λ news. AllTakeTurns t turns old news) (take_all 64 new left) (subst (λ olds. AllTakeTurns t turns olds (take 64 new)) (take_all 64 old few) took)) fresh
+    fresh_turns setting turns old new (subst (λ news. AllTakeTurns setting turns old news) (take_all 64 new left) (subst (λ olds. AllTakeTurns setting turns olds (take 64 new)) (take_all 64 old few) took)) fresh
 
-pub roamed_afresh : (t : RuleTable) (turns : ℕ) (old new : List ClerkView) (ended : Result Unit RoamFault) → length old ≤ 64 → All (λ clerk. clerk.receipts ≡ []) old
-    → Roamed turns old new → OnOk ended (AllTakeTurns t turns (take 64 old) (take 64 new)) → (IsErrOf ended ZeroWorkers ↔ (old ≡ [])) → IfErr ended (λ fault. MayStop new fault) → RoamedAfresh t turns old new ended
-roamed_afresh t turns old new ended few fresh roamed took none may_stop =
+pub roamed_afresh : (setting : Setting) (turns : ℕ) (old new : List ClerkView) (ended : Result Unit RoamFault) → length old ≤ 64 → All (λ clerk. clerk.receipts ≡ []) old
+    → Roamed turns old new → OnOk ended (AllTakeTurns setting turns (take 64 old) (take 64 new)) → (IsErrOf ended ZeroWorkers ↔ (old ≡ [])) → IfErr ended (λ fault. MayStop new fault) → RoamedAfresh setting turns old new ended
+roamed_afresh setting turns old new ended few fresh roamed took none may_stop =
     let all = all_turns turns old new (all_workers turns old new few roamed) fresh in
-    record { as_many = all.0; steps = all.1; whole = all_took t turns old new ended few all.0 fresh took; nobody = none; thread = no_thread new ended may_stop }
+    record { as_many = all.0; steps = all.1; whole = all_took setting turns old new ended few all.0 fresh took; nobody = none; thread = no_thread new ended may_stop }
 
 -- ---- beside scripts
 
@@ -70,19 +70,19 @@ nobody_met : (ended : Result Unit RoamFault) → IsErrOf ended ZeroWorkers → r
 nobody_met ended nobody = ap (λ (e : Result Unit RoamFault). roam_fault e) nobody
 
 -- where they met no fault, or nobody was there
-whole_turns : (t : RuleTable) (turns : ℕ) (old new : List ClerkView) (ended : Result Unit RoamFault) → RoamedAfresh t turns old new ended → roam_fault ended ≡ None → All (λ clerk. TakesTurns t turns [] clerk.receipts) new
-whole_turns t turns old new (Ok done) roamed none = roamed.whole
-whole_turns t turns old new (Err roam.ZeroWorkers) roamed none =
+whole_turns : (setting : Setting) (turns : ℕ) (old new : List ClerkView) (ended : Result Unit RoamFault) → RoamedAfresh setting turns old new ended → roam_fault ended ≡ None → All (λ clerk. TakesTurns setting turns [] clerk.receipts) new
+whole_turns setting turns old new (Ok done) roamed none = roamed.whole
+whole_turns setting turns old new (Err roam.ZeroWorkers) roamed none =
     let left : new ≡ [] = no_clerk new (roamed.as_many ∙ ap length (roamed.nobody.0 refl)) in
-    subst (λ news. All (λ clerk. TakesTurns t turns [] clerk.receipts) news) (sym left) (All-nil (λ clerk. TakesTurns t turns [] clerk.receipts))
-whole_turns t turns old new (Err roam.Thread) roamed none = absurd (roamed.thread refl)
-whole_turns t turns old new (Err (roam.Behind front seen)) roamed none = cc
-whole_turns t turns old new (Err roam.LogFull) roamed none = cc
-whole_turns t turns old new (Err roam.Memory) roamed none = cc
+    subst (λ news. All (λ clerk. TakesTurns setting turns [] clerk.receipts) news) (sym left) (All-nil (λ clerk. TakesTurns setting turns [] clerk.receipts))
+whole_turns setting turns old new (Err roam.Thread) roamed none = absurd (roamed.thread refl)
+whole_turns setting turns old new (Err (roam.Behind front seen)) roamed none = cc
+whole_turns setting turns old new (Err roam.LogFull) roamed none = cc
+whole_turns setting turns old new (Err roam.Memory) roamed none = cc
 
-pub told_beside : (t : RuleTable) (scripts : List (List ScriptLine)) (roamers turns : ℕ) (own before roaming : List ClerkView) (met fault : Option CallFault) (ended : Result Unit RoamFault)
-    → AllPlayed scripts own met → RoamedAfresh t turns before roaming ended → length before ≡ roamers → fault ≡ option_or met (roam_fault ended) → AllTold t scripts roamers turns (own ++ roaming) fault
-told_beside t scripts roamers turns own before roaming met fault ended played roamed size first = record {
+pub told_beside : (setting : Setting) (scripts : List (List ScriptLine)) (roamers turns : ℕ) (own before roaming : List ClerkView) (met fault : Option CallFault) (ended : Result Unit RoamFault)
+    → AllPlayed setting scripts own met → RoamedAfresh setting turns before roaming ended → length before ≡ roamers → fault ≡ option_or met (roam_fault ended) → AllTold setting scripts roamers turns (own ++ roaming) fault
+told_beside setting scripts roamers turns own before roaming met fault ended played roamed size first = record {
   own = own;
   roaming = roaming;
   met = met;
@@ -93,5 +93,5 @@ told_beside t scripts roamers turns own before roaming met fault ended played ro
   roamed = roamed.steps;
   first = first;
   nobody = λ none. nobody_met ended (roamed.nobody.1 (no_clerk before (size ∙ none)));
-  whole = whole_turns t turns before roaming ended roamed;
+  whole = whole_turns setting turns before roaming ended roamed;
 }

@@ -1,3 +1,4 @@
+pub mod Turns
 pub mod Storm
 pub mod Played
 pub mod PlayFaults

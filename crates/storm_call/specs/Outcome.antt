@@ -6,6 +6,8 @@
 -- that of a worker was told are steps of one node alone, at most as many as it has turns.
 use Rattle.std.specs.Prelude.{◌≡◌, ◌≢◌, ℕ, ◌<◌, ◌⊎◌, List, [], length, Option, None, Some, Result, Ok, Err}
 use Rattle.std.specs.Io.KnownBytes.{Appends, Keeps}
+use Rattle.rule_machine.specs.declared.rules.RuleSet.{RuleSet}
+use Rattle.rule_machine.specs.declared.rules.RuleSet.TheVariants.{Hh, Manne}
 use Rattle.rule_machine.specs.Network.{node_count}
 use Rattle.rule_machine.specs.RuleTable.{RuleTable}
 use Rattle.rule_machine.specs.Tables.{table_of}
@@ -15,6 +17,8 @@ use Rattle.step_log.specs.Log.{Log, IsLog}
 use Rattle.locked_net.specs.declared.call_fault.CallFault.{CallFault}
 use Rattle.locked_net.specs.declared.call_fault.CallFault.TheVariants as call
 use Rattle.locked_net.specs.declared.settle_fault.SettleFault.TheVariants as settle
+use Rattle.locked_net.specs.Settings.{Setting}
+use Rattle.locked_net.specs.Headline.{Headline}
 use Rattle.script_text.specs.declared.script.ScriptLine.{ScriptLine}
 use Rattle.storm_call.specs.Storm.{IsStorm}
 use Rattle.script_run.specs.Asked.{Asked}
@@ -22,37 +26,47 @@ use Rattle.script_text.specs.Readers.{AllHold, FirstBadScript}
 use Rattle.storm_call.specs.declared.fault.StormFault.{StormFault}
 use Rattle.storm_call.specs.declared.fault.StormFault.TheVariants.{TooManyScripts, BadLine, LogFull, Read, Write, Memory, Behind, Thread, Unsettled}
 
+-- what every log of such a network has
+abbrev pub asked_setting : RuleTable → Asked → Setting
+asked_setting t asked = record { table = t; nodes = asked.nodes; limit = asked.limit }
+
 -- These scripts leave the log, on as many nodes, with the limit and with the workers that are asked for, and this is the first fault
 -- that a script met, or where none did, one of the workers'.
-pub record Leaves (t : RuleTable) (asked : Asked) (scripts : List (List ScriptLine)) (fault : Option CallFault) (log : Log) : Type 0 where
+pub record Leaves (t : RuleTable) (weight : ℕ) (asked : Asked) (scripts : List (List ScriptLine)) (fault : Option CallFault) (log : Log) : Type 0 where
   pub run : IsLog t log
   pub nodes_are : node_count log.state.network ≡ asked.nodes
   pub limit_is : log.limit ≡ asked.limit
-  pub storm : IsStorm t log.entries scripts asked.roamers asked.turns fault
+  pub storm : IsStorm (asked_setting t asked) log.entries scripts asked.roamers asked.turns fault
+  pub headline : Headline t weight log storm.clerks
 
 -- the scripts are those of the texts, they leave a log with this fault, and P holds of its text
-abbrev pub LeavesText : RuleTable → Asked → List (Option (List ℕ)) → Option CallFault → (List ℕ → Type 0) → Type 0
-LeavesText t asked texts fault P =
-    (scripts : List (List ScriptLine)) × (log : Log) × AllHold texts scripts × Leaves t asked scripts fault log × P (transcript asked.rules asked.nodes log.entries)
+abbrev pub LeavesText : RuleTable → ℕ → Asked → List (Option (List ℕ)) → Option CallFault → (List ℕ → Type 0) → Type 0
+LeavesText t weight asked texts fault P =
+    (scripts : List (List ScriptLine)) × (log : Log) × AllHold texts scripts × Leaves t weight asked scripts fault log × P (transcript asked.rules asked.nodes log.entries)
 
 -- The whole text was written where all scripts were played to their ends and no worker met a fault, or the first fault that was met
 -- is told; a beginning of it where the writer failed; and nothing where the receipts do not account for the log, or the scripts could
 -- not be read. Want of memory is a script's or a worker's, or nothing was written.
-abbrev pub Ends : RuleTable → Asked → List (Option (List ℕ)) → Option (List ℕ) → Option (List ℕ) → Result Unit StormFault → Type 0
-Ends t asked texts old new (Ok done) = LeavesText t asked texts None (Appends old new)
-Ends t asked texts old new (Err LogFull) = LeavesText t asked texts (Some call.LogFull) (Appends old new)
-Ends t asked texts old new (Err Behind) =
-    (front : ℕ) × (seen : ℕ) × LeavesText t asked texts (Some (call.Behind front seen)) (Appends old new)
-Ends t asked texts old new (Err Memory) =
-    LeavesText t asked texts (Some call.Memory) (Appends old new) ⊎ Keeps old new
-Ends t asked texts old new (Err Write) =
-    (fault : Option CallFault) × LeavesText t asked texts fault (AppendsBeginning old new)
-Ends t asked texts old new (Err (Unsettled why)) = (why ≢ settle.Memory) × Keeps old new
-Ends t asked texts old new (Err TooManyScripts) = (64 < length texts) × Keeps old new
-Ends t asked texts old new (Err (BadLine script line)) = FirstBadScript 1 texts script line × Keeps old new
-Ends t asked texts old new (Err Read) = (texts ≢ []) × Keeps old new
-Ends t asked texts old new (Err Thread) = ⊥
+abbrev pub Ends : RuleTable → ℕ → Asked → List (Option (List ℕ)) → Option (List ℕ) → Option (List ℕ) → Result Unit StormFault → Type 0
+Ends t weight asked texts old new (Ok done) = LeavesText t weight asked texts None (Appends old new)
+Ends t weight asked texts old new (Err LogFull) = LeavesText t weight asked texts (Some call.LogFull) (Appends old new)
+Ends t weight asked texts old new (Err Behind) =
+    (front : ℕ) × (seen : ℕ) × LeavesText t weight asked texts (Some (call.Behind front seen)) (Appends old new)
+Ends t weight asked texts old new (Err Memory) =
+    LeavesText t weight asked texts (Some call.Memory) (Appends old new) ⊎ Keeps old new
+Ends t weight asked texts old new (Err Write) =
+    (fault : Option CallFault) × LeavesText t weight asked texts fault (AppendsBeginning old new)
+Ends t weight asked texts old new (Err (Unsettled why)) = (why ≢ settle.Memory) × Keeps old new
+Ends t weight asked texts old new (Err TooManyScripts) = (64 < length texts) × Keeps old new
+Ends t weight asked texts old new (Err (BadLine script line)) = FirstBadScript 1 texts script line × Keeps old new
+Ends t weight asked texts old new (Err Read) = (texts ≢ []) × Keeps old new
+Ends t weight asked texts old new (Err Thread) = ⊥
+
+-- the weight of a node in the bound of a rule set
+abbrev pub weight_of : RuleSet → ℕ
+weight_of Hh = 1
+weight_of Manne = 3
 
 -- the storm of some texts, under the rule set that is asked for
 abbrev pub IsOutcome : Asked → List (Option (List ℕ)) → Option (List ℕ) → Option (List ℕ) → Result Unit StormFault → Type 0
-IsOutcome asked texts old new result = Ends (table_of asked.rules) asked texts old new result
+IsOutcome asked texts old new result = Ends (table_of asked.rules) (weight_of asked.rules) asked texts old new result

@@ -1,8 +1,8 @@
 -- How workers roam beside scripts, and what their fault is to a storm.
 use Rattle.std.specs.Prelude.{◌≡◌, ◌≢◌, ◌↔◌, ℕ, List, [], length, Option, None, Some, Result, Ok, Err, IfErr, OnOk, IsErrOf}
 use Rattle.std.specs.List.{All}
-use Rattle.rule_machine.specs.RuleTable.{RuleTable}
 use Rattle.locked_net.specs.Receipts.{ClerkView}
+use Rattle.locked_net.specs.Settings.{Setting}
 use Rattle.locked_net.specs.Roamed.{TakesTurns}
 use Rattle.locked_net.specs.declared.call_fault.CallFault.{CallFault}
 use Rattle.locked_net.specs.declared.call_fault.CallFault.TheVariants.{Behind, LogFull, Memory}
@@ -12,10 +12,10 @@ use Rattle.storm_call.specs.Storm.{IsRoaming}
 
 -- Clerks who had called nobody have roamed for so many turns, and it ended so: each took them all where it ended well, nobody was
 -- there exactly where there are no clerks, and no thread was wanted.
-pub record RoamedAfresh (t : RuleTable) (turns : ℕ) (old new : List ClerkView) (ended : Result Unit RoamFault) : Type 0 where
+pub record RoamedAfresh (setting : Setting) (turns : ℕ) (old new : List ClerkView) (ended : Result Unit RoamFault) : Type 0 where
   pub as_many : length new ≡ length old
   pub steps : All (λ clerk. IsRoaming turns clerk.receipts) new
-  pub whole : OnOk ended (All (λ clerk. TakesTurns t turns [] clerk.receipts) new)
+  pub whole : OnOk ended (All (λ clerk. TakesTurns setting turns [] clerk.receipts) new)
   pub nobody : IsErrOf ended roam.ZeroWorkers ↔ (old ≡ [])
   pub thread : IfErr ended (λ fault. fault ≢ roam.Thread)
 

@@ -4,6 +4,7 @@ ghost use Rattle.std.specs.Prelude.{◌≡◌, ◌≢◌, ◌+◌, ◌≤◌, []
 ghost use Rattle.std.specs.List.{All};
 ghost use Rattle.std.specs.Option.{option_or};
 ghost use Rattle.std.specs.Thread.{IsSync, IsSend};
+ghost use Rattle.locked_net.specs.Nets.{setting_of};
 ghost use Rattle.locked_net.specs.declared.roam_fault.RoamFault.TheVariants.{Thread};
 ghost use Rattle.storm_call.specs.Storm.{AllPlayed, AllTold};
 ghost use Rattle.storm_call.specs.Roaming.{RoamedAfresh, roam_fault};
@@ -28,7 +29,7 @@ pub(crate) fn play_beside<R: Rules + Send + Sync, G: Gate + Sync, T: Threads + W
     requires size { length clerks.old ≡ length scripts.now + stage.now.crew.roamers }
     requires few { length scripts.now ≤ 64 }
     requires fresh { All (λ clerk. clerk.receipts ≡ []) clerks.old }
-    ensures { AllTold R.table scripts.now stage.now.crew.roamers stage.now.crew.turns clerks.new result }
+    ensures { AllTold (setting_of R.table stage.now.net.now) scripts.now stage.now.crew.roamers stage.now.crew.turns clerks.new result }
 {
     let (own, roaming) = clerks.split_at_mut(scripts.len());
     let (met, roamed) = play_and_roam(rt, stage, scripts, own, roaming);
@@ -48,8 +49,8 @@ fn play_and_roam<R: Rules + Send + Sync, G: Gate + Sync, T: Threads + Wait + Syn
     requires few_workers { length roaming.old ≤ 64 }
     requires own_fresh { All (λ clerk. clerk.receipts ≡ []) own.old }
     requires roaming_fresh { All (λ clerk. clerk.receipts ≡ []) roaming.old }
-    ensures played { AllPlayed scripts.now own.new result.0 }
-    ensures roamed { RoamedAfresh R.table stage.now.crew.turns roaming.old roaming.new result.1 }
+    ensures played { AllPlayed (setting_of R.table stage.now.net.now) scripts.now own.new result.0 }
+    ensures roamed { RoamedAfresh (setting_of R.table stage.now.net.now) stage.now.crew.turns roaming.old roaming.new result.1 }
 {
     if roaming.is_empty() {
         return (
@@ -62,11 +63,11 @@ fn play_and_roam<R: Rules + Send + Sync, G: Gate + Sync, T: Threads + Wait + Syn
         rt,
         &mut || -> Result<(), RoamFault>
             requires { IsSync T.row × IsSend R.row × (length roaming.now ≤ 64) × All (λ clerk. clerk.receipts ≡ []) roaming.now }
-            ensures { RoamedAfresh R.table turns roaming.entry.now roaming.exit.now result }
+            ensures { RoamedAfresh (setting_of R.table stage.entry.now.net.now) turns roaming.entry.now roaming.exit.now result }
         { roam_new(rt, stage, turns, roaming) },
         &mut || -> Option<CallFault>
             requires { IsSync T.row × IsSync G.row × IsSend R.row × IsSync R.row × (length scripts.now ≡ length own.now) × (length scripts.now ≤ 64) × All (λ clerk. clerk.receipts ≡ []) own.now }
-            ensures { AllPlayed scripts.entry.now own.exit.now result }
+            ensures { AllPlayed (setting_of R.table stage.entry.now.net.now) scripts.entry.now own.exit.now result }
         { play_all(rt, stage, 0, scripts, own) },
     );
     (met, roamed)
@@ -81,7 +82,7 @@ fn roam_new<R: Rules + Send, G: Gate, T: Threads + Wait + Sync>(
 ) -> Result<(), RoamFault>
     requires few { length clerks.old ≤ 64 }
     requires fresh { All (λ clerk. clerk.receipts ≡ []) clerks.old }
-    ensures { RoamedAfresh R.table turns clerks.old clerks.new result }
+    ensures { RoamedAfresh (setting_of R.table stage.now.net.now) turns clerks.old clerks.new result }
 {
     roam(rt, stage.net, clerks, turns, &NoGate)
 }

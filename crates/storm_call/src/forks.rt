@@ -3,6 +3,7 @@
 ghost use Rattle.std.specs.Prelude.{◌≡◌, ◌+◌, ◌<◌, ◌^◌, [], length};
 ghost use Rattle.std.specs.List.{All};
 ghost use Rattle.std.specs.Thread.{IsSync, IsSend};
+ghost use Rattle.locked_net.specs.Nets.{setting_of};
 ghost use Rattle.storm_call.specs.Storm.{AllPlayed};
 
 use crate::stage::{Stage, play_first};
@@ -26,7 +27,7 @@ pub(crate) fn play_all<R: Rules + Send + Sync, G: Gate + Sync, T: Threads + Wait
     requires size { length scripts.now ≡ length clerks.old }
     requires numbers { first + length scripts.now < 2 ^ 32 }
     requires fresh { All (λ clerk. clerk.receipts ≡ []) clerks.old }
-    ensures { AllPlayed scripts.now clerks.new result }
+    ensures { AllPlayed (setting_of R.table stage.now.net.now) scripts.now clerks.new result }
 {
     if scripts.len() < 2 {
         return play_first(rt, stage, first, scripts, clerks);
@@ -54,19 +55,19 @@ fn play_halves<R: Rules + Send + Sync, G: Gate + Sync, T: Threads + Wait + Sync>
     requires numbers { first + length left.now + length right.now < 2 ^ 32 }
     requires left_fresh { All (λ clerk. clerk.receipts ≡ []) ours.old }
     requires right_fresh { All (λ clerk. clerk.receipts ≡ []) theirs.old }
-    ensures left { AllPlayed left.now ours.new result.0 }
-    ensures right { AllPlayed right.now theirs.new result.1 }
+    ensures left { AllPlayed (setting_of R.table stage.now.net.now) left.now ours.new result.0 }
+    ensures right { AllPlayed (setting_of R.table stage.now.net.now) right.now theirs.new result.1 }
 {
     let second = first + left.len() as u32;
     join_mut(
         rt,
         &mut || -> Option<CallFault>
             requires { IsSync T.row × IsSync G.row × IsSend R.row × IsSync R.row × (length left.now ≡ length ours.now) × (first + length left.now < 2 ^ 32) × All (λ clerk. clerk.receipts ≡ []) ours.now }
-            ensures { AllPlayed left.entry.now ours.exit.now result }
+            ensures { AllPlayed (setting_of R.table stage.entry.now.net.now) left.entry.now ours.exit.now result }
         { play_all(rt, stage, first, left, ours) },
         &mut || -> Option<CallFault>
             requires { IsSync T.row × IsSync G.row × IsSend R.row × IsSync R.row × (length right.now ≡ length theirs.now) × (second + length right.now < 2 ^ 32) × All (λ clerk. clerk.receipts ≡ []) theirs.now }
-            ensures { AllPlayed right.entry.now theirs.exit.now result }
+            ensures { AllPlayed (setting_of R.table stage.entry.now.net.now) right.entry.now theirs.exit.now result }
         { play_all(rt, stage, second, right, theirs) },
     )
 }

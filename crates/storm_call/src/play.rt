@@ -1,6 +1,7 @@
 //! How a command is carried out.
 
 ghost use Rattle.rule_machine.specs.declared.event.Event.TheVariants.{Step};
+ghost use Rattle.locked_net.specs.Nets.{setting_of};
 ghost use Rattle.script_text.specs.declared.command.Command.TheVariants.{Tell};
 ghost use Rattle.storm_call.specs.Played.{Plays};
 
@@ -21,7 +22,7 @@ fn step<R: Rules + Sync, G: Gate, T: Threads + Wait + Sync>(
     clerk: &mut Clerk,
     choice: Choice,
 ) -> Result<(), CallFault>
-    ensures { Plays (Tell (Step choice)) clerk.old.receipts clerk.new.receipts result }
+    ensures { Plays (setting_of R.table stage.now.net.now) (Tell (Step choice)) clerk.old.receipts clerk.new.receipts result }
 {
     match clerk.step_with(rt, stage.net, choice, stage.crew.workers, &NoGate) {
         Ok(_) => Ok(()),
@@ -36,7 +37,7 @@ fn tell<R: Rules + Sync, G: Gate, T: Threads + Wait + Sync>(
     clerk: &mut Clerk,
     event: &Event,
 ) -> Result<(), CallFault>
-    ensures { Plays (Tell event.now) clerk.old.receipts clerk.new.receipts result }
+    ensures { Plays (setting_of R.table stage.now.net.now) (Tell event.now) clerk.old.receipts clerk.new.receipts result }
 {
     match event.clone()? {
         Event::Step(choice) => step(rt, stage, clerk, choice),
@@ -54,7 +55,7 @@ pub(crate) fn play<R: Rules + Sync, G: Gate, T: Threads + Wait + Sync>(
     clerk: &mut Clerk,
     command: &Command,
 ) -> Result<(), CallFault>
-    ensures { Plays command.now clerk.old.receipts clerk.new.receipts result }
+    ensures { Plays (setting_of R.table stage.now.net.now) command.now clerk.old.receipts clerk.new.receipts result }
 {
     match command {
         Command::Tell(event) => tell(rt, stage, clerk, event),

@@ -3,9 +3,10 @@
 ghost use Rattle.std.specs.Prelude.{◌≡◌, ◌≤◌, [], length, IfOk, vec_len};
 ghost use Rattle.std.specs.List.{All};
 ghost use Rattle.rule_machine.specs.Network.{node_count};
+ghost use Rattle.step_log.specs.Headline.{Upholds};
 ghost use Rattle.step_log.specs.Held.{log_of};
 ghost use Rattle.step_log.specs.Log.{IsLog};
-ghost use Rattle.locked_net.specs.Nets.{nodes_of, limit_of};
+ghost use Rattle.locked_net.specs.Nets.{nodes_of, limit_of, setting_of};
 ghost use Rattle.storm_call.specs.Storm.{IsStorm};
 
 use crate::beside::play_beside;
@@ -54,8 +55,9 @@ pub fn play_scripts<R: Rules + Send + Sync, G: Gate + Sync, T: Threads + Wait + 
     gate: &G,
 ) -> Result<(Journal<R>, Option<CallFault>), PlayFault>
     requires { length scripts.now ≤ 64 }
-    ensures storm { IfOk result (λ left. IsStorm R.table left.0.entries scripts.now crew.roamers crew.turns left.1) }
+    ensures storm { IfOk result (λ left. IsStorm (setting_of R.table net) left.0.entries scripts.now crew.roamers crew.turns left.1) }
     ensures run { IfOk result (λ left. IsLog R.table (log_of left.0)) }
+    ensures upheld { IfOk result (λ left. Upholds R.table R.NODE_WEIGHT (log_of left.0)) }
     ensures size { IfOk result (λ left. (node_count left.0.state.network ≡ nodes_of net) × (left.0.limit ≡ limit_of net)) }
 {
     let count = scripts.len() + crew.roamers as usize;

@@ -3,6 +3,7 @@
 ghost use Rattle.std.specs.Prelude.{◌≡◌, ◌<◌, [], length};
 ghost use Rattle.std.specs.List.{All};
 ghost use Rattle.std.specs.Result.{result_err};
+ghost use Rattle.locked_net.specs.Nets.{setting_of};
 ghost use Rattle.storm_call.specs.Storm.{MayStop, AllPlayed};
 
 use crate::Crew;
@@ -34,7 +35,7 @@ fn play_script<R: Rules + Sync, G: Gate, T: Threads + Wait + Sync>(
     clerk: &mut Clerk,
 ) -> Result<(), CallFault>
     requires { clerk.old.receipts ≡ [] }
-    ensures { MayStop script.now clerk.new.receipts (result_err result) }
+    ensures { MayStop (setting_of R.table stage.now.net.now) script.now clerk.new.receipts (result_err result) }
 {
     for line in script.lines() {
         stage.gate.pass(rt, number, line.line);
@@ -54,7 +55,7 @@ pub(crate) fn play_first<R: Rules + Sync, G: Gate, T: Threads + Wait + Sync>(
     requires few { length scripts.now < 2 }
     requires size { length scripts.now ≡ length clerks.old }
     requires fresh { All (λ clerk. clerk.receipts ≡ []) clerks.old }
-    ensures { AllPlayed scripts.now clerks.new result }
+    ensures { AllPlayed (setting_of R.table stage.now.net.now) scripts.now clerks.new result }
 {
     if scripts.is_empty() {
         return None;

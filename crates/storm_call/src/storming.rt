@@ -31,7 +31,7 @@ fn play<R: Rules + Send + Sync, G: Gate + Sync, T: Threads + Wait + Sync>(
     gate: &G,
 ) -> Result<(Journal<R>, Option<CallFault>), StormFault>
     requires { length scripts.now ≤ 64 }
-    ensures log { IfOk result (λ left. Leaves R.table (asked_of options.now) scripts.now left.1 (log_of left.0)) }
+    ensures log { IfOk result (λ left. Leaves R.table R.NODE_WEIGHT (asked_of options.now) scripts.now left.1 (log_of left.0)) }
     ensures fault { IfErr result FailsToPlay }
 {
     let Ok(net) = LockedNet::<R>::with_limit(alloc, rt, options.nodes(), options.limit()) else {
@@ -59,7 +59,7 @@ fn storm_on<
     writer: &mut Out,
     gate: &G,
 ) -> Result<(), StormFault>
-    ensures { Ends R.table (asked_of options.now) (map In.remaining readers.items) (Out.contents writer.old) (Out.contents writer.new) result }
+    ensures { Ends R.table R.NODE_WEIGHT (asked_of options.now) (map In.remaining readers.items) (Out.contents writer.old) (Out.contents writer.new) result }
 {
     let scripts = read_scripts(alloc, readers)?;
     let (journal, fault) = play::<R, G, T>(rt, alloc, options, &scripts, gate)?;

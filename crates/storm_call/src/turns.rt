@@ -1,7 +1,8 @@
 //! How the turns of one line are taken.
 
-ghost use Rattle.storm_call.specs.Storm.{IsOfStep, IsOfFault};
-ghost use Rattle.storm_call.specs.Played.{AddsUpTo};
+ghost use Rattle.locked_net.specs.Nets.{setting_of};
+ghost use Rattle.script_text.specs.declared.command.Command.TheVariants.{Drive, Scramble};
+ghost use Rattle.storm_call.specs.Played.{Plays};
 
 use daemon::Seeded;
 use fault_injector::Injector;
@@ -21,7 +22,7 @@ pub(crate) fn drive<R: Rules, W: Wait>(
     clerk: &mut Clerk,
     turns: Turns,
 ) -> Result<(), CallFault>
-    ensures { AddsUpTo IsOfStep turns.count clerk.old.receipts clerk.new.receipts result }
+    ensures { Plays (setting_of R.table net.now) (Drive turns) clerk.old.receipts clerk.new.receipts result }
 {
     let mut daemon = Seeded::new(alloc, Pcg32::seed_from_u64(turns.seed));
     for _ in 0..turns.count {
@@ -39,7 +40,7 @@ pub(crate) fn scramble<R: Rules, W: Wait>(
     clerk: &mut Clerk,
     turns: Turns,
 ) -> Result<(), CallFault>
-    ensures { AddsUpTo IsOfFault turns.count clerk.old.receipts clerk.new.receipts result }
+    ensures { Plays (setting_of R.table net.now) (Scramble turns) clerk.old.receipts clerk.new.receipts result }
 {
     let mut injector = Injector::new(Pcg32::seed_from_u64(turns.seed));
     for _ in 0..turns.count {

@@ -1,14 +1,9 @@
 //! Clerks of a shared network, and how they settle.
 
 use crate::helpers::named;
-use daemon::Seeded;
-use fault_injector::Injector;
 use locked_net::{CallFault, Clerk, LockedNet, SettleFault, settle};
-use rand_core::SeedableRng;
-use rand_pcg::Pcg32;
-use rule_engine::{Act, Event, Moved, Reply, Rules};
+use rule_engine::{Event, Reply, Rules};
 use rules_hsu_huang::HsuHuang;
-use rules_manne::Manne;
 use std::alloc::Global;
 use std::process::Abort;
 use std::sync::Wait;
@@ -71,7 +66,7 @@ fn expect_fault<R: Rules, W: Wait + Abort>(
 }
 
 /// The list of one clerk.
-fn alone(rt: &impl Abort, alloc: Global, clerk: Clerk) -> Vec<Clerk> {
+pub(crate) fn alone(rt: &impl Abort, alloc: Global, clerk: Clerk) -> Vec<Clerk> {
     let mut clerks = Vec::new(alloc);
     clerks.push(clerk).expect(rt, "memory");
     clerks
@@ -103,6 +98,21 @@ fn two_clerks_settle(rt: HostRuntime) {
     assert!(rt; first.receipts().len() == 2);
     let clerks = both(&rt, rt.alloc(), first, second);
     assert!(rt; fault_of(&rt, net, clerks, 3).is_none());
+}
+
+#[test]
+fn a_clerk_settles_alone(rt: HostRuntime) {
+    let net = shared::<HsuHuang>(&rt, rt.alloc(), 3, 9);
+    let mut clerk = clerk_of(&rt, &net);
+    expect_link(&rt, &mut clerk, &net, 1, 2);
+    let clerks = alone(&rt, rt.alloc(), clerk);
+    assert!(rt; fault_of(&rt, net, clerks, 1).is_none());
+}
+
+#[test]
+fn nobody_settles_an_empty_log(rt: HostRuntime) {
+    let net = shared::<HsuHuang>(&rt, rt.alloc(), 3, 9);
+    assert!(rt; fault_of(&rt, net, Vec::new(rt.alloc()), 0).is_none());
 }
 
 #[test]
@@ -167,52 +177,5 @@ fn a_full_log_takes_no_call(rt: HostRuntime) {
     let mut clerk = clerk_of(&rt, &net);
     expect_link(&rt, &mut clerk, &net, 1, 2);
     expect_fault(&rt, &mut clerk, &net, Event::Enabled, CallFault::LogFull);
-    let mut daemon = Seeded::new(rt.alloc(), Pcg32::seed_from_u64(7));
-    assert!(rt; clerk.drive_with(&rt, &net, &mut daemon) == Err(CallFault::LogFull));
-    expect_log(&rt, net, 1);
-}
-
-/// The move of the second of a pair, which marries the first.
-fn marriage(rt: &impl Abort) -> Moved {
-    Moved {
-        node: named(rt, 2),
-        act: Act::Marry,
-        target: Some(named(rt, 1)),
-    }
-}
-
-/// Whether a turn was answered by the marriage of the second node.
-fn is_marriage(rt: &impl Abort, told: Result<Option<Reply>, CallFault>) -> bool {
-    match told {
-        Ok(Some(Reply::Moves(moves))) => {
-            moves.as_slice().len() == 1 && moves.as_slice().first() == Some(&marriage(rt))
-        }
-        _ => false,
-    }
-}
-
-#[test]
-fn a_clerk_drives_until_nobody_is_enabled(rt: HostRuntime) {
-    let net = shared::<HsuHuang>(&rt, rt.alloc(), 2, 9);
-    let mut clerk = clerk_of(&rt, &net);
-    expect_link(&rt, &mut clerk, &net, 1, 2);
-    let first = Event::Point(named(&rt, 1), Some(named(&rt, 2)));
-    assert!(rt; clerk.call(&rt, &net, first) == Ok(Reply::Accepted));
-    let mut daemon = Seeded::new(rt.alloc(), Pcg32::seed_from_u64(7));
-    assert!(rt; is_marriage(&rt, clerk.drive_with(&rt, &net, &mut daemon)));
-    assert!(rt; clerk.drive_with(&rt, &net, &mut daemon) == Ok(None));
-    expect_log(&rt, net, 3);
-}
-
-#[test]
-fn a_clerk_breaks_registers(rt: HostRuntime) {
-    let mut injector = Injector::new(Pcg32::seed_from_u64(3));
-    let empty = shared::<Manne>(&rt, rt.alloc(), 0, 9);
-    let mut clerk = clerk_of(&rt, &empty);
-    assert!(rt; clerk.fault_with(&rt, &empty, &mut injector) == Ok(None));
-    expect_log(&rt, empty, 0);
-    let net = shared::<HsuHuang>(&rt, rt.alloc(), 1, 9);
-    let told = clerk.fault_with(&rt, &net, &mut injector);
-    assert!(rt; told == Ok(Some(Reply::Accepted)));
     expect_log(&rt, net, 1);
 }

@@ -50,9 +50,11 @@ impl Meeting {
         self.missed.store(1, Ordering::SeqCst);
     }
 
-    /// Whether one waited in vain.
-    pub(crate) fn is_missed(&self) -> bool {
-        self.missed.load(Ordering::SeqCst) == 1
+    /// Whether both came, and neither waited in vain.
+    pub(crate) fn is_met(&self) -> bool {
+        self.first.load(Ordering::SeqCst) == 1
+            && self.second.load(Ordering::SeqCst) == 1
+            && self.missed.load(Ordering::SeqCst) == 0
     }
 }
 
@@ -68,5 +70,38 @@ impl Gate for MeetingAt {
         if place == self.place {
             self.meeting.meet(worker == 0);
         }
+    }
+}
+
+/// A gate at which the tasks of the places 0 and 1 wait for each other. It counts who passes, and adds up the workers' numbers.
+#[derive(Drop)]
+pub(crate) struct TwoGuards {
+    meeting: Meeting,
+    passes: AtomicU64,
+    numbers: AtomicU64,
+}
+
+impl TwoGuards {
+    pub(crate) fn new() -> TwoGuards {
+        TwoGuards {
+            meeting: Meeting::new(),
+            passes: AtomicU64::new(0),
+            numbers: AtomicU64::new(0),
+        }
+    }
+
+    /// Whether the workers 0 and 1 met here, and nobody else passed.
+    pub(crate) fn is_met(&self) -> bool {
+        self.meeting.is_met()
+            && self.passes.load(Ordering::SeqCst) == 2
+            && self.numbers.load(Ordering::SeqCst) == 1
+    }
+}
+
+impl Gate for TwoGuards {
+    fn pass<W: Wait>(&self, _rt: &W, worker: u32, place: u32) {
+        self.passes.fetch_add(1, Ordering::SeqCst);
+        self.numbers.fetch_add(u64::from(worker), Ordering::SeqCst);
+        self.meeting.meet(place == 0);
     }
 }

@@ -1,7 +1,7 @@
 //! Clerks whose steps workers judge.
 
 use crate::clerks::{clerk_of, expect_link, expect_log, shared};
-use crate::helpers::named;
+use crate::helpers::{TwoGuards, named};
 use locked_net::{CallFault, Clerk, LockedNet, StepFault};
 use rule_engine::{Act, Choice, Event, Item, Moved, Reply};
 use rules_manne::Manne;
@@ -58,6 +58,17 @@ fn workers_judge_a_step(rt: HostRuntime) {
     let told = clerk.step_with(&rt, &net, choice, 4, &NoGate);
     assert!(rt; are_moves(&rt, told));
     assert!(rt; clerk.front() == 5);
+    expect_log(&rt, net, 5);
+}
+
+#[test]
+fn two_workers_judge_a_step_at_once(rt: HostRuntime) {
+    let (net, mut clerk) = flagged_star(&rt, rt.alloc());
+    let choice = end_and_centre(&rt, rt.alloc());
+    let gate = TwoGuards::new();
+    let told = clerk.step_with(&rt, &net, choice, 2, &gate);
+    assert!(rt; are_moves(&rt, told));
+    assert!(rt; gate.is_met());
     expect_log(&rt, net, 5);
 }
 

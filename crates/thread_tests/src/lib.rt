@@ -20,3 +20,7 @@ mod roaming;
 mod script_runs;
 #[cfg(test)]
 mod told;
+#[cfg(test)]
+mod turns;
+#[cfg(test)]
+mod two_threads;

@@ -1,6 +1,6 @@
 //! Workers that take the places of a choice from one another.
 
-use crate::helpers::{Meeting, named};
+use crate::helpers::{TwoGuards, named};
 use rule_engine::{Act, Choice, Event, Item, Moved, Net, Outcome, Verdict};
 use rules_manne::Manne;
 use std::alloc::Global;
@@ -122,25 +122,12 @@ fn hands_work_one_after_the_other(rt: HostRuntime) {
     expect_star(&rt, &found.expect(&rt, "verdicts"));
 }
 
-/// The most looks that a worker waits for others.
-const LOOKS: u64 = 100_000_000;
-
-/// A gate at which the tasks of the places 0 and 1 wait for each other.
-#[derive(Drop)]
-struct TwoGuards(Meeting);
-
-impl Gate for TwoGuards {
-    fn pass<W: Wait>(&self, _rt: &W, _worker: u32, place: u32) {
-        self.0.meet(place == 0);
-    }
-}
-
 #[test]
 fn two_guards_meet(rt: HostRuntime) {
-    let gate = TwoGuards(Meeting::new());
+    let gate = TwoGuards::new();
     let found = on_a_star(&rt, rt.alloc(), &[4, 1], 2, &gate);
     expect_star(&rt, &found.expect(&rt, "verdicts"));
-    assert!(rt; !gate.0.is_missed());
+    assert!(rt; gate.is_met());
 }
 
 /// How many nodes are chosen where many are.
@@ -203,6 +190,9 @@ fn each_place_once(rt: HostRuntime) {
         }
     }
 }
+
+/// The most looks that a worker waits for others.
+const LOOKS: u64 = 100_000_000;
 
 /// A gate that holds the first pass until all other places have entered, and notes whether it waited in vain.
 #[derive(Drop)]

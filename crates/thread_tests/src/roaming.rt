@@ -1,9 +1,9 @@
 //! Clerks that roam.
 
-use crate::clerks::{both, clerk_of, expect_link, expect_log, shared};
+use crate::clerks::{alone, both, clerk_of, expect_link, expect_log, shared};
 use crate::helpers::{Meeting, MeetingAt, named};
 use locked_net::{Clerk, LockedNet, RoamFault, roam, settle};
-use rule_engine::{Edge, Event, Reply, Rules};
+use rule_engine::{Edge, Event, Node, Reply, Rules};
 use rules_hsu_huang::HsuHuang;
 use std::alloc::Global;
 use std::process::Abort;
@@ -109,6 +109,38 @@ fn two_roamers_meet(rt: HostRuntime) {
     let (net, first) = linked_pair(&rt, rt.alloc(), 9);
     let mut clerks = two_clerks(&rt, rt.alloc(), &net);
     assert!(rt; roam_a_while(&rt, &net, &mut clerks, &gate) == Ok(()));
-    assert!(rt; !gate.meeting.is_missed());
+    assert!(rt; gate.meeting.is_met());
     assert!(rt; settled(&rt, net, clerks, first).len() == 3);
+}
+
+/// A gate at which a clerk of its own links two nodes before turn 1.
+#[derive(Drop)]
+struct LinksBehindTurnZero<'a> {
+    net: &'a LockedNet<HsuHuang>,
+    ends: (Node, Node),
+}
+
+impl Gate for LinksBehindTurnZero<'_> {
+    fn pass<W: Wait>(&self, rt: &W, _worker: u32, turn: u32) {
+        if turn != 1 {
+            return;
+        }
+        if let Ok(mut clerk) = self.net.clerk() {
+            let _ = clerk.call(rt, self.net, Event::Link(self.ends.0, self.ends.1));
+        }
+    }
+}
+
+/// In turn 0 nobody is enabled; the pair that is linked before turn 1 is matched in two turns.
+#[test]
+fn a_clerk_roams_on_behind_an_idle_turn(rt: HostRuntime) {
+    let net = shared::<HsuHuang>(&rt, rt.alloc(), 2, 9);
+    let mut clerks = alone(&rt, rt.alloc(), clerk_of(&rt, &net));
+    let gate = LinksBehindTurnZero {
+        net: &net,
+        ends: (named(&rt, 1), named(&rt, 2)),
+    };
+    assert!(rt; roam_a_while(&rt, &net, &mut clerks, &gate) == Ok(()));
+    assert!(rt; receipt_count(&clerks) == 2);
+    expect_log(&rt, net, 3);
 }

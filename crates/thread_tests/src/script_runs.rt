@@ -65,6 +65,17 @@ fn a_full_log_ends_turns(rt: HostRuntime) {
     }
 }
 
+#[test]
+fn a_full_log_ends_questions(rt: HostRuntime) {
+    let two = "matching hh 1\n1 show 1 = -\n2 show 1 = -\n";
+    for (script, end) in [
+        ("show 1\nshow 1\nshow 1\n", Err(RunFault::LogFull)),
+        ("show 1\nshow 1\n", Ok(())),
+    ] {
+        ends(&rt, rt.alloc(), options(&rt, 1, 2), script, (two, end));
+    }
+}
+
 /// Compares the text of a fault with what was wanted.
 fn tells(rt: &impl Abort, alloc: Global, fault: RunFault, wanted: &str) {
     let text = fault.to_string(alloc).expect(rt, "memory");

@@ -1,7 +1,7 @@
 //! What a clerk does with a desk that it is lent.
 
 ghost use Rattle.std.specs.Prelude.{◌≡◌, ◌<◌, ◌++◌, ◌∷◌, [], length, None, Some, IfOk, IfErr, OnOk, OnErr, vec_capacity};
-ghost use Rattle.step_log.specs.Log.{recorded, receipt_of};
+ghost use Rattle.step_log.specs.Log.{IsLog, recorded, receipt_of};
 ghost use Rattle.locked_net.specs.Receipts.{HasNoteOf, front_of};
 ghost use Rattle.locked_net.specs.Keys.{KeepsKey};
 ghost use Rattle.locked_net.specs.Calls.{call_fault, Explains};
@@ -12,6 +12,7 @@ use crate::CallFault;
 use crate::desk::{Desk, Recorded};
 use board::Note;
 use rule_engine::{Event, Reply, Rules};
+use rule_machine::MAX_NAME;
 use std::sync::Wait;
 use step_log::Receipt;
 
@@ -27,6 +28,7 @@ impl Clerk {
         ensures receipt { OnOk result (self.new.receipts ≡ self.old.receipts ++ receipt_of R.table desk.old.log event ∷ []) }
         ensures reply { IfOk result (λ reply. reply ≡ (receipt_of R.table desk.old.log event).reply) }
         ensures note { OnOk result (HasNoteOf desk.old.name.book self.new) }
+        ensures run { IsLog R.table desk.old.log }
         ensures key { KeepsKey desk.old desk.new }
         ensures seen { OnOk result (call_fault (front_of self.old.receipts) desk.old.log ≡ None) }
         ensures fault { IfErr result (λ fault. Explains (call_fault (front_of self.old.receipts) desk.old.log) fault) }
@@ -60,9 +62,11 @@ impl Clerk {
 
 /// Whether a clerk who has seen that many entries may call: `Behind` where the log holds fewer, then `LogFull`.
 pub(super) fn admit<R: Rules>(desk: &Desk<R>, seen: u32) -> Result<(), CallFault>
+    ensures run { IsLog R.table desk.now.log }
     ensures ok { OnOk result (call_fault seen desk.now.log ≡ None) }
     ensures fault { IfErr result (λ fault. call_fault seen desk.now.log ≡ Some fault) }
 {
+    prove!(desk.net().store().nodes() <= MAX_NAME);
     let front = desk.len();
     if front < seen {
         return Err(CallFault::Behind { front, seen });

@@ -3,7 +3,7 @@
 ghost use Rattle.std.specs.Prelude.{◌≡◌, ◌<◌, ◌++◌, ◌∷◌, [], None, IfOk, IfErr, OnOk, OnErr};
 ghost use Rattle.rule_machine.specs.declared.event.Event.TheVariants.{Step};
 ghost use Rattle.rule_engine.specs.Choosing.{verdicts_of};
-ghost use Rattle.step_log.specs.Log.{recorded, receipt_of};
+ghost use Rattle.step_log.specs.Log.{IsLog, recorded, receipt_of};
 ghost use Rattle.locked_net.specs.Receipts.{HasNoteOf, front_of};
 ghost use Rattle.locked_net.specs.Keys.{KeepsKey};
 ghost use Rattle.locked_net.specs.Calls.{call_fault};
@@ -35,6 +35,7 @@ impl Clerk {
         ensures receipt { OnOk result (self.new.receipts ≡ self.old.receipts ++ receipt_of R.table desk.old.log (Step choice) ∷ []) }
         ensures reply { IfOk result (λ reply. reply ≡ (receipt_of R.table desk.old.log (Step choice)).reply) }
         ensures note { OnOk result (HasNoteOf desk.old.name.book self.new) }
+        ensures run { IsLog R.table desk.old.log }
         ensures key { KeepsKey desk.old desk.new }
         ensures seen { OnOk result (call_fault (front_of self.old.receipts) desk.old.log ≡ None) }
         ensures some { OnOk result (0 < workers) }

@@ -1,11 +1,14 @@
 //! A clerk's calls: each takes the network's lock, and gives it back when it is done.
 
-ghost use Rattle.std.specs.Prelude.{◌≡◌, ◌↔◌, ◌<◌, IsNone, IfOk, IfErr, IfSome, OnOk, OnErr, MatchOption};
+ghost use Rattle.std.specs.Prelude.{◌≡◌, ◌≢◌, ◌↔◌, ◌<◌, IsNone, IfOk, IfErr, IfSome, OnOk, OnErr, MatchOption};
 ghost use Rattle.rule_machine.specs.declared.event.Event.TheVariants.{Step};
-ghost use Rattle.locked_net.specs.Nets.{nodes_of, book_of};
+ghost use Rattle.fault_injector.specs.Drawn.{drawn};
+ghost use Rattle.locked_net.specs.Nets.{nodes_of, book_of, setting_of};
 ghost use Rattle.locked_net.specs.Receipts.{HasNoteOf, front_of};
 ghost use Rattle.locked_net.specs.Calls.{MayAnswer, Keeps, KeepsStep, KeepsFault};
+ghost use Rattle.locked_net.specs.Choosing.{ChoosesStep, TakesChoice, Refuses, RefusesStep};
 ghost use Rattle.locked_net.specs.Stepping.{MayAnswerStep};
+ghost use Rattle.locked_net.specs.declared.call_fault.CallFault.TheVariants.{Memory};
 
 use super::Clerk;
 use crate::{CallFault, LockedNet, StepFault};
@@ -32,6 +35,7 @@ impl Clerk {
         ensures receipt { IfOk result (λ reply. Keeps self.old.receipts self.new.receipts event reply) }
         ensures note { OnOk result (HasNoteOf (book_of net.now) self.new) }
         ensures fault { IfErr result (λ fault. MayAnswer (front_of self.old.receipts) fault) }
+        ensures refused { IfErr result (Refuses (setting_of R.table net.now) (front_of self.old.receipts)) }
         ensures kept { OnErr result (self.new ≡ self.old) }
     {
         let (mut desk, hold) = net.take(rt);
@@ -57,6 +61,7 @@ impl Clerk {
         ensures note { OnOk result (HasNoteOf (book_of net.now) self.new) }
         ensures some { OnOk result (0 < workers) }
         ensures fault { IfErr result (λ fault. MayAnswerStep (front_of self.old.receipts) workers fault) }
+        ensures refused { IfErr result (RefusesStep (setting_of R.table net.now) (front_of self.old.receipts) workers) }
         ensures kept { OnErr result (self.new ≡ self.old) }
     {
         let (mut desk, hold) = net.take(rt);
@@ -79,8 +84,11 @@ impl Clerk {
     ) -> Result<Option<Reply>, CallFault>
         ensures note { IfOk result (λ told. IfSome told (λ _. HasNoteOf (book_of net.now) self.new)) }
         ensures step { IfOk result (λ told. MatchOption told (self.new ≡ self.old) (KeepsStep R.table.central self.old.receipts self.new.receipts)) }
+        ensures chosen { IfOk result (TakesChoice (setting_of R.table net.now) (ChoosesStep R.table (λ names choice. D.chooses names R.table.central daemon.old choice daemon.new)) self.old.receipts self.new.receipts) }
         ensures fault { IfErr result (λ fault. MayAnswer (front_of self.old.receipts) fault) }
+        ensures refused { IfErr result (Refuses (setting_of R.table net.now) (front_of self.old.receipts)) }
         ensures kept { OnErr result (self.new ≡ self.old) }
+        ensures unasked { IfErr result (λ fault. (fault ≢ Memory) → daemon.new ≡ daemon.old) }
     {
         let (mut desk, hold) = net.take(rt);
         let answer = self.drive_on(rt, &mut desk, daemon);
@@ -99,8 +107,11 @@ impl Clerk {
         ensures none { IfOk result (λ told. IsNone told ↔ (nodes_of net.now ≡ 0)) }
         ensures note { IfOk result (λ told. IfSome told (λ _. HasNoteOf (book_of net.now) self.new)) }
         ensures register { IfOk result (λ told. MatchOption told (self.new ≡ self.old) (KeepsFault self.old.receipts self.new.receipts)) }
+        ensures drawn { IfOk result (TakesChoice (setting_of R.table net.now) (λ s event. (event, G.stream injector.new) ≡ drawn s.network R.table.flags (G.stream injector.old)) self.old.receipts self.new.receipts) }
         ensures fault { IfErr result (λ fault. MayAnswer (front_of self.old.receipts) fault) }
+        ensures refused { IfErr result (Refuses (setting_of R.table net.now) (front_of self.old.receipts)) }
         ensures kept { OnErr result (self.new ≡ self.old) }
+        ensures unasked { IfErr result (λ fault. (fault ≢ Memory) → injector.new ≡ injector.old) }
     {
         let (mut desk, hold) = net.take(rt);
         let answer = self.fault_on(rt, &mut desk, injector);

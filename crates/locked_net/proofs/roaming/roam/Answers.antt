@@ -1,4 +1,4 @@
-use Rattle.locked_net.specs.Nets.{book_of}
+use Rattle.locked_net.specs.Nets.{book_of, setting_of}
 use Rattle.locked_net.proofs.Ends.{parts_kept, notes_stay}
 use Rattle.locked_net.proofs.Stays.{first_roamed, first_taken, may_stop}
 use Rattle.locked_net.proofs.roaming.roam.Goals as goal
@@ -6,22 +6,22 @@ use Rattle.locked_net.proofs.roaming.roam.Goals as goal
 pub returns-in-None-clause-roamed : goal.returns-in-None-clause-roamed
 returns-in-None-clause-roamed g c =
     let rows = c.split_at_mut-ours in
-    first_roamed g.R.Rules.table c.args.turns c.min-workers.result c.args.clerks.now rows.result.0.now c.roam_all.new.clerks rows.result.1.now c.roam_all.result rows.ensures.value rows.ensures.front_len c.min-workers.ensures c.roam_all.auto.clerks c.roam_all.ensures.ends
+    first_roamed (setting_of g.R.Rules.table c.args.net.now) c.args.turns c.min-workers.result c.args.clerks.now rows.result.0.now c.roam_all.new.clerks rows.result.1.now c.roam_all.result rows.ensures.value rows.ensures.front_len c.min-workers.ensures c.roam_all.auto.clerks c.roam_all.ensures.ends
 
 pub returns-in-None-clause-turns : goal.returns-in-None-clause-turns
 returns-in-None-clause-turns g c =
     let rows = c.split_at_mut-ours in
-    first_taken g.R.Rules.table c.args.turns c.min-workers.result c.args.clerks.now rows.result.0.now c.roam_all.new.clerks rows.result.1.now c.roam_all.result rows.ensures.value rows.ensures.front_len c.min-workers.ensures c.roam_all.auto.clerks c.roam_all.ensures.ends c.in-None.is
+    first_taken (setting_of g.R.Rules.table c.args.net.now) c.args.turns c.min-workers.result c.args.clerks.now rows.result.0.now c.roam_all.new.clerks rows.result.1.now c.roam_all.result rows.ensures.value rows.ensures.front_len c.min-workers.ensures c.roam_all.auto.clerks c.roam_all.ensures.ends c.in-None.is
 
 pub returns-in-Some-clause-roamed : goal.returns-in-Some-clause-roamed
 returns-in-Some-clause-roamed g c =
     let rows = c.split_at_mut-ours in
-    first_roamed g.R.Rules.table c.args.turns c.min-workers.result c.args.clerks.now rows.result.0.now c.roam_all.new.clerks rows.result.1.now c.roam_all.result rows.ensures.value rows.ensures.front_len c.min-workers.ensures c.roam_all.auto.clerks c.roam_all.ensures.ends
+    first_roamed (setting_of g.R.Rules.table c.args.net.now) c.args.turns c.min-workers.result c.args.clerks.now rows.result.0.now c.roam_all.new.clerks rows.result.1.now c.roam_all.result rows.ensures.value rows.ensures.front_len c.min-workers.ensures c.roam_all.auto.clerks c.roam_all.ensures.ends
 
 pub returns-in-Some-clause-fault : goal.returns-in-Some-clause-fault
 returns-in-Some-clause-fault g c =
     let rows = c.split_at_mut-ours in
-    may_stop g.R.Rules.table c.args.turns c.min-workers.result c.args.clerks.now rows.result.0.now c.roam_all.new.clerks rows.result.1.now c.roam_all.result c.in-Some.fault c.from.result rows.ensures.value rows.ensures.front_len c.min-workers.ensures c.roam_all.ensures.ends c.in-Some.is c.from.ensures
+    may_stop (setting_of g.R.Rules.table c.args.net.now) c.args.turns c.min-workers.result c.args.clerks.now rows.result.0.now c.roam_all.new.clerks rows.result.1.now c.roam_all.result c.in-Some.fault c.from.result rows.ensures.value rows.ensures.front_len c.min-workers.ensures c.roam_all.ensures.ends c.in-Some.is c.from.ensures
 
 pub returns-in-None-clause-notes : goal.returns-in-None-clause-notes
 returns-in-None-clause-notes g c =

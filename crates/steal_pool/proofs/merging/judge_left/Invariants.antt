@@ -1,4 +1,4 @@
-use Rattle.std.proofs.Common.{◌≡◌, ◌-◌, length}
+use Rattle.std.proofs.Common.{◌≡◌, ℕ, ◌-◌, List, ◌++◌, length}
 use Rattle.place_deque.specs.Ends.{owner_tally}
 use Rattle.rule_engine.specs.Choosing.{verdicts_of}
 use Rattle.steal_pool.specs.Laid.{IsRight, taken_in}
@@ -9,6 +9,7 @@ invariant-loop-block g l = record {
   whole : (owner_tally l.owner).parts ≡ 64;
   count : (owner_tally l.owner).count ≡ length l.choice;
   right : IsRight (verdicts_of g.R.Rules.table l.net.state l.choice) l.table (taken_in (owner_tally l.owner));
+  taken : (left : List ℕ) × ((owner_tally l.owner).taken ≡ (owner_tally l.fn.owner).taken ++ left);
 }
 
 abbrev pub decreases-loop-block : goal.decreases-loop-block

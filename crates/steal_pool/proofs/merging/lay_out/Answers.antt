@@ -1,4 +1,4 @@
-use Rattle.std.proofs.Common.{◌≡◌, ℕ, ◌+◌, List, ◌++◌, length, map, sym, refl, ap, ◌∙◌, subst}
+use Rattle.std.proofs.Common.{◌≡◌, ℕ, ◌+◌, List, ◌++◌, length, map, sym, refl, ap, ◌∙◌, subst, arith}
 use Rattle.std.specs.List.{sum_by}
 use Rattle.std.proofs.lemmas.List.Sums.{sum_by_push}
 use Rattle.place_deque.specs.declared.end.End.{End}
@@ -7,6 +7,7 @@ use Rattle.rule_machine.specs.declared.verdict.Verdict.{Verdict}
 use Rattle.rule_engine.specs.Choosing.{verdicts_of}
 use Rattle.steal_pool.specs.Hands.{share_hold, share_taken, share_verdicts, AreJudged}
 use Rattle.steal_pool.specs.Laid.{at_place, taken_by, laid, Fit, IsRight}
+use Rattle.steal_pool.proofs.EachPlace.{moves_taken}
 use Rattle.steal_pool.proofs.Laying.{no_weight, verdicts_length, but_last, fits, lays, shifted}
 use Rattle.steal_pool.proofs.merging.lay_out.Goals as goal
 
@@ -17,6 +18,9 @@ loop-share-init g c =
       all = subst (λ (e : List End). AreAllEnds (length c.args.choice.now) (map end_hold e ++ map share_hold c.args.shares.items)) (sym none) c.requires.all;
       judged = c.requires.judged;
       right = no_weight (verdicts_of g.R.Rules.table c.args.net.now.state c.args.choice.now) c.args.table.now (c.requires.size ∙ sym (verdicts_length g.R.Rules.table c.args.net.now.state 0 c.args.choice.now)) (taken_by c.in_ok-ends.ends.items) (λ k. ap (λ (e : List End). taken_by e k) none);
+      taken = λ h.
+          let nothing : sum_by (λ (e : End). sum_by h (end_taken e)) c.in_ok-ends.ends.items ≡ 0 = ap (sum_by (λ (e : End). sum_by h (end_taken e))) none in
+          omega arith;
     }
 
 pub lay-requires : goal.lay-requires
@@ -47,4 +51,5 @@ loop-share-preserved g c =
       judged = parts.0;
       right = subst (λ (z : List Verdict). IsRight (verdicts_of t s items) z (taken_by after)) (sym (c.lay.ensures ∙ ap (laid c.loop-share.table) c.deref.ensures.value))
           (lays t s items (share_taken share) (share_verdicts share) c.loop-share.table (taken_by before) (taken_by after) parts.1 more loop.right);
+      taken = λ h. moves_taken h before after c.loop-share.shares.items c.pop.new.self.items c.args.shares.items share c.in_ok-push.ensures.items c.in-Some.ensures.items (loop.taken h);
     }

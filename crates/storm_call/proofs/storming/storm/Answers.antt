@@ -2,7 +2,7 @@ use Rattle.std.proofs.Common.{map, subst}
 use Rattle.rule_machine.specs.declared.rules.RuleSet.{RuleSet}
 use Rattle.rule_machine.specs.Tables.{table_of}
 use Rattle.script_run.specs.Asked.{asked_of}
-use Rattle.storm_call.specs.Outcome.{Ends}
+use Rattle.storm_call.specs.Outcome.{Ends, weight_of}
 use Rattle.storm_call.proofs.storming.storm.Goals as goal
 
 pub returns-in-Hh : goal.returns-in-Hh
@@ -10,11 +10,11 @@ returns-in-Hh g c =
     let asked = asked_of c.args.options.now in
     let known = g.Out.Write.contents in
     let texts = map g.In.Read.remaining c.args.readers.items in
-    subst (λ (r : RuleSet). Ends (table_of r) asked texts (known c.args.writer.now) (known c.storm_on.new.writer) c.storm_on.result) c.in-Hh.ensures c.storm_on.ensures
+    subst (λ (r : RuleSet). Ends (table_of r) (weight_of r) asked texts (known c.args.writer.now) (known c.storm_on.new.writer) c.storm_on.result) c.in-Hh.ensures c.storm_on.ensures
 
 pub returns-in-Manne : goal.returns-in-Manne
 returns-in-Manne g c =
     let asked = asked_of c.args.options.now in
     let known = g.Out.Write.contents in
     let texts = map g.In.Read.remaining c.args.readers.items in
-    subst (λ (r : RuleSet). Ends (table_of r) asked texts (known c.args.writer.now) (known c.storm_on-in-Manne.new.writer) c.storm_on-in-Manne.result) c.in-Manne.ensures c.storm_on-in-Manne.ensures
+    subst (λ (r : RuleSet). Ends (table_of r) (weight_of r) asked texts (known c.args.writer.now) (known c.storm_on-in-Manne.new.writer) c.storm_on-in-Manne.result) c.in-Manne.ensures c.storm_on-in-Manne.ensures

@@ -14,8 +14,8 @@ returns-in_err-write_log g c =
     let scripts = c.in_ok-scripts.scripts.items in
     let log = log_of c.in_ok-journal.journal in
     let told = c.from_residual-in_err-write_log in
-    let leaves = subst (λ (s : List (List ScriptLine)). Leaves g.R.Rules.table asked s c.in_ok-journal.fault log) c.deref.ensures.value c.in_ok-journal.ensures.log in
-    told_failed g.R.Rules.table asked texts scripts log (known c.args.writer.now) (known c.write_log.new.writer) c.in_ok-journal.fault c.in_err-write_log.field-0.0 told.result told.ensures.0 told.ensures.1
+    let leaves = subst (λ (s : List (List ScriptLine)). Leaves g.R.Rules.table g.R.Rules.NODE_WEIGHT asked s c.in_ok-journal.fault log) c.deref.ensures.value c.in_ok-journal.ensures.log in
+    told_failed g.R.Rules.table g.R.Rules.NODE_WEIGHT asked texts scripts log (known c.args.writer.now) (known c.write_log.new.writer) c.in_ok-journal.fault c.in_err-write_log.field-0.0 told.result told.ensures.0 told.ensures.1
     c.in_ok-scripts.ensures.scripts leaves c.in_err-write_log.ensures.fault
 
 pub returns-in-Some : goal.returns-in-Some
@@ -25,8 +25,8 @@ returns-in-Some g c =
     let texts = map g.In.Read.remaining c.args.readers.items in
     let scripts = c.in_ok-scripts.scripts.items in
     let log = log_of c.in_ok-journal.journal in
-    let leaves = subst (λ (s : List (List ScriptLine)). Leaves g.R.Rules.table asked s c.in_ok-journal.fault log) c.deref.ensures.value c.in_ok-journal.ensures.log in
-    told_met g.R.Rules.table asked texts scripts log (known c.args.writer.now) (known c.write_log.new.writer) c.in_ok-journal.fault c.in-Some.fault c.from.result c.in-Some.is c.from.ensures
+    let leaves = subst (λ (s : List (List ScriptLine)). Leaves g.R.Rules.table g.R.Rules.NODE_WEIGHT asked s c.in_ok-journal.fault log) c.deref.ensures.value c.in_ok-journal.ensures.log in
+    told_met g.R.Rules.table g.R.Rules.NODE_WEIGHT asked texts scripts log (known c.args.writer.now) (known c.write_log.new.writer) c.in_ok-journal.fault c.in-Some.fault c.from.result c.in-Some.is c.from.ensures
     c.in_ok-scripts.ensures.scripts leaves c.in_ok-write_log.ensures.ok
 
 pub returns : goal.returns
@@ -36,6 +36,6 @@ returns g c =
     let texts = map g.In.Read.remaining c.args.readers.items in
     let scripts = c.in_ok-scripts.scripts.items in
     let log = log_of c.in_ok-journal.journal in
-    let leaves = subst (λ (s : List (List ScriptLine)). Leaves g.R.Rules.table asked s c.in_ok-journal.fault log) c.deref.ensures.value c.in_ok-journal.ensures.log in
-    done_all g.R.Rules.table asked texts scripts log (known c.args.writer.now) (known c.write_log.new.writer) c.in_ok-journal.fault c.in-None.is
+    let leaves = subst (λ (s : List (List ScriptLine)). Leaves g.R.Rules.table g.R.Rules.NODE_WEIGHT asked s c.in_ok-journal.fault log) c.deref.ensures.value c.in_ok-journal.ensures.log in
+    done_all g.R.Rules.table g.R.Rules.NODE_WEIGHT asked texts scripts log (known c.args.writer.now) (known c.write_log.new.writer) c.in_ok-journal.fault c.in-None.is
     c.in_ok-scripts.ensures.scripts leaves c.in_ok-write_log.ensures.ok

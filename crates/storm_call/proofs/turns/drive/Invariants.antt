@@ -1,6 +1,9 @@
+use Rattle.locked_net.specs.Nets.{setting_of}
+use Rattle.seeded_turns.specs.Drawn.{pcg32_stream, seeded_stream, drawn_step}
 use Rattle.storm_call.specs.Storm.{IsOfStep}
-use Rattle.storm_call.proofs.Adding.{UpTo}
+use Rattle.storm_call.proofs.Adding.{Took}
 use Rattle.storm_call.proofs.turns.drive.Given as goal
 
 abbrev pub invariant-loop : goal.invariant-loop
-invariant-loop g l = UpTo IsOfStep l.counter l.fn.clerk.receipts l.clerk.receipts
+invariant-loop g l =
+    Took (setting_of g.R.Rules.table l.fn.net) drawn_step IsOfStep (seeded_stream l.fn.turns.seed) l.counter l.fn.clerk.receipts l.clerk.receipts (pcg32_stream l.daemon)

@@ -1,4 +1,4 @@
-use Rattle.std.proofs.Common.{◌++◌, [], ◌∷◌, ◌+◌, Some, List, drop, sym, ap, ◌∙◌, subst}
+use Rattle.std.proofs.Common.{◌++◌, [], ◌∷◌, ◌+◌, Some, List, drop, refl, sym, ap, ◌∙◌, subst}
 use Rattle.left_right.specs.Sides.{view as known}
 use Rattle.board.specs.declared.image.Posted.{Posted}
 use Rattle.board.specs.Boards.{IsBoard}
@@ -17,6 +17,7 @@ invariant_of-self-2 g c =
     let b0 : IsBoard law w.desk.shown.value (known w.desk.place) [] marks book told = subst (λ (l : List Posted). IsBoard law w.desk.shown.value (known w.desk.place) l marks book told) none b in
     let e = c.if-not-append.ensures in
     let is = c.if-not-add.ensures.marks ∙ ap (λ x. marks ++ Some x ∷ []) (sym c.in_ok-copy.ensures) in
+    let room = c.if-not-has_room.ensures refl in
     rw (e.desk, e.pending, none)
     (posts law w.desk.shown.value (known w.desk.place) marks book told c.add.new.self.front.seen.log c.add.new.self.front.seen.book _ b0 is c.if-not-add.ensures.book
-    (ap (λ s. s.log) c.again.ensures) (ap (λ s. s.book) c.again.ensures) (ap (λ n. n + 1) (c.front.ensures ∙ (ap (λ i. i.front) c.published.ensures ∙ b.sound.front))))
+    (ap (λ s. s.log) c.again.ensures) (ap (λ s. s.book) c.again.ensures) (ap (λ n. n + 1) (c.front.ensures ∙ (ap (λ i. i.front) c.published.ensures ∙ b.sound.front))) room)

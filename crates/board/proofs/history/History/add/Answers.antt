@@ -15,5 +15,5 @@ compare_exchange-found-requires g c =
       book,
       pen.0 ∙ book,
       offer.0,
-      rw (ap (λ w. w.key) h, pen.1, offer.3 ∙ c.requires) (adds_moves c.again-seen.result.log c.plain-offer.result.ask count len),
+      rw (ap (λ w. w.key) h, pen.1, offer.3 ∙ c.requires.state) (adds_moves c.again-seen.result.log c.plain-offer.result.ask count len),
     )

@@ -2,12 +2,14 @@ use Rattle.std.proofs.Common.{◌≡◌, ◌-◌, ◌≤◌, length, vec_capacit
 use Rattle.place_deque.specs.Ends.{end_hold, end_taken}
 use Rattle.rule_engine.specs.Choosing.{verdicts_of}
 use Rattle.steal_pool.specs.Hands.{hand_hold, AreOf}
+use Rattle.steal_pool.specs.Once.{StandOnce}
 use Rattle.steal_pool.proofs.hand.Hand.work.Given as goal
 
 abbrev pub invariant-loop-block : goal.invariant-loop-block
 invariant-loop-block g l = record {
   hold : end_hold l.end ≡ hand_hold l.fn.self;
   judged : AreOf (verdicts_of g.R.Rules.table l.net.state l.choice) (end_taken l.end) l.verdicts.items;
+  once : StandOnce (length l.choice) (end_taken l.end);
   room : length l.choice ≤ vec_capacity l.verdicts;
 }
 

@@ -1,0 +1,42 @@
+-- What is told of an event that somebody else chose, and of a call that is not answered.
+use Rattle.std.proofs.Common.{◌≡◌, ◌∷◌, ◌++◌, [], ℕ, Bool, List, Option, None, Some, Result, Ok, Err, IfOk, IfErr, OnOk, refl, ap, subst}
+use Rattle.rule_machine.specs.declared.choice.Item.{Item}
+use Rattle.rule_machine.specs.declared.event.Event.{Event}
+use Rattle.rule_machine.specs.declared.event.Event.TheVariants.{Step}
+use Rattle.rule_machine.specs.declared.reply.Reply.{Reply}
+use Rattle.rule_machine.specs.State.{State}
+use Rattle.rule_machine.specs.RuleTable.{RuleTable, enabled_names}
+use Rattle.step_log.specs.declared.receipt.Receipt.{Receipt}
+use Rattle.step_log.specs.Log.{Log, receipt_of}
+use Rattle.locked_net.specs.Receipts.{front_of}
+use Rattle.locked_net.specs.Settings.{Setting, IsLogIn}
+use Rattle.locked_net.specs.Calls.{call_fault, Explains}
+use Rattle.locked_net.specs.Stepping.{ExplainsStep}
+use Rattle.locked_net.specs.Choosing.{ChoosesStep, ChoosesOn, TakesChoice, Refuses, RefusesStep}
+use Rattle.locked_net.specs.declared.call_fault.CallFault.{CallFault}
+use Rattle.locked_net.specs.declared.step_fault.StepFault.{StepFault}
+
+-- a choice that was recorded
+pub choice_on : (t : RuleTable) (log : Log) (Chooses : List ℕ → Bool → Option (List Item) → Type 0) (names : List ℕ) (central : Bool) (found : Option (List Item)) (items : List Item) (old new : List Receipt) (reply : Reply)
+    → names ≡ enabled_names t log.state → central ≡ t.central → found ≡ Some items → Chooses names central found → reply ≡ (receipt_of t log (Step items)).reply → new ≡ old ++ receipt_of t log (Step items) ∷ []
+    → ChoosesOn t log (ChoosesStep t (λ those choice. Chooses those t.central choice)) old new (Some reply)
+choice_on t log Chooses names central found items old new reply enabled same some chosen told receipt = record {
+  event = Some (Step items);
+  chosen = (Some items, refl, subst (λ choice. Chooses (enabled_names t log.state) t.central choice) some (subst (λ b. Chooses (enabled_names t log.state) b found) same (subst (λ those. Chooses those central found) enabled chosen)));
+  is_told = (ap (λ r. Some r) told, receipt);
+}
+
+-- on a log behind the lock
+pub takes : (setting : Setting) (Chooses : State → Option Event → Type 0) (log : Log) (old new : List Receipt) (result : Result (Option Reply) CallFault) → IsLogIn setting log
+    → OnOk result (call_fault (front_of old) log ≡ None) → IfOk result (ChoosesOn setting.table log Chooses old new) → IfOk result (TakesChoice setting Chooses old new)
+takes setting Chooses log old new (Ok told) own free taken = record { log = log; own = own; free = free; taken = taken }
+takes setting Chooses log old new (Err fault) own free taken = tt
+
+pub refuses : {A : Type 0} (setting : Setting) (seen : ℕ) (log : Log) (result : Result A CallFault) → IsLogIn setting log → IfErr result (λ fault. Explains (call_fault seen log) fault) → IfErr result (Refuses setting seen)
+refuses setting seen log (Ok told) own explained = tt
+refuses setting seen log (Err fault) own explained = record { log = log; own = own; explained = explained }
+
+pub refuses_step : {A : Type 0} (setting : Setting) (seen workers : ℕ) (log : Log) (result : Result A StepFault) → IsLogIn setting log → IfErr result (λ fault. ExplainsStep (call_fault seen log) workers fault)
+    → IfErr result (RefusesStep setting seen workers)
+refuses_step setting seen workers log (Ok told) own explained = tt
+refuses_step setting seen workers log (Err fault) own explained = record { log = log; own = own; explained = explained }

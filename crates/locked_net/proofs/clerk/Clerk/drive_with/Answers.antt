@@ -1,0 +1,18 @@
+use Rattle.locked_net.specs.Receipts.{front_of}
+use Rattle.locked_net.specs.Nets.{setting_of}
+use Rattle.locked_net.proofs.Choosing.{refuses, takes}
+use Rattle.locked_net.proofs.clerk.Clerk.drive_with.Goals as goal
+
+pub returns-clause-chosen : goal.returns-clause-chosen
+returns-clause-chosen g c =
+    let setting = setting_of g.R.Rules.table c.args.net.now in
+    let key = c.take-desk.ensures.key in
+    let told = c.drive_on-answer.ensures in
+    takes setting _ c.take-desk.result.0.log c.args.self.now.receipts c.drive_on-answer.new.self.receipts c.drive_on-answer.result (record { run = told.run; nodes = key.nodes; limit = key.limit }) told.seen told.chosen
+
+pub returns-clause-refused : goal.returns-clause-refused
+returns-clause-refused g c =
+    let setting = setting_of g.R.Rules.table c.args.net.now in
+    let key = c.take-desk.ensures.key in
+    let told = c.drive_on-answer.ensures in
+    refuses setting (front_of c.args.self.now.receipts) c.take-desk.result.0.log c.drive_on-answer.result (record { run = told.run; nodes = key.nodes; limit = key.limit }) told.fault

@@ -1,0 +1,11 @@
+use Rattle.locked_net.specs.Receipts.{front_of}
+use Rattle.locked_net.specs.Nets.{setting_of}
+use Rattle.locked_net.proofs.Choosing.{refuses_step}
+use Rattle.locked_net.proofs.clerk.Clerk.step_with.Goals as goal
+
+pub returns-clause-refused : goal.returns-clause-refused
+returns-clause-refused g c =
+    let setting = setting_of g.R.Rules.table c.args.net.now in
+    let key = c.take-desk.ensures.key in
+    let told = c.step_on-answer.ensures in
+    refuses_step setting (front_of c.args.self.now.receipts) c.args.workers c.take-desk.result.0.log c.step_on-answer.result (record { run = told.run; nodes = key.nodes; limit = key.limit }) told.fault

@@ -1,0 +1,55 @@
+-- What a clerk is told where somebody else chooses the event, and why it is not answered.
+--
+-- Who calls sees no log. So a clause says that there is one, which lay behind the lock: a run of the network's rules, of its nodes and with
+-- its limit.
+use Rattle.std.specs.Prelude.{◌≡◌, ℕ, List, [], ◌∷◌, ◌++◌, Option, None, Some}
+use Rattle.std.specs.Option.{option_map}
+use Rattle.rule_machine.specs.declared.choice.Item.{Item}
+use Rattle.rule_machine.specs.declared.event.Event.{Event}
+use Rattle.rule_machine.specs.declared.event.Event.TheVariants.{Step}
+use Rattle.rule_machine.specs.declared.reply.Reply.{Reply}
+use Rattle.rule_machine.specs.State.{State}
+use Rattle.rule_machine.specs.RuleTable.{RuleTable, enabled_names}
+use Rattle.step_log.specs.declared.receipt.Receipt.{Receipt}
+use Rattle.step_log.specs.Log.{Log, receipt_of}
+use Rattle.locked_net.specs.Receipts.{front_of}
+use Rattle.locked_net.specs.Settings.{Setting, IsLogIn}
+use Rattle.locked_net.specs.Calls.{call_fault, Explains}
+use Rattle.locked_net.specs.Stepping.{ExplainsStep}
+use Rattle.locked_net.specs.declared.call_fault.CallFault.{CallFault}
+use Rattle.locked_net.specs.declared.step_fault.StepFault.{StepFault}
+
+-- the choice of one who chooses among the enabled nodes of a state, as an event
+abbrev pub ChoosesStep : RuleTable → (List ℕ → Option (List Item) → Type 0) → State → Option Event → Type 0
+ChoosesStep t Chooses s event =
+    (choice : Option (List Item)) × (event ≡ option_map (λ items. Step items) choice) × Chooses (enabled_names t s) choice
+
+-- the reply and the receipt of the event that was chosen on a log; neither where none was
+abbrev pub IsTold : RuleTable → Log → Option Event → List Receipt → List Receipt → Option Reply → Type 0
+IsTold t log None old new told = (told ≡ None) × (new ≡ old)
+IsTold t log (Some event) old new told = (told ≡ Some (receipt_of t log event).reply) × (new ≡ old ++ receipt_of t log event ∷ [])
+
+-- An event, or none, was chosen in the state of a log.
+pub record ChoosesOn (t : RuleTable) (log : Log) (Chooses : State → Option Event → Type 0) (old new : List Receipt) (told : Option Reply) : Type 0 where
+  pub event : Option Event
+  pub chosen : Chooses log.state event
+  pub is_told : IsTold t log event old new told
+
+-- So it was on a log that holds all that the clerk has seen, and has room for an entry.
+pub record TakesChoice (setting : Setting) (Chooses : State → Option Event → Type 0) (old new : List Receipt) (told : Option Reply) : Type 0 where
+  pub log : Log
+  pub own : IsLogIn setting log
+  pub free : call_fault (front_of old) log ≡ None
+  pub taken : ChoosesOn setting.table log Chooses old new told
+
+-- A log has this fault for a clerk who has seen so many entries, and gives it for want of memory where it has none.
+pub record Refuses (setting : Setting) (seen : ℕ) (fault : CallFault) : Type 0 where
+  pub log : Log
+  pub own : IsLogIn setting log
+  pub explained : Explains (call_fault seen log) fault
+
+-- So it does where workers judge a step.
+pub record RefusesStep (setting : Setting) (seen workers : ℕ) (fault : StepFault) : Type 0 where
+  pub log : Log
+  pub own : IsLogIn setting log
+  pub explained : ExplainsStep (call_fault seen log) workers fault

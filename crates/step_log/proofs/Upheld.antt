@@ -1,0 +1,88 @@
+-- The headline holds of each log that is a run, for rules that keep the laws of rule sets.
+use Rattle.std.proofs.Common.{◌≡◌, ℕ, List, [], ◌∷◌, ◌++◌, Option, None, Some, refl, sym, ◌∙◌, subst}
+use Rattle.rule_machine.specs.declared.event.Event.{Event}
+use Rattle.rule_machine.specs.declared.event.Event.TheVariants.{Link, Unlink, Point, Flag, Step, Show, Enabled, Matching, Status}
+use Rattle.rule_machine.specs.declared.refusal.Refusal.{Refusal}
+use Rattle.rule_machine.specs.declared.reply.Reply.{Reply}
+use Rattle.rule_machine.specs.declared.reply.Reply.TheVariants.{Accepted, Moves, Shown, EnabledAre, Pairs, Counts}
+use Rattle.rule_machine.specs.Network.{node_count}
+use Rattle.rule_machine.specs.State.{State, IsState}
+use Rattle.rule_machine.specs.RuleTable.{RuleTable, enabled_names}
+use Rattle.rule_machine.specs.Refuse.{refusal_of}
+use Rattle.rule_machine.specs.Answer.{Does, AnswersBy, spent_after}
+use Rattle.rule_machine.specs.Stable.{IsStable}
+use Rattle.rule_machine.specs.Run.{Entry, Moment, Run, beginning}
+use Rattle.machine_laws.specs.Keeps.{opening_is_state}
+use Rattle.machine_laws.specs.LeastMoves.{IsTable}
+use Rattle.machine_laws.specs.Laws.{maximal_from_stable, stable_from_maximal}
+use Rattle.machine_laws.specs.Runs.{runs_end_in_states}
+use Rattle.charge_laws.specs.Charged.{IsCharged}
+use Rattle.charge_laws.specs.Laws.{moves_are_paid}
+use Rattle.charge_laws.specs.Epochs.{opening_epochs_are_bounded}
+use Rattle.step_log.specs.Log.{Log, IsLog}
+use Rattle.step_log.specs.Headline.{Upholds, LeadsTo}
+
+-- ---- a log leads to one moment
+
+does_once : (t : RuleTable) (s : State) (n : ℕ) (event : Event) (reply : Reply) (u v : State) → Does t s n event reply u → Does t s n event reply v → u ≡ v
+does_once t s n (Link a b) Accepted u v x y = x ∙ sym y
+does_once t s n (Unlink a b) Accepted u v x y = x ∙ sym y
+does_once t s n (Point w target) Accepted u v x y = x ∙ sym y
+does_once t s n (Flag w value) Accepted u v x y = x ∙ sym y
+does_once t s n (Step items) (Moves moves) u v x y = x.after ∙ sym y.after
+does_once t s n (Show w) (Shown target) u v x y = x.1 ∙ sym y.1
+does_once t s n Enabled (EnabledAre nodes) u v x y = x.1 ∙ sym y.1
+does_once t s n Matching (Pairs pairs) u v x y = x.1 ∙ sym y.1
+does_once t s n Status (Counts counts) u v x y = x.1 ∙ sym y.1
+does_once t s n event reply u v x y = absurd x
+
+answers_by_once : (t : RuleTable) (s : State) (n : ℕ) (event : Event) (refusal : Option Refusal) (reply : Reply) (u v : State) → AnswersBy t s n event refusal reply u → AnswersBy t s n event refusal reply v → u ≡ v
+answers_by_once t s n event None reply u v x y = does_once t s n event reply u v x y
+answers_by_once t s n event (Some refusal) reply u v x y = x.1 ∙ sym y.1
+
+run_once : (t : RuleTable) (start : Moment) (log : List Entry) (end last : Moment) → Run t start log end → Run t start log last → end ≡ last
+run_once t start [] end last x y = x ∙ sym y
+run_once t start (entry ∷ log) end last x y =
+    let same : x.0 ≡ y.0 = answers_by_once t start.state start.spent entry.0 (refusal_of t start.state entry.0) entry.1 x.0 y.0 x.1 y.1 in
+    run_once t (record { state = x.0; spent = spent_after start.spent entry.1 }) log end last x.2
+    (subst (λ (s : State). Run t (record { state = s; spent = spent_after start.spent entry.1 }) log last) (sym same) y.2)
+
+run_splits : (t : RuleTable) (start : Moment) (some rest : List Entry) (end : Moment) → Run t start (some ++ rest) end → (middle : Moment) × Run t start some middle × Run t middle rest end
+run_splits t start [] rest end run = (start, refl, run)
+run_splits t start (entry ∷ some) rest end run =
+    let m = run_splits t (record { state = run.0; spent = spent_after start.spent entry.1 }) some rest end run.2 in (m.0, (run.0, run.1, m.1), m.2)
+
+-- a run goes on from where its beginning has led
+run_goes_on : (t : RuleTable) (start : Moment) (some rest : List Entry) (middle end : Moment) → Run t start some middle → Run t start (some ++ rest) end → Run t middle rest end
+run_goes_on t start some rest middle end here run =
+    let m = run_splits t start some rest end run in subst (λ (n : Moment). Run t n rest end) (run_once t start some m.0 middle m.1 here) m.2
+
+-- each beginning of a log leads to one moment
+pub leads_somewhere : (t : RuleTable) (weight : ℕ) (log : Log) → Upholds t weight log → (before after : List Entry) → before ++ after ≡ log.entries → (m : Moment) × LeadsTo t log before m × ((n : Moment) → LeadsTo t log before n → n ≡ m)
+leads_somewhere t weight log upholds before after same =
+    let begun = beginning (node_count log.state.network) in
+    let end : Moment = record { state = log.state; spent = log.spent } in
+    let whole : Run t begun (before ++ after) end = subst (λ (l : List Entry). Run t begun l end) (sym same) upholds.run in
+    let m = run_splits t begun before after end whole in (m.0, m.1, λ n there. run_once t begun before n m.0 there m.1)
+
+-- ---- the headline
+
+pub upheld : (t : RuleTable) (weight : ℕ) → IsTable t → IsCharged t weight → ((s : State) → IsState s → enabled_names t s ≡ [] → IsStable t.flags s) → ((s : State) → IsState s → IsStable t.flags s → enabled_names t s ≡ []) → (log : Log) → IsLog t log → Upholds t weight log
+upheld t weight table charged settles rests log is =
+    let begun = beginning (node_count log.state.network) in
+    let opened = opening_is_state (node_count log.state.network) in
+    record {
+      run = is.run;
+      quiet = λ before after m same here.
+          let good = runs_end_in_states t table begun opened before m here in
+          record {
+            exact = (settles m.state good, rests m.state good);
+            matching = maximal_from_stable t.flags m.state good;
+            only = λ answered matching. stable_from_maximal t.flags m.state good answered.answered answered.flagged matching;
+          };
+      budget = λ before calm after m n same here there undisturbed.
+          let good = runs_end_in_states t table begun opened before m here in
+          let goes = run_goes_on t begun before calm m n here there in
+          (moves_are_paid t weight table charged m good calm n goes undisturbed, charged.bounded m.state good);
+      epochs = λ path same steps. opening_epochs_are_bounded t weight table charged (node_count log.state.network) 1 path steps;
+    }

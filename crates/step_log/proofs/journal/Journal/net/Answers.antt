@@ -1,0 +1,19 @@
+use Rattle.std.proofs.Common.{subst}
+use Rattle.machine_laws.specs.LeastMoves.{IsTable}
+use Rattle.charge_laws.specs.Charged.{IsCharged}
+use Rattle.step_log.specs.Held.{Held, log_of}
+use Rattle.step_log.specs.Log.{Log}
+use Rattle.step_log.specs.Headline.{Upholds}
+use Rattle.step_log.proofs.Upheld.{upheld}
+use Rattle.step_log.proofs.journal.Journal.net.Goals as goal
+
+pub returns-clause-upheld : goal.returns-clause-upheld
+returns-clause-upheld g c =
+    let laws = g.met.R.Rules in
+    let t = g.R.Rules.table in
+    let weight = g.R.Rules.NODE_WEIGHT in
+    let table : IsTable t = record { allowed_is_neighbour = laws.allowed_is_neighbour; allowed_takes_target = laws.allowed_takes_target; has_target = laws.has_target } in
+    let charged : IsCharged t weight = record { falls = laws.charge_falls; bounded = laws.charge_is_bounded; zero_is_stable = laws.no_charge_is_stable } in
+    let j = c.self.inside in
+    let log : Log = record { state = j.net.state; spent = j.net.spent; entries = j.entries.items; limit = j.limit } in
+    subst (λ (held : Held). Upholds t weight (log_of held)) c.self.view_is (upheld t weight table charged laws.quiet_is_stable laws.stable_is_quiet log c.self.invariant)

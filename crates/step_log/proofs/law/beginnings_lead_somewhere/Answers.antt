@@ -1,0 +1,5 @@
+use Rattle.step_log.proofs.Upheld.{leads_somewhere}
+use Rattle.step_log.proofs.law.beginnings_lead_somewhere.Goals as goal
+
+pub returns : goal.returns
+returns c = leads_somewhere
