@@ -1,0 +1,52 @@
+#!/usr/bin/env python3
+"""Hosts that keep a copy of each other's data, in pairs of neighbours. When a host fails its partner looks for another, and when it
+returns it looks for one itself. What each failure costs is told beside its budget, the charge: no schedule can make it cost more.
+
+usage: examples/backup_partners.py
+"""
+import os
+import random
+import sys
+
+sys.path.insert(0, os.path.join(os.path.dirname(os.path.realpath(__file__)), "..", "python"))
+from rudekpi import Network
+
+HOSTS = [f"h{number:02}" for number in range(1, 13)]
+# a ring in which each third host has a link to the host across it
+LINKS = [(HOSTS[at], HOSTS[(at + 1) % 12]) for at in range(12)] + [(HOSTS[at], HOSTS[at + 6]) for at in (0, 3)]
+EVENTS = ["fails h02", "fails h08", "returns h02", "fails h05", "fails h06", "returns h08", "returns h06", "returns h05"]
+
+
+def some(enabled, drawn=random.Random(7)):
+    """The daemon: each enabled host moves or not as chance has it, and one at least."""
+    return [host for host in enabled if drawn.random() < 0.5] or [drawn.choice(list(enabled))]
+
+
+def tell(net, event, down):
+    """Lets the network settle, and tells what that cost and who backs up whom. Answers the moves."""
+    settled, pairs = net.settle(some), net.matching()
+    alone = [host for host in HOSTS if pairs.partner(host) is None and host not in down]
+    print(f"{event}: {settled.moves} moves of {settled.charge} at most;", *("-".join(pair) for pair in pairs), "alone:", *alone or "-")
+    return settled.moves
+
+
+def main():
+    down = set()
+    with Network(rules="manne", nodes=HOSTS) as net:
+        with net.batch() as batch:
+            for a, b in LINKS:
+                batch.link(a, b)
+        total = tell(net, "start", down)
+        for event in EVENTS:
+            word, host = event.split()
+            edit = {"fails": net.unlink, "returns": net.link}[word]
+            for a, b in LINKS:
+                if host in (a, b) and not down & ({a, b} - {host}):
+                    edit(a, b)
+            down ^= {host}
+            total += tell(net, event, down)
+    print(f"{total} moves in all")
+
+
+if __name__ == "__main__":
+    main()

@@ -1,0 +1,65 @@
+#!/usr/bin/env python3
+"""Gives each link of a changing mesh a slot. In each round the links of a maximal matching have theirs, so that no host talks to
+two others at once; then they are done, and the next round is for the links that still wait. Links come and go on the way.
+
+usage: examples/link_schedule.py
+"""
+import itertools
+import os
+import sys
+
+sys.path.insert(0, os.path.join(os.path.dirname(os.path.realpath(__file__)), "..", "python"))
+from rudekpi import Network
+
+ROWS, COLUMNS = "abcd", "12345"
+# what changes before a round: a link comes, or goes without having had its slot, if it still waits
+COME = {2: [("a1", "b2"), ("b2", "c3")], 4: [("a1", "d5"), ("d1", "d3")]}
+GO = {3: [("c2", "c3"), ("a4", "a5")]}
+
+
+def mesh():
+    """The links of a grid: each host with the next in its row and in its column."""
+    for row, next_row in itertools.zip_longest(ROWS, ROWS[1:]):
+        for column, next_column in itertools.zip_longest(COLUMNS, COLUMNS[1:]):
+            if next_column:
+                yield row + column, row + next_column
+            if next_row:
+                yield row + column, next_row + column
+
+
+def change(net, waiting, number):
+    """Carries out what changes before a round."""
+    for link in COME.get(number, []):
+        net.link(*link)
+        waiting.add(link)
+        print("comes", "-".join(link))
+    for link in GO.get(number, []):
+        if link in waiting:
+            net.unlink(*link)
+            waiting.remove(link)
+            print("goes", "-".join(link))
+
+
+def main():
+    waiting = set(mesh())
+    with Network(rules="manne", nodes=[row + column for row in ROWS for column in COLUMNS]) as net:
+        with net.batch() as batch:
+            for a, b in mesh():
+                batch.link(a, b)
+        print(f"{len(waiting)} links wait")
+        number = 0
+        while waiting:
+            number += 1
+            change(net, waiting, number)
+            settled = net.settle(list)  # all who are enabled move at once
+            pairs = net.matching()
+            print(f"round {number}:", *("-".join(pair) for pair in pairs), f"({settled.moves} moves of {settled.charge} at most)")
+            with net.batch() as batch:
+                for pair in pairs:
+                    batch.unlink(*pair)
+            waiting.difference_update(pairs)
+    print(f"all served after {number} rounds")
+
+
+if __name__ == "__main__":
+    main()

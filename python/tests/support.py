@@ -1,0 +1,94 @@
+"""What the tests of the client share: a limit of time, programs of their own, and commands and replies as texts."""
+
+import os
+import signal
+import stat
+import sys
+import tempfile
+import unittest
+
+from rudekpi import Accepted, Enabled, Fault, Matching, Moves, Refused, Shown, Status, Wish
+
+TOP = os.path.dirname(os.path.dirname(os.path.dirname(os.path.abspath(__file__))))
+
+
+class Timed(unittest.TestCase):
+    """A test that fails where it takes longer than its seconds, so that a deadlock is a failure."""
+
+    seconds = 60
+
+    def setUp(self):
+        def stop(*_):
+            raise AssertionError(f"no end after {self.seconds} seconds")
+
+        before = signal.signal(signal.SIGALRM, stop)
+        self.addCleanup(signal.signal, signal.SIGALRM, before)
+        # and again each second, since a subtest that is stopped is followed by others
+        signal.setitimer(signal.ITIMER_REAL, self.seconds, 1)
+        self.addCleanup(signal.setitimer, signal.ITIMER_REAL, 0)
+
+    def folder(self):
+        made = tempfile.TemporaryDirectory()
+        self.addCleanup(made.cleanup)
+        return made.name
+
+    def program(self, text, name="program"):
+        """A program of the test's own: a shell script, or one in Python where it begins so."""
+        path = os.path.join(self.folder(), name)
+        first = f"#!{sys.executable}\n" if text.startswith("import ") else "#!/bin/sh\n"
+        with open(path, "w") as file:
+            file.write(first + text)
+        os.chmod(path, os.stat(path).st_mode | stat.S_IXUSR)
+        return path
+
+
+def play(player, line, name=int):
+    """Gives a network, or a batch, the command of a script's line, with a function from a number's text to a name."""
+    word, *rest = line.split(" ")
+    if word in ("link", "unlink"):
+        return getattr(player, word)(name(rest[0]), name(rest[1]))
+    if word == "point":
+        return player.point(name(rest[0]), None if rest[1] == "-" else name(rest[1]))
+    if word == "flag":
+        return player.flag(name(rest[0]), rest[1] == "1")
+    if word == "step":
+        items = [item.split(">") for item in rest]
+        return player.step([Wish(*map(name, item)) if len(item) == 2 else name(item[0]) for item in items])
+    if word == "show":
+        return player.show(name(rest[0]))
+    if word in ("drive", "scramble"):
+        return getattr(player, word)(int(rest[0]), int(rest[1]))
+    return {"enabled": player.enabled, "matching": player.matching, "status": player.status}[word]()
+
+
+def told(call):
+    """What a call answers, or the refusal that it raises."""
+    try:
+        return call()
+    except Refused as refused:
+        return refused
+
+
+def spelled(reply, number=str):
+    """The text of a reply in a transcript, with a function from a name to its number's text."""
+    if isinstance(reply, Accepted):
+        return "ok"
+    if isinstance(reply, Refused):
+        return f"refused {reply.number} {reply.text}"
+    if isinstance(reply, Moves):
+        target = [f">{number(move.target)}" if move.target is not None else "" for move in reply]
+        return " ".join(f"{number(move.node)}:{move.rule}{to}" for move, to in zip(reply, target))
+    if isinstance(reply, Shown):
+        return "-" if reply.target is None else number(reply.target)
+    if isinstance(reply, Enabled):
+        return " ".join(f"{number(node)}:{rule}" for node, rule in reply.items()) or "none"
+    if isinstance(reply, Matching):
+        return " ".join(f"{number(a)}-{number(b)}" for a, b in reply.pairs) or "none"
+    if isinstance(reply, Status):
+        names = ("nodes", "edges", "pairs", "enabled", "charge", "spent")
+        return " ".join(f"{name}={getattr(reply, name)}" for name in names)
+    if isinstance(reply, Fault) and reply.register == "pointer":
+        return f"point {number(reply.node)} {'-' if reply.value is None else number(reply.value)}"
+    if isinstance(reply, Fault):
+        return f"flag {number(reply.node)} {int(reply.value)}"
+    raise AssertionError(f"{reply!r} is no reply")

@@ -1,0 +1,142 @@
+"""The cases of tests/*.cases through the client: what is answered, read into its types and spelled again, is what they say."""
+
+import importlib.machinery
+import importlib.util
+import os
+import pathlib
+import re
+import unittest
+
+from rudekpi import Damaged, Network, Turns, audit, epochs
+from support import TOP, Timed, play, spelled, told
+
+
+def case_files():
+    """tests/run, which reads case files."""
+    loader = importlib.machinery.SourceFileLoader("case_files", os.path.join(TOP, "tests", "run"))
+    made = importlib.util.module_from_spec(importlib.util.spec_from_loader("case_files", loader))
+    loader.exec_module(made)
+    return made
+
+
+def cases_of(name, word):
+    """The cases of a file that give the program this word, of which the whole output is said."""
+    found = case_files().read_cases(pathlib.Path(TOP, "tests", name))
+    found = [case for case in found if not case.table and case.words[0] == word.encode()]
+    return [case for case in found if not case.broken and case.out.is_exact()]
+
+
+def text_of(blocks):
+    return b"".join(block * times for times, block in blocks).decode()
+
+
+def entries_of(transcript):
+    """The events and replies below the header of a transcript."""
+    return [tuple(line.split(" ", 1)[1].split(" = ")) for line in transcript.splitlines()[1:]]
+
+
+class Rows(Timed):
+    """The worked examples, and the turns of daemons and injectors."""
+
+    def setUp(self):
+        super().setUp()
+        worked, turns = cases_of("worked_examples.cases", "run"), cases_of("turns.cases", "run")
+        self.cases = [case for case in worked + turns if case.status == 0]
+        written = pathlib.Path(TOP, "tests", "worked_examples.cases").read_text().count("\ncase ")
+        self.assertEqual(len([case for case in worked if case.status == 0]), written, "each worked example is played")
+        self.assertGreater(len(turns), 5)
+
+    def run_of(self, case):
+        _, _, rules, _, nodes = (word.decode() for word in case.words)
+        return rules, int(nodes), text_of(case.blocks).splitlines(), text_of(case.out.blocks)
+
+    def expect(self, lines, replies, wanted, number=str):
+        """The replies to a script's lines are those that the wanted transcript has."""
+        left = entries_of(wanted)
+        for line, reply in zip(lines, replies):
+            if isinstance(reply, Turns):
+                for turn in reply:
+                    event, said = left.pop(0)
+                    self.assertEqual(spelled(turn, number), said if event.startswith("step ") else event, line)
+                if len(reply) < int(line.split(" ")[2]):
+                    self.assertEqual(reply.status.enabled, 0, line)
+            else:
+                event, said = left.pop(0)
+                self.assertEqual((line, spelled(reply, number)), (event, said))
+        self.assertEqual(left, [])
+
+    def test_one_by_one(self):
+        for case in self.cases:
+            rules, nodes, lines, wanted = self.run_of(case)
+            with self.subTest(case.name), Network(rules, nodes) as net:
+                replies = [told(lambda: play(net, line)) for line in lines]
+                self.expect(lines, replies, wanted)
+                if not any(isinstance(reply, Turns) for reply in replies):
+                    self.assertEqual(net.transcript(), wanted)
+
+    def test_in_a_batch(self):
+        for case in self.cases:
+            rules, nodes, lines, wanted = self.run_of(case)
+            with self.subTest(case.name), Network(rules, nodes) as net:
+                with net.batch(raises=False) as batch:
+                    pending = [play(batch, line) for line in lines]
+                self.expect(lines, [told(each.result) for each in pending], wanted)
+                refused = [f"{it.event} = {spelled(it)}" for it in batch.refusals]
+                self.assertEqual(refused, [f"{event} = {said}" for event, said in entries_of(wanted) if said.startswith("refused ")])
+
+    def test_with_names_of_the_callers_own(self):
+        played = 0
+        for case in self.cases:
+            rules, nodes, lines, wanted = self.run_of(case)
+            names = {number: ("host", number) for number in range(1, nodes + 1)}
+            if any(int(number) > nodes for line in lines for number in re.findall(r"(?:(?<= )|(?<=>))[0-9]+", line)):
+                continue
+            played += 1
+            with self.subTest(case.name), Network(rules, names.values()) as net:
+                replies = [told(lambda: play(net, line, lambda text: names[int(text)])) for line in lines]
+                self.expect(lines, replies, wanted, lambda name: str(name[1]))
+        self.assertGreater(played, 20)
+
+    def test_the_verdicts_of_the_rows(self):
+        for case in self.cases:
+            if case.verdict:
+                with self.subTest(case.name):
+                    found = audit(text_of(case.out.blocks))
+                    said = f"accepted: {found.entries} entries, {found.epochs} epochs, {found.moves} moves\n"
+                    self.assertEqual(said.encode(), case.verdict)
+
+
+class Judged(Timed):
+    """Transcripts, right and damaged."""
+
+    def test_verdicts(self):
+        kinds = set()
+        for case in cases_of("verdicts.cases", "audit"):
+            wanted = text_of(case.out.blocks)
+            kinds.add(wanted.split(" ")[0])
+            with self.subTest(case.name):
+                try:
+                    found = audit(text_of(case.blocks))
+                    said = f"accepted: {found.entries} entries, {found.epochs} epochs, {found.moves} moves\n"
+                except Damaged as damaged:
+                    said = f"line {damaged.line}: {damaged.why}\n"
+                self.assertEqual(said, wanted)
+        self.assertEqual(kinds, {"accepted:", "line"})
+
+    def test_epochs(self):
+        kinds = set()
+        for case in cases_of("epochs.cases", "epochs"):
+            wanted = text_of(case.out.blocks)
+            kinds.add(wanted[:5])
+            with self.subTest(case.name):
+                try:
+                    rows = [(it.start, it.moves, it.edges, it.nodes, it.bound) for it in epochs(text_of(case.blocks))]
+                    said = "start,moves,edges,nodes,bound\n" + "".join(",".join(map(str, row)) + "\n" for row in rows)
+                except Damaged as damaged:
+                    said = f"line {damaged.line}: {damaged.why}\n"
+                self.assertEqual(said, wanted)
+        self.assertIn("start", kinds)
+
+
+if __name__ == "__main__":
+    unittest.main()

@@ -1,0 +1,94 @@
+"""The examples in Python: what they print is judged by what it says, with networks that the tests build for themselves."""
+
+import os
+import re
+import subprocess
+import sys
+import unittest
+
+from support import TOP, Timed
+
+
+def printed(name, seed="1"):
+    """The lines that an example prints."""
+    words = [sys.executable, os.path.join(TOP, "examples", name)]
+    done = subprocess.run(words, env=dict(os.environ, PYTHONHASHSEED=seed), cwd="/", capture_output=True, text=True)
+    if done.returncode or done.stderr:
+        raise AssertionError(f"{name} ended with status {done.returncode}: {done.stderr}")
+    return done.stdout.splitlines()
+
+
+def link_of(text):
+    return frozenset(text.split("-"))
+
+
+class Examples(Timed):
+    def expect_maximal(self, pairs, links, at):
+        """Pairs are links of which no two share a host, and each link shares one with a pair."""
+        self.assertLessEqual(set(pairs), links, at)
+        hosts = [host for pair in pairs for host in pair]
+        self.assertEqual(len(hosts), len(set(hosts)), at)
+        self.assertEqual([set(link) for link in links if not link & set(hosts)], [], at)
+
+    def expect_bounded(self, text, links, nodes):
+        """The moves are within the charge, and that within 2m + 3n."""
+        moves, charge = map(int, re.search(r"(\d+) moves of (\d+) at most", text).groups())
+        self.assertLessEqual(moves, charge, text)
+        self.assertLessEqual(charge, 2 * len(links) + 3 * nodes, text)
+        return moves
+
+    def test_each_link_has_its_slot_once(self):
+        lines = printed("link_schedule.py")
+        across = [frozenset((row + str(column), row + str(column + 1))) for row in "abcd" for column in range(1, 5)]
+        down = [frozenset((a + str(column), b + str(column))) for a, b in ("ab", "bc", "cd") for column in range(1, 6)]
+        waiting = set(across + down)
+        self.assertEqual(lines[0], "31 links wait")
+        came, went, served, rounds, last_change = 31, 0, 0, 0, 0
+        for line in lines[1:-1]:
+            word, *rest = line.split(" ")
+            if word == "comes":
+                self.assertNotIn(link_of(rest[0]), waiting)
+                waiting.add(link_of(rest[0]))
+                came, last_change = came + 1, rounds
+            elif word == "goes":
+                waiting.remove(link_of(rest[0]))
+                went += 1
+            else:
+                rounds += 1
+                self.assertEqual(rest[0], f"{rounds}:")
+                pairs = [link_of(pair) for pair in " ".join(rest[1:]).split(" (")[0].split(" ")]
+                self.expect_bounded(line, waiting, 20)
+                self.expect_maximal(pairs, waiting, line)
+                waiting -= set(pairs)
+                served += len(pairs)
+        self.assertEqual((waiting, served, went), (set(), came - went, 1))
+        self.assertEqual(came, 35, "two links come before each of two rounds")
+        self.assertEqual(lines[-1], f"all served after {rounds} rounds")
+        # in each round that a link waits, one next to it is served, of which there are 5 at an end at most
+        self.assertLessEqual(rounds, last_change + 2 * 5 + 1)
+
+    def test_each_host_has_a_partner_or_no_free_neighbour(self):
+        lines = printed("backup_partners.py")
+        hosts = [f"h{number:02}" for number in range(1, 13)]
+        links = {frozenset((hosts[at], hosts[at - 1])) for at in range(12)} | {frozenset(("h01", "h07")), frozenset(("h04", "h10"))}
+        failed, moves = set(), 0
+        for line in lines[:-1]:
+            event, told = line.split(": ", 1)
+            word, _, host = event.partition(" ")
+            failed = failed | {host} if word == "fails" else failed - {host}
+            there = {link for link in links if not link & failed}
+            pairs = [link_of(pair) for pair in told.split("; ")[1].split(" alone: ")[0].split(" ")]
+            moves += self.expect_bounded(told, there, 12)
+            self.expect_maximal(pairs, there, line)
+            alone = set(hosts) - failed - {host for pair in pairs for host in pair}
+            self.assertEqual(told.split(" alone: ")[1].split(" "), sorted(alone) or ["-"])
+        self.assertEqual([line.split(" ")[0] for line in lines[1:-1]].count("fails"), 4)
+        self.assertEqual(lines[-1], f"{moves} moves in all")
+
+    def test_they_print_the_same_again(self):
+        for name in ("link_schedule.py", "backup_partners.py"):
+            self.assertEqual(printed(name), printed(name, seed="2"))
+
+
+if __name__ == "__main__":
+    unittest.main()

@@ -1,0 +1,70 @@
+"""Networks from and to networkx, and their matchings judged by it. Skipped where it is not there."""
+
+import random
+import unittest
+
+from rudekpi import Network
+from support import Timed
+
+try:
+    import networkx
+except ImportError:
+    networkx = None
+
+
+def one(drawn):
+    """A daemon of chance that lets one node move."""
+    return lambda enabled: [drawn.choice(list(enabled))]
+
+
+def some(drawn):
+    """A daemon of chance that lets any nodes move, and one at least."""
+    return lambda enabled: [node for node in enabled if drawn.random() < 0.5] or [drawn.choice(list(enabled))]
+
+
+@unittest.skipUnless(networkx, "no networkx")
+class Graphs(Timed):
+    def test_random_networks_settle_in_maximal_matchings(self):
+        for seed in range(12):
+            drawn = random.Random(seed)
+            graph = networkx.gnp_random_graph(drawn.randint(1, 60), drawn.random() ** 2, seed=seed)
+            rules, weight = drawn.choice([("hh", 1), ("manne", 3)])
+            with self.subTest(seed=seed), Network.from_networkx(graph, rules) as net:
+                for faults in (0, 40):
+                    net.scramble(seed, faults)
+                    settled = net.settle(one(drawn) if rules == "hh" else some(drawn))
+                    self.assertLessEqual(settled.moves, settled.charge)
+                    self.assertLessEqual(settled.charge, 2 * graph.number_of_edges() + weight * graph.number_of_nodes())
+                    self.assertTrue(networkx.is_maximal_matching(graph, set(net.matching())))
+                for a, b in list(net.matching())[::2]:
+                    net.unlink(a, b)
+                    graph.remove_edge(a, b)
+                net.drive(seed, 1_000_000)
+                self.assertTrue(networkx.is_maximal_matching(graph, set(net.matching())))
+                self.assertTrue(networkx.utils.graphs_equal(net.to_networkx(), graph))
+
+    def test_names_that_are_tuples(self):
+        graph = networkx.grid_2d_graph(5, 6)
+        with Network.from_networkx(graph) as net:
+            self.assertEqual(net.nodes, list(graph.nodes))
+            net.settle(list)
+            self.assertTrue(networkx.is_maximal_matching(graph, set(net.matching())))
+            self.assertEqual(net.status().edges, 5 * 5 + 6 * 4)
+
+    def test_to_a_graph_of_numbers(self):
+        with Network("hh", 4) as net:
+            net.link(4, 2)
+            net.link(1, 2)
+            net.unlink(2, 4)
+            graph = net.to_networkx()
+        self.assertEqual((sorted(graph.nodes), list(graph.edges)), ([1, 2, 3, 4], [(1, 2)]))
+
+    def test_graphs_that_are_none(self):
+        loop = networkx.Graph([(1, 2), (2, 2)])
+        for graph, text in [(networkx.DiGraph([(1, 2)]), "undirected"), (networkx.MultiGraph([(1, 2)]), "simple"), (loop, "itself")]:
+            with self.assertRaisesRegex(ValueError, text):
+                Network.from_networkx(graph)
+
+
+if __name__ == "__main__":
+    unittest.main()

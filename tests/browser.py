@@ -1,0 +1,151 @@
+"""A headless browser that is driven through a pair of pipes (the DevTools protocol), with the standard library alone."""
+import json
+import os
+import select
+import shutil
+import subprocess
+import tempfile
+import time
+
+NAMES = ["chromium", "chromium-browser", "google-chrome"]
+WORDS = [
+    "--headless=new", "--no-sandbox", "--disable-gpu", "--disable-dev-shm-usage", "--disable-extensions", "--no-first-run",
+    "--disable-background-networking", "--disable-component-update", "--disable-sync", "--disable-default-apps",
+    "--force-device-scale-factor=1", "--hide-scrollbars", "--mute-audio", "--remote-debugging-pipe",
+]
+
+
+class BrowserFault(Exception):
+    """The browser ended, kept silent, or said that a call is wrong."""
+
+
+class PageFault(Exception):
+    """An expression failed in the page."""
+
+
+def browser_path():
+    """Where a browser is, or None."""
+    return next((path for path in map(shutil.which, NAMES) if path), None)
+
+
+class Browser:
+    """One browser with one page. What goes wrong in the page, and what it fetches, is kept in `complaints` and `fetched`."""
+
+    def __init__(self, path, wait=60, width=1280, height=900):
+        self.wait, self.left, self.number = wait, b"", 0
+        self.complaints, self.fetched, self.seen = [], [], []
+        self.home = tempfile.TemporaryDirectory(prefix="rudekpi-browser-", ignore_cleanup_errors=True)
+        commands_out, self.commands = os.pipe()
+        self.replies, replies_in = os.pipe()
+
+        def wire():
+            # first out of the way, since one of the four may be 3 or 4
+            ends = [os.dup(commands_out), os.dup(replies_in)]
+            os.dup2(ends[0], 3)
+            os.dup2(ends[1], 4)
+
+        words = [path, *WORDS, f"--user-data-dir={self.home.name}", f"--window-size={width},{height}", "about:blank"]
+        quiet = subprocess.DEVNULL
+        self.run = subprocess.Popen(words, stdin=quiet, stdout=quiet, stderr=quiet, close_fds=False, preexec_fn=wire)
+        os.close(commands_out)
+        os.close(replies_in)
+        self.session = None
+        targets = self.call("Target.getTargets")["targetInfos"]
+        page = next(target["targetId"] for target in targets if target["type"] == "page")
+        self.session = self.call("Target.attachToTarget", targetId=page, flatten=True)["sessionId"]
+        for domain in ["Page", "Runtime", "Log", "Network"]:
+            self.call(f"{domain}.enable")
+
+    def __enter__(self):
+        return self
+
+    def __exit__(self, *_):
+        try:
+            self.session = None
+            self.call("Browser.close")
+            self.run.wait(timeout=20)
+        except (BrowserFault, OSError, subprocess.TimeoutExpired):
+            self.run.kill()
+            self.run.wait()
+        os.close(self.commands)
+        os.close(self.replies)
+        self.home.cleanup()
+
+    def message(self, until):
+        while b"\0" not in self.left:
+            ready, _, _ = select.select([self.replies], [], [], max(0, until - time.monotonic()))
+            part = os.read(self.replies, 1 << 20) if ready else b""
+            if not part:
+                raise BrowserFault("the browser ended" if ready else "the browser is silent")
+            self.left += part
+        text, self.left = self.left.split(b"\0", 1)
+        return json.loads(text)
+
+    def note(self, event):
+        """Keeps what an event tells."""
+        method, told = event["method"], event.get("params", {})
+        if method == "Runtime.exceptionThrown":
+            details = told["exceptionDetails"]
+            self.complaints.append(details.get("exception", {}).get("description", details["text"]))
+        elif method == "Runtime.consoleAPICalled":
+            self.complaints.append(" ".join(str(word.get("value")) for word in told["args"]))
+        elif method == "Log.entryAdded":
+            self.complaints.append(told["entry"]["text"])
+        elif method == "Network.requestWillBeSent":
+            self.fetched.append(told["request"]["url"])
+        else:
+            self.seen.append(method)
+
+    def call(self, method, **words):
+        self.number += 1
+        order = {"id": self.number, "method": method, "params": words}
+        if self.session:
+            order["sessionId"] = self.session
+        os.write(self.commands, json.dumps(order).encode() + b"\0")
+        until = time.monotonic() + self.wait
+        while True:
+            said = self.message(until)
+            if said.get("id") == self.number:
+                if "error" in said:
+                    raise BrowserFault(f"{method}: {said['error']['message']}")
+                return said["result"]
+            if "method" in said:
+                self.note(said)
+
+    def open(self, path):
+        """Opens a file, and forgets what was complained of before."""
+        self.complaints, self.fetched, self.seen = [], [], []
+        self.call("Page.navigate", url=f"file://{path}")
+        until = time.monotonic() + self.wait
+        while "Page.loadEventFired" not in self.seen:
+            said = self.message(until)
+            if "method" in said:
+                self.note(said)
+
+    def value(self, expression):
+        """What an expression is in the page."""
+        made = self.call("Runtime.evaluate", expression=expression, returnByValue=True, awaitPromise=True)
+        if "exceptionDetails" in made:
+            details = made["exceptionDetails"]
+            raise PageFault(details.get("exception", {}).get("description", details["text"]))
+        return made["result"].get("value")
+
+    def key(self, key, code, number, text=""):
+        """Presses and releases a key."""
+        words = {"key": key, "code": code, "windowsVirtualKeyCode": number}
+        self.call("Input.dispatchKeyEvent", type="keyDown" if text else "rawKeyDown", text=text, **words)
+        self.call("Input.dispatchKeyEvent", type="keyUp", **words)
+
+    def click(self, x, y):
+        words = {"x": x, "y": y, "button": "left", "clickCount": 1}
+        self.call("Input.dispatchMouseEvent", type="mousePressed", buttons=1, **words)
+        self.call("Input.dispatchMouseEvent", type="mouseReleased", **words)
+
+    def window(self, width, height, dark=False):
+        self.call("Emulation.setDeviceMetricsOverride", width=width, height=height, deviceScaleFactor=1, mobile=False)
+        scheme = {"name": "prefers-color-scheme", "value": "dark" if dark else "light"}
+        self.call("Emulation.setEmulatedMedia", features=[scheme])
+
+    def screenshot(self, whole=False):
+        """The page as a PNG, in base64."""
+        return self.call("Page.captureScreenshot", format="png", captureBeyondViewport=whole)["data"]

@@ -1,0 +1,196 @@
+// The network as a drawing: every element keeps its place, and is written anew only where it shows something else.
+import { add } from "./svg.mjs";
+
+export const MOST_DRAWN = 2000;
+export const RADIUS = 12;
+// so many edges a node make a drawing dense: its plain edges are faint
+const DENSE = 8;
+const ARROW_GAP = 3;
+const MARK_DISTANCE = 16;
+// angles: how far two marks stand from the middle of a wide gap, and what is wide
+const ASIDE = 0.5;
+const WIDE = 1.8;
+const MARKS = { update: "U", marry: "M", seduce: "S", abandon: "A" };
+
+/** Two places round a node where marks hide no pointer: both in the widest angle between its edges where that is wide, else one
+ * in the middle of each of the two widest. */
+export function freeAngles(angles) {
+  if (angles.length === 0) {
+    return [-Math.PI / 4, -Math.PI / 4 + 2 * ASIDE];
+  }
+  const sorted = [...angles].sort((a, b) => a - b);
+  const gaps = sorted.map((angle, at) => ({ from: angle, size: (sorted[at + 1] ?? sorted[0] + 2 * Math.PI) - angle }));
+  // a hair's breadth tells no two angles apart, so that the first of equal ones is taken
+  gaps.sort((one, other) => Math.round(1e6 * (other.size - one.size)));
+  const middle = ({ from, size }) => from + size / 2;
+  if (gaps[0].size > WIDE || gaps.length === 1) {
+    return [middle(gaps[0]) - ASIDE, middle(gaps[0]) + ASIDE];
+  }
+  return [middle(gaps[0]), middle(gaps[1])];
+}
+
+function nameSize(name) {
+  return [0, 13, 12, 10, 8][String(name).length];
+}
+
+/** The edge of an entry that links or unlinks, with what the entry did to it. */
+function changedEdge(entry) {
+  if (entry && entry.disturbs && (entry.kind === "link" || entry.kind === "unlink")) {
+    const [low, high] = entry.event.split(" ").slice(1).map(Number).sort((a, b) => a - b);
+    return { low, high, change: entry.kind === "link" ? "came" : "went" };
+  }
+  return null;
+}
+
+export class Drawing {
+  constructor(svg, layout, nodes, edgesEver) {
+    this.layout = layout;
+    this.nodes = nodes;
+    this.angles = Array.from({ length: nodes + 1 }, () => []);
+    for (const [v, w] of edgesEver) {
+      const angle = Math.atan2(layout.y[w] - layout.y[v], layout.x[w] - layout.x[v]);
+      this.angles[v].push(angle);
+      this.angles[w].push(angle > 0 ? angle - Math.PI : angle + Math.PI);
+    }
+    this.layers = Object.fromEntries(["edges", "pairs", "pointers", "nodes", "changes"].map((name) => [name, add(svg, "g", { class: name })]));
+    svg.classList.toggle("dense", edgesEver.length > DENSE * nodes);
+    this.edges = new Map();
+    this.pointers = new Map();
+    this.shapes = [null];
+    for (let v = 1; v <= nodes; v += 1) {
+      this.shapes.push(this.makeNode(v));
+    }
+    this.shownEdges = [];
+  }
+
+  place(v) {
+    return [this.layout.x[v], this.layout.y[v]];
+  }
+
+  /** The first or the second place of a mark beside a node. */
+  beside(v, which) {
+    const angle = freeAngles(this.angles[v])[which];
+    return `translate(${(MARK_DISTANCE * Math.cos(angle)).toFixed(1)} ${(MARK_DISTANCE * Math.sin(angle)).toFixed(1)})`;
+  }
+
+  makeNode(v) {
+    const [x, y] = this.place(v);
+    const group = add(this.layers.nodes, "g", { class: "node", "data-node": v, transform: `translate(${x.toFixed(1)} ${y.toFixed(1)})` });
+    add(group, "circle", { class: "halo", r: RADIUS + 5 });
+    add(group, "circle", { class: "body", r: RADIUS });
+    add(group, "text", { class: "name", "font-size": nameSize(v), dy: "0.36em" }, String(v));
+    return { group, title: add(group, "title"), classes: "node", mark: null, flag: null };
+  }
+
+  edge(low, high) {
+    const key = low * 65536 + high;
+    if (!this.edges.has(key)) {
+      const [[x1, y1], [x2, y2]] = [this.place(low), this.place(high)];
+      const attributes = { "data-ends": `${low}-${high}`, x1: x1.toFixed(1), y1: y1.toFixed(1), x2: x2.toFixed(1), y2: y2.toFixed(1) };
+      this.edges.set(key, { line: add(this.layers.edges, "line", attributes), classes: "" });
+    }
+    return this.edges.get(key);
+  }
+
+  /** Shows the state of a machine after an entry that named the nodes in `lit`. */
+  show(machine, entry, lit) {
+    this.showEdges(machine);
+    this.showChange(changedEdge(entry));
+    const lighted = new Set(lit);
+    for (let v = 1; v <= this.nodes; v += 1) {
+      this.showNode(machine, v, lighted.has(v));
+      this.showPointer(machine, v);
+    }
+  }
+
+  showEdges(machine) {
+    const shown = new Map();
+    for (const [low, high] of machine.edges()) {
+      shown.set(this.edge(low, high), machine.partner(low) === high ? "edge mutual" : "edge");
+    }
+    for (const edge of this.shownEdges) {
+      if (!shown.has(edge)) {
+        shown.set(edge, "edge absent");
+      }
+    }
+    for (const [edge, classes] of shown) {
+      if (edge.classes !== classes) {
+        edge.classes = classes;
+        edge.line.setAttribute("class", classes);
+        this.layers[classes === "edge mutual" ? "pairs" : "edges"].append(edge.line);
+      }
+    }
+    this.shownEdges = [...shown.keys()].filter((edge) => edge.classes !== "edge absent");
+  }
+
+  /** An edge that came has a plus at its middle, and one that went is dashed with a cross. */
+  showChange(changed) {
+    this.layers.changes.replaceChildren();
+    this.layers.edges.querySelector(".change")?.remove();
+    if (!changed) {
+      return;
+    }
+    const [[x1, y1], [x2, y2]] = [this.place(changed.low), this.place(changed.high)];
+    add(this.layers.edges, "line", { class: `change ${changed.change}`, x1, y1, x2, y2 });
+    const at = { x: (x1 + x2) / 2, y: (y1 + y2) / 2 };
+    add(this.layers.changes, "circle", { class: changed.change, cx: at.x, cy: at.y, r: 8 });
+    add(this.layers.changes, "text", { class: changed.change, ...at, dy: "0.36em" }, changed.change === "came" ? "+" : "×");
+  }
+
+  showNode(machine, v, isLit) {
+    const shape = this.shapes[v];
+    const rule = machine.rule[v];
+    const flagged = machine.flag[v] === 1;
+    const classes = ["node", machine.isMarried(v) && "married", rule && "enabled", isLit && "lit", flagged && "flagged"].filter(Boolean).join(" ");
+    if (shape.classes !== classes) {
+      shape.classes = classes;
+      shape.group.setAttribute("class", classes);
+    }
+    if (flagged && !shape.flag) {
+      shape.flag = add(shape.group, "path", { class: "flag", d: "M-4 8v-15l9 4.5l-9 4.5", transform: this.beside(v, 1) });
+    }
+    if (rule && !shape.mark) {
+      shape.mark = add(shape.group, "g", { class: "mark", transform: this.beside(v, 0) });
+      add(shape.mark, "circle", { r: 7.5 });
+      shape.letter = add(shape.mark, "text", { class: "rule", dy: "0.36em" });
+    }
+    if (rule && shape.letter.textContent !== MARKS[rule]) {
+      shape.letter.textContent = MARKS[rule];
+    }
+  }
+
+  /** A pointer that is not answered is an arrow; one that is answered is half of a bold edge. */
+  showPointer(machine, v) {
+    const target = machine.isMarried(v) ? 0 : machine.pointer[v];
+    const known = this.pointers.get(v);
+    if ((known?.target ?? 0) === target) {
+      return;
+    }
+    if (target === 0) {
+      known.line.remove();
+      this.pointers.delete(v);
+      return;
+    }
+    const line = known?.line ?? add(this.layers.pointers, "line", { class: "pointer", "marker-end": "url(#arrow)" });
+    const [[x1, y1], [x2, y2]] = [this.place(v), this.place(target)];
+    const length = Math.hypot(x2 - x1, y2 - y1);
+    const [dx, dy] = [(x2 - x1) / length, (y2 - y1) / length];
+    const end = { x1: x1 + dx * RADIUS, y1: y1 + dy * RADIUS, x2: x2 - dx * (RADIUS + ARROW_GAP), y2: y2 - dy * (RADIUS + ARROW_GAP) };
+    Object.entries(end).forEach(([key, value]) => line.setAttribute(key, value.toFixed(1)));
+    line.setAttribute("data-pointer", `${v}>${target}`);
+    this.pointers.set(v, { line, target });
+  }
+
+  /** Writes what a node is into its title, once a pointing device is on it. */
+  describe(machine, v) {
+    const rule = machine.rule[v];
+    const words = [
+      `node ${v}`,
+      machine.pointer[v] === 0 ? "points nowhere" : `points at ${machine.pointer[v]}`,
+      machine.isMarried(v) ? "married" : "not married",
+      machine.flags && `flag ${machine.flag[v]}`,
+      rule ? `enabled: ${rule}` : "not enabled",
+    ];
+    this.shapes[v].title.textContent = words.filter(Boolean).join(", ");
+  }
+}

@@ -1,0 +1,168 @@
+// Places for the nodes of a network: a pure function of its nodes and edges, so that a transcript has one drawing.
+// A path or a cycle lies on a ring; any other part is spread by its distances (pivot scaling) and then by forces.
+import { spread } from "./forces.mjs";
+import { placeByDistance } from "./distances.mjs";
+
+export const SPACING = 48;
+const ROUND_RING = 60;
+// so many chords a node may a ring have
+const CHORDS = 0.25;
+const PACKED_WIDTH_RATIO = 1.5;
+
+function neighbourLists(nodes, edges) {
+  const lists = Array.from({ length: nodes + 1 }, () => []);
+  for (const [v, w] of edges) {
+    lists[v].push(w);
+    lists[w].push(v);
+  }
+  lists.forEach((list) => list.sort((a, b) => a - b));
+  return lists;
+}
+
+/** The parts that hang together, each as its nodes in the order of a breadth-first walk. */
+function partsOf(lists) {
+  const seen = new Uint8Array(lists.length);
+  const parts = [];
+  for (let v = 1; v < lists.length; v += 1) {
+    if (seen[v]) {
+      continue;
+    }
+    const part = [v];
+    seen[v] = 1;
+    for (let at = 0; at < part.length; at += 1) {
+      for (const w of lists[part[at]]) {
+        if (!seen[w]) {
+          seen[w] = 1;
+          part.push(w);
+        }
+      }
+    }
+    parts.push(part);
+  }
+  return parts;
+}
+
+/** The nodes of a path or a cycle one after another, or null for any other part. */
+function alongRing(part, lists) {
+  if (part.length < 3 || part.some((v) => lists[v].length === 0 || lists[v].length > 2)) {
+    return null;
+  }
+  let at = part.find((v) => lists[v].length === 1) ?? Math.min(...part);
+  const order = [];
+  const seen = new Set();
+  while (at !== undefined) {
+    order.push(at);
+    seen.add(at);
+    at = lists[at].find((w) => !seen.has(w));
+  }
+  return order.length === part.length ? order : null;
+}
+
+/** A part lies on a ring where its first edges made a path or a cycle, and where few others ever came. */
+export function ringOf(part, nodes, edges) {
+  const inside = new Set(part);
+  const own = edges.filter(([v]) => inside.has(v));
+  if (own.length > part.length * (1 + CHORDS)) {
+    return null;
+  }
+  for (const count of [part.length, part.length - 1]) {
+    const ring = alongRing(part, neighbourLists(nodes, own.slice(0, count)));
+    if (ring) {
+      return ring;
+    }
+  }
+  return null;
+}
+
+function onCircle(count, radius) {
+  return Array.from({ length: count }, (_, at) => {
+    const angle = (2 * Math.PI * at) / count - Math.PI / 2;
+    return [radius * Math.cos(angle), radius * Math.sin(angle)];
+  });
+}
+
+/** A long ring runs outward along one spoke and inward along the next, so that it takes less room than a circle. */
+function onSpokes(count) {
+  const spokes = 2 * Math.max(3, Math.round(count / (2 * Math.sqrt(count / (2 * Math.PI)))));
+  const inner = (spokes * SPACING) / (2 * Math.PI);
+  const places = [];
+  for (let spoke = 0; spoke < spokes; spoke += 1) {
+    const length = Math.floor((count * (spoke + 1)) / spokes) - Math.floor((count * spoke) / spokes);
+    const angle = (2 * Math.PI * spoke) / spokes - Math.PI / 2;
+    for (let at = 0; at < length; at += 1) {
+      const radius = inner + SPACING * (spoke % 2 === 0 ? at : length - 1 - at);
+      places.push([radius * Math.cos(angle), radius * Math.sin(angle)]);
+    }
+  }
+  return places;
+}
+
+function ringPlaces(count) {
+  return count > ROUND_RING ? onSpokes(count) : onCircle(count, SPACING / (2 * Math.sin(Math.PI / count)));
+}
+
+/** Places of one part's nodes, by the node's place in `order`. */
+function placesOf(part, lists, edges) {
+  if (part.length < 3) {
+    return { order: part, places: part.map((_, at) => [at * 1.5 * SPACING, 0]) };
+  }
+  const ring = ringOf(part, lists.length - 1, edges);
+  if (ring) {
+    return { order: ring, places: ringPlaces(ring.length) };
+  }
+  const placeIn = new Map(part.map((v, at) => [v, at]));
+  const inside = part.map((v) => lists[v].map((w) => placeIn.get(w)));
+  return { order: part, places: spread(placeByDistance(inside, SPACING), inside, SPACING) };
+}
+
+function boxOf(places) {
+  const [xs, ys] = [places.map((place) => place[0]), places.map((place) => place[1])];
+  const least = (numbers) => numbers.reduce((a, b) => Math.min(a, b));
+  const most = (numbers) => numbers.reduce((a, b) => Math.max(a, b));
+  return { left: least(xs), top: least(ys), width: most(xs) - least(xs) + SPACING, height: most(ys) - least(ys) + SPACING };
+}
+
+/** Sets the parts in rows, the highest first. */
+function pack(parts) {
+  const boxes = parts.map((part) => ({ ...part, box: boxOf(part.places) }));
+  boxes.sort((a, b) => b.box.height - a.box.height || a.order[0] - b.order[0]);
+  const area = boxes.reduce((sum, { box }) => sum + box.width * box.height, 0);
+  const widest = boxes.reduce((most, { box }) => Math.max(most, box.width), 0);
+  const rowWidth = Math.max(widest, Math.sqrt(area * PACKED_WIDTH_RATIO));
+  const rows = [{ x: 0, y: 0, height: 0, parts: [] }];
+  for (const part of boxes) {
+    const last = rows.at(-1);
+    const fits = last.x === 0 || last.x + part.box.width <= rowWidth + 1;
+    const row = fits ? last : { x: 0, y: last.y + last.height, height: 0, parts: [] };
+    if (!fits) {
+      rows.push(row);
+    }
+    part.at = row.x;
+    row.x += part.box.width;
+    row.height = Math.max(row.height, part.box.height);
+    row.parts.push(part);
+  }
+  const width = rows.reduce((most, row) => Math.max(most, row.x), 0);
+  for (const row of rows) {
+    for (const part of row.parts) {
+      part.shift = [part.at + (width - row.x) / 2 - part.box.left, row.y + (row.height - part.box.height) / 2 - part.box.top];
+    }
+  }
+  return { boxes, width, height: rows.at(-1).y + rows.at(-1).height };
+}
+
+/** A place for each name from 1, in a box whose upper left corner is 0, 0; `edges` are in the order in which they came. */
+export function layOut(nodes, edges) {
+  const x = new Float64Array(nodes + 1);
+  const y = new Float64Array(nodes + 1);
+  const lists = neighbourLists(nodes, edges);
+  const parts = partsOf(lists).map((part) => placesOf(part, lists, edges));
+  const { boxes, width, height } = pack(parts);
+  for (const { order, places, shift } of boxes) {
+    order.forEach((v, at) => {
+      x[v] = places[at][0] + shift[0] + SPACING / 2;
+      y[v] = places[at][1] + shift[1] + SPACING / 2;
+    });
+  }
+  return { x, y, width, height };
+}

@@ -1,0 +1,239 @@
+// The machine of the definitions: a network with its registers, and at each node the rule that is enabled there. Counts are
+// kept with each change, so that a change costs what stands near it, and not what the network holds.
+
+/** The most that a node adds to a bound, and what a rule set does with flags. */
+export const RULE_SETS = { hh: { weight: 1, flags: false }, manne: { weight: 3, flags: true } };
+
+const NOBODY = 0;
+
+export class Machine {
+  constructor(rules, nodes) {
+    this.rules = rules;
+    this.nodes = nodes;
+    this.flags = RULE_SETS[rules].flags;
+    this.load({ pointers: new Int32Array(nodes + 1), flags: new Uint8Array(nodes + 1), ends: new Int32Array(0) });
+  }
+
+  /** What `load` makes the same state of. */
+  snapshot() {
+    const ends = new Int32Array(2 * this.edgeCount);
+    this.edges().forEach(([v, w], at) => ends.set([v, w], 2 * at));
+    return { pointers: this.pointer.slice(), flags: this.flag.slice(), ends };
+  }
+
+  load({ pointers, flags, ends }) {
+    this.pointer = pointers.slice();
+    this.flag = flags.slice();
+    this.neighbours = Array.from({ length: this.nodes + 1 }, () => new Set());
+    for (let at = 0; at < ends.length; at += 2) {
+      this.neighbours[ends[at]].add(ends[at + 1]);
+      this.neighbours[ends[at + 1]].add(ends[at]);
+    }
+    this.edgeCount = ends.length / 2;
+    this.recount();
+  }
+
+  /** Finds all counts anew. */
+  recount() {
+    this.suitors = new Int32Array(this.nodes + 1);
+    this.open = new Int32Array(this.nodes + 1);
+    this.rule = new Array(this.nodes + 1).fill(null);
+    this.openEdges = this.nodeCharges = this.pairCount = this.enabledCount = 0;
+    for (let v = 1; v <= this.nodes; v += 1) {
+      if (this.pointer[v] !== NOBODY) {
+        this.suitors[this.pointer[v]] += 1;
+      }
+      for (const w of this.neighbours[v]) {
+        this.open[v] += this.isOpenTo(w, v) ? 1 : 0;
+      }
+    }
+    for (let v = 1; v <= this.nodes; v += 1) {
+      this.look(v);
+      this.nodeCharges += this.nodeCharge(v);
+      this.pairCount += this.partner(v) > v ? 1 : 0;
+      for (const w of this.neighbours[v]) {
+        this.openEdges += v < w && !this.isClosed(v, w) ? 1 : 0;
+      }
+    }
+  }
+
+  /** All edges, each with its lower end first. */
+  edges() {
+    const found = [];
+    for (let v = 1; v <= this.nodes; v += 1) {
+      for (const w of this.neighbours[v]) {
+        if (v < w) {
+          found.push([v, w]);
+        }
+      }
+    }
+    return found;
+  }
+
+  /** Whom v points at and is pointed at by, or 0. */
+  partner(v) {
+    const w = this.pointer[v];
+    return w !== NOBODY && this.pointer[w] === v ? w : NOBODY;
+  }
+
+  isMarried(v) {
+    return this.partner(v) !== NOBODY;
+  }
+
+  /** Whether v may seduce its neighbour w, where v is free to. */
+  isOpenTo(w, v) {
+    return this.pointer[w] === NOBODY && (!this.flags || (this.flag[w] === 0 && w > v));
+  }
+
+  /** The rule that is enabled at v, or null. */
+  ruleAt(v) {
+    if (this.flags && this.isMarried(v) !== (this.flag[v] === 1)) {
+      return "update";
+    }
+    const w = this.pointer[v];
+    if (w === NOBODY) {
+      if (this.suitors[v] > 0) {
+        return "marry";
+      }
+      return this.open[v] > 0 ? "seduce" : null;
+    }
+    const gone = this.flags ? this.flag[w] === 1 || w < v : this.pointer[w] !== NOBODY;
+    return this.pointer[w] !== v && gone ? "abandon" : null;
+  }
+
+  isCourted(w) {
+    return this.pointer[w] === NOBODY && this.suitors[w] > 0;
+  }
+
+  awaits(v, w) {
+    return this.pointer[v] === w && this.pointer[w] === NOBODY;
+  }
+
+  /** Whether the edge from v to w adds nothing to the charge. */
+  isClosed(v, w) {
+    if (this.isMarried(v) || this.isMarried(w)) {
+      return true;
+    }
+    if (this.flags) {
+      const [low, high] = v < w ? [v, w] : [w, v];
+      return this.pointer[low] === high && this.flag[high] === 0;
+    }
+    return this.awaits(v, w) || this.awaits(w, v) || (this.isCourted(v) && this.isCourted(w));
+  }
+
+  /** What v adds to the charge beside the open edges. */
+  nodeCharge(v) {
+    const married = this.isMarried(v);
+    const unanswered = this.pointer[v] !== NOBODY && !married ? 1 : 0;
+    if (!this.flags) {
+      return unanswered;
+    }
+    return unanswered + (this.flag[v] === 1 ? (married ? 0 : 2) : 1);
+  }
+
+  get charge() {
+    return 2 * this.openEdges + this.nodeCharges;
+  }
+
+  get bound() {
+    return 2 * this.edgeCount + RULE_SETS[this.rules].weight * this.nodes;
+  }
+
+  /** Looks again which rule is enabled at v. */
+  look(v) {
+    const rule = this.ruleAt(v);
+    this.enabledCount += (rule ? 1 : 0) - (this.rule[v] ? 1 : 0);
+    this.rule[v] = rule;
+  }
+
+  /** Adds `sign` times what these nodes and their edges count for. */
+  count(touched, sign) {
+    touched.forEach((v, at) => {
+      this.nodeCharges += sign * this.nodeCharge(v);
+      const w = this.partner(v);
+      this.pairCount += w !== NOBODY && !touched.slice(0, at).includes(w) ? sign : 0;
+      for (const x of this.neighbours[v]) {
+        const counted = at > 0 && (x === touched[0] || (at > 1 && x === touched[1]));
+        this.openEdges += !counted && !this.isClosed(v, x) ? sign : 0;
+      }
+    });
+  }
+
+  /** The nodes whose edges may count otherwise once v points at `target`: v, and a target that is married or courted then and
+   * not before, or the other way round. */
+  touchedBy(v, target) {
+    const old = this.pointer[v];
+    const turns = (w, suitors) => this.pointer[w] === v || (this.pointer[w] === NOBODY && this.suitors[w] === suitors);
+    const touched = [v];
+    if (old !== target && old !== NOBODY && turns(old, 1)) {
+      touched.push(old);
+    }
+    if (old !== target && target !== NOBODY && turns(target, 0)) {
+      touched.push(target);
+    }
+    return touched;
+  }
+
+  /** Writes v's registers; `target` is a neighbour, or 0. */
+  write(v, target, flag) {
+    const old = this.pointer[v];
+    const touched = this.touchedBy(v, target);
+    this.count(touched, -1);
+    this.suitors[old] -= old === NOBODY ? 0 : 1;
+    this.suitors[target] += target === NOBODY ? 0 : 1;
+    const shown = [...this.neighbours[v]];
+    const opened = shown.map((w) => this.isOpenTo(v, w));
+    this.pointer[v] = target;
+    this.flag[v] = flag;
+    shown.forEach((w, at) => {
+      this.open[w] += (this.isOpenTo(v, w) ? 1 : 0) - (opened[at] ? 1 : 0);
+    });
+    this.count(touched, 1);
+    this.look(v);
+    shown.forEach((w) => this.look(w));
+  }
+
+  link(v, w) {
+    this.neighbours[v].add(w);
+    this.neighbours[w].add(v);
+    this.edgeCount += 1;
+    this.joinOrPart(v, w, 1);
+  }
+
+  unlink(v, w) {
+    if (this.pointer[v] === w) {
+      this.write(v, NOBODY, this.flag[v]);
+    }
+    if (this.pointer[w] === v) {
+      this.write(w, NOBODY, this.flag[w]);
+    }
+    this.neighbours[v].delete(w);
+    this.neighbours[w].delete(v);
+    this.edgeCount -= 1;
+    this.joinOrPart(v, w, -1);
+  }
+
+  /** Counts an edge that no pointer crosses. */
+  joinOrPart(v, w, sign) {
+    this.openEdges += this.isClosed(v, w) ? 0 : sign;
+    this.open[v] += this.isOpenTo(w, v) ? sign : 0;
+    this.open[w] += this.isOpenTo(v, w) ? sign : 0;
+    this.look(v);
+    this.look(w);
+  }
+
+  /** All moves at once: what each writes is read in the state before the step. */
+  step(moves) {
+    const writes = moves.map(({ node, rule, target }) =>
+      rule === "update" ? [node, this.pointer[node], this.isMarried(node) ? 1 : 0] : [node, target, this.flag[node]],
+    );
+    for (const [node, target, flag] of writes) {
+      this.write(node, target, flag);
+    }
+  }
+
+  status(spent) {
+    const { nodes, edgeCount, pairCount, enabledCount, charge } = this;
+    return `nodes=${nodes} edges=${edgeCount} pairs=${pairCount} enabled=${enabledCount} charge=${charge} spent=${spent}`;
+  }
+}

@@ -1,0 +1,84 @@
+// What stands beside the drawing: the entry with its reply, the entries near it, and the state in numbers.
+import { byId, spaced } from "./svg.mjs";
+
+const NEAR = 4;
+const LONGEST = 400;
+
+function cut(text) {
+  return text.length > LONGEST ? `${text.slice(0, LONGEST)} … (${spaced(text.length)} characters)` : text;
+}
+
+function item(transcript, number, current) {
+  const made = document.createElement("li");
+  const button = document.createElement("button");
+  const entry = number === 0 ? null : transcript.entry(number);
+  button.type = "button";
+  button.dataset.entry = number;
+  button.textContent = entry ? cut(`${entry.number} ${entry.event} = ${entry.reply}`) : "0 the opening state";
+  button.tabIndex = -1;
+  made.classList.toggle("refused", Boolean(entry?.refused));
+  made.classList.toggle("disturbs", Boolean(entry?.disturbs));
+  if (number === current) {
+    button.setAttribute("aria-current", "true");
+  }
+  made.append(button);
+  return made;
+}
+
+export class Panel {
+  constructor(replay, goTo) {
+    this.replay = replay;
+    byId("near").addEventListener("click", (event) => {
+      const button = event.target.closest("button");
+      if (button) {
+        goTo(Number(button.dataset.entry));
+      }
+    });
+  }
+
+  show(machine, number, entry) {
+    this.showEntry(number, entry);
+    this.showNear(number);
+    const { series } = this.replay;
+    const spent = series.spent[number];
+    const epoch = this.replay.epochAt(number);
+    const figures = {
+      nodes: machine.nodes,
+      edges: machine.edgeCount,
+      pairs: machine.pairCount,
+      enabled: machine.enabledCount,
+      charge: machine.charge,
+      spent,
+      sum: spent + machine.charge,
+      bound: machine.bound,
+      epoch: epoch.start,
+    };
+    for (const [name, value] of Object.entries(figures)) {
+      const place = byId(name);
+      place.textContent = spaced(value);
+      place.dataset.value = value;
+    }
+    byId("quiet").textContent = machine.enabledCount === 0 ? "stable" : "not stable";
+    byId("quiet").classList.toggle("stable", machine.enabledCount === 0);
+  }
+
+  showEntry(number, entry) {
+    byId("number").textContent = number;
+    byId("event").textContent = entry ? cut(entry.event) : "the opening state";
+    byId("reply").textContent = entry ? cut(entry.reply) : "no entry yet";
+    byId("entry").classList.toggle("refused", Boolean(entry?.refused));
+    byId("entry").classList.toggle("disturbs", Boolean(entry?.disturbs));
+    byId("kind").textContent = entry?.refused ? "⊘ refused" : entry?.disturbs ? "↯ disturbance" : "";
+  }
+
+  showNear(number) {
+    const { transcript } = this.replay;
+    const first = Math.max(0, Math.min(number - NEAR, transcript.length - 2 * NEAR));
+    const last = Math.min(transcript.length, first + 2 * NEAR);
+    const items = [];
+    for (let k = first; k <= last; k += 1) {
+      items.push(item(transcript, k, number));
+    }
+    byId("near").replaceChildren(...items);
+  }
+}

@@ -1,0 +1,93 @@
+// Where the page stands in the transcript: slider, buttons, keys, and playing on by itself.
+import { byId } from "./svg.mjs";
+
+const FAR = 10;
+
+export class Player {
+  /** `show` draws an entry; `replay` knows where disturbances are. */
+  constructor(replay, show) {
+    Object.assign(this, { replay, show, last: replay.transcript.length, at: 0, since: null });
+    byId("slider").max = byId("go").max = this.last;
+    byId("slider").addEventListener("input", () => this.goTo(Number(byId("slider").value)));
+    byId("go").addEventListener("change", () => this.goTo(Number(byId("go").value)));
+    this.actions = {
+      first: () => this.goTo(0),
+      back: () => this.goTo(this.at - 1),
+      play: () => this.toggle(),
+      forward: () => this.goTo(this.at + 1),
+      last: () => this.goTo(this.last),
+      previous: () => this.goTo(replay.previousDisturbance(this.at) ?? 0),
+      next: () => this.goTo(replay.nextDisturbance(this.at) ?? this.last),
+      "far-back": () => this.goTo(this.at - FAR),
+      "far-forward": () => this.goTo(this.at + FAR),
+    };
+    for (const name of ["first", "back", "play", "forward", "last", "previous", "next"]) {
+      byId(name).addEventListener("click", this.actions[name]);
+    }
+  }
+
+  /** Goes to an entry by hand: playing stops. */
+  goTo(number) {
+    this.pause();
+    this.move(number);
+  }
+
+  move(number) {
+    this.at = Math.min(this.last, Math.max(0, Math.round(number) || 0));
+    byId("slider").value = byId("go").value = this.at;
+    byId("slider").setAttribute("aria-valuetext", `entry ${this.at} of ${this.last}`);
+    byId("first").disabled = byId("back").disabled = byId("previous").disabled = this.at === 0;
+    byId("last").disabled = byId("forward").disabled = byId("next").disabled = this.at === this.last;
+    this.show(this.at);
+  }
+
+  get speed() {
+    return Number(byId("speed").value);
+  }
+
+  toggle() {
+    if (this.since !== null) {
+      this.pause();
+      return;
+    }
+    if (this.at === this.last) {
+      this.move(0);
+    }
+    this.since = performance.now();
+    this.owed = 0;
+    this.showPlaying();
+    requestAnimationFrame((now) => this.tick(now));
+  }
+
+  pause() {
+    if (this.since !== null) {
+      this.since = null;
+      this.showPlaying();
+    }
+  }
+
+  showPlaying() {
+    const playing = this.since !== null;
+    byId("play").textContent = playing ? "❚❚ pause" : "▶ play";
+    byId("entry").setAttribute("aria-live", playing ? "off" : "polite");
+  }
+
+  /** One frame: as many entries as are due by now. */
+  tick(now) {
+    if (this.since === null) {
+      return;
+    }
+    this.owed += (Math.max(0, now - this.since) / 1000) * this.speed;
+    this.since = Math.max(now, this.since);
+    const due = Math.floor(this.owed);
+    this.owed -= due;
+    if (due > 0) {
+      this.move(this.at + due);
+    }
+    if (this.at === this.last) {
+      this.pause();
+    } else {
+      requestAnimationFrame((then) => this.tick(then));
+    }
+  }
+}

@@ -1,0 +1,21 @@
+// Elements of the page.
+
+/** A new SVG element with these attributes, as the last child of `parent`. */
+export function add(parent, name, attributes = {}, text = "") {
+  const made = document.createElementNS("http://www.w3.org/2000/svg", name);
+  for (const [key, value] of Object.entries(attributes)) {
+    made.setAttribute(key, value);
+  }
+  made.textContent = text;
+  parent.append(made);
+  return made;
+}
+
+export function byId(id) {
+  return document.getElementById(id);
+}
+
+/** A number with thin spaces between thousands. */
+export function spaced(number) {
+  return String(number).replace(/\B(?=(\d{3})+$)/g, "\u202f");
+}

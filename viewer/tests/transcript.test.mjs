@@ -1,0 +1,51 @@
+import assert from "node:assert/strict";
+import test from "node:test";
+import { movesOf, nodesOf, readEntry, Transcript, wordsOf } from "../src/transcript.mjs";
+
+test("an entry in its parts", () => {
+  assert.deepEqual(readEntry("12 step 2>3 4 = 2:seduce>3 4:update"), {
+    number: 12,
+    event: "step 2>3 4",
+    reply: "2:seduce>3 4:update",
+    kind: "step",
+    refused: false,
+    disturbs: false,
+  });
+  assert.deepEqual(readEntry("3 enabled = none"), { number: 3, event: "enabled", reply: "none", kind: "enabled", refused: false, disturbs: false });
+  assert.deepEqual(wordsOf(readEntry("1 point 1 - = ok")), ["1", "-"]);
+});
+
+test("a status has equal signs in its reply", () => {
+  const entry = readEntry("7 status = nodes=2 edges=1 pairs=1 enabled=0 charge=0 spent=2");
+  assert.equal(entry.event, "status");
+  assert.equal(entry.reply, "nodes=2 edges=1 pairs=1 enabled=0 charge=0 spent=2");
+});
+
+test("which entries disturb", () => {
+  const lines = ["1 link 1 2 = ok", "2 unlink 1 2 = ok", "3 point 1 - = ok", "4 flag 1 0 = ok", "5 link 1 1 = refused 2 self-loop", "6 show 1 = -", "7 step 1 = 1:update"];
+  assert.deepEqual(lines.map((line) => readEntry(line).disturbs), [true, true, true, true, false, false, false]);
+  assert.equal(readEntry(lines[4]).refused, true);
+});
+
+test("the moves of a step", () => {
+  const moves = movesOf(readEntry("3 step 3 1 = 1:seduce>2 3:update"));
+  assert.deepEqual(moves, [{ node: 1, rule: "seduce", target: 2 }, { node: 3, rule: "update", target: 0 }]);
+});
+
+test("the nodes that an entry names", () => {
+  const named = (line) => nodesOf(readEntry(line));
+  assert.deepEqual(named("1 link 2 1 = ok"), [2, 1]);
+  assert.deepEqual(named("1 point 2 1 = ok"), [2]);
+  assert.deepEqual(named("1 flag 2 1 = ok"), [2]);
+  assert.deepEqual(named("1 step 4>2 3 = 3:update 4:seduce>2"), [3, 4]);
+  assert.deepEqual(named("1 step 4>2 3 = refused 11 not-enabled"), [4, 3]);
+  assert.deepEqual(named("1 step = refused 8 empty-choice"), []);
+  assert.deepEqual(named("1 enabled = 1:marry"), []);
+});
+
+test("a transcript's lines by number", () => {
+  const transcript = new Transcript("matching manne 65535\n1 show 1 = -\n2 enabled = none\n");
+  assert.deepEqual([transcript.rules, transcript.nodes, transcript.length], ["manne", 65535, 2]);
+  assert.equal(transcript.entry(2).kind, "enabled");
+  assert.equal(new Transcript("matching hh 0\n").length, 0);
+});
