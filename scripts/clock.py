@@ -1,0 +1,70 @@
+"""How long a build has taken, and about how long the rest of it may."""
+import os
+import time
+
+# What a crate takes that has no line in the file, for each of its lines of code, in seconds.
+A_LINE = 0.3
+
+
+def measured_seconds():
+    """What each crate took, on one processor of a machine of 2026."""
+    found = {}
+    with open(f"{os.path.dirname(os.path.abspath(__file__))}/build_seconds") as file:
+        for line in file:
+            words = line.partition("#")[0].split()
+            if words:
+                found[words[0]] = float(words[1])
+    return found
+
+
+class Clock:
+    """A clock for the build of some crates: it guesses by the seconds that each took when it was measured, and by how
+    much slower, or faster, those crates were that have been built now."""
+
+    def __init__(self, crates, processors):
+        measured = measured_seconds()
+        self.crates, self.processors, self.started = crates, processors, time.monotonic()
+        self.seconds = {it: measured.get(it.name) or 10 + A_LINE * it.count(rb"\n") for it in crates}
+        self.begun, self.done = {}, set()
+        self.took, self.guessed = 0.0, 0.0
+
+    def begins(self, crate):
+        """Notes that a crate begins, and gives the line that says so."""
+        self.begun[crate] = time.monotonic()
+        so_far, rest = (self.begun[crate] - self.started) / 60, self.rest() / 60
+        place = f"[{len(self.begun)}/{len(self.crates)}] {crate.name}"
+        return f"{place}, {minutes(so_far)} so far, some {minutes(rest)} more on this machine"
+
+    def ends(self, crate):
+        self.done.add(crate)
+        self.took += time.monotonic() - self.begun[crate]
+        self.guessed += self.seconds[crate]
+
+    def pace(self):
+        """How many seconds here make one as it was measured; at the start one."""
+        return (self.took + 60) / (self.guessed + 60)
+
+    def left(self, crate):
+        """What is left of a crate, in seconds as they were measured."""
+        if crate in self.done:
+            return 0.0
+        passed = time.monotonic() - self.begun[crate] if crate in self.begun else 0.0
+        return max(0.0, self.seconds[crate] - passed / self.pace())
+
+    def chains(self):
+        """Of each crate what is left of it and of the longest chain of crates that wait for it."""
+        found = {}
+        for crate in reversed(self.crates):
+            above = [found[it] for it in found if crate in it.deps]
+            found[crate] = self.left(crate) + max(above, default=0.0)
+        return found
+
+    def rest(self):
+        """Seconds until all is built: of the longest chain, or of all that is left where that takes longer."""
+        shared = sum(map(self.left, self.crates)) / self.processors
+        return self.pace() * max(shared, *self.chains().values())
+
+
+def minutes(number):
+    whole = round(number)
+    return "1 minute" if whole == 1 else f"{whole} minutes"
