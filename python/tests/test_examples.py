@@ -89,6 +89,16 @@ class Examples(Timed):
         for name in ("link_schedule.py", "backup_partners.py"):
             self.assertEqual(printed(name), printed(name, seed="2"))
 
+    def test_the_page_prints_what_it_says(self):
+        with open(os.path.join(TOP, "docs", "PYTHON.md")) as file:
+            code, said = re.search(r"```python\n(.*?)```.*?```\n(.*?)```", file.read(), re.DOTALL).groups()
+        words = [sys.executable, "-c", code]
+        paths = dict(os.environ, PYTHONPATH=os.path.join(TOP, "python"))
+        done = subprocess.run(words, env=paths, cwd="/", capture_output=True, text=True)
+        self.assertEqual((done.returncode, done.stderr, done.stdout), (0, "", said))
+        # by hand: 1 and 2 seduce, 3 marries 2, 2 and 3 update, and 1 abandons; 2 links and 3 nodes are a charge of 7
+        self.assertEqual(said.splitlines()[0], "6 moves of 7 at most: ('bob', 'cleo')")
+
 
 if __name__ == "__main__":
     unittest.main()

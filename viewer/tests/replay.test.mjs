@@ -1,4 +1,4 @@
-// The replay against what stands in the repository's case files, examples and README: replies that were found by hand.
+// The replay against what stands in the repository's case files, examples, README and docs/USE.md: replies that were found by hand.
 import assert from "node:assert/strict";
 import test from "node:test";
 import { readFileSync } from "node:fs";
@@ -89,7 +89,7 @@ test("there are pictures to compare with", () => {
   assert.ok([...picturesOfCases()].length > 8);
 });
 
-test("the budget of README's ring of three: from its bound 9 to silence in 3 moves", () => {
+test("the budget of the ring of three of docs/USE.md: from its bound 9 to silence in 3 moves", () => {
   const events = ["link 1 2", "link 2 3", "link 1 3", "point 1 2", "point 2 3", "point 3 1"].map((event, at) => `${at + 1} ${event} = ok`);
   const text = ["matching hh 3", ...events, "7 step 1 = 1:abandon", "8 step 2 = 2:abandon", "9 step 1 = 1:marry>3", ""].join("\n");
   const { series, disturbances } = new Replay(new Transcript(text));
@@ -99,7 +99,7 @@ test("the budget of README's ring of three: from its bound 9 to silence in 3 mov
   assert.deepEqual(disturbances, [1, 2, 3, 4, 5, 6]);
 });
 
-test("the bounds that README tells of a network of 1,000 nodes and 3,000 edges", () => {
+test("the bounds that docs/USE.md tells of a network of 1,000 nodes and 3,000 edges", () => {
   for (const [rules, bound] of [["hh", 7000], ["manne", 9000]]) {
     const links = Array.from({ length: 3000 }, (_, at) => `${at + 1} link ${(at % 1000) + 1} ${((at + 1 + Math.floor(at / 1000)) % 1000) + 1} = ok`);
     const replay = new Replay(new Transcript(`matching ${rules} 1000\n${links.join("\n")}\n`));
