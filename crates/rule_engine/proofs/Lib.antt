@@ -12,3 +12,4 @@ pub mod Marked
 pub mod Ascending
 pub mod Moments
 pub mod Counted
+pub mod NextVerdict

@@ -1,9 +1,7 @@
--- The moves of a choice: the verdict of each item, and what the moves write.
+-- The moves of a choice: the verdict of each item.
 use Rattle.std.specs.Prelude.{◌≡◌, ℕ, ◌+◌, Bool, true, false, ◌&&◌, List, [], ◌∷◌, ◌++◌, length, Option, Some, None, if◌then◌else◌, nat_eq, nat_lt}
 use Rattle.std.specs.List.{list_any, filter_map}
 use Rattle.std.specs.Option.{option_or}
-use Rattle.rule_machine.specs.declared.act.Act.{Act}
-use Rattle.rule_machine.specs.declared.act.Act.TheVariants.{Update, Marry, Seduce, Abandon}
 use Rattle.rule_machine.specs.declared.choice.Item.{Item}
 use Rattle.rule_machine.specs.declared.moved.Moved.{Moved}
 use Rattle.rule_machine.specs.declared.verdict.Verdict.{Verdict}
@@ -11,7 +9,7 @@ use Rattle.rule_machine.specs.declared.verdict.Outcome.{Outcome}
 use Rattle.rule_machine.specs.declared.verdict.Outcome.TheVariants as outcome
 use Rattle.rule_machine.specs.declared.refusal.Refusal.{Refusal}
 use Rattle.rule_machine.specs.declared.refusal.Refusal.TheVariants.{UnknownNode, EmptyChoice, NotCentral, ChosenTwice, NotEnabled, BadTarget}
-use Rattle.rule_machine.specs.State.{State, Registers, with_pointer, with_flag, holds_at, points, pointer_of, married}
+use Rattle.rule_machine.specs.State.{State}
 use Rattle.rule_machine.specs.RuleTable.{RuleTable}
 use Rattle.rule_machine.specs.Refuse.{step_refusal}
 use Rattle.rule_machine.specs.Least.{outcome_of, move_in, least_moves}
@@ -59,33 +57,3 @@ moves_of verdicts = filter_map (λ d. move_in d.outcome) verdicts
 abbrev pub AreLeast : List Verdict → List Moved → Type 0
 AreLeast verdicts moves =
     (t : RuleTable) (s : State) (items : List Item) → verdicts ≡ verdicts_of t s items → step_refusal t s items ≡ None → moves ≡ least_moves t s items
-
-abbrev pub flag_by : State → Registers → ℕ → Act → Registers
-flag_by before r v Update = with_flag r v (married before v)
-flag_by before r v Marry = r
-flag_by before r v Seduce = r
-flag_by before r v Abandon = r
-
-abbrev pub pointer_by : Registers → ℕ → Act → Option ℕ → Registers
-pointer_by r v Update target = r
-pointer_by r v Marry target = with_pointer r v target
-pointer_by r v Seduce target = with_pointer r v target
-pointer_by r v Abandon target = with_pointer r v None
-
--- the flag that a move writes, read from these registers
-abbrev pub flag_read_by : Registers → ℕ → Act → Registers
-flag_read_by r v Update = with_flag r v (holds_at (λ w. points r w v) (pointer_of r v))
-flag_read_by r v Marry = r
-flag_read_by r v Seduce = r
-flag_read_by r v Abandon = r
-
-abbrev pub flag_read : Registers → Moved → Registers
-flag_read r m = flag_read_by r m.node m.act
-
--- the flag that a move writes, read from the state before
-abbrev pub flag_written : State → Registers → Moved → Registers
-flag_written before r m = flag_by before r m.node m.act
-
--- the pointer that it writes
-abbrev pub pointer_written : Registers → Moved → Registers
-pointer_written r m = pointer_by r m.node m.act m.target

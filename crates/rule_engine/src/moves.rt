@@ -3,7 +3,8 @@
 ghost use Rattle.std.specs.Prelude.{◌≡◌, All, IfOk, fold};
 ghost use Rattle.machine_laws.specs.Keeps.{IsMoveIn};
 ghost use Rattle.rule_machine.specs.Least.{move_in as move_of_outcome};
-ghost use Rattle.rule_engine.specs.Choosing.{AreLeast, moves_of, flag_read, pointer_written};
+ghost use Rattle.machine_laws.specs.Passes.{flag_read, pointer_written};
+ghost use Rattle.rule_engine.specs.Choosing.{AreLeast, moves_of};
 
 use indexed_state::IndexedState;
 use rule_machine::{Act, Listing, Moved, Outcome, Verdict, Want};

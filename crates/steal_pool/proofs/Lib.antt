@@ -1,4 +1,3 @@
-pub mod NextVerdict
 pub mod Laying
 mod EachPlace
 pub mod Callers

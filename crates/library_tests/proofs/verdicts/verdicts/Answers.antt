@@ -1,5 +1,5 @@
 use Rattle.std.proofs.Common.{◌<◌, length, arith}
-use Rattle.library_tests.proofs.NextVerdict.{one_more}
+use Rattle.rule_engine.proofs.NextVerdict.{one_more}
 use Rattle.library_tests.proofs.verdicts.verdicts.Goals as goal
 
 pub loop-place-preserved : goal.loop-place-preserved

@@ -1,5 +1,5 @@
 use Rattle.std.proofs.Common.{◌≡◌, fold, drop}
-use Rattle.rule_engine.specs.Choosing.{pointer_written}
+use Rattle.machine_laws.specs.Passes.{pointer_written}
 use Rattle.rule_engine.proofs.moves.write_pointers.Given as goal
 
 abbrev pub invariant-loop-moved : goal.invariant-loop-moved

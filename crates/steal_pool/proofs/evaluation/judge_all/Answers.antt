@@ -1,5 +1,5 @@
 use Rattle.std.proofs.Common.{◌<◌, length, arith}
-use Rattle.steal_pool.proofs.NextVerdict.{one_more}
+use Rattle.rule_engine.proofs.NextVerdict.{one_more}
 use Rattle.steal_pool.proofs.evaluation.judge_all.Goals as goal
 
 pub loop-place-preserved : goal.loop-place-preserved
