@@ -25,6 +25,7 @@ pub fn settle<R: Rules, W: Wait>(
     ensures run { IfOk result (λ journal. IsLog R.table (log_of journal)) }
     ensures size { IfOk result (λ journal. (node_count journal.state.network ≡ nodes_of net) × (journal.limit ≡ limit_of net)) }
     ensures fault { IfErr result (λ unsettled. Unsettles unsettled.journal.entries clerks.items unsettled.why) }
+    ensures back { IfErr result (λ unsettled. IsLog R.table (log_of unsettled.journal) × (node_count unsettled.journal.state.network ≡ nodes_of net) × (unsettled.journal.limit ≡ limit_of net)) }
 {
     let alloc = net.alloc();
     let journal = net.into_journal(rt);
