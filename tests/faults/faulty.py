@@ -54,20 +54,20 @@ class Faulty:
         """Whether the program takes its memory from the C library."""
         return b"m" in self.run(["--version"], REFUSE_MEMORY=1).met
 
-    def run(self, words, text=b"", **faults):
+    def run(self, words, text=b"", err=subprocess.PIPE, **faults):
         told = os.path.join(self.folder, "told")
         with open(told, "wb"):
             pass
         environment = {**os.environ, "LD_PRELOAD": self.library, "FAULT_TOLD": told}
         environment.update({name: str(number) for name, number in faults.items()})
-        status, out, err = self.ended(words, text, environment)
+        status, out, err = self.ended(words, text, environment, err)
         with open(told, "rb") as file:
             return Ended(status, out, err, file.read(1000).removesuffix(b"e"))
 
-    def ended(self, words, text, environment):
-        """How a run ended; its status is None where it did not in the time it may take."""
+    def ended(self, words, text, environment, err=subprocess.PIPE):
+        """How a run ended; its status is None where it did not in the time it may take. What is told goes to `err`, and is None where that is a file."""
         try:
-            made = subprocess.run([self.program, *words], input=text, capture_output=True, timeout=self.wait, env=environment)
+            made = subprocess.run([self.program, *words], input=text, stdout=subprocess.PIPE, stderr=err, timeout=self.wait, env=environment)
         except subprocess.TimeoutExpired as late:
             return None, late.stdout or b"", late.stderr or b""
         return made.returncode, made.stdout, made.stderr

@@ -5,6 +5,7 @@
 
    REFUSE_MEMORY=N   the N-th malloc, calloc, realloc, reallocarray, aligned_alloc, memalign or posix_memalign answers null
    REFUSE_THREAD=N   the N-th pthread_create answers EAGAIN
+   NO_WORDS=1        the program is given no words, not even its name, as kernels before 5.18 allow
    READ_STOPS=K      reads give K bytes, and the next one fails with the error number READ_ERROR
    WRITE_STOPS=K     writes to standard output take K bytes, and the next one fails with WRITE_ERROR, or takes none where that is 0 */
 #define _GNU_SOURCE
@@ -90,8 +91,9 @@ int __libc_start_main(int (*main)(int, char **, char **), int count, char **word
 {
     int (*start)(int (*)(int, char **, char **), int, char **, void (*)(void), void (*)(void), void (*)(void), void *) =
         dlsym(RTLD_NEXT, "__libc_start_main");
+    int skipped = number("NO_WORDS", 0) ? count : 0;
     real_main = main;
-    return start(counted_main, count, words, init, fini, loader_fini, stack_end);
+    return start(counted_main, count - skipped, words + skipped, init, fini, loader_fini, stack_end);
 }
 
 static int is_refused(void)

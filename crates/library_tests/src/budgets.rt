@@ -38,18 +38,22 @@ step 2 = 2:marry>1
 step 2 1 = 1:update 2:update
 ";
 
+/// Compares what a journal's moves since the last disturbance are, and its epochs.
+fn expect_moves<R: Rules>(rt: &impl Abort, journal: &Journal<R>, spent: u32, wanted: &[Epoch]) {
+    assert!(rt; journal.spent() == spent);
+    expect_epochs(rt, journal, wanted);
+}
+
 /// Refusals and questions begin no epoch.
 #[test]
 fn an_epoch_begins_at_a_disturbance(rt: HostRuntime) {
     let [start, pair, parted] = [epoch(0, 0, 0, 2), epoch(1, 4, 1, 2), epoch(8, 0, 0, 2)];
     let mut journal = journal_of::<Manne>(&rt, rt.alloc(), 2, 9);
-    expect_epochs(&rt, &journal, &[start]);
+    expect_moves(&rt, &journal, 0, &[start]);
     play(&rt, rt.alloc(), &mut journal, A_PAIR);
-    assert!(rt; journal.spent() == 4);
-    expect_epochs(&rt, &journal, &[start, pair]);
+    expect_moves(&rt, &journal, 4, &[start, pair]);
     play(&rt, rt.alloc(), &mut journal, "unlink 1 2 = ok");
-    assert!(rt; journal.spent() == 0);
-    expect_epochs(&rt, &journal, &[start, pair, parted]);
+    expect_moves(&rt, &journal, 0, &[start, pair, parted]);
 }
 
 #[test]

@@ -1,10 +1,8 @@
 //! The lines of a transcript as values.
 
-use crate::helpers::{named, tells};
-use crate::machines::{Machine, play};
+use crate::helpers::tells;
 use entry_grammar::{EntryFault, entry_text, header_text, read_entry, read_header};
-use log_entry::Entry;
-use rule_machine::{Act, Choice, Event, Item, Listing, Moved, Refusal, Reply, RuleSet};
+use rule_machine::RuleSet;
 use std::alloc::Global;
 use std::process::Abort;
 
@@ -38,59 +36,6 @@ fn entries_are_written_back(rt: HostRuntime) {
     ] {
         write_back(&rt, rt.alloc(), line, number);
     }
-}
-
-/// The parts that an entry is compared with.
-#[derive(Drop)]
-struct Parts<'a> {
-    event: &'a Event,
-    reply: &'a Reply,
-}
-
-impl Machine for Parts<'_> {
-    fn answers(&mut self, _rt: &impl Abort, _alloc: Global, entry: &Entry) -> bool {
-        entry.event() == self.event && entry.reply() == self.reply
-    }
-
-    fn charge(&self) -> Option<u64> {
-        None
-    }
-}
-
-/// Compares the entry of a row with its parts.
-fn reads(rt: &impl Abort, alloc: Global, row: &str, event: &Event, reply: &Reply) {
-    play(rt, alloc, &mut Parts { event, reply }, row);
-}
-
-#[test]
-fn plain_entries_are_read(rt: HostRuntime) {
-    let link = Event::Link(named(&rt, 1), named(&rt, 1));
-    let refused = Reply::Refused(Refusal::SelfLoop);
-    reads(
-        &rt,
-        rt.alloc(),
-        "link 1 1 = refused 2 self-loop",
-        &link,
-        &refused,
-    );
-    let quiet = Reply::EnabledAre(Listing::from_vec(Vec::new(rt.alloc())));
-    reads(&rt, rt.alloc(), "enabled = none", &Event::Enabled, &quiet);
-}
-
-#[test]
-fn a_step_is_read(rt: HostRuntime) {
-    let node = named(&rt, 2);
-    let item = Item { node, wish: None };
-    let items = Vec::from_slice(rt.alloc(), &[item]).expect(&rt, "memory");
-    let step = Event::Step(Choice::new(items).expect(&rt, "a choice"));
-    let made = Moved {
-        node,
-        act: Act::Marry,
-        target: Some(named(&rt, 3)),
-    };
-    let moves = Vec::from_slice(rt.alloc(), &[made]).expect(&rt, "memory");
-    let reply = Reply::Moves(Listing::from_vec(moves));
-    reads(&rt, rt.alloc(), "step 2 = 2:marry>3", &step, &reply);
 }
 
 /// Reads a header, and writes it back.

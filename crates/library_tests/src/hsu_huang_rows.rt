@@ -3,7 +3,7 @@
 use crate::all_machines::play_all;
 use crate::helpers::named;
 use crate::machines::{net_of, play};
-use rule_engine::{Act, GraphFault, Net, RuleSet};
+use rule_engine::{Act, Net, RuleSet};
 use rules_hsu_huang::HsuHuang;
 use std::process::Abort;
 
@@ -132,12 +132,17 @@ fn rows_are_answered(rt: HostRuntime) {
     }
 }
 
+/// Compares the rule that a node may move by.
+fn expect_guard(rt: &impl Abort, net: &Net<HsuHuang>, name: u32, rule: Option<Act>) {
+    assert!(rt; net.guard(named(rt, name)) == rule);
+}
+
 #[test]
 fn a_guard_is_the_nodes_rule(rt: HostRuntime) {
     let mut net = net_of::<HsuHuang>(&rt, rt.alloc(), 2);
     play(&rt, rt.alloc(), &mut net, "link 1 2 = ok\npoint 1 2 = ok");
     for (name, rule) in [(1, None), (2, Some(Act::Marry)), (3, None)] {
-        assert!(rt; net.guard(named(&rt, name)) == rule);
+        expect_guard(&rt, &net, name, rule);
     }
 }
 
@@ -156,13 +161,4 @@ fn the_parts_follow_the_rows(rt: HostRuntime) {
     expect_parts(&rt, &net, 1, true);
     play(&rt, rt.alloc(), &mut net, "unlink 1 2 = ok");
     expect_parts(&rt, &net, 0, false);
-}
-
-#[test]
-fn a_network_has_at_most_65535_nodes(rt: HostRuntime) {
-    let fault = Net::<HsuHuang>::new(rt.alloc(), 65_536).err();
-    assert!(rt; fault == Some(GraphFault::TooManyNodes));
-    let net = net_of::<HsuHuang>(&rt, rt.alloc(), 65_535);
-    assert!(rt; net.store().nodes() == 65_535);
-    assert!(rt; net.is_quiet());
 }

@@ -5,12 +5,12 @@ use crate::machines::{Machine, play};
 use crate::manne_rows::A_STAR;
 use crate::verdicts::verdicts;
 use log_entry::Entry;
-use rule_engine::{Choice, Event, GraphFault, Refusal, Reply, Rules, Verdict};
+use rule_engine::{Event, GraphFault, Rules};
 use rules_hsu_huang::HsuHuang;
 use rules_manne::Manne;
 use std::alloc::Global;
 use std::process::Abort;
-use step_log::{Journal, RecordFault, Recorder};
+use step_log::{Journal, RecordFault};
 
 impl<R: Rules> Machine for Journal<R> {
     fn answers(&mut self, rt: &impl Abort, _alloc: Global, entry: &Entry) -> bool {
@@ -58,9 +58,14 @@ fn expect_edges<R: Rules>(rt: &impl Abort, journal: &Journal<R>, edges: u32) {
     assert!(rt; journal.net().store().edges() == edges);
 }
 
+/// A journal of some nodes, if there may be so many.
+fn new_journal<R: Rules>(alloc: Global, nodes: u32) -> Result<Journal<R>, GraphFault> {
+    Journal::new(alloc, nodes)
+}
+
 #[test]
 fn an_event_is_an_entry_and_a_receipt(rt: HostRuntime) {
-    let mut journal = Journal::<HsuHuang>::new(rt.alloc(), 2).expect(&rt, "a journal");
+    let mut journal = new_journal::<HsuHuang>(rt.alloc(), 2).expect(&rt, "a journal");
     expect_last(&rt, &journal, 0);
     let rows = "link 1 2 = ok\nlink 2 1 = refused 3 already-linked";
     play(&rt, rt.alloc(), &mut journal, rows);
@@ -84,15 +89,6 @@ fn a_full_log_takes_no_event(rt: HostRuntime) {
     has_no_room(&rt, &mut journal, unlink);
     expect_last(&rt, &journal, 1);
     expect_edges(&rt, &journal, 1);
-}
-
-#[test]
-fn a_step_is_recorded_from_its_moves(rt: HostRuntime) {
-    let mut journal = journal_of::<Manne>(&rt, rt.alloc(), 2, 2);
-    let rows = "link 1 2 = ok\nstep 1 = 1:seduce>2";
-    play(&rt, rt.alloc(), &mut journal, rows);
-    let (one, two) = (named(&rt, 1), named(&rt, 2));
-    assert!(rt; journal.net().registers().points_at(one, two));
 }
 
 /// Whether a journal answers the step of a row so, recorded from its verdicts.
@@ -124,45 +120,13 @@ fn a_step_of_two_is_recorded_from_its_verdicts(rt: HostRuntime) {
 #[test]
 fn an_empty_step_is_recorded_from_no_verdict(rt: HostRuntime) {
     let mut journal = journal_of::<Manne>(&rt, rt.alloc(), 2, 1);
-    let nothing = Choice::new(Vec::new(rt.alloc())).expect(&rt, "a choice");
-    let verdicts: [Verdict; 0] = [];
-    assert!(rt; nothing.items().len() == 0);
-    let receipt = journal.record_step(nothing, &verdicts).expect(&rt, "room");
-    assert!(rt; receipt.reply == Reply::Refused(Refusal::EmptyChoice));
-    assert!(rt; journal.len() == 1);
+    let wanted = entry_of(&rt, rt.alloc(), "step = refused 8 empty-choice");
+    assert!(rt; answers_step(&rt, rt.alloc(), &mut journal, &wanted));
+    expect_last(&rt, &journal, 1);
 }
 
 #[test]
 fn a_journal_has_at_most_65535_nodes(rt: HostRuntime) {
-    let fault = Journal::<HsuHuang>::new(rt.alloc(), 65_536).err();
+    let fault = new_journal::<HsuHuang>(rt.alloc(), 65_536).err();
     assert!(rt; fault == Some(GraphFault::TooManyNodes));
-}
-
-/// Compares the number of the entry that an accepted event makes, or why there is none.
-fn logs<R: Rules>(
-    rt: &impl Abort,
-    recorder: &mut Recorder<R>,
-    event: &Event,
-    wanted: Result<u32, RecordFault>,
-) {
-    match recorder.log(event) {
-        Ok(answer) => assert!(rt; answer.reply == Reply::Accepted && wanted == Ok(answer.seq)),
-        Err(fault) => assert!(rt; wanted == Err(fault)),
-    }
-}
-
-#[test]
-fn an_entry_is_numbered_and_not_kept(rt: HostRuntime) {
-    let mut recorder = Recorder::<HsuHuang>::with_limit(rt.alloc(), 2, 1).expect(&rt, "memory");
-    assert!(rt; !recorder.is_full());
-    let link = Event::Link(named(&rt, 1), named(&rt, 2));
-    logs(&rt, &mut recorder, &link, Ok(1));
-    assert!(rt; recorder.is_full());
-    logs(
-        &rt,
-        &mut recorder,
-        &Event::Enabled,
-        Err(RecordFault::LogFull),
-    );
-    assert!(rt; recorder.len() == 1);
 }

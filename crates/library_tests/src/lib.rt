@@ -10,8 +10,6 @@ mod chosen_nodes;
 #[cfg(test)]
 mod command_lines;
 #[cfg(test)]
-mod drawn_faults;
-#[cfg(test)]
 mod entries;
 #[cfg(test)]
 mod entry_lines;
@@ -21,8 +19,6 @@ mod given_words;
 mod helpers;
 #[cfg(test)]
 mod hsu_huang_rows;
-#[cfg(test)]
-mod indexed_states;
 #[cfg(test)]
 mod journals;
 #[cfg(test)]
@@ -47,8 +43,6 @@ mod replays;
 mod small_networks;
 #[cfg(test)]
 mod stores;
-#[cfg(test)]
-mod unread_transcripts;
 #[cfg(test)]
 mod verdicts;
 #[cfg(test)]

@@ -1,7 +1,7 @@
 //! The plain types on values from outside.
 
 use crate::helpers::named;
-use rule_machine::{Choice, Edge, Item, Listing, Node, Refusal, RuleSet};
+use rule_machine::{Choice, Edge, Item, Listing, Node};
 use std::alloc::{AllocError, Global};
 use std::process::Abort;
 
@@ -50,31 +50,4 @@ fn listings_compare_by_their_items(rt: HostRuntime) {
     assert!(rt; roomy != longer);
     assert!(rt; roomy.as_slice() == [5u8].as_slice());
     assert!(rt; longer.into_vec().len() == 2);
-}
-
-#[test]
-fn refusals_have_numbers_and_texts(rt: HostRuntime) {
-    for (refusal, number, text) in [
-        (Refusal::UnknownNode, 1, "unknown-node"),
-        (Refusal::SelfLoop, 2, "self-loop"),
-        (Refusal::AlreadyLinked, 3, "already-linked"),
-        (Refusal::NotLinked, 4, "not-linked"),
-        (Refusal::TooManyEdges, 5, "too-many-edges"),
-        (Refusal::NotNeighbour, 6, "not-neighbour"),
-        (Refusal::NoFlag, 7, "no-flag"),
-        (Refusal::EmptyChoice, 8, "empty-choice"),
-        (Refusal::NotCentral, 9, "not-central"),
-        (Refusal::ChosenTwice, 10, "chosen-twice"),
-        (Refusal::NotEnabled, 11, "not-enabled"),
-        (Refusal::BadTarget, 12, "bad-target"),
-    ] {
-        assert!(rt; refusal.number() == number);
-        assert!(rt; refusal.text() == text);
-    }
-}
-
-#[test]
-fn rule_sets_have_words(rt: HostRuntime) {
-    assert!(rt; RuleSet::Hh.word() == "hh");
-    assert!(rt; RuleSet::Manne.word() == "manne");
 }

@@ -4,7 +4,7 @@ ghost use Rattle.step_log.specs.Held.{IsReady};
 
 use crate::helpers::named;
 use crate::journals::journal_of;
-use crate::machines::{Machine, net_of};
+use crate::machines::Machine;
 use crate::verdicts::verdicts;
 use graph_store::EdgeStore;
 use log_entry::Entry;
@@ -12,7 +12,7 @@ use rule_engine::{Choice, Event, Reply, Rules};
 use rules_hsu_huang::HsuHuang;
 use std::alloc::Global;
 use std::process::Abort;
-use step_log::{Journal, Prepared};
+use step_log::{Journal, Prepared, Receipt};
 
 /// A journal that prepares each entry before it commits it, and a step from its verdicts.
 #[derive(Drop)]
@@ -49,15 +49,22 @@ fn prepared<R: Rules>(
     }
 }
 
+/// Whether a receipt is that of an entry behind so many others.
+fn is_receipt(receipt: &Receipt, before: u32, entry: &Entry) -> bool {
+    receipt.seq == before.wrapping_add(1)
+        && receipt.event == *entry.event()
+        && receipt.reply == *entry.reply()
+}
+
 impl<R: Rules> Machine for InTwoSteps<R> {
     fn answers(&mut self, rt: &impl Abort, alloc: Global, entry: &Entry) -> bool {
         let before = self.0.len();
         let prepared = prepared(rt, alloc, &mut self.0, entry.event());
         assert!(rt; self.0.len() == before);
-        let is_told = prepared.receipt().reply == *entry.reply();
+        let is_told = is_receipt(prepared.receipt(), before, entry);
         let receipt = self.0.commit(prepared);
         assert!(rt; receipt.seq == self.0.len());
-        is_told && receipt.reply == *entry.reply()
+        is_told && is_receipt(&receipt, before, entry)
     }
 
     fn charge(&self) -> Option<u64> {
@@ -65,31 +72,12 @@ impl<R: Rules> Machine for InTwoSteps<R> {
     }
 }
 
-/// The event that links 1 and 2.
-fn link(rt: &impl Abort) -> Event {
-    Event::Link(named(rt, 1), named(rt, 2))
-}
-
-/// What is prepared is the first entry, of an accepted event.
-fn expect_first(rt: &impl Abort, prepared: &Prepared) {
+/// Prepares the link of 1 and 2 as the first entry, and drops it.
+fn drop_link<R: Rules>(rt: &impl Abort, journal: &mut Journal<R>) {
+    let link = Event::Link(named(rt, 1), named(rt, 2));
+    let prepared = journal.prepare(link).expect(rt, "room");
     assert!(rt; prepared.receipt().seq == 1);
     assert!(rt; prepared.receipt().reply == Reply::Accepted);
-}
-
-#[test]
-fn an_entry_is_there_once_it_is_committed(rt: HostRuntime) {
-    let mut journal = journal_of::<HsuHuang>(&rt, rt.alloc(), 2, 9);
-    let prepared = journal.prepare(link(&rt)).expect(&rt, "room");
-    expect_first(&rt, &prepared);
-    assert!(rt; journal.len() == 0);
-    let receipt = journal.commit(prepared);
-    assert!(rt; receipt.event == link(&rt));
-    assert!(rt; journal.len() == 1);
-}
-
-/// Prepares an event and drops it.
-fn drop_prepared<R: Rules>(rt: &impl Abort, journal: &mut Journal<R>, event: Event) {
-    assert!(rt; journal.prepare(event).is_ok());
     assert!(rt; journal.len() == 0);
     assert!(rt; journal.net().store().edges() == 0);
 }
@@ -97,20 +85,8 @@ fn drop_prepared<R: Rules>(rt: &impl Abort, journal: &mut Journal<R>, event: Eve
 #[test]
 fn what_is_dropped_has_changed_nothing(rt: HostRuntime) {
     let mut journal = journal_of::<HsuHuang>(&rt, rt.alloc(), 2, 9);
-    drop_prepared(&rt, &mut journal, link(&rt));
-    let prepared = journal.prepare(link(&rt)).expect(&rt, "room");
-    expect_first(&rt, &prepared);
-}
-
-#[test]
-fn a_network_changes_once_it_is_committed(rt: HostRuntime) {
-    let mut net = net_of::<HsuHuang>(&rt, rt.alloc(), 2);
-    let event = link(&rt);
-    let reply = net.prepare(&event).expect(&rt, "memory");
-    assert!(rt; reply == Reply::Accepted);
-    assert!(rt; net.charge() == 0);
-    net.commit(&event, &reply);
-    assert!(rt; net.charge() == 2);
+    drop_link(&rt, &mut journal);
+    drop_link(&rt, &mut journal);
 }
 
 #[test]

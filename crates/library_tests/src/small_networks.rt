@@ -173,12 +173,27 @@ fn choice_of(rt: &impl Abort, alloc: Global, nodes: u8, number: u32) -> Choice {
     Choice::new(items).expect(rt, "a choice")
 }
 
+/// How many numbers have two digits: the square of how many values a digit has. A product would be dear to prove.
+fn two_digits(nodes: u8) -> u32 {
+    match nodes {
+        0 => 9,
+        1 => 49,
+        2 => 169,
+        _ => 441,
+    }
+}
+
+/// Whether a number of two digits is that of a choice: no other has the same items.
+fn is_first(nodes: u8, number: u32) -> bool {
+    number == 0 || number % digits_of(nodes) > 0
+}
+
 /// Every choice of up to two items in the state. Answers how many.
 fn try_pairs<R: Rules>(rt: &impl Abort, alloc: Global, twins: &mut Twins<R>) -> u64 {
-    let digits = digits_of(twins.nodes);
+    let nodes = twins.nodes;
     let mut tried = 0u64;
-    for number in 0..digits.wrapping_mul(digits) {
-        if number == 0 || number % digits > 0 {
+    for number in 0..two_digits(nodes) {
+        if is_first(nodes, number) {
             twins.step(rt, alloc, number);
             tried = tried.wrapping_add(1);
         }

@@ -62,12 +62,6 @@ fn edges_are_unlinked_or_refused(rt: HostRuntime) {
     assert!(rt; !store.linked(three, one));
 }
 
-#[test]
-fn a_store_has_at_most_65535_nodes(rt: HostRuntime) {
-    let fault = EdgeStore::new(rt.alloc(), 65_536).err();
-    assert!(rt; fault == Some(GraphFault::TooManyNodes));
-}
-
 /// Links a node to those above it until there are 1,048,576 edges.
 fn fill_row(rt: &impl Abort, store: &mut EdgeStore, low: u32) {
     for high in 1..1_450 {

@@ -1,6 +1,7 @@
 //! Storms of scripts in memory, and the gate that they pass.
 
-use script_run::{Options, RuleSet};
+use crate::script_runs::options;
+use script_run::Options;
 use std::alloc::Global;
 use std::process::Abort;
 use std::sync::Wait;
@@ -8,13 +9,6 @@ use std::sync::atomic::{AtomicU64, Ordering};
 use std::thread::Threads;
 use steal_pool::{Gate, NoGate};
 use storm_call::{StormFault, storm};
-
-/// The options of a storm under Hsu and Huang's rules.
-fn options(rt: &impl Abort, nodes: u32, limit: u32) -> Options {
-    Options::new(RuleSet::Hh, nodes)
-        .expect(rt, "options")
-        .with_limit(limit)
-}
 
 /// What a storm of these scripts writes, and how it ends.
 fn played<G: Gate + Sync, T: Threads + Wait + Sync + Abort>(

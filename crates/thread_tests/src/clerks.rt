@@ -88,34 +88,6 @@ fn fault_of<R: Rules, W: Wait + Abort>(
 }
 
 #[test]
-fn two_clerks_settle(rt: HostRuntime) {
-    let net = shared::<HsuHuang>(&rt, rt.alloc(), 3, 9);
-    let mut first = clerk_of(&rt, &net);
-    let mut second = clerk_of(&rt, &net);
-    expect_link(&rt, &mut first, &net, 1, 2);
-    expect_link(&rt, &mut second, &net, 2, 3);
-    expect_link(&rt, &mut first, &net, 1, 3);
-    assert!(rt; first.receipts().len() == 2);
-    let clerks = both(&rt, rt.alloc(), first, second);
-    assert!(rt; fault_of(&rt, net, clerks, 3).is_none());
-}
-
-#[test]
-fn a_clerk_settles_alone(rt: HostRuntime) {
-    let net = shared::<HsuHuang>(&rt, rt.alloc(), 3, 9);
-    let mut clerk = clerk_of(&rt, &net);
-    expect_link(&rt, &mut clerk, &net, 1, 2);
-    let clerks = alone(&rt, rt.alloc(), clerk);
-    assert!(rt; fault_of(&rt, net, clerks, 1).is_none());
-}
-
-#[test]
-fn nobody_settles_an_empty_log(rt: HostRuntime) {
-    let net = shared::<HsuHuang>(&rt, rt.alloc(), 3, 9);
-    assert!(rt; fault_of(&rt, net, Vec::new(rt.alloc()), 0).is_none());
-}
-
-#[test]
 fn a_clerk_that_is_missing_is_missed(rt: HostRuntime) {
     let net = shared::<HsuHuang>(&rt, rt.alloc(), 3, 9);
     let mut first = clerk_of(&rt, &net);

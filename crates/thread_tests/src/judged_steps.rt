@@ -52,16 +52,6 @@ fn are_moves(rt: &impl Abort, told: Result<Reply, StepFault>) -> bool {
 }
 
 #[test]
-fn workers_judge_a_step(rt: HostRuntime) {
-    let (net, mut clerk) = flagged_star(&rt, rt.alloc());
-    let choice = end_and_centre(&rt, rt.alloc());
-    let told = clerk.step_with(&rt, &net, choice, 4, &NoGate);
-    assert!(rt; are_moves(&rt, told));
-    assert!(rt; clerk.front() == 5);
-    expect_log(&rt, net, 5);
-}
-
-#[test]
 fn two_workers_judge_a_step_at_once(rt: HostRuntime) {
     let (net, mut clerk) = flagged_star(&rt, rt.alloc());
     let choice = end_and_centre(&rt, rt.alloc());
@@ -69,6 +59,7 @@ fn two_workers_judge_a_step_at_once(rt: HostRuntime) {
     let told = clerk.step_with(&rt, &net, choice, 2, &gate);
     assert!(rt; are_moves(&rt, told));
     assert!(rt; gate.is_met());
+    assert!(rt; clerk.front() == 5);
     expect_log(&rt, net, 5);
 }
 

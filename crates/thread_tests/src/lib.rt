@@ -1,5 +1,5 @@
 //! Tests of what threads share: boards and networks and their readers, clerks of one network and those that roam, and workers that share a
-//! choice; and of runs, which may have such workers, where their log has a limit or a stream fails.
+//! choice.
 #![tactic(auto)]
 
 #[cfg(test)]
@@ -16,10 +16,6 @@ mod pool;
 mod readers;
 #[cfg(test)]
 mod roaming;
-#[cfg(test)]
-mod script_runs;
-#[cfg(test)]
-mod told;
 #[cfg(test)]
 mod turns;
 #[cfg(test)]

@@ -71,17 +71,6 @@ fn is_paired(rt: &impl Abort, journal: &mut Journal<HsuHuang>) -> bool {
 }
 
 #[test]
-fn two_clerks_roam(rt: HostRuntime) {
-    let (net, first) = linked_pair(&rt, rt.alloc(), 9);
-    let mut clerks = two_clerks(&rt, rt.alloc(), &net);
-    assert!(rt; roam_a_while(&rt, &net, &mut clerks, &NoGate) == Ok(()));
-    assert!(rt; receipt_count(&clerks) == 2);
-    let mut journal = settled(&rt, net, clerks, first);
-    assert!(rt; journal.len() == 3);
-    assert!(rt; is_paired(&rt, &mut journal));
-}
-
-#[test]
 fn nobody_roams(rt: HostRuntime) {
     let (net, _) = linked_pair(&rt, rt.alloc(), 9);
     let mut clerks = Vec::new(rt.alloc());
@@ -110,7 +99,10 @@ fn two_roamers_meet(rt: HostRuntime) {
     let mut clerks = two_clerks(&rt, rt.alloc(), &net);
     assert!(rt; roam_a_while(&rt, &net, &mut clerks, &gate) == Ok(()));
     assert!(rt; gate.meeting.is_met());
-    assert!(rt; settled(&rt, net, clerks, first).len() == 3);
+    assert!(rt; receipt_count(&clerks) == 2);
+    let mut journal = settled(&rt, net, clerks, first);
+    assert!(rt; journal.len() == 3);
+    assert!(rt; is_paired(&rt, &mut journal));
 }
 
 /// A gate at which a clerk of its own links two nodes before turn 1.

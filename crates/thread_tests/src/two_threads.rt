@@ -1,4 +1,4 @@
-//! Two threads and one network: what README shows.
+//! Two threads and one network: what the page on the libraries shows.
 
 use locked_net::{Clerk, LockedNet, settle};
 use rule_engine::{Event, Node, Rules};

@@ -19,8 +19,8 @@ fn options_are_kept(rt: HostRuntime) {
     assert!(rt; Options::new(RuleSet::Hh, 65_536).is_none());
 }
 
-/// Options of a run under Hsu and Huang's rules.
-fn options(rt: &impl Abort, nodes: u32, limit: u32) -> Options {
+/// Options of a run or a storm under Hsu and Huang's rules.
+pub(crate) fn options(rt: &impl Abort, nodes: u32, limit: u32) -> Options {
     Options::new(RuleSet::Hh, nodes)
         .expect(rt, "options")
         .with_limit(limit)
