@@ -5,7 +5,7 @@ use Rattle.std.proofs.lemmas.Option.{same_Some}
 use Rattle.rule_machine.specs.declared.rules.RuleSet.{RuleSet}
 use Rattle.rule_machine.specs.State.{State}
 use Rattle.rule_machine.specs.RuleTable.{RuleTable}
-use Rattle.rule_machine.specs.Run.{Entry, Moment, Run, beginning}
+use Rattle.rule_machine.specs.Run.{Entry, Moment, Run, beginning_with}
 use Rattle.rule_machine.specs.Answer.{Answers}
 use Rattle.rule_machine.specs.Tables.{table_of}
 use Rattle.entry_grammar.specs.Spelling.{max_entries}
@@ -17,7 +17,7 @@ use Rattle.auditor.specs.Transcript.{IsEntry}
 use Rattle.auditor.specs.Damage.{Follows, IsDamage, IsLineBehind}
 use Rattle.auditor.specs.Reached.{EndsAt, HasTooFew, IsLookedAt, IsStateAfter, line_of}
 use Rattle.auditor.proofs.Agreeing.{GoesOn, goes_on, later}
-use Rattle.auditor.proofs.Ending.{Ended, begun, ended_once, transcript_ends, no_line_ends, number_ends, reply_ends, header_good, some_rest, comes_rest, accepted_no_damage, count_once}
+use Rattle.auditor.proofs.Ending.{Ended, begun, same_beginning, ended_once, transcript_ends, no_line_ends, number_ends, reply_ends, header_good, some_rest, comes_rest, accepted_no_damage, count_once}
 use Rattle.auditor.proofs.Level.{first_once, behind_once, at_once, at, over}
 
 -- behind the shorter of two logs that begin one text, the longer one goes on
@@ -35,32 +35,32 @@ beyond t number start (entry ∷ log) (other ∷ also) end last rest left one fe
     (subst (λ (m : Moment). Run t m log end) moment run) ran first.1)
 
 -- no transcript goes on behind where the text ends
-not_beyond : (bytes : List ℕ) (r q : RuleSet) (n : ℕ) (log also : List Entry) (end last : Moment) (rest left : List ℕ) → Follows bytes r log end rest → Ended bytes q n also last left → length also < length log → ⊥
-not_beyond bytes r q n log also end last rest left f e less =
+not_beyond : (bytes : List ℕ) (r q : RuleSet) (n d : ℕ) (log also : List Entry) (end last : Moment) (rest left : List ℕ) → Follows bytes r log end rest → Ended bytes q n d also last left → length also < length log → ⊥
+not_beyond bytes r q n d log also end last rest left f e less =
     let g = e.follows in
     let b = begun bytes r q log also end last rest left f g in
     let few = f.transcript.not_too_many in
-    let table = subst (λ (x : RuleSet). Run (table_of x) (beginning g.nodes) also last) (sym b.rules) g.transcript.run in
-    let run = subst (λ (n : ℕ). Run (table_of r) (beginning n) also last) (sym b.nodes) table in
-    let more = beyond (table_of r) 1 (beginning f.nodes) log also end last rest left (omega arith) (omega (arith, few)) less f.transcript.entries g.transcript.entries f.transcript.run run b.behind in
+    let table = subst (λ (x : RuleSet). Run (table_of x) (beginning_with g.size g.count) also last) (sym b.rules) g.transcript.run in
+    let run = subst (λ (m : Moment). Run (table_of r) m also last) (sym (same_beginning f.size g.size f.count g.count b.size b.count)) table in
+    let more = beyond (table_of r) 1 (beginning_with f.size f.count) log also end last rest left (omega arith) (omega (arith, few)) less f.transcript.entries g.transcript.entries f.transcript.run run b.behind in
     e.stops (subst (λ (x : RuleSet). GoesOn (table_of x) (1 + length also) last left) b.rules more)
 
-apart : (bytes : List ℕ) (stop : Option ℕ) (r q : RuleSet) (n : ℕ) (log also : List Entry) (end last : Moment) (rest left : List ℕ) (line : ℕ) → Follows bytes r log end rest → EndsAt stop log rest → Ended bytes q n also last left → left ≢ [] → IsLineBehind line also → IsLookedAt stop line → ⊥
-apart bytes None r q n log also end last rest left line f ends e some behind looked =
-    let once = ended_once bytes r q f.nodes n log also end last rest left (over bytes r log end rest f ends) e in
+apart : (bytes : List ℕ) (stop : Option ℕ) (r q : RuleSet) (n d : ℕ) (log also : List Entry) (end last : Moment) (rest left : List ℕ) (line : ℕ) → Follows bytes r log end rest → EndsAt stop log rest → Ended bytes q n d also last left → left ≢ [] → IsLineBehind line also → IsLookedAt stop line → ⊥
+apart bytes None r q n d log also end last rest left line f ends e some behind looked =
+    let once = ended_once bytes r q f.size n f.count d log also end last rest left (over bytes r log end rest f ends) e in
     some (sym once.same.rests ∙ ends)
-apart bytes (Some k) r q n log also end last rest left line f ends e some behind looked =
-    not_beyond bytes r q n log also end last rest left f e (omega (arith, ends, behind, looked))
+apart bytes (Some k) r q n d log also end last rest left line f ends e some behind looked =
+    not_beyond bytes r q n d log also end last rest left f e (omega (arith, ends, behind, looked))
 
 -- good lines have no damage
 pub good_no_damage : (bytes : List ℕ) (stop : Option ℕ) (rules : RuleSet) (s : State) (d : Damage) → IsStateAfter bytes stop rules s → IsDamage bytes d → IsLookedAt stop (line_of d) → ⊥
 good_no_damage bytes stop rules s BadHeader x d looked = header_good bytes rules x.log x.end x.rest d x.follows
 good_no_damage bytes stop rules s (NotALine l) x d looked =
-    apart bytes stop rules d.rules d.follows.nodes x.log d.log x.end d.end x.rest d.rest l x.follows x.ends (no_line_ends bytes l d) (some_rest d.rest d.damage) d.number looked
+    apart bytes stop rules d.rules d.follows.size d.follows.count x.log d.log x.end d.end x.rest d.rest l x.follows x.ends (no_line_ends bytes l d) (some_rest d.rest d.damage) d.number looked
 good_no_damage bytes stop rules s (OutOfOrder l) x d looked =
-    apart bytes stop rules d.rules d.follows.nodes x.log d.log x.end d.end x.rest d.rest l x.follows x.ends (number_ends bytes l d) (comes_rest d.rest d.seq d.entry d.comes) d.number looked
+    apart bytes stop rules d.rules d.follows.size d.follows.count x.log d.log x.end d.end x.rest d.rest l x.follows x.ends (number_ends bytes l d) (comes_rest d.rest d.seq d.entry d.comes) d.number looked
 good_no_damage bytes stop rules s (NotTheMachines l) x d looked =
-    apart bytes stop rules d.rules d.follows.nodes x.log d.log x.end d.end x.rest d.rest l x.follows x.ends (reply_ends bytes l d) (comes_rest d.rest (length d.log + 1) d.entry d.comes) d.number looked
+    apart bytes stop rules d.rules d.follows.size d.follows.count x.log d.log x.end d.end x.rest d.rest l x.follows x.ends (reply_ends bytes l d) (comes_rest d.rest (length d.log + 1) d.entry d.comes) d.number looked
 
 -- an entry that is there is not asked for in vain
 pub good_not_few : (bytes : List ℕ) (stop : Option ℕ) (rules : RuleSet) (s : State) (asked entries : ℕ) → IsStateAfter bytes stop rules s → HasTooFew bytes stop asked entries → ⊥
@@ -68,7 +68,7 @@ good_not_few bytes stop rules s asked entries x few =
     let ends : length x.log ≡ asked = subst (λ (o : Option ℕ). EndsAt o x.log x.rest) few.last_is x.ends in
     let a = few.accepted in
     let count : few.counted.entries ≡ length a.log = a.counts.entries in
-    not_beyond bytes rules a.rules a.nodes x.log a.log x.end a.end x.rest [] x.follows (transcript_ends bytes a.rules a.nodes a.log a.end a.transcript)
+    not_beyond bytes rules a.rules a.size a.count x.log a.log x.end a.end x.rest [] x.follows (transcript_ends bytes a.rules a.size a.count a.log a.end a.transcript)
     (omega (arith, ends, count, few.entries_are, few.fewer))
 
 pub few_once : (bytes : List ℕ) (stop : Option ℕ) (asked wanted entries count : ℕ) → HasTooFew bytes stop asked entries → HasTooFew bytes stop wanted count → (asked ≡ wanted) × (entries ≡ count)

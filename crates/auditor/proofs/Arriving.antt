@@ -21,7 +21,7 @@ within_start None entries e = tt
 within_start (Some n) entries e = omega (arith, e)
 
 pub opened : (bytes rest : List ℕ) (rules : RuleSet) (p : Position) → IsOpened bytes rules p rest → IsReached bytes rules p rest
-opened bytes rest rules p o = subst (λ (q : Position). IsReached bytes rules q rest) (sym o.opening) (reached_start bytes o.line rest rules o.nodes o.cut o.spells)
+opened bytes rest rules p o = subst (λ (q : Position). IsReached bytes rules q rest) (sym o.opening) (reached_start bytes o.line rest rules o.size o.count o.cut o.spells)
 
 pub started : (bytes rest : List ℕ) (rules : RuleSet) (p : Position) (last : Option ℕ) → IsOpened bytes rules p rest → IsReached bytes rules p rest × IsWithin last p.counted.entries
 started bytes rest rules p last o =

@@ -1,7 +1,7 @@
 -- Where the machine is after an event is determined by its reply.
 use Rattle.std.proofs.Common.{◌≡◌, ℕ, Option, None, Some, sym, ◌∙◌}
 use Rattle.rule_machine.specs.declared.event.Event.{Event}
-use Rattle.rule_machine.specs.declared.event.Event.TheVariants.{Link, Unlink, Point, Flag, Step, Show, Enabled, Matching, Status}
+use Rattle.rule_machine.specs.declared.event.Event.TheVariants.{Link, Unlink, Point, Flag, Step, Show, Enabled, Matching, Status, Join, Leave}
 use Rattle.rule_machine.specs.declared.refusal.Refusal.{Refusal}
 use Rattle.rule_machine.specs.declared.reply.Reply.{Reply}
 use Rattle.rule_machine.specs.declared.reply.Reply.TheVariants.{Accepted, Moves, Shown, EnabledAre, Pairs, Counts}
@@ -15,6 +15,8 @@ does_once t s n (Link a b) Accepted u v x y = x ∙ sym y
 does_once t s n (Unlink a b) Accepted u v x y = x ∙ sym y
 does_once t s n (Point w target) Accepted u v x y = x ∙ sym y
 does_once t s n (Flag w value) Accepted u v x y = x ∙ sym y
+does_once t s n (Join w) Accepted u v x y = x ∙ sym y
+does_once t s n (Leave w) Accepted u v x y = x ∙ sym y
 does_once t s n (Step items) (Moves moves) u v x y = x.after ∙ sym y.after
 does_once t s n (Show w) (Shown target) u v x y = x.1 ∙ sym y.1
 does_once t s n Enabled (EnabledAre nodes) u v x y = x.1 ∙ sym y.1

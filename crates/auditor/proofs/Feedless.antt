@@ -1,6 +1,6 @@
 -- No line's text has a line feed.
-use Rattle.std.proofs.Common.{ℕ, ◌<◌, ◌≤◌, Bool, true, false, List, [], ◌∷◌, ◌++◌, Option, None, Some, refl, arith}
-use Rattle.std.specs.Prelude.{IfSome, codes}
+use Rattle.std.proofs.Common.{ℕ, ◌<◌, ◌≤◌, Bool, true, false, cond, List, [], ◌∷◌, ◌++◌, Option, None, Some, refl, arith}
+use Rattle.std.specs.Prelude.{IfSome, codes, nat_lt}
 use Rattle.std.specs.Int.{IsInRange}
 use Rattle.std.specs.List.{AllByRecursion}
 use Rattle.rule_machine.specs.declared.act.Act.{Act}
@@ -9,9 +9,9 @@ use Rattle.rule_machine.specs.declared.choice.Item.{Item}
 use Rattle.rule_machine.specs.declared.counts.Counts.{Counts as Counted}
 use Rattle.rule_machine.specs.declared.moved.Moved.{Moved}
 use Rattle.rule_machine.specs.declared.event.Event.{Event}
-use Rattle.rule_machine.specs.declared.event.Event.TheVariants.{Link, Unlink, Point, Flag, Step, Show, Enabled, Matching, Status}
+use Rattle.rule_machine.specs.declared.event.Event.TheVariants.{Link, Unlink, Point, Flag, Step, Show, Enabled, Matching, Status, Join, Leave}
 use Rattle.rule_machine.specs.declared.refusal.Refusal.{Refusal}
-use Rattle.rule_machine.specs.declared.refusal.Refusal.TheVariants.{UnknownNode, SelfLoop, AlreadyLinked, NotLinked, TooManyEdges, NotNeighbour, NoFlag, EmptyChoice, NotCentral, ChosenTwice, NotEnabled, BadTarget}
+use Rattle.rule_machine.specs.declared.refusal.Refusal.TheVariants.{UnknownNode, SelfLoop, AlreadyLinked, NotLinked, TooManyEdges, NotNeighbour, NoFlag, EmptyChoice, NotCentral, ChosenTwice, NotEnabled, BadTarget, AlreadyPresent}
 use Rattle.rule_machine.specs.declared.reply.Reply.{Reply}
 use Rattle.rule_machine.specs.declared.reply.Reply.TheVariants.{Accepted, Refused, Moves, Shown, EnabledAre, Pairs, Counts}
 use Rattle.rule_machine.specs.declared.rules.RuleSet.{RuleSet}
@@ -21,7 +21,7 @@ use Rattle.rule_machine.specs.Refuse.{refusal_number, refusal_text}
 use Rattle.line_text.specs.Words.{number_text, marked_text, IsName, spaced, joined, joined_or}
 use Rattle.line_text.specs.EventText.{IsItem, IsEvent, event_text, pair_text, point_text, flag_text, target_text, bool_text, item_text}
 use Rattle.line_text.specs.ReplyText.{act_word, enabled_text, move_text, mutual_text, refusal_words, field_text, fields_of, counts_text, reply_text, IsCount, IsCounts}
-use Rattle.line_text.specs.EntryText.{header_text, entry_text}
+use Rattle.line_text.specs.EntryText.{sizes_text, header_text, entry_text}
 use Rattle.entry_grammar.specs.Spelling.{IsMoved, IsEnabled, IsPair, IsReply, SpellsEntry}
 use Rattle.entry_grammar.specs.Reading.{IsFree}
 use Rattle.entry_grammar.proofs.Free.{free_append, free_by, free_number, free_name, free_marked}
@@ -82,6 +82,8 @@ event_free (Link a b) f = both (codes "link ") (pair_text a b) (free_by 10 (code
 event_free (Unlink a b) f = both (codes "unlink ") (pair_text a b) (free_by 10 (codes "unlink ") refl) (apart (number_text a) (number_text b) (name_free a f.0) (name_free b f.1))
 event_free (Point v target) f = both (codes "point ") (point_text v target) (free_by 10 (codes "point ") refl) (apart (number_text v) (target_text target) (name_free v f.0) (target_free target f.1))
 event_free (Flag v value) f = both (codes "flag ") (flag_text v value) (free_by 10 (codes "flag ") refl) (apart (number_text v) (bool_text value) (name_free v f) (bool_free value))
+event_free (Join v) f = both (codes "join ") (number_text v) (free_by 10 (codes "join ") refl) (name_free v f)
+event_free (Leave v) f = both (codes "leave ") (number_text v) (free_by 10 (codes "leave ") refl) (name_free v f)
 event_free (Step items) f = both (codes "step") (spaced item_text items) (free_by 10 (codes "step") refl) (spaced_free IsItem item_text item_free items f.1)
 event_free (Show v) f = both (codes "show ") (number_text v) (free_by 10 (codes "show ") refl) (name_free v f)
 event_free Enabled f = free_by 10 (codes "enabled") refl
@@ -121,6 +123,7 @@ few_refusals NotCentral = omega arith
 few_refusals ChosenTwice = omega arith
 few_refusals NotEnabled = omega arith
 few_refusals BadTarget = omega arith
+few_refusals AlreadyPresent = omega arith
 
 refusal_text_free : (r : Refusal) → IsFree 10 (refusal_text r)
 refusal_text_free UnknownNode = free_by 10 (refusal_text UnknownNode) refl
@@ -135,6 +138,7 @@ refusal_text_free NotCentral = free_by 10 (refusal_text NotCentral) refl
 refusal_text_free ChosenTwice = free_by 10 (refusal_text ChosenTwice) refl
 refusal_text_free NotEnabled = free_by 10 (refusal_text NotEnabled) refl
 refusal_text_free BadTarget = free_by 10 (refusal_text BadTarget) refl
+refusal_text_free AlreadyPresent = free_by 10 (refusal_text AlreadyPresent) refl
 
 refusal_free : (r : Refusal) → IsFree 10 (refusal_words r)
 refusal_free r = apart (number_text (refusal_number r)) (refusal_text r) (number_free (refusal_number r) (few_refusals r)) (refusal_text_free r)
@@ -186,8 +190,15 @@ rules_free : (rules : RuleSet) → IsFree 10 (rules_word rules)
 rules_free Hh = free_by 10 (rules_word Hh) refl
 rules_free Manne = free_by 10 (rules_word Manne) refl
 
-pub header_free : (rules : RuleSet) (nodes : ℕ) → nodes ≤ 65535 → IsFree 10 (header_text rules nodes)
-header_free rules nodes few =
-    both (codes "matching " ++ rules_word rules ++ codes " ") (number_text nodes)
+sizes_free : (size count : ℕ) → size ≤ 65535 → count ≤ size → IsFree 10 (sizes_text size count)
+sizes_free size count few within = by (nat_lt count size)
+  where
+    by : (b : Bool) → IsFree 10 (cond b (number_text size ++ codes " " ++ number_text count) (number_text size))
+    by true = apart (number_text size) (number_text count) (number_free size (omega arith)) (number_free count (omega arith))
+    by false = number_free size (omega arith)
+
+pub header_free : (rules : RuleSet) (size count : ℕ) → size ≤ 65535 → count ≤ size → IsFree 10 (header_text rules size count)
+header_free rules size count few within =
+    both (codes "matching " ++ rules_word rules ++ codes " ") (sizes_text size count)
     (both (codes "matching " ++ rules_word rules) (codes " ") (both (codes "matching ") (rules_word rules) (free_by 10 (codes "matching ") refl) (rules_free rules)) (free_by 10 (codes " ") refl))
-    (number_free nodes (omega arith))
+    (sizes_free size count few within)

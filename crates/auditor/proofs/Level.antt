@@ -4,9 +4,9 @@ use Rattle.std.specs.List.{AllByRecursion}
 use Rattle.std.proofs.lemmas.Option.{none-some, same_Some}
 use Rattle.rule_machine.specs.declared.reply.Reply.{Reply}
 use Rattle.rule_machine.specs.declared.rules.RuleSet.{RuleSet}
-use Rattle.rule_machine.specs.State.{State, opening}
+use Rattle.rule_machine.specs.State.{State}
 use Rattle.rule_machine.specs.RuleTable.{RuleTable}
-use Rattle.rule_machine.specs.Run.{Entry, Moment, Run, Epoch, beginning, epochs_from, epoch_at}
+use Rattle.rule_machine.specs.Run.{Entry, Moment, Run, Epoch, beginning_with, epochs_from, epoch_at}
 use Rattle.rule_machine.specs.Answer.{Answers, spent_after}
 use Rattle.rule_machine.specs.Tables.{table_of}
 use Rattle.charge_laws.specs.Epochs.{IsPath}
@@ -20,7 +20,7 @@ use Rattle.auditor.specs.Reached.{EndsAt, IsStateAfter}
 use Rattle.auditor.specs.Epochs.{AreEpochs}
 use Rattle.auditor.proofs.Determined.{answers_once}
 use Rattle.auditor.proofs.Agreeing.{first_entry}
-use Rattle.auditor.proofs.Ending.{Ended, begun, ended_once, run_once}
+use Rattle.auditor.proofs.Ending.{Ended, begun, same_beginning, ended_once, run_once}
 
 spells_of : (number : ℕ) (entry : Entry) → 1 ≤ number → number ≤ max_entries → IsEntry entry → SpellsEntry (entry_text number entry.0 entry.1) number entry
 spells_of number entry one few is = record { numbered = (one, few); event = is.event; reply = is.reply; fits = is.fits; is = refl }
@@ -63,10 +63,11 @@ level t number start (entry ∷ log) (other ∷ also) end last rest left one few
 -- ---- the state after so many entries
 
 -- with nothing behind it, a transcript has ended
-pub over : (bytes : List ℕ) (rules : RuleSet) (log : List Entry) (end : Moment) (rest : List ℕ) (f : Follows bytes rules log end rest) → rest ≡ [] → Ended bytes rules f.nodes log end rest
+pub over : (bytes : List ℕ) (rules : RuleSet) (log : List Entry) (end : Moment) (rest : List ℕ) (f : Follows bytes rules log end rest) → rest ≡ [] → Ended bytes rules f.size f.count log end rest
 over bytes rules log end rest f none = record {
   follows = f;
-  begins = refl;
+  size_is = refl;
+  count_is = refl;
   stops = λ g. none-some (g.line, g.more) (ap first_line (sym none) ∙ g.is);
 }
 
@@ -74,13 +75,13 @@ same_place : (bytes : List ℕ) (r q : RuleSet) (log also : List Entry) (end las
 same_place bytes r q log also end last rest left f g same =
     let b = begun bytes r q log also end last rest left f g in
     let few = f.transcript.not_too_many in
-    let table = subst (λ (x : RuleSet). Run (table_of x) (beginning g.nodes) also last) (sym b.rules) g.transcript.run in
-    let run = subst (λ (n : ℕ). Run (table_of r) (beginning n) also last) (sym b.nodes) table in
-    (b.rules, level (table_of r) 1 (beginning f.nodes) log also end last rest left (omega arith) (omega (arith, few)) same f.transcript.entries g.transcript.entries f.transcript.run run b.behind)
+    let table = subst (λ (x : RuleSet). Run (table_of x) (beginning_with g.size g.count) also last) (sym b.rules) g.transcript.run in
+    let run = subst (λ (m : Moment). Run (table_of r) m also last) (sym (same_beginning f.size g.size f.count g.count b.size b.count)) table in
+    (b.rules, level (table_of r) 1 (beginning_with f.size f.count) log also end last rest left (omega arith) (omega (arith, few)) same f.transcript.entries g.transcript.entries f.transcript.run run b.behind)
 
 place_once : (bytes : List ℕ) (stop : Option ℕ) (r q : RuleSet) (log also : List Entry) (end last : Moment) (rest left : List ℕ) → Follows bytes r log end rest → Follows bytes q also last left → EndsAt stop log rest → EndsAt stop also left → (r ≡ q) × (end ≡ last)
 place_once bytes None r q log also end last rest left f g x y =
-    let once = ended_once bytes r q f.nodes g.nodes log also end last rest left (over bytes r log end rest f x) (over bytes q also last left g y) in
+    let once = ended_once bytes r q f.size g.size f.count g.count log also end last rest left (over bytes r log end rest f x) (over bytes q also last left g y) in
     (once.rules, once.same.ends)
 place_once bytes (Some k) r q log also end last rest left f g x y = same_place bytes r q log also end last rest left f g (x ∙ sym y)
 
@@ -108,8 +109,8 @@ path_once t start ((entry, next) ∷ path) ((other, following) ∷ also) (answer
 
 pub epochs_once : (bytes : List ℕ) (r q : RuleSet) (epochs others : List Epoch) → AreEpochs bytes r epochs → AreEpochs bytes q others → (r ≡ q) × (epochs ≡ others)
 epochs_once bytes r q epochs others x y =
-    let once = run_once bytes r q x.nodes y.nodes (map (λ step. step.0) x.path) (map (λ step. step.0) y.path) x.run.end y.run.end x.run.transcript y.run.transcript in
-    let table = subst (λ (z : RuleSet). IsPath (table_of z) (beginning y.nodes) y.path) (sym once.rules) y.run.is_path in
-    let is_path = subst (λ (n : ℕ). IsPath (table_of r) (beginning n) y.path) (sym once.nodes) table in
-    let same = path_once (table_of r) (beginning x.nodes) x.path y.path x.run.is_path is_path once.entries in
-    (once.rules, x.are ∙ ap₂ (λ (n : ℕ) (p : List Stage). epochs_from 1 (epoch_at 0 (opening n)) p) once.nodes same ∙ sym y.are)
+    let once = run_once bytes r q x.size y.size x.count y.count (map (λ step. step.0) x.path) (map (λ step. step.0) y.path) x.run.end y.run.end x.run.transcript y.run.transcript in
+    let table = subst (λ (z : RuleSet). IsPath (table_of z) (beginning_with y.size y.count) y.path) (sym once.rules) y.run.is_path in
+    let is_path = subst (λ (m : Moment). IsPath (table_of r) m y.path) (sym (same_beginning x.size y.size x.count y.count once.size once.count)) table in
+    let same = path_once (table_of r) (beginning_with x.size x.count) x.path y.path x.run.is_path is_path once.entries in
+    (once.rules, x.are ∙ ap₂ (λ (m : Moment) (p : List Stage). epochs_from 1 (epoch_at 0 m.state) p) (same_beginning x.size y.size x.count y.count once.size once.count) same ∙ sym y.are)

@@ -10,3 +10,4 @@ pub mod Arriving
 pub mod Turning
 pub mod Level
 pub mod Apart
+mod Refusing

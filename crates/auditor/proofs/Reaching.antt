@@ -5,7 +5,7 @@ use Rattle.std.proofs.lemmas.List.{append-nil, length-append}
 use Rattle.std.proofs.lemmas.List.Sums.{sum_by-append}
 use Rattle.rule_machine.specs.declared.rules.RuleSet.{RuleSet}
 use Rattle.rule_machine.specs.State.{State}
-use Rattle.rule_machine.specs.Run.{Entry, Moment, beginning}
+use Rattle.rule_machine.specs.Run.{Entry, Moment, beginning_with}
 use Rattle.rule_machine.specs.Answer.{Answers, spent_after}
 use Rattle.rule_machine.specs.Tables.{table_of}
 use Rattle.machine_laws.specs.Runs.{run_add}
@@ -43,26 +43,28 @@ lines_push number (first ∷ log) entry =
 
 -- ---- the header
 
-abbrev pub follows_start : (bytes line rest : List ℕ) (rules : RuleSet) (nodes : ℕ) → first_line bytes ≡ Some (line, rest) → SpellsHeader line rules nodes → Follows bytes rules [] (beginning nodes) rest
-follows_start bytes line rest rules nodes cut spells = record {
-  nodes = nodes;
-  good = header_line rules nodes;
+abbrev pub follows_start : (bytes line rest : List ℕ) (rules : RuleSet) (size count : ℕ) → first_line bytes ≡ Some (line, rest) → SpellsHeader line rules size count → Follows bytes rules [] (beginning_with size count) rest
+follows_start bytes line rest rules size count cut spells = record {
+  size = size;
+  count = count;
+  good = header_line rules size count;
   transcript = record {
     few = spells.few;
-    text = sym (append-nil (header_line rules nodes));
+    within = spells.within;
+    text = sym (append-nil (header_line rules size count));
     entries = tt;
     not_too_many = omega arith;
     run = refl;
   };
-  splits = first_line-splits bytes line rest cut ∙ ap (λ (z : List ℕ). z ++ 10 ∷ rest) spells.is ∙ sym (append_assoc (header_text rules nodes) (10 ∷ []) rest);
+  splits = first_line-splits bytes line rest cut ∙ ap (λ (z : List ℕ). z ++ 10 ∷ rest) spells.is ∙ sym (append_assoc (header_text rules size count) (10 ∷ []) rest);
 }
 
-pub reached_start : (bytes line rest : List ℕ) (rules : RuleSet) (nodes : ℕ) → first_line bytes ≡ Some (line, rest) → SpellsHeader line rules nodes → IsReached bytes rules (opening_position nodes) rest
-reached_start bytes line rest rules nodes cut spells =
+pub reached_start : (bytes line rest : List ℕ) (rules : RuleSet) (size count : ℕ) → first_line bytes ≡ Some (line, rest) → SpellsHeader line rules size count → IsReached bytes rules (opening_position size count) rest
+reached_start bytes line rest rules size count cut spells =
     record {
       log = [];
-      end = beginning nodes;
-      follows = follows_start bytes line rest rules nodes cut spells;
+      end = beginning_with size count;
+      follows = follows_start bytes line rest rules size count cut spells;
       state = refl;
       spent = refl;
       counts = record { entries = refl; epochs = refl; moves = refl };
@@ -70,12 +72,12 @@ reached_start bytes line rest rules nodes cut spells =
 
 -- ---- one more line
 
-pub log_text : (bytes good line rest behind : List ℕ) (rules : RuleSet) (nodes : ℕ) (log : List Entry) (entry : Entry) → bytes ≡ good ++ rest → good ≡ transcript rules nodes log → rest ≡ line ++ 10 ∷ behind → line ≡ entry_text (length log + 1) entry.0 entry.1 → bytes ≡ transcript rules nodes (log ++ entry ∷ []) ++ behind
-log_text bytes good line rest behind rules nodes log entry splits text cut is =
+pub log_text : (bytes good line rest behind : List ℕ) (rules : RuleSet) (size count : ℕ) (log : List Entry) (entry : Entry) → bytes ≡ good ++ rest → good ≡ transcript rules size count log → rest ≡ line ++ 10 ∷ behind → line ≡ entry_text (length log + 1) entry.0 entry.1 → bytes ≡ transcript rules size count (log ++ entry ∷ []) ++ behind
+log_text bytes good line rest behind rules size count log entry splits text cut is =
     let more : rest ≡ entry_line (length log + 1) entry.0 entry.1 ++ behind = cut ∙ ap (λ (z : List ℕ). z ++ 10 ∷ behind) is ∙ sym (append_assoc (entry_text (length log + 1) entry.0 entry.1) (10 ∷ []) behind) in
     let lines : entry_lines 1 (log ++ entry ∷ []) ≡ entry_lines 1 log ++ entry_line (length log + 1) entry.0 entry.1 = lines_push 1 log entry ∙ ap (λ (n : ℕ). entry_lines 1 log ++ entry_line n entry.0 entry.1) (omega arith) in
-    let whole : transcript rules nodes (log ++ entry ∷ []) ≡ transcript rules nodes log ++ entry_line (length log + 1) entry.0 entry.1 = ap (λ (z : List ℕ). header_line rules nodes ++ z) lines ∙ sym (append_assoc (header_line rules nodes) (entry_lines 1 log) (entry_line (length log + 1) entry.0 entry.1)) in
-    splits ∙ ap (λ (z : List ℕ). z ++ rest) text ∙ ap (λ (z : List ℕ). transcript rules nodes log ++ z) more ∙ sym (append_assoc (transcript rules nodes log) (entry_line (length log + 1) entry.0 entry.1) behind) ∙ ap (λ (z : List ℕ). z ++ behind) (sym whole)
+    let whole : transcript rules size count (log ++ entry ∷ []) ≡ transcript rules size count log ++ entry_line (length log + 1) entry.0 entry.1 = ap (λ (z : List ℕ). header_line rules size count ++ z) lines ∙ sym (append_assoc (header_line rules size count) (entry_lines 1 log) (entry_line (length log + 1) entry.0 entry.1)) in
+    splits ∙ ap (λ (z : List ℕ). z ++ rest) text ∙ ap (λ (z : List ℕ). transcript rules size count log ++ z) more ∙ sym (append_assoc (transcript rules size count log) (entry_line (length log + 1) entry.0 entry.1) behind) ∙ ap (λ (z : List ℕ). z ++ behind) (sym whole)
 
 pub more_counts : (c d : Summary) (log : List Entry) (entry : Entry) → Counts c log → d ≡ counted_more c entry.1 → Counts d (log ++ entry ∷ [])
 more_counts c d log entry counts is =
@@ -94,16 +96,18 @@ follows_more bytes line rest behind rules log end entry s follows cut spells ans
     let good = follows.transcript in
     let l = length-append log (entry ∷ []) in
     record {
-      nodes = follows.nodes;
-      good = transcript rules follows.nodes (log ++ entry ∷ []);
+      size = follows.size;
+      count = follows.count;
+      good = transcript rules follows.size follows.count (log ++ entry ∷ []);
       transcript = record {
         few = good.few;
+        within = good.within;
         text = refl;
         entries = all_push log entry good.entries (record { event = spells.event; reply = spells.reply; fits = spells.fits });
         not_too_many = omega (arith, l, spells.numbered.1);
-        run = run_add (table_of rules) (beginning follows.nodes) end log entry s good.run answers;
+        run = run_add (table_of rules) (beginning_with follows.size follows.count) end log entry s good.run answers;
       };
-      splits = log_text bytes follows.good line rest behind rules follows.nodes log entry follows.splits good.text (first_line-splits rest line behind cut) spells.is;
+      splits = log_text bytes follows.good line rest behind rules follows.size follows.count log entry follows.splits good.text (first_line-splits rest line behind cut) spells.is;
     }
 
 more_entry : (rules : RuleSet) (p q : Position) (bytes line rest behind : List ℕ) (entry : Entry) (log : List Entry) (end : Moment) → Follows bytes rules log end rest → p.spent ≡ end.spent → Counts p.counted log → first_line rest ≡ Some (line, behind) → SpellsEntry line (length log + 1) entry → Answers (table_of rules) end.state end.spent entry.0 entry.1 q.state → q.spent ≡ spent_after p.spent entry.1 → q.counted ≡ counted_more p.counted entry.1 → IsReached bytes rules q behind
@@ -132,10 +136,11 @@ reached_end bytes rules p rest r none =
     let same : bytes ≡ r.follows.good = r.follows.splits ∙ ap (λ (z : List ℕ). r.follows.good ++ z) none ∙ append-nil r.follows.good in
     record {
       rules = rules;
-      nodes = r.follows.nodes;
+      size = r.follows.size;
+      count = r.follows.count;
       log = r.log;
       end = r.end;
-      transcript = subst (λ (b : List ℕ). IsTranscript b rules r.follows.nodes r.log r.end) (sym same) good;
+      transcript = subst (λ (b : List ℕ). IsTranscript b rules r.follows.size r.follows.count r.log r.end) (sym same) good;
       counts = r.counts;
     }
 

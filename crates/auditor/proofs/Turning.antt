@@ -4,9 +4,9 @@ use Rattle.std.proofs.lemmas.List.{append-nil, length-map, map-append}
 use Rattle.rule_machine.specs.declared.reply.Reply.{Reply}
 use Rattle.rule_machine.specs.declared.rules.RuleSet.{RuleSet}
 use Rattle.rule_machine.specs.declared.rules.RuleSet.TheVariants.{Hh, Manne}
-use Rattle.rule_machine.specs.State.{State, opening}
+use Rattle.rule_machine.specs.State.{State, opening_with}
 use Rattle.rule_machine.specs.RuleTable.{RuleTable}
-use Rattle.rule_machine.specs.Run.{Entry, Moment, Epoch, beginning, epoch_at, epochs_by, epochs_from}
+use Rattle.rule_machine.specs.Run.{Entry, Moment, Epoch, beginning_with, epoch_at, epochs_by, epochs_from}
 use Rattle.rule_machine.specs.Answer.{Answers, spent_after}
 use Rattle.rule_machine.specs.Tables.{table_of}
 use Rattle.rule_machine.specs.HsuHuang.{hsu_huang}
@@ -75,24 +75,25 @@ until_more number last epoch (first ∷ path) step at past next before is =
 
 -- The bytes begin with the transcript of a run that has led to the position, these epochs of it are over, and this one has begun.
 pub record IsListed (bytes : List ℕ) (rules : RuleSet) (p : Position) (rest : List ℕ) (past : List Epoch) (epoch : Epoch) : Type 0 where
-  pub nodes : ℕ
+  pub size : ℕ
+  pub count : ℕ
   pub path : List Stage
   pub good : List ℕ
-  pub transcript : IsTranscript good rules nodes (entries path) (path_end (beginning nodes) path)
+  pub transcript : IsTranscript good rules size count (entries path) (path_end (beginning_with size count) path)
   pub splits : bytes ≡ good ++ rest
-  pub state : p.state ≡ (path_end (beginning nodes) path).state
-  pub spent : p.spent ≡ (path_end (beginning nodes) path).spent
+  pub state : p.state ≡ (path_end (beginning_with size count) path).state
+  pub spent : p.spent ≡ (path_end (beginning_with size count) path).spent
   pub counts : Counts p.counted (entries path)
-  pub is_path : IsPath (table_of rules) (beginning nodes) path
-  pub past_is : past ≡ (epochs_until 1 (epoch_at 0 (opening nodes)) path).0
-  pub epoch_is : epoch ≡ (epochs_until 1 (epoch_at 0 (opening nodes)) path).1
+  pub is_path : IsPath (table_of rules) (beginning_with size count) path
+  pub past_is : past ≡ (epochs_until 1 (epoch_at 0 (opening_with size count)) path).0
+  pub epoch_is : epoch ≡ (epochs_until 1 (epoch_at 0 (opening_with size count)) path).1
 
 -- it is where an audit is
 pub listed_reached : (bytes : List ℕ) (rules : RuleSet) (p : Position) (rest : List ℕ) (past : List Epoch) (epoch : Epoch) → IsListed bytes rules p rest past epoch → IsReached bytes rules p rest
 listed_reached bytes rules p rest past epoch l = record {
   log = entries l.path;
-  end = path_end (beginning l.nodes) l.path;
-  follows = record { nodes = l.nodes; good = l.good; transcript = l.transcript; splits = l.splits };
+  end = path_end (beginning_with l.size l.count) l.path;
+  follows = record { size = l.size; count = l.count; good = l.good; transcript = l.transcript; splits = l.splits };
   state = l.state;
   spent = l.spent;
   counts = l.counts;
@@ -100,9 +101,10 @@ listed_reached bytes rules p rest past epoch l = record {
 
 pub listed_start : (bytes : List ℕ) (rules : RuleSet) (p : Position) (rest : List ℕ) (epoch : Epoch) → IsOpened bytes rules p rest → epoch ≡ epoch_at p.counted.entries p.state → IsListed bytes rules p rest [] epoch
 listed_start bytes rules p rest epoch o is =
-    let follows = follows_start bytes o.line rest rules o.nodes o.cut o.spells in
+    let follows = follows_start bytes o.line rest rules o.size o.count o.cut o.spells in
     record {
-      nodes = o.nodes;
+      size = o.size;
+      count = o.count;
       path = [];
       good = follows.good;
       transcript = follows.transcript;
@@ -123,27 +125,28 @@ listed_start bytes rules p rest epoch o is =
 entries_more : (path : List Stage) (step : Stage) → entries (path ++ step ∷ []) ≡ entries path ++ step.0 ∷ []
 entries_more path step = map-append (λ (x : Stage). x.0) path (step ∷ [])
 
-listed_step : (bytes line : List ℕ) (rules : RuleSet) (p q : Position) (rest behind : List ℕ) (past next : List Epoch) (epoch after : Epoch) (entry : Entry) (l : IsListed bytes rules p rest past epoch) → first_line rest ≡ Some (line, behind) → SpellsEntry line (length (entries l.path) + 1) entry → Answers (table_of rules) (path_end (beginning l.nodes) l.path).state (path_end (beginning l.nodes) l.path).spent entry.0 entry.1 q.state → q.spent ≡ spent_after (path_end (beginning l.nodes) l.path).spent entry.1 → q.counted ≡ counted_more p.counted entry.1
+listed_step : (bytes line : List ℕ) (rules : RuleSet) (p q : Position) (rest behind : List ℕ) (past next : List Epoch) (epoch after : Epoch) (entry : Entry) (l : IsListed bytes rules p rest past epoch) → first_line rest ≡ Some (line, behind) → SpellsEntry line (length (entries l.path) + 1) entry → Answers (table_of rules) (path_end (beginning_with l.size l.count) l.path).state (path_end (beginning_with l.size l.count) l.path).spent entry.0 entry.1 q.state → q.spent ≡ spent_after (path_end (beginning_with l.size l.count) l.path).spent entry.1 → q.counted ≡ counted_more p.counted entry.1
     → next ≡ past ++ (epochs_by entry.1 q.counted.entries q.state epoch).0 → after ≡ (epochs_by entry.1 q.counted.entries q.state epoch).1 → IsListed bytes rules q behind next after
 listed_step bytes line rules p q rest behind past next epoch after entry l cut spells answers spends counted next_is after_is =
-    let start = beginning l.nodes in
+    let start = beginning_with l.size l.count in
     let end = path_end start l.path in
     let step : Stage = (entry, q.state) in
     let path = l.path ++ step ∷ [] in
-    let follows = follows_more bytes line rest behind rules (entries l.path) end entry q.state (record { nodes = l.nodes; good = l.good; transcript = l.transcript; splits = l.splits }) cut spells answers in
+    let follows = follows_more bytes line rest behind rules (entries l.path) end entry q.state (record { size = l.size; count = l.count; good = l.good; transcript = l.transcript; splits = l.splits }) cut spells answers in
     let log = entries_more l.path step in
     let moment = end_more start l.path step in
     let last : q.counted.entries ≡ 1 + length l.path = ap (λ (c : Summary). c.entries) counted ∙ omega (arith, l.counts.entries, length-map l.path (λ (x : Stage). x.0)) in
     let number = q.counted.entries in
-    let first = epoch_at 0 (opening l.nodes) in
+    let first = epoch_at 0 (opening_with l.size l.count) in
     let turns = until_more 1 number first l.path step last next after
     (next_is ∙ ap₂ (λ (x : List Epoch) (e : Epoch). x ++ (epochs_by entry.1 number q.state e).0) l.past_is l.epoch_is)
     (after_is ∙ ap (λ (e : Epoch). (epochs_by entry.1 number q.state e).1) l.epoch_is) in
     record {
-      nodes = l.nodes;
+      size = l.size;
+      count = l.count;
       path = path;
       good = follows.good;
-      transcript = subst (λ (m : Moment). IsTranscript follows.good rules l.nodes (entries path) m) (sym moment) (subst (λ (log : List Entry). IsTranscript follows.good rules l.nodes log (record { state = q.state; spent = spent_after end.spent entry.1 })) (sym log) follows.transcript);
+      transcript = subst (λ (m : Moment). IsTranscript follows.good rules l.size l.count (entries path) m) (sym moment) (subst (λ (log : List Entry). IsTranscript follows.good rules l.size l.count log (record { state = q.state; spent = spent_after end.spent entry.1 })) (sym log) follows.transcript);
       splits = follows.splits;
       state = ap (λ (m : Moment). m.state) (sym moment);
       spent = spends ∙ ap (λ (m : Moment). m.spent) (sym moment);
@@ -161,7 +164,7 @@ listed_more bytes rules after_rules p q rest behind past next epoch after same l
     let good = one.good in
     let spells = subst (λ (n : ℕ). SpellsEntry one.line (n + 1) good.entry) l.counts.entries good.spells in
     let moved = subst (λ (s : State). Answers (table_of rules) s p.spent good.entry.0 good.entry.1 q.state) l.state good.answers in
-    let end = path_end (beginning l.nodes) l.path in
+    let end = path_end (beginning_with l.size l.count) l.path in
     let answers = subst (λ (n : ℕ). Answers (table_of rules) end.state n good.entry.0 good.entry.1 q.state) l.spent moved in
     let spends = good.spends ∙ ap (λ (n : ℕ). spent_after n good.entry.1) l.spent in
     let turned = turn good.entry.1 good.counted in
@@ -173,20 +176,21 @@ pub listed_all : (bytes : List ℕ) (rules : RuleSet) (p : Position) (rest : Lis
 listed_all bytes rules p rest past all epoch l none is =
     let same : bytes ≡ l.good = l.splits ∙ ap (λ (z : List ℕ). l.good ++ z) none ∙ append-nil l.good in
     record {
-      nodes = l.nodes;
+      size = l.size;
+      count = l.count;
       path = l.path;
       run = record {
-        end = path_end (beginning l.nodes) l.path;
-        transcript = subst (λ (b : List ℕ). IsTranscript b rules l.nodes (entries l.path) (path_end (beginning l.nodes) l.path)) (sym same) l.transcript;
+        end = path_end (beginning_with l.size l.count) l.path;
+        transcript = subst (λ (b : List ℕ). IsTranscript b rules l.size l.count (entries l.path) (path_end (beginning_with l.size l.count) l.path)) (sym same) l.transcript;
         is_path = l.is_path;
       };
-      are = is ∙ ap₂ (λ (x : List Epoch) (e : Epoch). x ++ e ∷ []) l.past_is l.epoch_is ∙ until_all 1 (epoch_at 0 (opening l.nodes)) l.path;
+      are = is ∙ ap₂ (λ (x : List Epoch) (e : Epoch). x ++ e ∷ []) l.past_is l.epoch_is ∙ until_all 1 (epoch_at 0 (opening_with l.size l.count)) l.path;
     }
 
 -- each epoch is within its bound
-bounded_by : (rules : RuleSet) (nodes : ℕ) (path : List Stage) → IsPath (table_of rules) (beginning nodes) path → All (IsWithinItsBound rules) (epochs_from 1 (epoch_at 0 (opening nodes)) path)
-bounded_by Hh nodes path is = opening_epochs_are_bounded hsu_huang 1 hsu_huang_table hsu_huang_charged nodes 1 path is
-bounded_by Manne nodes path is = opening_epochs_are_bounded manne 3 manne_table manne_charged nodes 1 path is
+bounded_by : (rules : RuleSet) (size count : ℕ) (path : List Stage) → IsPath (table_of rules) (beginning_with size count) path → All (IsWithinItsBound rules) (epochs_from 1 (epoch_at 0 (opening_with size count)) path)
+bounded_by Hh size count path is = opening_epochs_are_bounded hsu_huang 1 hsu_huang_table hsu_huang_charged size count 1 path is
+bounded_by Manne size count path is = opening_epochs_are_bounded manne 3 manne_table manne_charged size count 1 path is
 
 pub listed_bounded : (bytes : List ℕ) (rules : RuleSet) (all : List Epoch) → AreEpochs bytes rules all → All (IsWithinItsBound rules) all
-listed_bounded bytes rules all a = subst (All (IsWithinItsBound rules)) (sym a.are) (bounded_by rules a.nodes a.path a.run.is_path)
+listed_bounded bytes rules all a = subst (All (IsWithinItsBound rules)) (sym a.are) (bounded_by rules a.size a.count a.path a.run.is_path)

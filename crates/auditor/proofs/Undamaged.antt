@@ -3,7 +3,7 @@ use Rattle.std.proofs.Common.{◌≡◌, ◌≢◌, ℕ, zero, suc, ◌+◌, ◌
 use Rattle.std.proofs.lemmas.List.{append-nil, length-append, nil_from_length}
 use Rattle.rule_machine.specs.declared.rules.RuleSet.{RuleSet}
 use Rattle.rule_machine.specs.State.{State}
-use Rattle.rule_machine.specs.Run.{Entry, Moment, beginning}
+use Rattle.rule_machine.specs.Run.{Entry, Moment, beginning_with}
 use Rattle.rule_machine.specs.Answer.{Answers, spent_after}
 use Rattle.rule_machine.specs.Tables.{table_of}
 use Rattle.entry_grammar.specs.Spelling.{SpellsEntry}
@@ -27,10 +27,11 @@ left bytes rules log end rest neither follows none =
     let all : bytes ≡ follows.good = follows.splits ∙ ap (λ (z : List ℕ). follows.good ++ z) none ∙ append-nil follows.good in
     neither.refused (record { entries = length log; epochs = epoch_count log; moves = move_count log }) (record {
       rules = rules;
-      nodes = follows.nodes;
+      size = follows.size;
+      count = follows.count;
       log = log;
       end = end;
-      transcript = subst (λ (b : List ℕ). IsTranscript b rules follows.nodes log end) (sym all) follows.transcript;
+      transcript = subst (λ (b : List ℕ). IsTranscript b rules follows.size follows.count log end) (sym all) follows.transcript;
       counts = record { entries = refl; epochs = refl; moves = refl };
     })
 
@@ -90,8 +91,8 @@ walk (suc fuel) bytes rules log end rest few neither follows =
 begins : (bytes : List ℕ) → Neither bytes → (found : Option (List ℕ × List ℕ)) → first_line bytes ≡ found → ⊥
 begins bytes neither None cut = neither.undamaged BadHeader (subst HasBadHeader (sym cut) tt)
 begins bytes neither (Some (line, rest)) cut =
-    let bad : SpellsNoHeader line = λ rules nodes spells.
-    walk (length rest) bytes rules [] (beginning nodes) rest (omega arith) neither (follows_start bytes line rest rules nodes cut spells) in
+    let bad : SpellsNoHeader line = λ rules size count spells.
+    walk (length rest) bytes rules [] (beginning_with size count) rest (omega arith) neither (follows_start bytes line rest rules size count cut spells) in
     neither.undamaged BadHeader (subst HasBadHeader (sym cut) bad)
 
 pub undamaged_accepted : (bytes : List ℕ) → ((d : Damage) → IsDamage bytes d → ⊥) → ((c : Summary) → IsAccepted bytes c → ⊥) → ⊥

@@ -16,10 +16,11 @@ pub record Counts (c : Summary) (log : List Entry) : Type 0 where
 -- the bytes are the transcript of a run, with these counts
 pub record IsAccepted (bytes : List ℕ) (c : Summary) : Type 0 where
   pub rules : RuleSet
-  pub nodes : ℕ
+  pub size : ℕ
+  pub count : ℕ
   pub log : List Entry
   pub end : Moment
-  pub transcript : IsTranscript bytes rules nodes log end
+  pub transcript : IsTranscript bytes rules size count log end
   pub counts : Counts c log
 
 -- the bytes begin with the transcript of a run that has led to the position, and the rest follows

@@ -21,7 +21,7 @@ first_line [] = None
 first_line (b ∷ bytes) = if b == 10 then Some ([], bytes) else onto_line b (first_line bytes)
 
 abbrev pub SpellsNoHeader : List ℕ → Type 0
-SpellsNoHeader line = (rules : RuleSet) (nodes : ℕ) → SpellsHeader line rules nodes → ⊥
+SpellsNoHeader line = (rules : RuleSet) (size count : ℕ) → SpellsHeader line rules size count → ⊥
 
 -- there is no first line, or it is no header
 abbrev pub HasBadHeader : Option (List ℕ × List ℕ) → Type 0
@@ -38,9 +38,10 @@ HasNoEntry rest (Some found) = SpellsNoEntry found.0
 
 -- The bytes begin with a transcript, behind which there is a rest.
 pub record Follows (bytes : List ℕ) (rules : RuleSet) (log : List Entry) (end : Moment) (rest : List ℕ) : Type 0 where
-  pub nodes : ℕ
+  pub size : ℕ
+  pub count : ℕ
   pub good : List ℕ
-  pub transcript : IsTranscript good rules nodes log end
+  pub transcript : IsTranscript good rules size count log end
   pub splits : bytes ≡ good ++ rest
 
 -- the first line behind a transcript is the entry with this number

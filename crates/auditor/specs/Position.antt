@@ -1,7 +1,7 @@
 -- How far an audit has come, and what one line does to it.
 use Rattle.std.specs.Prelude.{◌≡◌, ◌≢◌, ℕ, ◌+◌, ◌*◌, ◌≤◌, List, Result, Ok, Err}
 use Rattle.rule_machine.specs.declared.reply.Reply.{Reply}
-use Rattle.rule_machine.specs.State.{State, opening}
+use Rattle.rule_machine.specs.State.{State, opening_with}
 use Rattle.rule_machine.specs.RuleTable.{RuleTable}
 use Rattle.rule_machine.specs.Run.{Entry}
 use Rattle.rule_machine.specs.Answer.{Answers, spent_after}
@@ -19,9 +19,9 @@ pub record Position : Type 0 where
   pub spent : ℕ
   pub counted : Summary
 
--- before any entry
-abbrev pub opening_position : ℕ → Position
-opening_position nodes = record { state = opening nodes; spent = 0; counted = record { entries = 0; epochs = 1; moves = 0 } }
+-- before any entry, where so many of the names are present
+abbrev pub opening_position : ℕ → ℕ → Position
+opening_position size count = record { state = opening_with size count; spent = 0; counted = record { entries = 0; epochs = 1; moves = 0 } }
 
 -- with one more entry
 abbrev pub counted_more : Summary → Reply → Summary

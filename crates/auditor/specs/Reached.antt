@@ -74,10 +74,11 @@ IsReplayFault bytes last (TooFew asked entries) = HasTooFew bytes last asked ent
 -- the first line is the header of these rules, and the rest follows
 pub record IsOpened (bytes : List ℕ) (rules : RuleSet) (p : Position) (rest : List ℕ) : Type 0 where
   pub line : List ℕ
-  pub nodes : ℕ
+  pub size : ℕ
+  pub count : ℕ
   pub cut : first_line bytes ≡ Some (line, rest)
-  pub spells : SpellsHeader line rules nodes
-  pub opening : p ≡ opening_position nodes
+  pub spells : SpellsHeader line rules size count
+  pub opening : p ≡ opening_position size count
 
 -- the next line is the next entry, the machine may give its reply, and the rest follows
 pub record IsOneFurther (t : RuleTable) (before : Position) (rest : List ℕ) (after : Position) (behind : List ℕ) : Type 0 where

@@ -4,7 +4,7 @@ use Rattle.std.specs.List.{AllByRecursion}
 use Rattle.rule_machine.specs.declared.reply.Reply.{Reply}
 use Rattle.rule_machine.specs.declared.reply.Reply.TheVariants.{Accepted, Refused, Moves, Shown, EnabledAre, Pairs, Counts}
 use Rattle.rule_machine.specs.declared.rules.RuleSet.{RuleSet}
-use Rattle.rule_machine.specs.Run.{Entry, Moment, Run, beginning}
+use Rattle.rule_machine.specs.Run.{Entry, Moment, Run, beginning_with}
 use Rattle.rule_machine.specs.Tables.{table_of}
 use Rattle.log_entry.specs.Kinds.{fits}
 use Rattle.line_text.specs.EventText.{IsEvent}
@@ -17,13 +17,15 @@ pub record IsEntry (entry : Entry) : Type 0 where
   pub reply : IsReply entry.1
   pub fits : IsTrue (fits entry.0 entry.1)
 
--- The bytes are the text of a log, which the machine may give from the opening state on, and it is at the end then.
-pub record IsTranscript (bytes : List ℕ) (rules : RuleSet) (nodes : ℕ) (log : List Entry) (end : Moment) : Type 0 where
-  pub few : nodes ≤ 65535
-  pub text : bytes ≡ transcript rules nodes log
+-- The bytes are the text of a log, which the machine may give from the opening state on, where so many of the names are
+-- present, and it is at the end then.
+pub record IsTranscript (bytes : List ℕ) (rules : RuleSet) (size count : ℕ) (log : List Entry) (end : Moment) : Type 0 where
+  pub few : size ≤ 65535
+  pub within : count ≤ size
+  pub text : bytes ≡ transcript rules size count log
   pub entries : AllByRecursion IsEntry log
   pub not_too_many : length log ≤ max_entries
-  pub run : Run (table_of rules) (beginning nodes) log end
+  pub run : Run (table_of rules) (beginning_with size count) log end
 
 -- how many disturbances a reply says were made: only they are answered by Accepted
 abbrev pub disturbances_in : Reply → ℕ

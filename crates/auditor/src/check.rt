@@ -36,13 +36,14 @@ impl Model for Audit {
 }
 
 impl Audit {
-    /// An audit before the first entry.
-    pub(crate) fn new(alloc: Global, nodes: u32) -> Result<Audit, Want>
-        requires { nodes ≤ 65535 }
-        ensures { IfOk result (λ audit. audit ≡ opening_position nodes) }
+    /// An audit before the first entry, where so many of the names are present.
+    pub(crate) fn new(alloc: Global, size: u32, count: u32) -> Result<Audit, Want>
+        requires few { size ≤ 65535 }
+        requires within { count ≤ size }
+        ensures { IfOk result (λ audit. audit ≡ opening_position size count) }
     {
         Ok(Audit {
-            judge: Judge::new(alloc, nodes)?,
+            judge: Judge::with_present(alloc, size, count)?,
             spent: 0,
             counted: Summary {
                 entries: 0,

@@ -10,11 +10,11 @@ ghost use Rattle.auditor.specs.Damage.{IsDamage};
 ghost use Rattle.auditor.specs.Accepted.{IsAccepted};
 ghost use Rattle.auditor.specs.Once.{SameRun};
 
-/// A text is the transcript of one run at most: the rule set, the number of nodes, the entries and where the machine is
-/// at the end are determined by the bytes.
+/// A text is the transcript of one run at most: the rule set, the number of names, how many of them are
+/// present at the start, the entries and where the machine is at the end are determined by the bytes.
 pub fn one_run()
-    ensures { (bytes : List ℕ) (r q : RuleSet) (m n : ℕ) (log also : List Entry) (end last : Moment)
-        → IsTranscript bytes r m log end → IsTranscript bytes q n also last → SameRun r q m n log also end last }
+    ensures { (bytes : List ℕ) (r q : RuleSet) (m n c d : ℕ) (log also : List Entry) (end last : Moment)
+        → IsTranscript bytes r m c log end → IsTranscript bytes q n d also last → SameRun r q m n c d log also end last }
 {}
 
 /// A text that is accepted is accepted with one summary.

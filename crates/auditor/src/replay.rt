@@ -40,10 +40,10 @@ impl<'a> Replay<'a> {
         let Some((line, rest)) = split_line(bytes) else {
             return Err(JudgeFault::Damaged(Damage::BadHeader));
         };
-        let Ok((rules, nodes)) = read_header(line) else {
+        let Ok((rules, size, count)) = read_header(line) else {
             return Err(JudgeFault::Damaged(Damage::BadHeader));
         };
-        let audit = Audit::new(alloc, nodes)?;
+        let audit = Audit::new(alloc, size, count)?;
         Ok(Replay { rules, audit, rest })
     }
 

@@ -63,10 +63,10 @@ fn judge_lines(alloc: Global, bytes: &[u8]) -> Result<Summary, JudgeFault>
     let Some((line, behind)) = split_line(bytes) else {
         return Err(JudgeFault::Damaged(Damage::BadHeader));
     };
-    let Ok((rules, nodes)) = read_header(line) else {
+    let Ok((rules, size, count)) = read_header(line) else {
         return Err(JudgeFault::Damaged(Damage::BadHeader));
     };
-    let mut audit = Audit::new(alloc, nodes)?;
+    let mut audit = Audit::new(alloc, size, count)?;
     let mut rest = behind;
     while !rest.is_empty() {
         let Some((line, behind)) = split_line(rest) else {

@@ -1,12 +1,13 @@
 -- What posting and publishing make of a board.
-use Rattle.std.proofs.Common.{◌≡◌, ℕ, ◌+◌, ◌<◌, List, [], ◌∷◌, ◌++◌, length, Option, Some, inr, ⊎_elim, refl, ap, sym, ◌∙◌, subst, arith, length-append}
+use Rattle.std.proofs.Common.{◌≡◌, ◌+◌, ◌<◌, List, [], ◌∷◌, ◌++◌, length, Option, Some, inr, ⊎_elim, refl, ap, sym, ◌∙◌, subst, arith, length-append}
 use Rattle.std.proofs.lemmas.List.Sums.{fold-append}
 use Rattle.rule_machine.specs.Run.{Entry}
 use Rattle.logbook.specs.Pages.{Book}
 use Rattle.board.specs.declared.image.Posted.{Posted}
 use Rattle.board.specs.History.{Mark, marked, standing, published, posted, shown}
 use Rattle.board.specs.Kept.{max_marks}
-use Rattle.board.specs.Sight.{Sight}
+use Rattle.board.specs.Row.{Extent}
+use Rattle.board.specs.Sight.{Sight, extent_of}
 use Rattle.board.specs.Rule.{Follows}
 use Rattle.board.specs.Boards.{entries_of, absorbed, IsReady, Fits, IsBoard}
 use Rattle.board.proofs.Turning.{follows_self, later, goes_on}
@@ -19,7 +20,7 @@ none_pending (p ∷ pending) is = absurd (cc is)
 post_standing : (marks : List Mark) (entry : Entry) → standing (marks ++ Some entry ∷ []) ≡ (published marks, entry ∷ [])
 post_standing marks entry = fold-append marked ([], []) marks (Some entry ∷ [])
 
-module _ (law : ℕ → List Entry → Type 0) (x : Sight) (known : Option Sight) (marks : List Mark) (book : Book) (told : List Mark) where
+module _ (law : Extent → List Entry → Type 0) (x : Sight) (known : Option Sight) (marks : List Mark) (book : Book) (told : List Mark) where
   -- the entry that was appended is the one that the history has posted last
   pub posts : (marks' : List Mark) (book' : Book) (p : Posted) → IsBoard law x known [] marks book told → marks' ≡ marks ++ Some p.entry ∷ [] → book' ≡ book
       → p.past.seen.log ≡ marks' → p.past.seen.book ≡ book' → p.front ≡ length (shown x.marks) + 1 → length marks + 1 < max_marks → IsBoard law x known (p ∷ []) marks' book' told
@@ -36,14 +37,14 @@ module _ (law : ℕ → List Entry → Type 0) (x : Sight) (known : Option Sight
   shows_more : (pending : List Posted) (p : Posted) → IsBoard law x known pending marks book told → Fits x marks book p → shown p.past.seen.log ≡ shown x.marks ++ p.entry ∷ []
   shows_more pending p b f = ap shown f.past ∙ (ap (λ l. l ++ posted marks) b.list ∙ ap (λ l. shown x.marks ++ l) f.last)
 
-  pub is_ready : (pending : List Posted) → IsBoard law x known pending marks book told → law (length x.row) (shown x.marks ++ entries_of pending) → IsReady law x pending
+  pub is_ready : (pending : List Posted) → IsBoard law x known pending marks book told → law (extent_of x) (shown x.marks ++ entries_of pending) → IsReady law x pending
   is_ready pending b holds =
       ⊎_elim (λ (none : pending ≡ []). subst (IsReady law x) (sym none) (λ s. s, follows_self x))
       (λ (one : (p : Posted) × (pending ≡ p ∷ []) × Fits x marks book p).
       let p = one.0 in
       let f = one.2 in
       let more : shown p.past.seen.log ≡ shown x.marks ++ p.entry ∷ [] = shows_more pending p b f in
-      let here : law (length x.row) (shown x.marks ++ p.entry ∷ []) = subst (λ (l : List Posted). law (length x.row) (shown x.marks ++ entries_of l)) one.1 holds in
+      let here : law (extent_of x) (shown x.marks ++ p.entry ∷ []) = subst (λ (l : List Posted). law (extent_of x) (shown x.marks ++ entries_of l)) one.1 holds in
       let at : p.past.seen.book ≡ x.book = f.same ∙ b.same in
       subst (IsReady law x) (sym one.1) (
         later law x p.entry p.front p.past.seen.log p.past.seen.book more f.number here,

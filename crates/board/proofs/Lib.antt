@@ -5,3 +5,4 @@ pub mod Machine
 pub mod OneLog
 pub mod Rows
 pub mod Turning
+mod Passes

@@ -1,11 +1,11 @@
--- What a run makes of the pointers.
+-- What a run makes of the pointers, and of who is present.
 use Rattle.std.proofs.Common.{◌≡◌, ℕ, Bool, true, false, List, [], ◌∷◌, ◌++◌, fold, Option, Some, None, refl, ap, sym, ◌∙◌, subst}
 use Rattle.std.specs.Prelude.{slice_set, if◌then◌else◌}
 use mathlib.Core.List.{IsPrefix}
 use Rattle.rule_machine.specs.declared.act.Act.{Act}
 use Rattle.rule_machine.specs.declared.act.Act.TheVariants.{Update, Marry, Seduce, Abandon}
 use Rattle.rule_machine.specs.declared.event.Event.{Event}
-use Rattle.rule_machine.specs.declared.event.Event.TheVariants.{Link, Unlink, Point, Flag, Step, Show, Enabled, Matching, Status}
+use Rattle.rule_machine.specs.declared.event.Event.TheVariants.{Link, Unlink, Point, Flag, Step, Show, Enabled, Matching, Status, Join, Leave}
 use Rattle.rule_machine.specs.declared.moved.Moved.{Moved}
 use Rattle.rule_machine.specs.declared.refusal.Refusal.{Refusal}
 use Rattle.rule_machine.specs.declared.reply.Reply.{Reply}
@@ -16,12 +16,16 @@ use Rattle.rule_machine.specs.Refuse.{refusal_of}
 use Rattle.rule_machine.specs.Step.{written, after_move}
 use Rattle.rule_machine.specs.Disturbance.{without_pointer}
 use Rattle.rule_machine.specs.Answer.{Does, AnswersBy, Answers, spent_after}
-use Rattle.rule_machine.specs.Run.{Entry, Moment, Run, beginning}
-use Rattle.board.specs.Row.{Row, cleared, moved_by, moved, effect_of, effect}
+use Rattle.rule_machine.specs.Run.{Entry, Moment, Run, beginning_with}
+use Rattle.board.specs.Row.{Row, Extent, cleared, moved_by, moved, effect_of, effect, here_of, here_by}
 use Rattle.board.specs.Runs.{IsRun}
 
 abbrev pub pointers_of : State → Row
 pointers_of s = s.registers.pointers
+
+-- how many names there are, and which of them are present
+abbrev pub names_of : State → ℕ × List Bool
+names_of s = (s.network.size, s.network.here)
 
 cleared_if : (r : Registers) (v : ℕ) (b : Bool) → (if b then with_pointer r v None else r).pointers ≡ if b then slice_set r.pointers v None else r.pointers
 cleared_if r v true = refl
@@ -45,38 +49,56 @@ made s [] r = refl
 made s (m ∷ moves) r = made s moves (after_move s r m) ∙ ap (λ row. fold moved row moves) (one s r m.node m.act m.target)
 
 module _ (t : RuleTable) (s : State) (spent : ℕ) (s' : State) where
-  does : (event : Event) (reply : Reply) → Does t s spent event reply s' → pointers_of s' ≡ effect_of s.registers.pointers event reply
-  does (Link a b) Accepted h = ap pointers_of h
+  abbrev IsLeft : Event → Reply → Type 0
+  IsLeft event reply =
+      (pointers_of s' ≡ effect_of s.registers.pointers event reply) × (names_of s' ≡ (s.network.size, here_of s.network.here event reply))
+
+  does : (event : Event) (reply : Reply) → Does t s spent event reply s' → IsLeft event reply
+  does (Link a b) Accepted h = (ap pointers_of h, ap names_of h)
   does (Link a b) (Refused refusal) h = absurd h
   does (Link a b) (Moves moves) h = absurd h
   does (Link a b) (Shown target) h = absurd h
   does (Link a b) (EnabledAre nodes) h = absurd h
   does (Link a b) (Pairs pairs) h = absurd h
   does (Link a b) (Counts counts) h = absurd h
-  does (Unlink a b) Accepted h = ap pointers_of h ∙ unlinked s.registers a b
+  does (Unlink a b) Accepted h = (ap pointers_of h ∙ unlinked s.registers a b, ap names_of h)
   does (Unlink a b) (Refused refusal) h = absurd h
   does (Unlink a b) (Moves moves) h = absurd h
   does (Unlink a b) (Shown target) h = absurd h
   does (Unlink a b) (EnabledAre nodes) h = absurd h
   does (Unlink a b) (Pairs pairs) h = absurd h
   does (Unlink a b) (Counts counts) h = absurd h
-  does (Point v target) Accepted h = ap pointers_of h
+  does (Point v target) Accepted h = (ap pointers_of h, ap names_of h)
   does (Point v target) (Refused refusal) h = absurd h
   does (Point v target) (Moves moves) h = absurd h
   does (Point v target) (Shown shown) h = absurd h
   does (Point v target) (EnabledAre nodes) h = absurd h
   does (Point v target) (Pairs pairs) h = absurd h
   does (Point v target) (Counts counts) h = absurd h
-  does (Flag v value) Accepted h = ap pointers_of h
+  does (Flag v value) Accepted h = (ap pointers_of h, ap names_of h)
   does (Flag v value) (Refused refusal) h = absurd h
   does (Flag v value) (Moves moves) h = absurd h
   does (Flag v value) (Shown target) h = absurd h
   does (Flag v value) (EnabledAre nodes) h = absurd h
   does (Flag v value) (Pairs pairs) h = absurd h
   does (Flag v value) (Counts counts) h = absurd h
+  does (Join v) Accepted h = (ap pointers_of h, ap names_of h)
+  does (Join v) (Refused refusal) h = absurd h
+  does (Join v) (Moves moves) h = absurd h
+  does (Join v) (Shown target) h = absurd h
+  does (Join v) (EnabledAre nodes) h = absurd h
+  does (Join v) (Pairs pairs) h = absurd h
+  does (Join v) (Counts counts) h = absurd h
+  does (Leave v) Accepted h = (ap pointers_of h, ap names_of h)
+  does (Leave v) (Refused refusal) h = absurd h
+  does (Leave v) (Moves moves) h = absurd h
+  does (Leave v) (Shown target) h = absurd h
+  does (Leave v) (EnabledAre nodes) h = absurd h
+  does (Leave v) (Pairs pairs) h = absurd h
+  does (Leave v) (Counts counts) h = absurd h
   does (Step items) Accepted h = absurd h
   does (Step items) (Refused refusal) h = absurd h
-  does (Step items) (Moves moves) h = ap pointers_of h.after ∙ made s moves s.registers
+  does (Step items) (Moves moves) h = (ap pointers_of h.after ∙ made s moves s.registers, ap names_of h.after)
   does (Step items) (Shown target) h = absurd h
   does (Step items) (EnabledAre nodes) h = absurd h
   does (Step items) (Pairs pairs) h = absurd h
@@ -84,7 +106,7 @@ module _ (t : RuleTable) (s : State) (spent : ℕ) (s' : State) where
   does (Show v) Accepted h = absurd h
   does (Show v) (Refused refusal) h = absurd h
   does (Show v) (Moves moves) h = absurd h
-  does (Show v) (Shown target) h = ap pointers_of h.1
+  does (Show v) (Shown target) h = (ap pointers_of h.1, ap names_of h.1)
   does (Show v) (EnabledAre nodes) h = absurd h
   does (Show v) (Pairs pairs) h = absurd h
   does (Show v) (Counts counts) h = absurd h
@@ -92,7 +114,7 @@ module _ (t : RuleTable) (s : State) (spent : ℕ) (s' : State) where
   does Enabled (Refused refusal) h = absurd h
   does Enabled (Moves moves) h = absurd h
   does Enabled (Shown target) h = absurd h
-  does Enabled (EnabledAre nodes) h = ap pointers_of h.1
+  does Enabled (EnabledAre nodes) h = (ap pointers_of h.1, ap names_of h.1)
   does Enabled (Pairs pairs) h = absurd h
   does Enabled (Counts counts) h = absurd h
   does Matching Accepted h = absurd h
@@ -100,7 +122,7 @@ module _ (t : RuleTable) (s : State) (spent : ℕ) (s' : State) where
   does Matching (Moves moves) h = absurd h
   does Matching (Shown target) h = absurd h
   does Matching (EnabledAre nodes) h = absurd h
-  does Matching (Pairs pairs) h = ap pointers_of h.1
+  does Matching (Pairs pairs) h = (ap pointers_of h.1, ap names_of h.1)
   does Matching (Counts counts) h = absurd h
   does Status Accepted h = absurd h
   does Status (Refused refusal) h = absurd h
@@ -108,28 +130,42 @@ module _ (t : RuleTable) (s : State) (spent : ℕ) (s' : State) where
   does Status (Shown target) h = absurd h
   does Status (EnabledAre nodes) h = absurd h
   does Status (Pairs pairs) h = absurd h
-  does Status (Counts counts) h = ap pointers_of h.1
+  does Status (Counts counts) h = (ap pointers_of h.1, ap names_of h.1)
 
-  by_refusal : (event : Event) (reply : Reply) (refusal : Option Refusal) → AnswersBy t s spent event refusal reply s' → pointers_of s' ≡ effect_of s.registers.pointers event reply
-  by_refusal event reply (Some refusal) h = ap pointers_of h.1 ∙ sym (ap (effect_of s.registers.pointers event) h.0)
+  by_refusal : (event : Event) (reply : Reply) (refusal : Option Refusal) → AnswersBy t s spent event refusal reply s' → IsLeft event reply
+  by_refusal event reply (Some refusal) h =
+      (ap pointers_of h.1 ∙ sym (ap (effect_of s.registers.pointers event) h.0), ap names_of h.1 ∙ sym (ap (λ (r : Reply). (s.network.size, here_of s.network.here event r)) h.0))
   by_refusal event reply None h = does event reply h
 
-  -- an answer changes the pointers as its entry says
-  pub answered : (event : Event) (reply : Reply) → Answers t s spent event reply s' → pointers_of s' ≡ effect_of s.registers.pointers event reply
+  -- an answer changes the pointers and who is present as its entry says
+  pub answered : (event : Event) (reply : Reply) → Answers t s spent event reply s' → IsLeft event reply
   answered event reply h = by_refusal event reply (refusal_of t s event) h
 
 pub run_pointers : (t : RuleTable) (start : Moment) (log : List Entry) (end : Moment) → Run t start log end → pointers_of end.state ≡ fold effect start.state.registers.pointers log
 run_pointers t start [] end h = ap (λ m. pointers_of m.state) h
 run_pointers t start (entry ∷ log) end h =
     run_pointers t (record { state = h.0; spent = spent_after start.spent entry.1 }) log end h.2
-    ∙ ap (λ row. fold effect row log) (answered t start.state start.spent h.0 entry.0 entry.1 h.1)
+    ∙ ap (λ row. fold effect row log) (answered t start.state start.spent h.0 entry.0 entry.1 h.1).0
+
+pub run_here : (t : RuleTable) (start : Moment) (log : List Entry) (end : Moment) → Run t start log end → end.state.network.here ≡ fold here_by start.state.network.here log
+run_here t start [] end h = ap (λ m. m.state.network.here) h
+run_here t start (entry ∷ log) end h =
+    let left = answered t start.state start.spent h.0 entry.0 entry.1 h.1 in
+    run_here t (record { state = h.0; spent = spent_after start.spent entry.1 }) log end h.2 ∙ ap (λ here. fold here_by here log) (ap (λ n. n.1) left.1)
+
+pub run_size : (t : RuleTable) (start : Moment) (log : List Entry) (end : Moment) → Run t start log end → end.state.network.size ≡ start.state.network.size
+run_size t start [] end h = ap (λ m. m.state.network.size) h
+run_size t start (entry ∷ log) end h =
+    let left = answered t start.state start.spent h.0 entry.0 entry.1 h.1 in
+    run_size t (record { state = h.0; spent = spent_after start.spent entry.1 }) log end h.2 ∙ ap (λ n. n.0) left.1
 
 pub run_begins : (t : RuleTable) (start : Moment) (some rest : List Entry) (end : Moment) → Run t start (some ++ rest) end → (middle : Moment) × Run t start some middle
 run_begins t start [] rest end h = (start, refl)
 run_begins t start (entry ∷ some) rest end h =
     let m = run_begins t (record { state = h.0; spent = spent_after start.spent entry.1 }) some rest end h.2 in (m.0, (h.0, h.1, m.1))
 
-pub is_run_begins : (t : RuleTable) (places : ℕ) (some all : List Entry) → IsPrefix some all → IsRun t places all → IsRun t places some
-is_run_begins t places some all p h =
-    let whole : Run t (beginning h.0) (some ++ p.0) h.1 = subst (λ (l : List Entry). Run t (beginning h.0) l h.1) (sym p.1) h.3 in
-    let m = run_begins t (beginning h.0) some p.0 h.1 whole in (h.0, m.0, h.2, m.1)
+pub is_run_begins : (t : RuleTable) (extent : Extent) (some all : List Entry) → IsPrefix some all → IsRun t extent all → IsRun t extent some
+is_run_begins t extent some all p h =
+    let begun : Moment = beginning_with h.0 extent.first in
+    let whole : Run t begun (some ++ p.0) h.1 = subst (λ (l : List Entry). Run t begun l h.1) (sym p.1) h.3 in
+    let m = run_begins t begun some p.0 h.1 whole in (h.0, m.0, h.2, m.1)

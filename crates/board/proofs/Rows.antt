@@ -1,15 +1,16 @@
 -- What entries do to the pointers.
-use Rattle.std.proofs.Common.{◌≡◌, ℕ, Bool, true, false, List, [], ◌∷◌, length, fold, Option, None, refl, ◌∙◌}
-use Rattle.std.proofs.lemmas.List.{length-set}
+use Rattle.std.proofs.Common.{◌≡◌, ℕ, Bool, true, false, List, [], ◌∷◌, length, map, fold, Option, None, refl, ◌∙◌}
+use Rattle.std.proofs.lemmas.List.{length-set, length-map}
 use Rattle.std.specs.Prelude.{slice_set, if◌then◌else◌}
 use Rattle.rule_machine.specs.declared.act.Act.{Act}
 use Rattle.rule_machine.specs.declared.act.Act.TheVariants.{Update, Marry, Seduce, Abandon}
 use Rattle.rule_machine.specs.declared.event.Event.{Event}
-use Rattle.rule_machine.specs.declared.event.Event.TheVariants.{Link, Unlink, Point, Flag, Step, Show, Enabled, Matching, Status}
+use Rattle.rule_machine.specs.declared.event.Event.TheVariants.{Link, Unlink, Point, Flag, Step, Show, Enabled, Matching, Status, Join, Leave}
 use Rattle.rule_machine.specs.declared.moved.Moved.{Moved}
 use Rattle.rule_machine.specs.declared.reply.Reply.{Reply}
 use Rattle.rule_machine.specs.declared.reply.Reply.TheVariants.{Accepted, Refused, Moves, Shown, EnabledAre, Pairs, Counts}
 use Rattle.rule_machine.specs.State.{is_at}
+use Rattle.rule_machine.specs.Disturbance.{unless_at}
 use Rattle.rule_machine.specs.Run.{Entry}
 use Rattle.board.specs.Row.{Row, pointer_in, cleared, moved_by, moved, disturbed, effect_of, effect}
 
@@ -35,6 +36,8 @@ disturbed_length row (Unlink a b) = cleared_length (cleared row a b) b a ∙ cle
 disturbed_length row (Point v target) = length-set row v target
 disturbed_length row (Link a b) = refl
 disturbed_length row (Flag v value) = refl
+disturbed_length row (Join v) = refl
+disturbed_length row (Leave v) = length-set (map (unless_at v) row) v None ∙ length-map row (unless_at v)
 disturbed_length row (Step items) = refl
 disturbed_length row (Show v) = refl
 disturbed_length row Enabled = refl

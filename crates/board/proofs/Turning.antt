@@ -9,8 +9,8 @@ use Rattle.atomic_table.proofs.Lists.{at_set, at_snoc}
 use Rattle.rule_machine.specs.Run.{Entry}
 use Rattle.logbook.specs.Pages.{Book}
 use Rattle.board.specs.History.{Mark, shown}
-use Rattle.board.specs.Row.{pointers_after, effect}
-use Rattle.board.specs.Sight.{Sight, after}
+use Rattle.board.specs.Row.{Extent, pointers_after, effect, here_after, here_by}
+use Rattle.board.specs.Sight.{Sight, after, extent_of}
 use Rattle.board.specs.Rule.{Follows, IsSound, Publishes, Sees}
 use Rattle.board.proofs.Fronts.{prefix_self, prefix_more, prefix_trans}
 use Rattle.board.proofs.Rows.{effect_length}
@@ -23,7 +23,10 @@ follows_on None x y f g = tt
 follows_on (Some s) x y f g =
     (g.0 ∙ f.0, g.1 ∙ f.1, prefix_trans (shown s.marks) (shown x.marks) (shown y.marks) f.2 g.2)
 
-module _ (law : ℕ → List Entry → Type 0) where
+abbrev with_places : Sight → ℕ → Extent
+with_places x places = record { places = places; first = x.first }
+
+module _ (law : Extent → List Entry → Type 0) where
   -- a copy that goes on from the one before may be shown
   pub turns : (seat : ℕ) (v : Option Sight) (x y : Sight) → (IsSound law x → IsSound law y) → Follows (Some x) y → TurnsAt (Publishes law) seat v x y (Sees law)
   turns seat v x y sound on views h at = (
@@ -69,19 +72,22 @@ module _ (law : ℕ → List Entry → Type 0) where
 
   -- a copy one entry later is in step
   pub later : (x : Sight) (entry : Entry) (front : ℕ) (marks : List Mark) (book : Book) → shown marks ≡ shown x.marks ++ entry ∷ []
-      → front ≡ length (shown x.marks) + 1 → law (length x.row) (shown x.marks ++ entry ∷ []) → IsSound law x → IsSound law (after x entry front marks book)
+      → front ≡ length (shown x.marks) + 1 → law (extent_of x) (shown x.marks ++ entry ∷ []) → IsSound law x → IsSound law (after x entry front marks book)
   later x entry front marks book is number holds sound =
       let n : length (effect x.row entry) ≡ length x.row = effect_length x.row entry in
       let more : effect x.row entry ≡ pointers_after (length x.row) (shown x.marks ++ entry ∷ []) =
       ap (λ r. effect r entry) sound.row ∙ sym (fold-append effect (pointers_after (length x.row) []) (shown x.marks) (entry ∷ [])) in
+      let here : here_by x.here entry ≡ here_after (extent_of x) (shown x.marks ++ entry ∷ []) =
+      ap (λ h. here_by h entry) sound.here ∙ sym (fold-append here_by (here_after (extent_of x) []) (shown x.marks) (entry ∷ [])) in
       record {
         row = rw (n, is) more;
+        here = rw (n, is) here;
         front = number ∙ rw is (omega (arith, length-append (shown x.marks) (entry ∷ [])));
         lawful = rw (n, is) holds;
       }
 
   pub goes_on : (x : Sight) (entry : Entry) (front : ℕ) (marks : List Mark) → shown marks ≡ shown x.marks ++ entry ∷ [] → Follows (Some x) (after x entry front marks x.book)
-  goes_on x entry front marks is = (refl, effect_length x.row entry, rw is (prefix_more (shown x.marks) (entry ∷ [])))
+  goes_on x entry front marks is = (refl, ap (λ (n : ℕ). with_places x n) (effect_length x.row entry), rw is (prefix_more (shown x.marks) (entry ∷ [])))
 
   -- a look shows what begins the copy that was known
   pub goes_on_from : (list : List Entry) (v : Option Sight) (x : Sight) (w : Option Sight) (s : Sight) → v ≡ Some s → Sees law v x x w → IsPrefix list (shown s.marks)

@@ -1,11 +1,12 @@
 -- How the parts of a board, of a reader and of a look hang together.
-use Rattle.std.specs.Prelude.{◌≡◌, ◌⊎◌, ℕ, ◌+◌, ◌<◌, List, [], ◌∷◌, length, map, fold, Option, Some}
+use Rattle.std.specs.Prelude.{◌≡◌, ◌⊎◌, ◌+◌, ◌<◌, List, [], ◌∷◌, length, map, fold, Option, Some}
 use mathlib.Core.List.{IsPrefix}
 use Rattle.rule_machine.specs.Run.{Entry}
 use Rattle.logbook.specs.Pages.{Book}
 use Rattle.board.specs.declared.image.Posted.{Posted}
 use Rattle.board.specs.History.{Mark, published, posted, shown}
 use Rattle.board.specs.Kept.{max_marks}
+use Rattle.board.specs.Row.{Extent}
 use Rattle.board.specs.Sight.{Sight, after}
 use Rattle.board.specs.Rule.{Follows, IsSound}
 
@@ -17,7 +18,7 @@ abbrev pub absorbed : Sight → Posted → Sight
 absorbed x p = after x p.entry p.front p.past.seen.log p.past.seen.book
 
 -- the copy that has all that is pending may be shown after x
-abbrev pub IsReady : (ℕ → List Entry → Type 0) → Sight → List Posted → Type 0
+abbrev pub IsReady : (Extent → List Entry → Type 0) → Sight → List Posted → Type 0
 IsReady law x pending = (IsSound law x → IsSound law (fold absorbed x pending)) × Follows (Some x) (fold absorbed x pending)
 
 -- it is the entry that the history has posted last, with its number; one mark more can be counted
@@ -29,7 +30,7 @@ pub record Fits (x : Sight) (marks : List Mark) (book : Book) (p : Posted) : Typ
   pub room : length marks < max_marks
 
 -- The copy that readers take shows what the history published, the writer knows it, and at most one entry is pending.
-pub record IsBoard (law : ℕ → List Entry → Type 0) (x : Sight) (known : Option Sight) (pending : List Posted) (marks : List Mark) (book : Book) (told : List Mark) : Type 0 where
+pub record IsBoard (law : Extent → List Entry → Type 0) (x : Sight) (known : Option Sight) (pending : List Posted) (marks : List Mark) (book : Book) (told : List Mark) : Type 0 where
   pub sound : IsSound law x
   pub knows : known ≡ Some x
   pub same : book ≡ x.book

@@ -1,13 +1,15 @@
--- The pointer registers alone, as a log of events and replies changes them. A name is its own place, and place 0 is nobody's.
-use Rattle.std.specs.Prelude.{ℕ, List, Option, None, Some, fold, replicate, slice_index_or, slice_set, if◌then◌else◌}
+-- The pointer registers, and who is present, as a log of events and replies changes them. A name is its own place, and place 0 is nobody's.
+use Rattle.std.specs.Prelude.{ℕ, Bool, true, false, ◌&&◌, List, Option, None, Some, fold, map, replicate, nat_le, slice_index_or, slice_set, if◌then◌else◌}
+use Rattle.std.specs.List.{range_with_len}
 use Rattle.rule_machine.specs.declared.act.Act.{Act}
 use Rattle.rule_machine.specs.declared.act.Act.TheVariants.{Update, Marry, Seduce, Abandon}
 use Rattle.rule_machine.specs.declared.event.Event.{Event}
-use Rattle.rule_machine.specs.declared.event.Event.TheVariants.{Link, Unlink, Point, Flag, Step, Show, Enabled, Matching, Status}
+use Rattle.rule_machine.specs.declared.event.Event.TheVariants.{Link, Unlink, Point, Flag, Step, Show, Enabled, Matching, Status, Join, Leave}
 use Rattle.rule_machine.specs.declared.moved.Moved.{Moved}
 use Rattle.rule_machine.specs.declared.reply.Reply.{Reply}
 use Rattle.rule_machine.specs.declared.reply.Reply.TheVariants.{Accepted, Refused, Moves, Shown, EnabledAre, Pairs, Counts}
 use Rattle.rule_machine.specs.State.{is_at}
+use Rattle.rule_machine.specs.Disturbance.{unless_at}
 use Rattle.rule_machine.specs.Run.{Entry}
 
 abbrev pub Row : Type 0
@@ -44,6 +46,8 @@ disturbed row (Link a b) = row
 disturbed row (Unlink a b) = cleared (cleared row a b) b a
 disturbed row (Point v target) = slice_set row v target
 disturbed row (Flag v value) = row
+disturbed row (Join v) = row
+disturbed row (Leave v) = slice_set (map (unless_at v) row) v None
 disturbed row (Step items) = row
 disturbed row (Show v) = row
 disturbed row Enabled = row
@@ -66,3 +70,43 @@ effect row entry = effect_of row entry.0 entry.1
 -- the pointers after a log, from null everywhere
 abbrev pub pointers_after : ℕ → List Entry → Row
 pointers_after places log = fold effect (replicate places None) log
+
+-- how many places there are, and how many nodes were present before any entry: those with the names from 1 on
+pub record Extent : Type 0 where
+  pub places : ℕ
+  pub first : ℕ
+
+-- at which places there was a node before any entry
+abbrev pub first_here : Extent → List Bool
+first_here extent = map (λ v. nat_le 1 v && nat_le v extent.first) (range_with_len 0 extent.places)
+
+-- what an accepted edit or fault does to who is present
+abbrev pub turned : List Bool → Event → List Bool
+turned here (Link a b) = here
+turned here (Unlink a b) = here
+turned here (Point v target) = here
+turned here (Flag v value) = here
+turned here (Join v) = slice_set here v true
+turned here (Leave v) = slice_set here v false
+turned here (Step items) = here
+turned here (Show v) = here
+turned here Enabled = here
+turned here Matching = here
+turned here Status = here
+
+-- only who joined and who left make a difference
+abbrev pub here_of : List Bool → Event → Reply → List Bool
+here_of here event Accepted = turned here event
+here_of here event (Moves moves) = here
+here_of here event (Refused refusal) = here
+here_of here event (Shown target) = here
+here_of here event (EnabledAre nodes) = here
+here_of here event (Pairs pairs) = here
+here_of here event (Counts counts) = here
+
+abbrev pub here_by : List Bool → Entry → List Bool
+here_by here entry = here_of here entry.0 entry.1
+
+-- at which places there is a node after a log
+abbrev pub here_after : Extent → List Entry → List Bool
+here_after extent log = fold here_by (first_here extent) log

@@ -5,21 +5,22 @@ use mathlib.Core.Option.{some}
 use lib.ListN.{get_elem?}
 use Rattle.rule_machine.specs.Run.{Entry}
 use Rattle.board.specs.History.{shown}
-use Rattle.board.specs.Row.{pointers_after}
-use Rattle.board.specs.Sight.{Sight}
+use Rattle.board.specs.Row.{Extent, pointers_after, here_after}
+use Rattle.board.specs.Sight.{Sight, extent_of}
 
 -- what was known, if anything, is of the same history and board, and begins what is shown
 abbrev pub Follows : Option Sight → Sight → Type 0
 Follows None x = Unit {0}
-Follows (Some s) x = (x.book ≡ s.book) × (length x.row ≡ length s.row) × IsPrefix (shown s.marks) (shown x.marks)
+Follows (Some s) x = (x.book ≡ s.book) × (extent_of x ≡ extent_of s) × IsPrefix (shown s.marks) (shown x.marks)
 
 -- a copy that is in step with the entries that it shows, which keep the law
-pub record IsSound (law : ℕ → List Entry → Type 0) (x : Sight) : Type 0 where
+pub record IsSound (law : Extent → List Entry → Type 0) (x : Sight) : Type 0 where
   pub row : x.row ≡ pointers_after (length x.row) (shown x.marks)
+  pub here : x.here ≡ here_after (extent_of x) (shown x.marks)
   pub front : x.front ≡ length (shown x.marks)
-  pub lawful : law (length x.row) (shown x.marks)
+  pub lawful : law (extent_of x) (shown x.marks)
 
-module _ (law : ℕ → List Entry → Type 0) where
+module _ (law : Extent → List Entry → Type 0) where
   -- between any two steps, of the copy that readers take and of what each of them and the writer know
   abbrev pub Publishes : Sight → List (Option Sight) → Type 0
   Publishes x views = IsSound law x × ((seat : ℕ) (v : Option Sight) → get_elem? views seat ≡ some v → Follows v x)

@@ -1,25 +1,38 @@
 -- What one copy holds, as contracts see it.
-use Rattle.std.specs.Prelude.{ℕ, List, Option, None, Some, length, replicate, if◌then◌else◌, nat_lt}
+use Rattle.std.specs.Prelude.{ℕ, Bool, false, List, Option, None, Some, length, replicate, if◌then◌else◌, nat_lt, slice_index_or}
 use Rattle.rule_machine.specs.Run.{Entry}
 use Rattle.logbook.specs.Pages.{Book}
 use Rattle.board.specs.History.{Mark}
-use Rattle.board.specs.Row.{Row, pointer_in, partner_in, effect}
+use Rattle.board.specs.Row.{Row, Extent, pointer_in, partner_in, effect, first_here, here_by}
 
--- the pointers, the number of entries that made them, and the beginning of the history that shows these entries
+-- the pointers, and at which places there is a node; how many nodes there were before any entry; the number of entries that made both,
+-- and the beginning of the history that shows these entries
 pub record Sight : Type 0 where
   pub row : Row
+  pub here : List Bool
+  pub first : ℕ
   pub front : ℕ
   pub marks : List Mark
   pub book : Book
 
 -- before any entry
-abbrev pub blank : ℕ → List Mark → Book → Sight
-blank places marks book = record { row = replicate places None; front = 0; marks = marks; book = book }
+abbrev pub blank : Extent → List Mark → Book → Sight
+blank extent marks book =
+    record { row = replicate extent.places None; here = first_here extent; first = extent.first; front = 0; marks = marks; book = book }
+
+-- how many places it has, and how many nodes there were before any entry
+abbrev pub extent_of : Sight → Extent
+extent_of x = record { places = length x.row; first = x.first }
 
 -- one entry later
 abbrev pub after : Sight → Entry → ℕ → List Mark → Book → Sight
-after x entry front marks book = record { row = effect x.row entry; front = front; marks = marks; book = book }
+after x entry front marks book =
+    record { row = effect x.row entry; here = here_by x.here entry; first = x.first; front = front; marks = marks; book = book }
 
 -- a pointer, and the node at which it is if that one points back; none where there is no such place
-abbrev pub found_in : Row → ℕ → Option (Option ℕ × Option ℕ)
-found_in row place = if nat_lt place (length row) then Some (pointer_in row place, partner_in row place) else None
+abbrev pub held_in : Row → ℕ → Option (Option ℕ × Option ℕ)
+held_in row place = if nat_lt place (length row) then Some (pointer_in row place, partner_in row place) else None
+
+-- the same where there is a node at the place, and none elsewhere
+abbrev pub found_in : Row → List Bool → ℕ → Option (Option ℕ × Option ℕ)
+found_in row here place = if slice_index_or here place false then held_in row place else None

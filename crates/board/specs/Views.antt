@@ -1,13 +1,14 @@
 -- A board, a reader and a note, as contracts see them.
-use Rattle.std.specs.Prelude.{ℕ, List, Option, None, Some, length}
+use Rattle.std.specs.Prelude.{List, Option, None, Some}
 use Rattle.rule_machine.specs.Run.{Entry}
 use Rattle.logbook.specs.Pages.{Book}
-use Rattle.board.specs.Sight.{Sight}
+use Rattle.board.specs.Row.{Extent}
+use Rattle.board.specs.Sight.{Sight, extent_of}
 
--- which history a board's entries are of, and how many places it has
+-- which history a board's entries are of, how many places it has, and how many nodes there were before any entry
 pub record Name : Type 0 where
   pub book : Book
-  pub places : ℕ
+  pub extent : Extent
 
 -- the entries that are published, and the one that is posted and not published yet, if any is
 pub record Standing : Type 0 where
@@ -26,7 +27,7 @@ pub record Told : Type 0 where
   pub log : List Entry
   pub book : Book
 
--- how many places the copy has that was seen last
-abbrev pub places_of : Option Sight → ℕ
-places_of None = 0
-places_of (Some x) = length x.row
+-- the extent of the copy that was seen last
+abbrev pub extent_seen : Option Sight → Extent
+extent_seen None = record { places = 0; first = 0 }
+extent_seen (Some x) = extent_of x

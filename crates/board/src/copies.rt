@@ -4,7 +4,7 @@ ghost use Rattle.std.specs.Prelude.{◌≡◌, ◌^◌, ◌<◌, ◌∷◌, ◌+
 ghost use Rattle.left_right.specs.Sides.{view as known};
 ghost use Rattle.rule_machine.specs.Run.{Entry as Logged};
 ghost use Rattle.board.specs.History.{published};
-ghost use Rattle.board.specs.Sight.{blank};
+ghost use Rattle.board.specs.Sight.{blank, extent_of};
 ghost use Rattle.board.specs.Rule.{Sees};
 ghost use Rattle.board.specs.Boards.{IsReady, absorbed};
 
@@ -29,9 +29,9 @@ pub struct NoPlace;
 /// The two copies and what one of them lacks.
 pub(crate) type Copies<L> = Writer<Image, Posted, Option<Image>, Published<L>>;
 
-/// Publishes the pointers of a network, entry by entry, for readers that wait for nobody. Contracts see the entries that
+/// Publishes the pointers of a network and who is present, entry by entry, for readers that wait for nobody. Contracts see the entries that
 /// are published, the one that is posted and not published yet, if any is, and a name: the history that the entries are
-/// of, and how many places there are. Every log that it publishes keeps the law `L`. It can't be dropped: `end` ends it.
+/// of, how many places there are, and how many nodes there were before any entry. Every log that it publishes keeps the law `L`. It can't be dropped: `end` ends it.
 pub struct Board<L: Law> {
     writer: Copies<L>,
     history: History,
@@ -45,6 +45,7 @@ impl<L: Law> Model for Board<L> {
     ghost use Rattle.logbook.specs.Pages.{book_coded};
     ghost use Rattle.left_right.specs.Sides.{view as known};
     ghost use Rattle.board.specs.History.{shown};
+    ghost use Rattle.board.specs.Sight.{extent_of};
     ghost use Rattle.board.specs.Views.{Standing};
     ghost use Rattle.board.specs.Boards.{IsBoard, entries_of};
 
@@ -55,7 +56,7 @@ impl<L: Law> Model for Board<L> {
     ghost view = { λ b. record {
       list = shown b.writer.desk.shown.value.marks;
       posted = entries_of (drop b.writer.behind b.writer.log.items);
-      name = record { book = b.told.seen.book; places = length b.writer.desk.shown.value.row };
+      name = record { book = b.told.seen.book; extent = extent_of b.writer.desk.shown.value };
     } };
 
     ghost invariant = { λ b. IsBoard L.holds b.writer.desk.shown.value (known b.writer.desk.place) (drop b.writer.behind b.writer.log.items) b.history.front.seen.log b.history.front.seen.book b.told.seen.log };
@@ -96,11 +97,11 @@ fn show<L: Law, R: Wait>(writer: Copies<L>, rt: &R) -> (Copies<L>, ())
 
 /// The board over copies that were just made.
 fn opened<L: Law, R: Wait>(rt: &R, writer: Copies<L>, history: History) -> Board<L>
-    requires copy { writer.desk.shown.value ≡ blank (length writer.desk.shown.value.row) [] history.front.seen.book }
+    requires copy { writer.desk.shown.value ≡ blank (extent_of writer.desk.shown.value) [] history.front.seen.book }
     requires pending { drop writer.behind writer.log.items ≡ [] }
     requires marks { history.front.seen.log ≡ [] }
-    requires law { L.holds (length writer.desk.shown.value.row) [] }
-    ensures { (result.list ≡ []) × (result.posted ≡ []) × (result.name.places ≡ length writer.desk.shown.value.row) }
+    requires law { L.holds (extent_of writer.desk.shown.value) [] }
+    ensures { (result.list ≡ []) × (result.posted ≡ []) × (result.name.extent ≡ extent_of writer.desk.shown.value) }
 {
     let (writer, ()) = show(writer, rt);
     let told = history.front.again();
@@ -112,22 +113,23 @@ fn opened<L: Law, R: Wait>(rt: &R, writer: Copies<L>, history: History) -> Board
 }
 
 impl<L: Law> Board<L> {
-    /// A board without entries, all its pointers null, for at most so many readers at once. It takes 8 bytes a place and
-    /// copy, and 256 bytes a reader.
+    /// A board without entries, all its pointers null, with the nodes present whose names are 1 to `first`, for at most so many readers
+    /// at once. It takes 9 bytes a place and copy, and 256 bytes a reader.
     pub fn new<R: Wait>(
         alloc: Global,
         rt: &R,
         places: usize,
+        first: u32,
         readers: usize,
     ) -> Result<Board<L>, AllocError>
         requires readers { (0 < readers) × (readers < 2 ^ 32) }
-        requires law { L.holds places [] }
-        ensures { IfOk result (λ b. (b.list ≡ []) × (b.posted ≡ []) × (b.name.places ≡ places)) }
+        requires law { L.holds (record { places = places; first = first }) [] }
+        ensures { IfOk result (λ b. (b.list ≡ []) × (b.posted ≡ []) × (b.name.extent ≡ record { places = places; first = first })) }
     {
         let history = History::new();
-        let first = Image::blank(alloc, places, &history.front)?;
-        let second = Image::blank(alloc, places, &history.front)?;
-        let writer = Writer::new(alloc, first, second, readers)?;
+        let one = Image::blank(alloc, places, first, &history.front)?;
+        let other = Image::blank(alloc, places, first, &history.front)?;
+        let writer = Writer::new(alloc, one, other, readers)?;
         Ok(opened(rt, writer, history))
     }
 
@@ -160,7 +162,7 @@ impl<L: Law> Board<L> {
     /// Publishes the posted entry, if there is one, whole and at once, and tells what is published then. It takes no
     /// memory, and waits for readers that still look at the copy of before.
     pub fn publish<R: Wait>(&mut self, rt: &R) -> Note
-        requires { L.holds self.old.name.places (self.old.list ++ self.old.posted) }
+        requires { L.holds self.old.name.extent (self.old.list ++ self.old.posted) }
         ensures published { self.new ≡ record self.old { list = self.old.list ++ self.old.posted; posted = [] } }
         ensures told { (result.log ≡ self.new.list) × (result.book ≡ self.new.name.book) }
     {

@@ -1,8 +1,9 @@
-//! What an entry does to the pointers.
+//! What an entry does to the pointers, and to who is present.
 
-ghost use Rattle.std.specs.Prelude.{◌≡◌, ◌∷◌, [], fold, slice_set};
+ghost use Rattle.std.specs.Prelude.{◌≡◌, ◌∷◌, [], None, fold, map, slice_set};
 ghost use Rattle.rule_machine.specs.State.{is_at};
-ghost use Rattle.board.specs.Row.{pointer_in, cleared, moved, disturbed, effect};
+ghost use Rattle.rule_machine.specs.Disturbance.{unless_at};
+ghost use Rattle.board.specs.Row.{pointer_in, cleared, moved, disturbed, effect, turned, here_by};
 
 use log_entry::Entry;
 use rule_machine::{Act, Event, Moved, Node, Reply};
@@ -36,6 +37,30 @@ fn clear(row: &mut [Option<Node>], v: Node, w: Node)
     }
 }
 
+/// A pointer, or null where it is at this node.
+fn unless_at(pointer: Option<Node>, v: Node) -> Option<Node>
+    ensures { result ≡ unless_at v pointer }
+{
+    if pointer == Some(v) { None } else { pointer }
+}
+
+/// Makes every pointer at a node null, in one pass.
+fn drop_at(row: &mut [Option<Node>], v: Node)
+    ensures { row.new ≡ map (unless_at v) row.old }
+{
+    for pointer in row.iter_mut() {
+        *pointer = unless_at(*pointer, v);
+    }
+}
+
+/// Makes a node's pointer null, and every pointer at it.
+fn drop_name(row: &mut [Option<Node>], v: Node)
+    ensures { row.new ≡ slice_set (map (unless_at v) row.old) v None }
+{
+    drop_at(row, v);
+    write(row, v, None);
+}
+
 fn make_move(row: &mut [Option<Node>], m: &Moved)
     ensures { row.new ≡ moved row.old m.now }
 {
@@ -63,6 +88,7 @@ fn disturb(row: &mut [Option<Node>], event: &Event)
             clear(row, *b, *a);
         }
         Event::Point(v, target) => write(row, *v, *target),
+        Event::Leave(v) => drop_name(row, *v),
         _ => {}
     }
 }
@@ -75,5 +101,34 @@ pub(crate) fn take_in(row: &mut [Option<Node>], entry: &Entry)
         Reply::Accepted => disturb(row, entry.event()),
         Reply::Moves(moves) => make_moves(row, moves.as_slice()),
         _ => {}
+    }
+}
+
+/// Writes whether a node is present. A node that has no place is left out.
+fn mark(here: &mut [bool], v: Node, there: bool)
+    ensures { here.new ≡ slice_set here.old v there }
+{
+    let place = v.place();
+    if place < here.len() {
+        here[place] = there;
+    }
+}
+
+fn turn(here: &mut [bool], event: &Event)
+    ensures { here.new ≡ turned here.old event.now }
+{
+    match event {
+        Event::Join(v) => mark(here, *v, true),
+        Event::Leave(v) => mark(here, *v, false),
+        _ => {}
+    }
+}
+
+/// Changes who is present as an entry says.
+pub(crate) fn take_presence(here: &mut [bool], entry: &Entry)
+    ensures { here.new ≡ here_by here.old entry.now }
+{
+    if let Reply::Accepted = entry.reply() {
+        turn(here, entry.event());
     }
 }

@@ -1,11 +1,11 @@
-//! One copy of the pointers, and what is done to it.
+//! One copy of the pointers and of who is present, and what is done to it.
 
-ghost use Rattle.std.specs.Prelude.{◌≡◌, ◌<◌, IfOk};
+ghost use Rattle.std.specs.Prelude.{◌≡◌, ◌<◌, ◌&&◌, false, IfOk, nat_le, slice_index_or};
 ghost use Rattle.rule_machine.specs.State.{is_at};
-ghost use Rattle.board.specs.Row.{pointer_in};
-ghost use Rattle.board.specs.Sight.{blank, after, found_in};
+ghost use Rattle.board.specs.Row.{pointer_in, first_here};
+ghost use Rattle.board.specs.Sight.{blank, after, held_in, found_in};
 
-use crate::effect::take_in;
+use crate::effect::{take_in, take_presence};
 use crate::history::Front;
 use left_right::Absorb;
 use log_entry::Entry;
@@ -13,10 +13,13 @@ use rule_machine::Node;
 use std::alloc::{AllocError, Global};
 use std::marker::Model;
 
-/// The pointers after so many entries, a place for each name, beside the beginning of the history that shows them.
+/// The pointers and who is present after so many entries, a place for each name, beside the beginning of the history that shows them. It
+/// knows how many nodes were present before any entry.
 #[derive(Drop)]
 pub struct Image {
     row: Vec<Option<Node>>,
+    here: Vec<bool>,
+    first: u32,
     front: u32,
     past: Front,
 }
@@ -30,7 +33,7 @@ impl Model for Image {
 
     ghost coded = { Prim.hlevel (codes, book_coded) };
 
-    ghost view = { λ i. record { row = i.row.items; front = i.front; marks = i.past.seen.log; book = i.past.seen.book } };
+    ghost view = { λ i. record { row = i.row.items; here = i.here.items; first = i.first; front = i.front; marks = i.past.seen.log; book = i.past.seen.book } };
 }
 
 /// One entry for a copy to take in: the entry, its number, and the beginning of the history in which it is posted last.
@@ -42,12 +45,19 @@ pub struct Posted {
 }
 
 impl Image {
-    /// All pointers null.
-    pub(crate) fn blank(alloc: Global, places: usize, past: &Front) -> Result<Image, AllocError>
-        ensures { IfOk result (λ i. i ≡ blank places past.now.seen.log past.now.seen.book) }
+    /// All pointers null, and the nodes with the names from 1 to `first` present.
+    pub(crate) fn blank(
+        alloc: Global,
+        places: usize,
+        first: u32,
+        past: &Front,
+    ) -> Result<Image, AllocError>
+        ensures { IfOk result (λ i. i ≡ blank (record { places = places; first = first }) past.now.seen.log past.now.seen.book) }
     {
         Ok(Image {
             row: vec![in alloc; None; places]?,
+            here: first_here(alloc, places, first)?,
+            first,
             front: 0,
             past: past.again(),
         })
@@ -67,9 +77,20 @@ impl Image {
         self.past.again()
     }
 
-    /// The pointer at a place, and the node at which it is if that one points back. `None` where there is no such place.
+    /// The pointer at a place, and the node at which it is if that one points back. `None` where there is no node at the place.
     pub(crate) fn find(&self, place: usize) -> Option<(Option<Node>, Option<Node>)>
-        ensures { result ≡ found_in self.now.row place }
+        ensures { result ≡ found_in self.now.row self.now.here place }
+    {
+        if is_here(&self.here, place) {
+            self.held(place)
+        } else {
+            None
+        }
+    }
+
+    /// The same at any place. `None` where there is no such place.
+    fn held(&self, place: usize) -> Option<(Option<Node>, Option<Node>)>
+        ensures { result ≡ held_in self.now.row place }
     {
         let pointer = *self.row.get(place)?;
         let partner = match pointer {
@@ -77,6 +98,34 @@ impl Image {
             _ => None,
         };
         Some((pointer, partner))
+    }
+}
+
+/// Whether the node of a place is present before any entry.
+fn is_first(place: usize, first: u32) -> bool
+    ensures { result ≡ (nat_le 1 place && nat_le place first) }
+{
+    1 <= place && place <= first as usize
+}
+
+/// The places at which there is a node before any entry.
+fn first_here(alloc: Global, places: usize, first: u32) -> Result<Vec<bool>, AllocError>
+    ensures { IfOk result (λ here. here.items ≡ first_here (record { places = places; first = first })) }
+{
+    let mut here = Vec::with_capacity(alloc, places)?;
+    for place in 0..places {
+        here.push(is_first(place, first))?;
+    }
+    Ok(here)
+}
+
+/// Whether there is a node at a place.
+fn is_here(here: &[bool], place: usize) -> bool
+    ensures { result ≡ slice_index_or here.now place false }
+{
+    match here.get(place) {
+        Some(there) => *there,
+        None => false,
     }
 }
 
@@ -101,6 +150,7 @@ impl Absorb<Posted> for Image {
 
     fn absorb_first(&mut self, operation: &Posted, _other: &Image) -> Result<(), AllocError> {
         take_in(&mut self.row, &operation.entry);
+        take_presence(&mut self.here, &operation.entry);
         self.front = operation.front;
         self.past = operation.past.again();
         Ok(())

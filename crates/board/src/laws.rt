@@ -1,10 +1,10 @@
-//! What the pointers on a board have to do with runs of the machine.
+//! What the pointers and the presence of nodes on a board have to do with runs of the machine.
 
 ghost use Rattle.std.specs.Prelude.{◌≡◌, ℕ, ◌+◌, List};
 ghost use mathlib.Core.List.{IsPrefix};
 ghost use Rattle.rule_machine.specs.RuleTable.{RuleTable};
-ghost use Rattle.rule_machine.specs.Run.{Entry, Moment, Run, beginning};
-ghost use Rattle.board.specs.Row.{pointers_after};
+ghost use Rattle.rule_machine.specs.Run.{Entry, Moment, Run, beginning_with};
+ghost use Rattle.board.specs.Row.{Extent, pointers_after, here_after};
 ghost use Rattle.board.specs.Runs.{IsRun};
 
 use crate::rule::Law;
@@ -22,11 +22,19 @@ impl<R: Rules> Law for Runs<R> {
 
 /// The pointers that a log of a run makes are those of the state where the run ends, whatever targets it took.
 pub fn pointers_are_those_of_the_run()
-    ensures { (t : RuleTable) (size : ℕ) (log : List Entry) (end : Moment) → Run t (beginning size) log end
+    ensures { (t : RuleTable) (size count : ℕ) (log : List Entry) (end : Moment) → Run t (beginning_with size count) log end
         → end.state.registers.pointers ≡ pointers_after (size + 1) log }
+{}
+
+/// So are the names, and the nodes that are present.
+pub fn presence_is_that_of_the_run()
+    ensures here { (t : RuleTable) (size count : ℕ) (log : List Entry) (end : Moment) → Run t (beginning_with size count) log end
+        → end.state.network.here ≡ here_after (record { places = size + 1; first = count }) log }
+    ensures size { (t : RuleTable) (size count : ℕ) (log : List Entry) (end : Moment) → Run t (beginning_with size count) log end
+        → end.state.network.size ≡ size }
 {}
 
 /// Each beginning of a run is a run.
 pub fn beginnings_are_runs()
-    ensures { (t : RuleTable) (places : ℕ) (some all : List Entry) → IsPrefix some all → IsRun t places all → IsRun t places some }
+    ensures { (t : RuleTable) (extent : Extent) (some all : List Entry) → IsPrefix some all → IsRun t extent all → IsRun t extent some }
 {}

@@ -5,10 +5,10 @@ ghost use mathlib.Core.List.{IsPrefix};
 ghost use Rattle.left_right.specs.Sides.{view as known};
 ghost use Rattle.board.specs.History.{published, shown};
 ghost use Rattle.board.specs.OneLog.{IsOneLog, AreOneLog, AreComparable};
-ghost use Rattle.board.specs.Row.{pointers_after, pointer_in, partner_in};
+ghost use Rattle.board.specs.Row.{pointers_after, here_after, pointer_in, partner_in};
 ghost use Rattle.board.specs.Sight.{Sight, found_in};
 ghost use Rattle.board.specs.Rule.{Sees};
-ghost use Rattle.board.specs.Views.{places_of};
+ghost use Rattle.board.specs.Views.{extent_seen};
 ghost use Rattle.board.specs.Boards.{IsReader};
 
 use crate::history::Front;
@@ -28,8 +28,8 @@ pub(crate) type Place<L> = Seat<Image, Option<Image>, Published<L>>;
 pub struct Look {
     /// How many entries were published.
     pub front: u32,
-    /// The pointer of the place, and the node at which it is if that one points back; `None` where there is no such
-    /// place.
+    /// The pointer of the place, and the node at which it is if that one points back; `None` where there is no node at
+    /// the place.
     pub found: Option<(Option<Node>, Option<Node>)>,
 }
 
@@ -53,7 +53,7 @@ impl<L: Law> Model for Reader<L> {
     ghost use Rattle.logbook.specs.Pages.{book_coded};
     ghost use Rattle.left_right.specs.Sides.{view as known};
     ghost use Rattle.board.specs.History.{published, shown};
-    ghost use Rattle.board.specs.Views.{Reading, places_of};
+    ghost use Rattle.board.specs.Views.{Reading, extent_seen};
     ghost use Rattle.board.specs.Boards.{IsReader};
 
     ghost Value = { Reading };
@@ -63,7 +63,7 @@ impl<L: Law> Model for Reader<L> {
     ghost view = { λ r. record {
       list = shown r.seen.seen.log;
       learnt = published r.learnt.seen.log;
-      name = record { book = r.learnt.seen.book; places = places_of (known r.seat.place) };
+      name = record { book = r.learnt.seen.book; extent = extent_seen (known r.seat.place) };
     } };
 
     ghost invariant = { λ r. IsReader (known r.seat.place) r.seen.seen.log r.seen.seen.book r.learnt.seen.book };
@@ -73,7 +73,7 @@ impl<L: Law> Model for Reader<L> {
 fn peek<L: Law>(seat: Place<L>, place: usize) -> (Place<L>, Option<Glance>)
     ensures none { IfNone result.1 (known result.0.place ≡ known seat.place) }
     ensures some { IfSome result.1 (λ g. (x : Sight) × Sees L.holds (known seat.place) x x (known result.0.place)
-        × (g.past.seen.log ≡ x.marks) × (g.past.seen.book ≡ x.book) × (g.look.front ≡ x.front) × (g.look.found ≡ found_in x.row place)) }
+        × (g.past.seen.log ≡ x.marks) × (g.past.seen.book ≡ x.book) × (g.look.front ≡ x.front) × (g.look.found ≡ found_in x.row x.here place)) }
 {
     match seat.enter_as::<Looks<L>>() {
         Ok(reading) => {
@@ -93,7 +93,7 @@ impl<L: Law> Reader<L> {
     pub(crate) fn over(seat: Place<L>, seen: Front, learnt: Front) -> Reader<L>
         requires { IsReader (known seat.place) seen.seen.log seen.seen.book learnt.seen.book }
         ensures list { (result.list ≡ shown seen.seen.log) × (result.learnt ≡ published learnt.seen.log) }
-        ensures name { (result.name.book ≡ learnt.seen.book) × (result.name.places ≡ places_of (known seat.place)) }
+        ensures name { (result.name.book ≡ learnt.seen.book) × (result.name.extent ≡ extent_seen (known seat.place)) }
     {
         Reader { seat, seen, learnt }
     }
@@ -107,9 +107,9 @@ impl<L: Law> Reader<L> {
         ensures kept { (self.new.learnt ≡ self.old.learnt) × (self.new.name ≡ self.old.name) }
         ensures none { IfNone result (self.new.list ≡ self.old.list) }
         ensures learnt { IfSome result (λ look. IsPrefix self.old.learnt self.new.list) }
-        ensures law { IfSome result (λ look. L.holds self.new.name.places self.new.list) }
+        ensures law { IfSome result (λ look. L.holds self.new.name.extent self.new.list) }
         ensures front { IfSome result (λ look. look.front ≡ length self.new.list) }
-        ensures found { IfSome result (λ look. look.found ≡ found_in (pointers_after self.new.name.places self.new.list) place) }
+        ensures found { IfSome result (λ look. look.found ≡ found_in (pointers_after self.new.name.extent.places self.new.list) (here_after self.new.name.extent self.new.list) place) }
     {
         let Glance { look, past } = replace_with(&mut self.seat, place, peek::<L>)?;
         if !self.learnt.is_shown_at(&past) {
@@ -125,7 +125,7 @@ impl<L: Law> Reader<L> {
         ensures kept { (self.new.learnt ≡ self.old.learnt) × (self.new.name ≡ self.old.name) }
         ensures none { IfNone result (self.new.list ≡ self.old.list) }
         ensures learnt { IfSome result (λ front. IsPrefix self.old.learnt self.new.list) }
-        ensures law { IfSome result (λ front. L.holds self.new.name.places self.new.list) }
+        ensures law { IfSome result (λ front. L.holds self.new.name.extent self.new.list) }
         ensures front { IfSome result (λ front. front ≡ length self.new.list) }
     {
         let look = self.look(0)?;

@@ -1,7 +1,8 @@
 //! The rule of the copies, and the steps that keep it.
 
-ghost use Rattle.std.specs.Prelude.{ℕ, List, None};
+ghost use Rattle.std.specs.Prelude.{List, None};
 ghost use Rattle.rule_machine.specs.Run.{Entry};
+ghost use Rattle.board.specs.Row.{Extent};
 ghost use Rattle.board.specs.Rule.{Publishes, Sees};
 
 use crate::image::Image;
@@ -9,9 +10,9 @@ use atomic_table::{Join, Split};
 use crossbeam_utils::rule::{Outcome, Protocol};
 use std::marker::PhantomData;
 
-/// What holds of every log that a board publishes, by the number of its places. It is a fact for contracts alone.
+/// What holds of every log that a board publishes, by the number of its places and of the nodes that were present before any entry. It is a fact for contracts alone.
 pub trait Law {
-    ghost holds: { ℕ → List Entry → Type 0 };
+    ghost holds: { Extent → List Entry → Type 0 };
 }
 
 /// The rule of a board whose logs keep a law.

@@ -4,10 +4,10 @@ use Rattle.std.proofs.lemmas.List.Elements.{All-nil, All-cons, All-append}
 use Rattle.rule_machine.specs.declared.reply.Reply.{Reply}
 use Rattle.rule_machine.specs.declared.reply.Reply.TheVariants.{Accepted, Refused, Moves, Shown, EnabledAre, Pairs, Counts}
 use Rattle.rule_machine.specs.Network.{node_count, edge_count}
-use Rattle.rule_machine.specs.State.{State, IsState, opening}
+use Rattle.rule_machine.specs.State.{State, IsState, opening_with}
 use Rattle.rule_machine.specs.RuleTable.{RuleTable}
 use Rattle.rule_machine.specs.Answer.{Answers, spent_after}
-use Rattle.rule_machine.specs.Run.{Entry, Moment, Run, beginning, Epoch, epoch_at, epochs_by, epochs_from}
+use Rattle.rule_machine.specs.Run.{Entry, Moment, Run, beginning_with, Epoch, epoch_at, epochs_by, epochs_from}
 use Rattle.machine_laws.specs.Keeps.{opening_is_state}
 use Rattle.machine_laws.specs.LeastMoves.{IsTable}
 use Rattle.machine_laws.specs.Runs.{answers_keep}
@@ -77,6 +77,6 @@ epochs_are_bounded t weight table charged start good within number epoch at (((e
     (number + 1) (epochs_by reply number s epoch).1 turn.1 steps path)
 
 -- In a run from the opening state each epoch is bounded, the first and the last included.
-pub opening_epochs_are_bounded : (t : RuleTable) (weight : ℕ) → IsTable t → IsCharged t weight → (size number : ℕ) (path : List (Entry × State)) → IsPath t (beginning size) path → All (λ epoch. epoch.moves ≤ 2 * epoch.edges + weight * epoch.nodes) (epochs_from number (epoch_at 0 (opening size)) path)
-opening_epochs_are_bounded t weight table charged size number path steps =
-    epochs_are_bounded t weight table charged (beginning size) (opening_is_state size) (beginning_is_within t weight charged size) number (epoch_at 0 (opening size)) (record { moves = refl; edges = refl; nodes = refl }) path steps
+pub opening_epochs_are_bounded : (t : RuleTable) (weight : ℕ) → IsTable t → IsCharged t weight → (size count number : ℕ) (path : List (Entry × State)) → IsPath t (beginning_with size count) path → All (λ epoch. epoch.moves ≤ 2 * epoch.edges + weight * epoch.nodes) (epochs_from number (epoch_at 0 (opening_with size count)) path)
+opening_epochs_are_bounded t weight table charged size count number path steps =
+    epochs_are_bounded t weight table charged (beginning_with size count) (opening_is_state size count) (beginning_is_within t weight charged size count) number (epoch_at 0 (opening_with size count)) (record { moves = refl; edges = refl; nodes = refl }) path steps

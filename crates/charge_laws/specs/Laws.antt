@@ -4,12 +4,12 @@
 -- network is stable. Why a step's moves are paid is told in Turns; Epochs has the bound for each epoch of a run.
 use Rattle.std.proofs.Common.{◌≡◌, ℕ, ◌+◌, ◌*◌, ◌≤◌, true, false, List, arith}
 use Rattle.rule_machine.specs.Network.{node_count, edge_count}
-use Rattle.rule_machine.specs.State.{IsState, opening}
+use Rattle.rule_machine.specs.State.{IsState, opening_with}
 use Rattle.rule_machine.specs.RuleTable.{RuleTable}
 use Rattle.rule_machine.specs.HsuHuang.{hsu_huang}
 use Rattle.rule_machine.specs.Manne.{manne}
 use Rattle.rule_machine.specs.Stable.{IsStable}
-use Rattle.rule_machine.specs.Run.{Entry, Moment, Run, beginning}
+use Rattle.rule_machine.specs.Run.{Entry, Moment, Run, beginning_with}
 use Rattle.machine_laws.specs.Keeps.{opening_is_state}
 use Rattle.machine_laws.specs.LeastMoves.{IsTable}
 use Rattle.machine_laws.specs.Runs.{runs_end_in_states}
@@ -65,14 +65,14 @@ enough_moves_settle t weight table charged start good log end run calm enough =
     (zero, charged.zero_is_stable end.state (runs_end_in_states t table start good log end run) zero)
 
 -- where every journal begins nothing is spent, and the charge is within the bound
-pub beginning_is_within : (t : RuleTable) (weight : ℕ) → IsCharged t weight → (size : ℕ) → IsWithinBound t weight (beginning size)
-beginning_is_within t weight charged size = let most = charged.bounded (opening size) (opening_is_state size) in omega (arith, most)
+pub beginning_is_within : (t : RuleTable) (weight : ℕ) → IsCharged t weight → (size count : ℕ) → IsWithinBound t weight (beginning_with size count)
+beginning_is_within t weight charged size count = let most = charged.bounded (opening_with size count) (opening_is_state size count) in omega (arith, most)
 
 -- From the opening state, disturbances included: the moves since the last accepted one, with the charge, are within the
 -- bound of the network as it is now.
-pub opening_runs_are_bounded : (t : RuleTable) (weight : ℕ) → IsTable t → IsCharged t weight → (size : ℕ) (log : List Entry) (end : Moment) → Run t (beginning size) log end → end.spent + t.charge end.state ≤ 2 * edge_count end.state.network + weight * node_count end.state.network
-opening_runs_are_bounded t weight table charged size log end run =
-    run_within t weight table charged (beginning size) (opening_is_state size) (beginning_is_within t weight charged size) log end run
+pub opening_runs_are_bounded : (t : RuleTable) (weight : ℕ) → IsTable t → IsCharged t weight → (size count : ℕ) (log : List Entry) (end : Moment) → Run t (beginning_with size count) log end → end.spent + t.charge end.state ≤ 2 * edge_count end.state.network + weight * node_count end.state.network
+opening_runs_are_bounded t weight table charged size count log end run =
+    run_within t weight table charged (beginning_with size count) (opening_is_state size count) (beginning_is_within t weight charged size count) log end run
 
 -- ---- the two tables
 
@@ -93,9 +93,9 @@ pub manne_settles : (start : Moment) → IsState start.state → (log : List Ent
 manne_settles start good log end run calm enough = (enough_moves_settle manne 3 manne_table manne_charged start good log end run calm enough).1
 
 -- a journal's spending is bounded by its network, at any moment
-pub hsu_huang_spending_is_bounded : (size : ℕ) (log : List Entry) (end : Moment) → Run hsu_huang (beginning size) log end → end.spent + hsu_huang.charge end.state ≤ 2 * edge_count end.state.network + node_count end.state.network
-hsu_huang_spending_is_bounded size log end run =
-    let bounded = opening_runs_are_bounded hsu_huang 1 hsu_huang_table hsu_huang_charged size log end run in omega (arith, bounded)
+pub hsu_huang_spending_is_bounded : (size count : ℕ) (log : List Entry) (end : Moment) → Run hsu_huang (beginning_with size count) log end → end.spent + hsu_huang.charge end.state ≤ 2 * edge_count end.state.network + node_count end.state.network
+hsu_huang_spending_is_bounded size count log end run =
+    let bounded = opening_runs_are_bounded hsu_huang 1 hsu_huang_table hsu_huang_charged size count log end run in omega (arith, bounded)
 
-pub manne_spending_is_bounded : (size : ℕ) (log : List Entry) (end : Moment) → Run manne (beginning size) log end → end.spent + manne.charge end.state ≤ 2 * edge_count end.state.network + 3 * node_count end.state.network
-manne_spending_is_bounded size log end run = opening_runs_are_bounded manne 3 manne_table manne_charged size log end run
+pub manne_spending_is_bounded : (size count : ℕ) (log : List Entry) (end : Moment) → Run manne (beginning_with size count) log end → end.spent + manne.charge end.state ≤ 2 * edge_count end.state.network + 3 * node_count end.state.network
+manne_spending_is_bounded size count log end run = opening_runs_are_bounded manne 3 manne_table manne_charged size count log end run

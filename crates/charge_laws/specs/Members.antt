@@ -1,15 +1,14 @@
 -- What is in the lists of a network's names and edges.
-use Rattle.std.proofs.Common.{◌≡◌, ℕ, zero, suc, ◌+◌, ◌<◌, ◌≤◌, min, max, true, List, [], ◌∷◌, length, IsTrue, sym, ap, ap₂, ◌∙◌, subst, inl, inr, ⊎_elim, arith}
+use Rattle.std.proofs.Common.{◌≡◌, ℕ, zero, suc, ◌+◌, ◌<◌, ◌≤◌, min, max, Bool, true, false, cond, filter, refl, List, [], ◌∷◌, length, IsTrue, sym, ap, ap₂, ◌∙◌, subst, inl, inr, ⊎_elim, arith}
 use Rattle.std.specs.List.{range_with_len, list_any}
 use Rattle.std.specs.Ordering.{eq_by_cmp}
 use Rattle.std.specs.FinMap as map
 use Rattle.std.proofs.lemmas.Bool.{cases_eq, cases_lt, or_cases, or_left, or_right}
 use Rattle.std.proofs.lemmas.Map.Views.{tells_apart}
 use Rattle.std.proofs.lemmas.List.{length-map}
-use Rattle.std.proofs.lemmas.List.FromFn.{length-range_with_len}
 use Rattle.std.proofs.lemmas.Cmp.{eq_by_cmp_equiv}
 use Rattle.rule_machine.specs.Network.{Network, pair_cmp, edge, names, present, edge_list, node_count, edge_count}
-use Rattle.machine_laws.specs.Neighbours.{present_range, present_from}
+use Rattle.machine_laws.specs.Neighbours.{present_range}
 use Rattle.machine_laws.specs.Edges.{pair_total, pair_exact}
 use Rattle.charge_laws.specs.Counting.{IsIn, IsWithoutRepeats}
 
@@ -26,18 +25,43 @@ range_without_repeats : (a n : ℕ) → IsWithoutRepeats (range_with_len a n)
 range_without_repeats a zero = tt
 range_without_repeats a (suc n) = (λ h. let below = range_bounds (a + 1) n a h in omega arith, range_without_repeats (a + 1) n)
 
+-- what a filter keeps passes and was there, each once
+in_kept : (p : ℕ → Bool) (v : ℕ) (xs : List ℕ) → IsTrue (p v) → IsIn v xs → IsIn v (filter p xs)
+in_kept p v [] passes at = absurd at
+in_kept p v (x ∷ xs) passes (inl same) = subst (λ b. IsIn v (cond b (x ∷ filter p xs) (filter p xs))) (sym (ap p same ∙ passes)) (inl same)
+in_kept p v (x ∷ xs) passes (inr there) =
+    (elim (p x) as (λ b. IsIn v (filter p xs) → IsIn v (cond b (x ∷ filter p xs) (filter p xs))) [ true ↦ λ h. inr h | false ↦ λ h. h ])
+    (in_kept p v xs passes there)
+
+kept_in : (p : ℕ → Bool) (v : ℕ) (xs : List ℕ) → IsIn v (filter p xs) → IsTrue (p v) × IsIn v xs
+kept_in p v [] at = absurd at
+kept_in p v (x ∷ xs) at = go (p x) refl (λ there. kept_in p v xs there) at
+  where
+    go : (b : Bool) → p x ≡ b → (IsIn v (filter p xs) → IsTrue (p v) × IsIn v xs) → IsIn v (cond b (x ∷ filter p xs) (filter p xs)) → IsTrue (p v) × IsIn v (x ∷ xs)
+    go true e more (inl same) = (sym (ap p same) ∙ e, inl same)
+    go true e more (inr there) = ((more there).0, inr (more there).1)
+    go false e more there = ((more there).0, inr (more there).1)
+
+kept_without_repeats : (p : ℕ → Bool) (xs : List ℕ) → IsWithoutRepeats xs → IsWithoutRepeats (filter p xs)
+kept_without_repeats p [] once = tt
+kept_without_repeats p (x ∷ xs) once =
+    elim (p x) as (λ b. IsWithoutRepeats (cond b (x ∷ filter p xs) (filter p xs))) [
+      | true ↦ (λ there. once.0 (kept_in p x xs there).1, kept_without_repeats p xs once.1)
+      | false ↦ kept_without_repeats p xs once.1
+    ]
+
 -- the names are the present nodes, each once
 pub in_names : (net : Network) (v : ℕ) → IsTrue (present net v) → IsIn v (names net)
-in_names net v has = let bounds = present_range net v has in in_range 1 net.size v bounds.0 (omega arith)
+in_names net v has = let bounds = present_range net v has in in_kept (present net) v (range_with_len 1 net.size) has (in_range 1 net.size v bounds.0 (omega arith))
 
 pub names_present : (net : Network) (v : ℕ) → IsIn v (names net) → IsTrue (present net v)
-names_present net v h = let bounds = range_bounds 1 net.size v h in present_from net v bounds.0 (omega arith)
+names_present net v h = (kept_in (present net) v (range_with_len 1 net.size) h).0
 
 pub names_without_repeats : (net : Network) → IsWithoutRepeats (names net)
-names_without_repeats net = range_without_repeats 1 net.size
+names_without_repeats net = kept_without_repeats (present net) (range_with_len 1 net.size) (range_without_repeats 1 net.size)
 
 pub names_len : (net : Network) → length (names net) ≡ node_count net
-names_len net = length-range_with_len 1 net.size
+names_len net = refl
 
 any_in : (e : ℕ × ℕ) (pairs : List (ℕ × ℕ)) → list_any (eq_by_cmp pair_cmp e) pairs ≡ true → IsIn e pairs
 any_in e [] h = absurd cc

@@ -5,7 +5,7 @@ use Rattle.std.proofs.lemmas.List.Sums.{sum_by-cons}
 use Rattle.rule_machine.specs.declared.choice.Item.{Item}
 use Rattle.rule_machine.specs.declared.moved.Moved.{Moved}
 use Rattle.rule_machine.specs.declared.event.Event.{Event}
-use Rattle.rule_machine.specs.declared.event.Event.TheVariants.{Link, Unlink, Point, Flag, Step, Show, Enabled, Matching, Status}
+use Rattle.rule_machine.specs.declared.event.Event.TheVariants.{Link, Unlink, Point, Flag, Step, Show, Enabled, Matching, Status, Join, Leave}
 use Rattle.rule_machine.specs.declared.refusal.Refusal.{Refusal}
 use Rattle.rule_machine.specs.declared.reply.Reply.{Reply}
 use Rattle.rule_machine.specs.declared.reply.Reply.TheVariants.{Accepted, Refused, Moves, Shown, EnabledAre, Pairs, Counts}
@@ -32,6 +32,8 @@ does_effect t s n (Link a b) Accepted s' does = disturbs refl
 does_effect t s n (Unlink a b) Accepted s' does = disturbs refl
 does_effect t s n (Point v target) Accepted s' does = disturbs refl
 does_effect t s n (Flag v value) Accepted s' does = disturbs refl
+does_effect t s n (Join v) Accepted s' does = disturbs refl
+does_effect t s n (Leave v) Accepted s' does = disturbs refl
 does_effect t s n (Step items) (Moves moves) s' does = steps items moves refl does
 does_effect t s n (Show v) (Shown target) s' does = rests does.1 refl (λ m. refl)
 does_effect t s n Enabled (EnabledAre nodes) s' does = rests does.1 refl (λ m. refl)

@@ -2,11 +2,11 @@
 
 ghost use Rattle.std.specs.Prelude.{ℕ, ◌+◌, ◌*◌, ◌≤◌, List, All, true, false};
 ghost use Rattle.rule_machine.specs.Network.{node_count, edge_count};
-ghost use Rattle.rule_machine.specs.State.{State, IsState, opening};
+ghost use Rattle.rule_machine.specs.State.{State, IsState, opening_with};
 ghost use Rattle.rule_machine.specs.HsuHuang.{hsu_huang};
 ghost use Rattle.rule_machine.specs.Manne.{manne};
 ghost use Rattle.rule_machine.specs.Stable.{IsStable};
-ghost use Rattle.rule_machine.specs.Run.{Entry, Moment, Run, beginning, epoch_at, epochs_from};
+ghost use Rattle.rule_machine.specs.Run.{Entry, Moment, Run, beginning_with, epoch_at, epochs_from};
 ghost use Rattle.charge_laws.specs.Charged.{moves_in, IsUndisturbed};
 ghost use Rattle.charge_laws.specs.Epochs.{IsPath, IsBounded};
 
@@ -42,17 +42,17 @@ pub fn enough_moves_settle()
 /// At the end of every run from the opening state, disturbances included: the moves since the last accepted one and the charge
 /// that is left are together within the bound of the network as it is.
 pub fn spending_is_bounded()
-    ensures hsu_huang { (size : ℕ) (log : List Entry) (end : Moment) → Run hsu_huang (beginning size) log end
+    ensures hsu_huang { (size count : ℕ) (log : List Entry) (end : Moment) → Run hsu_huang (beginning_with size count) log end
         → end.spent + hsu_huang.charge end.state ≤ 2 * edge_count end.state.network + node_count end.state.network }
-    ensures manne { (size : ℕ) (log : List Entry) (end : Moment) → Run manne (beginning size) log end
+    ensures manne { (size count : ℕ) (log : List Entry) (end : Moment) → Run manne (beginning_with size count) log end
         → end.spent + manne.charge end.state ≤ 2 * edge_count end.state.network + 3 * node_count end.state.network }
 {}
 
 /// Every epoch of a run from the opening state has at most 2m + n moves by the rules of Hsu and Huang, and at most 2m + 3n by those
 /// of Manne and others, where m and n are the edges and nodes that it began with.
 pub fn epochs_are_bounded()
-    ensures hsu_huang { (size : ℕ) (path : List (Entry × State)) → IsPath hsu_huang (beginning size) path
-        → All (IsBounded 1) (epochs_from 1 (epoch_at 0 (opening size)) path) }
-    ensures manne { (size : ℕ) (path : List (Entry × State)) → IsPath manne (beginning size) path
-        → All (IsBounded 3) (epochs_from 1 (epoch_at 0 (opening size)) path) }
+    ensures hsu_huang { (size count : ℕ) (path : List (Entry × State)) → IsPath hsu_huang (beginning_with size count) path
+        → All (IsBounded 1) (epochs_from 1 (epoch_at 0 (opening_with size count)) path) }
+    ensures manne { (size count : ℕ) (path : List (Entry × State)) → IsPath manne (beginning_with size count) path
+        → All (IsBounded 3) (epochs_from 1 (epoch_at 0 (opening_with size count)) path) }
 {}

@@ -1,5 +1,5 @@
 -- How the program ends: what the writers have got, and the exit status.
-use Rattle.std.specs.Prelude.{◌≡◌, ◌⊎◌, ℕ, List, Result, Ok, Err, IfOk}
+use Rattle.std.specs.Prelude.{◌≡◌, ◌⊎◌, ℕ, List, Option, None, Some, Result, Ok, Err, IfOk}
 use Rattle.std.specs.Io.KnownBytes.{Keeps}
 use Rattle.clap.specs.Words.{kind_of}
 use Rattle.clap.specs.declared.error.Error.{Error}
@@ -9,9 +9,10 @@ use Rattle.script_run.specs.declared.fault.RunFault.{RunFault}
 use Rattle.script_run.specs.Outcome.{IsOutcome}
 use Rattle.command_words.specs.declared.task.Task.{Task}
 use Rattle.command_words.specs.declared.task.Task.TheVariants.{Run, Audit, Picture, Epochs, Show}
+use Rattle.command_words.specs.Wanted.{present_at_start}
 use Rattle.command_line.specs.declared.verdict.CheckEnd.{CheckEnd}
 use Rattle.command_line.specs.Status.{status_of, words_status}
-use Rattle.command_line.specs.FaultText.{fault_line}
+use Rattle.command_line.specs.FaultText.{bad_present_line, fault_line}
 use Rattle.transcript_view.specs.Views.{IsPicture, IsTable}
 use Rattle.command_line.specs.Viewed.{Known, Views}
 use Rattle.command_line.specs.Checked.{IsVerdict, TellsVerdict, verdict_status}
@@ -32,9 +33,18 @@ checked_status (Ok end) = verdict_status end
 checked_status (Err fault) = status_of fault
 
 -- the script was run, the writer has its transcript, a fault was told, and the status tells how it ended
-abbrev pub TellsOutcome : RuleSet → ℕ → ℕ → List ℕ → Known → Known → Known → Known → ℕ → Type 0
-TellsOutcome rules nodes limit script old new before after status =
-    (ended : Result Unit RunFault) × IsOutcome rules nodes limit script old new ended × TellsFault before after ended × (status ≡ ended_status ended)
+abbrev pub TellsOutcome : RuleSet → ℕ → ℕ → ℕ → List ℕ → Known → Known → Known → Known → ℕ → Type 0
+TellsOutcome rules nodes present limit script old new before after status =
+    (ended : Result Unit RunFault) × IsOutcome rules nodes present limit script old new ended × TellsFault before after ended × (status ≡ ended_status ended)
+
+-- it is told that more nodes would be present at the start than there may be, and nothing is read or written
+abbrev pub TellsBadPresent : Known → Known → Known → Known → ℕ → Type 0
+TellsBadPresent old new before after status = (status ≡ 2) × Keeps old new × AppendsBeginning before after bad_present_line
+
+-- what is done for a run: where there can be so many nodes at the start, it is run with them
+abbrev pub DoesRun : RuleSet → ℕ → Option ℕ → List ℕ → Known → Known → Known → Known → ℕ → Type 0
+DoesRun rules nodes None input old new before after status = TellsBadPresent old new before after status
+DoesRun rules nodes (Some present) input old new before after status = TellsOutcome rules nodes present 16777216 input old new before after status
 
 -- the transcript was judged, the writer has the line of its verdict, a fault was told, and the status tells how it ended
 abbrev pub TellsCheck : List ℕ → Known → Known → Known → Known → ℕ → Type 0
@@ -44,7 +54,7 @@ TellsCheck bytes old new before after status =
 -- what is done for a task: a run's bytes and status are the same for each number of workers; where the help or the version is
 -- asked for, it is shown, or a write failed
 abbrev pub DoesTask : Task → List ℕ → Known → Known → Known → Known → ℕ → Type 0
-DoesTask (Run rules nodes workers) input old new before after status = TellsOutcome rules nodes 16777216 input old new before after status
+DoesTask (Run rules nodes present workers) input old new before after status = DoesRun rules nodes (present_at_start nodes present) input old new before after status
 DoesTask Audit input old new before after status = TellsCheck input old new before after status
 DoesTask (Picture entry) input old new before after status = Views (IsPicture input entry) old new before after status
 DoesTask Epochs input old new before after status = Views (IsTable input) old new before after status

@@ -28,6 +28,10 @@ abbrev pub IsPlain : RunFault → Type 0
 IsPlain (BadLine line) = ⊥
 IsPlain fault = Unit {0}
 
+-- more nodes would be present at the start than there may be
+abbrev pub bad_present_line : List ℕ
+bad_present_line = codes "! bad present\n"
+
 -- words that could not be had
 abbrev pub no_words_line : io.ErrorKind → List ℕ
 no_words_line InvalidData = codes "! a word is not UTF-8\n"

@@ -1,18 +1,19 @@
 //! From the words to the exit status.
 
-ghost use Rattle.std.specs.Prelude.{◌≡◌, ◌⊎◌, IfErr, IfOk, IfSome, Result, map};
+ghost use Rattle.std.specs.Prelude.{◌≡◌, ◌⊎◌, IfErr, IfOk, IfSome, MatchOption, Result, map};
 ghost use Rattle.clap.specs.declared.error.kind.ErrorKind.TheVariants.{OutOfMemory};
 ghost use Rattle.command_words.specs.declared.task.Task.{Task};
 ghost use Rattle.command_words.specs.Wanted.{Answers, Wants};
 ghost use Rattle.clap.specs.declared.error.Error.{Error};
 ghost use Rattle.clap.specs.Words.{kind_of};
 ghost use Rattle.byte_streams.specs.Beginning.{AppendsBeginning};
-ghost use Rattle.command_line.specs.FaultText.{fault_line, no_words_line};
-ghost use Rattle.command_line.specs.Ended.{TellsOutcome, TellsCheck, Does};
+ghost use Rattle.command_line.specs.FaultText.{bad_present_line, fault_line, no_words_line};
+ghost use Rattle.command_line.specs.Ended.{TellsBadPresent, TellsOutcome, TellsCheck, Does};
 ghost use Rattle.command_line.specs.Status.{IsRunStatus, IsStatus, status_of, no_words_status, words_status};
 
 use crate::fault_line::write_fault;
 use crate::once::write_text;
+use crate::options::network_options;
 use crate::verdict::check;
 use crate::viewing::{draw, list_epochs};
 use byte_streams::finish;
@@ -60,6 +61,15 @@ pub fn tell_no_words<Faults: Write>(kind: io::ErrorKind, faults: &mut Faults) ->
     tell(RunFault::Memory, faults)
 }
 
+/// Tells that more nodes would be present at the start than there may be, in one line, and gives the exit status, 2.
+pub fn tell_bad_present<Faults: Write>(faults: &mut Faults) -> u8
+    ensures status { result ≡ 2 }
+    ensures told { AppendsBeginning (Faults.contents faults.old) (Faults.contents faults.new) bad_present_line }
+{
+    let _ = finish(faults, b"! bad present\n");
+    2
+}
+
 // Tells what is wrong with the words, in clap's text, and gives the exit status: 2, or 4 for want of memory.
 fn refuse<Faults: Write>(error: Error, faults: &mut Faults) -> u8
     ensures { result ≡ words_status (kind_of error) }
@@ -91,13 +101,34 @@ fn run_script<In: Read, Out: Write, Faults: Write, T: Threads + Wait + Sync>(
     faults: &mut Faults,
 ) -> u8
     ensures outcome { IfSome (In.remaining reader.old) (λ script.
-        TellsOutcome options.now.rules options.now.nodes options.now.limit script
+        TellsOutcome options.now.rules options.now.nodes options.now.present options.now.limit script
         (Out.contents writer.old) (Out.contents writer.new) (Faults.contents faults.old) (Faults.contents faults.new) result) }
     ensures status { IsRunStatus result }
 {
     match run(rt, alloc, reader, writer, options) {
         Ok(()) => 0,
         Err(fault) => tell(fault, faults),
+    }
+}
+
+// Runs the script as the options say, or tells that there are none, and gives the exit status.
+fn run_network<In: Read, Out: Write, Faults: Write, T: Threads + Wait + Sync>(
+    rt: &T,
+    alloc: Global,
+    options: Option<Options>,
+    reader: &mut In,
+    writer: &mut Out,
+    faults: &mut Faults,
+) -> u8
+    ensures outcome { IfSome (In.remaining reader.old) (λ script. MatchOption options
+        (TellsBadPresent (Out.contents writer.old) (Out.contents writer.new) (Faults.contents faults.old) (Faults.contents faults.new) result)
+        (λ asked. TellsOutcome asked.rules asked.nodes asked.present asked.limit script
+        (Out.contents writer.old) (Out.contents writer.new) (Faults.contents faults.old) (Faults.contents faults.new) result)) }
+    ensures status { IsRunStatus result }
+{
+    match options {
+        Some(options) => run_script(rt, alloc, &options, reader, writer, faults),
+        None => tell_bad_present(faults),
     }
 }
 
@@ -135,7 +166,8 @@ pub fn end_words<Out: Write, Faults: Write>(
 
 /// Does what the words ask for, of which the first is the program's name, and gives the exit status: 0 for a whole run
 /// or an accepted transcript, or where a transcript, the help or the version was shown; 1 for a refused transcript; 2 for
-/// bad words, a bad line, or an entry that is not there; 3 where a read or a write failed; 4 for want of memory or a full log.
+/// bad words, more nodes at the start than there may be, a bad line, or an entry that is not there; 3 where a read or a write
+/// failed; 4 for want of memory or a full log.
 /// Faults are told on `faults`, and with bad words nothing goes to `writer`. Only a run may wait: for the workers to which
 /// `rt` gives their threads.
 pub fn start<S: AsStr, In: Read, Out: Write, Faults: Write, T: Threads + Wait + Sync>(
@@ -157,13 +189,12 @@ pub fn start<S: AsStr, In: Read, Out: Write, Faults: Write, T: Threads + Wait + 
             Task::Run {
                 rules,
                 nodes,
+                present,
                 workers,
             },
         ) => {
-            let options = Options::new(rules, u32::from(nodes))
-                .unwrap()
-                .with_workers(u32::from(workers));
-            run_script(rt, alloc, &options, reader, writer, faults)
+            let options = network_options(rules, nodes, present, workers);
+            run_network(rt, alloc, options, reader, writer, faults)
         }
         Ok(Task::Audit) => check_transcript(alloc, reader, writer, faults),
         Ok(Task::Picture { entry }) => draw(alloc, entry, reader, writer, faults),

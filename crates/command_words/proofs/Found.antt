@@ -9,18 +9,18 @@ use Rattle.rule_machine.specs.declared.rules.RuleSet.{RuleSet}
 use Rattle.rule_machine.specs.Tables.{rules_word}
 use Rattle.command_words.specs.declared.task.Task.{Task}
 use Rattle.command_words.specs.declared.task.Task.TheVariants.{Run, Audit, Picture, Epochs, Show}
-use Rattle.command_words.specs.Wanted.{GivesNumber, Holds, HoldsPicture, HoldsRun, IsNumber}
+use Rattle.command_words.specs.Wanted.{GivesNumber, Holds, HoldsPicture, HoldsRun, IsNumber, MayGive}
 
 -- no run is held where no rule set was given
-pub no_rules : (f : Found) (r : RuleSet) (n k : ℕ) → None ≡ first_value f (codes "rules") → HoldsRun (rows_of f) r n k → ⊥
-no_rules f r n k e h =
+pub no_rules : (f : Found) (r : RuleSet) (n : ℕ) (p : Option ℕ) (k : ℕ) → None ≡ first_value f (codes "rules") → HoldsRun (rows_of f) r n p k → ⊥
+no_rules f r n p k e h =
     let a = first_value-rows f (codes "rules") in
     let b = h.rules_is in
     cc
 
 -- the word that was given is that of the rule set
-pub rules_are : (f : Found) (word : Text) (r : RuleSet) (n k : ℕ) → Some word ≡ first_value f (codes "rules") → HoldsRun (rows_of f) r n k → word ≡ rules_word r
-rules_are f word r n k e h =
+pub rules_are : (f : Found) (word : Text) (r : RuleSet) (n : ℕ) (p : Option ℕ) (k : ℕ) → Some word ≡ first_value f (codes "rules") → HoldsRun (rows_of f) r n p k → word ≡ rules_word r
+rules_are f word r n p k e h =
     let a = first_value-rows f (codes "rules") in
     let b = h.rules_is in
     cc
@@ -39,12 +39,29 @@ number_read gives limit id f (Some v) None e none value good bad =
 number_read gives limit id f (Some v) (Some t) e none value good bad =
     record { text = t; given = sym (one_text-rows f id) ∙ e; is = good t v (value t refl) }
 
+-- what was read of an argument that may be left out
+pub maybe_read : {E : Type 0} (gives : Text → Result ℕ E → Type 0) (limit : ℕ) (id : Text) (f : Found) (text : Option Text) (o : Option ℕ) → one_text f id ≡ text → (text ≡ None → ◌≡◌ {A = Result (Option ℕ) E} (Ok o) (Ok None)) → ((t : Text) → text ≡ Some t → TriesOne gives t (Ok o)) → ((t : Text) (v : ℕ) → gives t (Ok v) → IsNumber limit t v) → MayGive limit id (rows_of f) o
+maybe_read gives limit id f None None e none value read = sym (one_text-rows f id) ∙ e
+maybe_read gives limit id f None (Some v) e none value read =
+    let k = none refl in
+    absurd cc
+maybe_read gives limit id f (Some t) None e none value read = absurd (value t refl)
+maybe_read gives limit id f (Some t) (Some v) e none value read = (t, sym (one_text-rows f id) ∙ e, read t v (value t refl))
+
+-- nothing may be given where what was given is no number
+pub none_given : {E : Type 0} (gives : Text → Result ℕ E → Type 0) (limit : ℕ) (id : Text) (f : Found) (error : E) (o : Option ℕ) → (one_text f id ≡ None → ◌≡◌ {A = Result (Option ℕ) E} (Err error) (Ok None)) → ((t : Text) → one_text f id ≡ Some t → TriesOne gives t (Err error)) → ((t : Text) (v : ℕ) → gives t (Err error) → IsNumber limit t v → ⊥) → MayGive limit id (rows_of f) o → ⊥
+none_given gives limit id f error None none value read h =
+    let k = none (one_text-rows f id ∙ h) in
+    cc
+none_given gives limit id f error (Some v) none value read h = read h.0 v (value h.0 (one_text-rows f id ∙ h.1)) h.2
+
 -- what was read makes a run
-pub run_held : (f : Found) (word : Text) (r : RuleSet) (n k : ℕ) → Some word ≡ first_value f (codes "rules") → word ≡ rules_word r
-    → GivesNumber (2 ^ 16) (codes "nodes") (rows_of f) n → GivesNumber (2 ^ 16) (codes "workers") (rows_of f) k → HoldsRun (rows_of f) r n k
-run_held f word r n k e w nodes workers = record {
+pub run_held : (f : Found) (word : Text) (r : RuleSet) (n : ℕ) (p : Option ℕ) (k : ℕ) → Some word ≡ first_value f (codes "rules") → word ≡ rules_word r
+    → GivesNumber (2 ^ 16) (codes "nodes") (rows_of f) n → MayGive (2 ^ 16) (codes "present") (rows_of f) p → GivesNumber (2 ^ 16) (codes "workers") (rows_of f) k → HoldsRun (rows_of f) r n p k
+run_held f word r n p k e w nodes present workers = record {
   rules_is = sym (first_value-rows f (codes "rules")) ∙ sym e ∙ ap (λ (z : Text). Some z) w;
   nodes_is = nodes;
+  present_is = present;
   workers_is = workers;
 }
 
@@ -65,15 +82,15 @@ run_epochs : codes "run" ≡ codes "epochs" → ⊥
 run_epochs e = omega (arith, ap (λ (z : Text). get_or z 0 0) e)
 
 -- no task is held where no run is
-no_task : (rows : List Row) → ((r : RuleSet) (n k : ℕ) → HoldsRun rows r n k → ⊥) → (task : Task) → Holds (Some (codes "run", rows)) task → ⊥
-no_task rows none (Run r n k) h = none r n k h.1
+no_task : (rows : List Row) → ((r : RuleSet) (n : ℕ) (p : Option ℕ) (k : ℕ) → HoldsRun rows r n p k → ⊥) → (task : Task) → Holds (Some (codes "run", rows)) task → ⊥
+no_task rows none (Run r n p k) h = none r n p k h.1
 no_task rows none Audit h = run_audit h
 no_task rows none (Picture entry) h = run_picture h.0
 no_task rows none Epochs h = run_epochs h
 no_task rows none (Show text) h = h
 
 -- what was found for `run` is what was asked
-pub run_asked : (o : Option (Text × List Row)) (rows : List Row) (found : Option Task) → o ≡ Some (codes "run", rows) → MatchOption found ((r : RuleSet) (n k : ℕ) → HoldsRun rows r n k → ⊥) (λ task. Holds (Some (codes "run", rows)) task) → MatchOption found ((task : Task) → Holds o task → ⊥) (λ task. Holds o task)
+pub run_asked : (o : Option (Text × List Row)) (rows : List Row) (found : Option Task) → o ≡ Some (codes "run", rows) → MatchOption found ((r : RuleSet) (n : ℕ) (p : Option ℕ) (k : ℕ) → HoldsRun rows r n p k → ⊥) (λ task. Holds (Some (codes "run", rows)) task) → MatchOption found ((task : Task) → Holds o task → ⊥) (λ task. Holds o task)
 run_asked o rows None e none = λ task h. no_task rows none task (subst (λ (z : Option (Text × List Row)). Holds z task) e h)
 run_asked o rows (Some task) e held = subst (λ (z : Option (Text × List Row)). Holds z task) (sym e) held
 
@@ -89,27 +106,11 @@ picture_epochs : codes "picture" ≡ codes "epochs" → ⊥
 picture_epochs e = omega (arith, ap (λ (z : Text). get_or z 0 0) e)
 
 no_other : (rows : List Row) → ((entry : Option ℕ) → HoldsPicture rows entry → ⊥) → (task : Task) → Holds (Some (codes "picture", rows)) task → ⊥
-no_other rows none (Run r n k) h = picture_run h.0
+no_other rows none (Run r n p k) h = picture_run h.0
 no_other rows none Audit h = picture_audit h
 no_other rows none (Picture entry) h = none entry h.1
 no_other rows none Epochs h = picture_epochs h
 no_other rows none (Show text) h = h
-
--- what was read makes a picture
-pub picture_held : {E : Type 0} (gives : Text → Result ℕ E → Type 0) (f : Found) (text : Option Text) (entry : Option ℕ) → one_text f (codes "entry") ≡ text → (text ≡ None → ◌≡◌ {A = Result (Option ℕ) E} (Ok entry) (Ok None)) → ((t : Text) → text ≡ Some t → TriesOne gives t (Ok entry)) → ((t : Text) (v : ℕ) → gives t (Ok v) → IsNumber (2 ^ 32) t v) → HoldsPicture (rows_of f) entry
-picture_held gives f None None e none value read = sym (one_text-rows f (codes "entry")) ∙ e
-picture_held gives f None (Some v) e none value read =
-    let k = none refl in
-    absurd cc
-picture_held gives f (Some t) None e none value read = absurd (value t refl)
-picture_held gives f (Some t) (Some v) e none value read = (t, sym (one_text-rows f (codes "entry")) ∙ e, read t v (value t refl))
-
--- no picture is held where what was given is no number
-pub no_picture : {E : Type 0} (gives : Text → Result ℕ E → Type 0) (f : Found) (error : E) (entry : Option ℕ) → (one_text f (codes "entry") ≡ None → ◌≡◌ {A = Result (Option ℕ) E} (Err error) (Ok None)) → ((t : Text) → one_text f (codes "entry") ≡ Some t → TriesOne gives t (Err error)) → ((t : Text) (v : ℕ) → gives t (Err error) → IsNumber (2 ^ 32) t v → ⊥) → HoldsPicture (rows_of f) entry → ⊥
-no_picture gives f error None none value read h =
-    let k = none (one_text-rows f (codes "entry") ∙ h) in
-    cc
-no_picture gives f error (Some v) none value read h = read h.0 v (value h.0 (one_text-rows f (codes "entry") ∙ h.1)) h.2
 
 -- what was found for `picture` is what was asked
 pub picture_asked : (o : Option (Text × List Row)) (rows : List Row) (found : Option Task) → o ≡ Some (codes "picture", rows) → MatchOption found ((entry : Option ℕ) → HoldsPicture rows entry → ⊥) (λ task. Holds (Some (codes "picture", rows)) task) → MatchOption found ((task : Task) → Holds o task → ⊥) (λ task. Holds o task)

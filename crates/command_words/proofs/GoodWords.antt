@@ -63,13 +63,14 @@ run_taken names program w t a b =
     both_true (both_true (both_true (both_true (both_true a refl) refl) (both_true (both_true (both_true b refl) refl) refl)) refl) refl
 
 run_found : (names : Names) (program t : Text) (r : RuleSet) (n : ℕ) → IsNumber (2 ^ 16) (without_minus t) n
-    → Holds (subcommand_of (console_app names) (program ∷ codes "run" ∷ (codes "--rules=" ++ rules_word r) ∷ (codes "--nodes=" ++ t) ∷ [])) (Run r n 1)
+    → Holds (subcommand_of (console_app names) (program ∷ codes "run" ∷ (codes "--rules=" ++ rules_word r) ∷ (codes "--nodes=" ++ t) ∷ [])) (Run r n None 1)
 unfolding clap_on_literals
 run_found names program t r n c = (
   refl,
   record {
     rules_is = refl;
     nodes_is = record { text = without_minus t; given = refl; is = c };
+    present_is = refl;
     workers_is = record { text = codes "1"; given = refl; is = (search rules, refl) };
   },
 )
@@ -82,23 +83,72 @@ workers_taken names program w t u a b c =
     both_true (both_true (both_true (both_true (both_true a refl) refl) (both_true (both_true (both_true b refl) refl) (both_true (both_true (both_true c refl) refl) refl))) refl) refl
 
 workers_found : (names : Names) (program t u : Text) (r : RuleSet) (n k : ℕ) → IsNumber (2 ^ 16) (without_minus t) n → IsNumber (2 ^ 16) (without_minus u) k
-    → Holds (subcommand_of (console_app names) (program ∷ codes "run" ∷ (codes "--rules=" ++ rules_word r) ∷ (codes "--nodes=" ++ t) ∷ (codes "--workers=" ++ u) ∷ [])) (Run r n k)
+    → Holds (subcommand_of (console_app names) (program ∷ codes "run" ∷ (codes "--rules=" ++ rules_word r) ∷ (codes "--nodes=" ++ t) ∷ (codes "--workers=" ++ u) ∷ [])) (Run r n None k)
 unfolding clap_on_literals
 workers_found names program t u r n k c d = (
   refl,
   record {
     rules_is = refl;
     nodes_is = record { text = without_minus t; given = refl; is = c };
+    present_is = refl;
     workers_is = record { text = without_minus u; given = refl; is = d };
   },
 )
 
-pub run_wanted : (program : Text) (r : RuleSet) (n : ℕ) (workers : Option ℕ) → n ≤ 65535 → AreWorkers workers → Wants (run_words program r n workers) (Run r n (unwrap_or workers 1))
-run_wanted program r n None few some names a =
+-- with a number of nodes at the start
+present_taken : (names : Names) (program w t u : Text) → list_any (λ name. same_text false name.now w) names.now ≡ true → accepts false (vp.Signed (pos 0) (pos 65535)) t ≡ true → accepts false (vp.Signed (pos 0) (pos 65535)) u ≡ true
+    → takes (console_app names) (program ∷ codes "run" ∷ (codes "--rules=" ++ w) ∷ (codes "--nodes=" ++ t) ∷ (codes "--present=" ++ u) ∷ []) ≡ true
+unfolding clap_on_literals
+present_taken names program w t u a b c =
+    both_true (both_true (both_true (both_true (both_true a refl) refl) (both_true (both_true (both_true b refl) refl) (both_true (both_true (both_true c refl) refl) refl))) refl) refl
+
+present_found : (names : Names) (program t u : Text) (r : RuleSet) (n p : ℕ) → IsNumber (2 ^ 16) (without_minus t) n → IsNumber (2 ^ 16) (without_minus u) p
+    → Holds (subcommand_of (console_app names) (program ∷ codes "run" ∷ (codes "--rules=" ++ rules_word r) ∷ (codes "--nodes=" ++ t) ∷ (codes "--present=" ++ u) ∷ [])) (Run r n (Some p) 1)
+unfolding clap_on_literals
+present_found names program t u r n p c d = (
+  refl,
+  record {
+    rules_is = refl;
+    nodes_is = record { text = without_minus t; given = refl; is = c };
+    present_is = (without_minus u, refl, d);
+    workers_is = record { text = codes "1"; given = refl; is = (search rules, refl) };
+  },
+)
+
+-- and with both
+both_taken : (names : Names) (program w t u x : Text) → list_any (λ name. same_text false name.now w) names.now ≡ true → accepts false (vp.Signed (pos 0) (pos 65535)) t ≡ true → accepts false (vp.Signed (pos 0) (pos 65535)) u ≡ true → accepts false (vp.Signed (pos 1) (pos 64)) x ≡ true
+    → takes (console_app names) (program ∷ codes "run" ∷ (codes "--rules=" ++ w) ∷ (codes "--nodes=" ++ t) ∷ (codes "--present=" ++ u) ∷ (codes "--workers=" ++ x) ∷ []) ≡ true
+unfolding clap_on_literals
+both_taken names program w t u x a b c d =
+    both_true (both_true (both_true (both_true (both_true a refl) refl) (both_true (both_true (both_true b refl) refl) (both_true (both_true (both_true c refl) refl) (both_true (both_true (both_true d refl) refl) refl)))) refl) refl
+
+both_found : (names : Names) (program t u x : Text) (r : RuleSet) (n p k : ℕ) → IsNumber (2 ^ 16) (without_minus t) n → IsNumber (2 ^ 16) (without_minus u) p → IsNumber (2 ^ 16) (without_minus x) k
+    → Holds (subcommand_of (console_app names) (program ∷ codes "run" ∷ (codes "--rules=" ++ rules_word r) ∷ (codes "--nodes=" ++ t) ∷ (codes "--present=" ++ u) ∷ (codes "--workers=" ++ x) ∷ [])) (Run r n (Some p) k)
+unfolding clap_on_literals
+both_found names program t u x r n p k c d e = (
+  refl,
+  record {
+    rules_is = refl;
+    nodes_is = record { text = without_minus t; given = refl; is = c };
+    present_is = (without_minus u, refl, d);
+    workers_is = record { text = without_minus x; given = refl; is = e };
+  },
+)
+
+pub run_wanted : (program : Text) (r : RuleSet) (n : ℕ) (present workers : Option ℕ) → n ≤ 65535 → IfSome present (λ p. p ≤ 65535) → AreWorkers workers → Wants (run_words program r n present workers) (Run r n present (unwrap_or workers 1))
+run_wanted program r n None None few here some names a =
     (run_taken names program (rules_word r) (decimal n) (named names r a) (decimal_taken 0 65535 n (omega arith) few (omega arith)), run_found names program (decimal n) r n (decimal_read (2 ^ 16) n (omega arith) (omega arith)))
-run_wanted program r n (Some k) few some names a = (
+run_wanted program r n None (Some k) few here some names a = (
   workers_taken names program (rules_word r) (decimal n) (decimal k) (named names r a) (decimal_taken 0 65535 n (omega arith) few (omega arith)) (decimal_taken 1 64 k some.0 some.1 (omega arith)),
   workers_found names program (decimal n) (decimal k) r n k (decimal_read (2 ^ 16) n (omega arith) (omega arith)) (decimal_read (2 ^ 16) k (omega (arith, some.1)) (omega arith)),
+)
+run_wanted program r n (Some p) None few here some names a = (
+  present_taken names program (rules_word r) (decimal n) (decimal p) (named names r a) (decimal_taken 0 65535 n (omega arith) few (omega arith)) (decimal_taken 0 65535 p (omega arith) here (omega arith)),
+  present_found names program (decimal n) (decimal p) r n p (decimal_read (2 ^ 16) n (omega arith) (omega arith)) (decimal_read (2 ^ 16) p (omega (arith, here)) (omega arith)),
+)
+run_wanted program r n (Some p) (Some k) few here some names a = (
+  both_taken names program (rules_word r) (decimal n) (decimal p) (decimal k) (named names r a) (decimal_taken 0 65535 n (omega arith) few (omega arith)) (decimal_taken 0 65535 p (omega arith) here (omega arith)) (decimal_taken 1 64 k some.0 some.1 (omega arith)),
+  both_found names program (decimal n) (decimal p) (decimal k) r n p k (decimal_read (2 ^ 16) n (omega arith) (omega arith)) (decimal_read (2 ^ 16) p (omega (arith, here)) (omega arith)) (decimal_read (2 ^ 16) k (omega (arith, some.1)) (omega arith)),
 )
 
 audit_taken : (names : Names) (program : Text) → takes (console_app names) (audit_words program) ≡ true

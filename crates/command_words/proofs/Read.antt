@@ -21,7 +21,7 @@ no_text (Some p) text h = h
 
 -- what is held is answered
 pub answered : (names : Names) (words : List Text) (o : Option (Text × List Row)) (task : Task) → AreRules names → o ≡ subcommand_of (console_app names) words → Holds o task → Answers words task
-answered names words o (Run r n k) a e h = (names, a, subst (λ (z : Option (Text × List Row)). Holds z (Run r n k)) e h)
+answered names words o (Run r n p k) a e h = (names, a, subst (λ (z : Option (Text × List Row)). Holds z (Run r n p k)) e h)
 answered names words o Audit a e h = (names, a, subst (λ (z : Option (Text × List Row)). Holds z Audit) e h)
 answered names words o (Picture entry) a e h = (names, a, subst (λ (z : Option (Text × List Row)). Holds z (Picture entry)) e h)
 answered names words o Epochs a e h = (names, a, subst (λ (z : Option (Text × List Row)). Holds z Epochs) e h)

@@ -1,5 +1,5 @@
 -- What the words of the command line ask for, by clap's account of what a command makes of words.
-use Rattle.std.specs.Prelude.{◌≡◌, ◌⊎◌, ℕ, ◌<◌, ◌≤◌, ◌^◌, List, [], ◌∷◌, ◌++◌, map, Option, None, Some, pos, true, codes}
+use Rattle.std.specs.Prelude.{◌≡◌, ◌⊎◌, ℕ, ◌<◌, ◌≤◌, ◌^◌, List, [], ◌∷◌, ◌++◌, map, Option, None, Some, pos, true, codes, if◌then◌else◌, nat_le}
 use Rattle.std.specs.Borrow.{Bor}
 use Rattle.std.specs.Fmt.{decimal}
 use Rattle.std.specs.Str.Parse.{IsNumeral, digits_value, without_leading_plus}
@@ -33,13 +33,17 @@ rules_rule names = record (valued_rule (codes "rules")) { parser = Some (vp.Name
 abbrev pub nodes_rule : Rule
 nodes_rule = record (valued_rule (codes "nodes")) { parser = Some (vp.Signed (pos 0) (pos 65535)); required = true }
 
+-- `--present` and a number from 0 to 65,535, which may be left out
+abbrev pub present_rule : Rule
+present_rule = record (valued_rule (codes "present")) { parser = Some (vp.Signed (pos 0) (pos 65535)) }
+
 -- `--workers` and a number from 1 to 64, which is 1 where it is left out
 abbrev pub workers_rule : Rule
 workers_rule = record (valued_rule (codes "workers")) { defaults = codes "1" ∷ []; parser = Some (vp.Signed (pos 1) (pos 64)) }
 
--- a subcommand and these three
+-- a subcommand and these four
 abbrev pub network_app : App → Names → App
-network_app app names = with_rule (with_rule (with_rule app (rules_rule names)) nodes_rule) workers_rule
+network_app app names = with_rule (with_rule (with_rule (with_rule app (rules_rule names)) nodes_rule) present_rule) workers_rule
 
 -- the subcommand `run`
 abbrev pub run_app : Names → App
@@ -97,20 +101,25 @@ pub record GivesNumber (limit : ℕ) (id : Text) (found : List Row) (n : ℕ) : 
   pub given : one_of id found ≡ Some text
   pub is : IsNumber limit text n
 
--- what was found for `run` are this rule set, this number of nodes and this number of workers
-pub record HoldsRun (found : List Row) (rules : RuleSet) (nodes workers : ℕ) : Type 0 where
+-- what was found for an argument that may be left out is this number, or nothing
+abbrev pub MayGive : ℕ → Text → List Row → Option ℕ → Type 0
+MayGive limit id found None = one_of id found ≡ None
+MayGive limit id found (Some n) = (text : Text) × (one_of id found ≡ Some text) × IsNumber limit text n
+
+-- what was found for `run` are this rule set, this number of nodes, this one of those at the start, and this one of workers
+pub record HoldsRun (found : List Row) (rules : RuleSet) (nodes : ℕ) (present : Option ℕ) (workers : ℕ) : Type 0 where
   pub rules_is : first_of (codes "rules") found ≡ Some (rules_word rules)
   pub nodes_is : GivesNumber (2 ^ 16) (codes "nodes") found nodes
+  pub present_is : MayGive (2 ^ 16) (codes "present") found present
   pub workers_is : GivesNumber (2 ^ 16) (codes "workers") found workers
 
 -- what was found for `picture` is this entry, or none
 abbrev pub HoldsPicture : List Row → Option ℕ → Type 0
-HoldsPicture found None = one_of (codes "entry") found ≡ None
-HoldsPicture found (Some entry) = (text : Text) × (one_of (codes "entry") found ≡ Some text) × IsNumber (2 ^ 32) text entry
+HoldsPicture found entry = MayGive (2 ^ 32) (codes "entry") found entry
 
 -- the subcommand, and what was found for it, are the task's
 abbrev pub Holds : Option (Text × List Row) → Task → Type 0
-Holds (Some p) (Run rules nodes workers) = (p.0 ≡ codes "run") × HoldsRun p.1 rules nodes workers
+Holds (Some p) (Run rules nodes present workers) = (p.0 ≡ codes "run") × HoldsRun p.1 rules nodes present workers
 Holds (Some p) Audit = p.0 ≡ codes "audit"
 Holds (Some p) (Picture entry) = (p.0 ≡ codes "picture") × HoldsPicture p.1 entry
 Holds (Some p) Epochs = p.0 ≡ codes "epochs"
@@ -130,11 +139,12 @@ abbrev pub Wants : List Text → Task → Type 0
 Wants words task =
     (names : Names) → AreRules names → (takes (console_app names) words ≡ true) × Holds (subcommand_of (console_app names) words) task
 
--- a storm: its rule set, how many nodes there are, how many workers evaluate a step, how many roam and for how many turns, and the
+-- a storm: its rule set, how many nodes there may be, how many there are at the start where it is named, how many workers evaluate a step, how many roam and for how many turns, and the
 -- names of the scripts' files
 pub record Storm : Type 0 where
   pub rules : RuleSet
   pub nodes : ℕ
+  pub present : Option ℕ
   pub workers : ℕ
   pub roamers : ℕ
   pub turns : ℕ
@@ -144,6 +154,7 @@ abbrev pub storm_of : StormWords → Storm
 storm_of words = record {
   rules = words.rules;
   nodes = words.nodes;
+  present = words.present;
   workers = words.workers;
   roamers = words.roamers;
   turns = words.turns;
@@ -152,7 +163,7 @@ storm_of words = record {
 
 -- what was found for `storm` is this one
 pub record HoldsStorm (found : List Row) (storm : Storm) : Type 0 where
-  pub run_is : HoldsRun found storm.rules storm.nodes storm.workers
+  pub run_is : HoldsRun found storm.rules storm.nodes storm.present storm.workers
   pub roamers_is : GivesNumber (2 ^ 16) (codes "roam") found storm.roamers
   pub turns_is : GivesNumber (2 ^ 32) (codes "turns") found storm.turns
   pub scripts_is : all_of (codes "SCRIPT") found ≡ Some storm.scripts
@@ -171,6 +182,17 @@ abbrev pub WantsStorm : List Text → Storm → Type 0
 WantsStorm words storm =
     (names : Names) → AreRules names → (takes (console_app names) words ≡ true) × IsStorm (subcommand_of (console_app names) words) storm
 
+-- how many nodes there are at the start, of so many that there may be: as many as were named, or all where no number was; none
+-- where that is more
+abbrev pub present_at_start : ℕ → Option ℕ → Option ℕ
+present_at_start nodes None = Some nodes
+present_at_start nodes (Some present) = if nat_le present nodes then Some present else None
+
+-- `--present`, where a number is named
+abbrev pub present_words : Option ℕ → List Text
+present_words None = []
+present_words (Some p) = (codes "--present=" ++ decimal p) ∷ []
+
 -- `--workers`, where a number is named
 abbrev pub workers_words : Option ℕ → List Text
 workers_words None = []
@@ -182,9 +204,9 @@ AreWorkers None = Unit {0}
 AreWorkers (Some k) = (1 ≤ k) × (k ≤ 64)
 
 -- the usual words for a run
-abbrev pub run_words : Text → RuleSet → ℕ → Option ℕ → List Text
-run_words program rules nodes workers =
-    program ∷ codes "run" ∷ (codes "--rules=" ++ rules_word rules) ∷ (codes "--nodes=" ++ decimal nodes) ∷ workers_words workers
+abbrev pub run_words : Text → RuleSet → ℕ → Option ℕ → Option ℕ → List Text
+run_words program rules nodes present workers =
+    program ∷ codes "run" ∷ (codes "--rules=" ++ rules_word rules) ∷ (codes "--nodes=" ++ decimal nodes) ∷ (present_words present ++ workers_words workers)
 
 -- the words for an audit
 abbrev pub audit_words : Text → List Text

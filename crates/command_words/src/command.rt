@@ -3,12 +3,12 @@
 ghost use Rattle.std.specs.Prelude.{◌≡◌, false, IfOk, codes};
 ghost use Rattle.clap.specs.Words.{app_of, new_app, rule_of};
 ghost use Rattle.clap.specs.declared.builder.command.Command.TheViews.{out-Command as fields_of};
-ghost use Rattle.command_words.specs.Wanted.{AreRules, Names, console_app, entry_rule, judging_app, network_app, nodes_rule, picture_app, roam_rule, rules_rule, run_app, script_rule, showing_app, storm_app, top_app, turns_rule, valued_rule, workers_rule};
+ghost use Rattle.command_words.specs.Wanted.{AreRules, Names, console_app, entry_rule, judging_app, network_app, nodes_rule, picture_app, present_rule, roam_rule, rules_rule, run_app, script_rule, showing_app, storm_app, top_app, turns_rule, valued_rule, workers_rule};
 
 use crate::help::{
     ABOUT, AUDIT_ABOUT, AUDIT_NOTES, ENTRY_HELP, EPOCHS_ABOUT, EPOCHS_NOTES, EXAMPLES, NODES_HELP,
-    PICTURE_ABOUT, PICTURE_NOTES, ROAM_HELP, RULES_HELP, RUN_ABOUT, RUN_NOTES, STORM_ABOUT,
-    STORM_NOTES, TURNS_HELP, WORKERS_HELP,
+    PICTURE_ABOUT, PICTURE_NOTES, PRESENT_HELP, ROAM_HELP, RULES_HELP, RUN_ABOUT, RUN_NOTES,
+    STORM_ABOUT, STORM_NOTES, TURNS_HELP, WORKERS_HELP,
 };
 use clap::{Arg, Command, value_parser};
 use std::alloc::{AllocError, Global};
@@ -46,6 +46,14 @@ fn nodes_arg<'a>(alloc: Global) -> Arg<'a>
         .value_parser(value_parser!(u16))
 }
 
+// `--present`, whose value is a number from 0 to 65,535.
+fn present_arg<'a>(alloc: Global) -> Arg<'a>
+    ensures rule { rule_of result ≡ present_rule }
+    ensures local { result.global ≡ false }
+{
+    valued_arg(alloc, "present", "P", PRESENT_HELP).value_parser(value_parser!(u16))
+}
+
 // `--workers`, whose value is a number from 1 to 64.
 fn workers_arg<'a>(alloc: Global) -> Arg<'a>
     ensures rule { rule_of result ≡ workers_rule }
@@ -64,7 +72,7 @@ fn told_command<'a>(alloc: Global, name: &'a str, about: &'a str, notes: &'a str
     Command::new(alloc, name).about(about).after_help(notes)
 }
 
-// A subcommand that has a network: a rule set, a number of nodes, and one of workers.
+// A subcommand that has a network: a rule set, a number of nodes, one of those present at the start, and one of workers.
 fn network_command<'a>(
     alloc: Global,
     command: Command<'a>,
@@ -77,6 +85,7 @@ fn network_command<'a>(
     command
         .arg(rules_arg(alloc, names))?
         .arg(nodes_arg(alloc))?
+        .arg(present_arg(alloc))?
         .arg(workers_arg(alloc))
 }
 
@@ -180,8 +189,8 @@ fn showing_command<'a>(alloc: Global, names: &'a [&'a str]) -> Result<Command<'a
         .subcommand(told_command(alloc, "epochs", EPOCHS_ABOUT, EPOCHS_NOTES))
 }
 
-/// The command: `run` with `--rules`, `--nodes` and `--workers`, `audit`, `picture` with `--entry`, `epochs`, and `storm` with
-/// these three of `run`, `--roam`, `--turns` and scripts.
+/// The command: `run` with `--rules`, `--nodes`, `--present` and `--workers`, `audit`, `picture` with `--entry`, `epochs`, and
+/// `storm` with these four of `run`, `--roam`, `--turns` and scripts.
 pub(crate) fn command<'a>(alloc: Global) -> Result<Command<'a>, AllocError>
     ensures { IfOk result (λ command. (names : Names) × AreRules names × (app_of command ≡ console_app names)) }
 {

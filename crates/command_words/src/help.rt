@@ -7,7 +7,10 @@ disturbance by themselves, and writes down each event and its answer.";
 pub(crate) const RULES_HELP: &str =
     "Whose rules: Hsu and Huang's, one node a step, or Manne's and others', any set of nodes a step";
 
-pub(crate) const NODES_HELP: &str = "How many nodes there are, named 1 to N; at most 65535";
+pub(crate) const NODES_HELP: &str = "How many nodes there may be, named 1 to N; at most 65535";
+
+pub(crate) const PRESENT_HELP: &str =
+    "How many of them there are at the start, 1 to P; at most N, and all N where no number is named";
 
 pub(crate) const WORKERS_HELP: &str =
     "How many workers judge the nodes of a step; 1 to 64, with the same transcript for each number";
@@ -49,11 +52,12 @@ Commands of a script, one a line, where A and B are names of nodes:
 Examples:
   console run --rules manne --nodes 4 < script.txt > transcript.txt
   console run --rules manne --nodes 60000 --workers 4 < script.txt > transcript.txt
+  console run --rules hh --nodes 9 --present 4 < script.txt > transcript.txt
   printf 'link 1 2\\nstep 1\\nstep 2\\nmatching\\n' | console run --rules hh --nodes 2
 
 Exit status:
   0  the whole script was run
-  2  bad words, or a line that is not a command
+  2  bad words, more nodes at the start than N, or a line that is not a command
   3  a read or a write failed
   4  memory ran out, or the log is full";
 
@@ -137,6 +141,6 @@ Examples:
 Exit status:
   0  every script was run, and the log is settled
   1  a settle was refused
-  2  bad words, a line that is not a command, or more than 64 scripts
+  2  bad words, more nodes at the start than N, a line that is not a command, or more than 64 scripts
   3  a read or a write failed, or a script cannot be opened
   4  memory ran out, the log is full, a clerk is behind, or no thread could be had";

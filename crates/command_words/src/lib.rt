@@ -3,11 +3,13 @@
 
 mod command;
 mod help;
+mod present;
 mod storm;
 mod task;
 mod usual;
 mod words;
 
+pub use present::present_at_start;
 pub use storm::{StormWords, read_storm};
 pub use task::Task;
 pub use usual::usual_words;

@@ -18,8 +18,10 @@ use std::convert::AsStr;
 pub struct StormWords<'a> {
     /// Whose rules.
     pub rules: RuleSet,
-    /// How many nodes there are, named from 1.
+    /// How many nodes there may be, named from 1.
     pub nodes: u16,
+    /// How many of them there are at the start, where a number is named; else all.
+    pub present: Option<u16>,
     /// How many workers evaluate a step, from 1 to 64.
     pub workers: u16,
     /// How many workers roam beside the scripts, at most 64.
@@ -46,7 +48,7 @@ fn storm_words<'a>(alloc: Global, storm: &ArgMatches<'a>) -> Result<Option<Storm
         (λ words. HoldsStorm (rows_of (found_of storm.now)) (storm_of words))) }
     ensures memory { IfErr result (λ e. kind_of e ≡ OutOfMemory) }
 {
-    let Some((rules, nodes, workers)) = network(storm) else {
+    let Some((rules, nodes, present, workers)) = network(storm) else {
         return Ok(None);
     };
     let Some(roamers) = number(storm, "roam") else {
@@ -63,6 +65,7 @@ fn storm_words<'a>(alloc: Global, storm: &ArgMatches<'a>) -> Result<Option<Storm
     Ok(Some(StormWords {
         rules,
         nodes,
+        present,
         workers,
         roamers,
         turns,

@@ -13,10 +13,12 @@ use rule_machine::RuleSet;
 /// What good words ask for.
 #[derive(Debug, Drop)]
 pub enum Task {
-    /// To run a script under a rule set, on the nodes 1 to `nodes`, with so many workers for each step.
+    /// To run a script under a rule set, on a network of the names 1 to `nodes`, of which 1 to `present` are nodes at the start,
+    /// or all where no number is named, with so many workers for each step.
     Run {
         rules: RuleSet,
         nodes: u16,
+        present: Option<u16>,
         workers: u16,
     },
     /// To judge a transcript.
@@ -55,12 +57,12 @@ pub(crate) fn number(found: &ArgMatches<'_>, id: &str) -> Option<u16>
     found.get_one::<u16>(id)
 }
 
-/// The rule set, the number of nodes and that of workers that were found; `None` where a value is missing, or is none of its
-/// argument's.
-pub(crate) fn network(found: &ArgMatches<'_>) -> Option<(RuleSet, u16, u16)>
+/// The rule set, the number of nodes, that of those present at the start where one was named, and that of workers that were
+/// found; `None` where a value is missing, or is none of its argument's.
+pub(crate) fn network(found: &ArgMatches<'_>) -> Option<(RuleSet, u16, Option<u16>, u16)>
     ensures { MatchOption result
-        ((rules : RuleSet) (nodes workers : ℕ) → HoldsRun (rows_of (found_of found.now)) rules nodes workers → ⊥)
-        (λ network. HoldsRun (rows_of (found_of found.now)) network.0 network.1 network.2) }
+        ((rules : RuleSet) (nodes : ℕ) (present : Option ℕ) (workers : ℕ) → HoldsRun (rows_of (found_of found.now)) rules nodes present workers → ⊥)
+        (λ network. HoldsRun (rows_of (found_of found.now)) network.0 network.1 network.2 network.3) }
 {
     let Some(word) = found.get_str("rules") else {
         return None;
@@ -71,24 +73,28 @@ pub(crate) fn network(found: &ArgMatches<'_>) -> Option<(RuleSet, u16, u16)>
     let Some(nodes) = number(found, "nodes") else {
         return None;
     };
+    let Ok(present) = found.try_get_one::<u16>("present") else {
+        return None;
+    };
     let Some(workers) = number(found, "workers") else {
         return None;
     };
-    Some((rules, nodes, workers))
+    Some((rules, nodes, present, workers))
 }
 
 // What was found for `run`; `None` where a value is missing, or is none of its argument's.
 fn run_task(run: &ArgMatches<'_>) -> Option<Task>
     ensures { MatchOption result
-        ((rules : RuleSet) (nodes workers : ℕ) → HoldsRun (rows_of (found_of run.now)) rules nodes workers → ⊥)
+        ((rules : RuleSet) (nodes : ℕ) (present : Option ℕ) (workers : ℕ) → HoldsRun (rows_of (found_of run.now)) rules nodes present workers → ⊥)
         (λ task. Holds (Some (codes "run", rows_of (found_of run.now))) task) }
 {
-    let Some((rules, nodes, workers)) = network(run) else {
+    let Some((rules, nodes, present, workers)) = network(run) else {
         return None;
     };
     Some(Task::Run {
         rules,
         nodes,
+        present,
         workers,
     })
 }

@@ -8,8 +8,8 @@ ghost use Rattle.command_words.specs.Wanted.{AreWorkers, Wants, run_words, audit
 
 /// The usual words are good, and ask for what they say; a run has one worker where no number is named.
 pub fn usual_words()
-    ensures run { (program : Text) (rules : RuleSet) (nodes : ℕ) (workers : Option ℕ) → nodes ≤ 65535 → AreWorkers workers
-        → Wants (run_words program rules nodes workers) (Run rules nodes (unwrap_or workers 1)) }
+    ensures run { (program : Text) (rules : RuleSet) (nodes : ℕ) (present workers : Option ℕ) → nodes ≤ 65535 → IfSome present (λ p. p ≤ 65535) → AreWorkers workers
+        → Wants (run_words program rules nodes present workers) (Run rules nodes present (unwrap_or workers 1)) }
     ensures audit { (program : Text) → Wants (audit_words program) Audit }
     ensures picture { (program : Text) (entry : Option ℕ) → IfSome entry (λ k. k ≤ 16777216) → Wants (picture_words program entry) (Picture entry) }
     ensures epochs { (program : Text) → Wants (epochs_words program) Epochs }

@@ -2,9 +2,8 @@
 //! scripts from files at once.
 #![tactic(auto)]
 
-use command_line::{end_words, start, tell_no_words};
+use command_line::{end_words, network_options, start, tell_bad_present, tell_no_words};
 use command_words::read_storm;
-use script_run::Options;
 use std::fs::File;
 use std::process::ExitCode;
 use std::{env, io};
@@ -32,6 +31,10 @@ fn main(rt: HostRuntime) -> ExitCode {
         Ok(asked) => asked,
         Err(error) => return ExitCode::from(end_words(error, &mut writer, &mut faults)),
     };
+    let network = network_options(asked.rules, asked.nodes, asked.present, asked.workers);
+    let Some(options) = network else {
+        return ExitCode::from(tell_bad_present(&mut faults));
+    };
     let mut scripts = Vec::new(rt.alloc());
     for name in asked.scripts.as_slice() {
         let Ok(script) = File::open(&rt, *name) else {
@@ -41,10 +44,7 @@ fn main(rt: HostRuntime) -> ExitCode {
             return ExitCode::from(storm_end(Err(StormFault::Memory), &mut faults));
         }
     }
-    let options = Options::new(asked.rules, u32::from(asked.nodes))
-        .unwrap()
-        .with_workers(u32::from(asked.workers))
-        .with_roam(u32::from(asked.roamers), asked.turns);
+    let options = options.with_roam(u32::from(asked.roamers), asked.turns);
     let ended = storm(&rt, rt.alloc(), &options, scripts, &mut writer, &NoGate);
     ExitCode::from(storm_end(ended, &mut faults))
 }

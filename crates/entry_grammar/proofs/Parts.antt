@@ -5,7 +5,7 @@ use Rattle.std.specs.List.{AllByRecursion}
 use Rattle.std.proofs.lemmas.List.{append_cancel_left, append_cancel_right}
 use Rattle.rule_machine.specs.declared.choice.Item.{Item}
 use Rattle.rule_machine.specs.declared.event.Event.{Event}
-use Rattle.rule_machine.specs.declared.event.Event.TheVariants.{Link, Unlink, Point, Flag, Step, Show, Enabled, Matching, Status}
+use Rattle.rule_machine.specs.declared.event.Event.TheVariants.{Link, Unlink, Point, Flag, Step, Show, Enabled, Matching, Status, Join, Leave}
 use Rattle.line_text.specs.Words.{number_text, marked_text, IsName, spaced}
 use Rattle.line_text.specs.EventText.{IsItem, IsEvent, event_text, pair_text, target_text, bool_text, item_text}
 use Rattle.entry_grammar.specs.Reading.{IsFree, CutAt, PartsOf}
@@ -42,6 +42,8 @@ event_free (Link a b) f = free_append 61 (codes "link ") (pair_text a b) (free_b
 event_free (Unlink a b) f = free_append 61 (codes "unlink ") (pair_text a b) (free_by 61 (codes "unlink ") refl) (spaced_free (number_text a) (number_text b) (name_free a f.0) (name_free b f.1))
 event_free (Point v target) f = free_append 61 (codes "point ") (number_text v ++ codes " " ++ target_text target) (free_by 61 (codes "point ") refl) (spaced_free (number_text v) (target_text target) (name_free v f.0) (target_free target f.1))
 event_free (Flag v value) f = free_append 61 (codes "flag ") (number_text v ++ codes " " ++ bool_text value) (free_by 61 (codes "flag ") refl) (spaced_free (number_text v) (bool_text value) (name_free v f) (bool_free value))
+event_free (Join v) f = free_append 61 (codes "join ") (number_text v) (free_by 61 (codes "join ") refl) (name_free v f)
+event_free (Leave v) f = free_append 61 (codes "leave ") (number_text v) (free_by 61 (codes "leave ") refl) (name_free v f)
 event_free (Step items) f = free_append 61 (codes "step") (spaced item_text items) (free_by 61 (codes "step") refl) (items_free items f.1)
 event_free (Show v) f = free_append 61 (codes "show ") (number_text v) (free_by 61 (codes "show ") refl) (name_free v f)
 event_free Enabled f = free_by 61 (codes "enabled") refl

@@ -3,7 +3,7 @@ use Rattle.std.proofs.Common.{◌≡◌, ℕ, ◌<◌, List, [], ◌∷◌, ◌+
 use Rattle.std.specs.Prelude.{nat_eq}
 use Rattle.std.proofs.lemmas.Fmt.{decimal_injective}
 use Rattle.rule_machine.specs.declared.refusal.Refusal.{Refusal}
-use Rattle.rule_machine.specs.declared.refusal.Refusal.TheVariants.{UnknownNode, SelfLoop, AlreadyLinked, NotLinked, TooManyEdges, NotNeighbour, NoFlag, EmptyChoice, NotCentral, ChosenTwice, NotEnabled, BadTarget}
+use Rattle.rule_machine.specs.declared.refusal.Refusal.TheVariants.{UnknownNode, SelfLoop, AlreadyLinked, NotLinked, TooManyEdges, NotNeighbour, NoFlag, EmptyChoice, NotCentral, ChosenTwice, NotEnabled, BadTarget, AlreadyPresent}
 use Rattle.rule_machine.specs.Refuse.{refusal_number, refusal_text}
 use Rattle.line_text.specs.Words.{number_text, IsName}
 use Rattle.line_text.specs.ReplyText.{refusal_words}
@@ -14,7 +14,7 @@ use Rattle.entry_grammar.proofs.Marked.{name_cut, name_once}
 -- the refusal with this number
 abbrev refusal_at : ℕ → Refusal
 refusal_at n =
-    if nat_eq n 1 then UnknownNode else (if nat_eq n 2 then SelfLoop else (if nat_eq n 3 then AlreadyLinked else (if nat_eq n 4 then NotLinked else (if nat_eq n 5 then TooManyEdges else (if nat_eq n 6 then NotNeighbour else (if nat_eq n 7 then NoFlag else (if nat_eq n 8 then EmptyChoice else (if nat_eq n 9 then NotCentral else (if nat_eq n 10 then ChosenTwice else (if nat_eq n 11 then NotEnabled else (BadTarget)))))))))))
+    if nat_eq n 1 then UnknownNode else (if nat_eq n 2 then SelfLoop else (if nat_eq n 3 then AlreadyLinked else (if nat_eq n 4 then NotLinked else (if nat_eq n 5 then TooManyEdges else (if nat_eq n 6 then NotNeighbour else (if nat_eq n 7 then NoFlag else (if nat_eq n 8 then EmptyChoice else (if nat_eq n 9 then NotCentral else (if nat_eq n 10 then ChosenTwice else (if nat_eq n 11 then NotEnabled else (if nat_eq n 12 then BadTarget else (AlreadyPresent))))))))))))
 
 at_number : (r : Refusal) → refusal_at (refusal_number r) ≡ r
 at_number UnknownNode = refl
@@ -29,6 +29,7 @@ at_number NotCentral = refl
 at_number ChosenTwice = refl
 at_number NotEnabled = refl
 at_number BadTarget = refl
+at_number AlreadyPresent = refl
 
 -- a refusal has a number of its own
 pub refusal_once : (r q : Refusal) → refusal_number r ≡ refusal_number q → r ≡ q
@@ -48,6 +49,7 @@ refusal_named NotCentral = (omega arith, omega arith)
 refusal_named ChosenTwice = (omega arith, omega arith)
 refusal_named NotEnabled = (omega arith, omega arith)
 refusal_named BadTarget = (omega arith, omega arith)
+refusal_named AlreadyPresent = (omega arith, omega arith)
 
 -- a refusal's words are cut behind its number
 pub refusal_cut : (bytes : List ℕ) (r : Refusal) → bytes ≡ refusal_words r → CutAt 32 bytes (number_text (refusal_number r)) (refusal_text r)

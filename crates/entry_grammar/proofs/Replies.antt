@@ -7,7 +7,7 @@ use Rattle.rule_machine.specs.declared.counts.Counts as numbers
 use Rattle.rule_machine.specs.declared.moved.Moved.{Moved}
 use Rattle.rule_machine.specs.declared.refusal.Refusal.{Refusal}
 use Rattle.rule_machine.specs.declared.event.Event.{Event}
-use Rattle.rule_machine.specs.declared.event.Event.TheVariants.{Link, Unlink, Point, Flag, Step, Show, Enabled, Matching, Status}
+use Rattle.rule_machine.specs.declared.event.Event.TheVariants.{Link, Unlink, Point, Flag, Step, Show, Enabled, Matching, Status, Join, Leave}
 use Rattle.rule_machine.specs.declared.reply.Reply.{Reply}
 use Rattle.rule_machine.specs.declared.reply.Reply.TheVariants.{Accepted, Refused, Moves, Shown, EnabledAre, Pairs, Counts}
 use Rattle.log_entry.specs.Kinds.{fits}
@@ -28,6 +28,10 @@ fits_suits (Point a b) Accepted h = refl
 fits_suits (Point a b) (Refused r) h = refl
 fits_suits (Flag a b) Accepted h = refl
 fits_suits (Flag a b) (Refused r) h = refl
+fits_suits (Join v) Accepted h = refl
+fits_suits (Join v) (Refused r) h = refl
+fits_suits (Leave v) Accepted h = refl
+fits_suits (Leave v) (Refused r) h = refl
 fits_suits (Step items) (Moves moves) h = refl
 fits_suits (Step items) (Refused r) h = refl
 fits_suits (Show v) (Shown target) h = refl
@@ -85,6 +89,8 @@ reply_once (Link a b) r q s t f g e = done_once r q s t e
 reply_once (Unlink a b) r q s t f g e = done_once r q s t e
 reply_once (Point v target) r q s t f g e = done_once r q s t e
 reply_once (Flag v value) r q s t f g e = done_once r q s t e
+reply_once (Join v) r q s t f g e = done_once r q s t e
+reply_once (Leave v) r q s t f g e = done_once r q s t e
 reply_once (Step items) r q s t f g e = moved_once r q s t f g e
 reply_once (Show v) r q s t f g e = shown_once r q s t f g e
 reply_once Enabled r q s t f g e = are_enabled_once r q s t f g e

@@ -3,7 +3,7 @@ use Rattle.std.specs.Prelude.{◌≡◌, ◌≢◌, ℕ, Bool, true, false, List
 use Rattle.std.specs.List.{AllByRecursion}
 use Rattle.rule_machine.specs.declared.act.Act.{Act}
 use Rattle.rule_machine.specs.declared.event.Event.{Event}
-use Rattle.rule_machine.specs.declared.event.Event.TheVariants.{Link, Unlink, Point, Flag, Step, Show, Enabled, Matching, Status}
+use Rattle.rule_machine.specs.declared.event.Event.TheVariants.{Link, Unlink, Point, Flag, Step, Show, Enabled, Matching, Status, Join, Leave}
 use Rattle.rule_machine.specs.declared.reply.Reply.{Reply}
 use Rattle.rule_machine.specs.declared.reply.Reply.TheVariants.{Accepted, Refused, Moves, Shown, EnabledAre, Pairs, Counts}
 use Rattle.line_text.specs.Words.{marked_text}
@@ -74,6 +74,8 @@ suits (Link a b) reply = is_done reply
 suits (Unlink a b) reply = is_done reply
 suits (Point v target) reply = is_done reply
 suits (Flag v value) reply = is_done reply
+suits (Join v) reply = is_done reply
+suits (Leave v) reply = is_done reply
 suits (Step items) reply = is_moved reply
 suits (Show v) reply = is_shown reply
 suits Enabled reply = are_enabled reply

@@ -37,7 +37,13 @@ pub record AsksForList (line : List ℕ) : Type 0 where
   pub listed : IsTrue (has_list asked)
   pub is : line ≡ number ++ codes " " ++ event_text asked ++ codes " = " ++ reply
 
--- the line is the one spelling of the header for these rules and so many nodes
-pub record SpellsHeader (line : List ℕ) (rules : RuleSet) (nodes : ℕ) : Type 0 where
-  pub few : nodes ≤ 65535
-  pub is : line ≡ header_text rules nodes
+-- how many names there are, and how many of them are present at the start: the first, so many
+pub record AreSizes (size count : ℕ) : Type 0 where
+  pub few : size ≤ 65535
+  pub within : count ≤ size
+
+-- the line is the one spelling of the header for these rules, so many names, and so many of them present at the start
+pub record SpellsHeader (line : List ℕ) (rules : RuleSet) (size count : ℕ) : Type 0 where
+  pub few : size ≤ 65535
+  pub within : count ≤ size
+  pub is : line ≡ header_text rules size count

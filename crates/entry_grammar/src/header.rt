@@ -3,9 +3,10 @@
 ghost use Rattle.std.specs.Prelude.{◌≡◌, ℕ, ◌≤◌, List, ⊤, IfOk, IfErr, MatchOption};
 ghost use Rattle.rule_machine.specs.declared.rules.RuleSet.{RuleSet};
 ghost use Rattle.rule_machine.specs.Tables.{rules_word};
-ghost use Rattle.line_text.specs.EntryText.{header_text};
-ghost use Rattle.line_text.specs.Reading.{Reads};
-ghost use Rattle.entry_grammar.specs.Spelling.{SpellsHeader};
+ghost use Rattle.line_text.specs.Words.{number_text};
+ghost use Rattle.line_text.specs.EntryText.{header_text, sizes_text};
+ghost use Rattle.line_text.specs.Reading.{Reads, ReadsTwo};
+ghost use Rattle.entry_grammar.specs.Spelling.{AreSizes, SpellsHeader};
 ghost use Rattle.entry_grammar.specs.declared.fault.EntryFault.TheVariants.{NotALine};
 
 use crate::cut::cut;
@@ -30,46 +31,81 @@ fn read_rules(bytes: &[u8]) -> Option<RuleSet>
     None
 }
 
-fn find_header(line: &[u8]) -> Option<(RuleSet, u32)>
+// Reads how many names there are.
+fn read_size(bytes: &[u8]) -> Option<u32>
+    ensures { Reads (λ n. n ≤ 65535) number_text bytes.now result }
+{
+    let Some(size) = read_number(bytes) else {
+        return None;
+    };
+    if size > MAX_NODES {
+        return None;
+    }
+    Some(size)
+}
+
+// Reads how many names there are, and how many of them are present at the start, which is said only where not all are.
+fn read_sizes(bytes: &[u8]) -> Option<(u32, u32)>
+    ensures { ReadsTwo AreSizes sizes_text bytes.now result }
+{
+    let Some((size, count)) = cut(bytes, b' ') else {
+        let Some(size) = read_size(bytes) else {
+            return None;
+        };
+        return Some((size, size));
+    };
+    let Some(size) = read_size(size) else {
+        return None;
+    };
+    let Some(count) = read_number(count) else {
+        return None;
+    };
+    if count >= size {
+        return None;
+    }
+    Some((size, count))
+}
+
+fn find_header(line: &[u8]) -> Option<(RuleSet, u32, u32)>
     ensures { MatchOption result
-        ((rules : RuleSet) (nodes : ℕ) → SpellsHeader line.now rules nodes → ⊥)
-        (λ found. SpellsHeader line.now found.0 found.1) }
+        ((rules : RuleSet) (size count : ℕ) → SpellsHeader line.now rules size count → ⊥)
+        (λ found. SpellsHeader line.now found.0 found.1 found.2) }
 {
     let Some(words) = after(line, b"matching ") else {
         return None;
     };
-    let Some((word, count)) = cut(words, b' ') else {
+    let Some((word, sizes)) = cut(words, b' ') else {
         return None;
     };
     let Some(rules) = read_rules(word) else {
         return None;
     };
-    let Some(nodes) = read_number(count) else {
+    let Some((size, count)) = read_sizes(sizes) else {
         return None;
     };
-    if nodes > MAX_NODES {
-        return None;
-    }
-    Some((rules, nodes))
+    Some((rules, size, count))
 }
 
-/// The header for these rules and so many nodes, without an LF: the one spelling, by which `read_header` finds it again.
-pub fn header_text(alloc: Global, rules: RuleSet, nodes: u32) -> Result<Vec<u8>, Want>
-    requires { nodes ≤ 65535 }
-    ensures text { IfOk result (λ text. text.items ≡ header_text rules nodes) }
-    ensures spelled { IfOk result (λ text. SpellsHeader text.items rules nodes) }
+/// The header for these rules and so many names, of which so many are present at the start, without an LF: the one
+/// spelling, by which `read_header` finds it again. The number of those that are present is left out where all are.
+pub fn header_text(alloc: Global, rules: RuleSet, size: u32, count: u32) -> Result<Vec<u8>, Want>
+    requires few { size ≤ 65535 }
+    requires within { count ≤ size }
+    ensures text { IfOk result (λ text. text.items ≡ header_text rules size count) }
+    ensures spelled { IfOk result (λ text. SpellsHeader text.items rules size count) }
 {
     let mut text = Vec::new(alloc);
-    put_header(&mut text, rules, nodes)?;
+    put_header(&mut text, rules, size, count)?;
     text.pop();
     Ok(text)
 }
 
-/// Reads a header, without its LF; takes no memory.
-pub fn read_header(line: &[u8]) -> Result<(RuleSet, u32), EntryFault>
-    ensures ok { IfOk result (λ found. SpellsHeader line.now found.0 found.1) }
+/// Reads a header, without its LF: the rules, how many names there are, and how many of them are present at the start.
+/// Takes no memory.
+pub fn read_header(line: &[u8]) -> Result<(RuleSet, u32, u32), EntryFault>
+    ensures ok { IfOk result (λ found. SpellsHeader line.now found.0 found.1 found.2) }
     ensures not_a_line { IfErr result (λ fault.
-        (fault ≡ NotALine) × ((rules : RuleSet) (nodes : ℕ) → SpellsHeader line.now rules nodes → ⊥)) }
+        (fault ≡ NotALine) × ((rules : RuleSet) (size count : ℕ) → SpellsHeader line.now rules size count → ⊥)) }
 {
     find_header(line).ok_or(EntryFault::NotALine)
 }

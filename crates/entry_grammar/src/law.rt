@@ -10,6 +10,6 @@ ghost use Rattle.entry_grammar.specs.Spelling.{SpellsEntry, SpellsHeader};
 pub fn one_spelling()
     ensures entry { (line : List ℕ) (m n : ℕ) (e f : Event × Reply)
         → SpellsEntry line m e → SpellsEntry line n f → (m ≡ n) × (e ≡ f) }
-    ensures header { (line : List ℕ) (r q : RuleSet) (m n : ℕ)
-        → SpellsHeader line r m → SpellsHeader line q n → (r ≡ q) × (m ≡ n) }
+    ensures header { (line : List ℕ) (r q : RuleSet) (m n c d : ℕ)
+        → SpellsHeader line r m c → SpellsHeader line q n d → (r ≡ q) × (m ≡ n) × (c ≡ d) }
 {}

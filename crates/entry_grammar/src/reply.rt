@@ -61,7 +61,12 @@ pub fn read_reply(alloc: Global, event: &Event, bytes: &[u8]) -> Result<Option<R
         Event::Enabled => Ok(read_list(alloc, bytes)?.map(|nodes| Reply::EnabledAre(nodes))),
         Event::Matching => Ok(read_list(alloc, bytes)?.map(|pairs| Reply::Pairs(pairs))),
         Event::Status => Ok(read_counts(bytes).map(|counts| Reply::Counts(counts))),
-        Event::Link(..) | Event::Unlink(..) | Event::Point(..) | Event::Flag(..) => {
+        Event::Link(..)
+        | Event::Unlink(..)
+        | Event::Point(..)
+        | Event::Flag(..)
+        | Event::Join(_)
+        | Event::Leave(_) => {
             let reply = read_done(bytes);
             Ok(reply)
         }

@@ -8,13 +8,14 @@ ghost use Rattle.fault_injector.specs.Drawn.{node_at, target_at, is_odd};
 use graph_store::EdgeStore;
 use rule_machine::Node;
 
-/// The node that a word picks: of n nodes the one at the place `word mod n`, counted from 0 by rising names.
+/// The node that a word picks: of n nodes the one at the place `word mod n`, counted from 0 by rising names. Names that are
+/// absent are passed over, by a look at some 80 counts and a word at most.
 pub(crate) fn pick_node(store: &EdgeStore, word: u32) -> Node
     requires { 0 < node_count store.now.network }
     ensures node { result ≡ node_at store.now.network word }
     ensures present { IsTrue (present store.now.network result) }
 {
-    Node::new(word % store.nodes() + 1).unwrap()
+    store.nth(word % store.nodes()).unwrap()
 }
 
 /// What a word makes a node's pointer: with d neighbours, null where `word mod (d + 1)` is 0, and else the neighbour

@@ -91,38 +91,36 @@ unlink_fault_is net a b l p q e is_l =
     λ i. cond (not (p i && q i)) (Some UnknownNode) (cond (e i) (Some SelfLoop) (cond (is_l i) None (Some NotLinked)))
 
 -- a node is one of a store's names
-pub known : (size : ℕ) (rows : List (List ℕ)) (net : Network) (v : ℕ) → network_of size rows ≡ net → present net v ≡ true → (1 ≤ v) × (v ≤ size)
-known size rows net v seen here =
-    let bounds = present_bounds net v here in
-    let same : size ≡ net.size = ap (λ (n : Network). n.size) seen in
-    (bounds.0, omega (arith, bounds.1, same))
+pub known : (size : ℕ) (roll : List Bool) (rows : List (List ℕ)) (net : Network) (v : ℕ) → network_of size roll rows ≡ net → present net v ≡ true → present (network_of size roll rows) v ≡ true
+known size roll rows net v seen here =
+    ap (λ n. present n v) seen ∙ here
 
 -- a node has a row
-pub has_row : (size : ℕ) (rows : List (Vec ℕ Global)) (net : Network) (v : ℕ) → network_of size (contents rows) ≡ net → IsRows size (contents rows) → present net v ≡ true → v < length rows
-has_row size rows net v seen good here =
-    let bounds = known size (contents rows) net v seen here in
+pub has_row : (size : ℕ) (roll : List Bool) (rows : List (Vec ℕ Global)) (net : Network) (v : ℕ) → network_of size roll (contents rows) ≡ net → IsRows size roll (contents rows) → present net v ≡ true → v < length rows
+has_row size roll rows net v seen good here =
+    let bounds = present_bounds (network_of size roll (contents rows)) v (known size roll (contents rows) net v seen here) in
     let places = good.places in
     omega (arith, bounds.1, places, length_contents rows)
 
 -- the row that is read at a node's place
-pub row_here : (size : ℕ) (rows : List (Vec ℕ Global)) (net : Network) (v p : ℕ) (r : Vec ℕ Global) (row : List ℕ) → network_of size (contents rows) ≡ net → IsRows size (contents rows) → present net v ≡ true → p ≡ v → r ≡ get_or rows p r → row ≡ r.items → row ≡ row_at (contents rows) v
-row_here size rows net v p r row seen good here same is items =
-    items ∙ row_read rows rows v p r refl same (has_row size rows net v seen good here) is
+pub row_here : (size : ℕ) (roll : List Bool) (rows : List (Vec ℕ Global)) (net : Network) (v p : ℕ) (r : Vec ℕ Global) (row : List ℕ) → network_of size roll (contents rows) ≡ net → IsRows size roll (contents rows) → present net v ≡ true → p ≡ v → r ≡ get_or rows p r → row ≡ r.items → row ≡ row_at (contents rows) v
+row_here size roll rows net v p r row seen good here same is items =
+    items ∙ row_read rows rows v p r refl same (has_row size roll rows net v seen good here) is
 
 -- two names are linked where one is found in the other's row
-pub linked_at_place : (size : ℕ) (rows : List (List ℕ)) (net : Network) (a b i : ℕ) (row : List ℕ) → network_of size rows ≡ net → IsRows size rows → row ≡ row_at rows a → IsPlaceOf row b i → linked net a b ≡ true
-linked_at_place size rows net a b i row seen good is place =
-    sym (linked_by size rows net a b seen good) ∙ ap (λ l. has l b) (sym is) ∙ there_at_place row b i place
+pub linked_at_place : (size : ℕ) (roll : List Bool) (rows : List (List ℕ)) (net : Network) (a b i : ℕ) (row : List ℕ) → network_of size roll rows ≡ net → IsRows size roll rows → row ≡ row_at rows a → IsPlaceOf row b i → linked net a b ≡ true
+linked_at_place size roll rows net a b i row seen good is place =
+    sym (linked_by size roll rows net a b seen good) ∙ ap (λ l. has l b) (sym is) ∙ there_at_place row b i place
 
 -- and not where one is missing there
-pub apart_at_gap : (size : ℕ) (rows : List (List ℕ)) (net : Network) (a b i : ℕ) (row : List ℕ) → network_of size rows ≡ net → IsRows size rows → row ≡ row_at rows a → IsGapFor row b i → linked net a b ≡ false
-apart_at_gap size rows net a b i row seen good is gap =
-    sym (linked_by size rows net a b seen good) ∙ ap (λ l. has l b) (sym is) ∙ absent_at_gap row b i gap
+pub apart_at_gap : (size : ℕ) (roll : List Bool) (rows : List (List ℕ)) (net : Network) (a b i : ℕ) (row : List ℕ) → network_of size roll rows ≡ net → IsRows size roll rows → row ≡ row_at rows a → IsGapFor row b i → linked net a b ≡ false
+apart_at_gap size roll rows net a b i row seen good is gap =
+    sym (linked_by size roll rows net a b seen good) ∙ ap (λ l. has l b) (sym is) ∙ absent_at_gap row b i gap
 
 -- an edge is the same from either end
-pub linked_back : (size : ℕ) (rows : List (List ℕ)) (net : Network) (a b : ℕ) → network_of size rows ≡ net → IsRows size rows → linked net a b ≡ linked net b a
-linked_back size rows net a b seen good =
-    sym (linked_by size rows net a b seen good) ∙ good.mutual_in a b ∙ linked_by size rows net b a seen good
+pub linked_back : (size : ℕ) (roll : List Bool) (rows : List (List ℕ)) (net : Network) (a b : ℕ) → network_of size roll rows ≡ net → IsRows size roll rows → linked net a b ≡ linked net b a
+linked_back size roll rows net a b seen good =
+    sym (linked_by size roll rows net a b seen good) ∙ good.mutual_in a b ∙ linked_by size roll rows net b a seen good
 
 -- where two names are linked there is an edge
 pub some_edge : (net : Network) (a b : ℕ) → linked net a b ≡ true → 1 ≤ edge_count net

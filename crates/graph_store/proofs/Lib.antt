@@ -6,3 +6,5 @@ pub mod Switch
 pub mod Results
 pub mod Contents
 pub mod Faults
+pub mod Present
+pub mod Leaving

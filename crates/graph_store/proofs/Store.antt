@@ -1,27 +1,52 @@
 -- What a store's rows say of its network, and what one edge more or less does to both.
-use Rattle.std.proofs.Common.{◌≡◌, ℕ, ◌+◌, ◌<◌, ◌≤◌, min, max, true, ◌&&◌, List, [], ltb, leb, replicate, sym, ap, subst, ◌∙◌, arith, ⊎_elim}
+use Rattle.std.proofs.Common.{◌≡◌, ℕ, ◌+◌, ◌<◌, ◌≤◌, min, max, Bool, true, false, cond, ◌&&◌, List, [], ◌∷◌, length, filter, get_or, refl, ltb, leb, replicate, sym, ap, subst, ◌∙◌, arith, ⊎_elim}
 use Rattle.std.specs.Prelude.{All, IsTrue}
 use Rattle.std.specs.Cmp.{nat_eq_equiv}
 use Rattle.std.specs.List.{range_with_len}
 use Rattle.std.specs.List.Sorted.{IsStrictlyIncreasing}
 use Rattle.std.specs.FinMap as map
-use Rattle.std.proofs.lemmas.Bool.{and_from, and_left, and_parts, cases_lt, true≢false, lt-ltb, le-ltb, le-leb, leb-true}
+use Rattle.std.proofs.lemmas.Bool.{and_left, and_parts, cases_lt, true≢false, lt-ltb, le-ltb, le-leb, lt-leb, leb-true}
 use Rattle.std.proofs.lemmas.List.{get_or-replicate, get_or_past, length-replicate}
 use Rattle.std.proofs.lemmas.List.Elements.{filter_agree}
+use Rattle.std.proofs.lemmas.List.FromFn.{length-map-range_with_len, get_or-map-range_with_len}
 use Rattle.std.proofs.lemmas.Map.Views.{All-from_any}
-use Rattle.rule_machine.specs.Network.{Network, PairSet, linked, present, neighbours, edgeless, edge_count}
+use Rattle.rule_machine.specs.Network.{Network, PairSet, linked, present, neighbours, names, first_names, edgeless_with, edge_count}
 use Rattle.graph_store.specs.Rows.{has, row_at, edges_of, network_of, IsRows, IsStore}
 use Rattle.graph_store.proofs.PairOrder.{has-empty, count-empty, same_pairs}
 use Rattle.graph_store.proofs.Pairs.{and-false, has-edges_of}
 use Rattle.graph_store.proofs.Rising.{part_of_names}
 
--- a name is present where it is one of the names
-pub present_from : (net : Network) (v : ℕ) → 1 ≤ v → v ≤ net.size → present net v ≡ true
-present_from net v low high = and_from _ _ (le-leb 1 v low) (le-leb v net.size high)
-
 -- a present name is one of the names
 pub present_bounds : (net : Network) (v : ℕ) → present net v ≡ true → (1 ≤ v) × (v ≤ net.size)
-present_bounds net v h = let both = and_parts (leb 1 v) (leb v net.size) h in (leb-true 1 v both.0, leb-true v net.size both.1)
+present_bounds net v h =
+    let both = and_parts (leb 1 v) (leb v net.size && get_or net.here v false) h in
+    let rest = and_parts (leb v net.size) (get_or net.here v false) both.1 in
+    (leb-true 1 v both.0, leb-true v net.size rest.0)
+
+-- the roll says who is present
+pub on_roll : (net : Network) (v : ℕ) → length net.here ≡ net.size + 1 → get_or net.here 0 false ≡ false → get_or net.here v false ≡ present net v
+on_roll net v len nobody =
+    ⊎_elim
+    (λ (lt : v < 1). let e : v ≡ 0 = omega arith in ap (λ x. get_or net.here x false) e ∙ nobody ∙ sym (and_left (leb 1 v) _ (lt-leb 1 v lt)))
+    (λ (ge : 1 ≤ v). ⊎_elim
+    (λ (past : net.size < v). get_or_past net.here v false (omega arith) ∙ sym (ap (λ t. leb 1 v && t) (and_left (leb v net.size) _ (lt-leb v net.size past)) ∙ and-false (leb 1 v)))
+    (λ (le : v ≤ net.size). sym (λ i. le-leb 1 v ge i && (le-leb v net.size le i && get_or net.here v false)))
+    (cases_lt net.size v))
+    (cases_lt v 1)
+
+-- two tests one after the other
+filter_both : (p q : ℕ → Bool) (xs : List ℕ) → filter p (filter q xs) ≡ filter (λ x. q x && p x) xs
+filter_both p q [] = refl
+filter_both p q (x ∷ xs) =
+    elim (q x) as (λ b. filter p (cond b (x ∷ filter q xs) (filter q xs)) ≡ cond (b && p x) (x ∷ filter (λ y. q y && p y) xs) (filter (λ y. q y && p y) xs)) [
+      | true ↦ ap (λ l. cond (p x) (x ∷ l) l) (filter_both p q xs)
+      | false ↦ filter_both p q xs
+    ]
+
+implied : (p q : Bool) → (q ≡ true → p ≡ true) → (p && q) ≡ q
+implied true q h = refl
+implied false true h = h refl
+implied false false h = refl
 
 -- an edge with its lower end first
 ordered : (rows : List (List ℕ)) (a b x y : ℕ) → x ≡ a → y ≡ b → a < b → map.contains_key (edges_of rows) (x, y) ≡ has (row_at rows a) b
@@ -29,8 +54,8 @@ ordered rows a b x y p q lt =
     (λ i. map.contains_key (edges_of rows) (p i, q i)) ∙ has-edges_of rows a b ∙ ap (λ t. t && has (row_at rows a) b) (lt-ltb a b lt)
 
 -- two names are linked where one is in the other's row
-pub linked_row : (size : ℕ) (rows : List (List ℕ)) (a b : ℕ) → IsRows size rows → linked (network_of size rows) a b ≡ has (row_at rows a) b
-linked_row size rows a b good =
+pub linked_row : (size : ℕ) (roll : List Bool) (rows : List (List ℕ)) (a b : ℕ) → IsRows size roll rows → linked (network_of size roll rows) a b ≡ has (row_at rows a) b
+linked_row size roll rows a b good =
     ⊎_elim
     (λ (lt : a < b). ordered rows a b (min a b) (max a b) (omega arith) (omega arith) lt)
     (λ (le : b ≤ a). ⊎_elim
@@ -44,36 +69,36 @@ linked_row size rows a b good =
     (cases_lt a b)
 
 -- the same of the network that the rows are seen as
-pub linked_by : (size : ℕ) (rows : List (List ℕ)) (net : Network) (a b : ℕ) → network_of size rows ≡ net → IsRows size rows → has (row_at rows a) b ≡ linked net a b
-linked_by size rows net a b seen good = sym (linked_row size rows a b good) ∙ ap (λ n. linked n a b) seen
+pub linked_by : (size : ℕ) (roll : List Bool) (rows : List (List ℕ)) (net : Network) (a b : ℕ) → network_of size roll rows ≡ net → IsRows size roll rows → has (row_at rows a) b ≡ linked net a b
+linked_by size roll rows net a b seen good = sym (linked_row size roll rows a b good) ∙ ap (λ n. linked n a b) seen
 
 -- a name's row is the list of its neighbours
-pub neighbours_row : (size : ℕ) (rows : List (List ℕ)) (v : ℕ) → IsRows size rows → neighbours (network_of size rows) v ≡ row_at rows v
-neighbours_row size rows v good =
-    filter_agree (linked (network_of size rows) v) (has (row_at rows v)) (λ w. linked_row size rows v w good) (range_with_len 1 size)
-    ∙ part_of_names size (row_at rows v) (good.rising v) (good.within v)
+pub neighbours_row : (size : ℕ) (roll : List Bool) (rows : List (List ℕ)) (v : ℕ) → IsRows size roll rows → neighbours (network_of size roll rows) v ≡ row_at rows v
+neighbours_row size roll rows v good =
+    filter_agree (linked (network_of size roll rows) v) (has (row_at rows v)) (λ w. linked_row size roll rows v w good) (names (network_of size roll rows))
+    ∙ filter_both (has (row_at rows v)) (present (network_of size roll rows)) (range_with_len 1 size)
+    ∙ filter_agree (λ w. present (network_of size roll rows) w && has (row_at rows v) w) (has (row_at rows v)) (λ w. implied _ _ (good.within v w)) (range_with_len 1 size)
+    ∙ part_of_names size (row_at rows v) (good.rising v) (λ w h. present_bounds (network_of size roll rows) w (good.within v w h))
 
 -- the same of the network that the rows are seen as
-pub neighbours_by : (size : ℕ) (rows : List (List ℕ)) (net : Network) (v : ℕ) → network_of size rows ≡ net → IsRows size rows → row_at rows v ≡ neighbours net v
-neighbours_by size rows net v seen good = sym (neighbours_row size rows v good) ∙ ap (λ n. neighbours n v) seen
+pub neighbours_by : (size : ℕ) (roll : List Bool) (rows : List (List ℕ)) (net : Network) (v : ℕ) → network_of size roll rows ≡ net → IsRows size roll rows → row_at rows v ≡ neighbours net v
+neighbours_by size roll rows net v seen good = sym (neighbours_row size roll rows v good) ∙ ap (λ n. neighbours n v) seen
 
 -- linked names are both present
-pub linked_present : (size : ℕ) (rows : List (List ℕ)) (a b : ℕ) → IsRows size rows → linked (network_of size rows) a b ≡ true → (present (network_of size rows) a ≡ true) × (present (network_of size rows) b ≡ true)
-linked_present size rows a b good h =
-    let in_row = sym (linked_row size rows a b good) ∙ h in
-    let low = good.within b a (good.mutual_in b a ∙ in_row) in
-    let high = good.within a b in_row in
-    (present_from (network_of size rows) a low.0 low.1, present_from (network_of size rows) b high.0 high.1)
+pub linked_present : (size : ℕ) (roll : List Bool) (rows : List (List ℕ)) (a b : ℕ) → IsRows size roll rows → linked (network_of size roll rows) a b ≡ true → (present (network_of size roll rows) a ≡ true) × (present (network_of size roll rows) b ≡ true)
+linked_present size roll rows a b good h =
+    let in_row = sym (linked_row size roll rows a b good) ∙ h in
+    (good.within b a (good.mutual_in b a ∙ in_row), good.within a b in_row)
 
 -- each name in a row is linked and present
-pub all_linked : (size : ℕ) (rows : List (List ℕ)) (v : ℕ) → IsRows size rows → All (λ w. IsTrue (linked (network_of size rows) v w)) (row_at rows v)
-all_linked size rows v good =
-    All-from_any nat_eq_equiv (λ w. IsTrue (linked (network_of size rows) v w)) (row_at rows v) (λ w h. linked_row size rows v w good ∙ h)
+pub all_linked : (size : ℕ) (roll : List Bool) (rows : List (List ℕ)) (v : ℕ) → IsRows size roll rows → All (λ w. IsTrue (linked (network_of size roll rows) v w)) (row_at rows v)
+all_linked size roll rows v good =
+    All-from_any nat_eq_equiv (λ w. IsTrue (linked (network_of size roll rows) v w)) (row_at rows v) (λ w h. linked_row size roll rows v w good ∙ h)
 
 -- and each is present
-pub all_present : (size : ℕ) (rows : List (List ℕ)) (v : ℕ) → IsRows size rows → All (λ w. IsTrue (present (network_of size rows) w)) (row_at rows v)
-all_present size rows v good =
-    All-from_any nat_eq_equiv (λ w. IsTrue (present (network_of size rows) w)) (row_at rows v) (λ w h. let bounds = good.within v w h in present_from (network_of size rows) w bounds.0 bounds.1)
+pub all_present : (size : ℕ) (roll : List Bool) (rows : List (List ℕ)) (v : ℕ) → IsRows size roll rows → All (λ w. IsTrue (present (network_of size roll rows) w)) (row_at rows v)
+all_present size roll rows v good =
+    All-from_any nat_eq_equiv (λ w. IsTrue (present (network_of size roll rows) w)) (row_at rows v) (good.within v)
 
 -- a row of empty rows is empty
 empty_row : (n v : ℕ) → row_at (replicate n []) v ≡ []
@@ -84,22 +109,24 @@ empty_row n v =
     (cases_lt v n)
 
 -- empty rows are the network with no edge
-pub empty_network : (size : ℕ) → network_of size (replicate (size + 1) []) ≡ edgeless size
-empty_network size =
-    ap (λ (edges : PairSet). let net : Network = record { size = size; edges = edges } in net)
+pub empty_network : (size count : ℕ) → network_of size (first_names size count) (replicate (size + 1) []) ≡ edgeless_with size count
+empty_network size count =
+    ap (λ (edges : PairSet). let net : Network = record { size = size; here = first_names size count; edges = edges } in net)
     (same_pairs _ _ (λ a b. has-edges_of (replicate (size + 1) []) a b ∙ ap (λ row. ltb a b && has row b) (empty_row (size + 1) a) ∙ and-false (ltb a b) ∙ sym (has-empty (a, b))))
 
 -- empty rows are a store
-pub empty_store : (size : ℕ) → size ≤ 65535 → IsStore size 0 (replicate (size + 1) [])
-empty_store size few = record {
+pub empty_store : (size count : ℕ) → size ≤ 65535 → IsStore size (first_names size count) 0 (replicate (size + 1) [])
+empty_store size count few = record {
   is_rows = record {
     places = length-replicate (size + 1) [];
+    roll_len = length-map-range_with_len (λ v. leb 1 v && leb v count) 0 (size + 1);
+    nobody = get_or-map-range_with_len (λ v. leb 1 v && leb v count) 0 (size + 1) 0 0 false (omega arith) (omega arith);
     within = λ v w h. absurd (true≢false (sym h ∙ ap (λ row. has row w) (empty_row (size + 1) v)));
     mutual_in = λ v w. ap (λ row. has row w) (empty_row (size + 1) v) ∙ sym (ap (λ row. has row v) (empty_row (size + 1) w));
     apart = λ v. ap (λ row. has row v) (empty_row (size + 1) v);
     rising = λ v. subst IsStrictlyIncreasing (sym (empty_row (size + 1) v)) (λ k inside. absurd (omega arith));
   };
   few_nodes = few;
-  counted = ap edge_count (empty_network size) ∙ count-empty;
+  counted = ap edge_count (empty_network size count) ∙ count-empty;
   few_edges = omega arith;
 }

@@ -6,12 +6,12 @@ use Rattle.std.specs.FinMap as map
 use Rattle.std.proofs.lemmas.Bool.{ne_eqb, eqb-true, and_left, and_parts, or_from, or_cases, cases_eq, cases_lt, cases_Bool, ltb-true, ltb-false}
 use Rattle.std.proofs.lemmas.Bool.Decides.{nat_tests}
 use Rattle.std.proofs.lemmas.List.{get_or-set_same, get_or-set_other, length-set}
-use Rattle.rule_machine.specs.Network.{Network, PairSet, edge, linked, with_edge, without_edge}
+use Rattle.rule_machine.specs.Network.{Network, PairSet, edge, linked, present, with_edge, without_edge}
 use Rattle.graph_store.specs.Rows.{has, row_at, edges_of, network_of, IsRows, IsStore, IsPlaceOf, IsGapFor}
 use Rattle.graph_store.proofs.PairOrder.{same_pair, has-insert as has_pair-insert, has-remove as has_pair-remove, count-insert, count-remove, same_pairs}
 use Rattle.graph_store.proofs.Pairs.{and-false, has-edges_of}
 use Rattle.graph_store.proofs.Rising.{absent_at_gap, there_at_place, has-insert, has-remove, rising-insert, rising-remove}
-use Rattle.graph_store.proofs.Store.{linked_row}
+use Rattle.graph_store.proofs.Store.{linked_row, present_bounds}
 
 -- whether x and y are a and b, either way round
 abbrev joins : ℕ → ℕ → ℕ → ℕ → Bool
@@ -112,13 +112,15 @@ joins_end a b x y h =
     (or_cases (eqb x a && eqb y b) (eqb x b && eqb y a) h)
 
 -- switched rows are rows
-switched_rows : (size a b : ℕ) (on : Bool) (rows rows' : List (List ℕ)) → IsRows size rows → a ≢ b → (1 ≤ a) × (a ≤ size) → (1 ≤ b) × (b ≤ size) → Switched a b on rows rows' → IsRows size rows'
-switched_rows size a b on rows rows' good apart in_a in_b new = record {
+switched_rows : (size : ℕ) (roll : List Bool) (a b : ℕ) (on : Bool) (rows rows' : List (List ℕ)) → IsRows size roll rows → a ≢ b → present (network_of size roll rows) a ≡ true → present (network_of size roll rows) b ≡ true → Switched a b on rows rows' → IsRows size roll rows'
+switched_rows size roll a b on rows rows' good apart in_a in_b new = record {
   places = new.places ∙ good.places;
+  roll_len = good.roll_len;
+  nobody = good.nobody;
   within = λ v w h. ⊎_elim
       (λ (j : joins a b v w ≡ true). ⊎_elim
-      (λ (e : w ≡ a). (omega (arith, e, in_a.0), omega (arith, e, in_a.1)))
-      (λ (e : w ≡ b). (omega (arith, e, in_b.0), omega (arith, e, in_b.1)))
+      (λ (e : w ≡ a). ap (present (network_of size roll rows)) e ∙ in_a)
+      (λ (e : w ≡ b). ap (present (network_of size roll rows)) e ∙ in_b)
       (joins_end a b v w j))
       (λ (j : joins a b v w ≡ false). good.within v w (sym (new.held v w ∙ ap (λ t. cond t on (has (row_at rows v) w)) j) ∙ h))
       (cases_Bool (joins a b v w));
@@ -186,36 +188,36 @@ edges_off a b rows rows' apart new =
     ∙ sym (has_pair-remove (edges_of rows) (edge a b) (x, y) ∙ ap (λ t. not (same_pair (x, y) (edge a b)) && t) (has-edges_of rows x y)))
 
 -- a store with an edge put in at its two gaps is the store of the network with that edge
-pub link_rows : (size edges a b i j : ℕ) (rows rows' : List (List ℕ)) → IsStore size edges rows → a ≢ b → (1 ≤ a) × (a ≤ size) → (1 ≤ b) × (b ≤ size) → IsGapFor (row_at rows a) b i → IsGapFor (row_at rows b) a j → edges < 1048576 → rows' ≡ set (set rows a (insert (row_at rows a) i b)) b (insert (row_at rows b) j a) → IsStore size (edges + 1) rows' × (network_of size rows' ≡ with_edge (network_of size rows) a b)
-link_rows size edges a b i j rows rows' store apart in_a in_b gap_a gap_b few is =
+pub link_rows : (size : ℕ) (roll : List Bool) (edges a b i j : ℕ) (rows rows' : List (List ℕ)) → IsStore size roll edges rows → a ≢ b → present (network_of size roll rows) a ≡ true → present (network_of size roll rows) b ≡ true → IsGapFor (row_at rows a) b i → IsGapFor (row_at rows b) a j → edges < 1048576 → rows' ≡ set (set rows a (insert (row_at rows a) i b)) b (insert (row_at rows b) j a) → IsStore size roll (edges + 1) rows' × (network_of size roll rows' ≡ with_edge (network_of size roll rows) a b)
+link_rows size roll edges a b i j rows rows' store apart in_a in_b gap_a gap_b few is =
     let good = store.is_rows in
     let places : length rows ≡ size + 1 = good.places in
-    let new : Switched a b true rows rows' = subst (λ r. Switched a b true rows r) (sym is) (both_rows a b true rows _ _ apart (let le = in_a.1 in omega arith) (let le = in_b.1 in omega arith) good.rising (row_on _ b i (good.rising a) gap_a) (row_on _ a j (good.rising b) gap_b)) in
+    let new : Switched a b true rows rows' = subst (λ r. Switched a b true rows r) (sym is) (both_rows a b true rows _ _ apart (let le = (present_bounds (network_of size roll rows) a in_a).1 in omega arith) (let le = (present_bounds (network_of size roll rows) b in_b).1 in omega arith) good.rising (row_on _ b i (good.rising a) gap_a) (row_on _ a j (good.rising b) gap_b)) in
     let more = edges_on a b rows rows' apart new in
-    let absent : linked (network_of size rows) a b ≡ false = linked_row size rows a b good ∙ absent_at_gap (row_at rows a) b i gap_a in (
+    let absent : linked (network_of size roll rows) a b ≡ false = linked_row size roll rows a b good ∙ absent_at_gap (row_at rows a) b i gap_a in (
       record {
-        is_rows = switched_rows size a b true rows rows' good apart in_a in_b new;
+        is_rows = switched_rows size roll a b true rows rows' good apart in_a in_b new;
         few_nodes = store.few_nodes;
         counted = ap map.len more ∙ count-insert (edges_of rows) (edge a b) absent ∙ ap (λ n. n + 1) store.counted;
         few_edges = omega arith;
       },
-      ap (λ (s : PairSet). let net : Network = record { size = size; edges = s } in net) more,
+      ap (λ (s : PairSet). let net : Network = record { size = size; here = roll; edges = s } in net) more,
     )
 
 -- a store with an edge taken out at its two places is the store of the network without that edge
-pub unlink_rows : (size edges a b i j : ℕ) (rows rows' : List (List ℕ)) → IsStore size edges rows → a ≢ b → (1 ≤ a) × (a ≤ size) → (1 ≤ b) × (b ≤ size) → IsPlaceOf (row_at rows a) b i → IsPlaceOf (row_at rows b) a j → rows' ≡ set (set rows a (remove (row_at rows a) i)) b (remove (row_at rows b) j) → IsStore size (edges - 1) rows' × (network_of size rows' ≡ without_edge (network_of size rows) a b)
-unlink_rows size edges a b i j rows rows' store apart in_a in_b place_a place_b is =
+pub unlink_rows : (size : ℕ) (roll : List Bool) (edges a b i j : ℕ) (rows rows' : List (List ℕ)) → IsStore size roll edges rows → a ≢ b → present (network_of size roll rows) a ≡ true → present (network_of size roll rows) b ≡ true → IsPlaceOf (row_at rows a) b i → IsPlaceOf (row_at rows b) a j → rows' ≡ set (set rows a (remove (row_at rows a) i)) b (remove (row_at rows b) j) → IsStore size roll (edges - 1) rows' × (network_of size roll rows' ≡ without_edge (network_of size roll rows) a b)
+unlink_rows size roll edges a b i j rows rows' store apart in_a in_b place_a place_b is =
     let good = store.is_rows in
     let places : length rows ≡ size + 1 = good.places in
-    let new : Switched a b false rows rows' = subst (λ r. Switched a b false rows r) (sym is) (both_rows a b false rows _ _ apart (let le = in_a.1 in omega arith) (let le = in_b.1 in omega arith) good.rising (row_off _ b i (good.rising a) place_a) (row_off _ a j (good.rising b) place_b)) in
+    let new : Switched a b false rows rows' = subst (λ r. Switched a b false rows r) (sym is) (both_rows a b false rows _ _ apart (let le = (present_bounds (network_of size roll rows) a in_a).1 in omega arith) (let le = (present_bounds (network_of size roll rows) b in_b).1 in omega arith) good.rising (row_off _ b i (good.rising a) place_a) (row_off _ a j (good.rising b) place_b)) in
     let less = edges_off a b rows rows' apart new in
-    let there : linked (network_of size rows) a b ≡ true = linked_row size rows a b good ∙ there_at_place (row_at rows a) b i place_a in
+    let there : linked (network_of size roll rows) a b ≡ true = linked_row size roll rows a b good ∙ there_at_place (row_at rows a) b i place_a in
     let few = store.few_edges in (
       record {
-        is_rows = switched_rows size a b false rows rows' good apart in_a in_b new;
+        is_rows = switched_rows size roll a b false rows rows' good apart in_a in_b new;
         few_nodes = store.few_nodes;
         counted = ap map.len less ∙ count-remove (edges_of rows) (edge a b) there ∙ ap (λ n. n - 1) store.counted;
         few_edges = omega arith;
       },
-      ap (λ (s : PairSet). let net : Network = record { size = size; edges = s } in net) less,
+      ap (λ (s : PairSet). let net : Network = record { size = size; here = roll; edges = s } in net) less,
     )

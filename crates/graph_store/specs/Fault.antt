@@ -1,9 +1,9 @@
 -- Which change of a store is refused, and why: the first reason in a fixed order.
 use Rattle.std.specs.Prelude.{◌≡◌, ℕ, not, Option, None, Some, if◌then◌else◌, nat_eq, nat_le, nat_lt}
-use Rattle.rule_machine.specs.Network.{Network, linked, edge_count}
+use Rattle.rule_machine.specs.Network.{Network, present, linked, edge_count}
 use Rattle.rule_machine.specs.Refuse.{both_present, max_edges}
 use Rattle.graph_store.specs.declared.fault.GraphFault.{GraphFault}
-use Rattle.graph_store.specs.declared.fault.GraphFault.TheVariants.{TooManyNodes, UnknownNode, SelfLoop, AlreadyLinked, NotLinked, TooManyEdges, Memory}
+use Rattle.graph_store.specs.declared.fault.GraphFault.TheVariants.{TooManyNodes, UnknownNode, AlreadyPresent, SelfLoop, AlreadyLinked, NotLinked, TooManyEdges, Memory}
 
 -- the most nodes that a network may have
 abbrev pub max_nodes : ℕ
@@ -17,6 +17,15 @@ nodes_fault n = if nat_lt max_nodes n then Some TooManyNodes else None
 abbrev pub ends_fault : Network → ℕ → ℕ → Option GraphFault
 ends_fault net a b =
     if not (both_present net a b) then Some UnknownNode else (if nat_eq a b then Some SelfLoop else None)
+
+-- why a name does not become present
+abbrev pub join_fault : Network → ℕ → Option GraphFault
+join_fault net v =
+    if not (nat_le v net.size) then Some UnknownNode else (if present net v then Some AlreadyPresent else None)
+
+-- why a name does not become absent
+abbrev pub leave_fault : Network → ℕ → Option GraphFault
+leave_fault net v = if present net v then None else Some UnknownNode
 
 -- why an edge is not put in, if it is not
 abbrev pub link_fault : Network → ℕ → ℕ → Option GraphFault

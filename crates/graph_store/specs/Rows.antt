@@ -1,11 +1,11 @@
 -- Neighbour lists as a network: the row of a name stands at its place, and place 0 is nobody's.
-use Rattle.std.specs.Prelude.{◌≡◌, ℕ, ◌+◌, ◌<◌, ◌≤◌, Bool, true, false, List, [], ◌∷◌, ◌++◌, map, filter, length, nat_eq, nat_lt, slice_index, slice_index_or}
+use Rattle.std.specs.Prelude.{◌≡◌, ℕ, ◌+◌, ◌<◌, ◌≤◌, Bool, true, false, List, [], ◌∷◌, ◌++◌, map, filter, length, nat_eq, nat_lt, slice_index, slice_index_or, IsTrue}
 use Rattle.std.specs.List.{list_any}
 use Rattle.std.specs.List.Sorted.{IsStrictlyIncreasing}
 use Rattle.std.specs.Vec.{vec_len, vec_capacity}
 use Rattle.std.specs.declared.vec.Vec.{Vec}
 use Rattle.std.specs.declared.alloc.Global.{Global}
-use Rattle.rule_machine.specs.Network.{Network, PairSet, pair_set, edge_count}
+use Rattle.rule_machine.specs.Network.{Network, PairSet, pair_set, edge_count, present}
 
 -- the neighbour lists, whatever their capacities
 abbrev pub contents : List (Vec ℕ Global) → List (List ℕ)
@@ -28,23 +28,25 @@ pairs_from v (row ∷ rows) = map (λ w. (v, w)) (filter (nat_lt v) row) ++ pair
 unfoldable pub edges_of : List (List ℕ) → PairSet
 edges_of rows = pair_set (pairs_from 0 rows)
 
--- the network of these many names whose edges are the pairs of the rows
-abbrev pub network_of : ℕ → List (List ℕ) → Network
-network_of size rows = record { size = size; edges = edges_of rows }
+-- the network of these many names, of which the roll says who is present, whose edges are the pairs of the rows
+abbrev pub network_of : ℕ → List Bool → List (List ℕ) → Network
+network_of size roll rows = record { size = size; here = roll; edges = edges_of rows }
 
--- Each row rises and names other nodes of the network only, and two names are in each other's rows or in neither's.
-pub record IsRows (size : ℕ) (rows : List (List ℕ)) : Type 0 where
+-- The roll says who is present; each row rises and names other nodes of the network only, and two names are in each other's rows or in neither's.
+pub record IsRows (size : ℕ) (roll : List Bool) (rows : List (List ℕ)) : Type 0 where
   pub places : length rows ≡ size + 1
-  pub within : (v w : ℕ) → has (row_at rows v) w ≡ true → (1 ≤ w) × (w ≤ size)
+  pub roll_len : length roll ≡ size + 1
+  pub nobody : slice_index_or roll 0 false ≡ false
+  pub within : (v w : ℕ) → has (row_at rows v) w ≡ true → IsTrue (present (network_of size roll rows) w)
   pub mutual_in : (v w : ℕ) → has (row_at rows v) w ≡ has (row_at rows w) v
   pub apart : (v : ℕ) → has (row_at rows v) v ≡ false
   pub rising : (v : ℕ) → IsStrictlyIncreasing (row_at rows v)
 
 -- the rows of a store that counts this many edges
-pub record IsStore (size edges : ℕ) (rows : List (List ℕ)) : Type 0 where
-  pub is_rows : IsRows size rows
+pub record IsStore (size : ℕ) (roll : List Bool) (edges : ℕ) (rows : List (List ℕ)) : Type 0 where
+  pub is_rows : IsRows size roll rows
   pub few_nodes : size ≤ 65535
-  pub counted : edge_count (network_of size rows) ≡ edges
+  pub counted : edge_count (network_of size roll rows) ≡ edges
   pub few_edges : edges ≤ 1048576
 
 -- w stands in the row at place i

@@ -1,30 +1,34 @@
 //! The edges of a network.
 
-ghost use Rattle.std.specs.Prelude.{◌≡◌, ◌≤◌, false, IfOk, IfErr, OnOk, OnErr, IsTrue, All, None, Some};
-ghost use Rattle.rule_machine.specs.Network.{edgeless, node_count, edge_count, present, linked, neighbours, with_edge, without_edge};
-ghost use Rattle.graph_store.specs.Fault.{nodes_fault, ends_fault, link_fault, unlink_fault, Explains};
+ghost use Rattle.std.specs.Prelude.{◌≡◌, ◌≤◌, false, [], slice_get, slice_set, IfOk, IfErr, OnOk, OnErr, MatchOption, IsTrue, All, None, Some};
+ghost use Rattle.rule_machine.specs.Network.{Network, edgeless, edgeless_with, with_node, without_node, names, node_count, edge_count, present, linked, neighbours, with_edge, without_edge};
+ghost use Rattle.graph_store.specs.Fault.{nodes_fault, ends_fault, join_fault, leave_fault, link_fault, unlink_fault, Explains};
 ghost use Rattle.graph_store.specs.Graph.{HasRoomFor};
 ghost use Rattle.graph_store.specs.Rows.{IsGapFor};
 ghost use Rattle.graph_store.specs.declared.fault.GraphFault.TheVariants.{Memory};
 
 use crate::GraphFault;
+use crate::roll::first_names;
 use crate::rows::{empty_rows, find_place, put_both, reserve_both, take_both};
+use enabled_set::EnabledSet;
 use rule_machine::Node;
 use std::alloc::Global;
 use std::marker::Model;
 
-/// The most nodes that a graph has.
+/// The most names that a graph has, and so the most nodes.
 pub const MAX_NODES: u32 = 65_535;
 
 /// The most edges that a graph has.
 pub const MAX_EDGES: u32 = 1_048_576;
 
-/// The nodes 1 to n and the edges between them, seen in contracts as the network of the two, and how many
-/// more neighbours each node has room for: each node has the sorted list of its neighbours, two bytes a neighbour.
-#[derive(Debug, Drop)]
+/// The names 1 to n, those of them that are nodes, and the edges between these, seen in contracts as the network of the three, and
+/// how many more neighbours each name has room for: each name has the sorted list of its neighbours, two bytes a neighbour, and
+/// a bit that says whether it is present. Names that are absent have no neighbours.
+#[derive(Drop)]
 pub struct EdgeStore {
     rows: Vec<Vec<Node>>,
     nodes: u32,
+    here: EnabledSet,
     edges: u32,
 }
 
@@ -38,16 +42,27 @@ impl Model for EdgeStore {
 
     ghost coded = { graph_code };
 
-    ghost view = { λ s. record { network = network_of s.nodes (contents s.rows.items); room = map (λ row. vec_capacity row - vec_len row) s.rows.items } };
+    ghost view = { λ s. record { network = network_of s.nodes s.here (contents s.rows.items); room = map (λ row. vec_capacity row - vec_len row) s.rows.items } };
 
-    ghost invariant = { λ s. IsStore s.nodes s.edges (contents s.rows.items) };
+    ghost invariant = { λ s. IsStore s.nodes s.here s.edges (contents s.rows.items) };
 }
 
 impl EdgeStore {
-    /// The graph of the nodes 1 to `nodes` with no edge; takes memory for one empty list a node.
+    /// The graph of the nodes 1 to `nodes` with no edge, in which no more can join; takes memory for one empty list a node.
     /// `TooManyNodes` above 65,535, and `Memory` if memory runs out.
     pub fn new(alloc: Global, nodes: u32) -> Result<EdgeStore, GraphFault>
         ensures ok { IfOk result (λ store. store.network ≡ edgeless nodes) }
+        ensures small { OnOk result (nodes ≤ 65535) }
+        ensures fault { IfErr result (λ fault. Explains (nodes_fault nodes) fault) }
+    {
+        EdgeStore::with_present(alloc, nodes, nodes)
+    }
+
+    /// The graph of the names 1 to `nodes`, of which 1 to `present` are nodes, with no edge; takes memory for one empty list a
+    /// name, and a bit a name. `TooManyNodes` above 65,535 names, and `Memory` if memory runs out.
+    pub fn with_present(alloc: Global, nodes: u32, present: u32) -> Result<EdgeStore, GraphFault>
+        requires within { present ≤ nodes }
+        ensures ok { IfOk result (λ store. store.network ≡ edgeless_with nodes present) }
         ensures small { OnOk result (nodes ≤ 65535) }
         ensures fault { IfErr result (λ fault. Explains (nodes_fault nodes) fault) }
     {
@@ -55,26 +70,43 @@ impl EdgeStore {
             return Err(GraphFault::TooManyNodes);
         }
         let rows = empty_rows(alloc, nodes as usize + 1).map_err(|_| GraphFault::Memory)?;
+        let here = first_names(alloc, nodes, present).map_err(|_| GraphFault::Memory)?;
         Ok(EdgeStore {
             rows,
             nodes,
+            here,
             edges: 0,
         })
     }
 
-    /// How many nodes there are, at most 65,535.
+    /// How many nodes there are: how many names are present, at most 65,535. One look.
     pub fn nodes(&self) -> u32
         ensures count { result ≡ node_count self.now.network }
+        ensures few { result ≤ 65535 }
+    {
+        self.here.count()
+    }
+
+    /// The greatest name that a node may have, present or not, at most 65,535: so many names there are. Never changes.
+    pub fn capacity(&self) -> u32
+        ensures size { result ≡ self.now.network.size }
         ensures few { result ≤ 65535 }
     {
         self.nodes
     }
 
-    /// Whether this is a node of the graph.
+    /// The k-th node by rising names, from 0; `None` from `nodes()` on. A look at some 80 counts and a word at most.
+    pub fn nth(&self, k: u32) -> Option<Node>
+        ensures { result ≡ slice_get (names self.now.network) k }
+    {
+        self.here.nth(k)
+    }
+
+    /// Whether this is a node of the graph: a name up to the capacity that is present. One look at one bit.
     pub fn has(&self, node: Node) -> bool
         ensures { result ≡ present self.now.network node }
     {
-        node.name() <= self.nodes
+        self.here.contains(node)
     }
 
     /// How many edges there are, at most 1,048,576.
@@ -225,5 +257,58 @@ impl EdgeStore {
         take_both(&mut self.rows, a, place_in_a, b, place_in_b);
         self.edges -= 1;
         Ok(())
+    }
+
+    /// Makes a name a node without neighbours, by a write of a bit and of its counts; takes no memory. `UnknownNode` above the
+    /// capacity, then `AlreadyPresent`. No fault changes anything.
+    pub fn join(&mut self, v: Node) -> Result<(), GraphFault>
+        ensures ok { OnOk result ((join_fault self.old.network v ≡ None) × (self.new.network ≡ with_node self.old.network v)) }
+        ensures fault { IfErr result (λ fault. join_fault self.old.network v ≡ Some fault) }
+        ensures unchanged { OnErr result (self.new.network ≡ self.old.network) }
+    {
+        if v.name() > self.nodes {
+            return Err(GraphFault::UnknownNode);
+        }
+        if self.here.contains(v) {
+            return Err(GraphFault::AlreadyPresent);
+        }
+        self.here.insert(v);
+        Ok(())
+    }
+
+    // The last neighbour of a node, so that the edge to it may be taken out.
+    fn last_neighbour(&self, v: Node) -> Option<Node>
+        requires { IsTrue (present self.now.network v) }
+        ensures { MatchOption result (neighbours self.now.network v ≡ []) (λ w. unlink_fault self.now.network v w ≡ None) }
+    {
+        self.rows[v.place()].last().copied()
+    }
+
+    /// Takes a node out, with the edges that it still has; takes no memory. For each of its neighbours a look-up by halves in
+    /// two rows and a shift in the neighbour's row. `UnknownNode` where it is no node of the graph, which changes nothing.
+    pub fn leave(&mut self, v: Node) -> Result<(), GraphFault>
+        ensures ok { OnOk result ((leave_fault self.old.network v ≡ None) × (self.new.network ≡ without_node self.old.network v)) }
+        ensures fault { IfErr result (λ fault. leave_fault self.old.network v ≡ Some fault) }
+        ensures unchanged { OnErr result (self.new.network ≡ self.old.network) }
+    {
+        if !self.has(v) {
+            return Err(GraphFault::UnknownNode);
+        }
+        // From the end, so that the node's own row never shifts.
+        while let Some(w) = self.last_neighbour(v) {
+            self.unlink(v, w).unwrap();
+        }
+        self.part(v);
+        Ok(())
+    }
+
+    /// Takes a node out that has no edge, by a write of a bit and of its counts; takes no memory.
+    pub fn part(&mut self, v: Node)
+        requires present { IsTrue (present self.old.network v) }
+        requires alone { neighbours self.old.network v ≡ [] }
+        ensures place { self.new.network ≡ record self.old.network { here = slice_set self.old.network.here v false } }
+        ensures node { self.new.network ≡ without_node self.old.network v }
+    {
+        self.here.remove(v);
     }
 }

@@ -3,6 +3,7 @@
 
 mod edge_store;
 mod fault;
+mod roll;
 mod rows;
 
 pub use edge_store::{EdgeStore, MAX_EDGES, MAX_NODES};

@@ -1,12 +1,13 @@
 -- What a new edge says of its ends, and pointers that do not cross.
 use Rattle.std.proofs.Common.{◌≡◌, ℕ, Bool, true, false, cond, not, ◌&&◌, Some, None, IsTrue, nat_eq, nat_le, refl, sym, ap, ◌∙◌}
-use Rattle.std.proofs.lemmas.Bool.{true≢false}
+use Rattle.std.proofs.lemmas.Bool.{true≢false, false_from_ne_true}
 use Rattle.std.proofs.lemmas.Option.{none-some}
 use Rattle.rule_machine.specs.declared.refusal.Refusal.TheVariants.{UnknownNode, SelfLoop, AlreadyLinked, TooManyEdges}
 use Rattle.rule_machine.specs.Network.{Network, present, linked, edge_count}
-use Rattle.rule_machine.specs.State.{Registers, points, with_pointer}
+use Rattle.rule_machine.specs.State.{Registers, points, pointer_of, with_pointer}
 use Rattle.rule_machine.specs.Disturbance.{without_pointer}
 use Rattle.rule_machine.specs.Refuse.{both_present, link_refusal, max_edges}
+use Rattle.machine_laws.specs.Writes.{some_from_is_at, without_pointer_was, without_pointer_gone}
 use Rattle.graph_store.specs.Fault.{link_fault}
 use Rattle.graph_store.specs.declared.fault.GraphFault.TheVariants as fault
 
@@ -53,3 +54,11 @@ new_edge net a b none =
 -- without a pointer that does not cross, nothing changes
 pub stays : (r : Registers) (v w : ℕ) → points r v w ≡ false → without_pointer r v w ≡ r
 stays r v w e = ap (λ t. cond t (with_pointer r v None) r) e
+
+-- pointers across an edge that are cleared one after the other: neither is there any more
+pub crossing_cleared : (r : Registers) (a b : ℕ) → points (without_pointer (without_pointer r a b) b a) a b ≡ false
+crossing_cleared r a b =
+    false_from_ne_true _ (λ at. without_pointer_gone r a b (without_pointer_was (without_pointer r a b) b a a b (some_from_is_at (pointer_of (without_pointer (without_pointer r a b) b a) a) b at)))
+
+pub pointer_cleared : (r : Registers) (v w : ℕ) → points (without_pointer r v w) v w ≡ false
+pointer_cleared r v w = false_from_ne_true _ (λ at. without_pointer_gone r v w (some_from_is_at (pointer_of (without_pointer r v w) v) w at))

@@ -1,2 +1,3 @@
 pub mod Partners
 pub mod Edges
+pub mod Leaving

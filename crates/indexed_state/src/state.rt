@@ -1,11 +1,12 @@
 //! A state with its index.
 
-ghost use Rattle.std.specs.Prelude.{◌≡◌, ◌≤◌, false, IfOk, IfErr, IfSome, OnOk, OnErr, IsTrue, None, Some};
+ghost use Rattle.std.specs.Prelude.{◌≡◌, ◌≤◌, false, [], slice_set, IfOk, IfErr, IfSome, OnOk, OnErr, MatchOption, IsTrue, None, Some};
 ghost use Rattle.graph_store.specs.Fault.{nodes_fault, link_fault, unlink_fault, Explains};
 ghost use Rattle.graph_store.specs.Graph.{HasRoomFor};
-ghost use Rattle.rule_machine.specs.Network.{present, linked, without_edge};
-ghost use Rattle.rule_machine.specs.State.{IsState, opening, points};
-ghost use Rattle.rule_machine.specs.Disturbance.{after_link, after_unlink, after_point, after_flag, without_pointer};
+ghost use Rattle.rule_machine.specs.Network.{present, linked, neighbours, without_edge};
+ghost use Rattle.rule_machine.specs.State.{IsState, opening, opening_with, flag, points};
+ghost use Rattle.rule_machine.specs.Disturbance.{after_link, after_unlink, after_point, after_flag, after_join, after_leave, without_pointer};
+ghost use Rattle.machine_laws.specs.Leaves.{after_parting};
 
 use crate::NodeView;
 use graph_store::{EdgeStore, GraphFault};
@@ -46,7 +47,22 @@ impl<R: Rules> IndexedState<R> {
         ensures small { OnOk result (nodes ≤ 65535) }
         ensures fault { IfErr result (λ fault. Explains (nodes_fault nodes) fault) }
     {
-        let store = EdgeStore::new(alloc, nodes)?;
+        IndexedState::with_present(alloc, nodes, nodes)
+    }
+
+    /// The state of the names 1 to `nodes`, of which 1 to `present` are nodes, with no edges, all pointers null and all flags
+    /// false. `TooManyNodes` above 65,535 names, and `Memory` if memory runs out.
+    pub fn with_present(
+        alloc: Global,
+        nodes: u32,
+        present: u32,
+    ) -> Result<IndexedState<R>, GraphFault>
+        requires within { present ≤ nodes }
+        ensures ok { IfOk result (λ state. state.state ≡ opening_with nodes present) }
+        ensures small { OnOk result (nodes ≤ 65535) }
+        ensures fault { IfErr result (λ fault. Explains (nodes_fault nodes) fault) }
+    {
+        let store = EdgeStore::with_present(alloc, nodes, present)?;
         let Ok(registers) = Registers::new(alloc, nodes) else {
             return Err(GraphFault::Memory);
         };
@@ -143,6 +159,17 @@ impl<R: Rules> IndexedState<R> {
         self.index.unlinked(a, b, &self.store, &self.registers);
     }
 
+    /// Removes an edge, and sets to null the pointers that crossed it.
+    fn cut(&mut self, a: Node, b: Node)
+        requires lower { IsTrue (present self.old.state.network a) }
+        requires upper { IsTrue (present self.old.state.network b) }
+        requires linked { IsTrue (linked self.old.state.network a b) }
+        ensures { self.new.state ≡ after_unlink self.old.state a b }
+    {
+        self.clear_crossing(a, b);
+        self.take_out(a, b);
+    }
+
     /// Removes the edge between two nodes, and sets to null the pointers that crossed it. `UnknownNode`, `SelfLoop`, `NotLinked`, in
     /// that order; at a fault nothing has changed. A shift in two neighbour lists; takes no memory.
     pub fn unlink(&mut self, a: Node, b: Node) -> Result<(), GraphFault>
@@ -153,8 +180,7 @@ impl<R: Rules> IndexedState<R> {
         if let Some(fault) = missing_edge(&self.store, a, b) {
             return Err(fault);
         }
-        self.clear_crossing(a, b);
-        self.take_out(a, b);
+        self.cut(a, b);
         Ok(())
     }
 
@@ -181,6 +207,73 @@ impl<R: Rules> IndexedState<R> {
         }
         self.registers.set_flag(v, value);
         self.index.flag_changed(v, &self.store, &self.registers);
+    }
+
+    /// Makes a name a node, with no edge, a null pointer and its flag false. Takes no memory.
+    pub fn join(&mut self, v: Node)
+        requires within { v ≤ self.old.state.network.size }
+        requires absent { present self.old.state.network v ≡ false }
+        ensures { self.new.state ≡ after_join self.old.state v }
+    {
+        prove!(v.name() >= 1);
+        self.store.join(v).unwrap();
+        self.index.joined(v, &self.store, &self.registers);
+    }
+
+    /// The last neighbour of a node.
+    fn last_neighbour(&self, v: Node) -> Option<Node>
+        requires { IsTrue (present self.now.state.network v) }
+        ensures last { MatchOption result (neighbours self.now.state.network v ≡ []) (λ w. IsTrue (linked self.now.state.network v w) × IsTrue (present self.now.state.network w)) }
+        ensures state { IsState self.now.state }
+    {
+        self.store.neighbours(v).last().copied()
+    }
+
+    /// Removes the edges of a node, and sets to null the pointers that crossed them.
+    fn cut_all(&mut self, v: Node)
+        requires { IsTrue (present self.old.state.network v) }
+        ensures left { after_leave self.new.state v ≡ after_leave self.old.state v }
+        ensures present { IsTrue (present self.new.state.network v) }
+        ensures alone { neighbours self.new.state.network v ≡ [] }
+    {
+        // From the end, so that the node's own neighbour list never shifts.
+        while let Some(w) = self.last_neighbour(v) {
+            self.cut(v, w);
+        }
+    }
+
+    /// Frees the name of a node that has no edge and whose flag is false.
+    fn free_name(&mut self, v: Node)
+        requires present { IsTrue (present self.old.state.network v) }
+        requires alone { neighbours self.old.state.network v ≡ [] }
+        requires unflagged { flag self.old.state v ≡ false }
+        ensures registers { self.new.state.registers ≡ self.old.state.registers }
+        ensures network { self.new.state.network ≡ record self.old.state.network { here = slice_set self.old.state.network.here v false } }
+        ensures state { IsState self.old.state }
+    {
+        self.store.part(v);
+    }
+
+    /// Makes absent a node that has no edge, and its flag false: the last step of a node that leaves, where its edges went one
+    /// by one. Takes no memory.
+    pub fn part(&mut self, v: Node)
+        requires present { IsTrue (present self.old.state.network v) }
+        requires alone { neighbours self.old.state.network v ≡ [] }
+        ensures parted { self.new.state ≡ after_parting self.old.state v }
+        ensures left { self.new.state ≡ after_leave self.old.state v }
+    {
+        self.set_flag(v, false);
+        self.free_name(v);
+    }
+
+    /// Makes a node absent, with its edges: for each neighbour a shift in that one's neighbour list, and what `set_pointer` costs
+    /// where a pointer crosses. Takes no memory.
+    pub fn leave(&mut self, v: Node)
+        requires { IsTrue (present self.old.state.network v) }
+        ensures { self.new.state ≡ after_leave self.old.state v }
+    {
+        self.cut_all(v);
+        self.part(v);
     }
 }
 

@@ -1,16 +1,16 @@
 -- What is counted at the nodes in turn, and the charge as such a sum.
-use Rattle.std.proofs.Common.{◌≡◌, ℕ, ◌+◌, ◌*◌, ◌≤◌, suc, zero, Bool, true, false, cond, not, List, [], ◌∷◌, ◌++◌, length, filter_map, count_by, sum_by, Option, None, Some, is_some, refl, ap, ◌∙◌, arith, add-one}
+use Rattle.std.proofs.Common.{◌≡◌, ℕ, ◌+◌, ◌*◌, ◌≤◌, suc, zero, Bool, true, false, cond, not, List, [], ◌∷◌, ◌++◌, length, filter, filter_map, count_by, sum_by, Option, None, Some, is_some, refl, sym, ap, ◌∙◌, arith, add-one}
 use Rattle.std.specs.List.{range_with_len, cons_option}
 use Rattle.std.specs.Int.{from_bool}
 use Rattle.std.proofs.lemmas.List.FromFn.{length-range_with_len}
 use Rattle.std.proofs.lemmas.List.Sums.{sum_by-cons, sum_by_push, length-filter, count_by-le-length}
 use Rattle.rule_machine.specs.declared.rules.RuleSet.{RuleSet}
 use Rattle.rule_machine.specs.declared.rules.RuleSet.TheVariants.{Hh, Manne}
-use Rattle.rule_machine.specs.Network.{Network, names, linked, neighbours}
+use Rattle.rule_machine.specs.Network.{Network, present, names, linked, neighbours}
 use Rattle.rule_machine.specs.State.{State, IsState, is_unanswered}
 use Rattle.rule_machine.specs.Charge.{hsu_huang_closed, manne_closed}
 use Rattle.rule_machine.specs.Tables.{table_of}
-use Rattle.charge_laws.specs.Counting.{sum_add, sum_twice}
+use Rattle.charge_laws.specs.Counting.{sum_add, sum_agree, sum_twice}
 use Rattle.charge_laws.specs.EdgesByNodes.{edges_by_nodes}
 use Rattle.judge.specs.Charging.{open_above, flag_charge, charge_at}
 
@@ -27,8 +27,10 @@ pub few_near : (net : Network) (v : ℕ) → length (neighbours net v) ≤ net.s
 few_near net v =
     let count = length-filter (linked net v) (names net) in
     let few = count_by-le-length (linked net v) (names net) in
+    let nodes = length-filter (present net) (range_with_len 1 net.size) in
+    let here = count_by-le-length (present net) (range_with_len 1 net.size) in
     let all = length-range_with_len 1 net.size in
-    omega (arith, count, few, all)
+    omega (arith, count, few, nodes, here, all)
 
 -- a range with one more number at its end
 range_more : (a n : ℕ) → range_with_len a (n + 1) ≡ range_with_len a n ++ (a + n) ∷ []
@@ -55,6 +57,40 @@ length_filter_map f (x ∷ xs) =
     let here = longer (f x) (filter_map f xs) in
     let rest = length_filter_map f xs in
     omega (arith, whole, here, rest)
+
+-- ---- what is kept, among all
+
+-- a sum over what passes a test
+pub kept_sum : {X : Type 0} (p : X → Bool) (f : X → ℕ) (xs : List X) → sum_by f (filter p xs) ≡ sum_by (λ x. cond (p x) (f x) 0) xs
+kept_sum p f [] = refl
+kept_sum p f (x ∷ xs) =
+    let whole = sum_by-cons (λ y. cond (p y) (f y) 0) x xs in
+    let rest = kept_sum p f xs in
+    step (p x) rest ∙ sym whole
+  where
+    step : (b : Bool) → sum_by f (filter p xs) ≡ sum_by (λ y. cond (p y) (f y) 0) xs → sum_by f (cond b (x ∷ filter p xs) (filter p xs)) ≡ cond b (f x) 0 + sum_by (λ y. cond (p y) (f y) 0) xs
+    step true same = sum_by-cons f x (filter p xs) ∙ ap (λ n. f x + n) same
+    step false same = omega (arith, same)
+
+-- the values at what passes a test
+pub kept_values : {X Y : Type 0} (p : X → Bool) (f g : X → Option Y) → ((x : X) → g x ≡ cond (p x) (f x) None) → (xs : List X) → filter_map f (filter p xs) ≡ filter_map g xs
+kept_values p f g same [] = refl
+kept_values p f g same (x ∷ xs) =
+    step (p x) (kept_values p f g same xs) ∙ ap (λ o. cons_option o (filter_map g xs)) (sym (same x))
+  where
+    step : (b : Bool) → filter_map f (filter p xs) ≡ filter_map g xs → filter_map f (cond b (x ∷ filter p xs) (filter p xs)) ≡ cons_option (cond b (f x) None) (filter_map g xs)
+    step true rest = ap (cons_option (f x)) rest
+    step false rest = rest
+
+-- how many of what passes a test have a value
+pub kept_count : {X Y : Type 0} (p : X → Bool) (f : X → Option Y) (xs : List X) → length (filter (λ x. is_some (f x)) (filter p xs)) ≡ sum_by (λ x. cond (is_some (cond (p x) (f x) None)) 1 0) xs
+kept_count {Y = Y} p f xs =
+    length-filter (λ x. is_some (f x)) (filter p xs) ∙ kept_sum p (λ x. cond (is_some (f x)) 1 0) xs
+    ∙ sum_agree (λ x. cond (p x) (cond (is_some (f x)) 1 0) 0) (λ x. cond (is_some (cond (p x) (f x) None)) 1 0) (λ x. one (p x) (f x)) xs
+  where
+    one : (b : Bool) (o : Option Y) → cond {A = ℕ} b (cond (is_some o) 1 0) 0 ≡ cond {A = ℕ} (is_some (cond b o None)) 1 0
+    one true o = refl
+    one false o = refl
 
 -- ---- the charge
 

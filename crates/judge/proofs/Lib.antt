@@ -4,3 +4,4 @@ pub mod Listed
 pub mod Table
 pub mod Courting
 pub mod Counting
+pub mod Leaving

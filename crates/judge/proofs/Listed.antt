@@ -24,6 +24,13 @@ at_drop (y ∷ xs) ys (suc p) x e = at_drop xs ys p x e
 tail_same : {X : Type 0} (x : X) (xs ys : List X) → x ∷ xs ≡ x ∷ ys → xs ≡ ys
 tail_same x xs ys e = cc
 
+-- before the first name, the list is whole
+pub started : {X : Type 0} (f : ℕ → Option X) (given all : List X) (size : ℕ) → all ≡ filter_map f (range_with_len 1 size) → (given ≡ all) ↔ (drop 0 given ≡ filter_map f (range_with_len 1 (size + 1 - 1)))
+started f given all size is =
+    let count : size ≡ size + 1 - 1 = omega arith in
+    let step : all ≡ filter_map f (range_with_len 1 (size + 1 - 1)) = is ∙ ap (λ k. filter_map f (range_with_len 1 k)) count in
+    (λ e. e ∙ step, λ e. e ∙ sym step)
+
 -- nothing is given at the name
 pub passed : {X : Type 0} (P : Type 0) (f : ℕ → Option X) (given : List X) (place n size : ℕ) → n ≤ size → f n ≡ None → P ↔ (drop place given ≡ filter_map f (range_with_len n (size + 1 - n))) → P ↔ (drop place given ≡ filter_map f (range_with_len (n + 1) (size + 1 - (n + 1))))
 passed P f given place n size low none so_far =

@@ -8,7 +8,7 @@ use Rattle.rule_machine.specs.declared.act.Act.TheVariants.{Update, Marry, Seduc
 use Rattle.rule_machine.specs.declared.choice.Item.{Item}
 use Rattle.rule_machine.specs.declared.moved.Moved.{Moved}
 use Rattle.rule_machine.specs.declared.event.Event.{Event}
-use Rattle.rule_machine.specs.declared.event.Event.TheVariants.{Link, Unlink, Point, Flag, Step, Show, Enabled, Matching, Status}
+use Rattle.rule_machine.specs.declared.event.Event.TheVariants.{Link, Unlink, Point, Flag, Step, Show, Enabled, Matching, Status, Join, Leave}
 use Rattle.rule_machine.specs.declared.reply.Reply.{Reply}
 use Rattle.rule_machine.specs.declared.reply.Reply.TheVariants.{Moves}
 use Rattle.rule_machine.specs.declared.rules.RuleSet.{RuleSet}
@@ -60,6 +60,8 @@ does_in rules s n (Link a b) moves s' none does = absurd does
 does_in rules s n (Unlink a b) moves s' none does = absurd does
 does_in rules s n (Point v target) moves s' none does = absurd does
 does_in rules s n (Flag v value) moves s' none does = absurd does
+does_in rules s n (Join v) moves s' none does = absurd does
+does_in rules s n (Leave v) moves s' none does = absurd does
 does_in rules s n (Show v) moves s' none does = absurd does
 does_in rules s n Enabled moves s' none does = absurd does
 does_in rules s n Matching moves s' none does = absurd does

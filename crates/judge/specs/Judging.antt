@@ -3,7 +3,7 @@ use Rattle.std.specs.Prelude.{◌≡◌, ℕ, ◌+◌, Bool, true, false, ◌&&�
 use Rattle.rule_machine.specs.declared.choice.Item.{Item}
 use Rattle.rule_machine.specs.declared.counts.Counts.{Counts}
 use Rattle.rule_machine.specs.declared.event.Event.{Event}
-use Rattle.rule_machine.specs.declared.event.Event.TheVariants.{Link, Unlink, Point, Flag, Step, Show, Enabled, Matching, Status}
+use Rattle.rule_machine.specs.declared.event.Event.TheVariants.{Link, Unlink, Point, Flag, Step, Show, Enabled, Matching, Status, Join, Leave}
 use Rattle.rule_machine.specs.declared.reply.Reply.{Reply}
 use Rattle.rule_machine.specs.declared.reply.Reply.TheVariants.{Accepted}
 use Rattle.rule_machine.specs.State.{State}
@@ -16,6 +16,8 @@ is_link (Link a b) = true
 is_link (Unlink a b) = false
 is_link (Point v target) = false
 is_link (Flag v value) = false
+is_link (Join v) = false
+is_link (Leave v) = false
 is_link (Step items) = false
 is_link (Show v) = false
 is_link Enabled = false
@@ -34,6 +36,8 @@ items_of (Link a b) = []
 items_of (Unlink a b) = []
 items_of (Point v target) = []
 items_of (Flag v value) = []
+items_of (Join v) = []
+items_of (Leave v) = []
 items_of (Step items) = items
 items_of (Show v) = []
 items_of Enabled = []

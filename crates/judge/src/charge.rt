@@ -1,6 +1,6 @@
 //! The charge of a state.
 
-ghost use Rattle.std.specs.Prelude.{◌≡◌, ◌≤◌, IsTrue};
+ghost use Rattle.std.specs.Prelude.{◌≡◌, ◌≤◌, IsTrue, cond};
 ghost use Rattle.rule_machine.specs.Network.{present};
 ghost use Rattle.rule_machine.specs.Charge as charge;
 ghost use Rattle.rule_machine.specs.State as state;
@@ -12,16 +12,30 @@ use crate::{Courted, NetState};
 use rule_machine::{Node, RuleSet};
 
 impl NetState {
-    /// The charge, which each move lowers. Looks at every node, and at both ends of every edge.
+    /// The charge, which each move lowers. Looks at every name, and at both ends of every edge.
     pub(crate) fn charge(&self, rules: RuleSet, courted: &Courted) -> u64
         requires { IsCourting self.now courted.now }
         ensures { result ≡ (table_of rules).charge self.now }
     {
         let mut total = 0;
-        for below in 0..self.nodes() {
-            total += self.charge_at(rules, Node::new(below + 1).unwrap(), courted);
+        for below in 0..self.capacity() {
+            total += self.charge_of(rules, Node::new(below + 1).unwrap(), courted);
         }
         total
+    }
+
+    /// What the node of a name adds, if there is one.
+    fn charge_of(&self, rules: RuleSet, v: Node, courted: &Courted) -> u64
+        requires few { self.now.network.size ≤ 65535 }
+        requires courting { IsCourting self.now courted.now }
+        ensures value { result ≡ cond (present self.now.network v) (charging.charge_at rules self.now v) 0 }
+        ensures few { result ≤ 131073 }
+    {
+        if self.has(v) {
+            self.charge_at(rules, v, courted)
+        } else {
+            0
+        }
     }
 
     /// What a node adds, with the edges to its higher neighbours.

@@ -41,14 +41,14 @@ impl Courted {
         self.marks.get(v.place()).copied().unwrap_or(false)
     }
 
-    /// Marks the nodes that have a suitor, and no other. Looks at every node's pointer.
+    /// Marks the nodes that have a suitor, and no other. Looks at every name's pointer.
     pub(crate) fn find(&mut self, net: &NetState)
         requires { length self.old ≡ net.now.network.size + 1 }
         ensures len { length self.new ≡ length self.old }
         ensures marked { (v : ℕ) → mark_at self.new v ≡ has_suitor net.now v }
     {
         self.clear();
-        for below in 0..net.nodes() {
+        for below in 0..net.capacity() {
             let v = Node::new(below + 1).unwrap();
             if let Some(target) = net.pointer(v) {
                 self.put(target);

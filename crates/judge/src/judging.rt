@@ -56,8 +56,9 @@ impl NetState {
             Event::Unlink(a, b) => self.unlink_refusal(*a, *b),
             Event::Point(v, target) => self.point_refusal(*v, *target),
             Event::Flag(v, _) => self.flag_refusal(rules, *v),
+            Event::Join(v) => self.join_refusal(*v),
             Event::Step(choice) => self.step_refusal(rules, choice.items(), chosen),
-            Event::Show(v) => self.show_refusal(*v),
+            Event::Show(v) | Event::Leave(v) => self.show_refusal(*v),
             Event::Enabled | Event::Matching | Event::Status => None,
         }
     }
@@ -110,9 +111,12 @@ impl NetState {
         ensures courted { length courted.new ≡ length courted.old }
     {
         match event {
-            Event::Link(_, _) | Event::Unlink(_, _) | Event::Point(_, _) | Event::Flag(_, _) => {
-                is_accepted(reply)
-            }
+            Event::Link(_, _)
+            | Event::Unlink(_, _)
+            | Event::Point(_, _)
+            | Event::Flag(_, _)
+            | Event::Join(_)
+            | Event::Leave(_) => is_accepted(reply),
             Event::Step(choice) => self.may_move(rules, choice.items(), reply, chosen),
             Event::Show(v) => is_shown(self.pointer(*v), reply),
             Event::Enabled => self.are_enabled(rules, reply),
@@ -163,6 +167,8 @@ impl NetState {
             Event::Unlink(a, b) => self.unlink(*a, *b),
             Event::Point(v, target) => self.point(*v, *target),
             Event::Flag(v, value) => self.set_flag(*v, *value),
+            Event::Join(v) => self.join(*v),
+            Event::Leave(v) => self.leave(*v),
             Event::Step(_) | Event::Show(_) | Event::Enabled | Event::Matching | Event::Status => {}
         }
         Ok(())

@@ -18,6 +18,21 @@ impl Judge {
         self.net.nodes()
     }
 
+    /// The greatest name that a node may have, at most 65,535.
+    pub fn capacity(&self) -> u32
+        ensures size { result ≡ self.now.network.size }
+        ensures few { result ≤ 65535 }
+    {
+        self.net.capacity()
+    }
+
+    /// Whether a node has this name.
+    pub fn has(&self, v: Node) -> bool
+        ensures { result ≡ network.present self.now.network v }
+    {
+        self.net.has(v)
+    }
+
     /// How many edges there are, at most 1,048,576.
     pub fn edges(&self) -> u32
         ensures { result ≡ network.edge_count self.now.network }

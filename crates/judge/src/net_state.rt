@@ -1,13 +1,14 @@
 //! A network with its registers.
 
-ghost use Rattle.std.specs.Prelude.{◌≡◌, ◌≤◌, All, IfOk, IsTrue, None, OnOk, OnErr};
+ghost use Rattle.std.specs.Prelude.{◌≡◌, ◌≤◌, ◌&&◌, [], All, IfOk, IsTrue, MatchOption, None, OnOk, OnErr, false, nat_le};
 ghost use Rattle.std.specs.List.{AllByRecursion};
 ghost use Rattle.rule_machine.specs.Network as network;
 ghost use Rattle.rule_machine.specs.State as state;
 ghost use Rattle.rule_machine.specs.Refuse.{link_refusal, unlink_refusal, point_refusal};
-ghost use Rattle.rule_machine.specs.Disturbance.{after_link, after_unlink, after_point, after_flag};
+ghost use Rattle.rule_machine.specs.Disturbance.{after_link, after_unlink, after_point, after_flag, after_join, after_leave};
 ghost use Rattle.rule_machine.specs.Step.{after_moves};
 ghost use Rattle.machine_laws.specs.Keeps.{IsMoveIn};
+ghost use Rattle.judge.specs.States.{without_place};
 
 use crate::moves::{clear_pointer, write_moves};
 use graph_store::EdgeStore;
@@ -37,12 +38,13 @@ impl Model for NetState {
 }
 
 impl NetState {
-    /// The nodes 1 to `nodes` without an edge, all pointers null and all flags false.
-    pub(crate) fn new(alloc: Global, nodes: u32) -> Result<NetState, Want>
-        requires { nodes ≤ 65535 }
-        ensures { IfOk result (λ net. net ≡ state.opening nodes) }
+    /// The nodes 1 to `present`, for names up to `nodes`, without an edge, all pointers null and all flags false.
+    pub(crate) fn with_present(alloc: Global, nodes: u32, present: u32) -> Result<NetState, Want>
+        requires few { nodes ≤ 65535 }
+        requires within { present ≤ nodes }
+        ensures { IfOk result (λ net. net ≡ state.opening_with nodes present) }
     {
-        let Ok(store) = EdgeStore::new(alloc, nodes) else {
+        let Ok(store) = EdgeStore::with_present(alloc, nodes, present) else {
             return Err(AllocError);
         };
         let registers = Registers::new(alloc, nodes)?;
@@ -53,9 +55,17 @@ impl NetState {
     pub(crate) fn nodes(&self) -> u32
         ensures count { result ≡ network.node_count self.now.network }
         ensures few { result ≤ 65535 }
-        ensures sound { state.IsState self.now }
     {
         self.store.nodes()
+    }
+
+    /// The greatest name that a node may have, at most 65,535.
+    pub(crate) fn capacity(&self) -> u32
+        ensures size { result ≡ self.now.network.size }
+        ensures few { result ≤ 65535 }
+        ensures sound { state.IsState self.now }
+    {
+        self.store.capacity()
     }
 
     /// How many edges there are, at most 1,048,576.
@@ -70,6 +80,14 @@ impl NetState {
         ensures { result ≡ network.present self.now.network v }
     {
         self.store.has(v)
+    }
+
+    /// Whether a node may have this name, as one has or may come to have: it is not above the greatest.
+    pub(crate) fn is_name(&self, v: Node) -> bool
+        ensures { result ≡ (nat_le 1 v && nat_le v self.now.network.size) }
+    {
+        prove!(v.name() >= 1);
+        v.name() <= self.capacity()
     }
 
     /// Whether there is an edge between two names.
@@ -172,6 +190,62 @@ impl NetState {
         ensures { self.new ≡ after_flag self.old v value }
     {
         self.registers.set_flag(v, value);
+    }
+
+    /// Makes a name a node, without an edge: its registers are null and false already. Takes no memory.
+    pub(crate) fn join(&mut self, v: Node)
+        requires within { v ≤ self.old.network.size }
+        requires absent { network.present self.old.network v ≡ false }
+        ensures { self.new ≡ after_join self.old v }
+    {
+        prove!(v.name() >= 1);
+        let Ok(()) = self.store.join(v) else {
+            return;
+        };
+    }
+
+    /// The last neighbour of a node.
+    fn last_neighbour(&self, v: Node) -> Option<Node>
+        requires { IsTrue (network.present self.now.network v) }
+        ensures last { MatchOption result (network.neighbours self.now.network v ≡ []) (λ w. IsTrue (network.linked self.now.network v w)) }
+        ensures sound { state.IsState self.now }
+    {
+        self.store.neighbours(v).last().copied()
+    }
+
+    /// Removes the edges of a node, and the pointers that cross them.
+    fn unlink_all(&mut self, v: Node)
+        requires { IsTrue (network.present self.old.network v) }
+        ensures left { after_leave self.new v ≡ after_leave self.old v }
+        ensures present { IsTrue (network.present self.new.network v) }
+        ensures alone { network.neighbours self.new.network v ≡ [] }
+    {
+        // From the end, so that the node's own list never shifts.
+        while let Some(w) = self.last_neighbour(v) {
+            self.unlink(v, w);
+        }
+    }
+
+    /// Frees the name of a node that has no edge and whose flag is false.
+    fn free_name(&mut self, v: Node)
+        requires present { IsTrue (network.present self.old.network v) }
+        requires alone { network.neighbours self.old.network v ≡ [] }
+        requires unflagged { state.flag self.old v ≡ false }
+        ensures gone { self.new ≡ without_place self.old v }
+        ensures sound { state.IsState self.old }
+    {
+        self.store.part(v);
+    }
+
+    /// Takes a node away, with its edges, its pointer and those at it, and its flag: a look-up and a shift in the list of each
+    /// neighbour. Takes no memory.
+    pub(crate) fn leave(&mut self, v: Node)
+        requires { IsTrue (network.present self.old.network v) }
+        ensures { self.new ≡ after_leave self.old v }
+    {
+        self.unlink_all(v);
+        self.set_flag(v, false);
+        self.free_name(v);
     }
 
     /// Makes these moves of one step.

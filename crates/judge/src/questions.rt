@@ -1,8 +1,8 @@
 //! Whether a reply lists what a question asks for.
 
-ghost use Rattle.std.specs.Prelude.{◌≡◌, ◌↔◌, IsTrue, Some, slice_get};
+ghost use Rattle.std.specs.Prelude.{◌≡◌, ◌↔◌, IsTrue, None, Some, cond, slice_get};
 ghost use Rattle.rule_machine.specs.Network.{present};
-ghost use Rattle.rule_machine.specs.RuleTable.{enabled};
+ghost use Rattle.rule_machine.specs.RuleTable.{enabled, rule_at};
 ghost use Rattle.rule_machine.specs.State as state;
 ghost use Rattle.rule_machine.specs.Stable.{mutual_pairs, pair_above};
 ghost use Rattle.rule_machine.specs.Tables.{table_of};
@@ -11,14 +11,14 @@ use crate::NetState;
 use rule_machine::{Act, Edge, Node, RuleSet};
 
 impl NetState {
-    /// Whether these are the enabled nodes, each with its rule. Looks at every node and its neighbours.
+    /// Whether these are the enabled nodes, each with its rule. Looks at every name, and at each node's neighbours.
     pub(crate) fn lists_enabled(&self, rules: RuleSet, given: &[(Node, Act)]) -> bool
         ensures { IsTrue result ↔ (given.now ≡ enabled (table_of rules) self.now) }
     {
         let mut place = 0;
-        for name in 1..self.nodes() + 1 {
+        for name in 1..self.capacity() + 1 {
             let v = Node::new(name).unwrap();
-            if let Some(act) = self.rule_at(rules, v) {
+            if let Some(act) = self.rule_of(rules, v) {
                 if !has_rule(given, place, v, act) {
                     return false;
                 }
@@ -28,14 +28,14 @@ impl NetState {
         place == given.len()
     }
 
-    /// Whether these are the mutual pairs. Looks at every node.
+    /// Whether these are the mutual pairs. Looks at every name.
     pub(crate) fn lists_pairs(&self, given: &[Edge]) -> bool
         ensures { IsTrue result ↔ (given.now ≡ mutual_pairs self.now) }
     {
         let mut place = 0;
-        for name in 1..self.nodes() + 1 {
+        for name in 1..self.capacity() + 1 {
             let v = Node::new(name).unwrap();
-            if let Some(pair) = self.pair_at(v) {
+            if let Some(pair) = self.pair_of(v) {
                 if !has_pair(given, place, pair) {
                     return false;
                 }
@@ -45,8 +45,26 @@ impl NetState {
         place == given.len()
     }
 
+    /// The rule that is enabled at the node of a name, if there is one and any is.
+    pub(crate) fn rule_of(&self, rules: RuleSet, v: Node) -> Option<Act>
+        ensures { result ≡ cond (present self.now.network v) (rule_at (table_of rules) self.now v) None }
+    {
+        if self.has(v) {
+            self.rule_at(rules, v)
+        } else {
+            None
+        }
+    }
+
+    /// The mutual pair of which the node of a name, if there is one, is the lower end.
+    pub(crate) fn pair_of(&self, v: Node) -> Option<Edge>
+        ensures { result ≡ cond (present self.now.network v) (pair_above v (state.partner self.now v)) None }
+    {
+        if self.has(v) { self.pair_at(v) } else { None }
+    }
+
     /// The mutual pair of which a node is the lower end.
-    pub(crate) fn pair_at(&self, v: Node) -> Option<Edge>
+    fn pair_at(&self, v: Node) -> Option<Edge>
         requires { IsTrue (present self.now.network v) }
         ensures { result ≡ pair_above v (state.partner self.now v) }
     {

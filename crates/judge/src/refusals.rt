@@ -63,7 +63,20 @@ impl NetState {
         }
     }
 
-    /// Why a look at a node's pointer is refused, if it is.
+    /// Why a name does not become present, if it does not.
+    pub(crate) fn join_refusal(&self, v: Node) -> Option<Refusal>
+        ensures { result ≡ refuse.join_refusal self.now.network v }
+    {
+        if !self.is_name(v) {
+            Some(Refusal::UnknownNode)
+        } else if self.has(v) {
+            Some(Refusal::AlreadyPresent)
+        } else {
+            None
+        }
+    }
+
+    /// Why a look at a node's pointer, or its leave, is refused, if it is.
     pub(crate) fn show_refusal(&self, v: Node) -> Option<Refusal>
         ensures { result ≡ refuse.show_refusal self.now.network v }
     {

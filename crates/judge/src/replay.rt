@@ -2,7 +2,7 @@
 
 ghost use Rattle.std.specs.Prelude.{◌≡◌, ◌≤◌, false, IsTrue, IfOk, OnErr};
 ghost use Rattle.rule_machine.specs.Answer.{Answers};
-ghost use Rattle.rule_machine.specs.State.{State, opening};
+ghost use Rattle.rule_machine.specs.State.{State, opening, opening_with};
 ghost use Rattle.rule_machine.specs.Tables.{table_of};
 ghost use Rattle.judge.specs.Judging.{TakesMemory};
 
@@ -42,7 +42,16 @@ impl Judge {
         requires { nodes ≤ 65535 }
         ensures { IfOk result (λ judge. judge ≡ opening nodes) }
     {
-        let net = NetState::new(alloc, nodes)?;
+        Judge::with_present(alloc, nodes, nodes)
+    }
+
+    /// The same for names up to `nodes`, of which the first are present, as many as `present`.
+    pub fn with_present(alloc: Global, nodes: u32, present: u32) -> Result<Judge, Want>
+        requires few { nodes ≤ 65535 }
+        requires within { present ≤ nodes }
+        ensures { IfOk result (λ judge. judge ≡ opening_with nodes present) }
+    {
+        let net = NetState::with_present(alloc, nodes, present)?;
         let chosen = Chosen::new(alloc, nodes)?;
         let courted = Courted::new(alloc, nodes)?;
         Ok(Judge {
@@ -56,7 +65,7 @@ impl Judge {
     /// disturbance; where it may, the event is carried out as the reply says. Where no target is wished, any allowed one
     /// is right. A wrong reply changes nothing, and neither does want of memory, which comes only where a link is rightly
     /// accepted. A disturbance and a `Show` cost look-ups, a step looks at the neighbours of its nodes, `Enabled` and
-    /// `Status` at all edges and `Matching` at all nodes.
+    /// `Status` at all names and edges, and `Matching` at all names.
     pub fn replay(
         &mut self,
         rules: RuleSet,

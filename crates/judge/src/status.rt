@@ -29,7 +29,7 @@ impl NetState {
         }
     }
 
-    /// Whether these are the numbers of the network, where these moves are spent. Looks at every node and its neighbours.
+    /// Whether these are the numbers of the network, where these moves are spent. Looks at every name, and at each node's neighbours.
     fn are_counts(&self, rules: RuleSet, spent: u64, given: Counts, courted: &mut Courted) -> bool
         requires { length courted.old ≡ self.now.network.size + 1 }
         ensures value { result ≡ same_counts given (counts_of (table_of rules) self.now spent) }
@@ -49,9 +49,9 @@ impl NetState {
         ensures { result ≡ length (mutual_pairs self.now) }
     {
         let mut pairs = 0;
-        for below in 0..self.nodes() {
+        for below in 0..self.capacity() {
             let v = Node::new(below + 1).unwrap();
-            pairs += u32::from(self.pair_at(v).is_some());
+            pairs += u32::from(self.pair_of(v).is_some());
         }
         pairs
     }
@@ -61,9 +61,9 @@ impl NetState {
         ensures { result ≡ length (enabled_names (table_of rules) self.now) }
     {
         let mut enabled = 0;
-        for below in 0..self.nodes() {
+        for below in 0..self.capacity() {
             let v = Node::new(below + 1).unwrap();
-            enabled += u32::from(self.rule_at(rules, v).is_some());
+            enabled += u32::from(self.rule_of(rules, v).is_some());
         }
         enabled
     }

@@ -1,7 +1,9 @@
 //! Rows on every kind of machine.
 
-use crate::journals::journal_of;
-use crate::machines::{Judge, net_of, plain_of, play};
+ghost use Rattle.std.specs.Prelude.{◌≤◌};
+
+use crate::journals::{journal_of, journal_with};
+use crate::machines::{Judge, net_of, net_with, plain_of, plain_with, play};
 use crate::prepared::InTwoSteps;
 use crate::verdicts::ByVerdicts;
 use rule_engine::{RuleSet, Rules};
@@ -57,4 +59,27 @@ pub(crate) fn play_all<R: Rules>(
     play_by_verdicts::<R>(rt, alloc, size, rows);
     play_on_journal::<R>(rt, alloc, size, rows);
     play_in_two_steps::<R>(rt, alloc, size, rows);
+}
+
+/// Plays rows on a plain network, on one that judges, on a network and on a journal, of the names 1 to `nodes` of which
+/// 1 to `present` are present.
+pub(crate) fn play_with<R: Rules>(
+    rt: &impl Abort,
+    alloc: Global,
+    rules: RuleSet,
+    nodes: u16,
+    present: u16,
+    rows: &str,
+)
+    requires { present ≤ nodes }
+{
+    let (size, first) = (u32::from(nodes), u32::from(present));
+    let mut plain = plain_with(rt, alloc, rules, nodes, present);
+    play(rt, alloc, &mut plain, rows);
+    let mut judge = Judge(plain_with(rt, alloc, rules, nodes, present));
+    play(rt, alloc, &mut judge, rows);
+    let mut net = net_with::<R>(rt, alloc, size, first);
+    play(rt, alloc, &mut net, rows);
+    let mut journal = journal_with::<R>(rt, alloc, size, first, LIMIT);
+    play(rt, alloc, &mut journal, rows);
 }

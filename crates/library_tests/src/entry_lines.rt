@@ -1,5 +1,7 @@
 //! The lines of a transcript as values.
 
+ghost use Rattle.std.specs.Prelude.{◌≤◌};
+
 use crate::helpers::tells;
 use entry_grammar::{EntryFault, entry_text, header_text, read_entry, read_header};
 use rule_machine::RuleSet;
@@ -39,21 +41,47 @@ fn entries_are_written_back(rt: HostRuntime) {
 }
 
 /// Reads a header, and writes it back.
-fn write_header_back(rt: &impl Abort, alloc: Global, line: &str, rules: RuleSet, nodes: u16) {
-    let nodes = u32::from(nodes);
+fn write_header_back(
+    rt: &impl Abort,
+    alloc: Global,
+    line: &str,
+    rules: RuleSet,
+    size: u16,
+    count: u16,
+)
+    requires { count ≤ size }
+{
+    let size = u32::from(size);
+    let count = u32::from(count);
     assert!(rt;
-        read_header(line.as_bytes()) == Ok((rules, nodes)),
+        read_header(line.as_bytes()) == Ok((rules, size, count)),
         "{line}"
     );
-    let text = header_text(alloc, rules, nodes).expect(rt, "memory");
+    let text = header_text(alloc, rules, size, count).expect(rt, "memory");
     assert!(rt; text.as_slice() == line.as_bytes(), "{line}");
 }
 
 #[test]
 fn headers_are_written_back(rt: HostRuntime) {
-    write_header_back(&rt, rt.alloc(), "matching hh 2", RuleSet::Hh, 2);
-    write_header_back(&rt, rt.alloc(), "matching manne 0", RuleSet::Manne, 0);
-    write_header_back(&rt, rt.alloc(), "matching hh 65535", RuleSet::Hh, 65_535);
+    write_header_back(&rt, rt.alloc(), "matching hh 2", RuleSet::Hh, 2, 2);
+    write_header_back(&rt, rt.alloc(), "matching manne 0", RuleSet::Manne, 0, 0);
+    write_header_back(
+        &rt,
+        rt.alloc(),
+        "matching hh 65535",
+        RuleSet::Hh,
+        65_535,
+        65_535,
+    );
+    write_header_back(&rt, rt.alloc(), "matching hh 3 2", RuleSet::Hh, 3, 2);
+    write_header_back(
+        &rt,
+        rt.alloc(),
+        "matching manne 65535 0",
+        RuleSet::Manne,
+        65_535,
+        0,
+    );
 }
 
 #[test]

@@ -1,6 +1,6 @@
 //! Worked rows under Hsu and Huang's rules.
 
-use crate::all_machines::play_all;
+use crate::all_machines::{play_all, play_with};
 use crate::helpers::named;
 use crate::machines::{net_of, play};
 use rule_engine::{Act, Net, RuleSet};
@@ -8,6 +8,28 @@ use rules_hsu_huang::HsuHuang;
 use std::process::Abort;
 
 const NO_NODE: &str = "\
+enabled = none
+matching = none
+status = nodes=0 edges=0 pairs=0 enabled=0 charge=0 spent=0
+charge 0
+";
+
+const TWO_OF_THREE: &str = "\
+link 1 3 = refused 1 unknown-node
+unlink 3 1 = refused 1 unknown-node
+point 1 3 = refused 1 unknown-node
+point 3 - = refused 1 unknown-node
+show 3 = refused 1 unknown-node
+step 3 = refused 1 unknown-node
+link 1 2 = ok
+enabled = 1:seduce 2:seduce
+status = nodes=2 edges=1 pairs=0 enabled=2 charge=2 spent=0
+charge 2
+";
+
+const NONE_OF_TWO: &str = "\
+link 1 2 = refused 1 unknown-node
+show 1 = refused 1 unknown-node
 enabled = none
 matching = none
 status = nodes=0 edges=0 pairs=0 enabled=0 charge=0 spent=0
@@ -130,6 +152,13 @@ fn rows_are_answered(rt: HostRuntime) {
     ] {
         play_all::<HsuHuang>(&rt, rt.alloc(), RuleSet::Hh, nodes, rows);
     }
+}
+
+/// Names above those that are present are unknown.
+#[test]
+fn absent_names_are_refused(rt: HostRuntime) {
+    play_with::<HsuHuang>(&rt, rt.alloc(), RuleSet::Hh, 3, 2, TWO_OF_THREE);
+    play_with::<HsuHuang>(&rt, rt.alloc(), RuleSet::Hh, 2, 0, NONE_OF_TWO);
 }
 
 /// Compares the rule that a node may move by.

@@ -1,5 +1,7 @@
 //! Journals: networks with the log of their events.
 
+ghost use Rattle.std.specs.Prelude.{◌≤◌};
+
 use crate::helpers::{entry_of, named};
 use crate::machines::{Machine, play};
 use crate::manne_rows::A_STAR;
@@ -33,6 +35,19 @@ pub(crate) fn journal_of<R: Rules>(
     limit: u32,
 ) -> Journal<R> {
     Journal::with_limit(alloc, nodes, limit).expect(rt, "a journal")
+}
+
+/// A journal of the names 1 to `nodes`, of which 1 to `present` are present, that takes so many entries.
+pub(crate) fn journal_with<R: Rules>(
+    rt: &impl Abort,
+    alloc: Global,
+    nodes: u32,
+    present: u32,
+    limit: u32,
+) -> Journal<R>
+    requires { present ≤ nodes }
+{
+    Journal::with_present(alloc, nodes, present, limit).expect(rt, "a journal")
 }
 
 /// Whether the entry with a number is that of a row.

@@ -1,5 +1,7 @@
 //! What answers events, and rows of events with their replies.
 
+ghost use Rattle.std.specs.Prelude.{◌≤◌};
+
 use crate::helpers::entry_of;
 use log_entry::Entry;
 use plain_machine::{PlainNet, replay};
@@ -19,6 +21,13 @@ pub(crate) trait Machine {
 /// The network of the nodes 1 to `nodes` without an edge.
 pub(crate) fn net_of<R: Rules>(rt: &impl Abort, alloc: Global, nodes: u32) -> Net<R> {
     Net::new(alloc, nodes).expect(rt, "a network")
+}
+
+/// The network of the names 1 to `nodes`, of which 1 to `present` are present, without an edge.
+pub(crate) fn net_with<R: Rules>(rt: &impl Abort, alloc: Global, nodes: u32, present: u32) -> Net<R>
+    requires { present ≤ nodes }
+{
+    Net::with_present(alloc, nodes, present).expect(rt, "a network")
 }
 
 /// Compares the enabled nodes, in their order, and their rules with these.
@@ -81,7 +90,28 @@ impl Plain {
 
 /// The plain network of the nodes 1 to `nodes` without an edge.
 pub(crate) fn plain_of(rt: &impl Abort, alloc: Global, rules: RuleSet, nodes: u16) -> Plain {
-    let net = PlainNet::new(alloc, u32::from(nodes)).expect(rt, "memory");
+    plain_from(
+        PlainNet::new(alloc, u32::from(nodes)).expect(rt, "memory"),
+        rules,
+    )
+}
+
+/// The plain network of the names 1 to `nodes`, of which 1 to `present` are present, without an edge.
+pub(crate) fn plain_with(
+    rt: &impl Abort,
+    alloc: Global,
+    rules: RuleSet,
+    nodes: u16,
+    present: u16,
+) -> Plain
+    requires { present ≤ nodes }
+{
+    let net = PlainNet::with_present(alloc, u32::from(nodes), u32::from(present));
+    plain_from(net.expect(rt, "memory"), rules)
+}
+
+/// A plain network that was just made, with its rules.
+fn plain_from(net: PlainNet, rules: RuleSet) -> Plain {
     Plain {
         net,
         rules,

@@ -1,23 +1,31 @@
-//! Every network of up to three nodes, in every state and under every small choice: the engine against the plain machine,
-//! and the auditor's judge against both.
+//! Every network of up to three names, of which all or the first few are present, in every state and under every small choice:
+//! the engine against the plain machine, and the auditor's judge against both.
 //!
-//! The choices at n nodes have items of n + 1 names, the last of an absent node, each with no wish or one of these
-//! names: (n + 1)(n + 2) items i, so 1 + i + i·i choices of up to two, and 6 more of three at three nodes. There are
-//! 2 items and 7 choices at no node, 6 and 43 at one, 12 and 157 at two, and 20 and 421 + 6 = 427 at three.
+//! A network has n names, of which the first p are present. The choices at n names have items of n + 1 names, the last of
+//! them above the capacity, each with no wish or one of these names: (n + 1)(n + 2) items i, so 1 + i + i·i choices of up
+//! to two, and 6 more of three at three names. There are 2 items and 7 choices at no name, 6 and 43 at one, 12 and 157 at
+//! two, and 20 and 421 + 6 = 427 at three.
 //! The pointers of a node are null or one of its neighbours: with no flags 1 state at no node, 1 at one, 1 + 4 at two,
 //! and at three 1 with no edge, 4 with one (3 networks), 12 with two (3 networks) and 27 with three: 76. With flags
 //! each counts twice for each node.
 
-ghost use Rattle.std.specs.Prelude.{◌<◌};
+ghost use Rattle.std.specs.Prelude.{◌≡◌, ◌<◌, ◌≤◌};
 
 use crate::helpers::named;
-use crate::machines::{Plain, moves_in, net_of, plain_of};
+use crate::machines::{Plain, moves_in, net_with, plain_with};
 use judge::Judge;
 use rule_engine::{Choice, Event, Item, Net, Node, Refusal, Reply, RuleSet, Rules};
 use rules_hsu_huang::HsuHuang;
 use rules_manne::Manne;
 use std::alloc::Global;
 use std::process::Abort;
+
+/// How many names a network has, and how many of them, the first, are present.
+#[derive(Clone, Copy)]
+struct Names {
+    all: u8,
+    present: u8,
+}
 
 /// What kind of reply came.
 #[derive(Clone, Copy, PartialEq)]
@@ -34,19 +42,29 @@ struct Twins<R: Rules> {
     net: Net<R>,
     plain: Plain,
     judge: Judge,
-    nodes: u8,
+    names: Names,
     edges: u32,
     state: u32,
 }
 
 impl<R: Rules> Twins<R> {
     /// Two networks without an edge.
-    fn new(rt: &impl Abort, alloc: Global, rules: RuleSet, nodes: u8, edges: u32) -> Twins<R> {
+    fn new(rt: &impl Abort, alloc: Global, rules: RuleSet, names: Names, edges: u32) -> Twins<R>
+        requires { names.present ≤ names.all }
+    {
+        let (all, present) = (u32::from(names.all), u32::from(names.present));
+        let judge = Judge::with_present(alloc, all, present);
         Twins {
-            net: net_of(rt, alloc, u32::from(nodes)),
-            plain: plain_of(rt, alloc, rules, u16::from(nodes)),
-            judge: Judge::new(alloc, u32::from(nodes)).expect(rt, "memory"),
-            nodes,
+            net: net_with(rt, alloc, all, present),
+            plain: plain_with(
+                rt,
+                alloc,
+                rules,
+                u16::from(names.all),
+                u16::from(names.present),
+            ),
+            judge: judge.expect(rt, "memory"),
+            names,
             edges,
             state: 0,
         }
@@ -102,7 +120,7 @@ impl<R: Rules> Twins<R> {
     /// Writes the registers. Says whether each pointer is null or at a neighbour, and all digits are of its nodes.
     fn set(&mut self, rt: &impl Abort, alloc: Global) -> bool {
         let mut rest = self.state;
-        for name in 1..=u32::from(self.nodes) {
+        for name in 1..=u32::from(self.names.present) {
             let v = named(rt, name);
             if !self.change(rt, alloc, Event::Point(v, Node::new(rest % 4))) {
                 return false;
@@ -138,7 +156,7 @@ impl<R: Rules> Twins<R> {
     /// Lets the nodes of a choice move; if they do, the charge has fallen by their number at least. Then looks at what
     /// is there and goes back to the state.
     fn step(&mut self, rt: &impl Abort, alloc: Global, number: u32) {
-        let choice = choice_of(rt, alloc, self.nodes, number);
+        let choice = choice_of(rt, alloc, self.names.all, number);
         let charge = self.net.charge();
         if let Kind::Moves(moves) = self.ask(rt, alloc, Event::Step(choice)) {
             self.expect_paid(rt, charge, moves);
@@ -190,7 +208,7 @@ fn is_first(nodes: u8, number: u32) -> bool {
 
 /// Every choice of up to two items in the state. Answers how many.
 fn try_pairs<R: Rules>(rt: &impl Abort, alloc: Global, twins: &mut Twins<R>) -> u64 {
-    let nodes = twins.nodes;
+    let nodes = twins.names.all;
     let mut tried = 0u64;
     for number in 0..two_digits(nodes) {
         if is_first(nodes, number) {
@@ -223,7 +241,7 @@ fn try_state<R: Rules>(rt: &impl Abort, alloc: Global, twins: &mut Twins<R>) -> 
     }
     twins.look(rt, alloc);
     let tried = try_pairs(rt, alloc, twins);
-    if twins.nodes < 3 {
+    if twins.names.all < 3 {
         return tried;
     }
     tried.wrapping_add(try_orders(rt, alloc, twins))
@@ -234,10 +252,12 @@ fn try_network<R: Rules>(
     rt: &impl Abort,
     alloc: Global,
     rules: RuleSet,
-    nodes: u8,
+    names: Names,
     edges: u32,
-) -> u64 {
-    let mut twins = Twins::<R>::new(rt, alloc, rules, nodes, edges);
+) -> u64
+    requires { names.present ≤ names.all }
+{
+    let mut twins = Twins::<R>::new(rt, alloc, rules, names, edges);
     if !twins.link(rt, alloc) {
         return 0;
     }
@@ -249,71 +269,114 @@ fn try_network<R: Rules>(
     tried
 }
 
-/// Every network of so many nodes and so many edges, and every state and choice. Compares how many choices that were.
+/// Every network of these names and so many edges, and every state and choice. Compares how many choices that were.
 fn try_networks<R: Rules>(
     rt: &impl Abort,
     alloc: Global,
     rules: RuleSet,
-    nodes: u8,
+    names: Names,
     count: u32,
     wanted: u64,
-) {
+)
+    requires { names.present ≤ names.all }
+{
     let mut tried = 0u64;
     for edges in 0..8u32 {
         if edges.count_ones() == count {
-            tried = tried.wrapping_add(try_network::<R>(rt, alloc, rules, nodes, edges));
+            tried = tried.wrapping_add(try_network::<R>(rt, alloc, rules, names, edges));
         }
     }
+    let (all, present) = (names.all, names.present);
     assert!(rt;
         tried == wanted,
-        "{tried} choices at {nodes} nodes and {count} edges"
+        "{tried} choices at {present} of {all} names and {count} edges"
     );
 }
 
-fn try_hsu_huang(rt: &impl Abort, alloc: Global, nodes: u8, count: u32, wanted: u64) {
-    try_networks::<HsuHuang>(rt, alloc, RuleSet::Hh, nodes, count, wanted);
+fn try_hsu_huang(rt: &impl Abort, alloc: Global, names: Names, count: u32, wanted: u64)
+    requires { names.present ≤ names.all }
+{
+    try_networks::<HsuHuang>(rt, alloc, RuleSet::Hh, names, count, wanted);
 }
 
-fn try_manne(rt: &impl Abort, alloc: Global, nodes: u8, count: u32, wanted: u64) {
-    try_networks::<Manne>(rt, alloc, RuleSet::Manne, nodes, count, wanted);
+fn try_manne(rt: &impl Abort, alloc: Global, names: Names, count: u32, wanted: u64)
+    requires { names.present ≤ names.all }
+{
+    try_networks::<Manne>(rt, alloc, RuleSet::Manne, names, count, wanted);
+}
+
+/// So many names, all present.
+fn all_of(all: u8) -> Names
+    ensures { result ≡ record { all = all; present = all } }
+{
+    Names { all, present: all }
+}
+
+/// So many names, of which the first are present.
+fn first_of(all: u8, present: u8) -> Names
+    ensures { result ≡ record { all = all; present = present } }
+{
+    Names { all, present }
 }
 
 #[test]
 fn hsu_huang_up_to_two_nodes(rt: HostRuntime) {
-    try_hsu_huang(&rt, rt.alloc(), 0, 0, 7);
-    try_hsu_huang(&rt, rt.alloc(), 1, 0, 43);
-    try_hsu_huang(&rt, rt.alloc(), 2, 0, 157);
-    try_hsu_huang(&rt, rt.alloc(), 2, 1, 4 * 157);
+    try_hsu_huang(&rt, rt.alloc(), all_of(0), 0, 7);
+    try_hsu_huang(&rt, rt.alloc(), all_of(1), 0, 43);
+    try_hsu_huang(&rt, rt.alloc(), all_of(2), 0, 157);
+    try_hsu_huang(&rt, rt.alloc(), all_of(2), 1, 4 * 157);
 }
 
 #[test]
 fn hsu_huang_three_nodes(rt: HostRuntime) {
-    try_hsu_huang(&rt, rt.alloc(), 3, 0, 427);
-    try_hsu_huang(&rt, rt.alloc(), 3, 1, 3 * 4 * 427);
-    try_hsu_huang(&rt, rt.alloc(), 3, 2, 3 * 12 * 427);
-    try_hsu_huang(&rt, rt.alloc(), 3, 3, 27 * 427);
+    try_hsu_huang(&rt, rt.alloc(), all_of(3), 0, 427);
+    try_hsu_huang(&rt, rt.alloc(), all_of(3), 1, 3 * 4 * 427);
+    try_hsu_huang(&rt, rt.alloc(), all_of(3), 2, 3 * 12 * 427);
+    try_hsu_huang(&rt, rt.alloc(), all_of(3), 3, 27 * 427);
 }
 
 #[test]
 fn manne_up_to_two_nodes(rt: HostRuntime) {
-    try_manne(&rt, rt.alloc(), 0, 0, 7);
-    try_manne(&rt, rt.alloc(), 1, 0, 2 * 43);
-    try_manne(&rt, rt.alloc(), 2, 0, 4 * 157);
-    try_manne(&rt, rt.alloc(), 2, 1, 4 * 4 * 157);
+    try_manne(&rt, rt.alloc(), all_of(0), 0, 7);
+    try_manne(&rt, rt.alloc(), all_of(1), 0, 2 * 43);
+    try_manne(&rt, rt.alloc(), all_of(2), 0, 4 * 157);
+    try_manne(&rt, rt.alloc(), all_of(2), 1, 4 * 4 * 157);
 }
 
 #[test]
 fn manne_three_nodes_no_edge_or_one(rt: HostRuntime) {
-    try_manne(&rt, rt.alloc(), 3, 0, 8 * 427);
-    try_manne(&rt, rt.alloc(), 3, 1, 3 * 4 * 8 * 427);
+    try_manne(&rt, rt.alloc(), all_of(3), 0, 8 * 427);
+    try_manne(&rt, rt.alloc(), all_of(3), 1, 3 * 4 * 8 * 427);
 }
 
 #[test]
 fn manne_three_nodes_two_edges(rt: HostRuntime) {
-    try_manne(&rt, rt.alloc(), 3, 2, 3 * 12 * 8 * 427);
+    try_manne(&rt, rt.alloc(), all_of(3), 2, 3 * 12 * 8 * 427);
 }
 
 #[test]
 fn manne_three_nodes_three_edges(rt: HostRuntime) {
-    try_manne(&rt, rt.alloc(), 3, 3, 27 * 8 * 427);
+    try_manne(&rt, rt.alloc(), all_of(3), 3, 27 * 8 * 427);
+}
+
+#[test]
+fn hsu_huang_some_absent(rt: HostRuntime) {
+    try_hsu_huang(&rt, rt.alloc(), first_of(1, 0), 0, 43);
+    try_hsu_huang(&rt, rt.alloc(), first_of(2, 0), 0, 157);
+    try_hsu_huang(&rt, rt.alloc(), first_of(2, 1), 0, 157);
+    try_hsu_huang(&rt, rt.alloc(), first_of(3, 0), 0, 427);
+    try_hsu_huang(&rt, rt.alloc(), first_of(3, 1), 0, 427);
+    try_hsu_huang(&rt, rt.alloc(), first_of(3, 2), 0, 427);
+    try_hsu_huang(&rt, rt.alloc(), first_of(3, 2), 1, 4 * 427);
+}
+
+#[test]
+fn manne_some_absent(rt: HostRuntime) {
+    try_manne(&rt, rt.alloc(), first_of(1, 0), 0, 43);
+    try_manne(&rt, rt.alloc(), first_of(2, 0), 0, 157);
+    try_manne(&rt, rt.alloc(), first_of(2, 1), 0, 2 * 157);
+    try_manne(&rt, rt.alloc(), first_of(3, 0), 0, 427);
+    try_manne(&rt, rt.alloc(), first_of(3, 1), 0, 2 * 427);
+    try_manne(&rt, rt.alloc(), first_of(3, 2), 0, 4 * 427);
+    try_manne(&rt, rt.alloc(), first_of(3, 2), 1, 4 * 4 * 427);
 }

@@ -47,6 +47,7 @@ fn edges_are_found(rt: HostRuntime) {
         assert!(rt; store.linked(named(&rt, a), named(&rt, b)) == wanted);
     }
     assert!(rt; store.nodes() == 3);
+    assert!(rt; store.capacity() == 3);
     assert!(rt; store.edges() == 1);
     assert!(rt; !store.has(named(&rt, 4)));
 }
@@ -60,6 +61,31 @@ fn edges_are_unlinked_or_refused(rt: HostRuntime) {
     assert!(rt; store.unlink(one, three) == Ok(()));
     assert!(rt; store.edges() == 0);
     assert!(rt; !store.linked(three, one));
+}
+
+/// Compares how many nodes there are, and which is the third.
+fn expect_third(rt: &impl Abort, store: &EdgeStore, nodes: u32, third: Option<Node>) {
+    assert!(rt; store.nodes() == nodes);
+    assert!(rt; store.capacity() == 3);
+    assert!(rt; store.nth(2) == third);
+}
+
+#[test]
+fn a_name_joins_and_leaves_with_its_edges(rt: HostRuntime) {
+    let three = named(&rt, 3);
+    let mut store = EdgeStore::with_present(rt.alloc(), 3, 2).expect(&rt, "a store");
+    expect_third(&rt, &store, 2, None);
+    link(&rt, &mut store, 1, 3, Err(GraphFault::UnknownNode));
+    assert!(rt; store.join(three) == Ok(()));
+    assert!(rt; store.join(three) == Err(GraphFault::AlreadyPresent));
+    assert!(rt; store.join(named(&rt, 4)) == Err(GraphFault::UnknownNode));
+    expect_third(&rt, &store, 3, Some(three));
+    link(&rt, &mut store, 1, 3, Ok(()));
+    link(&rt, &mut store, 1, 2, Ok(()));
+    assert!(rt; store.leave(three) == Ok(()));
+    assert!(rt; store.leave(three) == Err(GraphFault::UnknownNode));
+    expect_third(&rt, &store, 2, None);
+    expect_neighbours(&rt, &store, 1, &[named(&rt, 2)]);
 }
 
 /// Links a node to those above it until there are 1,048,576 edges.

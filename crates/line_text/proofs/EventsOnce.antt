@@ -1,12 +1,12 @@
 -- A line spells at most one event.
-use Rattle.std.proofs.Common.{◌≡◌, ℕ, ◌+◌, ◌*◌, Bool, true, false, List, [], ◌∷◌, ◌++◌, Option, None, Some, get_or, refl, sym, ap, subst, ◌∙◌, arith}
+use Rattle.std.proofs.Common.{◌≡◌, ℕ, ◌+◌, ◌*◌, Bool, true, false, List, [], ◌∷◌, ◌++◌, Option, None, Some, get_or, refl, sym, ap, ◌∙◌, arith}
 use Rattle.std.specs.Prelude.{IfSome, codes}
 use Rattle.std.specs.List.{AllByRecursion}
 use Rattle.std.proofs.lemmas.List.{append_cancel_left}
 use Rattle.std.proofs.lemmas.Fmt.{decimal_injective, first_decimal}
 use Rattle.rule_machine.specs.declared.choice.Item.{Item}
 use Rattle.rule_machine.specs.declared.event.Event.{Event}
-use Rattle.rule_machine.specs.declared.event.Event.TheVariants.{Link, Unlink, Point, Flag, Step, Show, Enabled, Matching, Status}
+use Rattle.rule_machine.specs.declared.event.Event.TheVariants.{Link, Unlink, Point, Flag, Step, Show, Enabled, Matching, Status, Join, Leave}
 use Rattle.line_text.specs.Words.{number_text, IsName, spaced}
 use Rattle.line_text.specs.EventText.{IsItem, IsEvent, Spells, event_text, pair_text, point_text, flag_text, bool_text, target_text, item_text}
 use Rattle.line_text.proofs.Digits.{word_once, WordThen-from}
@@ -48,7 +48,7 @@ items_once (i ∷ is) (j ∷ js) f g e =
     let r = item_once (spaced item_text (i ∷ is)) i j (spaced item_text is) (spaced item_text js) (first_item (spaced item_text (i ∷ is)) i is f refl) (first_item (spaced item_text (i ∷ is)) j js g e) in
     ap (λ (x : Item). x ∷ is) r.0 ∙ ap (λ (xs : List Item). j ∷ xs) (items_once is js f.1 g.1 r.1)
 
--- the first three bytes, which tell the nine commands apart
+-- the first three bytes, which tell the eleven commands apart
 abbrev head_of : List ℕ → ℕ
 head_of line = get_or line 0 0 + 256 * get_or line 1 0 + 65536 * get_or line 2 0
 
@@ -66,6 +66,10 @@ event_once (Point a v) (Point c w) f g e =
 event_once (Flag a v) (Flag c w) f g e =
     let r = split_once a c (bool_text v) (bool_text w) f g (append_cancel_left (codes "flag ") (flag_text a v) (flag_text c w) e) in
     ap (λ (x : ℕ). Flag x v) r.0 ∙ ap (λ (x : Bool). Flag c x) (bool_once v w r.1)
+event_once (Join a) (Join b) f g e =
+    ap (λ (x : ℕ). Join x) (number_once a b f g (append_cancel_left (codes "join ") (number_text a) (number_text b) e))
+event_once (Leave a) (Leave b) f g e =
+    ap (λ (x : ℕ). Leave x) (number_once a b f g (append_cancel_left (codes "leave ") (number_text a) (number_text b) e))
 event_once (Step is) (Step js) f g e =
     ap (λ (x : List Item). Step x) (items_once is js f.1 g.1 (append_cancel_left (codes "step") (spaced item_text is) (spaced item_text js) e))
 event_once (Show a) (Show b) f g e =

@@ -1,5 +1,5 @@
 -- The lines of a transcript.
-use Rattle.std.specs.Prelude.{ℕ, List, [], ◌∷◌, ◌++◌, codes}
+use Rattle.std.specs.Prelude.{ℕ, List, [], ◌∷◌, ◌++◌, nat_lt, if◌then◌else◌, codes}
 use Rattle.rule_machine.specs.declared.event.Event.{Event}
 use Rattle.rule_machine.specs.declared.reply.Reply.{Reply}
 use Rattle.rule_machine.specs.declared.rules.RuleSet.{RuleSet}
@@ -8,13 +8,17 @@ use Rattle.line_text.specs.Words.{number_text}
 use Rattle.line_text.specs.EventText.{event_text}
 use Rattle.line_text.specs.ReplyText.{reply_text}
 
--- the rule set, and how many nodes there are
-abbrev pub header_text : RuleSet → ℕ → List ℕ
-header_text rules nodes = codes "matching " ++ rules_word rules ++ codes " " ++ number_text nodes
+-- how many names there are and, where not all of them are present at the start, how many are
+abbrev pub sizes_text : ℕ → ℕ → List ℕ
+sizes_text size count = if nat_lt count size then number_text size ++ codes " " ++ number_text count else number_text size
+
+-- the rule set, how many names there are, and how many of them are present at the start
+abbrev pub header_text : RuleSet → ℕ → ℕ → List ℕ
+header_text rules size count = codes "matching " ++ rules_word rules ++ codes " " ++ sizes_text size count
 
 -- the header and the LF that ends its line
-abbrev pub header_line : RuleSet → ℕ → List ℕ
-header_line rules nodes = header_text rules nodes ++ 10 ∷ []
+abbrev pub header_line : RuleSet → ℕ → ℕ → List ℕ
+header_line rules size count = header_text rules size count ++ 10 ∷ []
 
 -- the entry with this number: its event, and the reply
 abbrev pub entry_text : ℕ → Event → Reply → List ℕ

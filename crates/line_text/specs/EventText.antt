@@ -3,7 +3,7 @@ use Rattle.std.specs.Prelude.{◌≡◌, ℕ, ◌≤◌, Bool, true, false, List
 use Rattle.std.specs.List.{AllByRecursion}
 use Rattle.rule_machine.specs.declared.choice.Item.{Item}
 use Rattle.rule_machine.specs.declared.event.Event.{Event}
-use Rattle.rule_machine.specs.declared.event.Event.TheVariants.{Link, Unlink, Point, Flag, Step, Show, Enabled, Matching, Status}
+use Rattle.rule_machine.specs.declared.event.Event.TheVariants.{Link, Unlink, Point, Flag, Step, Show, Enabled, Matching, Status, Join, Leave}
 use Rattle.line_text.specs.Words.{number_text, IsName, marked_text, spaced}
 
 -- two names
@@ -36,6 +36,8 @@ event_text (Link a b) = codes "link " ++ pair_text a b
 event_text (Unlink a b) = codes "unlink " ++ pair_text a b
 event_text (Point v target) = codes "point " ++ point_text v target
 event_text (Flag v value) = codes "flag " ++ flag_text v value
+event_text (Join v) = codes "join " ++ number_text v
+event_text (Leave v) = codes "leave " ++ number_text v
 event_text (Step items) = codes "step" ++ spaced item_text items
 event_text (Show v) = codes "show " ++ number_text v
 event_text Enabled = codes "enabled"
@@ -55,6 +57,8 @@ IsEvent (Link a b) = IsName a × IsName b
 IsEvent (Unlink a b) = IsName a × IsName b
 IsEvent (Point v target) = IsName v × IfSome target IsName
 IsEvent (Flag v value) = IsName v
+IsEvent (Join v) = IsName v
+IsEvent (Leave v) = IsName v
 IsEvent (Step items) = IsChoice items
 IsEvent (Show v) = IsName v
 IsEvent Enabled = Unit {0}

@@ -10,5 +10,5 @@ entry_lines number [] = []
 entry_lines number (entry ∷ log) = entry_line number entry.0 entry.1 ++ entry_lines (number + 1) log
 
 -- the header, and the entries numbered from 1
-abbrev pub transcript : RuleSet → ℕ → List Entry → List ℕ
-transcript rules nodes log = header_line rules nodes ++ entry_lines 1 log
+abbrev pub transcript : RuleSet → ℕ → ℕ → List Entry → List ℕ
+transcript rules size count log = header_line rules size count ++ entry_lines 1 log

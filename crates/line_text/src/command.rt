@@ -102,6 +102,12 @@ pub fn read_command(alloc: Global, line: &[u8]) -> Result<Option<Event>, Want>
     if let Some(rest) = after(line, b"flag ") {
         return Ok(read_flag(rest).map(|(node, value)| Event::Flag(node, value)));
     }
+    if let Some(rest) = after(line, b"join ") {
+        return Ok(read_last(rest).map(|node| Event::Join(node)));
+    }
+    if let Some(rest) = after(line, b"leave ") {
+        return Ok(read_last(rest).map(|node| Event::Leave(node)));
+    }
     if line == b"enabled".as_slice() {
         return Ok(Some(Event::Enabled));
     }

@@ -3,7 +3,7 @@
 ghost use Rattle.std.specs.Prelude.{◌≡◌, ◌++◌, OnOk, OnErr};
 ghost use Rattle.line_text.specs.EventText.{IsEvent};
 ghost use Rattle.line_text.specs.ReplyText.{IsReply};
-ghost use Rattle.line_text.specs.EntryText.{header_line, entry_line};
+ghost use Rattle.line_text.specs.EntryText.{sizes_text, header_line, entry_line};
 ghost use Rattle.line_text.specs.Growth.{Extends};
 
 use crate::events::put_event;
@@ -11,14 +11,27 @@ use crate::numbers::put_number;
 use crate::replies::put_reply;
 use rule_machine::{Event, Reply, RuleSet, Want};
 
-fn append_header(out: &mut Vec<u8>, rules: RuleSet, nodes: u32) -> Result<(), Want>
-    ensures ok { OnOk result (out.new.items ≡ out.old.items ++ header_line rules nodes) }
+// Writes how many names there are and, where not all of them are present, how many are.
+fn put_sizes(out: &mut Vec<u8>, size: u32, count: u32) -> Result<(), Want>
+    ensures ok { OnOk result (out.new.items ≡ out.old.items ++ sizes_text size count) }
+    ensures err { OnErr result (Extends out.old.items out.new.items) }
+{
+    put_number(out, size)?;
+    if count < size {
+        out.push(b' ')?;
+        put_number(out, count)?;
+    }
+    Ok(())
+}
+
+fn append_header(out: &mut Vec<u8>, rules: RuleSet, size: u32, count: u32) -> Result<(), Want>
+    ensures ok { OnOk result (out.new.items ≡ out.old.items ++ header_line rules size count) }
     ensures err { OnErr result (Extends out.old.items out.new.items) }
 {
     out.extend_from_slice(b"matching ")?;
     out.extend_from_slice(rules.word().as_bytes())?;
     out.push(b' ')?;
-    put_number(out, nodes)?;
+    put_sizes(out, size, count)?;
     out.extend_from_slice(b"\n")
 }
 
@@ -36,13 +49,14 @@ fn append_entry(out: &mut Vec<u8>, number: u32, event: &Event, reply: &Reply) ->
     Ok(())
 }
 
-/// Writes a transcript's header, with its LF.
-pub fn put_header(out: &mut Vec<u8>, rules: RuleSet, nodes: u32) -> Result<(), Want>
-    ensures ok { OnOk result (out.new.items ≡ out.old.items ++ header_line rules nodes) }
+/// Writes a transcript's header, with its LF: the rules, how many names there are and, where not all of them are present
+/// at the start, how many are. A `count` above `size` is written as `size` is.
+pub fn put_header(out: &mut Vec<u8>, rules: RuleSet, size: u32, count: u32) -> Result<(), Want>
+    ensures ok { OnOk result (out.new.items ≡ out.old.items ++ header_line rules size count) }
     ensures err { OnErr result (out.new.items ≡ out.old.items) }
 {
     let len = out.len();
-    let done = append_header(out, rules, nodes);
+    let done = append_header(out, rules, size, count);
     if done.is_err() {
         out.truncate(len);
     }

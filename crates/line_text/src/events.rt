@@ -74,6 +74,14 @@ pub(crate) fn put_event(out: &mut Vec<u8>, event: &Event) -> Result<(), Want>
             out.extend_from_slice(b"flag ")?;
             put_flag(out, *node, *value)
         }
+        Event::Join(node) => {
+            out.extend_from_slice(b"join ")?;
+            put_name(out, *node)
+        }
+        Event::Leave(node) => {
+            out.extend_from_slice(b"leave ")?;
+            put_name(out, *node)
+        }
         Event::Step(choice) => {
             out.extend_from_slice(b"step")?;
             put_spaced(out, choice.items())

@@ -1,20 +1,22 @@
 -- What is told of an event that somebody else chose, and of a call that is not answered.
-use Rattle.std.proofs.Common.{◌≡◌, ◌∷◌, ◌++◌, [], ℕ, Bool, List, Option, None, Some, Result, Ok, Err, IfOk, IfErr, OnOk, refl, ap, subst}
+use Rattle.std.proofs.Common.{◌≡◌, ◌∷◌, ◌++◌, [], ℕ, Bool, List, Option, None, Some, Result, Ok, Err, IfOk, IfErr, OnOk, IsNone, MatchOption, ◌↔◌, ◌+◌, length, refl, ap, sym, ◌∙◌, subst, arith}
 use Rattle.rule_machine.specs.declared.choice.Item.{Item}
 use Rattle.rule_machine.specs.declared.event.Event.{Event}
 use Rattle.rule_machine.specs.declared.event.Event.TheVariants.{Step}
 use Rattle.rule_machine.specs.declared.reply.Reply.{Reply}
+use Rattle.rule_machine.specs.Network.{node_count}
 use Rattle.rule_machine.specs.State.{State}
 use Rattle.rule_machine.specs.RuleTable.{RuleTable, enabled_names}
 use Rattle.step_log.specs.declared.receipt.Receipt.{Receipt}
 use Rattle.step_log.specs.Log.{Log, receipt_of}
-use Rattle.locked_net.specs.Receipts.{front_of}
+use Rattle.locked_net.specs.Receipts.{ClerkView, front_of}
 use Rattle.locked_net.specs.Settings.{Setting, IsLogIn}
-use Rattle.locked_net.specs.Calls.{call_fault, Explains}
+use Rattle.locked_net.specs.Calls.{call_fault, Explains, Breaks, KeepsFault}
 use Rattle.locked_net.specs.Stepping.{ExplainsStep}
 use Rattle.locked_net.specs.Choosing.{ChoosesStep, ChoosesOn, TakesChoice, Refuses, RefusesStep}
 use Rattle.locked_net.specs.declared.call_fault.CallFault.{CallFault}
 use Rattle.locked_net.specs.declared.step_fault.StepFault.{StepFault}
+use Rattle.locked_net.proofs.Adding.{seen_few}
 
 -- a choice that was recorded
 pub choice_on : (t : RuleTable) (log : Log) (Chooses : List ℕ → Bool → Option (List Item) → Type 0) (names : List ℕ) (central : Bool) (found : Option (List Item)) (items : List Item) (old new : List Receipt) (reply : Reply)
@@ -31,6 +33,34 @@ pub takes : (setting : Setting) (Chooses : State → Option Event → Type 0) (l
     → OnOk result (call_fault (front_of old) log ≡ None) → IfOk result (ChoosesOn setting.table log Chooses old new) → IfOk result (TakesChoice setting Chooses old new)
 takes setting Chooses log old new (Ok told) own free taken = record { log = log; own = own; free = free; taken = taken }
 takes setting Chooses log old new (Err fault) own free taken = tt
+
+-- nothing was chosen exactly where there is no node
+pub finds_none : (setting : Setting) (Chooses : State → Option Event → Type 0) (log : Log) (old new : List Receipt) (result : Result (Option Reply) CallFault) → IsLogIn setting log
+    → OnOk result (call_fault (front_of old) log ≡ None) → IfOk result (ChoosesOn setting.table log Chooses old new) → IfOk result (λ told. IsNone told ↔ (node_count log.state.network ≡ 0))
+    → IfOk result (λ told. TakesChoice setting (λ s _. IsNone told ↔ (node_count s.network ≡ 0)) old new told)
+finds_none setting Chooses log old new (Ok told) own free taken none = record {
+  log = log;
+  own = own;
+  free = free;
+  taken = record { event = taken.event; chosen = none; is_told = taken.is_told };
+}
+finds_none setting Chooses log old new (Err fault) own free taken none = tt
+
+-- a fault that was recorded is kept
+pub keeps_fault : (t : RuleTable) (log after : Log) (old new : ClerkView) (Same : Type 0) (result : Result (Option Reply) CallFault) → OnOk result (call_fault (front_of old.receipts) log ≡ None)
+    → IfOk result (λ told. MatchOption told ((new ≡ old) × Same) (λ reply. Breaks t log after old.receipts new.receipts reply)) → IfOk result (λ told. MatchOption told (new ≡ old) (KeepsFault old.receipts new.receipts))
+keeps_fault t log after old new Same (Err fault) free is = tt
+keeps_fault t log after old new Same (Ok None) free is = is.0
+keeps_fault t log after old new Same (Ok (Some reply)) free is = record {
+  event = is.event;
+  kept = record {
+    seq = length log.entries + 1;
+    above = let few = seen_few (front_of old.receipts) log free in omega (arith, few);
+    added = is.told.receipt ∙ ap (λ (r : Reply). old.receipts ++ record { seq = length log.entries + 1; event = is.event; reply = r } ∷ []) (sym is.told.reply_is);
+  };
+  register = is.register;
+  accepted = is.accepted;
+}
 
 pub refuses : {A : Type 0} (setting : Setting) (seen : ℕ) (log : Log) (result : Result A CallFault) → IsLogIn setting log → IfErr result (λ fault. Explains (call_fault seen log) fault) → IfErr result (Refuses setting seen)
 refuses setting seen log (Ok told) own explained = tt

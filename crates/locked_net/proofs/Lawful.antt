@@ -9,7 +9,7 @@ use Rattle.std.proofs.lemmas.List.Folds.{list_any-append}
 use Rattle.rule_machine.specs.declared.act.Act.{Act}
 use Rattle.rule_machine.specs.declared.choice.Item.{Item}
 use Rattle.rule_machine.specs.declared.refusal.Refusal.TheVariants.{UnknownNode, ChosenTwice, EmptyChoice, NotCentral}
-use Rattle.rule_machine.specs.Network.{present}
+use Rattle.rule_machine.specs.Network.{present, names}
 use Rattle.rule_machine.specs.State.{State}
 use Rattle.rule_machine.specs.RuleTable.{RuleTable, rule_at, enabled_names}
 use Rattle.rule_machine.specs.Refuse.{wish_refusal, rule_refusal, item_refusal, items_refusal, step_refusal}
@@ -33,36 +33,34 @@ kept_in p a (suc n) w on low high =
     later true h = or_right (nat_eq w a) (list_any (nat_eq w) (filter p (range_with_len (a + 1) n))) h
     later false h = h
 
--- what is kept passes, and is of the range
-abbrev IsKeptOf : (ℕ → Bool) → ℕ → ℕ → ℕ → Type 0
-IsKeptOf p a n w = (p w ≡ true) × (a ≤ w) × (w < a + n)
+-- what is kept passes, and was there before
+abbrev IsKeptOf : (ℕ → Bool) → List ℕ → ℕ → Type 0
+IsKeptOf p xs w = (p w ≡ true) × (list_any (nat_eq w) xs ≡ true)
 
-kept_from : (p : ℕ → Bool) (a n w : ℕ) → list_any (nat_eq w) (filter p (range_with_len a n)) ≡ true → IsKeptOf p a n w
-kept_from p a zero w h = absurd (true≢false (sym h))
-kept_from p a (suc n) w h = by_first (p a) refl (kept_from p (a + 1) n w) h
+kept_from : (p : ℕ → Bool) (xs : List ℕ) (w : ℕ) → list_any (nat_eq w) (filter p xs) ≡ true → IsKeptOf p xs w
+kept_from p [] w h = absurd (true≢false (sym h))
+kept_from p (x ∷ xs) w h = by_first (p x) refl (kept_from p xs w) h
   where
     rest : List ℕ
-    rest = filter p (range_with_len (a + 1) n)
+    rest = filter p xs
 
-    behind : IsKeptOf p (a + 1) n w → IsKeptOf p a (suc n) w
-    behind more = (more.0, omega (arith, more.1), omega (arith, more.2))
+    behind : IsKeptOf p xs w → IsKeptOf p (x ∷ xs) w
+    behind more = (more.0, or_right (nat_eq w x) (list_any (nat_eq w) xs) more.1)
 
-    by_first : (b : Bool) → p a ≡ b → (list_any (nat_eq w) rest ≡ true → IsKeptOf p (a + 1) n w) → list_any (nat_eq w) (cond b (a ∷ rest) rest) ≡ true → IsKeptOf p a (suc n) w
+    by_first : (b : Bool) → p x ≡ b → (list_any (nat_eq w) rest ≡ true → IsKeptOf p xs w) → list_any (nat_eq w) (cond b (x ∷ rest) rest) ≡ true → IsKeptOf p (x ∷ xs) w
     by_first false is later h = behind (later h)
     by_first true is later h =
         ⊎_elim
-        (λ (same : w ≡ a). (ap p same ∙ is, omega (arith, same), omega (arith, same)))
-        (λ (apart : w ≢ a). behind (later (ap (λ b. b || list_any (nat_eq w) rest) (sym (ne_eqb w a apart)) ∙ h)))
-        (cases_eq w a)
+        (λ (same : w ≡ x). (ap p same ∙ is, ap (λ b. b || list_any (nat_eq w) xs) (eq-eqb w x same)))
+        (λ (apart : w ≢ x). behind (later (ap (λ b. b || list_any (nat_eq w) rest) (sym (ne_eqb w x apart)) ∙ h)))
+        (cases_eq w x)
 
 -- a member is an enabled node: it is present, and has a rule
 member_enabled : (t : RuleTable) (s : State) (bits : List Bool) (v : ℕ) → members bits ≡ enabled_names t s → is_in bits v ≡ true → (present s.network v ≡ true) × (is_some (rule_at t s v) ≡ true)
 member_enabled t s bits v same on =
     let listed = kept_in (is_in bits) 0 (length bits) v on (omega arith) (omega (arith, inside bits v on)) in
-    let kept = kept_from (λ u. is_some (rule_at t s u)) 1 s.network.size v (ap (list_any (nat_eq v)) (sym same) ∙ listed) in (
-      ap (λ b. b && nat_le v s.network.size) (le-leb 1 v kept.1) ∙ le-leb v s.network.size (omega (arith, kept.2)),
-      kept.0,
-    )
+    let kept = kept_from (λ u. is_some (rule_at t s u)) (names s.network) v (ap (list_any (nat_eq v)) (sym same) ∙ listed) in
+    ((kept_from (present s.network) (range_with_len 1 s.network.size) v kept.1).0, kept.0)
 
 -- ---- the items
 

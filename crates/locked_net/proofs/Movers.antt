@@ -5,58 +5,65 @@ use Rattle.std.proofs.Common.{◌≡◌, ◌≢◌, ℕ, zero, suc, ◌+◌, ◌
 use Rattle.std.specs.List.{range_with_len, filter_map, slice_get, cons_option}
 use Rattle.std.specs.Option.{option_or, option_and_then}
 use Rattle.std.proofs.lemmas.Bool.{cases_eq, eq-eqb, ne_eqb, true≢false, cond-false}
-use Rattle.std.proofs.lemmas.Option.{same_Some}
+use Rattle.std.proofs.lemmas.Option.{same_Some, none-some}
 use Rattle.rule_machine.specs.declared.act.Act.{Act}
 use Rattle.rule_machine.specs.declared.choice.Item.{Item}
 use Rattle.rule_machine.specs.declared.moved.Moved.{Moved}
 use Rattle.rule_machine.specs.declared.verdict.Outcome.TheVariants.{Absent}
 use Rattle.rule_machine.specs.declared.refusal.Refusal.TheVariants.{NotCentral}
 use Rattle.rule_machine.specs.declared.reply.Reply.TheVariants.{Moves}
-use Rattle.rule_machine.specs.Network.{present}
+use Rattle.rule_machine.specs.Network.{present, names}
 use Rattle.rule_machine.specs.State.{State}
 use Rattle.rule_machine.specs.RuleTable.{RuleTable, rule_at, enabled_names, least_target}
 use Rattle.rule_machine.specs.Refuse.{step_refusal, items_refusal, item_refusal}
 use Rattle.rule_machine.specs.Least.{move_in, outcome_of, outcome_at, least_moves, reply_of, reply_by}
+use Rattle.machine_laws.specs.Neighbours.{present_range}
 use Rattle.locked_net.specs.Roaming.{mover, lone_items, lone_step}
 use Rattle.locked_net.proofs.Lawful.{taken_by, few_alone}
 
--- ---- a member of a filtered range
+-- ---- a member of a filtered list
 
--- it passes, and is of the range
-record IsKept (p : ℕ → Bool) (a n v : ℕ) : Type 0 where
+-- it passes, and was there before
+record IsKept (p : ℕ → Bool) (xs : List ℕ) (v : ℕ) : Type 0 where
   passes : p v ≡ true
-  low : a ≤ v
-  high : v < a + n
+  place : ℕ
+  there : slice_get xs place ≡ Some v
 
-kept_at : (p : ℕ → Bool) (a n k v : ℕ) → slice_get (filter p (range_with_len a n)) k ≡ Some v → IsKept p a n v
-kept_at p a zero k v at = cc
-kept_at p a (suc n) k v at = by_first (p a) refl k (kept_at p (a + 1) n) at
+kept_at : (p : ℕ → Bool) (xs : List ℕ) (k v : ℕ) → slice_get (filter p xs) k ≡ Some v → IsKept p xs v
+kept_at p [] k v at = absurd (none-some v at)
+kept_at p (x ∷ xs) k v at = by_first (p x) refl k (kept_at p xs) at
   where
     rest : List ℕ
-    rest = filter p (range_with_len (a + 1) n)
+    rest = filter p xs
 
-    behind : IsKept p (a + 1) n v → IsKept p a (suc n) v
-    behind more = record { passes = more.passes; low = omega (arith, more.low); high = omega (arith, more.high) }
+    behind : IsKept p xs v → IsKept p (x ∷ xs) v
+    behind more = record { passes = more.passes; place = suc more.place; there = more.there }
 
-    by_first : (b : Bool) → p a ≡ b → (j : ℕ) → ((i w : ℕ) → slice_get rest i ≡ Some w → IsKept p (a + 1) n w) → slice_get (cond b (a ∷ rest) rest) j ≡ Some v → IsKept p a (suc n) v
+    by_first : (b : Bool) → p x ≡ b → (j : ℕ) → ((i w : ℕ) → slice_get rest i ≡ Some w → IsKept p xs w) → slice_get (cond b (x ∷ rest) rest) j ≡ Some v → IsKept p (x ∷ xs) v
     by_first false is j later h = behind (later j v h)
-    by_first true is zero later h =
-        let same : a ≡ v = same_Some a v h in record { passes = ap p (sym same) ∙ is; low = omega (arith, same); high = omega (arith, same) }
+    by_first true is zero later h = let same : x ≡ v = same_Some x v h in record { passes = ap p (sym same) ∙ is; place = 0; there = h }
     by_first true is (suc j) later h = behind (later j v h)
 
--- ---- one hit in a range
+-- ---- one hit in a filtered range
 
-none_hit : {X : Type 0} (f : ℕ → Option X) (a n : ℕ) → ((u : ℕ) → a ≤ u → f u ≡ None) → filter_map f (range_with_len a n) ≡ []
-none_hit f a zero none = refl
-none_hit f a (suc n) none =
-    ap (λ o. cons_option o (filter_map f (range_with_len (a + 1) n))) (none a (omega arith)) ∙ none_hit f (a + 1) n (λ u low. none u (omega (arith, low)))
+skip_first : {X : Type 0} (f : ℕ → Option X) (a : ℕ) (rest : List ℕ) (b : Bool) → f a ≡ None → filter_map f (cond b (a ∷ rest) rest) ≡ filter_map f rest
+skip_first f a rest false none = refl
+skip_first f a rest true none = ap (λ o. cons_option o (filter_map f rest)) none
 
-one_hit : {X : Type 0} (f : ℕ → Option X) (a n v : ℕ) (x : X) → a ≤ v → v < a + n → f v ≡ Some x → ((u : ℕ) → u ≢ v → f u ≡ None) → filter_map f (range_with_len a n) ≡ x ∷ []
-one_hit f a zero v x low high hit none = absurd (omega (arith, low, high))
-one_hit f a (suc n) v x low high hit none =
+none_hit : {X : Type 0} (f : ℕ → Option X) (p : ℕ → Bool) (a n : ℕ) → ((u : ℕ) → a ≤ u → f u ≡ None) → filter_map f (filter p (range_with_len a n)) ≡ []
+none_hit f p a zero none = refl
+none_hit f p a (suc n) none =
+    skip_first f a (filter p (range_with_len (a + 1) n)) (p a) (none a (omega arith)) ∙ none_hit f p (a + 1) n (λ u low. none u (omega (arith, low)))
+
+one_hit : {X : Type 0} (f : ℕ → Option X) (p : ℕ → Bool) (a n v : ℕ) (x : X) → a ≤ v → v < a + n → p v ≡ true → f v ≡ Some x → ((u : ℕ) → u ≢ v → f u ≡ None) → filter_map f (filter p (range_with_len a n)) ≡ x ∷ []
+one_hit f p a zero v x low high has hit none = absurd (omega (arith, low, high))
+one_hit f p a (suc n) v x low high has hit none =
     ⊎_elim
-    (λ (same : a ≡ v). ap (λ o. cons_option o (filter_map f (range_with_len (a + 1) n))) (ap f same ∙ hit) ∙ ap (λ xs. x ∷ xs) (none_hit f (a + 1) n (λ u above. none u (λ e. omega (arith, above, same, e)))))
-    (λ (apart : a ≢ v). ap (λ o. cons_option o (filter_map f (range_with_len (a + 1) n))) (none a apart) ∙ one_hit f (a + 1) n v x (omega arith) (omega arith) hit none)
+    (λ (same : a ≡ v).
+    ap (λ b. filter_map f (cond b (a ∷ filter p (range_with_len (a + 1) n)) (filter p (range_with_len (a + 1) n)))) (ap p same ∙ has)
+    ∙ ap (λ o. cons_option o (filter_map f (filter p (range_with_len (a + 1) n)))) (ap f same ∙ hit)
+    ∙ ap (λ xs. x ∷ xs) (none_hit f p (a + 1) n (λ u above. none u (λ e. omega (arith, above, same, e)))))
+    (λ (apart : a ≢ v). skip_first f a (filter p (range_with_len (a + 1) n)) (p a) (none a apart) ∙ one_hit f p (a + 1) n v x (omega arith) (omega arith) has hit none)
     (cases_eq a v)
 
 -- ---- the step
@@ -71,10 +78,7 @@ pub record AnswersAlone (t : RuleTable) (s : State) (v spent : ℕ) : Type 0 whe
   pub own : move.node ≡ v
   pub answer : reply_of t s spent (lone_step v) ≡ Moves (move ∷ [])
 
-module _ (t : RuleTable) (s : State) (v : ℕ) (act : Act) (low : 1 ≤ v) (high : v ≤ s.network.size) (rule : rule_at t s v ≡ Some act) where
-  has : present s.network v ≡ true
-  has = ap (λ b. b && nat_le v s.network.size) (le-leb 1 v low) ∙ le-leb v s.network.size high
-
+module _ (t : RuleTable) (s : State) (v : ℕ) (act : Act) (has : present s.network v ≡ true) (rule : rule_at t s v ≡ Some act) where
   abbrev item : Item
   item = record { node = v; wish = None }
 
@@ -94,7 +98,8 @@ module _ (t : RuleTable) (s : State) (v : ℕ) (act : Act) (low : 1 ≤ v) (high
 
   moves_are : least_moves t s (lone_items v) ≡ move_by t s v act ∷ []
   moves_are =
-      one_hit (λ u. found (nat_eq v u)) 1 s.network.size v (move_by t s v act) low (omega (arith, high))
+      let bounds = present_range s.network v has in
+      one_hit (λ u. found (nat_eq v u)) (present s.network) 1 s.network.size v (move_by t s v act) bounds.0 (omega (arith, bounds.1)) has
       (ap found (eq-eqb v v refl) ∙ at_own)
       (λ u apart. ap found (ne_eqb v u (λ e. apart (sym e))))
 
@@ -105,11 +110,11 @@ module _ (t : RuleTable) (s : State) (v : ℕ) (act : Act) (low : 1 ≤ v) (high
     answer = ap (reply_by t s spent (lone_step v)) free ∙ ap Moves moves_are;
   }
 
-by_rule : (t : RuleTable) (s : State) (v spent : ℕ) (rule : Option Act) → 1 ≤ v → v ≤ s.network.size → rule_at t s v ≡ rule → is_some rule ≡ true → AnswersAlone t s v spent
-by_rule t s v spent None low high is some = absurd (true≢false (sym some))
-by_rule t s v spent (Some act) low high is some = answers t s v act low high is spent
+by_rule : (t : RuleTable) (s : State) (v spent : ℕ) (rule : Option Act) → present s.network v ≡ true → rule_at t s v ≡ rule → is_some rule ≡ true → AnswersAlone t s v spent
+by_rule t s v spent None has is some = absurd (true≢false (sym some))
+by_rule t s v spent (Some act) has is some = answers t s v act has is spent
 
 pub mover_answers : (t : RuleTable) (s : State) (turn v spent : ℕ) → mover t s turn ≡ Some v → AnswersAlone t s v spent
 mover_answers t s turn v spent moves =
-    let kept = kept_at (λ u. is_some (rule_at t s u)) 1 s.network.size (turn % length (enabled_names t s)) v moves in
-    by_rule t s v spent (rule_at t s v) kept.low (omega (arith, kept.high)) refl kept.passes
+    let kept = kept_at (λ u. is_some (rule_at t s u)) (names s.network) (turn % length (enabled_names t s)) v moves in
+    by_rule t s v spent (rule_at t s v) (kept_at (present s.network) (range_with_len 1 s.network.size) kept.place v kept.there).passes refl kept.passes

@@ -1,19 +1,20 @@
 -- What a look at a board says of the log that the board shows.
-use Rattle.std.proofs.Common.{◌≡◌, ℕ, ◌<◌, ◌≤◌, Bool, true, false, List, [], ◌∷◌, ◌++◌, length, fold, Option, None, Some, IfSome, if◌then◌else◌, nat_lt, refl, sym, ap, ◌∙◌, subst, arith, length-append}
+use Rattle.std.proofs.Common.{◌≡◌, ℕ, ◌+◌, ◌<◌, ◌≤◌, ◌⊎◌, ⊎_elim, inl, inr, Bool, true, false, ◌&&◌, IsTrue, nat_le, slice_index_or, le-leb, List, [], ◌∷◌, ◌++◌, length, fold, Option, None, Some, IfSome, if◌then◌else◌, nat_lt, refl, sym, ap, ◌∙◌, subst, arith, length-append}
 use Rattle.std.specs.List.{slice_get}
 use Rattle.std.specs.Prelude.{replicate}
-use Rattle.std.proofs.lemmas.Bool.{ltb-true, ltb-false}
+use Rattle.std.proofs.lemmas.Bool.{ltb-true, ltb-false, leb-true}
 use Rattle.std.proofs.lemmas.List.{length-replicate, get_or_append_left}
 use Rattle.std.proofs.lemmas.Option.{same_Some, none-some, slice_get-get_or, slice_get_within, get_or_from_slice_get}
 use mathlib.Core.List.{IsPrefix}
+use Rattle.rule_machine.specs.Network.{Network, present}
 use Rattle.rule_machine.specs.State.{State, pointer}
 use Rattle.rule_machine.specs.RuleTable.{RuleTable}
-use Rattle.rule_machine.specs.Run.{Entry, beginning}
-use Rattle.board.specs.Row.{Row, pointer_in, partner_in, effect, pointers_after}
+use Rattle.rule_machine.specs.Run.{Entry, Moment, beginning_with}
+use Rattle.board.specs.Row.{Row, Extent, pointer_in, partner_in, effect, pointers_after, here_after}
 use Rattle.board.specs.Runs.{IsRun}
-use Rattle.board.specs.Sight.{found_in}
+use Rattle.board.specs.Sight.{held_in, found_in}
 use Rattle.board.specs.Views.{Name, Told}
-use Rattle.board.proofs.Machine.{run_pointers}
+use Rattle.board.proofs.Machine.{run_pointers, run_here, run_size}
 use Rattle.board.proofs.Rows.{effect_length}
 use Rattle.step_log.specs.declared.receipt.Receipt.{Receipt}
 use Rattle.locked_net.specs.Receipts.{ClerkView, IsClerk, IsEntry, NotesLast, StandsLastFrom, StandsLast}
@@ -28,62 +29,125 @@ row_length row (entry ∷ log) = row_length (effect row entry) log ∙ effect_le
 places_are : (places : ℕ) (log : List Entry) → length (pointers_after places log) ≡ places
 places_are places log = row_length (replicate places None) log ∙ length-replicate places None
 
--- what is found at a place that there is
-pub record IsFound (row : Row) (place : ℕ) (found : Option ℕ × Option ℕ) : Type 0 where
-  pub present : place < length row
+-- what is found at a place
+pub record IsFound (row : Row) (here : List Bool) (place : ℕ) (found : Option ℕ × Option ℕ) : Type 0 where
+  pub there : slice_index_or here place false ≡ true
+  pub within : place < length row
   pub pointer_is : found.0 ≡ pointer_in row place
   pub partner_is : found.1 ≡ partner_in row place
 
-found_where : (row : Row) (place : ℕ) (found : Option ℕ × Option ℕ) (b : Bool) → nat_lt place (length row) ≡ b → (if b then Some (pointer_in row place, partner_in row place) else None) ≡ Some found → IsFound row place found
-found_where row place found false is e = absurd (none-some found e)
-found_where row place found true is e =
+held_where : (row : Row) (here : List Bool) (place : ℕ) (found : Option ℕ × Option ℕ) (b : Bool) → slice_index_or here place false ≡ true → nat_lt place (length row) ≡ b
+    → (if b then Some (pointer_in row place, partner_in row place) else None) ≡ Some found → IsFound row here place found
+held_where row here place found false there is e = absurd (none-some found e)
+held_where row here place found true there is e =
     let same : (pointer_in row place, partner_in row place) ≡ found = same_Some (pointer_in row place, partner_in row place) found e in
-    record { present = ltb-true place (length row) is; pointer_is = sym (ap (λ x. x.0) same); partner_is = sym (ap (λ x. x.1) same) }
+    record { there = there; within = ltb-true place (length row) is; pointer_is = sym (ap (λ x. x.0) same); partner_is = sym (ap (λ x. x.1) same) }
 
-missing_where : (row : Row) (place : ℕ) (b : Bool) → nat_lt place (length row) ≡ b → (here : Option ℕ × Option ℕ) → (if b then Some here else None) ≡ None → length row ≤ place
-missing_where row place false is here e = ltb-false place (length row) is
-missing_where row place true is here e = absurd (none-some here (sym e))
+found_where : (row : Row) (here : List Bool) (place : ℕ) (found : Option ℕ × Option ℕ) (b : Bool) → slice_index_or here place false ≡ b → (if b then held_in row place else None) ≡ Some found → IsFound row here place found
+found_where row here place found false is e = absurd (none-some found e)
+found_where row here place found true is e = held_where row here place found (nat_lt place (length row)) is refl e
+
+not_held : (row : Row) (place : ℕ) (b : Bool) → nat_lt place (length row) ≡ b → (held : Option ℕ × Option ℕ) → (if b then Some held else None) ≡ None → length row ≤ place
+not_held row place false is held e = ltb-false place (length row) is
+not_held row place true is held e = absurd (none-some held (sym e))
+
+missing_where : (row : Row) (here : List Bool) (place : ℕ) (b : Bool) → slice_index_or here place false ≡ b → (if b then held_in row place else None) ≡ None → (slice_index_or here place false ≡ false) ⊎ (length row ≤ place)
+missing_where row here place false is e = inl is
+missing_where row here place true is e = inr (not_held row place (nat_lt place (length row)) refl (pointer_in row place, partner_in row place) e)
+
+-- ---- who is present
+
+is_present : (net : Network) (v : ℕ) → 1 ≤ v → v ≤ net.size → slice_index_or net.here v false ≡ true → present net v ≡ true
+is_present net v low high there =
+    ap (λ b. b && (nat_le v net.size && slice_index_or net.here v false)) (le-leb 1 v low) ∙ ap (λ b. b && slice_index_or net.here v false) (le-leb v net.size high) ∙ there
+
+neither : (a b : Bool) → (a && (b && false)) ≡ false
+neither true true = refl
+neither true false = refl
+neither false b = refl
+
+not_there : (net : Network) (v : ℕ) → slice_index_or net.here v false ≡ false → present net v ≡ false
+not_there net v is = ap (λ b. nat_le 1 v && (nat_le v net.size && b)) is ∙ neither (nat_le 1 v) (nat_le v net.size)
+
+too_great : (low high here : Bool) → high ≡ false → (low && (high && here)) ≡ false
+too_great true high here is = ap (λ b. b && here) is
+too_great false high here is = refl
+
+no_name : (v size : ℕ) (b : Bool) → nat_le v size ≡ b → size < v → nat_le v size ≡ false
+no_name v size true is far = absurd (omega (arith, leb-true v size is, far))
+no_name v size false is far = is
+
+not_named : (net : Network) (v : ℕ) → net.size < v → present net v ≡ false
+not_named net v far = too_great (nat_le 1 v) (nat_le v net.size) (slice_index_or net.here v false) (no_name v net.size (nat_le v net.size) refl far)
 
 -- ---- the run
 
--- the log is a run, at whose end the pointers are those that the log makes
-pub shows : (t : RuleTable) (places : ℕ) (log : List Entry) (P : State → Type 0) → IsRun t places log → ((s : State) → s.registers.pointers ≡ pointers_after places log → P s) → Shows t places log P
-shows t places log P (nodes, end, is, run) f =
-    (nodes, end, is, run, f end.state (run_pointers t (beginning nodes) log end run ∙ ap (λ n. pointers_after n log) (sym is)))
+-- a state with the pointers and the nodes that the log makes
+pub record IsEnd (extent : Extent) (log : List Entry) (s : State) : Type 0 where
+  pub pointers : s.registers.pointers ≡ pointers_after extent.places log
+  pub here : s.network.here ≡ here_after extent log
+  pub size : s.network.size + 1 ≡ extent.places
+
+-- the log is a run, whose end has them
+pub shows : (t : RuleTable) (extent : Extent) (log : List Entry) (P : State → Type 0) → IsRun t extent log → ((s : State) → IsEnd extent log s → P s) → Shows t extent log P
+shows t extent log P (size, end, is, run) f =
+    let begun : Moment = beginning_with size extent.first in
+    let at : ℕ → Extent = λ n. record { places = n; first = extent.first } in
+    let ends : IsEnd extent log end.state = record {
+      pointers = run_pointers t begun log end run ∙ ap (λ n. pointers_after n log) (sym is);
+      here = run_here t begun log end run ∙ ap (λ n. here_after (at n) log) (sym is);
+      size = ap (λ n. n + 1) (run_size t begun log end run) ∙ sym is;
+    } in
+    (size, end, is, run, f end.state ends)
 
 -- a look at a place of a log that is a run found this
-pub record IsLooked (t : RuleTable) (places place : ℕ) (log : List Entry) (found : Option (Option ℕ × Option ℕ)) : Type 0 where
-  pub run : IsRun t places log
-  pub is : found ≡ found_in (pointers_after places log) place
+pub record IsLooked (t : RuleTable) (extent : Extent) (place : ℕ) (log : List Entry) (found : Option (Option ℕ × Option ℕ)) : Type 0 where
+  pub run : IsRun t extent log
+  pub is : found ≡ found_in (pointers_after extent.places log) (here_after extent log) place
 
-pub looked : (t : RuleTable) (seen own : Name) (at place : ℕ) (log : List Entry) (found : Option (Option ℕ × Option ℕ)) → seen ≡ own → at ≡ place → IsRun t seen.places log → found ≡ found_in (pointers_after seen.places log) at
-    → IsLooked t own.places place log found
+pub looked : (t : RuleTable) (seen own : Name) (at place : ℕ) (log : List Entry) (found : Option (Option ℕ × Option ℕ)) → seen ≡ own → at ≡ place → IsRun t seen.extent log
+    → found ≡ found_in (pointers_after seen.extent.places log) (here_after seen.extent log) at → IsLooked t own.extent place log found
 looked t seen own at place log found named placed run is = record {
-  run = subst (λ (n : Name). IsRun t n.places log) named run;
-  is = subst (λ v. found ≡ found_in (pointers_after own.places log) v) placed (subst (λ (n : Name). found ≡ found_in (pointers_after n.places log) at) named is);
+  run = subst (λ (n : Name). IsRun t n.extent log) named run;
+  is = subst (λ v. found ≡ found_in (pointers_after own.extent.places log) (here_after own.extent log) v) placed
+      (subst (λ (n : Name). found ≡ found_in (pointers_after n.extent.places log) (here_after n.extent log) at) named is);
 }
 
--- nothing is found only beyond the last place
-pub beyond : (t : RuleTable) (places place : ℕ) (log : List Entry) (found : Option (Option ℕ × Option ℕ)) → IsLooked t places place log found → ((here : Option ℕ × Option ℕ) → found ≡ Some here → ⊥) → places ≤ place
-beyond t places place log None look none =
-    let row : Row = pointers_after places log in
-    subst (λ n. n ≤ place) (places_are places log) (missing_where row place (nat_lt place (length row)) refl (pointer_in row place, partner_in row place) (sym look.is))
-beyond t places place log (Some here) look none = absurd (none here refl)
+-- nothing is found only where no node has the name
+pub absent : (t : RuleTable) (extent : Extent) (place : ℕ) (log : List Entry) (found : Option (Option ℕ × Option ℕ)) → IsLooked t extent place log found → ((here : Option ℕ × Option ℕ) → found ≡ Some here → ⊥)
+    → Shows t extent log (λ s. present s.network place ≡ false)
+absent t extent place log (Some here) look none = absurd (none here refl)
+absent t extent place log None look none =
+    let row : Row = pointers_after extent.places log in
+    let here : List Bool = here_after extent log in
+    shows t extent log (λ s. present s.network place ≡ false) look.run
+    (λ s end.
+    ⊎_elim
+    (λ (gone : slice_index_or here place false ≡ false). not_there s.network place (ap (λ l. slice_index_or l place false) end.here ∙ gone))
+    (λ (far : length row ≤ place).
+    let beyond : s.network.size < place = omega (arith, far, places_are extent.places log, end.size) in
+    not_named s.network place beyond)
+    (missing_where row here place (slice_index_or here place false) refl (sym look.is)))
 
 -- what is found at a place is what the run's end has there
-pub record IsShown (t : RuleTable) (places place : ℕ) (log : List Entry) (found : Option ℕ × Option ℕ) : Type 0 where
-  pub present : place < places
-  pub pointer_is : Shows t places log (λ s. found.0 ≡ pointer s place)
-  pub partner_is : Shows t places log (λ s. found.1 ≡ partner_in s.registers.pointers place)
+pub record IsShown (t : RuleTable) (extent : Extent) (place : ℕ) (log : List Entry) (found : Option ℕ × Option ℕ) : Type 0 where
+  pub present_is : Shows t extent log (λ s. IsTrue (present s.network place))
+  pub pointer_is : Shows t extent log (λ s. found.0 ≡ pointer s place)
+  pub partner_is : Shows t extent log (λ s. found.1 ≡ partner_in s.registers.pointers place)
 
-pub is_shown : (t : RuleTable) (places place : ℕ) (log : List Entry) (found : Option (Option ℕ × Option ℕ)) (here : Option ℕ × Option ℕ) → IsLooked t places place log found → found ≡ Some here → IsShown t places place log here
-is_shown t places place log found here look some =
-    let row : Row = pointers_after places log in
-    let at : IsFound row place here = found_where row place here (nat_lt place (length row)) refl (sym look.is ∙ some) in
+pub is_shown : (t : RuleTable) (extent : Extent) (place : ℕ) (log : List Entry) (found : Option (Option ℕ × Option ℕ)) (held : Option ℕ × Option ℕ) → 1 ≤ place → IsLooked t extent place log found → found ≡ Some held
+    → IsShown t extent place log held
+is_shown t extent place log found held low look some =
+    let row : Row = pointers_after extent.places log in
+    let here : List Bool = here_after extent log in
+    let at : IsFound row here place held = found_where row here place held (slice_index_or here place false) refl (sym look.is ∙ some) in
     record {
-      present = subst (λ n. place < n) (places_are places log) at.present;
-      pointer_is = shows t places log (λ s. here.0 ≡ pointer s place) look.run (λ s same. at.pointer_is ∙ ap (λ (r : Row). pointer_in r place) (sym same));
-      partner_is = shows t places log (λ s. here.1 ≡ partner_in s.registers.pointers place) look.run (λ s same. at.partner_is ∙ ap (λ (r : Row). partner_in r place) (sym same));
+      present_is = shows t extent log (λ s. IsTrue (present s.network place)) look.run
+          (λ s end.
+          let high : place ≤ s.network.size = omega (arith, at.within, places_are extent.places log, end.size) in
+          is_present s.network place low high (ap (λ l. slice_index_or l place false) end.here ∙ at.there));
+      pointer_is = shows t extent log (λ s. held.0 ≡ pointer s place) look.run (λ s end. at.pointer_is ∙ ap (λ (r : Row). pointer_in r place) (sym end.pointers));
+      partner_is = shows t extent log (λ s. held.1 ≡ partner_in s.registers.pointers place) look.run (λ s end. at.partner_is ∙ ap (λ (r : Row). partner_in r place) (sym end.pointers));
     }
 
 -- ---- a longer log

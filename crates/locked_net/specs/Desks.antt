@@ -1,6 +1,5 @@
 -- What lies behind a network's lock, as contracts see it: a log, and what is published of it.
 use Rattle.std.specs.Prelude.{◌≡◌, ◌+◌, []}
-use Rattle.rule_machine.specs.Network.{node_count}
 use Rattle.board.specs.Views.{Name, Standing}
 use Rattle.step_log.specs.Log.{Log}
 
@@ -9,8 +8,8 @@ pub record DeskView : Type 0 where
   pub log : Log
   pub name : Name
 
--- The board has published just the log, and has a place for each node, and place 0, which is nobody's.
+-- The board has published just the log, and has a place for each name, and place 0, which is nobody's; it began with the log's nodes.
 pub record IsDesk (log : Log) (board : Standing) : Type 0 where
   pub list : board.list ≡ log.entries
   pub posted : board.posted ≡ []
-  pub places : board.name.places ≡ node_count log.state.network + 1
+  pub extent : board.name.extent ≡ record { places = log.state.network.size + 1; first = log.first }

@@ -1,6 +1,5 @@
 -- What a clause says of a locked network.
 use Rattle.std.specs.Prelude.{◌≡◌, ℕ}
-use Rattle.rule_machine.specs.Network.{node_count}
 use Rattle.rule_machine.specs.RuleTable.{RuleTable}
 use Rattle.logbook.specs.Pages.{Book}
 use Rattle.board.specs.Views.{Name, Reading}
@@ -16,28 +15,32 @@ module _ {R : Type 0} where
   abbrev pub net_key_of : LockedNet R → NetKey
   net_key_of net = key_of net.lock
 
-  -- how many nodes it has
+  -- how many names it has
   abbrev pub nodes_of : LockedNet R → ℕ
   nodes_of net = (net_key_of net).nodes
+
+  -- how many nodes it had at the start: those with the names from 1 on
+  abbrev pub first_of : LockedNet R → ℕ
+  first_of net = (net_key_of net).first
 
   -- how many entries its log may hold
   abbrev pub limit_of : LockedNet R → ℕ
   limit_of net = (net_key_of net).limit
 
-  -- both, with the rules that it is under
+  -- all three, with the rules that it is under
   abbrev pub setting_of : RuleTable → LockedNet R → Setting
-  setting_of t net = record { table = t; nodes = nodes_of net; limit = limit_of net }
+  setting_of t net = record { table = t; nodes = nodes_of net; first = first_of net; limit = limit_of net }
 
   -- which history its readers see
   abbrev pub book_of : LockedNet R → Book
   book_of net = (net_key_of net).opening.book
 
-  -- that, and how many places its copies have: one for each node, and place 0, which is nobody's
+  -- that, how many places its copies have (one for each name, and place 0, which is nobody's), and how many nodes there were at the start
   abbrev pub name_of : LockedNet R → Name
   name_of net = name_from (net_key_of net)
 
   -- The reader has seen, and learnt, just the log that lay behind the net's lock at one moment: a run of the rules from the opening state of
-  -- its nodes, within its limit.
+  -- its names and nodes, within its limit.
   abbrev pub HasSeenLog : RuleTable → LockedNet R → Reading → Type 0
   HasSeenLog t net reader =
-      (log : Log) × IsLog t log × (node_count log.state.network ≡ nodes_of net) × (log.limit ≡ limit_of net) × (reader.list ≡ log.entries) × (reader.learnt ≡ log.entries)
+      (log : Log) × IsLog t log × (log.state.network.size ≡ nodes_of net) × (log.first ≡ first_of net) × (log.limit ≡ limit_of net) × (reader.list ≡ log.entries) × (reader.learnt ≡ log.entries)

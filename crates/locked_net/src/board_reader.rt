@@ -1,13 +1,14 @@
 //! Who looks at a network and waits for nobody.
 
-ghost use Rattle.std.specs.Prelude.{◌≡◌, ◌<◌, ◌≤◌, ℕ, length, IfOk, IfErr, IfSome, OnOk, OnErr, IsErrOf};
+ghost use Rattle.std.specs.Prelude.{◌≡◌, false, length, IsTrue, IfOk, IfErr, IfSome, OnOk, OnErr, IsErrOf};
 ghost use mathlib.Core.List.{IsPrefix};
+ghost use Rattle.rule_machine.specs.Network.{present};
 ghost use Rattle.rule_machine.specs.State.{pointer};
 ghost use Rattle.board.specs.OneLog.{IsOneLog, AreOneLog, AreComparable};
 ghost use Rattle.board.specs.Row.{partner_in};
 ghost use Rattle.locked_net.specs.Receipts.{StandsLast};
-ghost use Rattle.locked_net.specs.Seen.{Shows, OnView};
-ghost use Rattle.locked_net.specs.declared.read_fault.ReadFault.TheVariants.{UnknownNode, NoView as NoLook};
+ghost use Rattle.locked_net.specs.Seen.{Shows, OnView, IfUnknown};
+ghost use Rattle.locked_net.specs.declared.read_fault.ReadFault.TheVariants.{NoView as NoLook};
 
 use crate::{Clerk, NoView, ReadFault};
 use board::{Look, Reader, Runs};
@@ -63,36 +64,38 @@ impl<R: Rules> BoardReader<R> {
         ensures view { IsPrefix self.old.list self.new.list }
         ensures kept { (self.new.learnt ≡ self.old.learnt) × (self.new.name ≡ self.old.name) }
         ensures learnt { OnView result (IsPrefix self.old.learnt self.new.list) }
-        ensures run { OnView result (Shows R.table self.old.name.places self.new.list (λ _. Unit {0})) }
-        ensures present { OnOk result (v < self.old.name.places) }
+        ensures run { OnView result (Shows R.table self.old.name.extent self.new.list (λ _. Unit {0})) }
+        ensures present { OnOk result (Shows R.table self.old.name.extent self.new.list (λ s. IsTrue (present s.network v))) }
         ensures front { IfOk result (λ seen. seen.0 ≡ length self.new.list) }
-        ensures pointer { IfOk result (λ seen. Shows R.table self.old.name.places self.new.list (λ s. seen.1.0 ≡ pointer s v)) }
-        ensures partner { IfOk result (λ seen. Shows R.table self.old.name.places self.new.list (λ s. seen.1.1 ≡ partner_in s.registers.pointers v)) }
-        ensures unknown { IsErrOf result UnknownNode → self.old.name.places ≤ v }
+        ensures pointer { IfOk result (λ seen. Shows R.table self.old.name.extent self.new.list (λ s. seen.1.0 ≡ pointer s v)) }
+        ensures partner { IfOk result (λ seen. Shows R.table self.old.name.extent self.new.list (λ s. seen.1.1 ≡ partner_in s.registers.pointers v)) }
+        ensures unknown { IfUnknown result (λ front. Shows R.table self.old.name.extent self.new.list (λ s. present s.network v ≡ false)) }
+        ensures unknown_front { IfUnknown result (λ front. front ≡ length self.new.list) }
         ensures no_view { IsErrOf result NoLook → self.new.list ≡ self.old.list }
     {
         let Some(Look { front, found }) = self.reader.look(v.place()) else {
             return Err(ReadFault::NoView);
         };
         let Some(seen) = found else {
-            return Err(ReadFault::UnknownNode);
+            return Err(ReadFault::UnknownNode { front });
         };
         Ok((front, seen))
     }
 
     /// Where a node points, after the first `front` entries of the log: a view that has all that this reader has seen and all that
-    /// it has learnt, and is a run of the rules. `UnknownNode`, of such a view too, exactly where the network has no such node, unless
-    /// `NoView` comes: where the network has ended, or what is published lacks a part of what was learnt, which never comes; the view
+    /// it has learnt, and is a run of the rules. `UnknownNode`, of such a view too, with its number of entries, exactly where no node has the name
+    /// then, unless `NoView` comes: where the network has ended, or what is published lacks a part of what was learnt, which never comes; the view
     /// stays then. A few steps.
     pub fn pointer(&mut self, v: Node) -> Result<SeenPointer, ReadFault>
         ensures view { IsPrefix self.old.list self.new.list }
         ensures kept { (self.new.learnt ≡ self.old.learnt) × (self.new.name ≡ self.old.name) }
         ensures learnt { OnView result (IsPrefix self.old.learnt self.new.list) }
-        ensures run { OnView result (Shows R.table self.old.name.places self.new.list (λ _. Unit {0})) }
-        ensures present { OnOk result (v < self.old.name.places) }
+        ensures run { OnView result (Shows R.table self.old.name.extent self.new.list (λ _. Unit {0})) }
+        ensures present { OnOk result (Shows R.table self.old.name.extent self.new.list (λ s. IsTrue (present s.network v))) }
         ensures front { IfOk result (λ seen. seen.front ≡ length self.new.list) }
-        ensures found { IfOk result (λ seen. Shows R.table self.old.name.places self.new.list (λ s. seen.pointer ≡ pointer s v)) }
-        ensures unknown { IsErrOf result UnknownNode → self.old.name.places ≤ v }
+        ensures found { IfOk result (λ seen. Shows R.table self.old.name.extent self.new.list (λ s. seen.pointer ≡ pointer s v)) }
+        ensures unknown { IfUnknown result (λ front. Shows R.table self.old.name.extent self.new.list (λ s. present s.network v ≡ false)) }
+        ensures unknown_front { IfUnknown result (λ front. front ≡ length self.new.list) }
         ensures no_view { IsErrOf result NoLook → self.new.list ≡ self.old.list }
     {
         let (front, (pointer, _)) = self.look(v)?;
@@ -105,11 +108,12 @@ impl<R: Rules> BoardReader<R> {
         ensures view { IsPrefix self.old.list self.new.list }
         ensures kept { (self.new.learnt ≡ self.old.learnt) × (self.new.name ≡ self.old.name) }
         ensures learnt { OnView result (IsPrefix self.old.learnt self.new.list) }
-        ensures run { OnView result (Shows R.table self.old.name.places self.new.list (λ _. Unit {0})) }
-        ensures present { OnOk result (v < self.old.name.places) }
+        ensures run { OnView result (Shows R.table self.old.name.extent self.new.list (λ _. Unit {0})) }
+        ensures present { OnOk result (Shows R.table self.old.name.extent self.new.list (λ s. IsTrue (present s.network v))) }
         ensures front { IfOk result (λ seen. seen.front ≡ length self.new.list) }
-        ensures found { IfOk result (λ seen. Shows R.table self.old.name.places self.new.list (λ s. seen.partner ≡ partner_in s.registers.pointers v)) }
-        ensures unknown { IsErrOf result UnknownNode → self.old.name.places ≤ v }
+        ensures found { IfOk result (λ seen. Shows R.table self.old.name.extent self.new.list (λ s. seen.partner ≡ partner_in s.registers.pointers v)) }
+        ensures unknown { IfUnknown result (λ front. Shows R.table self.old.name.extent self.new.list (λ s. present s.network v ≡ false)) }
+        ensures unknown_front { IfUnknown result (λ front. front ≡ length self.new.list) }
         ensures no_view { IsErrOf result NoLook → self.new.list ≡ self.old.list }
     {
         let (front, (_, partner)) = self.look(v)?;
@@ -122,7 +126,7 @@ impl<R: Rules> BoardReader<R> {
         ensures kept { (self.new.learnt ≡ self.old.learnt) × (self.new.name ≡ self.old.name) }
         ensures learnt { OnOk result (IsPrefix self.old.learnt self.new.list) }
         ensures front { IfOk result (λ front. front ≡ length self.new.list) }
-        ensures found { OnOk result (Shows R.table self.old.name.places self.new.list (λ _. Unit {0})) }
+        ensures found { OnOk result (Shows R.table self.old.name.extent self.new.list (λ _. Unit {0})) }
         ensures no_view { OnErr result (self.new.list ≡ self.old.list) }
     {
         let Some(front) = self.reader.front() else {

@@ -2,7 +2,6 @@
 
 ghost use Rattle.std.specs.Prelude.{◌≡◌, ◌+◌, ◌≤◌, ◌↔◌, length, min, IfOk, IfErr, OnOk, OnErr, IsErrOf, IsTrue};
 ghost use Rattle.graph_store.specs.Fault.{nodes_fault, Explains};
-ghost use Rattle.rule_machine.specs.Network.{node_count};
 ghost use Rattle.rule_machine.specs.declared.event.Event.TheVariants.{Step};
 ghost use Rattle.rule_engine.specs.Choosing.{verdicts_of};
 ghost use Rattle.step_log.specs.declared.fault.RecordFault.TheVariants.{LogFull};
@@ -53,21 +52,25 @@ pub(crate) struct Recorded {
 }
 
 impl<R: Rules> Desk<R> {
-    /// A new network of the nodes 1 to `nodes`, with a limit on its entries, none of which is there yet.
+    /// A new network of the names 1 to `nodes`, of which those up to `present` are nodes, with a limit on its entries, none of which is
+    /// there yet.
     pub(crate) fn new<W: Wait>(
         alloc: Global,
         rt: &W,
         nodes: u32,
+        present: u32,
         limit: u32,
     ) -> Result<Desk<R>, GraphFault>
-        ensures nodes { IfOk result (λ desk. node_count desk.log.state.network ≡ nodes) }
+        requires within { present ≤ nodes }
+        ensures nodes { IfOk result (λ desk. desk.log.state.network.size ≡ nodes) }
         ensures limit { IfOk result (λ desk. desk.log.limit ≡ min limit max_entries) }
-        ensures places { IfOk result (λ desk. desk.name.places ≡ nodes + 1) }
+        ensures first { IfOk result (λ desk. desk.log.first ≡ present) }
+        ensures extent { IfOk result (λ desk. desk.name.extent ≡ record { places = nodes + 1; first = present }) }
         ensures small { OnOk result (nodes ≤ 65535) }
         ensures fault { IfErr result (λ fault. Explains (nodes_fault nodes) fault) }
     {
-        let journal = Journal::with_limit(alloc, nodes, limit)?;
-        match Board::new(alloc, rt, nodes as usize + 1, READERS) {
+        let journal = Journal::with_present(alloc, nodes, present, limit)?;
+        match Board::new(alloc, rt, nodes as usize + 1, present, READERS) {
             Ok(board) => Ok(Desk { journal, board }),
             Err(_) => Err(GraphFault::Memory),
         }

@@ -5,11 +5,12 @@ use board::Note;
 use keyed_lock::Invariant;
 use rule_engine::Rules;
 
-/// How many nodes a network has, how many entries its log may hold, and a note of its board when that was made: the key of its
-/// lock.
+/// How many names a network has, how many nodes it had at the start, how many entries its log may hold, and a note of its board when
+/// that was made: the key of its lock.
 #[derive(Drop)]
 pub(crate) struct NetKey {
     pub(crate) nodes: u32,
+    pub(crate) first: u32,
     pub(crate) limit: u32,
     pub(crate) opening: Note,
 }

@@ -1,7 +1,6 @@
 //! A network that many callers share.
 
 ghost use Rattle.std.specs.Prelude.{◌≡◌, ◌≤◌, min, IfOk, IfErr, OnOk};
-ghost use Rattle.rule_machine.specs.Network.{node_count};
 ghost use Rattle.step_log.specs.Log.{IsLog, max_entries};
 ghost use Rattle.graph_store.specs.Fault.{nodes_fault, Explains};
 
@@ -16,7 +15,7 @@ use std::sync::Wait;
 use step_log::{Journal, MAX_ENTRIES};
 
 /// A network under the rules `R` with its log, behind one lock, for callers in any threads, and with a published
-/// copy of its pointers for readers that wait for nobody: whoever has the lock has the journal and the board, so whenever the lock
+/// copy of its pointers, and of who is present, for readers that wait for nobody: whoever has the lock has the journal and the board, so whenever the lock
 /// is free the log is a run of the rule machine, and just this log is published. It can't be dropped: `into_journal` ends it.
 pub struct LockedNet<R: Rules> {
     alloc: Global,
@@ -26,7 +25,7 @@ pub struct LockedNet<R: Rules> {
 impl<R: Rules> LockedNet<R> {
     ghost use Rattle.keyed_lock.specs.Locks.{IsHoldOf};
     ghost use Rattle.locked_net.specs.Keys.{IsOfKey};
-    ghost use Rattle.locked_net.specs.Nets.{net_key_of, nodes_of, limit_of, name_of, HasSeenLog};
+    ghost use Rattle.locked_net.specs.Nets.{net_key_of, nodes_of, first_of, limit_of, name_of, HasSeenLog};
     ghost use Rattle.locked_net.specs.Receipts.{fresh};
     ghost use Rattle.locked_net.specs.declared.read_fault.ReaderFault.TheVariants.{NoPlace};
     ghost use Rattle.step_log.specs.Held.{log_of};
@@ -35,6 +34,7 @@ impl<R: Rules> LockedNet<R> {
     /// and `Memory` if memory runs out.
     pub fn new<W: Wait>(alloc: Global, rt: &W, nodes: u32) -> Result<LockedNet<R>, GraphFault>
         ensures nodes { IfOk result (λ net. nodes_of net ≡ nodes) }
+        ensures first { IfOk result (λ net. first_of net ≡ nodes) }
         ensures limit { IfOk result (λ net. limit_of net ≡ max_entries) }
         ensures small { OnOk result (nodes ≤ 65535) }
         ensures fault { IfErr result (λ fault. Explains (nodes_fault nodes) fault) }
@@ -50,13 +50,33 @@ impl<R: Rules> LockedNet<R> {
         limit: u32,
     ) -> Result<LockedNet<R>, GraphFault>
         ensures nodes { IfOk result (λ net. nodes_of net ≡ nodes) }
+        ensures first { IfOk result (λ net. first_of net ≡ nodes) }
         ensures limit { IfOk result (λ net. limit_of net ≡ min limit max_entries) }
         ensures small { OnOk result (nodes ≤ 65535) }
         ensures fault { IfErr result (λ fault. Explains (nodes_fault nodes) fault) }
     {
-        let desk = Desk::new(alloc, rt, nodes, limit)?;
+        LockedNet::with_present(alloc, rt, nodes, nodes, limit)
+    }
+
+    /// The same with the nodes 1 to `present` alone; the names from there to `nodes` are absent.
+    pub fn with_present<W: Wait>(
+        alloc: Global,
+        rt: &W,
+        nodes: u32,
+        present: u32,
+        limit: u32,
+    ) -> Result<LockedNet<R>, GraphFault>
+        requires within { present ≤ nodes }
+        ensures nodes { IfOk result (λ net. nodes_of net ≡ nodes) }
+        ensures first { IfOk result (λ net. first_of net ≡ present) }
+        ensures limit { IfOk result (λ net. limit_of net ≡ min limit max_entries) }
+        ensures small { OnOk result (nodes ≤ 65535) }
+        ensures fault { IfErr result (λ fault. Explains (nodes_fault nodes) fault) }
+    {
+        let desk = Desk::new(alloc, rt, nodes, present, limit)?;
         let key = NetKey {
             nodes,
+            first: present,
             limit: limit.min(MAX_ENTRIES),
             opening: desk.note(),
         };
@@ -117,7 +137,8 @@ impl<R: Rules> LockedNet<R> {
     /// still under the lock, which a network that is owned never has.
     pub fn into_journal<W: Wait>(self, rt: &W) -> Journal<R>
         ensures run { IsLog R.table (log_of result) }
-        ensures nodes { node_count result.state.network ≡ nodes_of self }
+        ensures nodes { result.state.network.size ≡ nodes_of self }
+        ensures first { result.first ≡ first_of self }
         ensures limit { result.limit ≡ limit_of self }
     {
         let LockedNet { alloc: _, lock } = self;

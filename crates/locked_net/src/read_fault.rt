@@ -16,9 +16,12 @@ pub enum ReaderFault {
 /// Why a reader was not answered.
 #[derive(Clone, Copy, Debug, PartialEq, Eq, Error)]
 pub enum ReadFault {
-    /// No node of the network has this name.
+    /// No node of the network had this name in the view that was read.
     #[error("no node has this name")]
-    UnknownNode,
+    UnknownNode {
+        /// How many entries were published then.
+        front: u32,
+    },
     /// The board did not let the reader in: its network has ended.
     #[error("no view")]
     NoView,

@@ -3,7 +3,7 @@ use Rattle.std.specs.Prelude.{Bool, true, false, cond, ◌&&◌, List, is_some, 
 use Rattle.std.specs.List.{list_all}
 use Rattle.rule_machine.specs.declared.moved.Moved.{Moved}
 use Rattle.rule_machine.specs.declared.event.Event.{Event}
-use Rattle.rule_machine.specs.declared.event.Event.TheVariants.{Link, Unlink, Point, Flag, Step, Show, Enabled, Matching, Status}
+use Rattle.rule_machine.specs.declared.event.Event.TheVariants.{Link, Unlink, Point, Flag, Step, Show, Enabled, Matching, Status, Join, Leave}
 use Rattle.rule_machine.specs.declared.reply.Reply.{Reply}
 use Rattle.rule_machine.specs.declared.reply.Reply.TheVariants.{Accepted, Refused, Moves, Shown, EnabledAre, Pairs, Counts}
 pub use Rattle.rule_machine.specs.Step.{takes_target}
@@ -26,6 +26,10 @@ fits (Point v target) Accepted = true
 fits (Point v target) (Refused refusal) = true
 fits (Flag v value) Accepted = true
 fits (Flag v value) (Refused refusal) = true
+fits (Join v) Accepted = true
+fits (Join v) (Refused refusal) = true
+fits (Leave v) Accepted = true
+fits (Leave v) (Refused refusal) = true
 fits (Step items) (Moves moves) = are_moves moves
 fits (Step items) (Refused refusal) = true
 fits (Show v) (Shown target) = true

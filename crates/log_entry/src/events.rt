@@ -1,7 +1,7 @@
 //! Whether two events are one.
 
 ghost use Rattle.std.specs.Prelude.{◌≡◌, ◌↔◌, IsTrue};
-ghost use Rattle.rule_machine.specs.declared.event.Event.TheVariants.{Link, Unlink, Point, Flag, Step, Show, Enabled, Matching, Status};
+ghost use Rattle.rule_machine.specs.declared.event.Event.TheVariants.{Link, Unlink, Point, Flag, Step, Show, Enabled, Matching, Status, Join, Leave};
 
 use rule_machine::{Choice, Event, Item, Node};
 
@@ -15,6 +15,8 @@ pub fn same_event(a: &Event, b: &Event) -> bool
         Event::Unlink(v, w) => is_unlink(b, *v, *w),
         Event::Point(v, target) => is_point(b, *v, *target),
         Event::Flag(v, value) => is_flag(b, *v, *value),
+        Event::Join(v) => is_join(b, *v),
+        Event::Leave(v) => is_leave(b, *v),
         Event::Step(choice) => is_step(b, choice),
         Event::Show(v) => is_show(b, *v),
         Event::Enabled => is_enabled(b),
@@ -55,6 +57,24 @@ fn is_flag(event: &Event, v: Node, value: bool) -> bool
 {
     match event {
         Event::Flag(a, flag) => *a == v && *flag == value,
+        _ => false,
+    }
+}
+
+fn is_join(event: &Event, v: Node) -> bool
+    ensures { IsTrue result ↔ (event.now ≡ Join v) }
+{
+    match event {
+        Event::Join(a) => *a == v,
+        _ => false,
+    }
+}
+
+fn is_leave(event: &Event, v: Node) -> bool
+    ensures { IsTrue result ↔ (event.now ≡ Leave v) }
+{
+    match event {
+        Event::Leave(a) => *a == v,
         _ => false,
     }
 }

@@ -40,7 +40,12 @@ pub(crate) fn fits(event: &Event, reply: &Reply) -> bool
 {
     match (event, reply) {
         (
-            Event::Link(..) | Event::Unlink(..) | Event::Point(..) | Event::Flag(..),
+            Event::Link(..)
+            | Event::Unlink(..)
+            | Event::Point(..)
+            | Event::Flag(..)
+            | Event::Join(_)
+            | Event::Leave(_),
             Reply::Accepted,
         ) => { true }
         (Event::Enabled, Reply::EnabledAre(nodes)) => nodes.as_slice().len() <= MAX_ITEMS,

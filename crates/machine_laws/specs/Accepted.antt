@@ -1,5 +1,5 @@
 -- What an event that is not refused has, and that it leaves a state.
-use Rattle.std.proofs.Common.{◌≡◌, ℕ, zero, suc, ◌<◌, Bool, true, false, cond, not, ◌&&◌, List, [], ◌∷◌, ◌++◌, length, Option, None, Some, IsTrue, nat_eq, nat_lt, refl, sym, ap, ◌∙◌, subst, get_or, arith, eq-eqb}
+use Rattle.std.proofs.Common.{nat_le, leb-true, ◌≡◌, ℕ, zero, suc, ◌<◌, Bool, true, false, cond, not, ◌&&◌, List, [], ◌∷◌, ◌++◌, length, Option, None, Some, IsTrue, nat_eq, nat_lt, refl, sym, ap, ◌∙◌, subst, get_or, arith, eq-eqb}
 use Rattle.std.specs.List.{list_any}
 use Rattle.std.specs.Option.{option_or}
 use Rattle.std.proofs.lemmas.Bool.{cond-true, cond-false, true≢false, and_parts, or_parts}
@@ -11,7 +11,7 @@ use Rattle.rule_machine.specs.declared.moved.Moved.{Moved}
 use Rattle.rule_machine.specs.declared.verdict.Outcome.{Outcome}
 use Rattle.rule_machine.specs.declared.verdict.Outcome.TheVariants as outcome
 use Rattle.rule_machine.specs.declared.event.Event.{Event}
-use Rattle.rule_machine.specs.declared.event.Event.TheVariants.{Link, Unlink, Point, Flag, Step, Show, Enabled, Matching, Status}
+use Rattle.rule_machine.specs.declared.event.Event.TheVariants.{Link, Unlink, Point, Flag, Step, Show, Enabled, Matching, Status, Join, Leave}
 use Rattle.rule_machine.specs.declared.refusal.Refusal.{Refusal}
 use Rattle.rule_machine.specs.declared.refusal.Refusal.TheVariants.{UnknownNode, SelfLoop, NotNeighbour, NoFlag, EmptyChoice, NotCentral, ChosenTwice, NotEnabled, BadTarget}
 use Rattle.rule_machine.specs.Network.{present, linked}
@@ -19,7 +19,7 @@ use Rattle.rule_machine.specs.State.{State, IsState}
 use Rattle.rule_machine.specs.RuleTable.{RuleTable, rule_at}
 use Rattle.rule_machine.specs.Refuse.{both_present, wish_refusal, rule_refusal, item_refusal, items_refusal, step_refusal, refusal_of}
 use Rattle.rule_machine.specs.Least.{outcome_by, outcome_at, outcome_of, move_in, item_of, accepted_state, state_by, state_after}
-use Rattle.machine_laws.specs.Keeps.{link_keeps, unlink_keeps, point_keeps, flag_keeps}
+use Rattle.machine_laws.specs.Keeps.{link_keeps, unlink_keeps, point_keeps, flag_keeps, join_keeps, leave_keeps}
 use Rattle.machine_laws.specs.LeastMoves.{IsTable, step_keeps}
 
 -- ---- refusals
@@ -137,6 +137,10 @@ accepted_keeps t table s good (Point v (Some w)) e =
 accepted_keeps t table s good (Flag v value) e =
     let first = cond_none (not t.flags) NoFlag _ e in
     flag_keeps s v value good (none_cond (present s.network v) UnknownNode first.1)
+accepted_keeps t table s good (Join v) e =
+    let first = cond_none (not (nat_le 1 v && nat_le v s.network.size)) UnknownNode _ e in
+    join_keeps s v (leb-true 1 v (and_parts (nat_le 1 v) (nat_le v s.network.size) (true_from_not (nat_le 1 v && nat_le v s.network.size) first.0)).0) good
+accepted_keeps t table s good (Leave v) e = leave_keeps s v good
 accepted_keeps t table s good (Step items) e = step_keeps t table s good items
 accepted_keeps t table s good (Show v) e = good
 accepted_keeps t table s good Enabled e = good

@@ -1,13 +1,15 @@
 -- What a network has after an edge was added or removed.
-use Rattle.std.proofs.Common.{◌≡◌, ℕ, ◌<◌, ◌≤◌, min, max, Bool, true, false, cond, not, ◌&&◌, ◌||◌, Option, None, Some, is_some, IsTrue, refl, sym, ap, ◌∙◌, subst, ◌⊎◌, inl, inr, ⊎_elim, arith}
+use Rattle.std.proofs.Common.{[], ◌∷◌, List, ◌≡◌, ℕ, ◌+◌, ◌<◌, ◌≤◌, nat_le, nat_eq, leb-true, le-leb, get_or, min, max, Bool, true, false, cond, not, ◌&&◌, ◌||◌, Option, None, Some, is_some, IsTrue, refl, sym, ap, ap₂, ◌∙◌, subst, ◌⊎◌, inl, inr, ⊎_elim, arith, set}
 use Rattle.std.specs.Ordering.{nat_cmp, eq_by_cmp}
 use Rattle.std.specs.Cmp.{IsTotalOrder, nat_cmp_total}
 use Rattle.std.specs.FinMap as map
 use Rattle.std.proofs.lemmas.Cmp.{on_total, then_total}
 use Rattle.std.proofs.lemmas.Map.Lookups.{CmpEqualImpliesEq, exact_pairs, exact_unsigned}
 use Rattle.std.proofs.lemmas.Map.Views.{tells_apart}
-use Rattle.std.proofs.lemmas.Bool.{cases_Bool, or_cases, or_right, and_parts, and_from, true≢false, cases_lt}
-use Rattle.rule_machine.specs.Network.{Network, PairSet, IsNetwork, pair_cmp, edge, linked, present, edgeless, with_edge, without_edge}
+use Rattle.std.proofs.lemmas.List.FromFn.{length-map-range_with_len, get_or-map-range_with_len}
+use Rattle.std.proofs.lemmas.List.{get_or-set_same, get_or-set_other, length-set}
+use Rattle.std.proofs.lemmas.Bool.{cases_Bool, cases_eq, eqb-true, eq-eqb, or_left, or_cases, or_right, and_parts, and_from, true≢false, cases_lt}
+use Rattle.rule_machine.specs.Network.{Network, PairSet, IsNetwork, pair_cmp, edge, linked, present, is_end, edgeless_with, with_edge, without_edge, with_node, without_node}
 
 pub pair_total : IsTotalOrder pair_cmp
 pair_total = then_total (on_total (λ (p : ℕ × ℕ). p.0) nat_cmp_total) (on_total (λ (p : ℕ × ℕ). p.1) nat_cmp_total)
@@ -83,8 +85,10 @@ edge_ends a b c d e =
     (λ (dc : d ≤ c). ⊎_elim (λ (ab : a < b). inr (omega arith, omega arith)) (λ (ba : b ≤ a). inl (omega arith, omega arith)) (cases_lt a b))
     (cases_lt c d)
 
-pub edgeless_is_network : (size : ℕ) → IsNetwork (edgeless size)
-edgeless_is_network size = record {
+pub edgeless_is_network : (size count : ℕ) → IsNetwork (edgeless_with size count)
+edgeless_is_network size count = record {
+  here_len = length-map-range_with_len (λ v. nat_le 1 v && nat_le v count) 0 (size + 1);
+  nobody = get_or-map-range_with_len (λ v. nat_le 1 v && nat_le v count) 0 (size + 1) 0 0 false (omega arith) (omega arith);
   low_first = λ a b h. absurd (true≢false (sym h ∙ contains-empty (a, b)));
   low_present = λ a b h. absurd (true≢false (sym h ∙ contains-empty (a, b)));
   high_present = λ a b h. absurd (true≢false (sym h ∙ contains-empty (a, b)));
@@ -95,6 +99,8 @@ with_edge_is_network net a b good has_a has_b apart =
     let low : IsTrue (present net (min a b)) = ⊎_elim (λ (ab : a < b). subst (λ x. IsTrue (present net x)) (let e : a ≡ min a b = omega arith in e) has_a) (λ (ba : b ≤ a). subst (λ x. IsTrue (present net x)) (let e : b ≡ min a b = omega arith in e) has_b) (cases_lt a b) in
     let high : IsTrue (present net (max a b)) = ⊎_elim (λ (ab : a < b). subst (λ x. IsTrue (present net x)) (let e : b ≡ max a b = omega arith in e) has_b) (λ (ba : b ≤ a). subst (λ x. IsTrue (present net x)) (let e : a ≡ max a b = omega arith in e) has_a) (cases_lt a b) in
     record {
+      here_len = good.here_len;
+      nobody = good.nobody;
       low_first = λ x y h. ⊎_elim (λ same. let p : x ≡ min a b = ap (λ e. e.0) same in let q : y ≡ max a b = ap (λ e. e.1) same in omega (arith, apart)) (good.low_first x y) (inserted_cases net.edges (edge a b) (x, y) h);
       low_present = λ x y h. ⊎_elim (λ same. subst (λ v. IsTrue (present net v)) (sym (ap (λ e. e.0) same)) low) (good.low_present x y) (inserted_cases net.edges (edge a b) (x, y) h);
       high_present = λ x y h. ⊎_elim (λ same. subst (λ v. IsTrue (present net v)) (sym (ap (λ e. e.1) same)) high) (good.high_present x y) (inserted_cases net.edges (edge a b) (x, y) h);
@@ -102,7 +108,81 @@ with_edge_is_network net a b good has_a has_b apart =
 
 pub without_edge_is_network : (net : Network) (a b : ℕ) → IsNetwork net → IsNetwork (without_edge net a b)
 without_edge_is_network net a b good = record {
+  here_len = good.here_len;
+  nobody = good.nobody;
   low_first = λ x y h. good.low_first x y (removed_was net.edges (edge a b) (x, y) h);
   low_present = λ x y h. good.low_present x y (removed_was net.edges (edge a b) (x, y) h);
   high_present = λ x y h. good.high_present x y (removed_was net.edges (edge a b) (x, y) h);
 }
+
+-- the test of a name where the row has changed at another
+pub present_other : (net : Network) (v : ℕ) (b : Bool) (w : ℕ) → (w ≡ v → ⊥) → present (record net { here = set net.here v b }) w ≡ present net w
+present_other net v b w apart = ap (λ c. nat_le 1 w && (nat_le w net.size && c)) (get_or-set_other net.here v w b false apart)
+
+-- who was present is so where one more is
+pub still_present : (net : Network) (v w : ℕ) → IsNetwork net → IsTrue (present net w) → IsTrue (present (with_node net v) w)
+still_present net v w good has =
+    let parts = and_parts _ _ has in
+    let rest = and_parts _ _ parts.1 in
+    let high = leb-true w net.size rest.0 in
+    ⊎_elim
+    (λ same. and_from _ _ parts.0 (and_from _ _ rest.0 (subst (λ x. get_or (set net.here x true) w false ≡ true) same (get_or-set_same net.here w true false (let l = good.here_len in omega (arith, l, high))))))
+    (λ apart. present_other net v true w apart ∙ has)
+    (cases_eq w v)
+
+pub with_node_is_network : (net : Network) (v : ℕ) → 1 ≤ v → IsNetwork net → IsNetwork (with_node net v)
+with_node_is_network net v low good = record {
+  here_len = length-set net.here v true ∙ good.here_len;
+  nobody = get_or-set_other net.here v 0 true false (λ same. omega (arith, low, same)) ∙ good.nobody;
+  low_first = good.low_first;
+  low_present = λ a b h. still_present net v a good (good.low_present a b h);
+  high_present = λ a b h. still_present net v b good (good.high_present a b h);
+}
+
+some_kept : (b : Bool) (x : Option (Unit {0})) → is_some (cond b x None) ≡ (b && is_some x)
+some_kept true x = refl
+some_kept false x = refl
+
+pub contains-without : (m : PairSet) (v : ℕ) (q : ℕ × ℕ) → map.contains_key (map.retain_keys m (λ e. not (is_end v e))) q ≡ (not (is_end v q) && map.contains_key m q)
+contains-without m v q =
+    ap is_some (map.get-retain_keys m (λ e. not (is_end v e)) q (λ x same. ap (λ e. not (is_end v e)) (sym (pair_exact q x same)))) ∙ some_kept (not (is_end v q)) (map.get m q)
+
+-- a pair that is left was there, and neither end is the name
+pub left_was : (m : PairSet) (v : ℕ) (a b : ℕ) → IsTrue (map.contains_key (map.retain_keys m (λ e. not (is_end v e))) (a, b)) → (a ≡ v → ⊥) × (b ≡ v → ⊥) × IsTrue (map.contains_key m (a, b))
+left_was m v a b h =
+    let parts = and_parts (not (is_end v (a, b))) (map.contains_key m (a, b)) (sym (contains-without m v (a, b)) ∙ h) in (
+      (λ same. true≢false (sym (or_left (nat_eq a v) (nat_eq b v) (eq-eqb a v same)) ∙ not_true _ parts.0)),
+      (λ same. true≢false (sym (or_right (nat_eq a v) (nat_eq b v) (eq-eqb b v same)) ∙ not_true _ parts.0)),
+      parts.1,
+    )
+  where
+    not_true : (b : Bool) → not b ≡ true → b ≡ false
+    not_true true e = sym e
+    not_true false e = refl
+
+gone : (row : List Bool) (v : ℕ) → 0 ≡ v → get_or (set row v false) 0 false ≡ false
+gone [] v same = refl
+gone (b ∷ row) v same = ap (λ x. get_or (set (b ∷ row) x false) 0 false) (sym same)
+
+pub without_node_is_network : (net : Network) (v : ℕ) → IsNetwork net → IsNetwork (without_node net v)
+without_node_is_network net v good = record {
+  here_len = length-set net.here v false ∙ good.here_len;
+  nobody = ⊎_elim (λ (same : 0 ≡ v). gone net.here v same) (λ apart. get_or-set_other net.here v 0 false false apart ∙ good.nobody) (cases_eq 0 v);
+  low_first = λ a b h. good.low_first a b (left_was net.edges v a b h).2;
+  low_present = λ a b h. let was = left_was net.edges v a b h in present_other net v false a was.0 ∙ good.low_present a b was.2;
+  high_present = λ a b h. let was = left_was net.edges v a b h in present_other net v false b was.1 ∙ good.high_present a b was.2;
+}
+
+-- an edge of two other nodes is left
+pub still_without : (net : Network) (v a b : ℕ) → (a ≡ v → ⊥) → (b ≡ v → ⊥) → IsTrue (linked net a b) → IsTrue (linked (without_node net v) a b)
+still_without net v a b apart_a apart_b h =
+    contains-without net.edges v (edge a b) ∙ and_from _ _ (ap₂ (λ c d. not (c || d)) (differ (min a b) (λ same. either same)) (differ (max a b) (λ same. either_high same))) h
+  where
+    either : min a b ≡ v → ⊥
+    either same = ⊎_elim (λ (ab : a < b). apart_a (omega (arith, same))) (λ (ba : b ≤ a). apart_b (omega (arith, same))) (cases_lt a b)
+
+    either_high : max a b ≡ v → ⊥
+    either_high same = ⊎_elim (λ (ab : a < b). apart_b (omega (arith, same))) (λ (ba : b ≤ a). apart_a (omega (arith, same))) (cases_lt a b)
+
+    differ : (x : ℕ) → (x ≡ v → ⊥) → nat_eq x v ≡ false
+    differ x apart = ⊎_elim (λ (same : nat_eq x v ≡ true). absurd (apart (eqb-true x v same))) (λ no. no) (cases_Bool (nat_eq x v))

@@ -1,12 +1,12 @@
 -- When no node is enabled.
-use Rattle.std.proofs.Common.{◌≡◌, ℕ, Bool, false, cond, [], None, Some, is_some, find, IsTrue, ap, ◌∙◌, arith}
+use Rattle.std.proofs.Common.{◌≡◌, ℕ, Bool, false, cond, [], None, Some, is_some, find, IsTrue, ap, ◌∙◌}
 use Rattle.rule_machine.specs.declared.act.Act.{Act}
 use Rattle.rule_machine.specs.declared.act.Act.TheVariants.{Update, Marry, Seduce, Abandon}
 use Rattle.rule_machine.specs.Network.{names, present}
 use Rattle.rule_machine.specs.State.{State}
 use Rattle.rule_machine.specs.RuleTable.{RuleTable, acts, rule_at, enabled_names}
-use Rattle.machine_laws.specs.Search.{cond-none, find_from_empty, empty_from_find, range_none, range_fails}
-use Rattle.machine_laws.specs.Neighbours.{present_range, present_from}
+use Rattle.machine_laws.specs.Search.{cond-none, find_from_empty, empty_from_find}
+use Rattle.machine_laws.specs.Neighbours.{names_none, names_fails}
 use Rattle.machine_laws.specs.Pointers.{none_is}
 
 -- no rule passes
@@ -29,14 +29,11 @@ act_none g h =
 pub quiet_at : (t : RuleTable) (s : State) → enabled_names t s ≡ [] → (v : ℕ) → IsTrue (present s.network v) → (act : Act) → t.guard s v act ≡ false
 quiet_at t s e v here =
     let none = find_from_empty (λ v. is_some (rule_at t s v)) (names s.network) e in
-    let bounds = present_range s.network v here in
-    let fails = range_none (λ v. is_some (rule_at t s v)) 1 s.network.size none v bounds.0 (omega arith) in
+    let fails = names_none s.network (λ v. is_some (rule_at t s v)) none v here in
     no_act (t.guard s v) (none_is (rule_at t s v) fails)
 
 pub quiet_from : (t : RuleTable) (s : State) → ((v : ℕ) → IsTrue (present s.network v) → (act : Act) → t.guard s v act ≡ false) → enabled_names t s ≡ []
 quiet_from t s h =
     empty_from_find (λ v. is_some (rule_at t s v)) (names s.network) (
-    range_fails (λ v. is_some (rule_at t s v)) 1 s.network.size (
-    λ v low high. ap is_some (act_none (t.guard s v) (h v (present_from s.network v low (omega arith))))
-    )
+    names_fails s.network (λ v. is_some (rule_at t s v)) (λ v has. ap is_some (act_none (t.guard s v) (h v has)))
     )

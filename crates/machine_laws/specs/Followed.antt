@@ -1,11 +1,11 @@
 -- Where a reply leaves the machine that may give it.
 use Rattle.rule_machine.specs.declared.event.Event.{Event}
-use Rattle.rule_machine.specs.declared.event.Event.TheVariants.{Link, Unlink, Point, Flag, Step, Show, Enabled, Matching, Status}
+use Rattle.rule_machine.specs.declared.event.Event.TheVariants.{Link, Unlink, Point, Flag, Step, Show, Enabled, Matching, Status, Join, Leave}
 use Rattle.rule_machine.specs.declared.reply.Reply.{Reply}
 use Rattle.rule_machine.specs.declared.reply.Reply.TheVariants.{Accepted, Refused, Moves, Shown, EnabledAre, Pairs, Counts}
 use Rattle.rule_machine.specs.State.{State}
 use Rattle.rule_machine.specs.Step.{after_moves}
-use Rattle.rule_machine.specs.Disturbance.{after_link, after_unlink, after_point, after_flag}
+use Rattle.rule_machine.specs.Disturbance.{after_link, after_unlink, after_point, after_flag, after_join, after_leave}
 
 -- what an accepted disturbance does; a step and a question are none
 abbrev pub disturbed : State → Event → State
@@ -13,6 +13,8 @@ disturbed s (Link a b) = after_link s a b
 disturbed s (Unlink a b) = after_unlink s a b
 disturbed s (Point v target) = after_point s v target
 disturbed s (Flag v value) = after_flag s v value
+disturbed s (Join v) = after_join s v
+disturbed s (Leave v) = after_leave s v
 disturbed s (Step items) = s
 disturbed s (Show v) = s
 disturbed s Enabled = s

@@ -1,17 +1,18 @@
 -- What events leave is a state.
-use Rattle.std.proofs.Common.{◌≡◌, ℕ, ◌+◌, ◌<◌, ◌≤◌, Bool, false, List, [], ◌∷◌, length, fold, replicate, Option, None, Some, IsTrue, sym, ap, ◌∙◌, subst, ⊎_elim, arith, get_or}
+use Rattle.std.proofs.Common.{◌≡◌, ℕ, ◌+◌, ◌<◌, ◌≤◌, Bool, true, false, cond, List, map, refl, set, [], ◌∷◌, length, fold, replicate, Option, None, Some, IsTrue, sym, ap, ◌∙◌, subst, ⊎_elim, arith, get_or}
 use Rattle.std.specs.List.{AllByRecursion}
-use Rattle.std.proofs.lemmas.List.{length-set, length-replicate, get_or-replicate, get_or_past}
+use Rattle.std.proofs.lemmas.List.{length-set, length-map, length-replicate, get_or-replicate, get_or_past, get_or-set_same, get_or-set_other}
+use Rattle.std.proofs.Math.ListN.{get_or-map}
 use Rattle.std.proofs.lemmas.Bool.{true≢false, cases_lt}
 use Rattle.rule_machine.specs.declared.act.Act.{Act}
 use Rattle.rule_machine.specs.declared.act.Act.TheVariants.{Update, Marry, Seduce, Abandon}
 use Rattle.rule_machine.specs.declared.moved.Moved.{Moved}
 use Rattle.rule_machine.specs.Network.{Network, edge, linked, present}
-use Rattle.rule_machine.specs.State.{State, Registers, IsState, opening, pointer, pointer_of, flag_of, with_pointer, with_flag, married}
-use Rattle.rule_machine.specs.Disturbance.{after_link, after_unlink, after_point, after_flag, without_pointer}
+use Rattle.rule_machine.specs.State.{State, Registers, IsState, opening_with, is_at, pointer, pointer_of, flag_of, with_pointer, with_flag, married}
+use Rattle.rule_machine.specs.Disturbance.{after_link, after_unlink, after_point, after_flag, after_join, after_leave, without_pointer, without_name, unless_at}
 use Rattle.rule_machine.specs.Step.{written, after_move, after_moves}
-use Rattle.machine_laws.specs.Edges.{edgeless_is_network, with_edge_is_network, without_edge_is_network, still_inserted, still_removed, edge_ends}
-use Rattle.machine_laws.specs.Writes.{if_some_from, if_some_at, pointer_cases, flag_cases, without_pointer_was, without_pointer_gone, without_pointer_flags, without_pointer_len}
+use Rattle.machine_laws.specs.Edges.{edgeless_is_network, with_node_is_network, without_node_is_network, still_present, present_other, still_without, with_edge_is_network, without_edge_is_network, still_inserted, still_removed, edge_ends}
+use Rattle.machine_laws.specs.Writes.{if_some_from, if_some_at, cleared, is_at_from_some, pointer-with_pointer_other, pointer_cases, flag_cases, without_pointer_was, without_pointer_gone, without_pointer_flags, without_pointer_len}
 
 abbrev nowhere : Option ℕ
 nowhere = None
@@ -30,9 +31,9 @@ blank_flag : (n v : ℕ) → get_or (replicate n false) v false ≡ false
 blank_flag n v =
     ⊎_elim (λ (below : v < n). get_or-replicate n v false false below) (λ (past : n ≤ v). get_or_past (replicate n false) v false (let k = length-replicate n false in omega (arith, k))) (cases_lt v n)
 
-pub opening_is_state : (size : ℕ) → IsState (opening size)
-opening_is_state size = record {
-  is_network = edgeless_is_network size;
+pub opening_is_state : (size count : ℕ) → IsState (opening_with size count)
+opening_is_state size count = record {
+  is_network = edgeless_is_network size count;
   pointers_len = length-replicate (size + 1) nowhere;
   flags_len = length-replicate (size + 1) false;
   neighbourly = λ v. if_some_from _ _ (λ x e. absurd (blank_pointer (size + 1) v x e));
@@ -68,6 +69,55 @@ unlink_keeps s a b good =
           (if_some_at _ (λ w. IsTrue (linked s.network v w)) x (without_pointer_was s.registers a b v x (was v x e)) (good.neighbourly v)));
       flagged_present = λ v h. good.flagged_present v (ap (λ l. get_or l v false) (sym (without_pointer_flags half b a ∙ without_pointer_flags s.registers a b)) ∙ h);
     }
+
+pub join_keeps : (s : State) (v : ℕ) → 1 ≤ v → IsState s → IsState (after_join s v)
+join_keeps s v low good = record {
+  is_network = with_node_is_network s.network v low good.is_network;
+  pointers_len = good.pointers_len;
+  flags_len = good.flags_len;
+  neighbourly = good.neighbourly;
+  flagged_present = λ w h. still_present s.network v w good.is_network (good.flagged_present w h);
+}
+
+-- what stays of a pointer was there, and is not at the name
+unless_at_some : (v : ℕ) (o : Option ℕ) (y : ℕ) → unless_at v o ≡ Some y → (o ≡ Some y) × (is_at o v ≡ false)
+unless_at_some v o y e = go (is_at o v) refl e
+  where
+    go : (b : Bool) → is_at o v ≡ b → cond b None o ≡ Some y → (o ≡ Some y) × (is_at o v ≡ false)
+    go true at k = absurd cc
+    go false at k = (k, at)
+
+-- a pointer that is left is another node's and was there, at another node
+pub left_pointer : (r : Registers) (v x y : ℕ) → pointer_of (without_name r v) x ≡ Some y → (x ≡ v → ⊥) × (y ≡ v → ⊥) × (pointer_of r x ≡ Some y)
+left_pointer r v x y e =
+    let kept : Registers = record r { pointers = map (unless_at v) r.pointers } in
+    let apart : x ≡ v → ⊥ = λ same. let k : nowhere ≡ Some y = sym (cleared kept.pointers v) ∙ ap (λ z. get_or (set kept.pointers v None) z nowhere) (sym same) ∙ e in cc in
+    let old = sym (pointer-with_pointer_other kept v None x apart) ∙ e in
+    let was = unless_at_some v (pointer_of r x) y (sym (get_or-map (unless_at v) r.pointers x nowhere) ∙ old) in
+    (apart, (λ same. true≢false (sym (is_at_from_some (pointer_of r x) v (was.0 ∙ ap Some same)) ∙ was.1)), was.0)
+
+pub flag_left : (r : Registers) (v w : ℕ) → IsTrue (flag_of (without_name r v) w) → (w ≡ v → ⊥) × IsTrue (flag_of r w)
+flag_left r v w h =
+    let apart : w ≡ v → ⊥ = λ same. true≢false (sym h ∙ ap (λ z. get_or (set r.flags v false) z false) same ∙ lowered r.flags v) in
+    (apart, sym (get_or-set_other r.flags v w false false apart) ∙ h)
+  where
+    lowered : (flags : List Bool) (v : ℕ) → get_or (set flags v false) v false ≡ false
+    lowered flags v =
+        ⊎_elim
+        (λ (below : v < length flags). get_or-set_same flags v false false below)
+        (λ (past : length flags ≤ v). get_or_past (set flags v false) v false (let same = length-set flags v false in omega (arith, same)))
+        (cases_lt v (length flags))
+
+pub leave_keeps : (s : State) (v : ℕ) → IsState s → IsState (after_leave s v)
+leave_keeps s v good = record {
+  is_network = without_node_is_network s.network v good.is_network;
+  pointers_len = length-set (map (unless_at v) s.registers.pointers) v None ∙ length-map s.registers.pointers (unless_at v) ∙ good.pointers_len;
+  flags_len = length-set s.registers.flags v false ∙ good.flags_len;
+  neighbourly = λ x. if_some_from _ _ (λ y e.
+      let left = left_pointer s.registers v x y e in
+      still_without s.network v x y left.0 left.1 (if_some_at _ (λ w. IsTrue (linked s.network x w)) y left.2 (good.neighbourly x)));
+  flagged_present = λ w h. let left = flag_left s.registers v w h in present_other s.network v false w left.0 ∙ good.flagged_present w left.1;
+}
 
 -- registers that are a state's, over its network
 pub record Fit (net : Network) (r : Registers) : Type 0 where

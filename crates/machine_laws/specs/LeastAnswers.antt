@@ -2,7 +2,7 @@
 use Rattle.std.proofs.Common.{◌≡◌, ◌≢◌, ℕ, zero, suc, ◌+◌, ◌-◌, ◌<◌, ◌≤◌, Bool, true, false, cond, List, [], ◌∷◌, length, map, filter, All, Any, Contains, Option, None, Some, IsSome, IsSomeAnd, IsTrue, is_some, nat_eq, nat_lt, nat_le, refl, sym, ap, ap₂, ◌∙◌, subst, ⊎_elim, find, filter_map, option_and_then, get_or, arith, eqb-true, lt-ltb, leb-true}
 use Rattle.std.specs.List.{cons_option, range_with_len}
 use Rattle.std.specs.List.Sorted.{IsStrictlyIncreasing}
-use Rattle.std.proofs.lemmas.Bool.{cases_Bool, cond-true, cond-false, true≢false, and_parts, and_from}
+use Rattle.std.proofs.lemmas.Bool.{cases_Bool, cases_eq, cond-true, cond-false, true≢false, and_parts, and_from}
 use Rattle.std.proofs.lemmas.List.{length-map}
 use Rattle.std.proofs.lemmas.List.Elements.{All-from_recursion, All-weaker, All-map}
 use Rattle.std.proofs.lemmas.List.FromFn.{length-range_with_len, get_or-range_with_len}
@@ -13,9 +13,11 @@ use Rattle.rule_machine.specs.declared.act.Act.TheVariants.{Update, Marry, Seduc
 use Rattle.rule_machine.specs.declared.choice.Item.{Item}
 use Rattle.rule_machine.specs.declared.moved.Moved.{Moved}
 use Rattle.rule_machine.specs.declared.event.Event.{Event}
-use Rattle.rule_machine.specs.declared.event.Event.TheVariants.{Link, Unlink, Point, Flag, Step, Show, Enabled, Matching, Status}
+use Rattle.rule_machine.specs.declared.event.Event.TheVariants.{Link, Unlink, Point, Flag, Step, Show, Enabled, Matching, Status, Join, Leave}
 use Rattle.rule_machine.specs.declared.refusal.Refusal.{Refusal}
 use Rattle.rule_machine.specs.Network.{Network, names, present}
+use Rattle.machine_laws.specs.Neighbours.{present_range}
+use Rattle.machine_laws.specs.Pairs.{contains_first, contains_rest}
 use Rattle.rule_machine.specs.State.{State, IsState}
 use Rattle.rule_machine.specs.RuleTable.{RuleTable, acts, rule_at, least_target}
 use Rattle.rule_machine.specs.Step.{IsAllowedTarget, IsTarget, IsMoveOf, IsStep, after_moves}
@@ -109,15 +111,26 @@ range_increasing a n k below =
     let next = get_or-range_with_len a n (k + 1) 0 (omega (arith, l, below)) in
     omega (arith, here, next)
 
+pub names_increasing : (net : Network) → IsStrictlyIncreasing (names net)
+names_increasing net = IsStrictlyIncreasing-filter (present net) (range_with_len 1 net.size) (range_increasing 1 net.size)
+
+-- a number of a range that passes is among those that a filter keeps
+filter_has : (p : ℕ → Bool) (a n v : ℕ) → a ≤ v → v < a + n → IsTrue (p v) → Contains (filter p (range_with_len a n)) v
+filter_has p a zero v low high passes = absurd (omega arith)
+filter_has p a (suc n) v low high passes =
+    ⊎_elim
+    (λ same. subst (λ b. Contains (cond b (a ∷ filter p (range_with_len (a + 1) n)) (filter p (range_with_len (a + 1) n))) v) (sym (ap p same ∙ passes)) (subst (λ x. Contains (a ∷ filter p (range_with_len (a + 1) n)) x) same (contains_first a _)))
+    (λ apart. kept (p a) (filter_has p (a + 1) n v (omega arith) (omega arith) passes))
+    (cases_eq a v)
+  where
+    kept : (b : Bool) → Contains (filter p (range_with_len (a + 1) n)) v → Contains (cond b (a ∷ filter p (range_with_len (a + 1) n)) (filter p (range_with_len (a + 1) n))) v
+    kept true c = contains_rest a v _ c
+    kept false c = c
+
 -- a node that is present is among the names
 pub names_contains : (net : Network) (v : ℕ) → IsTrue (present net v) → Contains (names net) v
 names_contains net v has =
-    let both = and_parts (nat_le 1 v) (nat_le v net.size) has in
-    let low : 1 ≤ v = leb-true 1 v both.0 in
-    let high : v ≤ net.size = leb-true v net.size both.1 in
-    let l = length-range_with_len 1 net.size in
-    let at = get_or-range_with_len 1 net.size (v - 1) v (omega (arith, low, high)) in
-    (v - 1, omega (arith, l, low, high), omega (arith, at, low))
+    let bounds = present_range net v has in filter_has (present net) 1 net.size v bounds.0 (omega arith) has
 
 any_of_one : {X : Type 0} (P : X → Type 0) (x : X) → Any P (x ∷ []) → P x
 any_of_one P x (zero, y, below, at, holds) = subst P (sym at) holds
@@ -148,7 +161,7 @@ move_at_asked t table s good items v m e =
 least_ascending : (t : RuleTable) (s : State) (items : List Item) → IsStrictlyIncreasing (map (λ m. m.node) (least_moves t s items))
 least_ascending t s items =
     subst IsStrictlyIncreasing (sym (filter_map_nodes (move_at t s items) (move_at_node t s items) (names s.network)))
-    (IsStrictlyIncreasing-filter (λ v. is_some (move_at t s items v)) (names s.network) (range_increasing 1 s.network.size))
+    (IsStrictlyIncreasing-filter (λ v. is_some (move_at t s items v)) (names s.network) (names_increasing s.network))
 
 least_each : (t : RuleTable) → IsTable t → (s : State) → IsState s → (items : List Item) → All (λ m. Any (λ item. IsMoveOf t s item m) items) (least_moves t s items)
 least_each t table s good items =
@@ -208,6 +221,8 @@ least_does t table s good n (Link a b) e = refl
 least_does t table s good n (Unlink a b) e = refl
 least_does t table s good n (Point v target) e = refl
 least_does t table s good n (Flag v value) e = refl
+least_does t table s good n (Join v) e = refl
+least_does t table s good n (Leave v) e = refl
 least_does t table s good n (Step items) e = least_step t table s good items (choice_from_none t s items e)
 least_does t table s good n (Show v) e = (refl, refl)
 least_does t table s good n Enabled e = (refl, refl)

@@ -17,3 +17,4 @@ pub mod AscendingMoves
 pub mod Passes
 pub mod Pairs
 pub mod Laws
+pub mod Leaves

@@ -1,10 +1,10 @@
 -- What the list of mutual pairs holds.
-use Rattle.std.proofs.Common.{◌≡◌, ℕ, zero, suc, ◌+◌, ◌<◌, ◌≤◌, List, [], ◌∷◌, Option, None, Some, Contains, Any, nat_lt, filter_map, refl, sym, ap, ◌∙◌, subst, inl, inr, ⊎_elim, ◌⊎◌, arith, lt-ltb, ltb-true}
+use Rattle.std.proofs.Common.{◌≡◌, ℕ, Bool, true, false, cond, filter, IsTrue, zero, suc, ◌+◌, ◌<◌, ◌≤◌, List, [], ◌∷◌, Option, None, Some, Contains, Any, nat_lt, filter_map, refl, sym, ap, ◌∙◌, subst, inl, inr, ⊎_elim, ◌⊎◌, arith, lt-ltb, ltb-true}
 use Rattle.std.specs.List.{range_with_len, cons_option}
 use Rattle.std.proofs.lemmas.Bool.{cases_eq, cases_order, cond-true}
 use Rattle.std.proofs.lemmas.Option.{cond_some}
 use Rattle.std.proofs.lemmas.List.Elements.{Contains-push, Contains-push_cases, Contains-append_left, Contains-append_right, Contains-append_cases}
-use Rattle.rule_machine.specs.Network.{names}
+use Rattle.rule_machine.specs.Network.{names, present}
 use Rattle.rule_machine.specs.State.{State, IsState, pointer, partner}
 use Rattle.rule_machine.specs.Stable.{pair_above, mutual_pairs}
 use Rattle.machine_laws.specs.Neighbours.{present_range, linked_present, linked_apart}
@@ -36,21 +36,27 @@ filter_map_from {X = X} {Y = Y} h (x ∷ xs) y c = go (h x) refl (filter_map_fro
     go None e more k = more k
     go (Some z) e more k = ⊎_elim (λ same. (x, e ∙ ap Some same)) more (contains_cases z y (filter_map h xs) k)
 
--- what a number of the range gives is in the list
-pub filter_map_range : {Y : Type 0} (h : ℕ → Option Y) (a n x : ℕ) (y : Y) → a ≤ x → x < a + n → h x ≡ Some y → Contains (filter_map h (range_with_len a n)) y
-filter_map_range h a zero x y low high e = absurd (omega arith)
-filter_map_range {Y = Y} h a (suc n) x y low high e =
+-- what a number of the range that passes gives is in the list
+pub filter_map_range : {Y : Type 0} (p : ℕ → Bool) (h : ℕ → Option Y) (a n x : ℕ) (y : Y) → a ≤ x → x < a + n → IsTrue (p x) → h x ≡ Some y → Contains (filter_map h (filter p (range_with_len a n))) y
+filter_map_range p h a zero x y low high passes e = absurd (omega arith)
+filter_map_range {Y = Y} p h a (suc n) x y low high passes e =
+    let rest = filter p (range_with_len (a + 1) n) in
     ⊎_elim
     (
     λ same. let given : h a ≡ Some y = ap h same ∙ e in
-    subst (λ o. Contains (cons_option o (filter_map h (range_with_len (a + 1) n))) y) (sym given) (contains_first y _)
+    subst (λ b. Contains (filter_map h (cond b (a ∷ rest) rest)) y) (sym (ap p same ∙ passes))
+    (subst (λ o. Contains (cons_option o (filter_map h rest)) y) (sym given) (contains_first y _))
     )
-    (λ apart. keep (h a) (filter_map_range h (a + 1) n x y (omega arith) (omega arith) e))
+    (λ apart. skip (p a) (filter_map_range p h (a + 1) n x y (omega arith) (omega arith) passes e))
     (cases_eq a x)
   where
-    keep : (o : Option Y) → Contains (filter_map h (range_with_len (a + 1) n)) y → Contains (cons_option o (filter_map h (range_with_len (a + 1) n))) y
-    keep None c = c
-    keep (Some z) c = contains_rest z y _ c
+    keep : (o : Option Y) (ys : List Y) → Contains ys y → Contains (cons_option o ys) y
+    keep None ys c = c
+    keep (Some z) ys c = contains_rest z y _ c
+
+    skip : (b : Bool) → Contains (filter_map h (filter p (range_with_len (a + 1) n))) y → Contains (filter_map h (cond b (a ∷ filter p (range_with_len (a + 1) n)) (filter p (range_with_len (a + 1) n)))) y
+    skip true c = keep (h a) (filter_map h (filter p (range_with_len (a + 1) n))) c
+    skip false c = c
 
 -- the lower end comes first, and the two ends point at each other
 pub record IsPair (s : State) (e : ℕ × ℕ) : Type 0 where
@@ -74,9 +80,10 @@ pair_from s e c =
 -- and two that point at each other are listed
 pub pair_listed : (s : State) (v w : ℕ) → IsState s → v < w → pointer s v ≡ Some w → pointer s w ≡ Some v → Contains (mutual_pairs s) (v, w)
 pair_listed s v w is_state below there back =
-    let bounds = present_range s.network v (linked_present s.network v w is_state.is_network (pointer_linked s v w is_state there)) in
+    let has = linked_present s.network v w is_state.is_network (pointer_linked s v w is_state there) in
+    let bounds = present_range s.network v has in
     let given : pair_above v (partner s v) ≡ Some (v, w) = ap (pair_above v) (partner_from s v w is_state there back) ∙ cond-true (nat_lt v w) (Some (v, w)) None (lt-ltb v w below) in
-    filter_map_range (λ v. pair_above v (partner s v)) 1 s.network.size v (v, w) bounds.0 (omega arith) given
+    filter_map_range (present s.network) (λ v. pair_above v (partner s v)) 1 s.network.size v (v, w) bounds.0 (omega arith) has given
 
 -- the pair of a married node
 pub pair_at : (s : State) (v w : ℕ) → IsState s → pointer s v ≡ Some w → pointer s w ≡ Some v → Any (λ f. (v ≡ f.0) ⊎ (v ≡ f.1)) (mutual_pairs s)

@@ -7,7 +7,7 @@ use Rattle.rule_machine.specs.declared.act.Act.TheVariants.{Update, Marry, Seduc
 use Rattle.rule_machine.specs.declared.choice.Item.{Item}
 use Rattle.rule_machine.specs.declared.moved.Moved.{Moved}
 use Rattle.rule_machine.specs.declared.event.Event.{Event}
-use Rattle.rule_machine.specs.declared.event.Event.TheVariants.{Link, Unlink, Point, Flag, Step, Show, Enabled, Matching, Status}
+use Rattle.rule_machine.specs.declared.event.Event.TheVariants.{Link, Unlink, Point, Flag, Step, Show, Enabled, Matching, Status, Join, Leave}
 use Rattle.rule_machine.specs.declared.refusal.Refusal.{Refusal}
 use Rattle.rule_machine.specs.declared.reply.Reply.{Reply}
 use Rattle.rule_machine.specs.declared.reply.Reply.TheVariants.{Accepted, Moves, Shown, EnabledAre, Pairs, Counts}
@@ -71,6 +71,8 @@ does_keeps t table s good n (Link a b) Accepted s' e does = subst IsState (sym d
 does_keeps t table s good n (Unlink a b) Accepted s' e does = subst IsState (sym does) (accepted_keeps t table s good (Unlink a b) e)
 does_keeps t table s good n (Point v target) Accepted s' e does = subst IsState (sym does) (accepted_keeps t table s good (Point v target) e)
 does_keeps t table s good n (Flag v value) Accepted s' e does = subst IsState (sym does) (accepted_keeps t table s good (Flag v value) e)
+does_keeps t table s good n (Join v) Accepted s' e does = subst IsState (sym does) (accepted_keeps t table s good (Join v) e)
+does_keeps t table s good n (Leave v) Accepted s' e does = subst IsState (sym does) (accepted_keeps t table s good (Leave v) e)
 does_keeps t table s good n (Step items) (Moves moves) s' e does = any_step_keeps t table s good items (choice_from_none t s items e) moves s' does
 does_keeps t table s good n (Show v) (Shown target) s' e does = subst IsState (sym does.1) good
 does_keeps t table s good n Enabled (EnabledAre nodes) s' e does = subst IsState (sym does.1) good

@@ -1,3 +1,4 @@
 pub mod PairSets
 pub mod Names
 mod Counted
+mod Passes

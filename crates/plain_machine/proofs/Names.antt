@@ -1,6 +1,7 @@
 -- The first names, one after another.
-use Rattle.std.proofs.Common.{suc, zero, ◌≡◌, ℕ, ◌+◌, ◌≤◌, List, [], ◌∷◌, ◌++◌, length, ap, sym, ◌∙◌, arith, add-one}
+use Rattle.std.proofs.Common.{suc, zero, Bool, map, ◌≡◌, ℕ, ◌+◌, ◌≤◌, List, [], ◌∷◌, ◌++◌, length, ap, sym, ◌∙◌, arith, add-one}
 use Rattle.std.specs.List.{range_with_len}
+use Rattle.std.proofs.lemmas.List.{map-append}
 use Rattle.std.proofs.lemmas.List.FromFn.{length-range_with_len}
 use Rattle.plain_machine.specs.Names.{AreNames}
 
@@ -24,3 +25,9 @@ are_names names n e few =
 -- how many first names there are
 pub count_names : (names : List ℕ) (n : ℕ) → names ≡ range_with_len 1 n → length names ≡ n
 count_names names n e = ap length e ∙ length-range_with_len 1 n
+
+-- one more place of a row
+pub row_more : (test : ℕ → Bool) (n : ℕ) → map test (range_with_len 0 (n + 1)) ≡ map test (range_with_len 0 n) ++ test n ∷ []
+row_more test n =
+    ap (map test) (range_more 0 n ∙ ap (λ x. range_with_len 0 n ++ x ∷ []) (let same : 0 + n ≡ n = omega arith in same))
+    ∙ map-append test (range_with_len 0 n) (n ∷ [])

@@ -250,3 +250,16 @@ unwrap_position at len within = elim (ltb at len) as (λ b. ltb at len ≡ b →
   | true ↦ λ e. refl
   | false ↦ λ e. grind (arith, nat_tests)
 ] refl
+
+-- pairs that tie pass a test alike
+pass_alike : (test : ℕ × ℕ → Bool) (q p : ℕ × ℕ) → pair_cmp q p ≡ Equal → test p ≡ test q
+pass_alike test q p e = ap test (sym (pair_cmp_exact q p e))
+
+-- the pairs that pass a test are those that the set keeps
+pub pair_set-kept : (test : ℕ × ℕ → Bool) (pairs : List (ℕ × ℕ)) → IsAscending pairs → pair_set (filter test pairs) ≡ finite.retain_keys (pair_set pairs) test
+pair_set-kept test pairs up = finite.same_map pair_cmp_total pair_cmp_exact _ _ (λ q.
+    finite.get-entries _ q
+    ∙ ap (finite.find pair_cmp q) (entries-pair_set _ (rising_filter test pairs up.rising) ∙ marked-filter test pairs)
+    ∙ find-where_key pair_cmp test q (λ p e. pass_alike test q p e) (marked pairs)
+    ∙ ap (λ o. cond (test q) o None) (ap (finite.find pair_cmp q) (sym (entries-pair_set pairs up.rising)) ∙ sym (finite.get-entries (pair_set pairs) q))
+    ∙ sym (finite.get-retain_keys (pair_set pairs) test q (λ p e. pass_alike test q p e)))

@@ -1,4 +1,4 @@
--- The names of a network's nodes, in a list.
+-- All names of a network, present or not, in a list.
 use Rattle.std.specs.Prelude.{◌≡◌, ℕ, ◌≤◌, List, length}
 use Rattle.std.specs.List.{range_with_len}
 

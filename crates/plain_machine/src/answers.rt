@@ -12,7 +12,7 @@ use std::alloc::Global;
 impl PlainNet {
     /// Answers an event, in which each free target is the least allowed one, where these moves are spent since the last
     /// accepted disturbance. An event that is refused changes nothing, and neither does one that fails for want of
-    /// memory. A step takes some n·n·m steps for each chosen node, with n nodes and m edges, and `Status` n·m·m.
+    /// memory. A step takes some n·n·m steps for each chosen node, with n names and m edges, and `Status` n·m·m.
     pub fn answer(
         &mut self,
         alloc: Global,
@@ -48,6 +48,8 @@ impl PlainNet {
             Event::Unlink(a, b) => self.unlink(*a, *b),
             Event::Point(v, target) => self.point(*v, *target),
             Event::Flag(v, value) => self.set_flag(*v, *value),
+            Event::Join(v) => self.join(*v),
+            Event::Leave(v) => self.leave(*v),
             Event::Step(choice) => {
                 let moves = self.step(alloc, rules, choice.items())?;
                 return Ok(Reply::Moves(Listing::from_vec(moves)));

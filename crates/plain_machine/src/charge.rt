@@ -43,8 +43,8 @@ impl PlainNet {
         ensures few { result ≤ 65535 }
     {
         let mut unanswered = 0;
-        for &v in self.names() {
-            if self.is_unanswered(v) {
+        for &v in self.all_names() {
+            if self.has(v) && self.is_unanswered(v) {
                 unanswered += 1;
             }
         }
@@ -57,8 +57,10 @@ impl PlainNet {
         ensures few { result ≤ 131070 }
     {
         let mut total = 0;
-        for v in self.names() {
-            total += self.node_charge(*v);
+        for &v in self.all_names() {
+            if self.has(v) {
+                total += self.node_charge(v);
+            }
         }
         total
     }

@@ -1,22 +1,24 @@
 //! Where the network stands, in numbers.
 
-ghost use Rattle.std.specs.Prelude.{◌≡◌, ◌≤◌, length};
+ghost use Rattle.std.specs.Prelude.{◌≡◌, ◌&&◌, length, is_some};
 ghost use Rattle.rule_machine.specs.Answer.{counts_of};
+ghost use Rattle.rule_machine.specs.Network.{node_count, present};
 ghost use Rattle.rule_machine.specs.RuleTable.{enabled_names};
-ghost use Rattle.rule_machine.specs.Stable.{mutual_pairs};
+ghost use Rattle.rule_machine.specs.Stable.{mutual_pairs, pair_above};
+ghost use Rattle.rule_machine.specs.State.{partner};
 ghost use Rattle.rule_machine.specs.Tables.{table_of};
 
 use crate::PlainNet;
 use crate::lists::pair_above;
-use rule_machine::{Counts, RuleSet};
+use rule_machine::{Counts, Node, RuleSet};
 
 impl PlainNet {
-    /// Where the network stands, where these moves are spent. Takes some n·m·m steps, with n nodes and m edges.
+    /// Where the network stands, where these moves are spent. Takes some n·m·m steps, with n names and m edges.
     pub fn counts(&self, rules: RuleSet, spent: u32) -> Counts
         ensures { result ≡ counts_of (table_of rules) self.now spent }
     {
         Counts {
-            nodes: self.names().len() as u32,
+            nodes: self.node_count(),
             edges: self.edges().len() as u32,
             pairs: self.pair_count(),
             enabled: self.enabled_count(rules),
@@ -25,17 +27,37 @@ impl PlainNet {
         }
     }
 
+    /// How many nodes there are.
+    fn node_count(&self) -> u32
+        ensures { result ≡ node_count self.now.network }
+    {
+        let mut nodes = 0;
+        for &v in self.all_names() {
+            if self.has(v) {
+                nodes += 1;
+            }
+        }
+        nodes
+    }
+
     /// How many mutual pairs there are.
     fn pair_count(&self) -> u32
         ensures { result ≡ length (mutual_pairs self.now) }
     {
         let mut pairs = 0;
-        for &v in self.names() {
-            if pair_above(v, self.partner(v)).is_some() {
+        for &v in self.all_names() {
+            if self.heads_pair(v) {
                 pairs += 1;
             }
         }
         pairs
+    }
+
+    /// Whether a name is present, and the lower one of a mutual pair.
+    fn heads_pair(&self, v: Node) -> bool
+        ensures { result ≡ (present self.now.network v && is_some (pair_above v (partner self.now v))) }
+    {
+        self.has(v) && pair_above(v, self.partner(v)).is_some()
     }
 
     /// How many nodes are enabled.
@@ -43,8 +65,8 @@ impl PlainNet {
         ensures { result ≡ length (enabled_names (table_of rules) self.now) }
     {
         let mut enabled = 0;
-        for &v in self.names() {
-            if self.rule_at(rules, v).is_some() {
+        for &v in self.all_names() {
+            if self.has(v) && self.rule_at(rules, v).is_some() {
                 enabled += 1;
             }
         }

@@ -3,7 +3,7 @@
 ghost use Rattle.std.specs.Prelude.{◌≡◌, ℕ, false, not, ◌<◌, ◌≤◌, length, OnOk, OnErr, filter};
 ghost use Rattle.std.specs.List.{list_any, position_or_len};
 ghost use Rattle.std.specs.FinMap as map;
-ghost use Rattle.rule_machine.specs.Network.{edge, PairSet};
+ghost use Rattle.rule_machine.specs.Network.{edge, is_end, PairSet};
 ghost use Rattle.plain_machine.specs.Ascending.{same_pair, is_below};
 
 use rule_machine::{Edge, Node, Want};
@@ -87,6 +87,13 @@ impl EdgeSet {
     {
         keep_others(&mut self.edges, e);
     }
+
+    /// Removes every edge of a node.
+    pub fn remove_at(&mut self, v: Node)
+        ensures { self.new ≡ map.retain_keys self.old (λ e. not (is_end v e)) }
+    {
+        keep_elsewhere(&mut self.edges, v);
+    }
 }
 
 /// Whether an edge with these ends is among the edges.
@@ -123,4 +130,11 @@ fn keep_others(edges: &mut Vec<Edge>, e: Edge)
     ensures { edges.new.items ≡ filter (λ p. not (same_pair p e)) edges.old.items }
 {
     edges.retain(|x| *x != e);
+}
+
+/// Drops the edges of a node from the list.
+fn keep_elsewhere(edges: &mut Vec<Edge>, v: Node)
+    ensures { edges.new.items ≡ filter (λ e. not (is_end v e)) edges.old.items }
+{
+    edges.retain(|e| e.low() != v && e.high() != v);
 }

@@ -19,7 +19,7 @@ use std::alloc::Global;
 /// disturbance; where it may, the event is carried out as the reply says. Where no target is wished, any allowed one is
 /// right. A wrong reply changes nothing, and neither does want of memory, which comes only at an event that is not
 /// refused, where the reply accepts a link, has moves or is a list. A step of k moves takes some k·k comparisons of
-/// nodes, and n·m steps for each move, with n nodes and m edges.
+/// nodes, and n·m steps for each move, with n names and m edges.
 pub fn replay(
     net: &mut PlainNet,
     alloc: Global,
@@ -87,6 +87,8 @@ fn disturb(net: &mut PlainNet, event: &Event) -> Result<(), Want>
         Event::Unlink(a, b) => net.unlink(*a, *b),
         Event::Point(v, target) => net.point(*v, *target),
         Event::Flag(v, value) => net.set_flag(*v, *value),
+        Event::Join(v) => net.join(*v),
+        Event::Leave(v) => net.leave(*v),
         Event::Step(_) | Event::Show(_) | Event::Enabled | Event::Matching | Event::Status => {}
     }
     Ok(())

@@ -1,4 +1,4 @@
-//! A plain, slow interpreter of the rule machine, and a judge of replies by it: each function scans all nodes or all edges, and
+//! A plain, slow interpreter of the rule machine, and a judge of replies by it: each function scans all names or all edges, and
 //! is its definition.
 #![tactic(auto)]
 

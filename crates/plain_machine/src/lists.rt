@@ -11,25 +11,27 @@ use std::alloc::Global;
 
 impl PlainNet {
     /// The enabled nodes, ascending, each with its rule. Fails only for want of memory. Takes some n·n·m steps, with n
-    /// nodes and m edges.
+    /// names and m edges.
     pub fn enabled(&self, alloc: Global, rules: RuleSet) -> Result<Vec<(Node, Act)>, Want>
         ensures { IfOk result (λ nodes. nodes.items ≡ enabled (table_of rules) self.now) }
     {
-        self.names()
+        self.all_names()
             .iter()
             .copied()
+            .filter(|v| self.has(*v))
             .filter_map(|v| self.rule_at(rules, v).map(|act| (v, act)))
             .collect(alloc)
     }
 
-    /// The mutual pairs, ascending by lower end. Fails only for want of memory. Takes some n·n·m steps, with n nodes and
+    /// The mutual pairs, ascending by lower end. Fails only for want of memory. Takes some n·n·m steps, with n names and
     /// m edges.
     pub fn mutual_pairs(&self, alloc: Global) -> Result<Vec<Edge>, Want>
         ensures { IfOk result (λ pairs. pairs.items ≡ mutual_pairs self.now) }
     {
-        self.names()
+        self.all_names()
             .iter()
             .copied()
+            .filter(|v| self.has(*v))
             .filter_map(|v| pair_above(v, self.partner(v)))
             .collect(alloc)
     }

@@ -1,11 +1,12 @@
 //! A network whose every question is a scan.
 
-ghost use Rattle.std.specs.Prelude.{◌≡◌, ◌+◌, ◌≤◌, length, None, IfOk, OnOk, OnErr};
+ghost use Rattle.std.specs.Prelude.{◌≡◌, ◌≤◌, ◌&&◌, length, nat_le, slice_set, None, IfOk, OnOk, OnErr};
 ghost use Rattle.std.specs.List.{range_with_len};
 ghost use Rattle.rule_machine.specs.Network as network;
+ghost use Rattle.rule_machine.specs.Network.{first_names};
 ghost use Rattle.rule_machine.specs.Refuse.{link_refusal, unlink_refusal};
-ghost use Rattle.rule_machine.specs.Disturbance.{after_link, after_unlink, after_point, after_flag};
-ghost use Rattle.rule_machine.specs.State.{opening, pointer_of, flag_of, points};
+ghost use Rattle.rule_machine.specs.Disturbance.{after_link, after_unlink, after_point, after_flag, after_join, after_leave};
+ghost use Rattle.rule_machine.specs.State.{opening, opening_with, pointer_of, flag_of, points};
 
 use crate::{EdgeSet, RegisterTable};
 use rule_machine::{Edge, Node, Want};
@@ -13,10 +14,11 @@ use std::alloc::Global;
 use std::marker::Model;
 
 /// A network and its registers, seen in contracts as a state. Nothing is kept beside what the state has, so every
-/// answer is found by a look at all nodes or all edges: with n nodes and m edges, a node's rule takes some n·m steps.
+/// answer is found by a look at all names or all edges: with n names and m edges, a node's rule takes some n·m steps.
 #[derive(Drop)]
 pub struct PlainNet {
     names: Vec<Node>,
+    here: Vec<bool>,
     edges: EdgeSet,
     registers: RegisterTable,
 }
@@ -32,7 +34,7 @@ impl Model for PlainNet {
     ghost use Rattle.std.specs.Prelude.{length};
 
     ghost view = { λ n. record {
-      network = record { size = length n.names.items; edges = n.edges };
+      network = record { size = length n.names.items; here = n.here.items; edges = n.edges };
       registers = n.registers;
     } };
 
@@ -45,18 +47,38 @@ impl PlainNet {
         requires { nodes ≤ 65535 }
         ensures { IfOk result (λ net. net ≡ opening nodes) }
     {
-        let names = first_names(alloc, nodes)?;
+        PlainNet::with_present(alloc, nodes, nodes)
+    }
+
+    /// A network of the names 1 to `nodes`, of which 1 to `present` are present: without an edge, all pointers null and
+    /// all flags false.
+    pub fn with_present(alloc: Global, nodes: u32, present: u32) -> Result<PlainNet, Want>
+        requires few { nodes ≤ 65535 }
+        requires within { present ≤ nodes }
+        ensures { IfOk result (λ net. net ≡ opening_with nodes present) }
+    {
+        let names = all_names(alloc, nodes)?;
+        let here = first_row(alloc, nodes, present)?;
         let registers = RegisterTable::new(alloc, nodes as usize)?;
         Ok(PlainNet {
             names,
+            here,
             edges: EdgeSet::new(alloc),
             registers,
         })
     }
 
-    /// The nodes, ascending.
-    pub(crate) fn names(&self) -> &[Node]
-        ensures list { result.now ≡ network.names self.now.network }
+    /// The greatest name that a node may have, 0 to 65,535.
+    pub fn capacity(&self) -> u32
+        ensures value { result ≡ self.now.network.size }
+        ensures few { result ≤ 65535 }
+    {
+        self.names.len() as u32
+    }
+
+    /// All names, ascending, present or not.
+    pub(crate) fn all_names(&self) -> &[Node]
+        ensures list { result.now ≡ range_with_len 1 self.now.network.size }
         ensures few { length result.now ≤ 65535 }
     {
         &self.names
@@ -80,7 +102,7 @@ impl PlainNet {
     pub(crate) fn has(&self, v: Node) -> bool
         ensures { result ≡ network.present self.now.network v }
     {
-        v.place() <= self.names.len()
+        v.place() <= self.names.len() && self.here.get(v.place()).copied().unwrap_or(false)
     }
 
     /// Whether there is an edge between two names.
@@ -149,6 +171,34 @@ impl PlainNet {
         self.registers.set_flag(v, value);
     }
 
+    /// Makes a name present; a name above the capacity has no place, and nothing changes. Nothing is written of its
+    /// registers: an absent name's pointer is null and its flag false.
+    pub fn join(&mut self, v: Node)
+        ensures { self.new ≡ after_join self.old v }
+    {
+        self.mark(v, true);
+    }
+
+    /// Takes a node out of the network, with its edges: its pointer and every pointer at it become null, and its flag
+    /// false. Takes a pass over all names and one over all edges, and no memory.
+    pub fn leave(&mut self, v: Node)
+        ensures { self.new ≡ after_leave self.old v }
+    {
+        self.registers.drop_name(v);
+        self.edges.remove_at(v);
+        self.mark(v, false);
+    }
+
+    /// Writes whether a name is present, where it has a place.
+    fn mark(&mut self, v: Node, here: bool)
+        ensures { self.new ≡ record self.old { network = record self.old.network { here = slice_set self.old.network.here v here } } }
+    {
+        let place = v.place();
+        if place < self.here.len() {
+            self.here[place] = here;
+        }
+    }
+
     /// Writes all registers anew.
     pub(crate) fn set_registers(&mut self, registers: RegisterTable)
         ensures { self.new ≡ record self.old { registers = registers } }
@@ -157,8 +207,8 @@ impl PlainNet {
     }
 }
 
-/// The nodes 1 to `nodes`.
-fn first_names(alloc: Global, nodes: u32) -> Result<Vec<Node>, Want>
+/// The names 1 to `nodes`.
+fn all_names(alloc: Global, nodes: u32) -> Result<Vec<Node>, Want>
     requires { nodes ≤ 65535 }
     ensures { IfOk result (λ names. names.items ≡ range_with_len 1 nodes) }
 {
@@ -169,4 +219,23 @@ fn first_names(alloc: Global, nodes: u32) -> Result<Vec<Node>, Want>
         }
     }
     Ok(names)
+}
+
+/// A place for each name up to `nodes`, and place 0 for nobody: the names 1 to `present` are marked.
+fn first_row(alloc: Global, nodes: u32, present: u32) -> Result<Vec<bool>, Want>
+    requires { nodes ≤ 65535 }
+    ensures { IfOk result (λ row. row.items ≡ first_names nodes present) }
+{
+    let mut row = Vec::with_capacity(alloc, nodes as usize + 1)?;
+    for place in 0..nodes + 1 {
+        row.push(is_among_first(place, present))?;
+    }
+    Ok(row)
+}
+
+/// Whether a name is one of the first, so many; 0 is nobody's.
+fn is_among_first(name: u32, present: u32) -> bool
+    ensures { result ≡ (nat_le 1 name && nat_le name present) }
+{
+    1 <= name && name <= present
 }

@@ -1,7 +1,7 @@
 //! Each node's pointer and married flag.
 
-ghost use Rattle.std.specs.Prelude.{◌≡◌, ◌≤◌, IfOk};
-ghost use Rattle.rule_machine.specs.Disturbance.{without_pointer};
+ghost use Rattle.std.specs.Prelude.{◌≡◌, ◌≤◌, map, IfOk};
+ghost use Rattle.rule_machine.specs.Disturbance.{without_pointer, without_name, unless_at};
 ghost use Rattle.rule_machine.specs.State.{blank, pointer_of, flag_of, with_pointer, with_flag, points};
 
 use rule_machine::{Node, Want};
@@ -85,6 +85,22 @@ impl RegisterTable {
         }
     }
 
+    /// Sets a node's pointer and every pointer at it to null, and its flag to false.
+    pub fn drop_name(&mut self, v: Node)
+        ensures { self.new ≡ without_name self.old v }
+    {
+        self.drop_pointers_at(v);
+        self.set_pointer(v, None);
+        self.set_flag(v, false);
+    }
+
+    /// Sets every pointer at a node to null.
+    fn drop_pointers_at(&mut self, v: Node)
+        ensures { self.new ≡ record self.old { pointers = map (unless_at v) self.old.pointers } }
+    {
+        drop_at(&mut self.pointers, v);
+    }
+
     /// Writes a node's flag, where it has a place.
     pub fn set_flag(&mut self, v: Node, value: bool)
         ensures { self.new ≡ with_flag self.old v value }
@@ -94,4 +110,20 @@ impl RegisterTable {
             self.flags[place] = value;
         }
     }
+}
+
+/// Sets every pointer at a node to null, in one pass.
+fn drop_at(pointers: &mut [Option<Node>], v: Node)
+    ensures { pointers.new ≡ map (unless_at v) pointers.old }
+{
+    for pointer in pointers.iter_mut() {
+        *pointer = unless_at(*pointer, v);
+    }
+}
+
+/// A pointer, or null where it is at this node.
+fn unless_at(pointer: Option<Node>, v: Node) -> Option<Node>
+    ensures { result ≡ unless_at v pointer }
+{
+    if pointer == Some(v) { None } else { pointer }
 }

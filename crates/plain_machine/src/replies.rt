@@ -27,9 +27,12 @@ pub(crate) fn may_accept(
     ensures want { OnErr result (IsTrue (takes_memory event.now reply.now)) }
 {
     match event {
-        Event::Link(_, _) | Event::Unlink(_, _) | Event::Point(_, _) | Event::Flag(_, _) => {
-            Ok(is_accepted(reply))
-        }
+        Event::Link(_, _)
+        | Event::Unlink(_, _)
+        | Event::Point(_, _)
+        | Event::Flag(_, _)
+        | Event::Join(_)
+        | Event::Leave(_) => Ok(is_accepted(reply)),
         Event::Step(choice) => Ok(may_move(net, rules, choice.items(), reply)),
         Event::Show(v) => Ok(is_shown(net.pointer(*v), reply)),
         Event::Enabled => are_enabled(net, alloc, rules, reply),

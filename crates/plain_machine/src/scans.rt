@@ -15,8 +15,8 @@ impl PlainNet {
     pub(crate) fn first_suitor(&self, v: Node) -> Option<Node>
         ensures { result ≡ state.first_suitor self.now v }
     {
-        for &w in self.names() {
-            if self.linked(v, w) && self.points(w, v) {
+        for &w in self.all_names() {
+            if self.has(w) && self.linked(v, w) && self.points(w, v) {
                 return Some(w);
             }
         }
@@ -34,8 +34,8 @@ impl PlainNet {
     pub(crate) fn partner(&self, v: Node) -> Option<Node>
         ensures { result ≡ state.partner self.now v }
     {
-        for &w in self.names() {
-            if self.linked(v, w) && self.points(v, w) && self.points(w, v) {
+        for &w in self.all_names() {
+            if self.has(w) && self.linked(v, w) && self.points(v, w) && self.points(w, v) {
                 return Some(w);
             }
         }
@@ -70,8 +70,8 @@ impl PlainNet {
     pub(crate) fn first_null(&self, v: Node) -> Option<Node>
         ensures { result ≡ first_open hsu_huang_opens self.now v }
     {
-        for &w in self.names() {
-            if self.linked(v, w) && self.pointer(w).is_none() {
+        for &w in self.all_names() {
+            if self.has(w) && self.linked(v, w) && self.pointer(w).is_none() {
                 return Some(w);
             }
         }
@@ -89,8 +89,8 @@ impl PlainNet {
     pub(crate) fn first_courted(&self, v: Node) -> Option<Node>
         ensures { result ≡ find (may_court self.now v) (neighbours self.now.network v) }
     {
-        for &w in self.names() {
-            if self.linked(v, w) && self.may_court(v, w) {
+        for &w in self.all_names() {
+            if self.has(w) && self.linked(v, w) && self.may_court(v, w) {
                 return Some(w);
             }
         }

@@ -27,7 +27,7 @@ impl PlainNet {
     }
 
     /// Makes these moves of one step, whether or not a rule allows them. Want of memory changes nothing. Takes some n·m
-    /// steps for each move, with n nodes and m edges.
+    /// steps for each move, with n names and m edges.
     pub fn make_moves(&mut self, alloc: Global, moves: &[Moved]) -> Result<(), Want>
         ensures ok { OnOk result (self.new ≡ after_moves self.old moves.now) }
         ensures err { OnErr result (self.new ≡ self.old) }
@@ -41,9 +41,11 @@ impl PlainNet {
     fn least_moves(&self, alloc: Global, rules: RuleSet, items: &[Item]) -> Result<Vec<Moved>, Want>
         ensures { IfOk result (λ moves. moves.items ≡ least_moves (table_of rules) self.now items.now) }
     {
-        self.names()
+        self.all_names()
             .iter()
-            .filter_map(|v| self.move_of(rules, items, *v))
+            .copied()
+            .filter(|v| self.has(*v))
+            .filter_map(|v| self.move_of(rules, items, v))
             .collect(alloc)
     }
 

@@ -33,8 +33,11 @@ impl PlainNet {
         ensures { IfOk result (λ targets. targets.items ≡ table.allowed_targets (table_of rules) self.now v act) }
     {
         let mut targets = Vec::new(alloc);
-        for &target in self.names() {
-            if self.linked(v, target) && self.is_allowed(rules, v, act, target) {
+        for &target in self.all_names() {
+            if self.has(target)
+                && self.linked(v, target)
+                && self.is_allowed(rules, v, act, target)
+            {
                 targets.push(target)?;
             }
         }
@@ -45,8 +48,8 @@ impl PlainNet {
     pub fn least_target(&self, rules: RuleSet, v: Node, act: Act) -> Option<Node>
         ensures { result ≡ table.least_target (table_of rules) self.now v act }
     {
-        for &w in self.names() {
-            if self.linked(v, w) && self.is_allowed(rules, v, act, w) {
+        for &w in self.all_names() {
+            if self.has(w) && self.linked(v, w) && self.is_allowed(rules, v, act, w) {
                 return Some(w);
             }
         }
@@ -79,8 +82,8 @@ impl PlainNet {
     fn courted_above(&self, v: Node, w: Node) -> Option<Node>
         ensures { result ≡ find (λ x. may_court self.now v x && nat_lt w x) (neighbours self.now.network v) }
     {
-        for &x in self.names() {
-            if self.linked(v, x) && self.may_court(v, x) && w < x {
+        for &x in self.all_names() {
+            if self.has(x) && self.linked(v, x) && self.may_court(v, x) && w < x {
                 return Some(x);
             }
         }

@@ -1,8 +1,9 @@
 -- The set of the enabled nodes, and that a look again near a change keeps it.
-use Rattle.std.proofs.Common.{◌≡◌, ℕ, zero, suc, ◌+◌, ◌<◌, ◌≤◌, Bool, true, false, cond, ◌||◌, List, [], ◌∷◌, length, filter, find, replicate, Option, None, is_some, nat_eq, refl, sym, ap, ◌∙◌, subst, ⊎_elim, arith}
+use Rattle.std.proofs.Common.{◌≡◌, ℕ, suc, ◌+◌, ◌≤◌, Bool, true, false, cond, ◌&&◌, ◌||◌, List, [], ◌∷◌, length, filter, find, replicate, Option, None, is_some, nat_eq, refl, sym, ap, ◌∙◌, subst, ⊎_elim, arith}
 use Rattle.std.specs.List.{range_with_len}
 use Rattle.std.proofs.lemmas.Bool.{cases_Bool, cond-true, cond-false, eqb-true, eq-eqb}
 use Rattle.std.proofs.lemmas.List.{length-replicate, nil_from_length}
+use Rattle.std.proofs.lemmas.List.Elements.{filter_agree}
 use Rattle.rule_machine.specs.declared.act.Act.{Act}
 use Rattle.rule_machine.specs.declared.moved.Moved.{Moved}
 use Rattle.rule_machine.specs.Network.{present}
@@ -11,12 +12,12 @@ use Rattle.rule_machine.specs.RuleTable.{RuleTable, acts, rule_at, enabled_names
 use Rattle.rule_machine.specs.Disturbance.{after_link, after_unlink, after_point, after_flag}
 use Rattle.rule_machine.specs.Step.{after_moves}
 use Rattle.rule_set.specs.Near.{SameAt}
-use Rattle.machine_laws.specs.Neighbours.{present_from}
 use Rattle.machine_laws.specs.Enabled.{quiet_at, act_none}
 use Rattle.enabled_set.specs.Members.{is_in, members}
 use Rattle.rule_engine.specs.Kept.{is_on, AreOn, IsKept}
 use Rattle.rule_engine.specs.Looked.{is_near, is_near_mover, IsLookedAt}
 use Rattle.rule_engine.proofs.Looked.{looked_both}
+use Rattle.rule_engine.proofs.Named.{kept_twice}
 use Rattle.rule_engine.proofs.Opening.{blank_at}
 use Rattle.rule_engine.proofs.Far.{link_far, unlink_far, point_far, flag_far, moves_far}
 
@@ -24,21 +25,22 @@ use Rattle.rule_engine.proofs.Far.{link_far, unlink_far, point_far, flag_far, mo
 abbrev pub IsLocal : RuleTable → Type 0
 IsLocal t = (s u : State) (v : ℕ) (act : Act) → IsState s → IsState u → SameAt s u v → t.guard s v act ≡ t.guard u v act
 
--- so two states of the same nodes that show the same at a node have the same rule enabled there
-same_on : (t : RuleTable) → IsLocal t → (s u : State) (v : ℕ) → IsState s → IsState u → u.network.size ≡ s.network.size → SameAt s u v → is_on t s v ≡ is_on t u v
-same_on t local s u v good good' size same =
-    ap (λ n. is_some (cond (present (record { size = n; edges = s.network.edges }) v) (rule_at t s v) None)) (sym size)
+-- so two states that show the same at a name, present in both or in neither, have the same rule enabled there
+pub same_on : (t : RuleTable) → IsLocal t → (s u : State) (v : ℕ) → IsState s → IsState u → present u.network v ≡ present s.network v → SameAt s u v → is_on t s v ≡ is_on t u v
+same_on t local s u v good good' here same =
+    ap (λ b. is_some (cond b (rule_at t s v) None)) (sym here)
     ∙ ap (λ (g : Act → Bool). is_some (cond (present u.network v) (find g acts) None)) (λ i act. local s u v act good good' same i)
 
--- a change that leaves a state of the same nodes, after which each node was looked at where something else is shown
-pub kept_again : (t : RuleTable) → IsLocal t → (s u : State) (looked : ℕ → Bool) (bits bits' : List Bool) {marks : List Bool} → IsKept t s bits marks → IsState u → u.network.size ≡ s.network.size → ((v : ℕ) → looked v ≡ false → SameAt s u v) → IsLookedAt t u looked bits bits' → IsKept t u bits' marks
-kept_again t local s u looked bits bits' kept good size far done = record {
+-- a change that leaves a state of as many names, after which each name was looked at where something else is shown or the
+-- presence is another
+pub kept_again : (t : RuleTable) → IsLocal t → (s u : State) (looked : ℕ → Bool) (bits bits' : List Bool) {marks : List Bool} → IsKept t s bits marks → IsState u → u.network.size ≡ s.network.size → ((v : ℕ) → looked v ≡ false → present u.network v ≡ present s.network v) → ((v : ℕ) → looked v ≡ false → SameAt s u v) → IsLookedAt t u looked bits bits' → IsKept t u bits' marks
+kept_again t local s u looked bits bits' kept good size here far done = record {
   is_state = good;
   enabled = record {
     places = done.places ∙ kept.enabled.places ∙ ap (λ n. n + 1) (sym size);
     each = λ v. done.each v ∙ ⊎_elim
         (λ (near : looked v ≡ true). cond-true (looked v) (is_on t u v) (is_in bits v) near)
-        (λ (apart : looked v ≡ false). cond-false (looked v) (is_on t u v) (is_in bits v) apart ∙ kept.enabled.each v ∙ same_on t local s u v kept.is_state good size (far v apart))
+        (λ (apart : looked v ≡ false). cond-false (looked v) (is_on t u v) (is_in bits v) apart ∙ kept.enabled.each v ∙ same_on t local s u v kept.is_state good (here v apart) (far v apart))
         (cases_Bool (looked v));
   };
   unmarked = kept.unmarked ∙ ap (λ n. replicate (n + 1) false) (sym size);
@@ -48,39 +50,37 @@ kept_again t local s u looked bits bits' kept good size far done = record {
 -- after a link, a look at the two ends
 pub kept_linked : (t : RuleTable) → IsLocal t → (s u : State) (a b : ℕ) (bits one two : List Bool) {marks : List Bool} → IsKept t s bits marks → IsState u → u ≡ after_link s a b → IsLookedAt t u (λ w. nat_eq w a) bits one → IsLookedAt t u (λ w. nat_eq w b) one two → IsKept t u two marks
 kept_linked t local s u a b bits one two kept good is first next =
-    kept_again t local s u (λ w. nat_eq w a || nat_eq w b) bits two kept good (ap (λ q. q.network.size) is)
+    kept_again t local s u (λ w. nat_eq w a || nat_eq w b) bits two kept good (ap (λ q. q.network.size) is) (λ x _. ap (λ q. present q.network x) is)
     (λ v far. subst (λ q. SameAt s q v) (sym is) (link_far s a b v far))
     (looked_both t u (λ w. nat_eq w a) (λ w. nat_eq w b) bits one two first next)
 
 -- after an unlink, looks round both ends
 pub kept_unlinked : (t : RuleTable) → IsLocal t → (s u : State) (a b : ℕ) (bits one two : List Bool) {marks : List Bool} → IsKept t s bits marks → IsState u → u ≡ after_unlink s a b → IsLookedAt t u (is_near u.network a) bits one → IsLookedAt t u (is_near u.network b) one two → IsKept t u two marks
 kept_unlinked t local s u a b bits one two kept good is first next =
-    kept_again t local s u (λ w. is_near u.network a w || is_near u.network b w) bits two kept good (ap (λ q. q.network.size) is)
+    kept_again t local s u (λ w. is_near u.network a w || is_near u.network b w) bits two kept good (ap (λ q. q.network.size) is) (λ x _. ap (λ q. present q.network x) is)
     (λ v far. subst (λ q. SameAt s q v) (sym is) (unlink_far s a b v (ap (λ q. is_near q.network a v || is_near q.network b v) (sym is) ∙ far)))
     (looked_both t u (is_near u.network a) (is_near u.network b) bits one two first next)
 
 -- after a write of a register, and after the moves of a step, looks round the nodes that were written
 pub kept_pointed : (t : RuleTable) → IsLocal t → (s u : State) (v : ℕ) (target : Option ℕ) (bits bits' : List Bool) {marks : List Bool} → IsKept t s bits marks → IsState u → u ≡ after_point s v target → IsLookedAt t u (is_near u.network v) bits bits' → IsKept t u bits' marks
 kept_pointed t local s u v target bits bits' kept good is done =
-    kept_again t local s u (is_near u.network v) bits bits' kept good (ap (λ q. q.network.size) is)
+    kept_again t local s u (is_near u.network v) bits bits' kept good (ap (λ q. q.network.size) is) (λ x _. ap (λ q. present q.network x) is)
     (λ w far. subst (λ q. SameAt s q w) (sym is) (point_far s v target w (ap (λ q. is_near q.network v w) (sym is) ∙ far))) done
 
 pub kept_flagged : (t : RuleTable) → IsLocal t → (s u : State) (v : ℕ) (value : Bool) (bits bits' : List Bool) {marks : List Bool} → IsKept t s bits marks → IsState u → u ≡ after_flag s v value → IsLookedAt t u (is_near u.network v) bits bits' → IsKept t u bits' marks
 kept_flagged t local s u v value bits bits' kept good is done =
-    kept_again t local s u (is_near u.network v) bits bits' kept good (ap (λ q. q.network.size) is)
+    kept_again t local s u (is_near u.network v) bits bits' kept good (ap (λ q. q.network.size) is) (λ x _. ap (λ q. present q.network x) is)
     (λ w far. subst (λ q. SameAt s q w) (sym is) (flag_far s v value w (ap (λ q. is_near q.network v w) (sym is) ∙ far))) done
 
 pub kept_moved : (t : RuleTable) → IsLocal t → (s u : State) (moves : List Moved) (bits bits' : List Bool) {marks : List Bool} → IsKept t s bits marks → IsState u → u ≡ after_moves s moves → IsLookedAt t u (is_near_mover u.network moves) bits bits' → IsKept t u bits' marks
 kept_moved t local s u moves bits bits' kept good is done =
-    kept_again t local s u (is_near_mover u.network moves) bits bits' kept good (ap (λ q. q.network.size) is)
+    kept_again t local s u (is_near_mover u.network moves) bits bits' kept good (ap (λ q. q.network.size) is) (λ x _. ap (λ q. present q.network x) is)
     (λ w far. subst (λ q. SameAt s q w) (sym is) (moves_far s moves w (ap (λ q. is_near_mover q.network moves w) (sym is) ∙ far))) done
 
--- two tests that agree at the numbers of a range keep the same of them
-range_agree : (p q : ℕ → Bool) (a n : ℕ) → ((v : ℕ) → a ≤ v → v < a + n → p v ≡ q v) → filter p (range_with_len a n) ≡ filter q (range_with_len a n)
-range_agree p q a zero same = refl
-range_agree p q a (suc n) same =
-    ap (λ b. cond b (a ∷ filter p (range_with_len (a + 1) n)) (filter p (range_with_len (a + 1) n))) (same a (omega arith) (omega arith))
-    ∙ ap (λ xs. cond (q a) (a ∷ xs) xs) (range_agree p q (a + 1) n (λ v low high. same v (omega arith) (omega arith)))
+-- a rule that only present nodes have
+by_presence : {X : Type 0} (here : Bool) (o : Option X) → is_some (cond here o None) ≡ (here && is_some o)
+by_presence true o = refl
+by_presence false o = refl
 
 -- the members are the enabled nodes, since no rule is enabled at nobody's place
 pub members_on : (t : RuleTable) (s : State) (bits : List Bool) → AreOn t s bits → members bits ≡ enabled_names t s
@@ -89,7 +89,8 @@ members_on t s bits on =
     ap (λ n. filter (is_in bits) (range_with_len 0 n)) count
     ∙ ap (λ b. cond b (0 ∷ filter (is_in bits) (range_with_len (0 + 1) s.network.size)) (filter (is_in bits) (range_with_len (0 + 1) s.network.size))) (on.each 0)
     ∙ ap (λ a. filter (is_in bits) (range_with_len a s.network.size)) (let one : 0 + 1 ≡ 1 = omega arith in one)
-    ∙ range_agree (is_in bits) (λ v. is_some (rule_at t s v)) 1 s.network.size (λ v low high. on.each v ∙ ap (λ b. is_some (cond b (rule_at t s v) None)) (present_from s.network v low (omega arith)))
+    ∙ filter_agree (is_in bits) (λ v. present s.network v && is_some (rule_at t s v)) (λ v. on.each v ∙ by_presence (present s.network v) (rule_at t s v)) (range_with_len 1 s.network.size)
+    ∙ sym (kept_twice (λ v. is_some (rule_at t s v)) (present s.network) (range_with_len 1 s.network.size))
 
 none_on : (t : RuleTable) (s : State) (v : ℕ) (b : Bool) → present s.network v ≡ b → enabled_names t s ≡ [] → is_some (cond b (rule_at t s v) None) ≡ false
 none_on t s v true has quiet = ap is_some (act_none (t.guard s v) (quiet_at t s quiet v has))

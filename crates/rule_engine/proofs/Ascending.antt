@@ -22,7 +22,7 @@ use Rattle.rule_machine.specs.Refuse.{item_refusal, items_refusal}
 use Rattle.rule_machine.specs.Least.{outcome_of, move_in, item_of, least_moves}
 use Rattle.machine_laws.specs.Pairs.{contains_first, contains_rest, contains_empty, contains_cases, filter_map_from}
 use Rattle.machine_laws.specs.LeastMoves.{makes_from_outcome, move_at, find_passes}
-use Rattle.machine_laws.specs.LeastAnswers.{find_contains, filter_map_contains, filter_map_nodes, range_increasing, names_contains}
+use Rattle.machine_laws.specs.LeastAnswers.{find_contains, filter_map_contains, filter_map_nodes, names_increasing, names_contains}
 use Rattle.machine_laws.specs.Accepted.{taken_from_none, taken_at, choice_from_none}
 use Rattle.rule_engine.specs.Choosing.{verdicts_from, moves_of, AreLeast}
 
@@ -173,7 +173,7 @@ least_rises : (t : RuleTable) (s : State) (items : List Item) → IsStrictlyIncr
 unfolding node_of
 least_rises t s items =
     subst IsStrictlyIncreasing (sym (filter_map_nodes (move_at t s items) at_node (names s.network)))
-    (IsStrictlyIncreasing-filter (λ v. is_some (move_at t s items v)) (names s.network) (range_increasing 1 s.network.size))
+    (IsStrictlyIncreasing-filter (λ v. is_some (move_at t s items v)) (names s.network) (names_increasing s.network))
   where
     at_node : (v : ℕ) (m : Moved) → move_at t s items v ≡ Some m → m.node ≡ v
     at_node v m e =

@@ -5,7 +5,7 @@ use Rattle.rule_machine.specs.declared.choice.Item.{Item}
 use Rattle.rule_machine.specs.declared.moved.Moved.{Moved}
 use Rattle.rule_machine.specs.State.{State, IsState}
 use Rattle.rule_machine.specs.RuleTable.{RuleTable}
-use Rattle.rule_machine.specs.Step.{written, after_move, after_moves, registers_after}
+use Rattle.rule_machine.specs.Step.{after_moves, registers_after}
 use Rattle.rule_machine.specs.Least.{least_moves}
 use Rattle.machine_laws.specs.Keeps.{IsMoveIn, moves_keep}
 use Rattle.machine_laws.specs.LeastMoves.{IsTable, least_moves_in}

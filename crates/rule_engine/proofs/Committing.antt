@@ -1,7 +1,7 @@
 -- The moves that a reply tells are of nodes that are present, to neighbours.
 use Rattle.std.proofs.Common.{◌≡◌, ℕ, List, [], Option, None, Some, All, ap}
 use Rattle.rule_machine.specs.declared.event.Event.{Event}
-use Rattle.rule_machine.specs.declared.event.Event.TheVariants.{Link, Unlink, Point, Flag, Step, Show, Enabled, Matching, Status}
+use Rattle.rule_machine.specs.declared.event.Event.TheVariants.{Link, Unlink, Point, Flag, Step, Show, Enabled, Matching, Status, Join, Leave}
 use Rattle.rule_machine.specs.declared.moved.Moved.{Moved}
 use Rattle.rule_machine.specs.declared.refusal.Refusal.{Refusal}
 use Rattle.rule_machine.specs.declared.reply.Reply.{Reply}
@@ -24,6 +24,8 @@ moves_accepted t table s spent (Link a b) moves told = absurd cc
 moves_accepted t table s spent (Unlink a b) moves told = absurd cc
 moves_accepted t table s spent (Point v target) moves told = absurd cc
 moves_accepted t table s spent (Flag v value) moves told = absurd cc
+moves_accepted t table s spent (Join v) moves told = absurd cc
+moves_accepted t table s spent (Leave v) moves told = absurd cc
 moves_accepted t table s spent (Step items) moves told =
     let is : moves ≡ least_moves t s items = ap moves_told told in moves_in t table s items moves is
 moves_accepted t table s spent (Show v) moves told = absurd cc

@@ -4,14 +4,14 @@ use Rattle.std.specs.List.{range_with_len}
 use Rattle.std.proofs.lemmas.List.{append-nil, length-append}
 use Rattle.std.proofs.lemmas.List.Sums.{sum_by_more, sum_by_push, sum_by-cons, count_by-le-length, length-filter}
 use Rattle.std.proofs.lemmas.Nat.{mul-le}
-use Rattle.rule_machine.specs.Network.{Network, IsNetwork, names, neighbours, linked, node_count, edge_count, edge_list}
+use Rattle.rule_machine.specs.Network.{Network, IsNetwork, names, present, neighbours, linked, node_count, edge_count, edge_list}
 use Rattle.rule_machine.specs.State.{State, is_unanswered}
 use Rattle.charge_laws.specs.Charged.{charge_bound}
 use Rattle.charge_laws.specs.Counting.{sum_add}
 use Rattle.charge_laws.specs.EdgesByNodes.{edges_by_nodes}
-use Rattle.charge_laws.specs.Members.{names_len}
 use Rattle.rule_engine.specs.Charges.{open_above, node_part}
 use Rattle.rule_engine.proofs.Found.{range_more, found_more}
+use Rattle.rule_engine.proofs.Named.{few_names, sum_named}
 
 -- one more item that passes the test, or does not
 pub counted_more : (p : ℕ → Bool) (xs : List ℕ) (i x count after : ℕ) (b : Bool) → i < length xs → x ≡ get_or xs i x → count ≡ count_by p (take i xs) → b ≡ p x → after ≡ count + cond b 1 0 → after ≡ count_by p (take (i + 1) xs)
@@ -24,7 +24,8 @@ pub few_neighbours : (net : Network) (v : ℕ) → length (neighbours net v) ≤
 few_neighbours net v =
     let passing = length-filter (linked net v) (names net) in
     let most = count_by-le-length (linked net v) (names net) in
-    omega (arith, passing, most, names_len net)
+    let fewer = few_names net in
+    omega (arith, passing, most, fewer)
 
 -- a sum over the names below p, and p
 pub summed_more : (f : ℕ → ℕ) (p sum after : ℕ) → 1 ≤ p → sum ≡ sum_by f (range_with_len 1 (p - 1)) → after ≡ sum + f p → after ≡ sum_by f (range_with_len 1 (p + 1 - 1))
@@ -45,6 +46,14 @@ found_count_more f p count low so_far =
     by_found : {X : Type 0} (all : List X) (o : Option X) → length all + cond (is_some o) 1 0 ≡ length (all ++ option_to_list o)
     by_found all None = let same = ap length (append-nil all) in omega (arith, same)
     by_found all (Some x) = sym (length-append all (x ∷ []))
+
+-- what a name adds: nothing where no node has it
+abbrev pub name_part : (ℕ × ℕ → Bool) → (ℕ → ℕ) → State → ℕ → ℕ
+name_part closed adds s v = cond (present s.network v) (node_part closed adds s v) 0
+
+-- all names add what the nodes add
+pub names_part : (closed : ℕ × ℕ → Bool) (adds : ℕ → ℕ) (s : State) → sum_by (node_part closed adds s) (names s.network) ≡ sum_by (name_part closed adds s) (range_with_len 1 s.network.size)
+names_part closed adds s = sum_named (node_part closed adds s) (present s.network) (range_with_len 1 s.network.size)
 
 -- the parts of the nodes come to the charge
 pub parts_are_charge : (closed : ℕ × ℕ → Bool) (adds : ℕ → ℕ) (s : State) → IsNetwork s.network → sum_by (node_part closed adds s) (names s.network) ≡ 2 * count_by (λ e. not (closed e)) (edge_list s.network) + count_by (is_unanswered s) (names s.network) + sum_by adds (names s.network)

@@ -54,16 +54,16 @@ linked_with_edge : (net : Network) (a b w x : ℕ) → (w ≡ a → ⊥) → (w 
 linked_with_edge net a b w x not_a not_b =
     sym (contains-insert net.edges (edge a b) (edge w x) ∙ ap (λ e. e || map.contains_key net.edges (edge w x)) (other_pair a b w x not_a not_b))
 
-linked_without_edge : (net : Network) (a b w x : ℕ) → (w ≡ a → ⊥) → (w ≡ b → ⊥) → linked net w x ≡ linked (without_edge net a b) w x
+pub linked_without_edge : (net : Network) (a b w x : ℕ) → (w ≡ a → ⊥) → (w ≡ b → ⊥) → linked net w x ≡ linked (without_edge net a b) w x
 linked_without_edge net a b w x not_a not_b =
     sym (contains-remove net.edges (edge a b) (edge w x) ∙ ap (λ e. not e && map.contains_key net.edges (edge w x)) (other_pair a b w x not_a not_b))
 
 -- nodes that are linked alike have the same neighbours
-same_neighbours : (net net' : Network) (w : ℕ) → net'.size ≡ net.size → ((x : ℕ) → linked net w x ≡ linked net' w x) → neighbours net w ≡ neighbours net' w
-same_neighbours net net' w size same =
-    ap (λ (p : ℕ → Bool). filter p (names net)) (λ i x. same x i) ∙ ap (λ n. filter (linked net' w) (names (record { size = n; edges = net.edges }))) (sym size)
+same_neighbours : (net net' : Network) (w : ℕ) → names net' ≡ names net → ((x : ℕ) → linked net w x ≡ linked net' w x) → neighbours net w ≡ neighbours net' w
+same_neighbours net net' w alike same =
+    ap (λ (p : ℕ → Bool). filter p (names net)) (λ i x. same x i) ∙ ap (filter (linked net' w)) (sym alike)
 
-not_same : (v w : ℕ) → nat_eq w v ≡ false → w ≡ v → ⊥
+pub not_same : (v w : ℕ) → nat_eq w v ≡ false → w ≡ v → ⊥
 not_same v w apart same = true≢false (sym (eq-eqb w v same) ∙ apart)
 
 pub link_far : (s : State) (a b w : ℕ) → (nat_eq w a || nat_eq w b) ≡ false → SameAt s (after_link s a b) w

@@ -1,4 +1,5 @@
 pub mod Found
+pub mod Named
 pub mod Judged
 pub mod Scanned
 pub mod Carried
@@ -7,6 +8,8 @@ pub mod Committing
 pub mod Looked
 pub mod Far
 pub mod Again
+pub mod Coming
+pub mod Leaving
 pub mod Opening
 pub mod Marked
 pub mod Ascending

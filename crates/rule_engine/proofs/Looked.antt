@@ -7,7 +7,7 @@ use Rattle.std.proofs.lemmas.List.Folds.{list_any_more}
 use Rattle.rule_machine.specs.Network.{Network, IsNetwork, linked, neighbours}
 use Rattle.rule_machine.specs.State.{State}
 use Rattle.rule_machine.specs.RuleTable.{RuleTable}
-use Rattle.machine_laws.specs.Neighbours.{present_range, linked_present, linked_back}
+use Rattle.machine_laws.specs.Neighbours.{present_range, linked_present, linked_back, neighbours_range}
 use Rattle.rule_engine.specs.Kept.{is_on}
 use Rattle.rule_engine.specs.Looked.{IsLookedAt}
 
@@ -73,7 +73,8 @@ listed_out p w (x ∷ xs) off =
 -- the list of a node's neighbours has just the nodes that are linked to it
 pub listed_neighbours : (net : Network) (v w : ℕ) → IsNetwork net → list_any (nat_eq w) (neighbours net v) ≡ linked net v w
 listed_neighbours net v w good =
-    ⊎_elim
+    ap (list_any (nat_eq w)) (neighbours_range net v good)
+    ∙ ⊎_elim
     (λ (on : linked net v w ≡ true).
     let bounds = present_range net w (linked_present net w v good (linked_back net w v ∙ on)) in
     listed_in (linked net v) 1 net.size w on bounds.0 (omega arith) ∙ sym on)

@@ -1,8 +1,8 @@
 -- Marks that are made and cleared one by one.
-use Rattle.std.proofs.Common.{◌≡◌, ℕ, zero, suc, ◌+◌, ◌<◌, ◌≤◌, Bool, true, false, cond, ◌&&◌, ◌||◌, List, [], ◌∷◌, ◌++◌, length, get_or, replicate, take, drop, set, All, Option, None, Some, is_some, IsSome, IsTrue, nat_eq, nat_le, refl, sym, ap, ◌∙◌, subst, ⊎_elim, arith, eq-eqb}
+use Rattle.std.proofs.Common.{◌≡◌, ℕ, zero, suc, ◌+◌, ◌<◌, ◌≤◌, Bool, true, false, cond, ◌||◌, List, [], ◌∷◌, ◌++◌, length, get_or, replicate, take, drop, set, All, Option, None, Some, is_some, IsSome, nat_eq, refl, sym, ap, ◌∙◌, subst, ⊎_elim, arith, eq-eqb}
 use Rattle.std.specs.List.{list_any}
 use Rattle.std.specs.Option.{option_or}
-use Rattle.std.proofs.lemmas.Bool.{and_parts, cases_Bool, cases_eq, cases_lt, leb-true, ne_eqb, true≢false}
+use Rattle.std.proofs.lemmas.Bool.{cases_Bool, cases_eq, cases_lt, ne_eqb, true≢false}
 use Rattle.std.proofs.lemmas.List.{ext_get_or, get_or-set_same, get_or-set_other, get_or_past, drop_more, length-set}
 use Rattle.std.proofs.lemmas.List.Folds.{list_any_more, list_any_at}
 use Rattle.rule_machine.specs.declared.choice.Item.{Item}
@@ -15,6 +15,7 @@ use Rattle.rule_machine.specs.State.{State}
 use Rattle.rule_machine.specs.RuleTable.{RuleTable, rule_at}
 use Rattle.rule_machine.specs.Refuse.{items_refusal}
 use Rattle.rule_machine.specs.Least.{move_in, outcome_of, outcome_at}
+use Rattle.machine_laws.specs.Neighbours.{present_range}
 use Rattle.enabled_set.specs.Members.{is_in}
 use Rattle.rule_engine.specs.Choosing.{refused_by, verdicts_refusal, verdicts_from, verdicts_of}
 use Rattle.rule_engine.specs.Marks.{AreClear, AreMarks, HasPlace, is_named, is_judged}
@@ -114,15 +115,11 @@ items_refusal_more t s items k item within is none =
     ∙ ap (λ i. items_refusal t s (take k items) (i ∷ drop (k + 1) items)) is
     ∙ ap (items_refusal t s (take k items)) (sym (drop_more items k item within))
 
--- the place of a node that is present
-present_below : (size v : ℕ) → IsTrue (nat_le 1 v && nat_le v size) → v < size + 1
-present_below size v has = let bound = leb-true v size (and_parts (nat_le 1 v) (nat_le v size) has).1 in omega (arith, bound)
-
 -- the node of an item that moves is present, and so has a place
 pub item_placed : (t : RuleTable) (s : State) (item : Item) (places : ℕ) → places ≡ s.network.size + 1 → HasPlace places item.node (outcome_of t s item)
 item_placed t s item places count = λ moves.
     ⊎_elim
-    (λ (has : present s.network item.node ≡ true). let below = present_below s.network.size item.node has in omega (arith, below, count))
+    (λ (has : present s.network item.node ≡ true). let bounds = present_range s.network item.node has in omega (arith, bounds.1, count))
     (λ (none : present s.network item.node ≡ false). absurd (true≢false (sym moves ∙ ap (λ b. is_some (move_in (cond b (outcome_at t s item (rule_at t s item.node)) outcome.Absent))) none)))
     (cases_Bool (present s.network item.node))
 

@@ -9,7 +9,7 @@ use Rattle.rule_machine.specs.RuleTable.{RuleTable}
 use Rattle.rule_machine.specs.Refuse.{refusal_of}
 use Rattle.rule_machine.specs.Answer.{Answers, spent_after}
 use Rattle.rule_machine.specs.Least.{reply_of, state_after, replies_of}
-use Rattle.rule_machine.specs.Run.{Moment, Run, beginning, moment_after}
+use Rattle.rule_machine.specs.Run.{Moment, Run, beginning_with, moment_after}
 use Rattle.machine_laws.specs.Keeps.{opening_is_state}
 use Rattle.machine_laws.specs.LeastMoves.{IsTable}
 use Rattle.machine_laws.specs.Accepted.{state_after_keeps}
@@ -23,8 +23,8 @@ use Rattle.rule_engine.specs.Kept.{moment}
 
 -- ---- what is spent
 
-pub beginning_is_paid : (t : RuleTable) (weight : ℕ) → IsCharged t weight → (size : ℕ) → IsPaid t weight (beginning size)
-beginning_is_paid t weight charged size = record { is_state = opening_is_state size; within = beginning_is_within t weight charged size }
+pub beginning_is_paid : (t : RuleTable) (weight : ℕ) → IsCharged t weight → (size count : ℕ) → IsPaid t weight (beginning_with size count)
+beginning_is_paid t weight charged size count = record { is_state = opening_is_state size count; within = beginning_is_within t weight charged size count }
 
 -- an answer of the machine, and what its reply spends
 pub answer_is_paid : (t : RuleTable) (weight : ℕ) → IsTable t → IsCharged t weight → (m : Moment) → IsPaid t weight m → (event : Event) (reply : Reply) (s : State) → Answers t m.state m.spent event reply s → IsPaid t weight (moment s (spent_after m.spent reply))

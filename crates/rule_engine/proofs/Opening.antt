@@ -3,7 +3,7 @@ use Rattle.std.proofs.Common.{◌≡◌, ℕ, ◌+◌, ◌<◌, ◌≤◌, Bool,
 use Rattle.std.proofs.lemmas.Bool.{cases_lt, true≢false}
 use Rattle.std.proofs.lemmas.List.{length-replicate, get_or-replicate, get_or_past}
 use Rattle.rule_machine.specs.Network.{edge}
-use Rattle.rule_machine.specs.State.{opening, pointer}
+use Rattle.rule_machine.specs.State.{opening_with, pointer}
 use Rattle.rule_machine.specs.Stable.{IsStable}
 use Rattle.machine_laws.specs.Pointers.{null_unmarried}
 use Rattle.machine_laws.specs.Edges.{contains-empty}
@@ -17,9 +17,9 @@ blank_at n v x =
     (cases_lt v n)
 
 -- every pointer is null, there is no edge, and nobody is flagged or married
-pub opening_is_stable : (uses_flags : Bool) (size : ℕ) → IsStable uses_flags (opening size)
-opening_is_stable uses_flags size = record {
-  answered = λ v. subst (λ o. IfSome o (λ w. pointer (opening size) w ≡ Some v)) (sym (blank_at (size + 1) v None)) tt;
+pub opening_is_stable : (uses_flags : Bool) (size count : ℕ) → IsStable uses_flags (opening_with size count)
+opening_is_stable uses_flags size count = record {
+  answered = λ v. subst (λ o. IfSome o (λ w. pointer (opening_with size count) w ≡ Some v)) (sym (blank_at (size + 1) v None)) tt;
   covered = λ v w linked there back. true≢false (sym linked ∙ contains-empty (edge v w));
-  flagged = λ _ v _. blank_at (size + 1) v false ∙ sym (null_unmarried (opening size) v (blank_at (size + 1) v None));
+  flagged = λ _ v _. blank_at (size + 1) v false ∙ sym (null_unmarried (opening_with size count) v (blank_at (size + 1) v None));
 }

@@ -1,5 +1,5 @@
 -- Lists that scans of all names, or of the enabled ones, make.
-use Rattle.std.proofs.Common.{◌≡◌, ℕ, zero, suc, ◌+◌, ◌<◌, ◌≤◌, cond, List, [], ◌∷◌, ◌++◌, length, get_or, take, filter, filter_map, SomeIff, Option, None, Some, Result, Ok, is_ok, is_some, option_map, option_to_list, IsTrue, refl, sym, ap, ◌∙◌, subst, arith}
+use Rattle.std.proofs.Common.{◌≡◌, ℕ, ◌+◌, ◌<◌, Bool, true, false, cond, List, [], ◌∷◌, ◌++◌, length, get_or, take, filter, filter_map, SomeIff, Option, None, Some, Result, Ok, is_ok, is_some, option_map, option_to_list, IsTrue, refl, sym, ap, ◌∙◌, subst}
 use Rattle.std.specs.List.{range_with_len, cons_option}
 use Rattle.std.proofs.lemmas.List.{append-nil}
 use Rattle.std.proofs.lemmas.List.Elements.{filter_map-append}
@@ -7,7 +7,6 @@ use Rattle.rule_machine.specs.declared.act.Act.{Act}
 use Rattle.rule_machine.specs.Network.{present}
 use Rattle.rule_machine.specs.State.{State}
 use Rattle.rule_machine.specs.RuleTable.{RuleTable, rule_at, enabled_names, enabled}
-use Rattle.machine_laws.specs.Neighbours.{present_from}
 use Rattle.rule_engine.specs.Kept.{guard_at, marked_at}
 use Rattle.rule_engine.proofs.Found.{push_is_take, one_found}
 
@@ -19,16 +18,25 @@ marked_by : (f : ℕ → Option (ℕ × Act)) (v : ℕ) (act : Option Act) (rest
 marked_by f v None rest ps at is = is
 marked_by f v (Some a) rest ps at is = ap (λ o. cons_option o (filter_map f rest)) at ∙ ap (λ l. (v, a) ∷ l) is
 
-enabled_in : (t : RuleTable) (s : State) (a n : ℕ) → 1 ≤ a → a + n ≤ s.network.size + 1 → filter_map (marked_at t s) (filter (λ v. is_some (rule_at t s v)) (range_with_len a n)) ≡ filter_map {Y = ℕ × Act} (λ v. option_map (λ act. (v, act)) (rule_at t s v)) (range_with_len a n)
-enabled_in t s a zero low high = refl
-enabled_in t s a (suc n) low high =
-    marked_by (marked_at t s) a (rule_at t s a) (filter (λ v. is_some (rule_at t s v)) (range_with_len (a + 1) n)) _
-    (ap (λ (o : Option Act). option_map (λ act. (a, act)) o) (guard_at_present t s a (present_from s.network a low (omega arith))))
-    (enabled_in t s (a + 1) n (omega arith) (omega arith))
+-- the rule at a name, with the name
+found : RuleTable → State → ℕ → Option (ℕ × Act)
+found t s v = option_map (λ act. (v, act)) (rule_at t s v)
+
+enabled_in : (t : RuleTable) (s : State) (xs : List ℕ) → filter_map (marked_at t s) (filter (λ v. is_some (rule_at t s v)) (filter (present s.network) xs)) ≡ filter_map (found t s) (filter (present s.network) xs)
+unfolding found
+enabled_in t s [] = refl
+enabled_in t s (v ∷ xs) = step (present s.network v) refl (filter (present s.network) xs) (enabled_in t s xs)
+  where
+    step : (b : Bool) → present s.network v ≡ b → (here : List ℕ) → filter_map (marked_at t s) (filter (λ w. is_some (rule_at t s w)) here) ≡ filter_map (found t s) here → filter_map (marked_at t s) (filter (λ w. is_some (rule_at t s w)) (cond b (v ∷ here) here)) ≡ filter_map (found t s) (cond b (v ∷ here) here)
+    step true has here rest =
+        marked_by (marked_at t s) v (rule_at t s v) (filter (λ w. is_some (rule_at t s w)) here) (filter_map (found t s) here)
+        (ap (λ (o : Option Act). option_map (λ act. (v, act)) o) (guard_at_present t s v has)) rest
+    step false has here rest = rest
 
 -- the enabled nodes with the rules that are found at them
 pub enabled_listed : (t : RuleTable) (s : State) → filter_map (marked_at t s) (enabled_names t s) ≡ enabled t s
-enabled_listed t s = enabled_in t s 1 s.network.size (omega arith) (omega arith)
+unfolding found
+enabled_listed t s = enabled_in t s (range_with_len 1 s.network.size)
 
 -- what is found in the items so far, and in the next
 pub filter_map_take_more : {X Y : Type 0} (f : X → Option Y) (xs : List X) (i : ℕ) (x : X) → i < length xs → x ≡ get_or xs i x → filter_map f (take (i + 1) xs) ≡ filter_map f (take i xs) ++ option_to_list (f x)

@@ -1,12 +1,12 @@
 -- What preparing and carrying out an event brings.
 use Rattle.std.specs.Prelude.{◌≡◌, ℕ, ◌<◌, ◌⊎◌, Bool, true, false, List, [], ◌∷◌, length, take, slice_get, IsSomeAnd, None, Result, IfOk, OnErr, IsTrue}
 use Rattle.rule_machine.specs.declared.event.Event.{Event}
-use Rattle.rule_machine.specs.declared.event.Event.TheVariants.{Link, Unlink, Point, Flag, Step, Show, Enabled, Matching, Status}
+use Rattle.rule_machine.specs.declared.event.Event.TheVariants.{Link, Unlink, Point, Flag, Step, Show, Enabled, Matching, Status, Join, Leave}
 use Rattle.rule_machine.specs.declared.reply.Reply.{Reply}
 use Rattle.rule_machine.specs.State.{State, IsState}
 use Rattle.rule_machine.specs.RuleTable.{RuleTable}
 use Rattle.rule_machine.specs.Refuse.{refusal_of}
-use Rattle.rule_machine.specs.Disturbance.{after_link, after_unlink, after_point, after_flag}
+use Rattle.rule_machine.specs.Disturbance.{after_link, after_unlink, after_point, after_flag, after_join, after_leave}
 use Rattle.rule_machine.specs.Least.{reply_of}
 use Rattle.rule_machine.specs.Run.{Moment, moment_after}
 use Rattle.charge_laws.specs.Charged.{IsWithinBound}
@@ -19,6 +19,8 @@ takes_memory (Link a b) = true
 takes_memory (Unlink a b) = false
 takes_memory (Point v target) = false
 takes_memory (Flag v value) = false
+takes_memory (Join v) = false
+takes_memory (Leave v) = false
 takes_memory (Step items) = true
 takes_memory (Show v) = false
 takes_memory Enabled = true
@@ -39,6 +41,8 @@ disturbed s (Link a b) = after_link s a b
 disturbed s (Unlink a b) = after_unlink s a b
 disturbed s (Point v target) = after_point s v target
 disturbed s (Flag v value) = after_flag s v value
+disturbed s (Join v) = after_join s v
+disturbed s (Leave v) = after_leave s v
 disturbed s (Step items) = s
 disturbed s (Show v) = s
 disturbed s Enabled = s

@@ -5,7 +5,7 @@ use Rattle.graph_store.specs.declared.fault.GraphFault.TheVariants as fault
 use Rattle.rule_machine.specs.declared.refusal.Refusal.{Refusal}
 use Rattle.rule_machine.specs.declared.reply.Reply.{Reply}
 use Rattle.rule_machine.specs.declared.reply.Reply.TheVariants.{Accepted, Refused}
-use Rattle.rule_machine.specs.declared.refusal.Refusal.TheVariants.{UnknownNode, SelfLoop, AlreadyLinked, NotLinked, TooManyEdges}
+use Rattle.rule_machine.specs.declared.refusal.Refusal.TheVariants.{UnknownNode, SelfLoop, AlreadyLinked, NotLinked, TooManyEdges, AlreadyPresent}
 
 -- the refusal for which a fault stands, if it is one
 abbrev pub refused_as : GraphFault → Option Refusal
@@ -14,6 +14,7 @@ refused_as fault.SelfLoop = Some SelfLoop
 refused_as fault.AlreadyLinked = Some AlreadyLinked
 refused_as fault.NotLinked = Some NotLinked
 refused_as fault.TooManyEdges = Some TooManyEdges
+refused_as fault.AlreadyPresent = Some AlreadyPresent
 refused_as fault.TooManyNodes = None
 refused_as fault.Memory = None
 

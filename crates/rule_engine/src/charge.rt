@@ -1,6 +1,6 @@
 //! The charge of a state, and what moves have spent of it.
 
-ghost use Rattle.std.specs.Prelude.{◌≡◌, ◌<◌, ◌≤◌, ◌&&◌, IsTrue, nat_lt, not, sum_by};
+ghost use Rattle.std.specs.Prelude.{◌≡◌, ◌<◌, ◌≤◌, ◌&&◌, IsTrue, if◌then◌else◌, nat_lt, not, sum_by};
 ghost use Rattle.charge_laws.specs.Charged.{charge_bound};
 ghost use Rattle.rule_machine.specs.Answer.{spent_after};
 ghost use Rattle.rule_machine.specs.Network.{names, present};
@@ -79,18 +79,29 @@ fn charge_at<R: Rules>(state: &IndexedState<R>, v: Node) -> u64
         + 2 * u64::from(open_edges(state, &here))
 }
 
+/// What a name adds to the charge: nothing where no node has it.
+fn charge_of_name<R: Rules>(state: &IndexedState<R>, v: Node) -> u64
+    ensures value { result ≡ (if present state.now.state.network v then node_part (R.closed state.now.state) (R.adds state.now.state) state.now.state v else 0) }
+    ensures little { result < 8589934592 }
+{
+    if !state.store().has(v) {
+        return 0;
+    }
+    charge_at(state, v)
+}
+
 /// What all nodes add to the charge.
 fn charge_of_all<R: Rules>(state: &IndexedState<R>) -> u64
     ensures { result ≡ sum_by (node_part (R.closed state.now.state) (R.adds state.now.state) state.now.state) (names state.now.state.network) }
 {
     let mut charge = 0;
-    for name in 1..state.store().nodes() + 1 {
-        charge += charge_at(state, Node::new(name).unwrap());
+    for name in 1..state.store().capacity() + 1 {
+        charge += charge_of_name(state, Node::new(name).unwrap());
     }
     charge
 }
 
-/// The charge of a state. A look at every node and at every edge.
+/// The charge of a state. A look at every name, and at every edge.
 pub(crate) fn charge_of<R: Rules>(state: &IndexedState<R>) -> u32
     ensures { result ≡ R.table.charge state.now.state }
 {

@@ -1,7 +1,7 @@
 //! Refusals of edits and faults.
 
 ghost use Rattle.std.specs.Prelude.{◌≡◌};
-ghost use Rattle.rule_machine.specs.Refuse.{unlink_refusal, point_refusal, flag_refusal};
+ghost use Rattle.rule_machine.specs.Refuse.{unlink_refusal, point_refusal, flag_refusal, join_refusal, leave_refusal};
 ghost use Rattle.rule_engine.specs.Refused.{refused_as, edit_reply};
 
 use graph_store::{EdgeStore, GraphFault};
@@ -18,6 +18,7 @@ pub(crate) fn refusal_of(fault: GraphFault) -> Option<Refusal>
         GraphFault::AlreadyLinked => Some(Refusal::AlreadyLinked),
         GraphFault::NotLinked => Some(Refusal::NotLinked),
         GraphFault::TooManyEdges => Some(Refusal::TooManyEdges),
+        GraphFault::AlreadyPresent => Some(Refusal::AlreadyPresent),
         GraphFault::TooManyNodes | GraphFault::Memory => None,
     }
 }
@@ -54,6 +55,30 @@ pub(crate) fn refused_flag<R: Rules>(store: &EdgeStore, v: Node) -> Option<Refus
     if !R::FLAGS {
         Some(Refusal::NoFlag)
     } else if store.has(v) {
+        None
+    } else {
+        Some(Refusal::UnknownNode)
+    }
+}
+
+/// Why a name does not become present, if it does not.
+pub(crate) fn refused_join(store: &EdgeStore, v: Node) -> Option<Refusal>
+    ensures { result ≡ join_refusal store.now.network v }
+{
+    if v.name() > store.capacity() {
+        Some(Refusal::UnknownNode)
+    } else if store.has(v) {
+        Some(Refusal::AlreadyPresent)
+    } else {
+        None
+    }
+}
+
+/// Why a node does not leave, if it does not.
+pub(crate) fn refused_leave(store: &EdgeStore, v: Node) -> Option<Refusal>
+    ensures { result ≡ leave_refusal store.now.network v }
+{
+    if store.has(v) {
         None
     } else {
         Some(Refusal::UnknownNode)

@@ -1,19 +1,19 @@
 //! A state under a rule set, and what carries out events on it.
 
-ghost use Rattle.std.specs.Prelude.{All, ◌≡◌, ◌<◌, ◌≤◌, ◌↔◌, ℕ, [], IfOk, IfErr, IfSome, OnOk, IsTrue, None, length, slice_get};
+ghost use Rattle.std.specs.Prelude.{All, ◌≡◌, ◌<◌, ◌≤◌, ◌↔◌, ℕ, [], IfOk, IfErr, IfSome, OnOk, IsTrue, None, false, length, slice_get};
 ghost use Rattle.enabled_set.specs.Members.{members};
 ghost use Rattle.graph_store.specs.Fault.{nodes_fault, Explains};
 ghost use Rattle.graph_store.specs.Graph.{HasRoomFor};
 ghost use Rattle.rule_machine.specs.Network.{present};
-ghost use Rattle.rule_machine.specs.State.{opening, IsState};
+ghost use Rattle.rule_machine.specs.State.{opening_with, IsState};
 ghost use Rattle.rule_machine.specs.RuleTable.{enabled_names};
-ghost use Rattle.rule_machine.specs.Disturbance.{after_link, after_unlink, after_point, after_flag};
+ghost use Rattle.rule_machine.specs.Disturbance.{after_link, after_unlink, after_point, after_flag, after_join, after_leave};
 ghost use Rattle.rule_machine.specs.Refuse.{refusal_of, link_refusal, unlink_refusal, point_refusal};
 ghost use Rattle.rule_machine.specs.Least.{reply_of, state_after};
 ghost use Rattle.rule_machine.specs.Step.{after_moves};
 ghost use Rattle.machine_laws.specs.Keeps.{IsMoveIn};
 ghost use Rattle.rule_machine.specs.Stable.{IsStable, IsMaximalMatching, mutual_pairs};
-ghost use Rattle.rule_machine.specs.declared.event.Event.TheVariants.{Link, Step, Show, Enabled, Matching, Status};
+ghost use Rattle.rule_machine.specs.declared.event.Event.TheVariants.{Link, Step, Show, Enabled, Matching, Status, Join, Leave};
 ghost use Rattle.rule_machine.specs.declared.reply.Reply.TheVariants.{Accepted};
 ghost use Rattle.rule_engine.specs.Kept.{guard_at, IsAnswered};
 ghost use Rattle.rule_engine.specs.Applied.{Prepares, disturbed};
@@ -21,12 +21,16 @@ ghost use Rattle.rule_engine.specs.Prepared.{HasRoomTo};
 ghost use Rattle.rule_engine.specs.Choosing.{verdict_of, verdicts_of};
 
 use crate::charge::charge_of;
-use crate::edits::{edit_reply, refusal_of, refused_flag, refused_point, refused_unlink};
+use crate::edits::{
+    edit_reply, refusal_of, refused_flag, refused_join, refused_leave, refused_point,
+    refused_unlink,
+};
 use crate::guard::{outcome, refused_step, rule_enabled, verdicts};
 use crate::judge::refused_verdicts;
 use crate::listing::{count_pairs, enabled_rules, mutual_edges};
 use crate::look::{look_at, look_round, look_round_movers};
 use crate::moves::{ascending_moves, write_moves};
+use crate::parting::unlink_all;
 use enabled_set::EnabledSet;
 use graph_store::{EdgeStore, GraphFault};
 use indexed_state::IndexedState;
@@ -62,14 +66,19 @@ impl<R: Rules> Model for Engine<R> {
 }
 
 impl<R: Rules> Engine<R> {
-    /// The network of the nodes 1 to `nodes` with no edges, all pointers null and all flags false.
-    /// `TooManyNodes` above 65,535, and `Memory` if memory runs out. Takes some fifty bytes a node.
-    pub(crate) fn new(alloc: Global, nodes: u32) -> Result<Engine<R>, GraphFault>
-        ensures ok { IfOk result (λ net. net.state ≡ opening nodes) }
+    /// The network of the names 1 to `nodes`, of which 1 to `present` are nodes, with no edges, all pointers null and all
+    /// flags false. `TooManyNodes` above 65,535 names, and `Memory` if memory runs out. Takes some fifty bytes a name.
+    pub(crate) fn with_present(
+        alloc: Global,
+        nodes: u32,
+        present: u32,
+    ) -> Result<Engine<R>, GraphFault>
+        requires within { present ≤ nodes }
+        ensures ok { IfOk result (λ net. net.state ≡ opening_with nodes present) }
         ensures small { OnOk result (nodes ≤ 65535) }
         ensures fault { IfErr result (λ fault. Explains (nodes_fault nodes) fault) }
     {
-        let state = IndexedState::new(alloc, nodes)?;
+        let state = IndexedState::with_present(alloc, nodes, present)?;
         let Ok(enabled) = EnabledSet::new(alloc, nodes) else {
             return Err(GraphFault::Memory);
         };
@@ -158,6 +167,8 @@ impl<R: Rules> Engine<R> {
             Event::Unlink(a, b) => Ok(edit_reply(refused_unlink(self.store(), *a, *b))),
             Event::Point(v, target) => Ok(edit_reply(refused_point(self.store(), *v, *target))),
             Event::Flag(v, _) => Ok(edit_reply(refused_flag::<R>(self.store(), *v))),
+            Event::Join(v) => Ok(edit_reply(refused_join(self.store(), *v))),
+            Event::Leave(v) => Ok(edit_reply(refused_leave(self.store(), *v))),
             Event::Step(choice) => self.prepare_choice(choice),
             Event::Show(v) => Ok(self.show(*v)),
             Event::Enabled => self.list_enabled(),
@@ -279,6 +290,8 @@ impl<R: Rules> Engine<R> {
             Event::Unlink(a, b) => self.unlink(*a, *b),
             Event::Point(v, target) => self.point(*v, *target),
             Event::Flag(v, value) => self.flag(*v, *value),
+            Event::Join(v) => self.join(*v),
+            Event::Leave(v) => self.leave(*v),
             Event::Step(_) | Event::Show(_) | Event::Enabled | Event::Matching | Event::Status => {}
         }
     }
@@ -318,6 +331,27 @@ impl<R: Rules> Engine<R> {
     {
         self.state.set_flag(v, value);
         look_round(&self.state, &mut self.enabled, v);
+    }
+
+    /// Makes a name a node, with no edge, a null pointer and its flag false. Looks at no other node, and takes no memory.
+    pub(crate) fn join(&mut self, v: Node)
+        requires within { v ≤ self.old.state.network.size }
+        requires absent { present self.old.state.network v ≡ false }
+        ensures { self.new.state ≡ after_join self.old.state v }
+    {
+        prove!(v.name() >= 1);
+        self.state.join(v);
+        look_at(&self.state, &mut self.enabled, v);
+    }
+
+    /// Makes a node absent, with its edges: what `unlink` costs at its other end, for each neighbour. Takes no memory.
+    pub(crate) fn leave(&mut self, v: Node)
+        requires { IsTrue (present self.old.state.network v) }
+        ensures { self.new.state ≡ after_leave self.old.state v }
+    {
+        unlink_all(&mut self.state, &mut self.enabled, v);
+        self.state.part(v);
+        self.enabled.remove(v);
     }
 
     /// Carries out the moves of one step.

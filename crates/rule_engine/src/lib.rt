@@ -10,6 +10,7 @@ mod listing;
 mod look;
 mod moves;
 mod net;
+mod parting;
 
 pub use enabled_set::EnabledSet;
 pub use graph_store::{Edge, GraphFault, Node};

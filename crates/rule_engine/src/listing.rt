@@ -45,7 +45,8 @@ fn pair_at(registers: &Registers, v: Node) -> Option<Edge>
     }
 }
 
-/// The mutual pairs, ascending by their lower ends. Looks at each node once.
+/// The mutual pairs, ascending by their lower ends. Looks at each name once: an absent one's
+/// pointer is null.
 pub(crate) fn mutual_edges(
     alloc: Global,
     store: &EdgeStore,
@@ -55,7 +56,7 @@ pub(crate) fn mutual_edges(
     ensures { IfOk result (λ v. v.items ≡ mutual_pairs (state_of store.now.network registers.now)) }
 {
     let mut pairs = Vec::new(alloc);
-    for name in 1..store.nodes() + 1 {
+    for name in 1..store.capacity() + 1 {
         let v = Node::new(name).unwrap();
         if let Some(pair) = pair_at(registers, v) {
             pairs.push(pair)?;
@@ -64,13 +65,14 @@ pub(crate) fn mutual_edges(
     Ok(pairs)
 }
 
-/// How many mutual pairs there are, without memory. Looks at each node once.
+/// How many mutual pairs there are, without memory. Looks at each name once: an absent one's
+/// pointer is null.
 pub(crate) fn count_pairs(store: &EdgeStore, registers: &Registers) -> u32
     requires { IsState (state_of store.now.network registers.now) }
     ensures { result ≡ length (mutual_pairs (state_of store.now.network registers.now)) }
 {
     let mut count = 0;
-    for name in 1..store.nodes() + 1 {
+    for name in 1..store.capacity() + 1 {
         if pair_at(registers, Node::new(name).unwrap()).is_some() {
             count += 1;
         }

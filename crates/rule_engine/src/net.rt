@@ -9,7 +9,7 @@ ghost use Rattle.rule_machine.specs.RuleTable.{enabled_names};
 ghost use Rattle.rule_machine.specs.Refuse.{refusal_of};
 ghost use Rattle.rule_machine.specs.Least.{reply_of, replies_of};
 ghost use Rattle.rule_machine.specs.Stable.{IsStable, IsMaximalMatching, mutual_pairs};
-ghost use Rattle.rule_machine.specs.Run.{Run, beginning, moment_after};
+ghost use Rattle.rule_machine.specs.Run.{Run, beginning, beginning_with, moment_after};
 ghost use Rattle.rule_machine.specs.Answer.{Answers};
 ghost use Rattle.rule_machine.specs.declared.event.Event.TheVariants.{Step};
 ghost use Rattle.rule_engine.specs.Kept.{guard_at, IsAnswered};
@@ -58,7 +58,19 @@ impl<R: Rules> Net<R> {
         ensures small { OnOk result (nodes ≤ 65535) }
         ensures fault { IfErr result (λ fault. Explains (nodes_fault nodes) fault) }
     {
-        let engine = Engine::new(alloc, nodes)?;
+        Net::with_present(alloc, nodes, nodes)
+    }
+
+    /// The network of the names 1 to `nodes`, of which 1 to `present` are nodes, with no edges, all pointers null and all
+    /// flags false, and no move spent. `TooManyNodes` above 65,535 names, and `Memory` if memory runs out. Takes some fifty
+    /// bytes a name.
+    pub fn with_present(alloc: Global, nodes: u32, present: u32) -> Result<Net<R>, GraphFault>
+        requires within { present ≤ nodes }
+        ensures ok { IfOk result (λ net. moment_of net ≡ beginning_with nodes present) }
+        ensures small { OnOk result (nodes ≤ 65535) }
+        ensures fault { IfErr result (λ fault. Explains (nodes_fault nodes) fault) }
+    {
+        let engine = Engine::with_present(alloc, nodes, present)?;
         Ok(Net {
             alloc,
             engine,
@@ -119,7 +131,7 @@ impl<R: Rules> Net<R> {
     }
 
     /// The charge, at most 2,293,757: no more moves than this can come before the next accepted disturbance, and where it is zero
-    /// the network is stable. Takes no memory, and a look at every node and at every edge.
+    /// the network is stable. Takes no memory, and a look at every name and at every edge.
     pub fn charge(&self) -> u32
         ensures charge { result ≡ R.table.charge self.now.state }
         ensures settled { result ≡ 0 → IsStable R.table.flags self.now.state }
@@ -175,7 +187,7 @@ impl<R: Rules> Net<R> {
     /// `Point`, `Flag`, `Show` and `Status` take no memory. An accepted change looks again at guards near it alone:
     /// `Link` at its two ends, the others at the nodes whose registers or links change and at their neighbours. A step
     /// costs two looks at each chosen node beside that, and a sort of its moves where they don't ascend. `Status` looks
-    /// at every node and at every edge.
+    /// at every name and at every edge.
     pub fn apply(&mut self, event: &Event) -> Result<Reply, Want>
         ensures reply { IfOk result (λ reply. reply ≡ reply_of R.table self.old.state self.old.spent event.now) }
         ensures state { OnOk result (moment_of self.new ≡ moment_after R.table (moment_of self.old) event.now) }

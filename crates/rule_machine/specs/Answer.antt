@@ -2,7 +2,7 @@
 use Rattle.std.specs.Prelude.{◌≡◌, ℕ, ◌+◌, length, Option, None, Some}
 use Rattle.rule_machine.specs.declared.counts.Counts.{Counts}
 use Rattle.rule_machine.specs.declared.event.Event.{Event}
-use Rattle.rule_machine.specs.declared.event.Event.TheVariants.{Link, Unlink, Point, Flag, Step, Show, Enabled, Matching, Status}
+use Rattle.rule_machine.specs.declared.event.Event.TheVariants.{Link, Unlink, Point, Flag, Step, Show, Enabled, Matching, Status, Join, Leave}
 use Rattle.rule_machine.specs.declared.refusal.Refusal.{Refusal}
 use Rattle.rule_machine.specs.declared.reply.Reply.{Reply}
 use Rattle.rule_machine.specs.declared.reply.Reply.TheVariants.{Accepted, Refused, Moves, Shown, EnabledAre, Pairs}
@@ -11,7 +11,7 @@ use Rattle.rule_machine.specs.Network.{node_count, edge_count}
 use Rattle.rule_machine.specs.State.{State, pointer}
 use Rattle.rule_machine.specs.RuleTable.{RuleTable, enabled, enabled_names}
 use Rattle.rule_machine.specs.Step.{IsStep}
-use Rattle.rule_machine.specs.Disturbance.{after_link, after_unlink, after_point, after_flag}
+use Rattle.rule_machine.specs.Disturbance.{after_link, after_unlink, after_point, after_flag, after_join, after_leave}
 use Rattle.rule_machine.specs.Stable.{mutual_pairs}
 use Rattle.rule_machine.specs.Refuse.{refusal_of}
 
@@ -33,6 +33,8 @@ Does t s spent (Link a b) Accepted s' = s' ≡ after_link s a b
 Does t s spent (Unlink a b) Accepted s' = s' ≡ after_unlink s a b
 Does t s spent (Point v target) Accepted s' = s' ≡ after_point s v target
 Does t s spent (Flag v value) Accepted s' = s' ≡ after_flag s v value
+Does t s spent (Join v) Accepted s' = s' ≡ after_join s v
+Does t s spent (Leave v) Accepted s' = s' ≡ after_leave s v
 Does t s spent (Step items) (Moves moves) s' = IsStep t s items moves s'
 Does t s spent (Show v) (Shown target) s' = (target ≡ pointer s v) × (s' ≡ s)
 Does t s spent Enabled (EnabledAre nodes) s' = (nodes ≡ enabled t s) × (s' ≡ s)

@@ -1,7 +1,7 @@
 -- What edits and faults do to a state, where they are not refused. This project's own.
-use Rattle.std.specs.Prelude.{ℕ, Bool, Option, None, if◌then◌else◌}
-use Rattle.rule_machine.specs.Network.{with_edge, without_edge}
-use Rattle.rule_machine.specs.State.{State, Registers, points, with_pointer, with_flag}
+use Rattle.std.specs.Prelude.{ℕ, Bool, false, map, Option, None, if◌then◌else◌}
+use Rattle.rule_machine.specs.Network.{with_edge, without_edge, with_node, without_node}
+use Rattle.rule_machine.specs.State.{State, Registers, is_at, points, with_pointer, with_flag}
 
 abbrev pub after_link : State → ℕ → ℕ → State
 after_link s a b = record s { network = with_edge s.network a b }
@@ -20,3 +20,19 @@ after_point s v target = record s { registers = with_pointer s.registers v targe
 
 abbrev pub after_flag : State → ℕ → Bool → State
 after_flag s v value = record s { registers = with_flag s.registers v value }
+
+-- a name becomes present; its registers are null and false already, as those of every absent name
+abbrev pub after_join : State → ℕ → State
+after_join s v = record s { network = with_node s.network v }
+
+-- a pointer at v becomes null
+abbrev pub unless_at : ℕ → Option ℕ → Option ℕ
+unless_at v target = if is_at target v then None else target
+
+-- v's pointer and every pointer at v become null, and v's flag false; other flags stay
+abbrev pub without_name : Registers → ℕ → Registers
+without_name r v = with_flag (with_pointer (record r { pointers = map (unless_at v) r.pointers }) v None) v false
+
+-- the node goes, with its edges
+abbrev pub after_leave : State → ℕ → State
+after_leave s v = record { network = without_node s.network v; registers = without_name s.registers v }

@@ -8,7 +8,7 @@ use Rattle.rule_machine.specs.declared.moved.Moved.{Moved}
 use Rattle.rule_machine.specs.declared.verdict.Outcome.{Outcome}
 use Rattle.rule_machine.specs.declared.verdict.Outcome.TheVariants as outcome
 use Rattle.rule_machine.specs.declared.event.Event.{Event}
-use Rattle.rule_machine.specs.declared.event.Event.TheVariants.{Link, Unlink, Point, Flag, Step, Show, Enabled, Matching, Status}
+use Rattle.rule_machine.specs.declared.event.Event.TheVariants.{Link, Unlink, Point, Flag, Step, Show, Enabled, Matching, Status, Join, Leave}
 use Rattle.rule_machine.specs.declared.refusal.Refusal.{Refusal}
 use Rattle.rule_machine.specs.declared.reply.Reply.{Reply}
 use Rattle.rule_machine.specs.declared.reply.Reply.TheVariants.{Accepted, Refused, Moves, Shown, EnabledAre, Pairs}
@@ -17,7 +17,7 @@ use Rattle.rule_machine.specs.Network.{names, present}
 use Rattle.rule_machine.specs.State.{State, pointer}
 use Rattle.rule_machine.specs.RuleTable.{RuleTable, rule_at, enabled, least_target}
 use Rattle.rule_machine.specs.Step.{after_moves}
-use Rattle.rule_machine.specs.Disturbance.{after_link, after_unlink, after_point, after_flag}
+use Rattle.rule_machine.specs.Disturbance.{after_link, after_unlink, after_point, after_flag, after_join, after_leave}
 use Rattle.rule_machine.specs.Stable.{mutual_pairs}
 use Rattle.rule_machine.specs.Refuse.{refusal_of}
 use Rattle.rule_machine.specs.Answer.{counts_of, spent_after}
@@ -55,6 +55,8 @@ accepted_reply t s spent (Link a b) = Accepted
 accepted_reply t s spent (Unlink a b) = Accepted
 accepted_reply t s spent (Point v target) = Accepted
 accepted_reply t s spent (Flag v value) = Accepted
+accepted_reply t s spent (Join v) = Accepted
+accepted_reply t s spent (Leave v) = Accepted
 accepted_reply t s spent (Step items) = Moves (least_moves t s items)
 accepted_reply t s spent (Show v) = Shown (pointer s v)
 accepted_reply t s spent Enabled = EnabledAre (enabled t s)
@@ -66,6 +68,8 @@ accepted_state t s (Link a b) = after_link s a b
 accepted_state t s (Unlink a b) = after_unlink s a b
 accepted_state t s (Point v target) = after_point s v target
 accepted_state t s (Flag v value) = after_flag s v value
+accepted_state t s (Join v) = after_join s v
+accepted_state t s (Leave v) = after_leave s v
 accepted_state t s (Step items) = after_moves s (least_moves t s items)
 accepted_state t s (Show v) = s
 accepted_state t s Enabled = s

@@ -5,9 +5,9 @@ use Rattle.std.specs.Option.{option_or}
 use Rattle.rule_machine.specs.declared.act.Act.{Act}
 use Rattle.rule_machine.specs.declared.choice.Item.{Item}
 use Rattle.rule_machine.specs.declared.event.Event.{Event}
-use Rattle.rule_machine.specs.declared.event.Event.TheVariants.{Link, Unlink, Point, Flag, Step, Show, Enabled, Matching, Status}
+use Rattle.rule_machine.specs.declared.event.Event.TheVariants.{Link, Unlink, Point, Flag, Step, Show, Enabled, Matching, Status, Join, Leave}
 use Rattle.rule_machine.specs.declared.refusal.Refusal.{Refusal}
-use Rattle.rule_machine.specs.declared.refusal.Refusal.TheVariants.{UnknownNode, SelfLoop, AlreadyLinked, NotLinked, TooManyEdges, NotNeighbour, NoFlag, EmptyChoice, NotCentral, ChosenTwice, NotEnabled, BadTarget}
+use Rattle.rule_machine.specs.declared.refusal.Refusal.TheVariants.{UnknownNode, SelfLoop, AlreadyLinked, NotLinked, TooManyEdges, NotNeighbour, NoFlag, EmptyChoice, NotCentral, ChosenTwice, NotEnabled, BadTarget, AlreadyPresent}
 use Rattle.rule_machine.specs.Network.{Network, present, linked, edge_count}
 use Rattle.rule_machine.specs.State.{State}
 use Rattle.rule_machine.specs.RuleTable.{RuleTable, rule_at}
@@ -43,6 +43,14 @@ flag_refusal t net v = if not t.flags then Some NoFlag else (if present net v th
 
 abbrev pub show_refusal : Network → ℕ → Option Refusal
 show_refusal net v = if present net v then None else Some UnknownNode
+
+-- 0 and what is above the size name nobody
+abbrev pub join_refusal : Network → ℕ → Option Refusal
+join_refusal net v =
+    if not (nat_le 1 v && nat_le v net.size) then Some UnknownNode else (if present net v then Some AlreadyPresent else None)
+
+abbrev pub leave_refusal : Network → ℕ → Option Refusal
+leave_refusal net v = if present net v then None else Some UnknownNode
 
 -- a wish has to be a target that the rule allows
 abbrev pub wish_refusal : (ℕ → Bool) → Option ℕ → Option Refusal
@@ -83,6 +91,8 @@ refusal_of t s (Show v) = show_refusal s.network v
 refusal_of t s Enabled = None
 refusal_of t s Matching = None
 refusal_of t s Status = None
+refusal_of t s (Join v) = join_refusal s.network v
+refusal_of t s (Leave v) = leave_refusal s.network v
 
 -- the number of a refusal in a transcript
 abbrev pub refusal_number : Refusal → ℕ
@@ -98,6 +108,7 @@ refusal_number NotCentral = 9
 refusal_number ChosenTwice = 10
 refusal_number NotEnabled = 11
 refusal_number BadTarget = 12
+refusal_number AlreadyPresent = 13
 
 -- its text
 abbrev pub refusal_text : Refusal → List ℕ
@@ -113,3 +124,4 @@ refusal_text NotCentral = codes "not-central"
 refusal_text ChosenTwice = codes "chosen-twice"
 refusal_text NotEnabled = codes "not-enabled"
 refusal_text BadTarget = codes "bad-target"
+refusal_text AlreadyPresent = codes "already-present"

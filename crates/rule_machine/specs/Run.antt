@@ -5,7 +5,7 @@ use Rattle.rule_machine.specs.declared.event.Event.{Event}
 use Rattle.rule_machine.specs.declared.reply.Reply.{Reply}
 use Rattle.rule_machine.specs.declared.reply.Reply.TheVariants.{Accepted, Refused, Moves, Shown, EnabledAre, Pairs, Counts}
 use Rattle.rule_machine.specs.Network.{node_count, edge_count}
-use Rattle.rule_machine.specs.State.{State, state_code, opening}
+use Rattle.rule_machine.specs.State.{State, state_code, opening_with}
 use Rattle.rule_machine.specs.RuleTable.{RuleTable}
 use Rattle.rule_machine.specs.Answer.{Answers, spent_after}
 use Rattle.rule_machine.specs.Least.{state_after, spent_by}
@@ -34,8 +34,12 @@ Run t start (entry ∷ log) end =
     (next : State) × Answers t start.state start.spent entry.0 entry.1 next × Run t (record { state = next; spent = spent_after start.spent entry.1 }) log end
 
 -- where every run of a journal begins
+abbrev pub beginning_with : ℕ → ℕ → Moment
+beginning_with size count = record { state = opening_with size count; spent = 0 }
+
+-- with all names present
 abbrev pub beginning : ℕ → Moment
-beginning size = record { state = opening size; spent = 0 }
+beginning size = beginning_with size size
 
 -- The entries between two accepted disturbances: the number of the entry that began it (0 for the start), the moves in
 -- it, and how many edges and nodes there are.

@@ -1,7 +1,7 @@
 -- A state: a network, and what each node's registers hold.
 use Rattle.std.specs.Prelude.{◌≡◌, ℕ, ◌+◌, Bool, false, cond, not, ◌&&◌, List, length, replicate, Option, None, Some, is_some, IfSome, IsTrue, nat_eq, find, slice_index_or, slice_set, refl}
 use Rattle.std.specs.Coded.{Coded, code_by, coded×, coded_ℕ, coded_bool, coded_list, coded_option}
-use Rattle.rule_machine.specs.Network.{Network, network_code, IsNetwork, edgeless, present, linked, neighbours}
+use Rattle.rule_machine.specs.Network.{Network, network_code, IsNetwork, edgeless_with, present, linked, neighbours}
 
 -- Where each node points and what its married flag says. A name is its own place: place 0 is nobody's.
 pub record Registers : Type 0 where
@@ -57,9 +57,13 @@ pointer s v = pointer_of s.registers v
 abbrev pub flag : State → ℕ → Bool
 flag s v = flag_of s.registers v
 
--- where every run begins: no edges, all pointers null, all flags false
+-- where a run begins: no edges, all pointers null, all flags false; the first of the names are present, so many
+abbrev pub opening_with : ℕ → ℕ → State
+opening_with size count = record { network = edgeless_with size count; registers = blank size }
+
+-- all are
 abbrev pub opening : ℕ → State
-opening size = record { network = edgeless size; registers = blank size }
+opening size = opening_with size size
 
 -- w points at v: to v, w is a suitor
 abbrev pub suits : State → ℕ → ℕ → Bool

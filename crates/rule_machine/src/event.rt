@@ -16,6 +16,10 @@ pub enum Event {
     Point(Node, Option<Node>),
     /// Writes a node's married flag.
     Flag(Node, bool),
+    /// Makes a name present.
+    Join(Node),
+    /// Removes a node and its edges; its pointer and each pointer at it become null, its flag false.
+    Leave(Node),
     /// Moves the chosen nodes, all at once.
     Step(Choice),
     /// Asks where a node points.
@@ -37,6 +41,8 @@ impl Clone for Event {
             Event::Unlink(a, b) => Event::Unlink(*a, *b),
             Event::Point(v, target) => Event::Point(*v, *target),
             Event::Flag(v, value) => Event::Flag(*v, *value),
+            Event::Join(v) => Event::Join(*v),
+            Event::Leave(v) => Event::Leave(*v),
             Event::Step(choice) => Event::Step(choice.clone()?),
             Event::Show(v) => Event::Show(*v),
             Event::Enabled => Event::Enabled,

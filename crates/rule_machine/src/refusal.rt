@@ -27,6 +27,8 @@ pub enum Refusal {
     NotEnabled,
     /// The wish is no target that the node's rule allows.
     BadTarget,
+    /// A node has the name already.
+    AlreadyPresent,
 }
 
 impl Refusal {
@@ -34,7 +36,7 @@ impl Refusal {
     ghost use Rattle.rule_machine.specs.declared.refusal.Refusal.{Refusal};
     ghost use Rattle.rule_machine.specs.Refuse.{refusal_number, refusal_text};
 
-    /// The number by which transcripts name it, 1 to 12.
+    /// The number by which transcripts name it, 1 to 13.
     pub fn number(self) -> u32
         ensures { result ≡ refusal_number self }
     {
@@ -51,10 +53,11 @@ impl Refusal {
             Refusal::ChosenTwice => 10,
             Refusal::NotEnabled => 11,
             Refusal::BadTarget => 12,
+            Refusal::AlreadyPresent => 13,
         }
     }
 
-    /// The refusal with this number; `None` for 0 and above 12.
+    /// The refusal with this number; `None` for 0 and above 13.
     pub fn from_number(number: u32) -> Option<Refusal>
         ensures { MatchOption result
             ((refusal : Refusal) → refusal_number refusal ≡ number → ⊥)
@@ -73,6 +76,7 @@ impl Refusal {
             10 => Refusal::ChosenTwice,
             11 => Refusal::NotEnabled,
             12 => Refusal::BadTarget,
+            13 => Refusal::AlreadyPresent,
             _ => return None,
         })
     }
@@ -94,6 +98,7 @@ impl Refusal {
             Refusal::ChosenTwice => "chosen-twice",
             Refusal::NotEnabled => "not-enabled",
             Refusal::BadTarget => "bad-target",
+            Refusal::AlreadyPresent => "already-present",
         }
     }
 }

@@ -5,7 +5,7 @@ use Rattle.std.specs.List.{range_with_len}
 use Rattle.std.proofs.lemmas.List.{reverse-append}
 use Rattle.std.proofs.lemmas.List.Folds.{find-append}
 use Rattle.std.proofs.lemmas.Bool.{and_parts, cases_eq}
-use Rattle.rule_machine.specs.Network.{IsNetwork, linked, neighbours, names}
+use Rattle.rule_machine.specs.Network.{IsNetwork, linked, neighbours, names, present}
 use Rattle.rule_machine.specs.State.{State}
 use Rattle.rule_machine.specs.RuleTable.{last_open_above}
 use Rattle.rule_machine.specs.Manne.{manne_opens, may_court}
@@ -72,26 +72,31 @@ last_some p a (suc n) x e =
 abbrev pub greatest : State → ℕ → Option ℕ
 greatest s v = last_open_above manne_opens s v
 
-as_last : (s : State) (v : ℕ) → greatest s v ≡ last (λ x. linked s.network v x && may_court s v x) (names s.network)
+as_last : (s : State) (v : ℕ) → greatest s v ≡ last (λ x. present s.network x && (linked s.network v x && may_court s v x)) (range_with_len 1 s.network.size)
 as_last s v =
-    find-reverse (may_court s v) (neighbours s.network v) ∙ last-filter (may_court s v) (linked s.network v) (names s.network)
+    find-reverse (may_court s v) (neighbours s.network v)
+    ∙ last-filter (may_court s v) (linked s.network v) (names s.network)
+    ∙ last-filter (λ x. linked s.network v x && may_court s v x) (present s.network) (range_with_len 1 s.network.size)
 
 -- v may court none
 pub greatest_none : (s : State) (v : ℕ) → IsNetwork s.network → greatest s v ≡ None → (w : ℕ) → IsTrue (linked s.network v w) → may_court s v w ≡ false
 greatest_none s v is_network e w h =
-    let bounds = present_range s.network w (linked_present s.network w v is_network (linked_back s.network w v ∙ h)) in
+    let has = linked_present s.network w v is_network (linked_back s.network w v ∙ h) in
+    let bounds = present_range s.network w has in
     ap (λ b. b && may_court s v w) (sym h)
-    ∙ last_none (λ x. linked s.network v x && may_court s v x) 1 s.network.size (sym (as_last s v) ∙ e) w bounds.0 (omega arith)
+    ∙ ap (λ b. b && (linked s.network v w && may_court s v w)) (sym has)
+    ∙ last_none (λ x. present s.network x && (linked s.network v x && may_court s v x)) 1 s.network.size (sym (as_last s v) ∙ e) w bounds.0 (omega arith)
 
 -- v may court w and none above w
 pub greatest_some : (s : State) (v w : ℕ) → IsNetwork s.network → greatest s v ≡ Some w → IsTrue (linked s.network v w) × IsTrue (may_court s v w) × ((x : ℕ) → IsTrue (linked s.network v x) → w < x → may_court s v x ≡ false)
 greatest_some s v w is_network e =
-    let found = last_some (λ x. linked s.network v x && may_court s v x) 1 s.network.size w (sym (as_last s v) ∙ e) in
-    let parts = and_parts (linked s.network v w) (may_court s v w) found.1 in (
+    let found = last_some (λ x. present s.network x && (linked s.network v x && may_court s v x)) 1 s.network.size w (sym (as_last s v) ∙ e) in
+    let parts = and_parts (linked s.network v w) (may_court s v w) (and_parts (present s.network w) _ found.1).1 in (
       parts.0,
       parts.1,
-      λ x h above. let bounds = present_range s.network x (linked_present s.network x v is_network (linked_back s.network x v ∙ h)) in
-          ap (λ b. b && may_court s v x) (sym h) ∙ found.2 x above (omega arith),
+      λ x h above. let has = linked_present s.network x v is_network (linked_back s.network x v ∙ h) in
+          let bounds = present_range s.network x has in
+          ap (λ b. b && may_court s v x) (sym h) ∙ ap (λ b. b && (linked s.network v x && may_court s v x)) (sym has) ∙ found.2 x above (omega arith),
     )
 
 -- there is a greatest where there is any

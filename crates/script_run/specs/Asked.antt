@@ -3,11 +3,12 @@ use Rattle.std.specs.Prelude.{ℕ}
 use Rattle.rule_machine.specs.declared.rules.RuleSet.{RuleSet}
 use Rattle.script_run.specs.declared.options.Options.{Options}
 
--- the rule set, how many nodes and how many entries there may be, how many workers evaluate a step, and how many roam and for how
--- many turns
+-- the rule set, how many names there are and how many of them are present at the start, how many entries there may be, how many
+-- workers evaluate a step, and how many roam and for how many turns
 pub record Asked : Type 0 where
   pub rules : RuleSet
   pub nodes : ℕ
+  pub present : ℕ
   pub limit : ℕ
   pub workers : ℕ
   pub roamers : ℕ
@@ -15,4 +16,4 @@ pub record Asked : Type 0 where
 
 abbrev pub asked_of : Options → Asked
 asked_of o =
-    record { rules = o.rules; nodes = o.nodes; limit = o.limit; workers = o.workers; roamers = o.roamers; turns = o.turns }
+    record { rules = o.rules; nodes = o.nodes; present = o.present; limit = o.limit; workers = o.workers; roamers = o.roamers; turns = o.turns }

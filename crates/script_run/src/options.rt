@@ -16,17 +16,19 @@ const MAX_TURNS: u32 = 1_000_000;
 
 const USUAL_TURNS: u32 = 1_000;
 
-/// The rule set, how many nodes there are, how many entries there may be, how many workers evaluate a step, and, of a storm,
-/// how many workers roam and for how many turns.
+/// The rule set, how many names there are and how many of them are present at the start, how many entries there may be, how many
+/// workers evaluate a step, and, of a storm, how many workers roam and for how many turns.
 #[derive(Clone, Copy, Debug, PartialEq, Eq)]
 pub struct Options {
     rules: RuleSet,
     nodes: u32,
+    present: u32,
     limit: u32,
     workers: u32,
     roamers: u32,
     turns: u32,
     ghost few_nodes: { nodes ≤ 65535 },
+    ghost within: { present ≤ nodes },
     ghost few_entries: { limit ≤ 16777216 },
     ghost some_workers: { 1 ≤ workers },
     ghost few_workers: { workers ≤ 64 },
@@ -37,11 +39,11 @@ pub struct Options {
 impl Options {
     ghost use Rattle.script_run.specs.Asked.{Asked, asked_of};
 
-    /// A run under the rule set on the nodes 1 to `nodes`, with at most `MAX_ENTRIES` entries, one worker, and, of a storm,
-    /// none that roams; `None` above 65,535 nodes.
+    /// A run under the rule set on the nodes 1 to `nodes`, all of them present, with at most `MAX_ENTRIES` entries, one worker,
+    /// and, of a storm, none that roams; `None` above 65,535 nodes.
     pub fn new(rules: RuleSet, nodes: u32) -> Option<Options>
         ensures none { IsNone result ↔ 65535 < nodes }
-        ensures options { IfSome result (λ options. asked_of options ≡ record { rules = rules; nodes = nodes; limit = 16777216; workers = 1; roamers = 0; turns = 1000 }) }
+        ensures options { IfSome result (λ options. asked_of options ≡ record { rules = rules; nodes = nodes; present = nodes; limit = 16777216; workers = 1; roamers = 0; turns = 1000 }) }
     {
         if nodes > MAX_NODES {
             return None;
@@ -49,11 +51,27 @@ impl Options {
         Some(Options {
             rules,
             nodes,
+            present: nodes,
             limit: MAX_ENTRIES,
             workers: 1,
             roamers: 0,
             turns: USUAL_TURNS,
         })
+    }
+
+    /// The same where the names 1 to `present` are present at the start; a number above that of the names counts as that.
+    pub fn with_present(self, present: u32) -> Options
+        ensures { asked_of result ≡ record (asked_of self) { present = min present self.nodes } }
+    {
+        Options {
+            rules: self.rules,
+            nodes: self.nodes,
+            present: present.min(self.nodes),
+            limit: self.limit,
+            workers: self.workers,
+            roamers: self.roamers,
+            turns: self.turns,
+        }
     }
 
     /// The same with at most `limit` entries; a number above `MAX_ENTRIES` counts as that.
@@ -63,6 +81,7 @@ impl Options {
         Options {
             rules: self.rules,
             nodes: self.nodes,
+            present: self.present,
             limit: limit.min(MAX_ENTRIES),
             workers: self.workers,
             roamers: self.roamers,
@@ -77,6 +96,7 @@ impl Options {
         Options {
             rules: self.rules,
             nodes: self.nodes,
+            present: self.present,
             limit: self.limit,
             workers: workers.max(1).min(MAX_WORKERS),
             roamers: self.roamers,
@@ -92,6 +112,7 @@ impl Options {
         Options {
             rules: self.rules,
             nodes: self.nodes,
+            present: self.present,
             limit: self.limit,
             workers: self.workers,
             roamers: workers.min(MAX_WORKERS),
@@ -106,12 +127,20 @@ impl Options {
         self.rules
     }
 
-    /// How many nodes there are, at most 65,535.
+    /// How many names there are, at most 65,535.
     pub fn nodes(&self) -> u32
         ensures count { result ≡ self.now.nodes }
         ensures few { result ≤ 65535 }
     {
         self.nodes
+    }
+
+    /// How many of the names are present at the start, from 1 on.
+    pub fn present(&self) -> u32
+        ensures count { result ≡ self.now.present }
+        ensures within { result ≤ self.now.nodes }
+    {
+        self.present
     }
 
     /// How many entries there may be, at most `MAX_ENTRIES`.

@@ -36,14 +36,15 @@ pub struct Run<R: Rules> {
 
 impl<R: Rules> Run<R> {
     fn new(alloc: Global, options: &Options) -> Result<Run<R>, Want>
-        ensures begins { IfOk result (λ run. progress run.recorder run.text.items ≡ beginning options.now.rules options.now.nodes) }
+        ensures begins { IfOk result (λ run. progress run.recorder run.text.items ≡ beginning options.now.rules options.now.nodes options.now.present) }
         ensures limit { IfOk result (λ run. run.recorder.limit ≡ options.now.limit) }
     {
-        let Ok(recorder) = Recorder::with_limit(alloc, options.nodes(), options.limit()) else {
+        let (nodes, present) = (options.nodes(), options.present());
+        let Ok(recorder) = Recorder::with_present(alloc, nodes, present, options.limit()) else {
             return Err(AllocError);
         };
         let mut text = Vec::new(alloc);
-        put_header(&mut text, options.rules(), options.nodes())?;
+        put_header(&mut text, options.rules(), nodes, present)?;
         let workers = options.workers();
         Ok(Run {
             recorder,
@@ -192,7 +193,7 @@ pub fn run_on<R: Rules + Sync, In: Read, Out: Write, T: Threads + Wait + Sync>(
     writer: &mut Out,
     options: &Options,
 ) -> Result<End, OutputFault>
-    ensures outcome { IfSome (In.remaining reader.old) (λ script. Ends R.table options.now.limit (lines_of script) (beginning options.now.rules options.now.nodes) (answered result)
+    ensures outcome { IfSome (In.remaining reader.old) (λ script. Ends R.table options.now.limit (lines_of script) (beginning options.now.rules options.now.nodes options.now.present) (answered result)
         (Appends (Out.contents writer.old) (Out.contents writer.new)) (AppendsBeginning (Out.contents writer.old) (Out.contents writer.new))) }
     ensures read { IfOk result (λ end. end ≡ Whole → IsAtEnd (In.remaining reader.new)) }
 {

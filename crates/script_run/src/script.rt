@@ -34,7 +34,7 @@ pub fn run<In: Read, Out: Write, T: Threads + Wait + Sync>(
     options: &Options,
 ) -> Result<(), RunFault>
     ensures outcome { IfSome (In.remaining reader.old) (λ script.
-        IsOutcome options.now.rules options.now.nodes options.now.limit script (Out.contents writer.old) (Out.contents writer.new) result) }
+        IsOutcome options.now.rules options.now.nodes options.now.present options.now.limit script (Out.contents writer.old) (Out.contents writer.new) result) }
     ensures read { OnOk result (IsAtEnd (In.remaining reader.new)) }
 {
     let end = match options.rules() {

@@ -4,7 +4,7 @@ use Rattle.std.specs.List.{AllByRecursion}
 use Rattle.std.proofs.lemmas.Fmt.{length-decimal-le}
 use Rattle.rule_machine.specs.declared.choice.Item.{Item}
 use Rattle.rule_machine.specs.declared.event.Event.{Event}
-use Rattle.rule_machine.specs.declared.event.Event.TheVariants.{Link, Unlink, Point, Flag, Step, Show, Enabled, Matching, Status}
+use Rattle.rule_machine.specs.declared.event.Event.TheVariants.{Link, Unlink, Point, Flag, Step, Show, Enabled, Matching, Status, Join, Leave}
 use Rattle.line_text.specs.Words.{number_text, IsName, marked_text, spaced}
 use Rattle.line_text.specs.EventText.{IsItem, IsEvent, pair_text, target_text, bool_text, flag_text, point_text, item_text, event_text}
 use Rattle.script_text.specs.declared.command.Command.{Command}
@@ -53,6 +53,8 @@ event_short (Point v w) h =
 event_short (Flag v b) h =
     let told : length (flag_text v b) ≤ 11 = let p = two_short (number_text v) (bool_text b) 5 1 (name_short v h) (bool_short b) in omega (arith, p) in
     omega (arith, told, length-append (codes "flag ") (flag_text v b))
+event_short (Join v) h = omega (arith, name_short v h, length-append (codes "join ") (number_text v))
+event_short (Leave v) h = omega (arith, name_short v h, length-append (codes "leave ") (number_text v))
 event_short (Step items) h = omega (arith, items_short items h.1, h.0, length-append (codes "step") (spaced item_text items))
 event_short (Show v) h = omega (arith, name_short v h, length-append (codes "show ") (number_text v))
 event_short Enabled h = omega arith

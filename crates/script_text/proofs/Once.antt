@@ -5,7 +5,7 @@ use Rattle.std.proofs.lemmas.List.{append_cancel_left}
 use Rattle.std.proofs.lemmas.Fmt.{digits_decimal, decimal_injective}
 use Rattle.rand_core.specs.Stream.{Stream}
 use Rattle.rule_machine.specs.declared.event.Event.{Event}
-use Rattle.rule_machine.specs.declared.event.Event.TheVariants.{Link, Unlink, Point, Flag, Step, Show, Enabled, Matching, Status}
+use Rattle.rule_machine.specs.declared.event.Event.TheVariants.{Link, Unlink, Point, Flag, Step, Show, Enabled, Matching, Status, Join, Leave}
 use Rattle.rule_machine.specs.Run.{Moment}
 use Rattle.rule_machine.specs.RuleTable.{RuleTable}
 use Rattle.line_text.specs.Words.{number_text}
@@ -46,6 +46,8 @@ no_drive (Link a b) u e = omega (arith, ap head_of e)
 no_drive (Unlink a b) u e = omega (arith, ap head_of e)
 no_drive (Point v w) u e = omega (arith, ap head_of e)
 no_drive (Flag v b) u e = omega (arith, ap head_of e)
+no_drive (Join v) u e = omega (arith, ap head_of e)
+no_drive (Leave v) u e = omega (arith, ap head_of e)
 no_drive (Step items) u e = omega (arith, ap head_of e)
 no_drive (Show v) u e = omega (arith, ap head_of e)
 no_drive Enabled u e = omega (arith, ap head_of e)
@@ -57,6 +59,8 @@ no_scramble (Link a b) u e = omega (arith, ap head_of e)
 no_scramble (Unlink a b) u e = omega (arith, ap head_of e)
 no_scramble (Point v w) u e = omega (arith, ap head_of e)
 no_scramble (Flag v b) u e = omega (arith, ap head_of e)
+no_scramble (Join v) u e = omega (arith, ap head_of e)
+no_scramble (Leave v) u e = omega (arith, ap head_of e)
 no_scramble (Step items) u e = omega (arith, ap head_of e)
 no_scramble (Show v) u e = omega (arith, ap head_of e)
 no_scramble Enabled u e = omega (arith, ap head_of e)

@@ -1,19 +1,19 @@
 -- What the machine answers is of the event's kind.
 use Rattle.std.proofs.Common.{◌≡◌, ◌≢◌, ℕ, ◌+◌, ◌≤◌, true, cond, ◌&&◌, List, [], ◌∷◌, length, filter_map, Any, Option, None, Some, is_some, is_none, get_or, nat_le, option_and_then, refl, sym, ap, ◌∙◌, arith, le-leb}
-use Rattle.std.specs.List.{list_all, cons_option}
+use Rattle.std.specs.List.{list_all, cons_option, range_with_len}
 use Rattle.std.specs.Option.{option_map}
 use Rattle.std.proofs.lemmas.List.FromFn.{length-range_with_len}
-use Rattle.std.proofs.lemmas.List.Sums.{list_all-from_AllPass}
+use Rattle.std.proofs.lemmas.List.Sums.{list_all-from_AllPass, length-filter, count_by-le-length}
 use Rattle.std.proofs.lemmas.Option.{none-some}
 use Rattle.rule_machine.specs.declared.act.Act.{Act}
 use Rattle.rule_machine.specs.declared.act.Act.TheVariants.{Update, Marry, Seduce, Abandon}
 use Rattle.rule_machine.specs.declared.choice.Item.{Item}
 use Rattle.rule_machine.specs.declared.moved.Moved.{Moved}
 use Rattle.rule_machine.specs.declared.event.Event.{Event}
-use Rattle.rule_machine.specs.declared.event.Event.TheVariants.{Link, Unlink, Point, Flag, Step, Show, Enabled, Matching, Status}
+use Rattle.rule_machine.specs.declared.event.Event.TheVariants.{Link, Unlink, Point, Flag, Step, Show, Enabled, Matching, Status, Join, Leave}
 use Rattle.rule_machine.specs.declared.refusal.Refusal.{Refusal}
 use Rattle.rule_machine.specs.declared.reply.Reply.TheVariants.{Refused}
-use Rattle.rule_machine.specs.Network.{names, node_count}
+use Rattle.rule_machine.specs.Network.{Network, names, node_count, present}
 use Rattle.rule_machine.specs.State.{State, IsState, partner}
 use Rattle.rule_machine.specs.RuleTable.{RuleTable, enabled, rule_at}
 use Rattle.rule_machine.specs.Step.{IsTarget, IsMoveOf, IsStep}
@@ -35,9 +35,14 @@ filter_map_few : {X Y : Type 0} (h : X → Option Y) (xs : List X) → length (f
 filter_map_few h [] = omega arith
 filter_map_few h (x ∷ xs) = omega (arith, cons_few (h x) (filter_map h xs), filter_map_few h xs)
 
+-- there are no more nodes than names
+pub nodes_few : (net : Network) → node_count net ≤ net.size
+nodes_few net =
+    omega (arith, length-filter (present net) (range_with_len 1 net.size), count_by-le-length (present net) (range_with_len 1 net.size), length-range_with_len 1 net.size)
+
 -- what is picked from the names of a network is no more than there are
 names_few : {Y : Type 0} (s : State) (h : ℕ → Option Y) → length (filter_map h (names s.network)) ≤ node_count s.network
-names_few s h = omega (arith, filter_map_few h (names s.network), length-range_with_len 1 s.network.size)
+names_few s h = filter_map_few h (names s.network)
 
 target_fits : (t : RuleTable) (s : State) (v : ℕ) (act : Act) (wish target : Option ℕ) → IsTarget t s v act wish target → cond (takes_target act) (is_some target) (is_none target) ≡ true
 target_fits t s v Update wish None is = refl
@@ -69,6 +74,8 @@ accepted_fits t s n (Link a b) s' few does = refl
 accepted_fits t s n (Unlink a b) s' few does = refl
 accepted_fits t s n (Point v target) s' few does = refl
 accepted_fits t s n (Flag v value) s' few does = refl
+accepted_fits t s n (Join v) s' few does = refl
+accepted_fits t s n (Leave v) s' few does = refl
 accepted_fits t s n (Step items) s' few does =
     step_fits t s items (least_moves t s items) s' (omega (arith, few, names_few s (λ v. option_and_then (λ item. move_in (outcome_of t s item)) (item_of items v)))) does
 accepted_fits t s n (Show v) s' few does = refl
@@ -83,6 +90,8 @@ refused_fits t s (Link a b) refusal e = refl
 refused_fits t s (Unlink a b) refusal e = refl
 refused_fits t s (Point v target) refusal e = refl
 refused_fits t s (Flag v value) refusal e = refl
+refused_fits t s (Join v) refusal e = refl
+refused_fits t s (Leave v) refusal e = refl
 refused_fits t s (Step items) refusal e = refl
 refused_fits t s (Show v) refusal e = refl
 refused_fits t s Enabled refusal e = absurd (none-some refusal e)

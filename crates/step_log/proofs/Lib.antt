@@ -2,6 +2,6 @@ pub mod Recording
 pub mod Rising
 pub mod Fitting
 pub mod Running
-pub mod Walking
-pub mod Told
+pub mod Once
+pub mod Telling
 pub mod Upheld

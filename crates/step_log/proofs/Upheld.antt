@@ -1,17 +1,10 @@
 -- The headline holds of each log that is a run, for rules that keep the laws of rule sets.
-use Rattle.std.proofs.Common.{◌≡◌, ℕ, List, [], ◌∷◌, ◌++◌, Option, None, Some, refl, sym, ◌∙◌, subst}
-use Rattle.rule_machine.specs.declared.event.Event.{Event}
-use Rattle.rule_machine.specs.declared.event.Event.TheVariants.{Link, Unlink, Point, Flag, Step, Show, Enabled, Matching, Status}
-use Rattle.rule_machine.specs.declared.refusal.Refusal.{Refusal}
-use Rattle.rule_machine.specs.declared.reply.Reply.{Reply}
-use Rattle.rule_machine.specs.declared.reply.Reply.TheVariants.{Accepted, Moves, Shown, EnabledAre, Pairs, Counts}
-use Rattle.rule_machine.specs.Network.{node_count}
+use Rattle.std.proofs.Common.{◌≡◌, ℕ, List, [], ◌∷◌, ◌++◌, refl, sym, subst}
 use Rattle.rule_machine.specs.State.{State, IsState}
 use Rattle.rule_machine.specs.RuleTable.{RuleTable, enabled_names}
-use Rattle.rule_machine.specs.Refuse.{refusal_of}
-use Rattle.rule_machine.specs.Answer.{Does, AnswersBy, spent_after}
+use Rattle.rule_machine.specs.Answer.{spent_after}
 use Rattle.rule_machine.specs.Stable.{IsStable}
-use Rattle.rule_machine.specs.Run.{Entry, Moment, Run, beginning}
+use Rattle.rule_machine.specs.Run.{Entry, Moment, Run, beginning_with}
 use Rattle.machine_laws.specs.Keeps.{opening_is_state}
 use Rattle.machine_laws.specs.LeastMoves.{IsTable}
 use Rattle.machine_laws.specs.Laws.{maximal_from_stable, stable_from_maximal}
@@ -21,31 +14,9 @@ use Rattle.charge_laws.specs.Laws.{moves_are_paid}
 use Rattle.charge_laws.specs.Epochs.{opening_epochs_are_bounded}
 use Rattle.step_log.specs.Log.{Log, IsLog}
 use Rattle.step_log.specs.Headline.{Upholds, LeadsTo}
+use Rattle.step_log.proofs.Once.{run_once}
 
 -- ---- a log leads to one moment
-
-does_once : (t : RuleTable) (s : State) (n : ℕ) (event : Event) (reply : Reply) (u v : State) → Does t s n event reply u → Does t s n event reply v → u ≡ v
-does_once t s n (Link a b) Accepted u v x y = x ∙ sym y
-does_once t s n (Unlink a b) Accepted u v x y = x ∙ sym y
-does_once t s n (Point w target) Accepted u v x y = x ∙ sym y
-does_once t s n (Flag w value) Accepted u v x y = x ∙ sym y
-does_once t s n (Step items) (Moves moves) u v x y = x.after ∙ sym y.after
-does_once t s n (Show w) (Shown target) u v x y = x.1 ∙ sym y.1
-does_once t s n Enabled (EnabledAre nodes) u v x y = x.1 ∙ sym y.1
-does_once t s n Matching (Pairs pairs) u v x y = x.1 ∙ sym y.1
-does_once t s n Status (Counts counts) u v x y = x.1 ∙ sym y.1
-does_once t s n event reply u v x y = absurd x
-
-answers_by_once : (t : RuleTable) (s : State) (n : ℕ) (event : Event) (refusal : Option Refusal) (reply : Reply) (u v : State) → AnswersBy t s n event refusal reply u → AnswersBy t s n event refusal reply v → u ≡ v
-answers_by_once t s n event None reply u v x y = does_once t s n event reply u v x y
-answers_by_once t s n event (Some refusal) reply u v x y = x.1 ∙ sym y.1
-
-run_once : (t : RuleTable) (start : Moment) (log : List Entry) (end last : Moment) → Run t start log end → Run t start log last → end ≡ last
-run_once t start [] end last x y = x ∙ sym y
-run_once t start (entry ∷ log) end last x y =
-    let same : x.0 ≡ y.0 = answers_by_once t start.state start.spent entry.0 (refusal_of t start.state entry.0) entry.1 x.0 y.0 x.1 y.1 in
-    run_once t (record { state = x.0; spent = spent_after start.spent entry.1 }) log end last x.2
-    (subst (λ (s : State). Run t (record { state = s; spent = spent_after start.spent entry.1 }) log last) (sym same) y.2)
 
 run_splits : (t : RuleTable) (start : Moment) (some rest : List Entry) (end : Moment) → Run t start (some ++ rest) end → (middle : Moment) × Run t start some middle × Run t middle rest end
 run_splits t start [] rest end run = (start, refl, run)
@@ -60,7 +31,7 @@ run_goes_on t start some rest middle end here run =
 -- each beginning of a log leads to one moment
 pub leads_somewhere : (t : RuleTable) (weight : ℕ) (log : Log) → Upholds t weight log → (before after : List Entry) → before ++ after ≡ log.entries → (m : Moment) × LeadsTo t log before m × ((n : Moment) → LeadsTo t log before n → n ≡ m)
 leads_somewhere t weight log upholds before after same =
-    let begun = beginning (node_count log.state.network) in
+    let begun = beginning_with log.state.network.size log.first in
     let end : Moment = record { state = log.state; spent = log.spent } in
     let whole : Run t begun (before ++ after) end = subst (λ (l : List Entry). Run t begun l end) (sym same) upholds.run in
     let m = run_splits t begun before after end whole in (m.0, m.1, λ n there. run_once t begun before n m.0 there m.1)
@@ -69,8 +40,8 @@ leads_somewhere t weight log upholds before after same =
 
 pub upheld : (t : RuleTable) (weight : ℕ) → IsTable t → IsCharged t weight → ((s : State) → IsState s → enabled_names t s ≡ [] → IsStable t.flags s) → ((s : State) → IsState s → IsStable t.flags s → enabled_names t s ≡ []) → (log : Log) → IsLog t log → Upholds t weight log
 upheld t weight table charged settles rests log is =
-    let begun = beginning (node_count log.state.network) in
-    let opened = opening_is_state (node_count log.state.network) in
+    let begun = beginning_with log.state.network.size log.first in
+    let opened = opening_is_state log.state.network.size log.first in
     record {
       run = is.run;
       quiet = λ before after m same here.
@@ -84,5 +55,5 @@ upheld t weight table charged settles rests log is =
           let good = runs_end_in_states t table begun opened before m here in
           let goes = run_goes_on t begun before calm m n here there in
           (moves_are_paid t weight table charged m good calm n goes undisturbed, charged.bounded m.state good);
-      epochs = λ path same steps. opening_epochs_are_bounded t weight table charged (node_count log.state.network) 1 path steps;
+      epochs = λ path same steps. opening_epochs_are_bounded t weight table charged log.state.network.size log.first 1 path steps;
     }

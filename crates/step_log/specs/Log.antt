@@ -1,32 +1,37 @@
 -- What a journal holds, and what recording an event makes of it.
 use Rattle.std.specs.Prelude.{ℕ, ◌+◌, ◌≤◌, List, [], ◌∷◌, ◌++◌, length}
 use Rattle.rule_machine.specs.declared.event.Event.{Event}
-use Rattle.rule_machine.specs.Network.{node_count}
-use Rattle.rule_machine.specs.State.{State, opening}
+use Rattle.rule_machine.specs.State.{State, opening_with}
 use Rattle.rule_machine.specs.RuleTable.{RuleTable}
 use Rattle.rule_machine.specs.Least.{reply_of, state_after, spent_by}
-use Rattle.rule_machine.specs.Run.{Entry, Run, beginning}
+use Rattle.rule_machine.specs.Run.{Entry, Run, beginning_with}
 use Rattle.step_log.specs.declared.receipt.Receipt.{Receipt}
 pub use Rattle.step_log.specs.Recording.{max_entries}
 
--- the state of a network, the moves since it was last disturbed, the events and replies that led to it, and how many of
--- them there may be
+-- the state of a network, the moves since it was last disturbed, the events and replies that led to it, how many of them there may
+-- be, and how many of the names were present at the start, from 1 on
 pub record Log : Type 0 where
   pub state : State
   pub spent : ℕ
   pub entries : List Entry
   pub limit : ℕ
+  pub first : ℕ
 
 -- the entries are a run of the machine from the opening state to the state and what is spent, and they are not too many
 pub record IsLog (t : RuleTable) (log : Log) : Type 0 where
-  pub run : Run t (beginning (node_count log.state.network)) log.entries (record { state = log.state; spent = log.spent })
-  pub nodes : node_count log.state.network ≤ 65535
+  pub run : Run t (beginning_with log.state.network.size log.first) log.entries (record { state = log.state; spent = log.spent })
+  pub size : log.state.network.size ≤ 65535
   pub room : length log.entries ≤ log.limit
   pub limit : log.limit ≤ max_entries
 
--- the log before any event
+-- the log before any event, with the first of the names present, so many
+abbrev pub empty_log_with : ℕ → ℕ → ℕ → Log
+empty_log_with size first limit =
+    record { state = opening_with size first; spent = 0; entries = []; limit = limit; first = first }
+
+-- the one in which all are
 abbrev pub empty_log : ℕ → ℕ → Log
-empty_log nodes limit = record { state = opening nodes; spent = 0; entries = []; limit = limit }
+empty_log nodes limit = empty_log_with nodes nodes limit
 
 -- the event with the reply to it
 abbrev pub entry_of : RuleTable → Log → Event → Entry
@@ -40,6 +45,7 @@ recorded t log event =
       spent = spent_by t log.state log.spent event;
       entries = log.entries ++ entry_of t log event ∷ [];
       limit = log.limit;
+      first = log.first;
     }
 
 -- what the caller is told of it

@@ -1,7 +1,7 @@
 -- How far a recording has come, and what an event makes of it.
 use Rattle.std.specs.Prelude.{ℕ, ◌+◌, ◌≤◌}
 use Rattle.rule_machine.specs.declared.event.Event.{Event}
-use Rattle.rule_machine.specs.State.{State, IsState, opening}
+use Rattle.rule_machine.specs.State.{State, IsState, opening_with}
 use Rattle.rule_machine.specs.RuleTable.{RuleTable}
 use Rattle.rule_machine.specs.Least.{state_after, spent_by}
 
@@ -9,12 +9,14 @@ use Rattle.rule_machine.specs.Least.{state_after, spent_by}
 abbrev pub max_entries : ℕ
 max_entries = 16777216
 
--- the state of a network, the moves since it was last disturbed, how many entries led to it, and how many there may be
+-- the state of a network, the moves since it was last disturbed, how many entries led to it, how many there may be, and how many of
+-- the names were present at the start, from 1 on
 pub record Recording : Type 0 where
   pub state : State
   pub spent : ℕ
   pub len : ℕ
   pub limit : ℕ
+  pub first : ℕ
 
 -- the network is one, and the entries are not too many
 pub record IsRecording (r : Recording) : Type 0 where
@@ -22,11 +24,16 @@ pub record IsRecording (r : Recording) : Type 0 where
   pub room : r.len ≤ r.limit
   pub limit : r.limit ≤ max_entries
 
--- the recording before any event
+-- the recording before any event, with the first of the names present, so many
+abbrev pub opening_recording_with : ℕ → ℕ → ℕ → Recording
+opening_recording_with size first limit =
+    record { state = opening_with size first; spent = 0; len = 0; limit = limit; first = first }
+
+-- the one in which all are
 abbrev pub opening_recording : ℕ → ℕ → Recording
-opening_recording nodes limit = record { state = opening nodes; spent = 0; len = 0; limit = limit }
+opening_recording nodes limit = opening_recording_with nodes nodes limit
 
 -- the recording after the event's entry
 abbrev pub entered : RuleTable → Recording → Event → Recording
 entered t r event =
-    record { state = state_after t r.state event; spent = spent_by t r.state r.spent event; len = r.len + 1; limit = r.limit }
+    record { state = state_after t r.state event; spent = spent_by t r.state r.spent event; len = r.len + 1; limit = r.limit; first = r.first }

@@ -1,10 +1,11 @@
 //! The entries between two accepted disturbances.
 
-ghost use Rattle.std.specs.Prelude.{◌≡◌, ◌<◌, ◌≤◌, ◌+◌, ◌^◌, All, IfOk, length};
-ghost use Rattle.step_log.specs.Epochs.{IsBounded, edges_after, first_epoch, moves_told, turned_by, walked};
+ghost use Rattle.std.specs.Prelude.{◌≡◌, ◌<◌, ◌++◌, [], ◌∷◌, IfOk, OnOk, length, map, vec_capacity};
+ghost use Rattle.rule_engine.specs.Prepared.{moment_of};
+ghost use Rattle.rule_machine.specs.declared.reply.Reply.TheVariants.{Accepted};
+ghost use Rattle.step_log.specs.Epochs.{begun_by, ended_by, of_run, open_at};
 
-use log_entry::Entry;
-use rule_machine::{Event, Reply, Want};
+use rule_engine::{Net, Reply, Rules, Want};
 use std::alloc::Global;
 
 /// The moves between two accepted disturbances, the start or the end, and how large the network was then. They are at most
@@ -22,65 +23,72 @@ pub struct Epoch {
 }
 
 impl Epoch {
-    /// What the entry with this number makes of the epoch that has begun: the epoch that it ends, if it ends one.
-    fn turn(&mut self, number: u32, entry: &Entry) -> Option<Epoch>
-        requires moves { self.old.moves + moves_told entry.now.1 < 2 ^ 32 }
-        requires edges { self.old.edges + 1 < 2 ^ 32 }
-        ensures { (result, self.new) ≡ turned_by entry.now.1 entry.now.0 number self.old }
+    /// The epoch that the entry with this number began, where it has come to what the network is now.
+    fn up_to_now<R: Rules>(start: u32, net: &Net<R>) -> Epoch
+        ensures { of_run result ≡ open_at start (moment_of net.now) }
     {
-        match entry.reply() {
-            Reply::Accepted => {
-                let ended = *self;
-                *self = Epoch {
-                    start: number,
-                    moves: 0,
-                    edges: edges_after(entry.event(), ended.edges),
-                    nodes: ended.nodes,
-                };
-                Some(ended)
-            }
-            Reply::Moves(moves) => {
-                self.moves += moves.as_slice().len() as u32;
-                None
-            }
-            _ => None,
+        let store = net.store();
+        Epoch {
+            start,
+            moves: net.spent(),
+            edges: store.edges(),
+            nodes: store.nodes(),
         }
     }
 }
 
-/// How many edges an accepted event leaves. An unlink is accepted only where there is an edge.
-fn edges_after(event: &Event, edges: u32) -> u32
-    requires { edges + 1 < 2 ^ 32 }
-    ensures { result ≡ edges_after event.now edges }
-{
-    match event {
-        Event::Link(..) => edges + 1,
-        Event::Unlink(..) => edges.saturating_sub(1),
-        _ => edges,
-    }
+/// The epochs of a log: those that are over, and the number of the accepted disturbance that began the one that goes on, 0
+/// for the start. What else there is to tell of that one the network knows.
+#[derive(Drop)]
+pub(crate) struct Epochs {
+    pub over: Vec<Epoch>,
+    pub begun: u32,
 }
 
-/// The epochs of a log from its first entry on, in one walk over the entries.
-pub(crate) fn epochs_of(alloc: Global, nodes: u32, entries: &[Entry]) -> Result<Vec<Epoch>, Want>
-    requires nodes { nodes ≤ 65535 }
-    requires few { length entries.now ≤ 16777216 }
-    requires bound { All (IsBounded 3) (walked 1 (first_epoch nodes) entries.now) }
-    ensures { IfOk result (λ epochs. epochs.items ≡ walked 1 (first_epoch nodes) entries.now) }
-{
-    let mut epochs = Vec::new(alloc);
-    let mut begun = Epoch {
-        start: 0,
-        moves: 0,
-        edges: 0,
-        nodes,
-    };
-    let mut number = 0;
-    for entry in entries {
-        number += 1;
-        if let Some(ended) = begun.turn(number, entry) {
-            epochs.push(ended)?;
+impl Epochs {
+    /// The epochs of a log without entries.
+    pub fn new(alloc: Global) -> Epochs
+        ensures over { result.over.items ≡ [] }
+        ensures begun { result.begun ≡ 0 }
+    {
+        Epochs {
+            over: Vec::new(alloc),
+            begun: 0,
         }
     }
-    epochs.push(begun)?;
-    Ok(epochs)
+
+    /// Makes room for one more that is over, if an entry with this reply ends one.
+    pub fn make_room(&mut self, reply: &Reply) -> Result<(), Want>
+        ensures room { OnOk result (reply.now ≡ Accepted → length self.new.over.items < vec_capacity self.new.over) }
+        ensures over { self.new.over.items ≡ self.old.over.items }
+        ensures begun { self.new.begun ≡ self.old.begun }
+    {
+        if let Reply::Accepted = reply {
+            self.over.reserve(1)?;
+        }
+        Ok(())
+    }
+
+    /// Ends the epoch that goes on and begins the next, if the entry with this number and reply is an accepted disturbance. The
+    /// network is still as it was before the entry. It takes no memory.
+    pub fn turn<R: Rules>(&mut self, number: u32, reply: &Reply, net: &Net<R>)
+        requires { reply.now ≡ Accepted → length self.old.over.items < vec_capacity self.old.over }
+        ensures over { map of_run self.new.over.items ≡ map of_run self.old.over.items ++ ended_by reply.now (open_at self.old.begun (moment_of net.now)) }
+        ensures begun { self.new.begun ≡ begun_by reply.now number self.old.begun }
+    {
+        if let Reply::Accepted = reply {
+            self.over.push(Epoch::up_to_now(self.begun, net)).unwrap();
+            self.begun = number;
+        }
+    }
+
+    /// All of them in order, the last up to what the network is now.
+    pub fn list<R: Rules>(&self, alloc: Global, net: &Net<R>) -> Result<Vec<Epoch>, Want>
+        ensures { IfOk result (λ epochs. map of_run epochs.items ≡ map of_run self.now.over.items ++ open_at self.now.begun (moment_of net.now) ∷ []) }
+    {
+        let mut epochs = Vec::with_capacity(alloc, self.over.len() + 1)?;
+        epochs.extend_from_slice(&self.over)?;
+        epochs.push(Epoch::up_to_now(self.begun, net)).unwrap();
+        Ok(epochs)
+    }
 }

@@ -7,11 +7,11 @@ ghost use Rattle.rule_engine.specs.Choosing.{verdicts_of};
 ghost use Rattle.step_log.specs.declared.fault.RecordFault.TheVariants.{LogFull};
 ghost use Rattle.step_log.specs.Epochs.{AreEpochs, IsBounded};
 ghost use Rattle.rule_machine.specs.Network.{node_count, edge_count};
-ghost use Rattle.step_log.specs.Log.{max_entries, IsLog, empty_log, recorded, receipt_of};
+ghost use Rattle.step_log.specs.Log.{max_entries, IsLog, empty_log, empty_log_with, recorded, receipt_of};
 ghost use Rattle.step_log.specs.Held.{IsReady, log_of};
 ghost use Rattle.step_log.specs.Headline.{Upholds};
 
-use crate::epoch::epochs_of;
+use crate::epoch::Epochs;
 use crate::{Epoch, MAX_ENTRIES, Prepared, Receipt, RecordFault};
 use log_entry::Entry;
 use rule_engine::{Choice, Event, GraphFault, Net, Reply, Rules, Verdict, Want};
@@ -30,14 +30,15 @@ pub struct Journal<R: Rules> {
     net: Net<R>,
     entries: Vec<Entry>,
     limit: u32,
+    first: u32,
+    epochs: Epochs,
 }
 
 impl<R: Rules> Model for Journal<R> {
     ghost use Rattle.std.specs.Prelude.{◌-◌, length, vec_capacity};
     ghost use Rattle.std.specs.Coded.{codes};
     ghost use Rattle.rule_machine.specs.State.{state_code};
-    ghost use Rattle.step_log.specs.Log.{IsLog};
-    ghost use Rattle.step_log.specs.Held.{Held};
+    ghost use Rattle.step_log.specs.Held.{Held, IsKept};
 
     ghost Value = { Held };
 
@@ -48,11 +49,13 @@ impl<R: Rules> Model for Journal<R> {
       spent = j.net.spent;
       entries = j.entries.items;
       limit = j.limit;
+      first = j.first;
       room = j.net.room;
       spare = vec_capacity j.entries - length j.entries.items;
+      spare_epochs = vec_capacity j.epochs.over - length j.epochs.over.items;
     } };
 
-    ghost invariant = { λ j. IsLog R.table (record { state = j.net.state; spent = j.net.spent; entries = j.entries.items; limit = j.limit }) };
+    ghost invariant = { λ j. IsKept R.table (record { state = j.net.state; spent = j.net.spent; entries = j.entries.items; limit = j.limit; first = j.first }) j.epochs.over.items j.epochs.begun };
 }
 
 impl<R: Rules> Journal<R> {
@@ -72,11 +75,28 @@ impl<R: Rules> Journal<R> {
         ensures small { OnOk result (nodes ≤ 65535) }
         ensures fault { IfErr result (λ fault. Explains (nodes_fault nodes) fault) }
     {
+        Journal::with_present(alloc, nodes, nodes, limit)
+    }
+
+    /// The same where the names 1 to `present` are present at the start, and those above, up to `nodes`, are not.
+    pub fn with_present(
+        alloc: Global,
+        nodes: u32,
+        present: u32,
+        limit: u32,
+    ) -> Result<Journal<R>, GraphFault>
+        requires within { present ≤ nodes }
+        ensures ok { IfOk result (λ journal. log_of journal ≡ empty_log_with nodes present (min limit max_entries)) }
+        ensures small { OnOk result (nodes ≤ 65535) }
+        ensures fault { IfErr result (λ fault. Explains (nodes_fault nodes) fault) }
+    {
         Ok(Journal {
             alloc,
-            net: Net::new(alloc, nodes)?,
+            net: Net::with_present(alloc, nodes, present)?,
             entries: Vec::new(alloc),
             limit: limit.min(MAX_ENTRIES),
+            first: present,
+            epochs: Epochs::new(alloc),
         })
     }
 
@@ -121,13 +141,13 @@ impl<R: Rules> Journal<R> {
     }
 
     /// The epochs of the log in order, the first from the start, the last up to now: each has at most twice its edges and
-    /// the rules' weight for each node as its moves. `Memory` if memory runs out. One walk over the entries, with no look
-    /// at the network.
+    /// the rules' weight for each node as its moves. `Memory` if memory runs out. They are kept as the
+    /// log grows, so that it copies them, with no look at an entry.
     pub fn epochs(&self) -> Result<Vec<Epoch>, Want>
-        ensures epochs { IfOk result (λ epochs. AreEpochs R.table (node_count self.now.state.network) self.now.entries epochs.items) }
+        ensures epochs { IfOk result (λ epochs. AreEpochs R.table self.now.state.network.size self.now.first self.now.entries epochs.items) }
         ensures bound { IfOk result (λ epochs. All (IsBounded R.NODE_WEIGHT) epochs.items) }
     {
-        epochs_of(self.alloc, self.net().store().nodes(), &self.entries)
+        self.epochs.list(self.alloc, &self.net)
     }
 
     /// Whether there are as many entries as there may be.
@@ -150,6 +170,7 @@ impl<R: Rules> Journal<R> {
     {
         let seq = make_room(&mut self.entries, self.limit)?;
         let reply = self.net.prepare(&event)?;
+        self.epochs.make_room(&reply)?;
         Ok(Prepared::new(seq, event, reply)?)
     }
 
@@ -168,6 +189,7 @@ impl<R: Rules> Journal<R> {
     {
         let seq = make_room(&mut self.entries, self.limit)?;
         let reply = self.net.prepare_step(&choice, verdicts)?;
+        self.epochs.make_room(&reply)?;
         Ok(Prepared::new(seq, Event::Step(choice), reply)?)
     }
 
@@ -179,6 +201,7 @@ impl<R: Rules> Journal<R> {
         ensures log { log_of self.new ≡ recorded R.table (log_of self.old) prepared.event }
     {
         let (entry, receipt) = prepared.parts();
+        self.epochs.turn(receipt.seq, entry.reply(), &self.net);
         self.net.commit(entry.event(), entry.reply());
         self.entries.push(entry).unwrap();
         receipt

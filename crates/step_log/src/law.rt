@@ -5,9 +5,9 @@ ghost use Rattle.std.specs.Prelude.{◌≡◌, ◌≤◌, ◌+◌, ◌*◌, ◌+
 ghost use Rattle.rule_machine.specs.HsuHuang.{hsu_huang};
 ghost use Rattle.rule_machine.specs.Manne.{manne};
 ghost use Rattle.rule_machine.specs.Network.{node_count, edge_count};
-ghost use Rattle.rule_machine.specs.Run.{Entry, Moment, beginning, epoch_at, epochs_from};
+ghost use Rattle.rule_machine.specs.Run.{Entry, Moment, beginning_with, epoch_at, epochs_from};
 ghost use Rattle.rule_machine.specs.RuleTable.{RuleTable};
-ghost use Rattle.rule_machine.specs.State.{State, opening};
+ghost use Rattle.rule_machine.specs.State.{State, opening_with};
 ghost use Rattle.charge_laws.specs.Charged.{IsUndisturbed, moves_in};
 ghost use Rattle.charge_laws.specs.Epochs.{IsPath};
 ghost use Rattle.step_log.specs.Headline.{Upholds, LeadsTo};
@@ -29,11 +29,11 @@ pub fn budgets_by_name()
 /// Every epoch of a log has at most so many moves, with the edges and nodes that it began with.
 pub fn epochs_by_name()
     ensures hsu_huang { (log : Log) → Upholds hsu_huang 1 log
-        → (path : List (Entry × State)) → map (λ step. step.0) path ≡ log.entries → IsPath hsu_huang (beginning (node_count log.state.network)) path
-        → All (λ epoch. epoch.moves ≤ 2 * epoch.edges + epoch.nodes) (epochs_from 1 (epoch_at 0 (opening (node_count log.state.network))) path) }
+        → (path : List (Entry × State)) → map (λ step. step.0) path ≡ log.entries → IsPath hsu_huang (beginning_with log.state.network.size log.first) path
+        → All (λ epoch. epoch.moves ≤ 2 * epoch.edges + epoch.nodes) (epochs_from 1 (epoch_at 0 (opening_with log.state.network.size log.first)) path) }
     ensures manne { (log : Log) → Upholds manne 3 log
-        → (path : List (Entry × State)) → map (λ step. step.0) path ≡ log.entries → IsPath manne (beginning (node_count log.state.network)) path
-        → All (λ epoch. epoch.moves ≤ 2 * epoch.edges + 3 * epoch.nodes) (epochs_from 1 (epoch_at 0 (opening (node_count log.state.network))) path) }
+        → (path : List (Entry × State)) → map (λ step. step.0) path ≡ log.entries → IsPath manne (beginning_with log.state.network.size log.first) path
+        → All (λ epoch. epoch.moves ≤ 2 * epoch.edges + 3 * epoch.nodes) (epochs_from 1 (epoch_at 0 (opening_with log.state.network.size log.first)) path) }
 {}
 
 /// Each beginning of a log leads to a moment, and to one alone.

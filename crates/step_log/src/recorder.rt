@@ -8,7 +8,7 @@ ghost use Rattle.rule_machine.specs.Answer.{Answers};
 ghost use Rattle.rule_machine.specs.Least.{reply_of};
 ghost use Rattle.rule_engine.specs.Choosing.{verdicts_of};
 ghost use Rattle.step_log.specs.declared.fault.RecordFault.TheVariants.{LogFull};
-ghost use Rattle.step_log.specs.Recording.{max_entries, opening_recording, entered};
+ghost use Rattle.step_log.specs.Recording.{max_entries, opening_recording, opening_recording_with, entered};
 
 use crate::{Answer, RecordFault};
 use rule_engine::{Choice, Event, GraphFault, Net, Reply, Rules, Verdict};
@@ -24,6 +24,7 @@ pub struct Recorder<R: Rules> {
     net: Net<R>,
     len: u32,
     limit: u32,
+    first: u32,
 }
 
 impl<R: Rules> Model for Recorder<R> {
@@ -35,9 +36,9 @@ impl<R: Rules> Model for Recorder<R> {
 
     ghost coded = { Prim.hlevel (codes, state_code) };
 
-    ghost view = { λ r. record { state = r.net.state; spent = r.net.spent; len = r.len; limit = r.limit } };
+    ghost view = { λ r. record { state = r.net.state; spent = r.net.spent; len = r.len; limit = r.limit; first = r.first } };
 
-    ghost invariant = { λ r. IsRecording (record { state = r.net.state; spent = r.net.spent; len = r.len; limit = r.limit }) };
+    ghost invariant = { λ r. IsRecording (record { state = r.net.state; spent = r.net.spent; len = r.len; limit = r.limit; first = r.first }) };
 }
 
 impl<R: Rules> Recorder<R> {
@@ -57,10 +58,26 @@ impl<R: Rules> Recorder<R> {
         ensures small { OnOk result (nodes ≤ 65535) }
         ensures fault { IfErr result (λ fault. Explains (nodes_fault nodes) fault) }
     {
+        Recorder::with_present(alloc, nodes, nodes, limit)
+    }
+
+    /// The same where the names 1 to `present` are present at the start, and those above, up to `nodes`, are not.
+    pub fn with_present(
+        alloc: Global,
+        nodes: u32,
+        present: u32,
+        limit: u32,
+    ) -> Result<Recorder<R>, GraphFault>
+        requires within { present ≤ nodes }
+        ensures ok { IfOk result (λ recorder. recorder ≡ opening_recording_with nodes present (min limit max_entries)) }
+        ensures small { OnOk result (nodes ≤ 65535) }
+        ensures fault { IfErr result (λ fault. Explains (nodes_fault nodes) fault) }
+    {
         Ok(Recorder {
-            net: Net::new(alloc, nodes)?,
+            net: Net::with_present(alloc, nodes, present)?,
             len: 0,
             limit: limit.min(MAX_ENTRIES),
+            first: present,
         })
     }
 

@@ -1,5 +1,5 @@
 -- Turns that are taken one by one.
-use Rattle.std.proofs.Common.{◌≡◌, ◌∙◌, ℕ, ◌+◌, ◌≤◌, Bool, false, true, not, List, [], ◌∷◌, ◌++◌, length, Option, None, Some, MatchOption, refl, sym, ap, subst, append_assoc, length-append, arith}
+use Rattle.std.proofs.Common.{◌≡◌, ◌∙◌, ℕ, ◌+◌, ◌≤◌, Bool, false, true, not, List, [], ◌∷◌, ◌++◌, length, Option, None, Some, IsNone, ◌↔◌, MatchOption, refl, sym, ap, subst, append_assoc, length-append, arith}
 use Rattle.std.specs.List.{All}
 use Rattle.std.specs.Option.{is_some, option_map}
 use Rattle.std.proofs.lemmas.Bool.{false≢true}
@@ -10,6 +10,7 @@ use Rattle.rule_machine.specs.declared.choice.Item.{Item}
 use Rattle.rule_machine.specs.declared.reply.Reply.{Reply}
 use Rattle.rule_machine.specs.declared.event.Event.{Event}
 use Rattle.rule_machine.specs.declared.event.Event.TheVariants.{Step}
+use Rattle.rule_machine.specs.Network.{node_count}
 use Rattle.rule_machine.specs.RuleTable.{enabled_names}
 use Rattle.daemon.specs.Drawn.{drawn}
 use Rattle.daemon.proofs.Rests.{rests}
@@ -22,7 +23,7 @@ use Rattle.locked_net.specs.Calls.{KeepsStep, KeepsFault}
 use Rattle.locked_net.specs.Choosing.{ChoosesStep, IsTold, TakesChoice}
 use Rattle.locked_net.proofs.Adding.{seen_few}
 use Rattle.storm_call.specs.Storm.{IsOfStep, IsOfFault}
-use Rattle.storm_call.specs.Turns.{IsTurn, AreTurns, DrawnFrom, IsQuietBehind}
+use Rattle.storm_call.specs.Turns.{IsTurn, AreTurns, DrawnFrom, IsQuietBehind, IsEmptyBehind}
 
 -- ---- one turn
 
@@ -156,3 +157,10 @@ quiet_behind setting words left old mid new own told b added took e f =
       behind = omega (arith, few, low);
       quiet = (rests setting.table.central names words).0 (no_event (λ items. Step items) (drawn setting.table.central names words).0 nobody);
     }
+
+-- an injector that finds nothing finds no node, behind all that its clerk has seen
+pub empty_behind : (setting : Setting) (old mid new own : List Receipt) (told : Option Reply) → mid ≡ old ++ own → TakesChoice setting (λ s _. IsNone told ↔ (node_count s.network ≡ 0)) mid new told → IsNone told → IsEmptyBehind setting own
+empty_behind setting old mid new own told added took none =
+    let few : front_of mid ≤ length took.log.entries = seen_few (front_of mid) took.log took.free in
+    let low : front_of own ≤ front_of mid = subst (λ rs. front_of own ≤ front_of rs) (sym added) (front_low own old 0) in
+    record { log = took.log; is_own = took.own; behind = omega (arith, few, low); empty = took.taken.chosen.0 none }

@@ -21,14 +21,14 @@ told (Err found) fault is gives = ap (λ (f : StormFault). Err f) (sym gives)
 
 module _ (t : RuleTable) (weight : ℕ) (asked : Asked) (texts : List (Option (List ℕ))) (scripts : List (List ScriptLine)) (log : Log) (old new : Option (List ℕ)) where
   -- all was written, and the first fault that a script met is told
-  told_fault : (fault : CallFault) → AllHold texts scripts → Leaves t weight asked scripts (Some fault) log → Appends old new (transcript asked.rules asked.nodes log.entries)
+  told_fault : (fault : CallFault) → AllHold texts scripts → Leaves t weight asked scripts (Some fault) log → Appends old new (transcript asked.rules asked.nodes asked.present log.entries)
       → Ends t weight asked texts old new (Err (of_call fault))
   told_fault (Behind front seen) held leaves wrote = (front, seen, (scripts, log, held, leaves, wrote))
   told_fault LogFull held leaves wrote = (scripts, log, held, leaves, wrote)
   told_fault Memory held leaves wrote = inl (scripts, log, held, leaves, wrote)
 
   -- or not all was written
-  failed : (met : Option CallFault) (fault : StormFault) → AllHold texts scripts → Leaves t weight asked scripts met log → FailsToWrite old new (transcript asked.rules asked.nodes log.entries) fault
+  failed : (met : Option CallFault) (fault : StormFault) → AllHold texts scripts → Leaves t weight asked scripts met log → FailsToWrite old new (transcript asked.rules asked.nodes asked.present log.entries) fault
       → Ends t weight asked texts old new (Err fault)
   failed met storm.Write held leaves wrote = (met, (scripts, log, held, leaves, wrote))
   failed met storm.Memory held leaves kept = inr kept
@@ -42,19 +42,19 @@ module _ (t : RuleTable) (weight : ℕ) (asked : Asked) (texts : List (Option (L
 
   -- so that is what is told
   pub told_failed : (met : Option CallFault) (fault : StormFault) (result : Result Unit StormFault) → IsErr result → IsErrAnd result (λ found. found ≡ fault) → AllHold texts scripts
-      → Leaves t weight asked scripts met log → FailsToWrite old new (transcript asked.rules asked.nodes log.entries) fault → Ends t weight asked texts old new result
+      → Leaves t weight asked scripts met log → FailsToWrite old new (transcript asked.rules asked.nodes asked.present log.entries) fault → Ends t weight asked texts old new result
   told_failed met fault result is gives held leaves fails =
       subst (λ (r : Result Unit StormFault). Ends t weight asked texts old new r) (told result fault is gives) (failed met fault held leaves fails)
 
   -- all scripts were played to their ends, and all was written
-  pub done_all : (met : Option CallFault) → met ≡ None → AllHold texts scripts → Leaves t weight asked scripts met log → Appends old new (transcript asked.rules asked.nodes log.entries)
+  pub done_all : (met : Option CallFault) → met ≡ None → AllHold texts scripts → Leaves t weight asked scripts met log → Appends old new (transcript asked.rules asked.nodes asked.present log.entries)
       → LeavesText t weight asked texts None (Appends old new)
   done_all met is held leaves wrote =
       (scripts, log, held, subst (λ (f : Option CallFault). Leaves t weight asked scripts f log) is leaves, wrote)
 
   -- a script met a fault, and all was written
   pub told_met : (met : Option CallFault) (fault : CallFault) (found : StormFault) → met ≡ Some fault → found ≡ of_call fault → AllHold texts scripts → Leaves t weight asked scripts met log
-      → Appends old new (transcript asked.rules asked.nodes log.entries) → Ends t weight asked texts old new (Err found)
+      → Appends old new (transcript asked.rules asked.nodes asked.present log.entries) → Ends t weight asked texts old new (Err found)
   told_met met fault found is same held leaves wrote =
       subst (λ (f : StormFault). Ends t weight asked texts old new (Err f)) (sym same)
       (told_fault fault held (subst (λ (f : Option CallFault). Leaves t weight asked scripts f log) is leaves) wrote)

@@ -1,18 +1,20 @@
--- How a drive ends that finds nothing to do.
-use Rattle.std.proofs.Common.{◌≡◌, ◌∙◌, ℕ, ◌<◌, Bool, true, not, List, Option, None, Some, MatchOption, ap, sym, arith}
+-- How turns end that find nothing to do.
+use Rattle.std.proofs.Common.{◌≡◌, ◌∙◌, ℕ, ◌<◌, Bool, true, not, List, Option, None, Some, IsNone, ◌↔◌, MatchOption, ap, sym, arith}
 use Rattle.std.specs.Option.{is_some}
 use Rattle.std.proofs.lemmas.Bool.{false≢true}
 use Rattle.rand_core.specs.Stream.{Stream}
 use Rattle.rule_machine.specs.declared.reply.Reply.{Reply}
-use Rattle.seeded_turns.specs.Drawn.{seeded_stream, drawn_step}
+use Rattle.rule_machine.specs.Network.{node_count}
+use Rattle.seeded_turns.specs.Drawn.{seeded_stream, drawn_step, drawn_fault}
 use Rattle.step_log.specs.declared.receipt.Receipt.{Receipt}
 use Rattle.locked_net.specs.Receipts.{ClerkView}
 use Rattle.locked_net.specs.Settings.{Setting}
-use Rattle.script_text.specs.declared.command.Command.TheVariants.{Drive}
+use Rattle.locked_net.specs.Choosing.{TakesChoice}
+use Rattle.script_text.specs.declared.command.Command.TheVariants.{Drive, Scramble}
 use Rattle.script_text.specs.declared.command.Turns.{Turns}
-use Rattle.storm_call.specs.Storm.{IsOfStep, IsFor}
+use Rattle.storm_call.specs.Storm.{IsOfStep, IsOfFault, IsFor}
 use Rattle.storm_call.specs.Played.{Adds}
-use Rattle.storm_call.proofs.Adding.{Draw, Took, drawn_from, quiet_behind}
+use Rattle.storm_call.proofs.Adding.{Draw, Took, drawn_from, quiet_behind, empty_behind}
 
 -- a clerk that was told nothing has what it had
 pub rested : (Kept : Reply → Type 0) (old new : ClerkView) (told : Option Reply) (b : Bool) → MatchOption told (new ≡ old) Kept → is_some told ≡ not b → b ≡ true → new.receipts ≡ old.receipts
@@ -27,4 +29,15 @@ drive_rested setting turns count left old mid next new told b less so_far same t
       own = so_far.own;
       added = same ∙ so_far.added;
       fits = (omega (arith, less, as_many), drawn_from setting drawn_step IsOfStep (seeded_stream turns.seed) left count old mid so_far, λ _. quiet_behind setting left next old mid new so_far.own told b so_far.added took e f);
+    }
+
+-- so are they of a scramble
+pub scramble_rested : (setting : Setting) (turns : Turns) (count : ℕ) (left : Stream) (old mid new : List Receipt) (told : Option Reply) (b : Bool) → count < turns.count
+    → Took setting drawn_fault IsOfFault (seeded_stream turns.seed) count old mid left → new ≡ mid → TakesChoice setting (λ s _. IsNone told ↔ (node_count s.network ≡ 0)) mid new told → is_some told ≡ not b → b ≡ true
+    → Adds (IsFor setting (Scramble turns)) old new
+scramble_rested setting turns count left old mid new told b less so_far same took e f =
+    let as_many = so_far.as_many in record {
+      own = so_far.own;
+      added = same ∙ so_far.added;
+      fits = (omega (arith, less, as_many), drawn_from setting drawn_fault IsOfFault (seeded_stream turns.seed) left count old mid so_far, λ _. empty_behind setting old mid new so_far.own told so_far.added took (e ∙ ap not f));
     }

@@ -8,7 +8,6 @@ use Rattle.std.specs.Prelude.{◌≡◌, ◌≢◌, ℕ, ◌<◌, ◌⊎◌, Lis
 use Rattle.std.specs.Io.KnownBytes.{Appends, Keeps}
 use Rattle.rule_machine.specs.declared.rules.RuleSet.{RuleSet}
 use Rattle.rule_machine.specs.declared.rules.RuleSet.TheVariants.{Hh, Manne}
-use Rattle.rule_machine.specs.Network.{node_count}
 use Rattle.rule_machine.specs.RuleTable.{RuleTable}
 use Rattle.rule_machine.specs.Tables.{table_of}
 use Rattle.line_text.specs.LogText.{transcript}
@@ -28,13 +27,14 @@ use Rattle.storm_call.specs.declared.fault.StormFault.TheVariants.{TooManyScript
 
 -- what every log of such a network has
 abbrev pub asked_setting : RuleTable → Asked → Setting
-asked_setting t asked = record { table = t; nodes = asked.nodes; limit = asked.limit }
+asked_setting t asked = record { table = t; nodes = asked.nodes; first = asked.present; limit = asked.limit }
 
--- These scripts leave the log, on as many nodes, with the limit and with the workers that are asked for, and this is the first fault
+-- These scripts leave the log, on as many names and nodes, with the limit and with the workers that are asked for, and this is the first fault
 -- that a script met, or where none did, one of the workers'.
 pub record Leaves (t : RuleTable) (weight : ℕ) (asked : Asked) (scripts : List (List ScriptLine)) (fault : Option CallFault) (log : Log) : Type 0 where
   pub run : IsLog t log
-  pub nodes_are : node_count log.state.network ≡ asked.nodes
+  pub nodes_are : log.state.network.size ≡ asked.nodes
+  pub first_is : log.first ≡ asked.present
   pub limit_is : log.limit ≡ asked.limit
   pub storm : IsStorm (asked_setting t asked) log.entries scripts asked.roamers asked.turns fault
   pub headline : Headline t weight log storm.clerks
@@ -42,7 +42,7 @@ pub record Leaves (t : RuleTable) (weight : ℕ) (asked : Asked) (scripts : List
 -- the scripts are those of the texts, they leave a log with this fault, and P holds of its text
 abbrev pub LeavesText : RuleTable → ℕ → Asked → List (Option (List ℕ)) → Option CallFault → (List ℕ → Type 0) → Type 0
 LeavesText t weight asked texts fault P =
-    (scripts : List (List ScriptLine)) × (log : Log) × AllHold texts scripts × Leaves t weight asked scripts fault log × P (transcript asked.rules asked.nodes log.entries)
+    (scripts : List (List ScriptLine)) × (log : Log) × AllHold texts scripts × Leaves t weight asked scripts fault log × P (transcript asked.rules asked.nodes asked.present log.entries)
 
 -- The whole text was written where all scripts were played to their ends and no worker met a fault, or the first fault that was met
 -- is told; a beginning of it where the writer failed; and nothing where the receipts do not account for the log, or the scripts could

@@ -24,7 +24,7 @@ use Rattle.locked_net.specs.Settled.{Settled}
 use Rattle.locked_net.specs.Roamed.{IsLoneStep, TakesTurns}
 use Rattle.locked_net.specs.declared.call_fault.CallFault.{CallFault}
 use Rattle.script_text.specs.declared.script.ScriptLine.{ScriptLine}
-use Rattle.storm_call.specs.Turns.{DrawnFrom, IsQuietBehind}
+use Rattle.storm_call.specs.Turns.{DrawnFrom, IsQuietBehind, IsEmptyBehind}
 
 -- the receipt of a step that was answered by its moves
 pub record IsOfStep (receipt : Receipt) : Type 0 where
@@ -39,14 +39,14 @@ pub record IsOfFault (receipt : Receipt) : Type 0 where
   pub accepted : receipt.reply ≡ Accepted
 
 -- What a command is told when it was carried out: one receipt of its event; or the receipts of its turns, by the words of the generator
--- that it seeds. There are fewer turns than it asks for only where a daemon found no node enabled behind the last of them, or there is
--- no node to break.
+-- that it seeds. There are fewer turns than it asks for only where a daemon found no node enabled, or an injector no
+-- node to break, behind the last of them.
 abbrev pub IsFor : Setting → Command → List Receipt → Type 0
 IsFor setting (Tell event) own = map (λ r. r.event) own ≡ event ∷ []
 IsFor setting (Drive turns) own =
     (length own ≤ turns.count) × DrawnFrom setting drawn_step (seeded_stream turns.seed) IsOfStep own × (length own < turns.count → IsQuietBehind setting own)
 IsFor setting (Scramble turns) own =
-    (length own ≤ turns.count) × DrawnFrom setting drawn_fault (seeded_stream turns.seed) IsOfFault own × (length own < turns.count → setting.nodes ≡ 0)
+    (length own ≤ turns.count) × DrawnFrom setting drawn_fault (seeded_stream turns.seed) IsOfFault own × (length own < turns.count → IsEmptyBehind setting own)
 
 -- what it is told when a fault broke it off: nothing of its event; or fewer turns than it asks for
 abbrev pub IsPartOf : Setting → Command → List Receipt → Type 0

@@ -5,6 +5,7 @@
 use Rattle.std.specs.Prelude.{◌≡◌, ◌≤◌, List, [], ◌∷◌, length, Some}
 use Rattle.std.specs.List.{All}
 use Rattle.rand_core.specs.Stream.{Stream}
+use Rattle.rule_machine.specs.Network.{node_count}
 use Rattle.rule_machine.specs.RuleTable.{enabled_names}
 use Rattle.seeded_turns.specs.Drawn.{Draws}
 use Rattle.step_log.specs.declared.receipt.Receipt.{Receipt}
@@ -35,3 +36,10 @@ pub record IsQuietBehind (setting : Setting) (own : List Receipt) : Type 0 where
   pub is_own : IsLogIn setting log
   pub behind : front_of own ≤ length log.entries
   pub quiet : enabled_names setting.table log.state ≡ []
+
+-- There was no node on a log that has the last of these receipts.
+pub record IsEmptyBehind (setting : Setting) (own : List Receipt) : Type 0 where
+  pub log : Log
+  pub is_own : IsLogIn setting log
+  pub behind : front_of own ≤ length log.entries
+  pub empty : node_count log.state.network ≡ 0

@@ -20,20 +20,21 @@ fn append_entries<R: Rules>(out: &mut Vec<u8>, journal: &Journal<R>) -> Result<(
     Ok(())
 }
 
-/// Writes the text of a journal's log behind what is there: a header with the rule set and the number of nodes, and a line
-/// for each entry, numbered from 1. At want of memory nothing was written. Takes the memory of the text alone, and a look
+/// Writes the text of a journal's log behind what is there: a header with the rule set, the number of names and that of the nodes at
+/// the start, and a line for each entry, numbered from 1. At want of memory nothing was written. Takes the memory of the text alone, and a look
 /// at each entry.
 pub fn put_log<R: Rules>(
     out: &mut Vec<u8>,
     rules: RuleSet,
     nodes: u32,
+    present: u32,
     journal: &Journal<R>,
 ) -> Result<(), Want>
-    ensures ok { OnOk result (out.new.items ≡ out.old.items ++ transcript rules nodes journal.now.entries) }
+    ensures ok { OnOk result (out.new.items ≡ out.old.items ++ transcript rules nodes present journal.now.entries) }
     ensures err { OnErr result (out.new.items ≡ out.old.items) }
 {
     let len = out.len();
-    put_header(out, rules, nodes)?;
+    put_header(out, rules, nodes, present)?;
     let done = append_entries(out, journal);
     if done.is_err() {
         out.truncate(len);

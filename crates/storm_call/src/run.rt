@@ -2,11 +2,10 @@
 
 ghost use Rattle.std.specs.Prelude.{◌≡◌, ◌≤◌, [], length, IfOk, vec_len};
 ghost use Rattle.std.specs.List.{All};
-ghost use Rattle.rule_machine.specs.Network.{node_count};
 ghost use Rattle.step_log.specs.Headline.{Upholds};
 ghost use Rattle.step_log.specs.Held.{log_of};
 ghost use Rattle.step_log.specs.Log.{IsLog};
-ghost use Rattle.locked_net.specs.Nets.{nodes_of, limit_of, setting_of};
+ghost use Rattle.locked_net.specs.Nets.{nodes_of, first_of, limit_of, setting_of};
 ghost use Rattle.storm_call.specs.Storm.{IsStorm};
 
 use crate::beside::play_beside;
@@ -58,7 +57,7 @@ pub fn play_scripts<R: Rules + Send + Sync, G: Gate + Sync, T: Threads + Wait + 
     ensures storm { IfOk result (λ left. IsStorm (setting_of R.table net) left.0.entries scripts.now crew.roamers crew.turns left.1) }
     ensures run { IfOk result (λ left. IsLog R.table (log_of left.0)) }
     ensures upheld { IfOk result (λ left. Upholds R.table R.NODE_WEIGHT (log_of left.0)) }
-    ensures size { IfOk result (λ left. (node_count left.0.state.network ≡ nodes_of net) × (left.0.limit ≡ limit_of net)) }
+    ensures size { IfOk result (λ left. (left.0.state.network.size ≡ nodes_of net) × (left.0.first ≡ first_of net) × (left.0.limit ≡ limit_of net)) }
 {
     let count = scripts.len() + crew.roamers as usize;
     let Ok(mut clerks) = clerks_of(alloc, &net, count) else {

@@ -34,7 +34,13 @@ fn play<R: Rules + Send + Sync, G: Gate + Sync, T: Threads + Wait + Sync>(
     ensures log { IfOk result (λ left. Leaves R.table R.NODE_WEIGHT (asked_of options.now) scripts.now left.1 (log_of left.0)) }
     ensures fault { IfErr result FailsToPlay }
 {
-    let Ok(net) = LockedNet::<R>::with_limit(alloc, rt, options.nodes(), options.limit()) else {
+    let Ok(net) = LockedNet::<R>::with_present(
+        alloc,
+        rt,
+        options.nodes(),
+        options.present(),
+        options.limit(),
+    ) else {
         return Err(StormFault::Memory);
     };
     let crew = Crew {

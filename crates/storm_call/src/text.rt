@@ -20,11 +20,17 @@ pub fn write_log<R: Rules, Out: Write>(
     journal: &Journal<R>,
     writer: &mut Out,
 ) -> Result<(), StormFault>
-    ensures ok { OnOk result (Appends (Out.contents writer.old) (Out.contents writer.new) (transcript options.now.rules options.now.nodes journal.now.entries)) }
-    ensures fault { IfErr result (FailsToWrite (Out.contents writer.old) (Out.contents writer.new) (transcript options.now.rules options.now.nodes journal.now.entries)) }
+    ensures ok { OnOk result (Appends (Out.contents writer.old) (Out.contents writer.new) (transcript options.now.rules options.now.nodes options.now.present journal.now.entries)) }
+    ensures fault { IfErr result (FailsToWrite (Out.contents writer.old) (Out.contents writer.new) (transcript options.now.rules options.now.nodes options.now.present journal.now.entries)) }
 {
     let mut text = Vec::new(alloc);
-    put_log(&mut text, options.rules(), options.nodes(), journal)?;
+    put_log(
+        &mut text,
+        options.rules(),
+        options.nodes(),
+        options.present(),
+        journal,
+    )?;
     finish(writer, &text)?;
     Ok(())
 }

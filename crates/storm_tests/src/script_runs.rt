@@ -16,6 +16,12 @@ fn options_are_kept(rt: HostRuntime) {
         assert!(rt; most.with_limit(limit).limit() == wanted);
     }
     assert!(rt; most.limit() == 16_777_216);
+    for (present, wanted) in [(0, 0), (65_534, 65_534), (65_535, 65_535), (65_536, 65_535)] {
+        let some = most.with_present(present);
+        assert!(rt; some.present() == wanted);
+        assert!(rt; some.nodes() == 65_535);
+    }
+    assert!(rt; most.present() == 65_535);
     assert!(rt; Options::new(RuleSet::Hh, 65_536).is_none());
 }
 
@@ -39,6 +45,28 @@ fn ends(
     let end = run(rt, alloc, &mut rest, &mut written, &options);
     assert!(rt; end == wanted.1, "{script}");
     assert!(rt; written.as_slice() == wanted.0.as_bytes(), "{script}");
+}
+
+#[test]
+fn a_header_says_how_many_are_present(rt: HostRuntime) {
+    for (present, wanted) in [
+        (3, "matching hh 3\n"),
+        (4, "matching hh 3\n"),
+        (2, "matching hh 3 2\n"),
+        (0, "matching hh 3 0\n"),
+    ] {
+        let some = options(&rt, 3, 9).with_present(present);
+        ends(&rt, rt.alloc(), some, "", (wanted, Ok(())));
+    }
+}
+
+#[test]
+fn absent_names_are_unknown(rt: HostRuntime) {
+    let script = "link 1 2\nlink 1 3\nshow 3\nstatus\n";
+    let wanted =
+        "matching hh 3 2\n1 link 1 2 = ok\n2 link 1 3 = refused 1 unknown-node\n3 show 3 = refused 1 unknown-node\n4 status = nodes=2 edges=1 pairs=0 enabled=2 charge=2 spent=0\n";
+    let some = options(&rt, 3, 9).with_present(2);
+    ends(&rt, rt.alloc(), some, script, (wanted, Ok(())));
 }
 
 #[test]

@@ -1,5 +1,5 @@
 -- What an edge changes in what is counted at its two ends.
-use Rattle.std.proofs.Common.{◌≡◌, ◌≢◌, ℕ, ◌+◌, Bool, true, false, cond, ◌&&◌, List, Option, nat_eq, nat_lt, IsTrue, refl, sym, ap, ◌∙◌, subst, ⊎_elim, arith}
+use Rattle.std.proofs.Common.{◌≡◌, ◌≢◌, ℕ, ◌+◌, Bool, true, false, cond, ◌&&◌, List, Option, nat_eq, nat_lt, IsTrue, refl, sym, ap, ◌∙◌, ⊎_elim, arith}
 use Rattle.std.specs.List.{sum_by}
 use Rattle.std.proofs.lemmas.Bool.{cases_eq, eq-eqb, ne_eqb}
 use Rattle.rule_machine.specs.Network.{Network, linked, neighbours, present}
@@ -13,6 +13,7 @@ use Rattle.suitor_index.proofs.Turned.{tally_is}
 -- the second network is the first with the edge between a and b, which no pointer crosses
 pub record IsEdgeMore (net more : Network) (r : Registers) (a b : ℕ) : Type 0 where
   pub size : net.size ≡ more.size
+  pub here : (k : ℕ) → present net k ≡ present more k
   pub has_a : IsTrue (present net a)
   pub has_b : IsTrue (present net b)
   pub apart : a ≢ b
@@ -25,9 +26,9 @@ pub record IsEdgeMore (net more : Network) (r : Registers) (a b : ℕ) : Type 0 
   pub not_back : points r b a ≡ false
 
 -- at one end
-end_sum : (net more : Network) (a b : ℕ) (f : ℕ → ℕ) → net.size ≡ more.size → IsTrue (present net b) → linked net a b ≡ false → linked more a b ≡ true → ((x : ℕ) → x ≢ b → linked net a x ≡ linked more a x) → sum_by f (neighbours more a) ≡ sum_by f (neighbours net a) + f b
-end_sum net more a b f size has absent there others =
-    let turn = near_turn net more a b f f size has (λ x apart. ap (λ l. cond l (f x) 0) (others x apart)) in
+end_sum : (net more : Network) (a b : ℕ) (f : ℕ → ℕ) → net.size ≡ more.size → ((k : ℕ) → present net k ≡ present more k) → IsTrue (present net b) → linked net a b ≡ false → linked more a b ≡ true → ((x : ℕ) → x ≢ b → linked net a x ≡ linked more a x) → sum_by f (neighbours more a) ≡ sum_by f (neighbours net a) + f b
+end_sum net more a b f size here has absent there others =
+    let turn = near_turn net more a b f f size here has (λ x apart. ap (λ l. cond l (f x) 0) (others x apart)) in
     let now : term more a f b ≡ f b = ap (λ l. cond l (f b) 0) there in
     let was : term net a f b ≡ 0 = ap (λ l. cond l (f b) 0) absent in
     omega (arith, turn, now, was)
@@ -43,19 +44,19 @@ edge_sum : (net more : Network) (r : Registers) (a b k : ℕ) (f : ℕ → ℕ) 
 edge_sum net more r a b k f e =
     ⊎_elim
     (λ (same : k ≡ a).
-    let sum = end_sum net more k b f e.size e.has_b (ap (λ n. linked net n b) same ∙ e.absent) (ap (λ n. linked more n b) same ∙ e.there) (λ x apart. e.others k x (λ _ xb. apart xb) (λ kb _. e.apart (sym same ∙ kb))) in
+    let sum = end_sum net more k b f e.size e.here e.has_b (ap (λ n. linked net n b) same ∙ e.absent) (ap (λ n. linked more n b) same ∙ e.there) (λ x apart. e.others k x (λ _ xb. apart xb) (λ kb _. e.apart (sym same ∙ kb))) in
     let one = at_true k a (f b) same in
     let two = at_false k b (f a) (λ kb. e.apart (sym same ∙ kb)) in
     omega (arith, sum, one, two))
     (λ (not_a : k ≢ a).
     ⊎_elim
     (λ (same : k ≡ b).
-    let sum = end_sum net more k a f e.size e.has_a (ap (λ n. linked net n a) same ∙ e.absent_back) (ap (λ n. linked more n a) same ∙ e.there_back) (λ x apart. e.others k x (λ ka _. not_a ka) (λ _ xa. apart xa)) in
+    let sum = end_sum net more k a f e.size e.here e.has_a (ap (λ n. linked net n a) same ∙ e.absent_back) (ap (λ n. linked more n a) same ∙ e.there_back) (λ x apart. e.others k x (λ ka _. not_a ka) (λ _ xa. apart xa)) in
     let one = at_false k a (f b) not_a in
     let two = at_true k b (f a) same in
     omega (arith, sum, one, two))
     (λ (not_b : k ≢ b).
-    let sum = near_same net more k f f e.size (λ x. ap (λ l. cond l (f x) 0) (e.others k x (λ ka _. not_a ka) (λ kb _. not_b kb))) in
+    let sum = near_same net more k f f e.size e.here (λ x. ap (λ l. cond l (f x) 0) (e.others k x (λ ka _. not_a ka) (λ kb _. not_b kb))) in
     let one = at_false k a (f b) not_a in
     let two = at_false k b (f a) not_b in
     omega (arith, sum, one, two))
@@ -109,7 +110,7 @@ index_more opens net more r a b start half done e index one two = record {
   places = two.places ∙ one.places ∙ index.places ∙ ap (λ n. n + 1) e.size;
   counted = λ k has.
       let t = tally_more opens net more r a b k e in
-      let was = index.counted k (subst (λ n. IsTrue (present (record net { size = n }) k)) (sym e.size) has) in
+      let was = index.counted k (e.here k ∙ has) in
       tally_is (tally_of done k) (tally_at opens (state_of more r) k)
       (two.suitors k ∙ one.suitors k ∙ ap (λ (x : Tally). x.suitors) was ∙ sym t.suitors)
       (let p = two.open_near k in let q = one.open_near k in let x = ap (λ (x : Tally). x.open_near) was in let y = t.open_near in omega (arith, p, q, x, y))
@@ -123,7 +124,7 @@ index_less opens net more r a b start half done e index two one = record {
   places = sym one.places ∙ sym two.places ∙ index.places ∙ ap (λ n. n + 1) (sym e.size);
   counted = λ k has.
       let t = tally_more opens net more r a b k e in
-      let was = index.counted k (subst (λ n. IsTrue (present (record more { size = n }) k)) e.size has) in
+      let was = index.counted k (sym (e.here k) ∙ has) in
       tally_is (tally_of done k) (tally_at opens (state_of net r) k)
       (sym (one.suitors k) ∙ sym (two.suitors k) ∙ ap (λ (x : Tally). x.suitors) was ∙ t.suitors)
       (let p = two.open_near k in let q = one.open_near k in let x = ap (λ (x : Tally). x.open_near) was in let y = t.open_near in omega (arith, p, q, x, y))

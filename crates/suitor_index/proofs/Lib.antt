@@ -7,3 +7,4 @@ pub mod Changed
 pub mod Ends
 pub mod Linked
 pub mod Built
+pub mod Nodes

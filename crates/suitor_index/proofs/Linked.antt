@@ -1,5 +1,5 @@
 -- An index that is told of an edge.
-use Rattle.std.proofs.Common.{◌≡◌, ◌≢◌, ℕ, ◌≤◌, Bool, true, false, not, ◌&&◌, ◌||◌, List, Option, None, nat_eq, nat_lt, IsTrue, refl, sym, ap, ◌∙◌, subst, ⊎_elim, arith}
+use Rattle.std.proofs.Common.{◌≡◌, ◌≢◌, ℕ, ◌≤◌, Bool, true, false, not, ◌&&◌, ◌||◌, List, Option, None, nat_eq, nat_lt, IsTrue, refl, sym, ap, ◌∙◌, ⊎_elim, arith}
 use Rattle.std.specs.Ordering.{eq_by_cmp}
 use Rattle.std.proofs.lemmas.Bool.{and_parts, eq-eqb, ne_eqb, false_from_ne_true, true≢false, lt-ltb, or_left, and_right}
 use Rattle.std.proofs.lemmas.Cmp.{eq_by_cmp_equiv}
@@ -42,6 +42,7 @@ edge_linked net more r a b good accepted change =
     let there : linked more a b ≡ true = ap (λ n. linked n a b) change ∙ contains-insert net.edges (edge a b) (edge a b) ∙ or_left _ _ (same_pair a b) in
     record {
       size = ap (λ n. n.size) (sym change);
+      here = λ k. ap (λ n. present n k) (sym change);
       has_a = both.0;
       has_b = both.1;
       apart = λ same. true≢false (sym (eq-eqb a b same) ∙ two.0);
@@ -67,8 +68,9 @@ edge_unlinked net more r a b good there not_there not_back change =
     let absent : linked net a b ≡ false = ap (λ n. linked n a b) change ∙ contains-remove more.edges (edge a b) (edge a b) ∙ ap (λ t. not t && linked more a b) (same_pair a b) in
     record {
       size = size;
-      has_a = subst (λ n. IsTrue (present (record net { size = n }) a)) (sym size) has_a;
-      has_b = subst (λ n. IsTrue (present (record net { size = n }) b)) (sym size) has_b;
+      here = λ k. ap (λ n. present n k) change;
+      has_a = ap (λ n. present n a) change ∙ has_a;
+      has_b = ap (λ n. present n b) change ∙ has_b;
       apart = linked_apart more a b good.is_network there;
       absent = absent;
       absent_back = linked_comm net b a ∙ absent;
@@ -83,6 +85,7 @@ edge_unlinked net more r a b good there not_there not_back change =
 pub edge_swapped : (net more : Network) (r : Registers) (a b : ℕ) → IsEdgeMore net more r a b → IsEdgeMore net more r b a
 edge_swapped net more r a b e = record {
   size = e.size;
+  here = e.here;
   has_a = e.has_b;
   has_b = e.has_a;
   apart = λ same. e.apart (sym same);
@@ -125,7 +128,7 @@ end_room opens net more r a b start e index few open_b =
 pub end_counted : (opens : Option ℕ → Bool → Bool) (net more : Network) (r : Registers) (a b : ℕ) (start : List Tally) → IsEdgeMore net more r a b → IsIndexOf opens (state_of more r) start → opens (pointer_of r b) (flag_of r b) ≡ true → CountsOpen a b (tally_of start a)
 end_counted opens net more r a b start e index open_b =
     let t = tally_more opens net more r a b a e in
-    let was = index.counted a (subst (λ n. IsTrue (present (record more { size = n }) a)) e.size e.has_a) in
+    let was = index.counted a (sym (e.here a) ∙ e.has_a) in
     let near = t.open_near in
     let above = t.open_above in
     let one : one_if (end_of opens r b a a) ≡ 1 = ap one_if (end_here opens r a b open_b) in

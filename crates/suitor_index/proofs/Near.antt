@@ -1,45 +1,52 @@
 -- Sums over the neighbours of a node.
-use Rattle.std.proofs.Common.{◌≡◌, ◌≢◌, ℕ, zero, suc, ◌+◌, ◌*◌, ◌<◌, ◌≤◌, Bool, true, false, cond, ◌||◌, List, [], ◌∷◌, filter, nat_eq, IsTrue, refl, sym, ap, ◌∙◌, subst, ⊎_elim, arith}
+use Rattle.std.proofs.Common.{◌≡◌, ◌≢◌, ℕ, zero, suc, ◌+◌, ◌*◌, ◌<◌, ◌≤◌, Bool, true, false, cond, ◌||◌, List, [], ◌∷◌, filter, nat_eq, IsTrue, refl, sym, ap, ap₂, ◌∙◌, subst, ⊎_elim, arith}
 use Rattle.std.specs.List.{sum_by, list_any, range_with_len}
 use Rattle.std.specs.Cmp.{both_ways}
 use Rattle.std.specs.List.Sorted.{IsStrictlyIncreasing}
 use Rattle.std.proofs.lemmas.Bool.{cases_eq, eqb-true, eq-eqb, or_cases, or_right}
-use Rattle.std.proofs.lemmas.List.FromFn.{length-range_with_len, get_or-range_with_len}
 use Rattle.std.proofs.lemmas.List.Kept.{IsStrictlyIncreasing-filter}
 use Rattle.std.proofs.lemmas.List.Sums.{sum_by-cons}
 use Rattle.rule_machine.specs.Network.{Network, IsNetwork, linked, neighbours, names, present}
-use Rattle.machine_laws.specs.Neighbours.{linked_back, linked_present, present_range}
+use Rattle.machine_laws.specs.Neighbours.{linked_back, linked_present, present_range, neighbours_range}
+use Rattle.machine_laws.specs.LeastAnswers.{names_increasing}
 use Rattle.suitor_index.proofs.Sums.{sum_filter, sum_same, sum_turn, sum_small, sum_ones}
 
 -- the term of a name that may be a neighbour
 abbrev pub term : Network → ℕ → (ℕ → ℕ) → ℕ → ℕ
 term net k f x = cond (linked net k x) (f x) 0
 
--- sums over the neighbours that k has in two networks whose terms differ at one name
-pub near_turn : (net net' : Network) (k v : ℕ) (f g : ℕ → ℕ) → net.size ≡ net'.size → IsTrue (present net v) → ((x : ℕ) → x ≢ v → term net k f x ≡ term net' k g x) → sum_by f (neighbours net k) + term net' k g v ≡ sum_by g (neighbours net' k) + term net k f v
-near_turn net net' k v f g size here same =
+-- the sum over the neighbours, over all names
+by_names : (net : Network) (k : ℕ) (f : ℕ → ℕ) → sum_by f (neighbours net k) ≡ sum_by (λ x. cond (present net x) (term net k f x) 0) (range_with_len 1 net.size)
+by_names net k f = sum_filter f (linked net k) (names net) ∙ sum_filter (term net k f) (present net) (range_with_len 1 net.size)
+
+-- sums over the neighbours that k has in two networks of the same nodes whose terms differ at one name
+pub near_turn : (net net' : Network) (k v : ℕ) (f g : ℕ → ℕ) → net.size ≡ net'.size → ((x : ℕ) → present net x ≡ present net' x) → IsTrue (present net v) → ((x : ℕ) → x ≢ v → term net k f x ≡ term net' k g x) → sum_by f (neighbours net k) + term net' k g v ≡ sum_by g (neighbours net' k) + term net k f v
+near_turn net net' k v f g size nodes here same =
     let bounds = present_range net v here in
-    let one = sum_filter f (linked net k) (names net) in
-    let two = sum_filter g (linked net' k) (names net') in
-    let resized : sum_by (term net' k g) (names net) ≡ sum_by (term net' k g) (names net') = ap (λ n. sum_by (term net' k g) (range_with_len 1 n)) size in
-    let turn = sum_turn (term net k f) (term net' k g) v 1 net.size bounds.0 (omega (arith, bounds.1)) (λ x low high apart. same x apart) in
-    omega (arith, one, two, resized, turn)
+    let one = by_names net k f in
+    let two = by_names net' k g in
+    let resized = ap (λ n. sum_by (λ x. cond (present net' x) (term net' k g x) 0) (range_with_len 1 n)) size in
+    let turn = sum_turn (λ x. cond (present net x) (term net k f x) 0) (λ x. cond (present net' x) (term net' k g x) 0) v 1 net.size bounds.0 (omega (arith, bounds.1)) (λ x low high apart. ap₂ (λ b n. cond b n 0) (nodes x) (same x apart)) in
+    let mine = ap (λ b. cond b (term net k f v) 0) here in
+    let others = ap (λ b. cond b (term net' k g v) 0) (sym (nodes v) ∙ here) in
+    omega (arith, one, two, resized, turn, mine, others)
 
 -- and those whose terms don't differ
-pub near_same : (net net' : Network) (k : ℕ) (f g : ℕ → ℕ) → net.size ≡ net'.size → ((x : ℕ) → term net k f x ≡ term net' k g x) → sum_by f (neighbours net k) ≡ sum_by g (neighbours net' k)
-near_same net net' k f g size same =
-    sum_filter f (linked net k) (names net)
-    ∙ sum_same (term net k f) (term net' k g) 1 net.size (λ x low high. same x)
-    ∙ ap (λ n. sum_by (term net' k g) (range_with_len 1 n)) size
-    ∙ sym (sum_filter g (linked net' k) (names net'))
+pub near_same : (net net' : Network) (k : ℕ) (f g : ℕ → ℕ) → net.size ≡ net'.size → ((x : ℕ) → present net x ≡ present net' x) → ((x : ℕ) → term net k f x ≡ term net' k g x) → sum_by f (neighbours net k) ≡ sum_by g (neighbours net' k)
+near_same net net' k f g size nodes same =
+    by_names net k f
+    ∙ sum_same (λ x. cond (present net x) (term net k f x) 0) (λ x. cond (present net' x) (term net' k g x) 0) 1 net.size (λ x low high. ap₂ (λ b n. cond b n 0) (nodes x) (same x))
+    ∙ ap (λ n. sum_by (λ x. cond (present net' x) (term net' k g x) 0) (range_with_len 1 n)) size
+    ∙ sym (by_names net' k g)
 
 -- no term is more than the sum
 pub near_le : (net : Network) (k v : ℕ) (f : ℕ → ℕ) → IsTrue (present net v) → term net k f v ≤ sum_by f (neighbours net k)
 near_le net k v f here =
     let bounds = present_range net v here in
-    let one = sum_filter f (linked net k) (names net) in
-    let le = range_le (term net k f) v 1 net.size bounds.0 (omega (arith, bounds.1)) in
-    omega (arith, one, le)
+    let one = by_names net k f in
+    let le = range_le (λ x. cond (present net x) (term net k f x) 0) v 1 net.size bounds.0 (omega (arith, bounds.1)) in
+    let mine = ap (λ b. cond b (term net k f v) 0) here in
+    omega (arith, one, le, mine)
   where
     range_le : (f : ℕ → ℕ) (b a n : ℕ) → a ≤ b → b < a + n → f b ≤ sum_by f (range_with_len a n)
     range_le f b a zero low high = absurd (omega arith)
@@ -53,8 +60,8 @@ near_le net k v f here =
 -- a count is at most the number of names, and a sum of names at most 65,535 times as much
 pub near_ones : (net : Network) (k : ℕ) (f : ℕ → ℕ) → ((x : ℕ) → f x ≤ 1) → sum_by f (neighbours net k) ≤ net.size
 near_ones net k f few =
-    let one = sum_filter f (linked net k) (names net) in
-    let le = sum_ones (term net k f) 1 net.size (λ x low high. small (linked net k x) (f x) (few x)) in
+    let one = by_names net k f in
+    let le = sum_ones (λ x. cond (present net x) (term net k f x) 0) 1 net.size (λ x low high. small (present net x) _ (small (linked net k x) (f x) (few x))) in
     omega (arith, one, le)
   where
     small : (b : Bool) (n : ℕ) → n ≤ 1 → cond b n 0 ≤ 1
@@ -63,24 +70,21 @@ near_ones net k f few =
 
 pub near_names : (net : Network) (k : ℕ) (f : ℕ → ℕ) → net.size ≤ 65535 → ((x : ℕ) → f x ≤ x) → sum_by f (neighbours net k) ≤ net.size * 65535
 near_names net k f size few =
-    let one = sum_filter f (linked net k) (names net) in
-    let le = sum_small (term net k f) 1 net.size (λ x low high. small (linked net k x) (f x) x (few x) (omega arith)) in
+    let one = by_names net k f in
+    let le = sum_small (λ x. cond (present net x) (term net k f x) 0) 1 net.size (λ x low high. small (present net x) _ (name (linked net k x) (f x) x (few x) (omega arith))) in
     omega (arith, one, le)
   where
-    small : (b : Bool) (n x : ℕ) → n ≤ x → x ≤ 65535 → cond b n 0 ≤ 65535
-    small true n x le high = omega arith
-    small false n x le high = omega arith
+    name : (b : Bool) (n x : ℕ) → n ≤ x → x ≤ 65535 → cond b n 0 ≤ 65535
+    name true n x le high = omega arith
+    name false n x le high = omega arith
+
+    small : (b : Bool) (n : ℕ) → n ≤ 65535 → cond b n 0 ≤ 65535
+    small true n le = le
+    small false n le = omega arith
 
 -- the neighbours rise
 pub neighbours_rise : (net : Network) (v : ℕ) → IsStrictlyIncreasing (neighbours net v)
-neighbours_rise net v = IsStrictlyIncreasing-filter (linked net v) (names net) (range_rises 1 net.size)
-  where
-    range_rises : (a n : ℕ) → IsStrictlyIncreasing (range_with_len a n)
-    range_rises a n = λ i inside.
-        let len = length-range_with_len a n in
-        let one = get_or-range_with_len a n i 0 (omega arith) in
-        let two = get_or-range_with_len a n (i + 1) 0 (omega arith) in
-        omega (arith, one, two)
+neighbours_rise net v = IsStrictlyIncreasing-filter (linked net v) (names net) (names_increasing net)
 
 kept_step : (k x : ℕ) (kept : List ℕ) (p : ℕ → Bool) (b : Bool) → p x ≡ b → (list_any (nat_eq k) kept ≡ true → p k ≡ true) → list_any (nat_eq k) (cond b (x ∷ kept) kept) ≡ true → p k ≡ true
 kept_step k x kept p true at rest h =
@@ -117,7 +121,7 @@ listed_linked net v k h = kept_passes (linked net v) (names net) k h
 pub linked_listed : (net : Network) (v k : ℕ) → IsNetwork net → IsTrue (linked net v k) → list_any (nat_eq k) (neighbours net v) ≡ true
 linked_listed net v k is_network h =
     let bounds = present_range net k (linked_present net k v is_network (linked_back net k v ∙ h)) in
-    passes_kept (linked net v) k 1 net.size bounds.0 (omega (arith, bounds.1)) h
+    ap (list_any (nat_eq k)) (neighbours_range net v is_network) ∙ passes_kept (linked net v) k 1 net.size bounds.0 (omega (arith, bounds.1)) h
 
 pub listed_is_linked : (net : Network) (v k : ℕ) → IsNetwork net → list_any (nat_eq k) (neighbours net v) ≡ linked net v k
 listed_is_linked net v k is_network = both_ways _ _ (listed_linked net v k) (linked_listed net v k is_network)

@@ -33,7 +33,7 @@ held_at net r v k n good = held (linked net k v) (points r v k) n (λ at. suitor
 -- sums over k's suitors
 suitors_turned : (net : Network) (r q : Registers) (v k : ℕ) (n : ℕ → ℕ) → IsState (state_of net r) → IsState (state_of net q) → AreAlike v r q → IsTrue (present net v) → sum_by (λ x. cond (points q x k) (n x) 0) (neighbours net k) + cond (points r v k) (n v) 0 ≡ sum_by (λ x. cond (points r x k) (n x) 0) (neighbours net k) + cond (points q v k) (n v) 0
 suitors_turned net r q v k n before now alike here =
-    let turn = near_turn net net k v (λ x. cond (points q x k) (n x) 0) (λ x. cond (points r x k) (n x) 0) refl here (λ x apart. ap (λ o. cond (linked net k x) (cond (is_at o k) (n x) 0) 0) (sym (alike.pointers x apart))) in
+    let turn = near_turn net net k v (λ x. cond (points q x k) (n x) 0) (λ x. cond (points r x k) (n x) 0) refl (λ _. refl) here (λ x apart. ap (λ o. cond (linked net k x) (cond (is_at o k) (n x) 0) 0) (sym (alike.pointers x apart))) in
     omega (arith, turn, held_at net r v k (n v) before, held_at net q v k (n v) now)
 
 swap_cond : (l b : Bool) → cond l (one_if b) 0 ≡ cond b (one_if l) 0
@@ -73,8 +73,8 @@ tally_turned opens net r q v k before now alike here =
     let s = state_of net r in
     let u = state_of net q in
     let same : (x : ℕ) → x ≢ v → is_open opens u x ≡ is_open opens s x = λ x apart. ap₂ opens (sym (alike.pointers x apart)) (sym (alike.flags x apart)) in
-    let near_open = near_turn net net k v (λ x. cond (is_open opens u x) 1 0) (λ x. cond (is_open opens s x) 1 0) refl here (λ x apart. ap (λ b. cond (linked net k x) (cond b 1 0) 0) (same x apart)) in
-    let near_above = near_turn net net k v (λ x. cond (is_open_above opens u k x) 1 0) (λ x. cond (is_open_above opens s k x) 1 0) refl here (λ x apart. ap (λ b. cond (linked net k x) (cond (b && nat_lt k x) 1 0) 0) (same x apart)) in
+    let near_open = near_turn net net k v (λ x. cond (is_open opens u x) 1 0) (λ x. cond (is_open opens s x) 1 0) refl (λ _. refl) here (λ x apart. ap (λ b. cond (linked net k x) (cond b 1 0) 0) (same x apart)) in
+    let near_above = near_turn net net k v (λ x. cond (is_open_above opens u k x) 1 0) (λ x. cond (is_open_above opens s k x) 1 0) refl (λ _. refl) here (λ x apart. ap (λ b. cond (linked net k x) (cond (b && nat_lt k x) 1 0) 0) (same x apart)) in
     record {
       suitors = suitors_turned net r q v k (λ x. 1) before now alike here;
       sum = suitors_turned net r q v k (λ x. x) before now alike here;

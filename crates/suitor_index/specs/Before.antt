@@ -1,6 +1,6 @@
 -- What an index was of before a change of which it is told.
-use Rattle.std.specs.Prelude.{◌≡◌, ℕ, Bool, false, not, List, Option, None, IsTrue}
-use Rattle.rule_machine.specs.Network.{Network, linked, with_edge, without_edge}
+use Rattle.std.specs.Prelude.{◌≡◌, ℕ, ◌≤◌, Bool, false, not, List, Option, None, IsTrue}
+use Rattle.rule_machine.specs.Network.{Network, present, linked, with_edge, without_edge, with_node}
 use Rattle.rule_machine.specs.State.{State, Registers, IsState, pointer, flag, pointer_of, points, with_pointer, with_flag}
 use Rattle.rule_machine.specs.Refuse.{link_refusal}
 use Rattle.suitor_index.specs.declared.tally.Tally.{Tally}
@@ -39,3 +39,12 @@ pub record IsBeforeFlag (opens : Option ℕ → Bool → Bool) (now : State) (v 
   pub change : now.registers ≡ with_flag registers v (flag now v)
   pub was : flag (state_of now.network registers) v ≡ not (flag now v)
   pub index : IsIndexOf opens (state_of now.network registers) tallies
+
+-- those of the state before a name became present
+pub record IsBeforeJoin (opens : Option ℕ → Bool → Bool) (now : State) (v : ℕ) (tallies : List Tally) : Type 0 where
+  pub network : Network
+  pub is_state : IsState (state_of network now.registers)
+  pub within : v ≤ network.size
+  pub was_absent : present network v ≡ false
+  pub change : now.network ≡ with_node network v
+  pub index : IsIndexOf opens (state_of network now.registers) tallies

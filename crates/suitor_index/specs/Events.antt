@@ -1,14 +1,14 @@
 -- The changes that events make are changes of which an index of the state before can be told.
-use Rattle.std.proofs.Common.{◌≡◌, ℕ, ◌<◌, Bool, false, true, not, List, length, Option, None, IsTrue, refl, sym, ap, ◌∙◌, arith}
+use Rattle.std.proofs.Common.{◌≡◌, ℕ, ◌<◌, ◌≤◌, Bool, false, true, not, List, length, Option, None, IsTrue, refl, sym, ap, ◌∙◌, arith}
 use Rattle.rule_machine.specs.Network.{linked, present, without_edge}
 use Rattle.rule_machine.specs.State.{State, IsState, pointer, flag, flag_of, points}
 use Rattle.rule_machine.specs.Refuse.{link_refusal}
-use Rattle.rule_machine.specs.Disturbance.{after_link, after_point, after_flag}
+use Rattle.rule_machine.specs.Disturbance.{after_link, after_point, after_flag, after_join}
 use Rattle.machine_laws.specs.Writes.{pointer-with_pointer_same, flag-with_flag_same}
 use Rattle.machine_laws.specs.Neighbours.{present_range}
 use Rattle.suitor_index.specs.declared.tally.Tally.{Tally}
 use Rattle.suitor_index.specs.Tallies.{IsIndexOf}
-use Rattle.suitor_index.specs.Before.{IsBeforeLink, IsBeforeUnlink, IsBeforePoint, IsBeforeFlag}
+use Rattle.suitor_index.specs.Before.{IsBeforeLink, IsBeforeUnlink, IsBeforePoint, IsBeforeFlag, IsBeforeJoin}
 
 -- an edge is put in
 pub before_link : (opens : Option ℕ → Bool → Bool) (s : State) (a b : ℕ) (tallies : List Tally) → IsState s → link_refusal s.network a b ≡ None → IsIndexOf opens s tallies → IsBeforeLink opens (after_link s a b) a b tallies
@@ -66,3 +66,14 @@ before_flag opens s v tallies good here index =
     not_not : (b : Bool) → not (not b) ≡ b
     not_not true = refl
     not_not false = refl
+
+-- a name becomes present
+pub before_join : (opens : Option ℕ → Bool → Bool) (s : State) (v : ℕ) (tallies : List Tally) → IsState s → v ≤ s.network.size → present s.network v ≡ false → IsIndexOf opens s tallies → IsBeforeJoin opens (after_join s v) v tallies
+before_join opens s v tallies good within absent index = record {
+  network = s.network;
+  is_state = good;
+  within = within;
+  was_absent = absent;
+  change = refl;
+  index = index;
+}

@@ -4,11 +4,12 @@ ghost use Rattle.std.specs.Prelude.{◌≡◌, ◌<◌, ◌&&◌, true, length, 
 ghost use Rattle.rule_machine.specs.Network.{present};
 ghost use Rattle.rule_machine.specs.State.{IsState, pointer_of, flag_of};
 ghost use Rattle.suitor_index.specs.Tallies.{state_of, tally_of, IsIndexOf};
-ghost use Rattle.suitor_index.specs.Before.{IsBeforeLink, IsBeforeUnlink, IsBeforePoint, IsBeforeFlag};
+ghost use Rattle.suitor_index.specs.Before.{IsBeforeLink, IsBeforeUnlink, IsBeforePoint, IsBeforeFlag, IsBeforeJoin};
 ghost use Rattle.suitor_index.specs.Told.{CanOpen, CountsOpen, IsOpenTo};
 
 use crate::scan::is_open;
 use crate::table::{close_at, court, leave, open_at, turn};
+use crate::tally::NOTHING;
 use crate::{SuitorIndex, Tally};
 use graph_store::EdgeStore;
 use registers::Registers;
@@ -70,6 +71,14 @@ impl<R: Rules> SuitorIndex<R> {
         let was_open = R::opens(registers.pointer(v), !registers.flag(v));
         let is_open = is_open::<R>(registers, v);
         turn(&mut self.tallies, store.neighbours(v), v, was_open, is_open);
+    }
+
+    /// Takes note that a name became present: one write. A name that goes without an edge need not be told of.
+    pub fn joined(&mut self, v: Node, store: &EdgeStore, registers: &Registers)
+        requires { IsBeforeJoin R.table.opens (state_of store.now.network registers.now) v self.old }
+        ensures { IsIndexOf R.table.opens (state_of store.now.network registers.now) self.new }
+    {
+        self.tallies[v.place()] = NOTHING;
     }
 }
 

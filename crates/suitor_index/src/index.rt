@@ -4,7 +4,7 @@ ghost use Rattle.std.specs.Prelude.{◌≡◌, ◌<◌, ◌≤◌, ◌&&◌, IfO
 ghost use Rattle.rule_machine.specs.Network.{present, linked};
 ghost use Rattle.rule_machine.specs.State.{IsState, suits, has_suitor, first_suitor};
 ghost use Rattle.rule_machine.specs.RuleTable.{is_open, first_open, last_open_above};
-ghost use Rattle.suitor_index.specs.Tallies.{state_of, tally_of, IsIndexOf};
+ghost use Rattle.suitor_index.specs.Tallies.{state_of, tally_of, tally_at, IsIndexOf};
 
 use crate::tally::NOTHING;
 use crate::{Tally, scan};
@@ -45,10 +45,10 @@ impl<R: Rules> SuitorIndex<R> {
         requires { IsState (state_of store.now.network registers.now) }
         ensures { IfOk result (λ index. IsIndexOf R.table.opens (state_of store.now.network registers.now) index) }
     {
-        let mut tallies = vec![in alloc; NOTHING; store.nodes() as usize + 1]?;
-        for name in 1..store.nodes() + 1 {
+        let mut tallies = vec![in alloc; NOTHING; store.capacity() as usize + 1]?;
+        for name in 1..store.capacity() + 1 {
             let v = Node::new(name).unwrap();
-            tallies[v.place()] = scan::count::<R>(store.neighbours(v), registers, v);
+            tallies[v.place()] = count_at::<R>(store, registers, v);
         }
         Ok(SuitorIndex {
             tallies,
@@ -156,5 +156,18 @@ impl<R: Rules> SuitorIndex<R> {
         ensures { result ≡ (linked store.now.network v w && is_open R.table.opens (state_of store.now.network registers.now) w) }
     {
         store.linked(v, w) && scan::is_open::<R>(registers, w)
+    }
+}
+
+/// What is counted at a name; nothing where it is absent.
+fn count_at<R: Rules>(store: &EdgeStore, registers: &Registers, v: Node) -> Tally
+    requires { IsState (state_of store.now.network registers.now) }
+    ensures { IsTrue (present store.now.network v) → result ≡ tally_at R.table.opens (state_of store.now.network registers.now) v }
+{
+    if store.has(v) {
+        prove!(store.capacity() <= 65_535);
+        scan::count::<R>(store.neighbours(v), registers, v)
+    } else {
+        NOTHING
     }
 }

@@ -17,11 +17,19 @@ impl Law for AnyLog {
     ghost holds = { λ places log. Unit {0} };
 }
 
+/// A board for the names 1 and 2, of which the first ones are present.
+fn opened_with<R: Wait + Abort>(rt: &R, alloc: Global, first: u32, readers: usize) -> Board<AnyLog>
+    requires { (0 < readers) × (readers < 2 ^ 32) }
+    ensures { (result.list ≡ []) × (result.posted ≡ []) }
+{
+    Board::new(alloc, rt, 3, first, readers).expect(rt, "memory")
+}
+
 fn blank<R: Wait + Abort>(rt: &R, alloc: Global, readers: usize) -> Board<AnyLog>
     requires { (0 < readers) × (readers < 2 ^ 32) }
     ensures { (result.list ≡ []) × (result.posted ≡ []) }
 {
-    Board::new(alloc, rt, 3, readers).expect(rt, "memory")
+    opened_with(rt, alloc, 2, readers)
 }
 
 /// Posts an entry and publishes it.
@@ -72,6 +80,25 @@ fn an_empty_board_is_null(rt: HostRuntime) {
     assert!(rt; reader.front() == Some(0));
     board.end(&rt);
     assert!(rt; reader.look(1) == None);
+}
+
+/// Nothing is found at a place.
+fn expect_nobody(rt: &impl Abort, reader: &mut Reader<AnyLog>, place: usize)
+    ensures { reader.new.name ≡ reader.old.name }
+{
+    assert!(rt; reader.look(place).expect(rt, "a look").found == None);
+}
+
+#[test]
+fn a_board_shows_no_absent_name(rt: HostRuntime) {
+    let mut board = opened_with(&rt, rt.alloc(), 1, 1);
+    let mut reader = opened(&rt, &mut board);
+    expect_look(&rt, &mut reader, 1, 0, None, false);
+    expect_nobody(&rt, &mut reader, 0);
+    expect_nobody(&rt, &mut reader, 2);
+    expect_nobody(&rt, &mut reader, 3);
+    assert!(rt; reader.front() == Some(0));
+    board.end(&rt);
 }
 
 #[test]

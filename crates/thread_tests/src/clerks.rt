@@ -1,5 +1,7 @@
 //! Clerks of a shared network, and how they settle.
 
+ghost use Rattle.std.specs.Prelude.{◌≤◌};
+
 use crate::helpers::named;
 use locked_net::{CallFault, Clerk, LockedNet, SettleFault, settle};
 use rule_engine::{Event, Reply, Rules};
@@ -15,6 +17,18 @@ pub(crate) fn shared<R: Rules>(
     limit: u32,
 ) -> LockedNet<R> {
     LockedNet::with_limit(alloc, rt, nodes, limit).expect(rt, "a network")
+}
+
+/// A network of so many names, of which the first ones are nodes.
+pub(crate) fn shared_with<R: Rules>(
+    rt: &(impl Abort + Wait),
+    alloc: Global,
+    nodes: u32,
+    present: u32,
+) -> LockedNet<R>
+    requires { present ≤ nodes }
+{
+    LockedNet::with_present(alloc, rt, nodes, present, 9).expect(rt, "a network")
 }
 
 pub(crate) fn clerk_of<R: Rules>(rt: &impl Abort, net: &LockedNet<R>) -> Clerk {

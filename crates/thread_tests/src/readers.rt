@@ -5,10 +5,11 @@ ghost use Rattle.std.specs.Thread.{IsSync};
 ghost use Rattle.locked_net.specs.Nets.{book_of, name_of};
 ghost use Rattle.locked_net.specs.Receipts.{HasNoteOf};
 
-use crate::clerks::{clerk_of, expect_log, link, shared};
+use crate::clerks::{clerk_of, expect_log, link, shared, shared_with};
 use crate::helpers::named;
 use locked_net::{BoardReader, Clerk, LockedNet, NoView, ReadFault, ReaderFault, SeenPointer};
 use rule_engine::{Event, Node, Reply};
+use rule_machine::Refusal;
 use rules_hsu_huang::HsuHuang;
 use std::alloc::Global;
 use std::process::Abort;
@@ -52,12 +53,12 @@ fn partner_of(rt: &impl Abort, reader: &mut BoardReader<HsuHuang>, v: u32) -> Op
     seen.partner.map(Node::name)
 }
 
-/// A reader knows no node of this name.
-fn expect_unknown(rt: &impl Abort, reader: &mut BoardReader<HsuHuang>, v: u32)
+/// A reader knows no node of this name, after so many entries.
+fn expect_unknown(rt: &impl Abort, reader: &mut BoardReader<HsuHuang>, v: u32, front: u32)
     ensures { reader.new.name ≡ reader.old.name }
 {
-    assert!(rt; reader.pointer(named(rt, v)) == Err(ReadFault::UnknownNode));
-    assert!(rt; reader.partner(named(rt, v)) == Err(ReadFault::UnknownNode));
+    assert!(rt; reader.pointer(named(rt, v)) == Err(ReadFault::UnknownNode { front }));
+    assert!(rt; reader.partner(named(rt, v)) == Err(ReadFault::UnknownNode { front }));
 }
 
 #[test]
@@ -71,11 +72,27 @@ fn a_reader_sees_what_its_clerk_wrote(rt: HostRuntime) {
     assert!(rt; reader.front().expect(&rt, "a view") >= 2);
     assert!(rt; seen_at(&rt, &mut reader, 1) == Some(2));
     assert!(rt; partner_of(&rt, &mut reader, 1) == None);
-    expect_unknown(&rt, &mut reader, 3);
+    expect_unknown(&rt, &mut reader, 3, 2);
     expect_accepted(&rt, &mut clerk, &net, point(&rt, 2, 1));
     reader.learn(&mut clerk);
     assert!(rt; partner_of(&rt, &mut reader, 1) == Some(2));
     expect_log(&rt, net, 3);
+}
+
+#[test]
+fn a_reader_sees_no_absent_name(rt: HostRuntime) {
+    let net = shared_with::<HsuHuang>(&rt, rt.alloc(), 4, 2);
+    let mut clerk = clerk_of(&rt, &net);
+    let mut reader = reader_of(&rt, &net);
+    expect_unknown(&rt, &mut reader, 3, 0);
+    let told = clerk.call(&rt, &net, link(&rt, 2, 3)).expect(&rt, "room");
+    assert!(rt; told == Reply::Refused(Refusal::UnknownNode));
+    expect_accepted(&rt, &mut clerk, &net, link(&rt, 1, 2));
+    reader.learn(&mut clerk);
+    assert!(rt; seen_at(&rt, &mut reader, 2) == None);
+    expect_unknown(&rt, &mut reader, 3, 2);
+    expect_unknown(&rt, &mut reader, 5, 2);
+    expect_log(&rt, net, 2);
 }
 
 #[test]

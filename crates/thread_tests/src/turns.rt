@@ -1,6 +1,6 @@
 //! Clerks for whom a daemon or an injector chooses.
 
-use crate::clerks::{clerk_of, expect_link, expect_log, shared};
+use crate::clerks::{clerk_of, expect_link, expect_log, shared, shared_with};
 use crate::helpers::named;
 use daemon::{Recorded, Seeded};
 use fault_injector::Injector;
@@ -83,6 +83,9 @@ fn a_clerk_breaks_registers(rt: HostRuntime) {
     let mut clerk = clerk_of(&rt, &empty);
     assert!(rt; clerk.fault_with(&rt, &empty, &mut injector) == Ok(None));
     expect_log(&rt, empty, 0);
+    let absent = shared_with::<Manne>(&rt, rt.alloc(), 9, 0);
+    assert!(rt; clerk.fault_with(&rt, &absent, &mut injector) == Ok(None));
+    expect_log(&rt, absent, 0);
     expect_fault_at(&rt, rt.alloc(), &mut injector, 9, 9);
     expect_fault_at(&rt, rt.alloc(), &mut injector, 1, 1);
 }

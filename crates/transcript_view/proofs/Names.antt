@@ -1,17 +1,34 @@
--- A text for each name, of which one more is written.
-use Rattle.std.proofs.Common.{◌≡◌, ℕ, ◌+◌, ◌-◌, ◌≤◌, List, [], ◌∷◌, ◌++◌, sym, ap, ◌∙◌, arith}
+-- A text for each name that a node has, of which one more is looked at.
+use Rattle.std.proofs.Common.{◌≡◌, ℕ, ◌+◌, ◌-◌, ◌≤◌, Bool, true, false, cond, List, [], ◌∷◌, ◌++◌, filter, sym, ap, ◌∙◌, append-nil, append_assoc, arith}
+use Rattle.std.proofs.lemmas.List.Elements.{filter-append}
 use Rattle.std.specs.List.{range_with_len, flat_map}
 use Rattle.std.proofs.lemmas.List.{map-id}
-use Rattle.std.proofs.lemmas.List.{flat_map_more}
+use Rattle.std.proofs.lemmas.List.Concat.{flat_map-append}
 use Rattle.std.proofs.lemmas.List.FromFn.{map-range_with_len_more}
 
 range_more : (k n : ℕ) → 1 + k ≡ n → range_with_len 1 (k + 1) ≡ range_with_len 1 k ++ n ∷ []
 range_more k n e =
     sym (map-id (range_with_len 1 (k + 1))) ∙ map-range_with_len_more (λ (x : ℕ). x) 1 k n e ∙ ap (λ (l : List ℕ). l ++ n ∷ []) (map-id (range_with_len 1 k))
 
-pub names_more : (f : ℕ → List ℕ) (out : List ℕ) (n : ℕ) → 1 ≤ n → (out ++ flat_map f (range_with_len 1 (n - 1))) ++ f n ≡ out ++ flat_map f (range_with_len 1 (n + 1 - 1))
-names_more f out n low =
+names_so_far : (p : ℕ → Bool) (n : ℕ) → 1 ≤ n → filter p (range_with_len 1 (n + 1 - 1)) ≡ filter p (range_with_len 1 (n - 1)) ++ filter p (n ∷ [])
+names_so_far p n low =
     let count : n + 1 - 1 ≡ n - 1 + 1 = omega (arith, low) in
     let name : 1 + (n - 1) ≡ n = omega (arith, low) in
-    flat_map_more f out (range_with_len 1 (n - 1)) n
-    ∙ ap (λ (l : List ℕ). out ++ flat_map f l) (sym (range_more (n - 1) n name) ∙ ap (range_with_len 1) (sym count))
+    ap (λ (k : ℕ). filter p (range_with_len 1 k)) count
+    ∙ ap (filter p) (range_more (n - 1) n name)
+    ∙ filter-append p (range_with_len 1 (n - 1)) (n ∷ [])
+
+-- one more name
+pub names_more : (p : ℕ → Bool) (f : ℕ → List ℕ) (out : List ℕ) (n : ℕ) → 1 ≤ n → (out ++ flat_map f (filter p (range_with_len 1 (n - 1)))) ++ flat_map f (filter p (n ∷ [])) ≡ out ++ flat_map f (filter p (range_with_len 1 (n + 1 - 1)))
+names_more p f out n low =
+    let so_far = filter p (range_with_len 1 (n - 1)) in
+    append_assoc out (flat_map f so_far) (flat_map f (filter p (n ∷ [])))
+    ∙ ap (λ (l : List ℕ). out ++ l) (sym (flat_map-append f so_far (filter p (n ∷ []))) ∙ ap (flat_map f) (sym (names_so_far p n low)))
+
+-- what is written of a name that a node has, and of one that no node has
+pub drawn : (p : ℕ → Bool) (f : ℕ → List ℕ) (out : List ℕ) (n : ℕ) → p n ≡ true → out ++ flat_map f (filter p (n ∷ [])) ≡ out ++ f n
+drawn p f out n has =
+    ap (λ (b : Bool). out ++ flat_map f (cond b (n ∷ []) [])) has ∙ ap (λ (l : List ℕ). out ++ l) (append-nil (f n))
+
+pub left_out : (p : ℕ → Bool) (f : ℕ → List ℕ) (out : List ℕ) (n : ℕ) → p n ≡ false → out ++ flat_map f (filter p (n ∷ [])) ≡ out
+left_out p f out n none = ap (λ (b : Bool). out ++ flat_map f (cond b (n ∷ []) [])) none ∙ append-nil out

@@ -27,7 +27,7 @@ rows_once bytes text also x y =
 no_table : (bytes text : List ℕ) (d : Damage) → IsTableOf bytes text → IsDamage bytes d → ⊥
 no_table bytes text d x damage =
     let run = x.are.run in
-    no_damage bytes x.rules x.are.nodes (map (λ step. step.0) x.are.path) run.end d run.transcript damage
+    no_damage bytes x.rules x.are.size x.are.count (map (λ step. step.0) x.are.path) run.end d run.transcript damage
 
 pub picture_once : (bytes : List ℕ) (last : Option ℕ) (view also : View) → IsPicture bytes last view → IsPicture bytes last also → SameView view also
 picture_once bytes last (Text a) (Text b) x y = text_once bytes last a.items b.items x y

@@ -1,6 +1,6 @@
 //! The lines of edges.
 
-ghost use Rattle.std.specs.Prelude.{◌≡◌, ◌++◌, IsTrue, OnOk};
+ghost use Rattle.std.specs.Prelude.{◌≡◌, ◌++◌, ◌∷◌, [], IsTrue, OnOk, filter};
 ghost use Rattle.std.specs.List.{flat_map};
 ghost use Rattle.rule_machine.specs.Network.{names, present};
 ghost use Rattle.transcript_view.specs.Picture.{edge_line, edges_at, style_text};
@@ -44,13 +44,25 @@ fn put_edges_at(out: &mut Vec<u8>, judge: &Judge, v: Node) -> Result<(), Want>
     Ok(())
 }
 
+// The same, where the node is present.
+#[tactic(auto, using(crate::proofs::Names::drawn, crate::proofs::Names::left_out))]
+fn put_edges_if_present(out: &mut Vec<u8>, judge: &Judge, v: Node) -> Result<(), Want>
+    ensures { OnOk result (out.new.items ≡ out.old.items
+        ++ flat_map (edges_at judge.now) (filter (present judge.now.network) (v ∷ []))) }
+{
+    if judge.has(v) {
+        return put_edges_at(out, judge, v);
+    }
+    Ok(())
+}
+
 /// Writes a line for each edge, ascending.
 pub(crate) fn put_edges(out: &mut Vec<u8>, judge: &Judge) -> Result<(), Want>
     ensures { OnOk result (out.new.items ≡ out.old.items ++ flat_map (edges_at judge.now) (names judge.now.network)) }
 {
-    for name in 1..judge.nodes() + 1 {
+    for name in 1..judge.capacity() + 1 {
         let v = Node::new(name).unwrap();
-        put_edges_at(out, judge, v)?;
+        put_edges_if_present(out, judge, v)?;
     }
     Ok(())
 }

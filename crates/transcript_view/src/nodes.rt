@@ -1,6 +1,6 @@
 //! The lines of nodes.
 
-ghost use Rattle.std.specs.Prelude.{◌≡◌, ◌++◌, IsTrue, OnOk};
+ghost use Rattle.std.specs.Prelude.{◌≡◌, ◌++◌, ◌∷◌, [], IsTrue, OnOk, filter};
 ghost use Rattle.std.specs.List.{flat_map};
 ghost use Rattle.rule_machine.specs.Network.{names, present};
 ghost use Rattle.rule_machine.specs.Tables.{table_of};
@@ -44,13 +44,30 @@ fn put_node(out: &mut Vec<u8>, judge: &Judge, rules: RuleSet, v: Node) -> Result
     out.extend_from_slice(b"];\n")
 }
 
+// Writes a node's line, where the node is present.
+#[tactic(auto, using(crate::proofs::Names::drawn, crate::proofs::Names::left_out))]
+fn put_node_if_present(
+    out: &mut Vec<u8>,
+    judge: &Judge,
+    rules: RuleSet,
+    v: Node,
+) -> Result<(), Want>
+    ensures { OnOk result (out.new.items ≡ out.old.items
+        ++ flat_map (node_line (table_of rules) judge.now) (filter (present judge.now.network) (v ∷ []))) }
+{
+    if judge.has(v) {
+        return put_node(out, judge, rules, v);
+    }
+    Ok(())
+}
+
 /// Writes a line for each node, ascending.
 pub(crate) fn put_nodes(out: &mut Vec<u8>, judge: &Judge, rules: RuleSet) -> Result<(), Want>
     ensures { OnOk result (out.new.items ≡ out.old.items ++ flat_map (node_line (table_of rules) judge.now) (names judge.now.network)) }
 {
-    for name in 1..judge.nodes() + 1 {
+    for name in 1..judge.capacity() + 1 {
         let v = Node::new(name).unwrap();
-        put_node(out, judge, rules, v)?;
+        put_node_if_present(out, judge, rules, v)?;
     }
     Ok(())
 }

@@ -2,8 +2,9 @@
 
 ghost use Rattle.std.specs.Prelude.{◌≡◌, ◌≢◌, ◌↔◌, ◌<◌, IsNone, IfOk, IfErr, IfSome, OnOk, OnErr, MatchOption};
 ghost use Rattle.rule_machine.specs.declared.event.Event.TheVariants.{Step};
+ghost use Rattle.rule_machine.specs.Network.{node_count};
 ghost use Rattle.fault_injector.specs.Drawn.{drawn};
-ghost use Rattle.locked_net.specs.Nets.{nodes_of, book_of, setting_of};
+ghost use Rattle.locked_net.specs.Nets.{book_of, setting_of};
 ghost use Rattle.locked_net.specs.Receipts.{HasNoteOf, front_of};
 ghost use Rattle.locked_net.specs.Calls.{MayAnswer, Keeps, KeepsStep, KeepsFault};
 ghost use Rattle.locked_net.specs.Choosing.{ChoosesStep, TakesChoice, Refuses, RefusesStep};
@@ -96,7 +97,7 @@ impl Clerk {
         answer
     }
 
-    /// The same for a register fault that an injector draws, which is accepted; `None` exactly where the network has no node.
+    /// The same for a register fault that an injector draws, which is accepted; `None` exactly where the network has no node then.
     /// `Behind` and `LogFull` come before a fault is drawn.
     pub fn fault_with<R: Rules, W: Wait, G: Rng>(
         &mut self,
@@ -104,7 +105,7 @@ impl Clerk {
         net: &LockedNet<R>,
         injector: &mut Injector<G>,
     ) -> Result<Option<Reply>, CallFault>
-        ensures none { IfOk result (λ told. IsNone told ↔ (nodes_of net.now ≡ 0)) }
+        ensures none { IfOk result (λ told. TakesChoice (setting_of R.table net.now) (λ s _. IsNone told ↔ (node_count s.network ≡ 0)) self.old.receipts self.new.receipts told) }
         ensures note { IfOk result (λ told. IfSome told (λ _. HasNoteOf (book_of net.now) self.new)) }
         ensures register { IfOk result (λ told. MatchOption told (self.new ≡ self.old) (KeepsFault self.old.receipts self.new.receipts)) }
         ensures drawn { IfOk result (TakesChoice (setting_of R.table net.now) (λ s event. (event, G.stream injector.new) ≡ drawn s.network R.table.flags (G.stream injector.old)) self.old.receipts self.new.receipts) }

@@ -11,7 +11,7 @@ pub loop-rest-init : goal.loop-rest-init
 loop-rest-init c =
     let bytes = c.args.bytes.now in
     let rest = c.in-Some.behind.now in
-    let start = reached_start bytes c.in-Some.line.now rest c.in-Ok.rules c.in-Ok.nodes c.in-Some.ensures.line c.in-Ok.ensures.ok in
+    let start = reached_start bytes c.in-Some.line.now rest c.in-Ok.rules c.in-Ok.size c.in-Ok.count c.in-Some.ensures.line c.in-Ok.ensures.ok in
     subst (λ (p : Position). IsReached bytes c.in-Ok.rules p rest) (sym c.in_ok-audit.ensures) start
 
 pub returns-in_default-split_line : goal.returns-in_default-split_line

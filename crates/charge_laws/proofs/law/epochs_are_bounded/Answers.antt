@@ -6,7 +6,7 @@ use Rattle.charge_laws.specs.Epochs.{opening_epochs_are_bounded}
 use Rattle.charge_laws.proofs.law.epochs_are_bounded.Goals as goal
 
 pub returns-clause-hsu_huang : goal.returns-clause-hsu_huang
-returns-clause-hsu_huang c size path steps = opening_epochs_are_bounded hsu_huang 1 hsu_huang_table hsu_huang_charged size 1 path steps
+returns-clause-hsu_huang c size count path steps = opening_epochs_are_bounded hsu_huang 1 hsu_huang_table hsu_huang_charged size count 1 path steps
 
 pub returns-clause-manne : goal.returns-clause-manne
-returns-clause-manne c size path steps = opening_epochs_are_bounded manne 3 manne_table manne_charged size 1 path steps
+returns-clause-manne c size count path steps = opening_epochs_are_bounded manne 3 manne_table manne_charged size count 1 path steps

@@ -6,10 +6,12 @@ pub returns-clause-app : goal.returns-clause-app
 returns-clause-app c =
     let rules = added _ _ _ _ _ c.in_ok-arg.ensures refl c.rules_arg.ensures.rule c.rules_arg.ensures.local in
     let nodes = added _ _ _ _ _ c.in_ok-arg-2.ensures rules c.nodes_arg.ensures.rule c.nodes_arg.ensures.local in
-    last_added _ _ c.arg-3.result _ _ c.arg-3.ensures nodes c.workers_arg.ensures.rule c.workers_arg.ensures.local
+    let present = added _ _ _ _ _ c.in_ok-arg-3.ensures nodes c.present_arg.ensures.rule c.present_arg.ensures.local in
+    last_added _ _ c.arg-4.result _ _ c.arg-4.ensures present c.workers_arg.ensures.rule c.workers_arg.ensures.local
 
 pub returns-clause-local : goal.returns-clause-local
 returns-clause-local c =
     let rules = local _ _ _ c.in_ok-arg.ensures c.requires c.rules_arg.ensures.local in
     let nodes = local _ _ _ c.in_ok-arg-2.ensures rules c.nodes_arg.ensures.local in
-    last_local _ _ c.arg-3.result c.arg-3.ensures nodes c.workers_arg.ensures.local
+    let present = local _ _ _ c.in_ok-arg-3.ensures nodes c.present_arg.ensures.local in
+    last_local _ _ c.arg-4.result c.arg-4.ensures present c.workers_arg.ensures.local

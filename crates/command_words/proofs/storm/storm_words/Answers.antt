@@ -4,7 +4,7 @@ use Rattle.command_words.proofs.StormRead.{no_scripts, scripts_are}
 use Rattle.command_words.proofs.storm.storm_words.Goals as goal
 
 pub returns-in_default-clause-read : goal.returns-in_default-clause-read
-returns-in_default-clause-read c s h = c.in_default.ensures s.rules s.nodes s.workers h.run_is
+returns-in_default-clause-read c s h = c.in_default.ensures s.rules s.nodes s.present s.workers h.run_is
 
 pub returns-in_default-number-clause-read : goal.returns-in_default-number-clause-read
 returns-in_default-number-clause-read c s h = c.in_default-number.ensures s.roamers h.roamers_is

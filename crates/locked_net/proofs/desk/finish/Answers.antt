@@ -1,5 +1,4 @@
 use Rattle.std.proofs.Common.{rules, ◌≡◌}
-use Rattle.rule_machine.specs.Network.{node_count}
 use Rattle.step_log.specs.Held.{log_of}
 use Rattle.step_log.specs.Log.{Log}
 use Rattle.locked_net.proofs.Publishing.{is_run_posted}
@@ -9,5 +8,5 @@ pub publish-note-requires : goal.publish-note-requires
 publish-note-requires g c =
     let log : Log = log_of c.args.journal.now in
     let after : Log = log_of c.commit-receipt.new.self in
-    let size : node_count after.state.network ≡ node_count log.state.network = search rules in
+    let size : after.state.network.size ≡ log.state.network.size = search rules in
     is_run_posted g.R.Rules.table log after c.args.prepared c.entry.result.now c.args.board.now c.post.new.self c.requires.desk c.requires.ready.next c.entry.ensures c.in_ok-post.ensures.posted c.commit-receipt.ensures.log size c.len-2.ensures.run

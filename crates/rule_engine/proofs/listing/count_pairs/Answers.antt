@@ -2,8 +2,8 @@ use Rattle.std.proofs.Common.{◌≡◌, ◌∙◌, ◌+◌, ◌-◌, ℕ, Optio
 use Rattle.std.specs.List.{range_with_len}
 use Rattle.rule_machine.specs.Stable.{pair_above}
 use Rattle.rule_engine.specs.Kept.{state_of, answered_by}
-use Rattle.indexed_state.proofs.Partners.{partner_answered}
 use Rattle.rule_engine.proofs.Counted.{found_count_more}
+use Rattle.rule_engine.proofs.Named.{pairs_scanned}
 use Rattle.rule_engine.proofs.Scanned.{some_iff_at}
 use Rattle.rule_engine.proofs.listing.count_pairs.Goals as goal
 use Rattle.rule_engine.proofs.listing.count_pairs.Goals.{then-is_some, else-is_some}
@@ -34,6 +34,6 @@ loop-name-preserved c =
 pub returns : goal.returns
 returns c =
     let s = state_of c.args.store.now.network c.args.registers.now in
-    let count : c.loop-name.name - 1 ≡ s.network.size = omega (arith, c.nodes-name-end.ensures.count) in
+    let count : c.loop-name.name - 1 ≡ s.network.size = omega (arith, c.capacity-name-end.ensures.size) in
     c.loop-name.invariant.count ∙ ap (λ n. length (filter_map (λ v. pair_above v (answered_by s.registers v)) (range_with_len 1 n))) count
-    ∙ sym (λ i. length (filter_map (λ v. pair_above v (partner_answered s v c.requires i)) (range_with_len 1 s.network.size)))
+    ∙ sym (ap length (pairs_scanned s c.requires))

@@ -12,8 +12,8 @@ pub returns-in_default-clause-outcome : goal.returns-in_default-clause-outcome
 returns-in_default-clause-outcome g c =
     let options = c.args.options.now in
     let old = g.Out.Write.contents c.args.writer.now in
-    for_any (g.In.Read.remaining c.args.reader.now) (λ script. WritesPart g.R.Rules.table options.limit (lines_of script) (beginning options.rules options.nodes) old old)
-    (λ script. WritesPart-none g.R.Rules.table options.limit (lines_of script) (beginning options.rules options.nodes) old)
+    for_any (g.In.Read.remaining c.args.reader.now) (λ script. WritesPart g.R.Rules.table options.limit (lines_of script) (beginning options.rules options.nodes options.present) old old)
+    (λ script. WritesPart-none g.R.Rules.table options.limit (lines_of script) (beginning options.rules options.nodes options.present) old)
 
 pub returns-in_err-end-clause-outcome : goal.returns-in_err-end-clause-outcome
 returns-in_err-end-clause-outcome g c =
@@ -22,7 +22,7 @@ returns-in_err-end-clause-outcome g c =
     let old = g.Out.Write.contents c.args.writer.now in
     let new = g.Out.Write.contents c.carry_out_all.new.writer in
     let begun = progress run.recorder run.text.items in
-    let first = beginning options.rules options.nodes in
+    let first = beginning options.rules options.nodes options.present in
     for_known (g.In.Read.remaining c.args.reader.now)
     (λ script. (end : Progress) × LeadsTo g.R.Rules.table run.recorder.limit (lines_of script) begun end × AppendsBeginning old new end.text)
     (λ script. Ends g.R.Rules.table options.limit (lines_of script) first (answered c.from_residual.result) (Appends old new) (AppendsBeginning old new))
@@ -39,7 +39,7 @@ returns-in_err-finish-clause-outcome g c =
     let new = g.Out.Write.contents c.finish.new.writer in
     let held = c.carry_out_all.new.self.text.items in
     let begun = progress run.recorder run.text.items in
-    let first = beginning options.rules options.nodes in
+    let first = beginning options.rules options.nodes options.present in
     let part = subst (AppendsBeginning known new) c.deref.ensures.value c.in_err-finish.ensures.fault in
     for_known (g.In.Read.remaining c.args.reader.now)
     (λ script. Halts g.R.Rules.table run.recorder.limit (lines_of script) begun c.in_ok-end.end (λ text. Hands old known text held))
@@ -57,7 +57,7 @@ returns-clause-outcome g c =
     let new = g.Out.Write.contents c.finish.new.writer in
     let held = c.carry_out_all.new.self.text.items in
     let begun = progress run.recorder run.text.items in
-    let first = beginning options.rules options.nodes in
+    let first = beginning options.rules options.nodes options.present in
     for_known (g.In.Read.remaining c.args.reader.now)
     (λ script. Halts g.R.Rules.table run.recorder.limit (lines_of script) begun c.in_ok-end.end (λ text. Hands old known text held))
     (λ script. Ends g.R.Rules.table options.limit (lines_of script) first (ended c.in_ok-end.end) (Appends old new) (AppendsBeginning old new))

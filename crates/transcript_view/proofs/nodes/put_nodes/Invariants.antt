@@ -1,8 +1,9 @@
-use Rattle.std.proofs.Common.{◌≡◌, ◌++◌, ◌-◌}
+use Rattle.std.proofs.Common.{◌≡◌, ◌++◌, ◌-◌, filter}
 use Rattle.std.specs.List.{range_with_len, flat_map}
 use Rattle.rule_machine.specs.Tables.{table_of}
+use Rattle.rule_machine.specs.Network.{present}
 use Rattle.transcript_view.specs.Picture.{node_line}
 use Rattle.transcript_view.proofs.nodes.put_nodes.Given as goal
 
 abbrev pub invariant-loop-name : goal.invariant-loop-name
-invariant-loop-name l = l.out.items ≡ l.fn.out.items ++ flat_map (node_line (table_of l.rules) l.judge) (range_with_len 1 (l.name - 1))
+invariant-loop-name l = l.out.items ≡ l.fn.out.items ++ flat_map (node_line (table_of l.rules) l.judge) (filter (present l.judge.network) (range_with_len 1 (l.name - 1)))

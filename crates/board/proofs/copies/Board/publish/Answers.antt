@@ -6,5 +6,5 @@ use Rattle.board.proofs.copies.Board.publish.Goals as goal
 pub replace_with-requires : goal.replace_with-requires
 replace_with-requires g c =
     let law = g.L.Law.holds in
-    let holds = subst (λ (b : Standing). law b.name.places (b.list ++ b.posted)) (sym c.self.view_is) c.requires in
+    let holds = subst (λ (b : Standing). law b.name.extent (b.list ++ b.posted)) (sym c.self.view_is) c.requires in
     is_ready law _ _ _ _ _ _ c.self.invariant holds

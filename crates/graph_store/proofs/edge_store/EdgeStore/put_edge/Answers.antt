@@ -15,26 +15,26 @@ use Rattle.graph_store.proofs.edge_store.EdgeStore.put_edge.Goals as goal
 
 pub put_both-requires-clause-inside_a : goal.put_both-requires-clause-inside_a
 put_both-requires-clause-inside_a c =
-    let row = neighbours_by c.self.inside.nodes (contents c.self.inside.rows.items) c.args.self.now.network c.args.a (ap (λ (g : Graph). g.network) c.self.view_is) c.self.invariant.is_rows in
+    let row = neighbours_by c.self.inside.nodes c.self.inside.here (contents c.self.inside.rows.items) c.args.self.now.network c.args.a (ap (λ (g : Graph). g.network) c.self.view_is) c.self.invariant.is_rows in
     subst (λ l. c.args.place_in_a ≤ length l) (sym row ∙ ap (λ l. row_at (contents l) c.args.a) (sym c.deref_mut.ensures.value)) c.requires.gap_in_a.inside
 
 pub put_both-requires-clause-inside_b : goal.put_both-requires-clause-inside_b
 put_both-requires-clause-inside_b c =
-    let row = neighbours_by c.self.inside.nodes (contents c.self.inside.rows.items) c.args.self.now.network c.args.b (ap (λ (g : Graph). g.network) c.self.view_is) c.self.invariant.is_rows in
+    let row = neighbours_by c.self.inside.nodes c.self.inside.here (contents c.self.inside.rows.items) c.args.self.now.network c.args.b (ap (λ (g : Graph). g.network) c.self.view_is) c.self.invariant.is_rows in
     subst (λ l. c.args.place_in_b ≤ length l) (sym row ∙ ap (λ l. row_at (contents l) c.args.b) (sym c.deref_mut.ensures.value)) c.requires.gap_in_b.inside
 
 -- the new rows are a store, of the network with the edge
-linked_now : (c : goal.After-self-2-1) → IsStore c.self.inside.nodes (c.self.inside.edges + 1) (contents (with_items c.self.inside.rows c.put_both.new.rows).items) × (network_of c.self.inside.nodes (contents (with_items c.self.inside.rows c.put_both.new.rows).items) ≡ with_edge c.args.self.now.network c.args.a c.args.b)
+linked_now : (c : goal.After-self-2-1) → IsStore c.self.inside.nodes c.self.inside.here (c.self.inside.edges + 1) (contents (with_items c.self.inside.rows c.put_both.new.rows).items) × (network_of c.self.inside.nodes c.self.inside.here (contents (with_items c.self.inside.rows c.put_both.new.rows).items) ≡ with_edge c.args.self.now.network c.args.a c.args.b)
 linked_now c =
     let seen = ap (λ (g : Graph). g.network) c.self.view_is in
     let ends = may_link c.args.self.now.network c.args.a c.args.b c.requires.free in
-    let row_a = neighbours_by c.self.inside.nodes (contents c.self.inside.rows.items) c.args.self.now.network c.args.a seen c.self.invariant.is_rows in
-    let row_b = neighbours_by c.self.inside.nodes (contents c.self.inside.rows.items) c.args.self.now.network c.args.b seen c.self.invariant.is_rows in
+    let row_a = neighbours_by c.self.inside.nodes c.self.inside.here (contents c.self.inside.rows.items) c.args.self.now.network c.args.a seen c.self.invariant.is_rows in
+    let row_b = neighbours_by c.self.inside.nodes c.self.inside.here (contents c.self.inside.rows.items) c.args.self.now.network c.args.b seen c.self.invariant.is_rows in
     let after : List (Vec ℕ Global) → List (List ℕ) = λ l. set (set (contents l) c.args.a (insert (row_at (contents l) c.args.a) c.args.place_in_a c.args.b)) c.args.b (insert (row_at (contents l) c.args.b) c.args.place_in_b c.args.a) in
     let kept : length c.put_both.new.rows ≡ c.self.inside.rows.len = omega (arith, c.put_both.auto.rows, c.deref_mut.ensures.len) in
     let is = ap contents (with_items_is c.self.inside.rows c.put_both.new.rows kept) ∙ c.put_both.ensures ∙ ap after c.deref_mut.ensures.value in
     let count : edge_count c.args.self.now.network ≡ c.self.inside.edges = ap edge_count (sym seen) ∙ c.self.invariant.counted in
-    let new = link_rows c.self.inside.nodes c.self.inside.edges c.args.a c.args.b c.args.place_in_a c.args.place_in_b (contents c.self.inside.rows.items) _ c.self.invariant (eqb-false c.args.a c.args.b ends.apart) (known c.self.inside.nodes (contents c.self.inside.rows.items) c.args.self.now.network c.args.a seen ends.here_a) (known c.self.inside.nodes (contents c.self.inside.rows.items) c.args.self.now.network c.args.b seen ends.here_b) (subst (λ l. IsGapFor l c.args.b c.args.place_in_a) (sym row_a) c.requires.gap_in_a) (subst (λ l. IsGapFor l c.args.a c.args.place_in_b) (sym row_b) c.requires.gap_in_b) (omega (arith, count, ends.few)) is in
+    let new = link_rows c.self.inside.nodes c.self.inside.here c.self.inside.edges c.args.a c.args.b c.args.place_in_a c.args.place_in_b (contents c.self.inside.rows.items) _ c.self.invariant (eqb-false c.args.a c.args.b ends.apart) (known c.self.inside.nodes c.self.inside.here (contents c.self.inside.rows.items) c.args.self.now.network c.args.a seen ends.here_a) (known c.self.inside.nodes c.self.inside.here (contents c.self.inside.rows.items) c.args.self.now.network c.args.b seen ends.here_b) (subst (λ l. IsGapFor l c.args.b c.args.place_in_a) (sym row_a) c.requires.gap_in_a) (subst (λ l. IsGapFor l c.args.a c.args.place_in_b) (sym row_b) c.requires.gap_in_b) (omega (arith, count, ends.few)) is in
     (new.0, new.1 ∙ ap (λ net. with_edge net c.args.a c.args.b) seen)
 
 pub invariant_of-self : goal.invariant_of-self

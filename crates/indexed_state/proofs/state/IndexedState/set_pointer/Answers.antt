@@ -7,6 +7,12 @@ use Rattle.suitor_index.specs.Tallies.{state_of}
 use Rattle.indexed_state.specs.Indexed.{Indexed}
 use Rattle.indexed_state.proofs.state.IndexedState.set_pointer.Goals as goal
 
+pub pointer_changed-requires-clause-state : goal.pointer_changed-requires-clause-state
+pointer_changed-requires-clause-state g c =
+    let s : State = state_of c.self.inside.store.network c.self.inside.registers in
+    let near : IfSome c.args.target (λ w. IsTrue (linked s.network c.args.v w)) = subst (λ (n : Indexed). IfSome c.args.target (λ w. IsTrue (linked n.state.network c.args.v w))) (sym c.self.view_is) c.requires.near in
+    subst (λ (r : Registers). IsState (state_of c.self.inside.store.network r)) (sym c.set_pointer.ensures) (point_keeps s c.args.v c.args.target c.self.invariant.is_state (λ x e. if_some_at c.args.target (λ w. IsTrue (linked s.network c.args.v w)) x e near))
+
 pub invariant_of-self : goal.invariant_of-self
 invariant_of-self g c =
     let s : State = state_of c.self.inside.store.network c.self.inside.registers in

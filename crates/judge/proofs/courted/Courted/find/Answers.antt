@@ -21,7 +21,7 @@ loop-below-preserved c =
           let len : length more ≡ length c.args.self.now = w.put.ensures.len ∙ inv.len in
           record {
             len = ap length w.self-is ∙ len;
-            right = subst (λ (m : List Bool). (x : ℕ) → mark_at m x ≡ true → has_suitor s x ≡ true) (sym w.self-is) (right_more s marks more v w.in-Some.target c.nodes-below-end.ensures.sound at w.put.ensures.marked inv.right);
+            right = subst (λ (m : List Bool). (x : ℕ) → mark_at m x ≡ true → has_suitor s x ≡ true) (sym w.self-is) (right_more s marks more v w.in-Some.target c.capacity-below-end.ensures.sound at w.put.ensures.marked inv.right);
             all = subst (λ (m : List Bool). (u x : ℕ) → u ≤ n + 1 → pointer s u ≡ Some x → mark_at m x ≡ true) (sym w.self-is) (all_more s marks more n v w.in-Some.target named at w.put.ensures.marked inv.all);
           }
       | in_default w ↦
@@ -36,5 +36,5 @@ loop-below-preserved c =
 pub returns-clause-marked : goal.returns-clause-marked
 returns-clause-marked c =
     let s = c.args.net.now in
-    marked_all s c.loop-below.self c.nodes-below-end.ensures.sound c.loop-below.invariant.right
-    (λ v x low at. c.loop-below.invariant.all v x (omega (arith, c.nodes-below-end.ensures.count)) at)
+    marked_all s c.loop-below.self c.capacity-below-end.ensures.sound c.loop-below.invariant.right
+    (λ v x low at. c.loop-below.invariant.all v x (omega (arith, c.capacity-below-end.ensures.size)) at)

@@ -1,7 +1,7 @@
-use Rattle.std.proofs.Common.{◌≡◌, ◌<◌, ◌≤◌, ◌∙◌, None, Some, is_some, nat_le, length, take, sym, ap, arith}
+use Rattle.std.proofs.Common.{◌≡◌, ◌<◌, ◌≤◌, ◌∙◌, None, Some, is_some, length, take, sym, ap, arith}
 use Rattle.std.proofs.lemmas.List.{length-set}
-use Rattle.std.proofs.lemmas.Bool.{leb-true, and_parts}
 use Rattle.rule_machine.specs.Tables.{table_of}
+use Rattle.machine_laws.specs.Neighbours.{present_range}
 use Rattle.machine_laws.specs.Pointers.{none_is}
 use Rattle.judge.specs.Choices.{item_at, refused_item, is_named}
 use Rattle.judge.proofs.Table.{item_refused, refusal_more, refusal_here, held_more, item_taken, within_from_held}
@@ -18,7 +18,7 @@ loop-item-preserved c =
     let asked : c.item_refusal-refusal.result ≡ refused_item t s item (is_named (take k items) item.node) = c.item_refusal-refusal.ensures ∙ ap (refused_item t s item) (c.is_some-twice.ensures ∙ ap is_some c.get.ensures) ∙ item_refused t s items k item c.loop-item.chosen inv.held in
     let none : refused_item t s item (is_named (take k items) item.node) ≡ None = sym asked ∙ none_is _ (sym c.is_some.ensures ∙ c.if-is_some.false) in
     let taken = item_taken t s item (is_named (take k items) item.node) none in
-    let high : item.node ≤ s.network.size = leb-true item.node s.network.size (and_parts (nat_le 1 item.node) (nat_le item.node s.network.size) taken.0).1 in
+    let high : item.node ≤ s.network.size = (present_range s.network item.node taken.0).1 in
     let place : item.node < length c.loop-item.chosen = omega (arith, high, inv.len, c.requires.len) in
     record {
       same = refusal_more t s items k item c.loop-item-test.true c.item-item.is none ∙ inv.same;

@@ -1,11 +1,12 @@
-use Rattle.std.proofs.Common.{◌≡◌, ◌↔◌, ◌+◌, ◌-◌, ◌≤◌, drop, filter_map, length}
+use Rattle.std.proofs.Common.{◌≡◌, ◌↔◌, ◌+◌, ◌-◌, ◌≤◌, None, cond, drop, filter_map, length}
 use Rattle.std.specs.List.{range_with_len}
+use Rattle.rule_machine.specs.Network.{present}
 use Rattle.rule_machine.specs.State.{partner}
 use Rattle.rule_machine.specs.Stable.{mutual_pairs, pair_above}
 use Rattle.judge.proofs.net_state.NetState.lists_pairs.Given as goal
 
 abbrev pub invariant-loop-name : goal.invariant-loop-name
 invariant-loop-name l = record {
-  same : (l.given ≡ mutual_pairs l.self) ↔ (drop l.place l.given ≡ filter_map (λ v. pair_above v (partner l.self v)) (range_with_len l.name (l.self.network.size + 1 - l.name)));
+  same : (l.given ≡ mutual_pairs l.self) ↔ (drop l.place l.given ≡ filter_map (λ v. cond (present l.self.network v) (pair_above v (partner l.self v)) None) (range_with_len l.name (l.self.network.size + 1 - l.name)));
   inside : l.place ≤ length l.given;
 }

@@ -9,4 +9,4 @@ returns-clause-found g c =
     let t = g.R.Rules.table in
     let list = c.front.new.self.list in
     let same : c.front.new.self.name ≡ c.args.self.now.name = c.in-Some.ensures.kept.1 ∙ ap (λ (r : Reading). r.name) c.self.view_is in
-    shows t c.args.self.now.name.places list (λ _. Unit {0}) (subst (λ (n : Name). IsRun t n.places list) same c.in-Some.ensures.law) (λ _ _. tt)
+    shows t c.args.self.now.name.extent list (λ _. Unit {0}) (subst (λ (n : Name). IsRun t n.extent list) same c.in-Some.ensures.law) (λ _ _. tt)

@@ -8,11 +8,11 @@ returns-clause-chosen g c =
     let setting = setting_of g.R.Rules.table c.args.net.now in
     let key = c.take-desk.ensures.key in
     let told = c.drive_on-answer.ensures in
-    takes setting _ c.take-desk.result.0.log c.args.self.now.receipts c.drive_on-answer.new.self.receipts c.drive_on-answer.result (record { run = told.run; nodes = key.nodes; limit = key.limit }) told.seen told.chosen
+    takes setting _ c.take-desk.result.0.log c.args.self.now.receipts c.drive_on-answer.new.self.receipts c.drive_on-answer.result (record { run = told.run; nodes = key.nodes; first = key.first; limit = key.limit }) told.seen told.chosen
 
 pub returns-clause-refused : goal.returns-clause-refused
 returns-clause-refused g c =
     let setting = setting_of g.R.Rules.table c.args.net.now in
     let key = c.take-desk.ensures.key in
     let told = c.drive_on-answer.ensures in
-    refuses setting (front_of c.args.self.now.receipts) c.take-desk.result.0.log c.drive_on-answer.result (record { run = told.run; nodes = key.nodes; limit = key.limit }) told.fault
+    refuses setting (front_of c.args.self.now.receipts) c.take-desk.result.0.log c.drive_on-answer.result (record { run = told.run; nodes = key.nodes; first = key.first; limit = key.limit }) told.fault

@@ -7,4 +7,4 @@ returns-in-Ok-clause-seen g c =
     let key = c.take-desk.ensures.key in
     let seen = c.in-Ok.ensures.seen in
     let same = c.over.ensures in
-    (c.take-desk.result.0.log, c.in-Ok.ensures.run, key.nodes, key.limit, ap (λ (r : Reading). r.list) same ∙ seen.0, ap (λ (r : Reading). r.learnt) same ∙ seen.1)
+    (c.take-desk.result.0.log, c.in-Ok.ensures.run, key.nodes, key.first, key.limit, ap (λ (r : Reading). r.list) same ∙ seen.0, ap (λ (r : Reading). r.learnt) same ∙ seen.1)

@@ -1,12 +1,21 @@
-use Rattle.std.proofs.Common.{◌≡◌, ◌∙◌, None, ap, sym, subst}
+use Rattle.std.proofs.Common.{◌≡◌, ◌∙◌, None, IsTrue, ap, sym, subst}
 use Rattle.indexed_state.specs.Indexed.{Indexed}
 use Rattle.rule_machine.specs.declared.event.Event.TheVariants.{Link}
-use Rattle.rule_machine.specs.State.{IsState}
+use Rattle.rule_machine.specs.Disturbance.{after_link}
+use Rattle.rule_machine.specs.Network.{present}
+use Rattle.rule_machine.specs.State.{State, IsState}
 use Rattle.rule_machine.specs.Refuse.{link_refusal}
 use Rattle.machine_laws.specs.LeastMoves.{IsTable}
 use Rattle.machine_laws.specs.Accepted.{accepted_keeps}
 use Rattle.rule_engine.proofs.Again.{kept_linked}
+use Rattle.rule_engine.proofs.Preparing.{link_ends}
 use Rattle.rule_engine.proofs.engine.Engine.link.Goals as goal
+
+pub look_at-requires-2-clause-has : goal.look_at-requires-2-clause-has
+look_at-requires-2-clause-has g c =
+    let ends = link_ends c.args.self.now.state.network c.args.a c.args.b c.requires.accepted in
+    let is = ap (λ (n : Indexed). after_link n.state c.args.a c.args.b) c.self.view_is in
+    subst (λ (s : State). IsTrue (present s.network c.args.b)) (sym (c.link_reserved.ensures ∙ is)) ends.1
 
 pub invariant_of-self : goal.invariant_of-self
 invariant_of-self g c =

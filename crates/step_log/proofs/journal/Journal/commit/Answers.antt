@@ -1,11 +1,21 @@
-use Rattle.std.proofs.Common.{◌≡◌, [], ◌∷◌, ◌++◌, ap, ◌∙◌, subst, sym, arith}
+use Rattle.std.proofs.Common.{◌≡◌, ℕ, ◌+◌, [], ◌∷◌, ◌++◌, map, ap, ap₂, ◌∙◌, subst, sym, arith}
 use Rattle.rule_machine.specs.declared.event.Event.{Event}
+use Rattle.rule_machine.specs.declared.reply.Reply.{Reply}
 use Rattle.rule_machine.specs.Run.{Entry, Moment, moment_after}
 use Rattle.machine_laws.specs.LeastMoves.{IsTable}
+use Rattle.step_log.specs.declared.receipt.Receipt.{Receipt}
+use Rattle.step_log.specs.Epochs.{begun_by, ended_by, of_run, open_at}
 use Rattle.step_log.specs.Held.{Held, IsReady}
 use Rattle.step_log.specs.Log.{Log}
-use Rattle.step_log.proofs.Running.{next_is_log}
+use Rattle.step_log.proofs.Running.{next_is_kept}
 use Rattle.step_log.proofs.journal.Journal.commit.Goals as goal
+
+pub turn-requires : goal.turn-requires
+turn-requires g c = λ accepted.
+    let t = g.R.Rules.table in
+    let ready = subst (λ (held : Held). IsReady t held c.args.prepared) (sym c.self.view_is) c.requires in
+    let told = c.reply.ensures.value ∙ ap (λ (x : Entry). x.1) c.parts-entry.ensures.entry in
+    omega (arith, ready.epochs (sym told ∙ accepted))
 
 pub invariant_of-self : goal.invariant_of-self
 invariant_of-self g c =
@@ -13,12 +23,19 @@ invariant_of-self g c =
     let t = g.R.Rules.table in
     let table : IsTable t = record { allowed_is_neighbour = laws.allowed_is_neighbour; allowed_takes_target = laws.allowed_takes_target; has_target = laws.has_target } in
     let inside = c.self.inside in
-    let before : Log = record { state = inside.net.state; spent = inside.net.spent; entries = inside.entries.items; limit = inside.limit } in
+    let over = inside.epochs.over.items in
+    let begun = inside.epochs.begun in
+    let before : Log = record { state = inside.net.state; spent = inside.net.spent; entries = inside.entries.items; limit = inside.limit; first = inside.first } in
     let now : Moment = record { state = inside.net.state; spent = inside.net.spent } in
     let after : Moment = record { state = c.commit.new.self.state; spent = c.commit.new.self.spent } in
     let ready = subst (λ (held : Held). IsReady t held c.args.prepared) (sym c.self.view_is) c.requires in
     let event = c.args.prepared.event in
-    let entry : Entry = (event, c.args.prepared.reply) in
+    let reply = c.args.prepared.reply in
+    let entry : Entry = (event, reply) in
     let moved : after ≡ moment_after t now event = c.commit.ensures.state ∙ ap (λ (e : Event). moment_after t now e) (c.event.ensures.value ∙ ap (λ (x : Entry). x.0) c.parts-entry.ensures.entry) in
     let added : c.push.new.self.items ≡ inside.entries.items ++ entry ∷ [] = grind arith in
-    next_is_log t table before c.self.invariant ready.below event c.args.prepared.reply after c.push.new.self.items ready.net.reply_is moved added
+    let told = c.reply.ensures.value ∙ ap (λ (x : Entry). x.1) c.parts-entry.ensures.entry in
+    let number = ap (λ (r : Receipt). r.seq) (c.parts-entry.ensures.receipt ∙ ready.next) in
+    let ended = c.turn.ensures.over ∙ ap (λ (r : Reply). map of_run over ++ ended_by r (open_at begun now)) told in
+    let starts = c.turn.ensures.begun ∙ ap₂ (λ (r : Reply) (n : ℕ). begun_by r n begun) told number in
+    next_is_kept t table before over begun c.self.invariant ready.below event reply after c.push.new.self.items c.turn.new.self.over.items c.turn.new.self.begun ready.net.reply_is moved added ended starts

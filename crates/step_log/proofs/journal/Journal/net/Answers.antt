@@ -15,5 +15,5 @@ returns-clause-upheld g c =
     let table : IsTable t = record { allowed_is_neighbour = laws.allowed_is_neighbour; allowed_takes_target = laws.allowed_takes_target; has_target = laws.has_target } in
     let charged : IsCharged t weight = record { falls = laws.charge_falls; bounded = laws.charge_is_bounded; zero_is_stable = laws.no_charge_is_stable } in
     let j = c.self.inside in
-    let log : Log = record { state = j.net.state; spent = j.net.spent; entries = j.entries.items; limit = j.limit } in
-    subst (λ (held : Held). Upholds t weight (log_of held)) c.self.view_is (upheld t weight table charged laws.quiet_is_stable laws.stable_is_quiet log c.self.invariant)
+    let log : Log = record { state = j.net.state; spent = j.net.spent; entries = j.entries.items; limit = j.limit; first = j.first } in
+    subst (λ (held : Held). Upholds t weight (log_of held)) c.self.view_is (upheld t weight table charged laws.quiet_is_stable laws.stable_is_quiet log c.self.invariant.is_log)

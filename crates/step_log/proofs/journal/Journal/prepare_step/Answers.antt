@@ -11,5 +11,5 @@ new-requires g c =
     let laws = g.met.R.Rules in
     let table : IsTable g.R.Rules.table = record { allowed_is_neighbour = laws.allowed_is_neighbour; allowed_takes_target = laws.allowed_takes_target; has_target = laws.has_target } in
     let held = c.self.inside in
-    let before : Log = record { state = held.net.state; spent = held.net.spent; entries = held.entries.items; limit = held.limit } in
-    ap (fits (Step c.args.choice)) c.in_ok-reply.ensures.reply ∙ next_fits g.R.Rules.table table before c.self.invariant (Step c.args.choice)
+    let before : Log = record { state = held.net.state; spent = held.net.spent; entries = held.entries.items; limit = held.limit; first = held.first } in
+    ap (fits (Step c.args.choice)) c.in_ok-reply.ensures.reply ∙ next_fits g.R.Rules.table table before c.self.invariant.is_log (Step c.args.choice)

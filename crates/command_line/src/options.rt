@@ -1,0 +1,32 @@
+//! What the words for a network make of the options of a run.
+
+ghost use Rattle.std.specs.Prelude.{◌≡◌, max, min, MatchOption, None, Some};
+ghost use Rattle.command_words.specs.Wanted.{present_at_start};
+ghost use Rattle.script_run.specs.Asked.{Asked, asked_of};
+
+use command_words::present_at_start;
+use rule_machine::RuleSet;
+use script_run::Options;
+
+/// The options of a run under this rule set on the names 1 to `nodes`, of which as many are present at the start as were named, or
+/// all where no number was, with so many workers for each step, and all else as it is where nothing is said; `None` where more
+/// would be present than there may be.
+pub fn network_options(
+    rules: RuleSet,
+    nodes: u16,
+    named: Option<u16>,
+    workers: u16,
+) -> Option<Options>
+    ensures { MatchOption result (present_at_start nodes named ≡ None) (λ options.
+        (present_at_start nodes named ≡ Some options.present)
+        × (asked_of options ≡ record { rules = rules; nodes = nodes; present = options.present; limit = 16777216; workers = min (max workers 1) 64; roamers = 0; turns = 1000 })) }
+{
+    let Some(present) = present_at_start(nodes, named) else {
+        return None;
+    };
+    let all = Options::new(rules, u32::from(nodes)).unwrap();
+    Some(
+        all.with_present(u32::from(present))
+            .with_workers(u32::from(workers)),
+    )
+}

@@ -1,0 +1,58 @@
+-- The rows of the first names.
+use Rattle.std.proofs.Common.{suc, ◌≡◌, ℕ, ◌+◌, ◌<◌, ◌≤◌, true, false, ◌&&◌, length, filter, replicate, leb, set, get_or, sym, ap, ap₂, ◌∙◌, arith, ⊎_elim}
+use Rattle.std.specs.List.{range_with_len}
+use Rattle.std.proofs.lemmas.Bool.{cases_eq, cases_lt, le-leb, lt-leb, and_left}
+use Rattle.std.proofs.lemmas.List.{ext_get_or, length-set, length-replicate, get_or-replicate, get_or-set_same, get_or-set_other}
+use Rattle.std.proofs.lemmas.List.Elements.{filter_agree}
+use Rattle.std.proofs.lemmas.List.FromFn.{length-map-range_with_len, get_or-map-range_with_len}
+use Rattle.rule_machine.specs.Network.{Network, first_names, names, present}
+use Rattle.graph_store.proofs.Pairs.{and-false}
+use Rattle.graph_store.proofs.Store.{on_roll}
+use Rattle.enabled_set.specs.Members.{is_in, members}
+
+pub first_names_len : (size count : ℕ) → length (first_names size count) ≡ size + 1
+first_names_len size count = length-map-range_with_len (λ v. leb 1 v && leb v count) 0 (size + 1)
+
+pub first_names_at : (size count v : ℕ) → v ≤ size → get_or (first_names size count) v false ≡ (leb 1 v && leb v count)
+first_names_at size count v le = get_or-map-range_with_len (λ v. leb 1 v && leb v count) 0 (size + 1) v v false (omega arith) (omega arith)
+
+-- none
+pub first_names_none : (size : ℕ) → replicate (size + 1) false ≡ first_names size 0
+first_names_none size =
+    ext_get_or false _ _ (length-replicate (size + 1) false ∙ sym (first_names_len size 0))
+    (λ i inside. let l = length-replicate (size + 1) false in
+    get_or-replicate (size + 1) i false false (omega (arith, l, inside)) ∙ sym (first_names_at size 0 i (omega (arith, l, inside)) ∙ nobody i))
+  where
+    nobody : (i : ℕ) → (leb 1 i && leb i 0) ≡ false
+    nobody i = ⊎_elim (λ (lt : i < 1). and_left (leb 1 i) (leb i 0) (lt-leb 1 i lt)) (λ (le : 1 ≤ i). ap (λ t. leb 1 i && t) (lt-leb i 0 (omega arith)) ∙ and-false (leb 1 i)) (cases_lt i 1)
+
+-- one more
+pub first_names_more : (size count v : ℕ) → 1 ≤ v → v ≤ size → v ≡ count + 1 → set (first_names size count) v true ≡ first_names size v
+first_names_more size count v low high next =
+    let l = first_names_len size count in
+    ext_get_or false _ _ (length-set (first_names size count) v true ∙ l ∙ sym (first_names_len size v))
+    (λ i inside.
+    let m = length-set (first_names size count) v true in
+    let within : i ≤ size = omega (arith, l, m, inside) in
+    ⊎_elim
+    (λ (e : i ≡ v).
+    ap (λ x. get_or (set (first_names size count) v true) x false) e ∙ get_or-set_same (first_names size count) v true false (omega (arith, l, high))
+    ∙ sym (first_names_at size v i within ∙ ap₂ (λ s t. s && t) (le-leb 1 i (omega (arith, e, low))) (le-leb i v (omega (arith, e)))))
+    (λ apart.
+    get_or-set_other (first_names size count) v i true false apart ∙ first_names_at size count i within
+    ∙ ap (λ t. leb 1 i && t) (same i apart)
+    ∙ sym (first_names_at size v i within))
+    (cases_eq i v))
+  where
+    same : (i : ℕ) → (i ≡ v → ⊥) → leb i count ≡ leb i v
+    same i apart =
+        ⊎_elim
+        (λ (above : count < i). lt-leb i count above ∙ sym (lt-leb i v (⊎_elim (λ (o : v < i). o) (λ (le : i ≤ v). absurd (apart (omega (arith, next)))) (cases_lt v i))))
+        (λ (le : i ≤ count). le-leb i count le ∙ sym (le-leb i v (omega (arith, next))))
+        (cases_lt count i)
+
+-- the members of the roll are the names
+pub members_names : (net : Network) → length net.here ≡ net.size + 1 → get_or net.here 0 false ≡ false → members net.here ≡ names net
+members_names net len nobody =
+    filter_agree (is_in net.here) (present net) (λ v. on_roll net v len nobody) (range_with_len 0 (length net.here))
+    ∙ ap (λ n. filter (present net) (range_with_len 0 n)) (len ∙ (let e : net.size + 1 ≡ suc net.size = omega arith in e))

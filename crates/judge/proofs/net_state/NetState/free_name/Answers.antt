@@ -1,0 +1,14 @@
+use Rattle.std.proofs.Common.{◌≡◌, [], false, sym, subst}
+use Rattle.rule_machine.specs.Network.{Network, neighbours}
+use Rattle.rule_machine.specs.State.{State, Registers, IsState, flag, flag_of}
+use Rattle.judge.specs.States.{state_of}
+use Rattle.judge.proofs.Leaving.{parted_is_state}
+use Rattle.judge.proofs.net_state.NetState.free_name.Goals as goal
+
+pub invariant_of-self : goal.invariant_of-self
+invariant_of-self c =
+    let net : Network = c.self.inside.store.network in
+    let r : Registers = c.self.inside.registers in
+    let none : neighbours net c.args.v ≡ [] = subst (λ (s : State). neighbours s.network c.args.v ≡ []) (sym c.self.view_is) c.requires.alone in
+    let unflagged : flag_of r c.args.v ≡ false = subst (λ (s : State). flag s c.args.v ≡ false) (sym c.self.view_is) c.requires.unflagged in
+    subst (λ (n : Network). IsState (state_of n r)) (sym c.part.ensures.place) (parted_is_state net r c.args.v c.self.invariant none unflagged)

@@ -1,0 +1,209 @@
+-- A node that leaves: its edges go one by one, and then its name.
+use Rattle.std.proofs.Common.{◌≡◌, ℕ, ◌+◌, ◌<◌, ◌≤◌, min, max, Bool, true, false, cond, not, ◌&&◌, ◌||◌, List, [], ◌∷◌, length, map, set, fold, filter, find, nat_eq, Option, None, Some, is_some, IsTrue, refl, sym, ap, ap₂, ◌∙◌, subst, inl, inr, ⊎_elim, ◌⊎◌, arith, get_or}
+use Rattle.std.specs.List.{range_with_len}
+use Rattle.std.specs.FinMap as finmap
+use Rattle.std.proofs.lemmas.Bool.{cases_Bool, cases_eq, cases_lt, and_parts, and_from, or_cases, true≢false, eqb-true, eq-eqb, false_from_ne_true}
+use Rattle.std.specs.Cmp.{both_ways}
+use Rattle.std.proofs.Math.ListN.{get_or-map}
+use Rattle.std.proofs.lemmas.List.{ext_get_or, length-set, length-map, get_or-set_other}
+use Rattle.std.specs.Ordering.{eq_by_cmp}
+use Rattle.std.proofs.lemmas.Cmp.{eq_by_cmp_equiv}
+use Rattle.std.proofs.lemmas.Map.Views.{tells_apart}
+use Rattle.rule_machine.specs.Network.{Network, PairSet, IsNetwork, pair_cmp, present, names, neighbours, linked, edge, is_end, without_edge, without_node}
+use Rattle.rule_machine.specs.State.{State, Registers, IsState, is_at, points, pointer, pointer_of, with_pointer, with_flag}
+use Rattle.rule_machine.specs.Disturbance.{after_unlink, after_leave, without_pointer, unless_at, without_name}
+use Rattle.machine_laws.specs.Search.{find-filter}
+use Rattle.machine_laws.specs.Neighbours.{option_cases, linked_back, near_found}
+use Rattle.machine_laws.specs.Edges.{pair_total, pair_exact, contains-remove, removed_was, still_removed, contains-without, edge_comm}
+use Rattle.machine_laws.specs.Writes.{if_some_at, cleared, some_from_is_at, is_at_from_some, pointer-with_pointer_other, without_pointer_was, without_pointer_flags, without_pointer_len}
+use Rattle.machine_laws.specs.Keeps.{unlink_keeps}
+
+-- the edges between a node and these go, one after another
+abbrev pub unlinked_all : State → ℕ → List ℕ → State
+unlinked_all s v others = fold (λ u w. after_unlink u v w) s others
+
+-- a node without an edge goes: its flag is lowered, and its name is free
+abbrev pub after_parting : State → ℕ → State
+after_parting s v = record {
+  network = record s.network { here = set s.network.here v false };
+  registers = with_flag s.registers v false;
+}
+
+pub unlinked_all_keeps : (s : State) (v : ℕ) (others : List ℕ) → IsState s → IsState (unlinked_all s v others)
+unlinked_all_keeps s v [] good = good
+unlinked_all_keeps s v (w ∷ others) good = unlinked_all_keeps (after_unlink s v w) v others (unlink_keeps s v w good)
+
+-- ---- what stays
+
+size_stays : (s : State) (v : ℕ) (others : List ℕ) → (unlinked_all s v others).network.size ≡ s.network.size
+size_stays s v [] = refl
+size_stays s v (w ∷ others) = size_stays (after_unlink s v w) v others
+
+here_stays : (s : State) (v : ℕ) (others : List ℕ) → (unlinked_all s v others).network.here ≡ s.network.here
+here_stays s v [] = refl
+here_stays s v (w ∷ others) = here_stays (after_unlink s v w) v others
+
+flags_stay : (s : State) (v : ℕ) (others : List ℕ) → (unlinked_all s v others).registers.flags ≡ s.registers.flags
+flags_stay s v [] = refl
+flags_stay s v (w ∷ others) =
+    flags_stay (after_unlink s v w) v others ∙ without_pointer_flags (without_pointer s.registers v w) w v ∙ without_pointer_flags s.registers v w
+
+places_stay : (s : State) (v : ℕ) (others : List ℕ) → length (unlinked_all s v others).registers.pointers ≡ length s.registers.pointers
+places_stay s v [] = refl
+places_stay s v (w ∷ others) =
+    places_stay (after_unlink s v w) v others ∙ without_pointer_len (without_pointer s.registers v w) w v ∙ without_pointer_len s.registers v w
+
+-- ---- edges
+
+edge_was : (s : State) (v : ℕ) (others : List ℕ) (q : ℕ × ℕ) → IsTrue (finmap.contains_key (unlinked_all s v others).network.edges q) → IsTrue (finmap.contains_key s.network.edges q)
+edge_was s v [] q h = h
+edge_was s v (w ∷ others) q h = removed_was s.network.edges (edge v w) q (edge_was (after_unlink s v w) v others q h)
+
+edge_stays : (s : State) (v : ℕ) (others : List ℕ) (a b : ℕ) → (a ≡ v → ⊥) → (b ≡ v → ⊥) → IsTrue (finmap.contains_key s.network.edges (a, b)) → IsTrue (finmap.contains_key (unlinked_all s v others).network.edges (a, b))
+edge_stays s v [] a b not_a not_b h = h
+edge_stays s v (w ∷ others) a b not_a not_b h =
+    edge_stays (after_unlink s v w) v others a b not_a not_b
+    (still_removed s.network.edges (edge v w) (a, b) (λ same.
+    let low : a ≡ min v w = ap (λ p. p.0) same in
+    let high : b ≡ max v w = ap (λ p. p.1) same in
+    ⊎_elim (λ (lt : v < w). not_a (omega (arith, low))) (λ (le : w ≤ v). not_b (omega (arith, high))) (cases_lt v w)) h)
+
+edge_gone : (s : State) (v : ℕ) (others : List ℕ) (w : ℕ) → is_some (find (λ x. nat_eq x w) others) ≡ true → finmap.contains_key (unlinked_all s v others).network.edges (edge v w) ≡ false
+edge_gone s v [] w there = absurd (let e : false ≡ true = there in true≢false (sym e))
+edge_gone s v (x ∷ others) w there =
+    ⊎_elim
+    (λ (same : nat_eq x w ≡ true). false_from_ne_true _ (λ h.
+    let was = edge_was (after_unlink s v x) v others (edge v w) h in
+    let tie = tie_of (eq_by_cmp pair_cmp (edge v w) (edge v x)) (finmap.contains_key s.network.edges (edge v w)) (sym (contains-remove s.network.edges (edge v x) (edge v w)) ∙ was) in
+    true≢false (sym (ap (λ y. eq_by_cmp pair_cmp (edge v w) (edge v y)) (eqb-true x w same) ∙ self_tie (edge v w)) ∙ tie)))
+    (λ (apart : nat_eq x w ≡ false). edge_gone (after_unlink s v x) v others w (sym (ap (λ b. is_some (cond b (Some x) (find (λ y. nat_eq y w) others))) apart) ∙ there))
+    (cases_Bool (nat_eq x w))
+  where
+    tie_of : (b c : Bool) → (not b && c) ≡ true → b ≡ false
+    tie_of true c e = sym e
+    tie_of false c e = refl
+
+    self_tie : (p : ℕ × ℕ) → eq_by_cmp pair_cmp p p ≡ true
+    self_tie p = (eq_by_cmp_equiv pair_total).refl p
+
+-- no edge of the node is left
+pub none_left : (s : State) (v : ℕ) → IsState s → (w : ℕ) → linked (unlinked_all s v (neighbours s.network v)).network v w ≡ false
+none_left s v good w = none_of s v good w
+  where
+    none_of : (s : State) (v : ℕ) → IsState s → (w : ℕ) → finmap.contains_key (unlinked_all s v (neighbours s.network v)).network.edges (edge v w) ≡ false
+    none_of s v good w = false_from_ne_true _ (λ h.
+        let was : IsTrue (linked s.network v w) = edge_was s v (neighbours s.network v) (edge v w) h in
+        let found = near_found s.network (λ x. nat_eq x w) v w good.is_network was (eq-eqb w w refl) in
+        true≢false (sym h ∙ edge_gone s v (neighbours s.network v) w (ap is_some found.1)))
+
+-- ---- pointers
+
+pointer_was : (s : State) (v : ℕ) (others : List ℕ) (x y : ℕ) → pointer (unlinked_all s v others) x ≡ Some y → pointer s x ≡ Some y
+pointer_was s v [] x y e = e
+pointer_was s v (w ∷ others) x y e =
+    without_pointer_was s.registers v w x y (without_pointer_was (without_pointer s.registers v w) w v x y (pointer_was (after_unlink s v w) v others x y e))
+
+-- a pointer of another node, or one that is elsewhere, stays
+without_pointer_stays : (r : Registers) (a b x : ℕ) → (x ≡ a → is_at (pointer_of r x) b ≡ false) → pointer_of (without_pointer r a b) x ≡ pointer_of r x
+without_pointer_stays r a b x h =
+    ⊎_elim
+    (λ (same : x ≡ a). go (points r a b) (ap (λ z. is_at (pointer_of r z) b) (sym same) ∙ h same))
+    (λ apart. elsewhere (points r a b) apart)
+    (cases_eq x a)
+  where
+    go : (t : Bool) → t ≡ false → pointer_of (cond t (with_pointer r a None) r) x ≡ pointer_of r x
+    go true e = absurd (true≢false e)
+    go false e = refl
+
+    elsewhere : (t : Bool) → (x ≡ a → ⊥) → pointer_of (cond t (with_pointer r a None) r) x ≡ pointer_of r x
+    elsewhere true apart = pointer-with_pointer_other r a None x apart
+    elsewhere false apart = refl
+
+pointer_stays : (s : State) (v : ℕ) (others : List ℕ) (x : ℕ) → (x ≡ v → ⊥) → is_at (pointer s x) v ≡ false → pointer (unlinked_all s v others) x ≡ pointer s x
+pointer_stays s v [] x apart away = refl
+pointer_stays s v (w ∷ others) x apart away =
+    let one = without_pointer_stays s.registers v w x (λ same. absurd (apart same)) in
+    let two = without_pointer_stays (without_pointer s.registers v w) w v x (λ same. ap (λ o. is_at o v) one ∙ away) in
+    pointer_stays (after_unlink s v w) v others x apart (ap (λ o. is_at o v) (two ∙ one) ∙ away) ∙ two ∙ one
+
+-- ---- the whole
+
+pub unit_some : (a b : Option (Unit {0})) → is_some a ≡ is_some b → a ≡ b
+unit_some None None e = refl
+unit_some None (Some x) e = absurd (true≢false (sym e))
+unit_some (Some x) None e = absurd (true≢false e)
+unit_some (Some x) (Some y) e = refl
+
+or_true : (b : Bool) → (b || true) ≡ true
+or_true true = refl
+or_true false = refl
+
+pub nothing_left : (o : Option ℕ) → ((y : ℕ) → o ≡ Some y → ⊥) → o ≡ None
+nothing_left None h = refl
+nothing_left (Some y) h = absurd (h y refl)
+
+unless_at_is : (v : ℕ) (o : Option ℕ) (b : Bool) → is_at o v ≡ b → unless_at v o ≡ cond b None o
+unless_at_is v o b e = ap (λ t. cond t None o) e
+
+-- A node leaves where edges of it go one after another, in any order, each with the pointers that cross it, until none is left,
+-- and then its name: since it has no edge then, it has no pointer, and none is at it.
+pub leaves_by_unlinks : (s : State) (v : ℕ) (others : List ℕ) → IsState s → ((w : ℕ) → linked (unlinked_all s v others).network v w ≡ false) → after_leave s v ≡ after_parting (unlinked_all s v others) v
+leaves_by_unlinks s v others good none =
+    λ i. record {
+      network = record { size = sym (size_stays s v others) i; here = set (sym (here_stays s v others) i) v false; edges = same_edges i };
+      registers = record { pointers = same_pointers i; flags = set (sym (flags_stay s v others) i) v false };
+    }
+  where
+    good_u : IsState (unlinked_all s v others)
+    good_u = unlinked_all_keeps s v others good
+
+    not_from : (y : ℕ) → pointer (unlinked_all s v others) v ≡ Some y → ⊥
+    not_from y e =
+        true≢false (sym (if_some_at _ (λ w. IsTrue (linked (unlinked_all s v others).network v w)) y e (good_u.neighbourly v)) ∙ none y)
+
+    not_at : (x : ℕ) → pointer (unlinked_all s v others) x ≡ Some v → ⊥
+    not_at x e =
+        true≢false (sym (linked_back (unlinked_all s v others).network v x ∙ if_some_at _ (λ w. IsTrue (linked (unlinked_all s v others).network x w)) v e (good_u.neighbourly x)) ∙ none x)
+
+    at_end : (a b : ℕ) → is_end v (a, b) ≡ true → finmap.contains_key (unlinked_all s v others).network.edges (a, b) ≡ true → ⊥
+    at_end a b ends h =
+        let below = good_u.is_network.low_first a b h in
+        let low : min a b ≡ a = omega arith in
+        let high : max a b ≡ b = omega arith in
+        let there : IsTrue (linked (unlinked_all s v others).network a b) = ap₂ (λ x y. finmap.contains_key (unlinked_all s v others).network.edges (x, y)) low high ∙ h in
+        ⊎_elim
+        (λ (is : nat_eq a v ≡ true). true≢false (sym there ∙ ap (λ x. linked (unlinked_all s v others).network x b) (eqb-true a v is) ∙ none b))
+        (λ (is : nat_eq b v ≡ true). true≢false (sym there ∙ linked_back (unlinked_all s v others).network a b ∙ ap (λ x. linked (unlinked_all s v others).network x a) (eqb-true b v is) ∙ none a))
+        (or_cases (nat_eq a v) (nat_eq b v) ends)
+
+    edge_same : (a b : ℕ) → finmap.contains_key (finmap.retain_keys s.network.edges (λ e. not (is_end v e))) (a, b) ≡ finmap.contains_key (unlinked_all s v others).network.edges (a, b)
+    edge_same a b =
+        both_ways _ _
+        (λ h.
+        let parts = and_parts (not (is_end v (a, b))) (finmap.contains_key s.network.edges (a, b)) (sym (contains-without s.network.edges v (a, b)) ∙ h) in
+        edge_stays s v others a b
+        (λ same. true≢false (sym parts.0 ∙ ap not (ap (λ t. t || nat_eq b v) (eq-eqb a v same))))
+        (λ same. true≢false (sym parts.0 ∙ ap not (ap (λ t. nat_eq a v || t) (eq-eqb b v same) ∙ or_true (nat_eq a v))))
+        parts.1)
+        (λ h.
+        contains-without s.network.edges v (a, b)
+        ∙ and_from _ _ (ap not (false_from_ne_true (is_end v (a, b)) (λ ends. at_end a b ends h))) (edge_was s v others (a, b) h))
+
+    same_edges : finmap.retain_keys s.network.edges (λ e. not (is_end v e)) ≡ (unlinked_all s v others).network.edges
+    same_edges = finmap.same_map pair_total pair_exact _ _ (λ q. unit_some _ _ (edge_same q.0 q.1))
+
+    same_pointers : set (map (unless_at v) s.registers.pointers) v None ≡ (unlinked_all s v others).registers.pointers
+    same_pointers =
+        ext_get_or None _ _ (length-set (map (unless_at v) s.registers.pointers) v None ∙ length-map s.registers.pointers (unless_at v) ∙ sym (places_stay s v others))
+        (λ x inside.
+        ⊎_elim
+        (λ (same : x ≡ v). ap (λ z. get_or (set (map (unless_at v) s.registers.pointers) v None) z None) same ∙ cleared (map (unless_at v) s.registers.pointers) v
+        ∙ sym (ap (pointer (unlinked_all s v others)) same ∙ nothing_left _ not_from))
+        (λ apart.
+        get_or-set_other (map (unless_at v) s.registers.pointers) v x None None apart
+        ∙ get_or-map (unless_at v) s.registers.pointers x None
+        ∙ ⊎_elim
+        (λ (at : is_at (pointer s x) v ≡ true). unless_at_is v (pointer s x) true at ∙ sym (nothing_left _ (λ y e. not_at x (e ∙ sym (pointer_was s v others x y e) ∙ some_from_is_at (pointer s x) v at))))
+        (λ (away : is_at (pointer s x) v ≡ false). unless_at_is v (pointer s x) false away ∙ sym (pointer_stays s v others x apart away))
+        (cases_Bool (is_at (pointer s x) v)))
+        (cases_eq x v))
