@@ -8,13 +8,19 @@ TOP = pathlib.Path(__file__).resolve().parent.parent
 
 @dataclasses.dataclass
 class Page:
-    """A script with its rules and nodes; or a storm of several scripts."""
+    """A script with its rules, its names, and how many of these are present at the start; or a storm of several scripts."""
 
     name: str
     rules: str
     nodes: int
     script: str = ""
     storm: tuple = ()
+    present: int | None = None
+
+    def words(self):
+        """The words of the command line for it."""
+        present = [] if self.present is None else ["--present", str(self.present)]
+        return ["--rules", self.rules, "--nodes", str(self.nodes), *present]
 
 
 def ring(nodes):
@@ -49,14 +55,14 @@ def stirred(nodes, seed, events):
         lambda: f"link {name()} {name()}", lambda: f"unlink {name()} {name()}", lambda: f"point {name()} {name()}",
         lambda: f"point {name()} -", lambda: f"flag {name()} {chance.randint(0, 1)}", lambda: f"step {name()}",
         lambda: f"step {name()}>{name()}", lambda: f"step {name()} {name()}", lambda: "step", lambda: f"show {name()}",
-        lambda: "enabled", lambda: "matching", lambda: "status", lambda: f"drive {chance.randint(0, 99)} 3",
+        lambda: "enabled", lambda: "matching", lambda: "status", lambda: f"join {name()}", lambda: f"leave {name()}", lambda: f"drive {chance.randint(0, 99)} 3",
     ]
     return [chance.choice(kinds)() for _ in range(events)]
 
 
 EVERY_REFUSAL = [
     "link 1 1", "link 1 9", "link 1 2", "link 2 1", "unlink 1 3", "unlink 9 9", "point 1 3", "point 9 -", "flag 9 1", "flag 1 1",
-    "step", "step 9", "show 9", "step 1 1", "step 3", "step 2>3", "step 1>3", "drive 1 5", "enabled",
+    "join 1", "join 9", "leave 9", "step", "step 9", "show 9", "step 1 1", "step 3", "step 2>3", "step 1>3", "drive 1 5", "enabled",
 ]
 
 
@@ -75,6 +81,7 @@ def of_both():
         "no nodes": (0, ["enabled", "matching", "status", "link 1 2"]),
         "one node": (1, ["link 1 1", "step 1", "drive 1 5", "scramble 1 3", "status"]),
         "a pair that is parted": (3, parted),
+        "hosts that leave and come back": (6, ring(6) + ["drive 3 99", "leave 2", "enabled", "drive 5 99", "leave 5", "join 2", "link 2 1", "drive 7 99"]),
         "every refusal": (3, EVERY_REFUSAL),
         "a ring of seven": (7, ring(7) + mended(3)),
         "a ring of forty, with a chord": (40, ring(40) + mended(7, 12) + ["unlink 7 8", "link 7 20", "drive 9 99", "link 7 8"]),
@@ -96,11 +103,14 @@ def of_both():
 
 def scripts():
     storm = ("link 1 2\ndrive 7 100\nscramble 3 9\n", "link 3 4\nlink 2 3\nscramble 5 20\ndrive 2 9\n")
+    joined = [f"join {v}" for v in range(7, 13)]
+    grown = "".join(f"{line}\n" for line in [*grid(3, 2), "drive 3 40", *joined, *grid(3, 4), *mended(9), "leave 5", *mended(3)])
     many = [f"link {v} {v + 7}" for v in range(1, 2_600)] + ["drive 3 60", "status"]
     return [
         *examples(), *of_both(),
         Page("a storm under manne", "manne", 4, storm=storm),
         Page("no entries under hh", "hh", 5),
+        *[Page(f"a grid of which half is there under {rules}", rules, 12, grown, present=6) for rules in ("hh", "manne")],
         Page("more nodes than are drawn", "manne", 2_607, "".join(f"{line}\n" for line in many)),
     ]
 
