@@ -8,7 +8,6 @@
 
 Each call writes a line to `console run` and waits for its entry; inside `with net.batch() as batch:` those of `batch` do not
 wait. A command that the network refuses raises `Refused`, and where the program ends, `Ended` has its status and last line.
-
 `drive` and `scramble` write an entry a turn, and how many is not known beforehand. So the client asks for the `status`
 behind them, and that entry ends them: it stands in the transcript like any other, and in the reply.
 
@@ -113,7 +112,6 @@ class _Items(abc.Sequence[Reply], Generic[Reply]):
 
     def __getitem__(self, place: Any) -> Any:
         return self.items[place]
-
     def __len__(self) -> int:
         return len(self.items)
 
@@ -140,10 +138,8 @@ class Enabled(abc.Mapping[Name, str]):
 
     def __getitem__(self, node: Name) -> str:
         return self.rules[node]
-
     def __iter__(self) -> Iterator[Name]:
         return iter(self.rules)
-
     def __len__(self) -> int:
         return len(self.rules)
 
@@ -362,7 +358,6 @@ class Batch:
 
     def __enter__(self) -> Batch:
         return self
-
     def __exit__(self, kind: Any, *_: Any) -> None:
         if self._last and not kind:
             self._net._wait(self._last)
@@ -389,6 +384,10 @@ class Batch:
         return self._ask(_accepted, f"point {self._number(node)} {'-' if target is None else self._number(target)}")
     def flag(self, node: Name, value: bool) -> Pending[Accepted]:
         return self._ask(_accepted, f"flag {self._number(node)} {_number(value, 1, 'a flag')}")
+    def join(self, node: Name) -> Pending[Accepted]:
+        return self._ask(_accepted, f"join {self._number(node)}")
+    def leave(self, node: Name) -> Pending[Accepted]:
+        return self._ask(_accepted, f"leave {self._number(node)}")
     def step(self, choice: Choice) -> Pending[Moves]:
         return self._ask(_moves, " ".join(["step", *self._net._items(choice)]))
     def show(self, node: Name) -> Pending[Shown]:
@@ -409,28 +408,32 @@ class Network:
     """A network that is played by a run of the program, one command a call.
 
     `nodes` is how many there are, with the names 1 to that, or their names, which get the numbers 1, 2, .. in that order;
-    the transcript has the numbers. Under `manne` the numbers matter: a node proposes to the greater ones.
+    the transcript has the numbers. Under `manne` the numbers matter: a node proposes to the greater ones. The first
+    `present` of them are there at the start, all where nothing is said; others may `join`.
     """
 
-    def __init__(self, rules: str = "manne", nodes: Union[int, Iterable[Name]] = 0, *, program: Program = None) -> None:
+    def __init__(self, rules: str = "manne", nodes: Union[int, Iterable[Name]] = 0, *, present: Optional[int] = None, program: Program = None) -> None:
         if rules not in ("hh", "manne"):
             raise ValueError(f"rules are 'hh' or 'manne', and not {rules!r}")
         self.rules = rules
         self._name_of: Optional[list[Name]] = None if hasattr(nodes, "__index__") else _own_names(nodes)
         self._number_of = {name: number for number, name in enumerate(self._name_of or [], 1)}
         self._count = _number(nodes if self._name_of is None else len(self._name_of), MOST_NODES, "a number of nodes")
+        self._present = self._count if present is None else _number(present, self._count, "a number of nodes that are present")
         self._waiting: deque[Pending[Any]] = deque()
         self._entries = -1
         self._wrong: Optional[RudekpiError] = None
         self._is_closed = False
-        self._talk = _Talk([_console(program), "run", "--rules", rules, "--nodes", str(self._count)], self._take)
+        first = [] if self._present == self._count else [str(self._present)]
+        self._header = " ".join(["matching", rules, str(self._count), *first]).encode()
+        words = ["run", "--rules", rules, "--nodes", str(self._count), *(["--present", *first] if first else [])]
+        self._talk = _Talk([_console(program), *words], self._take)
         self._single = Batch(self, keeps=False)
         while self._entries < 0 or self._wrong:
             self._exchange()
 
     def __enter__(self) -> Network:
         return self
-
     def __exit__(self, kind: Any, *_: Any) -> None:
         if kind:
             self._is_closed = True
@@ -450,7 +453,7 @@ class Network:
 
     @property
     def nodes(self) -> list[Name]:
-        """The names of all nodes, in the order of their numbers."""
+        """All names, in the order of their numbers, whether their nodes are present or not."""
         return list(range(1, self._count + 1)) if self._name_of is None else list(self._name_of)
 
     def number_of(self, name: Name) -> int:
@@ -490,43 +493,39 @@ class Network:
     def link(self, a: Name, b: Name) -> Accepted:
         """Adds an edge."""
         return self._single.link(a, b).result()
-
     def unlink(self, a: Name, b: Name) -> Accepted:
         """Removes an edge, and clears the pointers that crossed it."""
         return self._single.unlink(a, b).result()
-
     def point(self, node: Name, target: Optional[Name]) -> Accepted:
         """A fault: the node's pointer becomes a neighbour, or null (None)."""
         return self._single.point(node, target).result()
-
     def flag(self, node: Name, value: bool) -> Accepted:
         """A fault: the node's married flag is written (`manne` only)."""
         return self._single.flag(node, value).result()
-
+    def join(self, node: Name) -> Accepted:
+        """A name becomes present, without an edge, null and unflagged."""
+        return self._single.join(node).result()
+    def leave(self, node: Name) -> Accepted:
+        """A node goes, with its edges and the pointers at it; its name may join again."""
+        return self._single.leave(node).result()
     def step(self, choice: Choice) -> Moves:
         """These nodes move at once, each by its rule: names, and `Wish(node, target)` where a target is wished."""
         return self._single.step(choice).result()
-
     def show(self, node: Name) -> Shown:
         """Where a node points."""
         return self._single.show(node).result()
-
     def enabled(self) -> Enabled:
         """Who may move, and by which rule."""
         return self._single.enabled().result()
-
     def matching(self) -> Matching:
         """The pairs of nodes that point at each other."""
         return self._single.matching().result()
-
     def status(self) -> Status:
         """Numbers of nodes, edges, pairs and enabled nodes, the charge, and the moves since the last disturbance."""
         return self._single.status().result()
-
     def drive(self, seed: int, turns: int) -> Turns[Moves]:
         """Up to so many steps of the program's seeded daemon, until nobody is enabled; and the status then, an entry too."""
         return self._single.drive(seed, turns).result()
-
     def scramble(self, seed: int, faults: int) -> Turns[Fault]:
         """So many faults of registers, drawn from a seed; and the status then, an entry too."""
         return self._single.scramble(seed, faults).result()
@@ -556,13 +555,13 @@ class Network:
         return _text(self._talk.said[: self._talk.said.rfind(b"\n") + 1])
 
     def to_networkx(self) -> Any:
-        """The nodes and edges as a `networkx.Graph`, by the caller's names. Wants networkx."""
+        """The nodes that are present and their edges as a `networkx.Graph`, by the caller's names. Wants networkx."""
         import networkx
         graph = networkx.Graph()
-        graph.add_nodes_from(self.nodes)
-        for word, a, b in re.findall(r"(?m)^[0-9]+ (link|unlink) ([0-9]+) ([0-9]+) = ok$", self.transcript()):
-            change = graph.add_edge if word == "link" else graph.remove_edge
-            change(self.name_of(int(a)), self.name_of(int(b)))
+        graph.add_nodes_from(self.nodes[: self._present])
+        changes = {"link": graph.add_edge, "unlink": graph.remove_edge, "join": graph.add_node, "leave": graph.remove_node}
+        for word, numbers in re.findall(r"(?m)^[0-9]+ (link|unlink|join|leave) ([0-9]+(?: [0-9]+)?) = ok$", self.transcript()):
+            changes[word](*(self.name_of(int(number)) for number in numbers.split(" ")))
         return graph
 
     @classmethod
@@ -585,6 +584,12 @@ class Network:
         self._waiting.append(pending)
         self._talk.put(line.encode())
 
+    def _played(self, events: Iterable[str]) -> str:
+        """The transcript once these events are carried out."""
+        for event in events:
+            self._put(Pending(self, event, _accepted, None), event)
+        return self.transcript()
+
     def _wait(self, pending: Pending[Any]) -> None:
         while not pending._entry:
             self._exchange()
@@ -605,7 +610,7 @@ class Network:
         self._entries += 1
         pending = self._waiting[0] if self._waiting else None
         head = b"%d " % self._entries
-        if not self._entries and line == f"matching {self.rules} {self._count}".encode():
+        if not self._entries and line == self._header:
             return
         if pending and line.startswith(head + pending._event + b" = "):
             self._waiting.popleft()
@@ -771,22 +776,17 @@ def replay(transcript: str, *, names: Optional[Iterable[Name]] = None, program: 
     """
     audit(transcript, program=program)
     head, *lines = transcript.splitlines()
-    _, rules, count = head.split(" ")
+    _, rules, count, *rest = head.split(" ")
+    present = int((rest or [count])[0])
     nodes: Any = int(count) if names is None else _own_names(names)
     if names is not None and len(nodes) != int(count):
         raise ValueError(f"{len(nodes)} names for {count} nodes")
     entries = [tuple(line.split(" ", 1)[1].split(" = ")) for line in lines]
-    net = _played(Network(rules, nodes, program=program), [event for event, _ in entries])
-    if net.transcript() == transcript:
-        return net
-    net.close()
-    return _played(Network(rules, nodes, program=program), [_wished(event, reply) for event, reply in entries])
-
-
-def _played(net: Network, events: Iterable[str]) -> Network:
-    for event in events:
-        net._put(Pending(net, event, _accepted, None), event)
-    net.transcript()
+    net = Network(rules, nodes, present=present, program=program)
+    if net._played(event for event, _ in entries) != transcript:
+        net.close()
+        net = Network(rules, nodes, present=present, program=program)
+        net._played(_wished(event, reply) for event, reply in entries)
     return net
 
 

@@ -54,8 +54,8 @@ def play(player, line, name=int):
     if word == "step":
         items = [item.split(">") for item in rest]
         return player.step([Wish(*map(name, item)) if len(item) == 2 else name(item[0]) for item in items])
-    if word == "show":
-        return player.show(name(rest[0]))
+    if word in ("show", "join", "leave"):
+        return getattr(player, word)(name(rest[0]))
     if word in ("drive", "scramble"):
         return getattr(player, word)(int(rest[0]), int(rest[1]))
     return {"enabled": player.enabled, "matching": player.matching, "status": player.status}[word]()

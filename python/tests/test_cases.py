@@ -40,15 +40,17 @@ class Rows(Timed):
 
     def setUp(self):
         super().setUp()
-        worked, turns = cases_of("worked_examples.cases", "run"), cases_of("turns.cases", "run")
-        self.cases = [case for case in worked + turns if case.status == 0]
+        worked, turns, joins = (cases_of(f"{name}.cases", "run") for name in ("worked_examples", "turns", "joins"))
+        self.cases = [case for case in worked + turns + joins if case.status == 0]
         written = pathlib.Path(TOP, "tests", "worked_examples.cases").read_text().count("\ncase ")
         self.assertEqual(len([case for case in worked if case.status == 0]), written, "each worked example is played")
         self.assertGreater(len(turns), 5)
+        self.assertGreater(len([case for case in joins if case.status == 0]), 5)
 
     def run_of(self, case):
-        _, _, rules, _, nodes = (word.decode() for word in case.words)
-        return rules, int(nodes), text_of(case.blocks).splitlines(), text_of(case.out.blocks)
+        _, _, rules, _, nodes, *rest = (word.decode() for word in case.words)
+        present = int(rest[1]) if rest else None
+        return rules, int(nodes), present, text_of(case.blocks).splitlines(), text_of(case.out.blocks)
 
     def expect(self, lines, replies, wanted, number=str):
         """The replies to a script's lines are those that the wanted transcript has."""
@@ -67,8 +69,8 @@ class Rows(Timed):
 
     def test_one_by_one(self):
         for case in self.cases:
-            rules, nodes, lines, wanted = self.run_of(case)
-            with self.subTest(case.name), Network(rules, nodes) as net:
+            rules, nodes, present, lines, wanted = self.run_of(case)
+            with self.subTest(case.name), Network(rules, nodes, present=present) as net:
                 replies = [told(lambda: play(net, line)) for line in lines]
                 self.expect(lines, replies, wanted)
                 if not any(isinstance(reply, Turns) for reply in replies):
@@ -76,8 +78,8 @@ class Rows(Timed):
 
     def test_in_a_batch(self):
         for case in self.cases:
-            rules, nodes, lines, wanted = self.run_of(case)
-            with self.subTest(case.name), Network(rules, nodes) as net:
+            rules, nodes, present, lines, wanted = self.run_of(case)
+            with self.subTest(case.name), Network(rules, nodes, present=present) as net:
                 with net.batch(raises=False) as batch:
                     pending = [play(batch, line) for line in lines]
                 self.expect(lines, [told(each.result) for each in pending], wanted)
@@ -87,12 +89,12 @@ class Rows(Timed):
     def test_with_names_of_the_callers_own(self):
         played = 0
         for case in self.cases:
-            rules, nodes, lines, wanted = self.run_of(case)
+            rules, nodes, present, lines, wanted = self.run_of(case)
             names = {number: ("host", number) for number in range(1, nodes + 1)}
             if any(int(number) > nodes for line in lines for number in re.findall(r"(?:(?<= )|(?<=>))[0-9]+", line)):
                 continue
             played += 1
-            with self.subTest(case.name), Network(rules, names.values()) as net:
+            with self.subTest(case.name), Network(rules, names.values(), present=present) as net:
                 replies = [told(lambda: play(net, line, lambda text: names[int(text)])) for line in lines]
                 self.expect(lines, replies, wanted, lambda name: str(name[1]))
         self.assertGreater(played, 20)

@@ -59,6 +59,16 @@ class Graphs(Timed):
             graph = net.to_networkx()
         self.assertEqual((sorted(graph.nodes), list(graph.edges)), ([1, 2, 3, 4], [(1, 2)]))
 
+    def test_who_is_present_is_in_the_graph(self):
+        with Network("hh", 4, present=3) as net:
+            net.link(1, 2)
+            net.link(2, 3)
+            net.leave(2)
+            net.join(4)
+            net.link(4, 1)
+            graph = net.to_networkx()
+        self.assertEqual((sorted(graph.nodes), list(graph.edges)), ([1, 3, 4], [(1, 4)]))
+
     def test_graphs_that_are_none(self):
         loop = networkx.Graph([(1, 2), (2, 2)])
         for graph, text in [(networkx.DiGraph([(1, 2)]), "undirected"), (networkx.MultiGraph([(1, 2)]), "simple"), (loop, "itself")]:

@@ -141,7 +141,7 @@ export class Drawing {
     const shape = this.shapes[v];
     const rule = machine.rule[v];
     const flagged = machine.flag[v] === 1;
-    const classes = ["node", machine.isMarried(v) && "married", rule && "enabled", isLit && "lit", flagged && "flagged"].filter(Boolean).join(" ");
+    const classes = ["node", !machine.here[v] && "absent", machine.isMarried(v) && "married", rule && "enabled", isLit && "lit", flagged && "flagged"].filter(Boolean).join(" ");
     if (shape.classes !== classes) {
       shape.classes = classes;
       shape.group.setAttribute("class", classes);

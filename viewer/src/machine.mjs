@@ -7,21 +7,24 @@ export const RULE_SETS = { hh: { weight: 1, flags: false }, manne: { weight: 3, 
 const NOBODY = 0;
 
 export class Machine {
-  constructor(rules, nodes) {
+  /** A network without edges of the names 1 to `nodes`, the first of which are present, so many. */
+  constructor(rules, nodes, present = nodes) {
     this.rules = rules;
     this.nodes = nodes;
     this.flags = RULE_SETS[rules].flags;
-    this.load({ pointers: new Int32Array(nodes + 1), flags: new Uint8Array(nodes + 1), ends: new Int32Array(0) });
+    const here = new Uint8Array(nodes + 1).fill(1, 1, present + 1);
+    this.load({ here, pointers: new Int32Array(nodes + 1), flags: new Uint8Array(nodes + 1), ends: new Int32Array(0) });
   }
 
   /** What `load` makes the same state of. */
   snapshot() {
     const ends = new Int32Array(2 * this.edgeCount);
     this.edges().forEach(([v, w], at) => ends.set([v, w], 2 * at));
-    return { pointers: this.pointer.slice(), flags: this.flag.slice(), ends };
+    return { here: this.here.slice(), pointers: this.pointer.slice(), flags: this.flag.slice(), ends };
   }
 
-  load({ pointers, flags, ends }) {
+  load({ here, pointers, flags, ends }) {
+    this.here = here.slice();
     this.pointer = pointers.slice();
     this.flag = flags.slice();
     this.neighbours = Array.from({ length: this.nodes + 1 }, () => new Set());
@@ -38,7 +41,7 @@ export class Machine {
     this.suitors = new Int32Array(this.nodes + 1);
     this.open = new Int32Array(this.nodes + 1);
     this.rule = new Array(this.nodes + 1).fill(null);
-    this.openEdges = this.nodeCharges = this.pairCount = this.enabledCount = 0;
+    this.present = this.openEdges = this.nodeCharges = this.pairCount = this.enabledCount = 0;
     for (let v = 1; v <= this.nodes; v += 1) {
       if (this.pointer[v] !== NOBODY) {
         this.suitors[this.pointer[v]] += 1;
@@ -49,6 +52,7 @@ export class Machine {
     }
     for (let v = 1; v <= this.nodes; v += 1) {
       this.look(v);
+      this.present += this.here[v];
       this.nodeCharges += this.nodeCharge(v);
       this.pairCount += this.partner(v) > v ? 1 : 0;
       for (const w of this.neighbours[v]) {
@@ -121,14 +125,14 @@ export class Machine {
     return this.awaits(v, w) || this.awaits(w, v) || (this.isCourted(v) && this.isCourted(w));
   }
 
-  /** What v adds to the charge beside the open edges. */
+  /** What v adds to the charge beside the open edges; an absent name, which is null and unflagged, adds nothing. */
   nodeCharge(v) {
     const married = this.isMarried(v);
     const unanswered = this.pointer[v] !== NOBODY && !married ? 1 : 0;
     if (!this.flags) {
       return unanswered;
     }
-    return unanswered + (this.flag[v] === 1 ? (married ? 0 : 2) : 1);
+    return unanswered + (this.flag[v] === 1 ? (married ? 0 : 2) : this.here[v]);
   }
 
   get charge() {
@@ -136,7 +140,7 @@ export class Machine {
   }
 
   get bound() {
-    return 2 * this.edgeCount + RULE_SETS[this.rules].weight * this.nodes;
+    return 2 * this.edgeCount + RULE_SETS[this.rules].weight * this.present;
   }
 
   /** Looks again which rule is enabled at v. */
@@ -197,7 +201,7 @@ export class Machine {
     this.neighbours[v].add(w);
     this.neighbours[w].add(v);
     this.edgeCount += 1;
-    this.joinOrPart(v, w, 1);
+    this.countEdge(v, w, 1);
   }
 
   unlink(v, w) {
@@ -210,11 +214,32 @@ export class Machine {
     this.neighbours[v].delete(w);
     this.neighbours[w].delete(v);
     this.edgeCount -= 1;
-    this.joinOrPart(v, w, -1);
+    this.countEdge(v, w, -1);
+  }
+
+  /** A name becomes present, or is no longer. */
+  setPresent(v, here) {
+    this.nodeCharges -= this.nodeCharge(v);
+    this.present += here - this.here[v];
+    this.here[v] = here;
+    this.nodeCharges += this.nodeCharge(v);
+  }
+
+  join(v) {
+    this.setPresent(v, 1);
+  }
+
+  /** The node goes, with its edges and the pointers that cross them. */
+  leave(v) {
+    for (const w of [...this.neighbours[v]]) {
+      this.unlink(v, w);
+    }
+    this.write(v, NOBODY, 0);
+    this.setPresent(v, 0);
   }
 
   /** Counts an edge that no pointer crosses. */
-  joinOrPart(v, w, sign) {
+  countEdge(v, w, sign) {
     this.openEdges += this.isClosed(v, w) ? 0 : sign;
     this.open[v] += this.isOpenTo(w, v) ? sign : 0;
     this.open[w] += this.isOpenTo(v, w) ? sign : 0;
@@ -233,7 +258,7 @@ export class Machine {
   }
 
   status(spent) {
-    const { nodes, edgeCount, pairCount, enabledCount, charge } = this;
-    return `nodes=${nodes} edges=${edgeCount} pairs=${pairCount} enabled=${enabledCount} charge=${charge} spent=${spent}`;
+    const { present, edgeCount, pairCount, enabledCount, charge } = this;
+    return `nodes=${present} edges=${edgeCount} pairs=${pairCount} enabled=${enabledCount} charge=${charge} spent=${spent}`;
   }
 }

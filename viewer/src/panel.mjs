@@ -43,7 +43,7 @@ export class Panel {
     const spent = series.spent[number];
     const epoch = this.replay.epochAt(number);
     const figures = {
-      nodes: machine.nodes,
+      nodes: machine.present,
       edges: machine.edgeCount,
       pairs: machine.pairCount,
       enabled: machine.enabledCount,

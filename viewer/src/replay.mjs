@@ -21,6 +21,10 @@ export function carryOut(machine, entry) {
       return machine.write(node, other, machine.flag[node]);
     case "flag":
       return machine.write(node, machine.pointer[node], other);
+    case "join":
+      return machine.join(node);
+    case "leave":
+      return machine.leave(node);
   }
 }
 
@@ -31,11 +35,11 @@ function changes(entry) {
 export class Replay {
   constructor(transcript) {
     this.transcript = transcript;
-    this.machine = new Machine(transcript.rules, transcript.nodes);
+    this.machine = new Machine(transcript.rules, transcript.nodes, transcript.present);
     this.at = 0;
     this.weight = RULE_SETS[transcript.rules].weight;
     const places = transcript.length + 1;
-    this.series = Object.fromEntries(["charge", "spent", "edges", "pairs", "enabled"].map((name) => [name, new Int32Array(places)]));
+    this.series = Object.fromEntries(["charge", "spent", "nodes", "edges", "pairs", "enabled"].map((name) => [name, new Int32Array(places)]));
     this.disturbances = [];
     this.union = new Map();
     this.snapshots = [];
@@ -69,7 +73,7 @@ export class Replay {
   /** So many entries lie between two snapshots that all of them fit in memory, and take less time than the entries. */
   spacing() {
     const { nodes, edgeCount } = this.machine;
-    const bytes = 5 * nodes + 8 * edgeCount + 100;
+    const bytes = 6 * nodes + 8 * edgeCount + 100;
     return Math.max(LEAST_SPACING, Math.ceil((nodes + edgeCount) / 10), Math.ceil((this.transcript.length * bytes) / SNAPSHOT_BYTES));
   }
 
@@ -77,6 +81,7 @@ export class Replay {
     const { machine, series } = this;
     series.charge[number] = machine.charge;
     series.spent[number] = spent;
+    series.nodes[number] = machine.present;
     series.edges[number] = machine.edgeCount;
     series.pairs[number] = machine.pairCount;
     series.enabled[number] = machine.enabledCount;
@@ -95,7 +100,7 @@ export class Replay {
   }
 
   bound(number) {
-    return 2 * this.series.edges[number] + this.weight * this.transcript.nodes;
+    return 2 * this.series.edges[number] + this.weight * this.series.nodes[number];
   }
 
   /** The number of the disturbance that began the epoch of an entry, and which epoch it is, counted from 1. */

@@ -1,6 +1,6 @@
 // Reads a transcript that `console audit` has accepted: so each line has its one spelling, and nothing is checked twice.
 
-const CHANGES = new Set(["link", "unlink", "point", "flag"]);
+const CHANGES = new Set(["link", "unlink", "point", "flag", "join", "leave"]);
 
 /** One line of a transcript, such as `3 step 1 = 1:seduce>2`. */
 export function readEntry(line) {
@@ -27,7 +27,8 @@ export function movesOf(entry) {
   });
 }
 
-/** The nodes that an entry speaks of: the ends of an edge, whose register a fault wrote, who moved, who was asked about. */
+/** The nodes that an entry speaks of: the ends of an edge, whose register a fault wrote, who came or went, who moved, who was
+ * asked about. */
 export function nodesOf(entry) {
   if (entry.kind === "step" && !entry.refused) {
     return movesOf(entry).map((move) => move.node);
@@ -37,13 +38,15 @@ export function nodesOf(entry) {
   return named.map((word) => Number(word.split(">")[0]));
 }
 
-/** A header and entries numbered from 1; an entry is read from its line when it is asked for. */
+/** A header and entries numbered from 1; an entry is read from its line when it is asked for. Names are 1 to `nodes`, of which
+ * the first are present at the start, `present` of them. */
 export class Transcript {
   constructor(text) {
     const end = text.indexOf("\n");
-    const [, rules, nodes] = /^matching (hh|manne) (\d+)$/.exec(text.slice(0, end));
+    const [, rules, nodes, present] = /^matching (hh|manne) (\d+)(?: (\d+))?$/.exec(text.slice(0, end));
     this.rules = rules;
     this.nodes = Number(nodes);
+    this.present = Number(present ?? nodes);
     this.text = text;
     this.starts = [end + 1];
     for (let at = text.indexOf("\n", end + 1); at >= 0; at = text.indexOf("\n", at + 1)) {

@@ -74,6 +74,9 @@ for (const { name, entry, text, picture } of picturesOfCases()) {
     const machine = replay.goTo(Number(entry ?? replay.transcript.length));
     const lines = ["graph matching {"];
     for (let v = 1; v <= machine.nodes; v += 1) {
+      if (!machine.here[v]) {
+        continue;
+      }
       const rule = machine.rule[v] ? `\\n${machine.rule[v]}` : "";
       lines.push(`${v} [label="${v}${rule}"${machine.isMarried(v) ? ", style=filled" : ""}];`);
     }
@@ -112,6 +115,28 @@ test("a step goes where its reply tells, and not to the least target", () => {
   const replay = new Replay(new Transcript("matching hh 3\n1 link 1 2 = ok\n2 link 2 3 = ok\n3 step 2 = 2:seduce>3\n4 step 3 = 3:marry>2\n"));
   assert.equal(pairsOf(replay.goTo(4)), "2-3");
   assert.equal(replay.goTo(3).pointer[2], 3);
+});
+
+test("nodes that come and go: who is there, the charge and the bound", () => {
+  const events = ["join 3 = ok", "link 1 3 = ok", "step 1 = 1:seduce>3", "step 3 = 3:marry>1", "leave 1 = ok", "leave 1 = refused 1 unknown-node"];
+  const text = ["matching hh 3 2", ...events.map((event, at) => `${at + 1} ${event}`), ""].join("\n");
+  const replay = new Replay(new Transcript(text));
+  assert.deepEqual([...replay.series.nodes], [2, 3, 3, 3, 3, 2, 2]);
+  assert.deepEqual([0, 1, 2, 3, 4, 5, 6].map((number) => replay.bound(number)), [2, 3, 5, 5, 5, 2, 2]);
+  assert.deepEqual([...replay.goTo(5).here], [0, 0, 1, 1]);
+  assert.equal(replay.goTo(6).status(0), "nodes=2 edges=0 pairs=0 enabled=0 charge=0 spent=0");
+  assert.deepEqual([...replay.goTo(0).here], [0, 1, 1, 0]);
+  assert.equal(pairsOf(replay.goTo(4)), "1-3");
+});
+
+test("a partner that leaves leaves an update, and its name comes back unflagged", () => {
+  const events = ["link 1 2 = ok", "step 1 = 1:seduce>2", "step 2 = 2:marry>1", "step 1 2 = 1:update 2:update", "leave 2 = ok", "join 2 = ok"];
+  const text = ["matching manne 2", ...events.map((event, at) => `${at + 1} ${event}`), ""].join("\n");
+  const replay = new Replay(new Transcript(text));
+  assert.equal(replay.goTo(5).status(0), "nodes=1 edges=0 pairs=0 enabled=1 charge=2 spent=0");
+  assert.equal(enabledOf(replay.machine), "1:update");
+  assert.equal(replay.goTo(6).status(0), "nodes=2 edges=0 pairs=0 enabled=1 charge=3 spent=0");
+  assert.equal(replay.machine.flag[2], 0);
 });
 
 test("README's first transcript", () => {

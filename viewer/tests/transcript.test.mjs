@@ -25,6 +25,8 @@ test("which entries disturb", () => {
   const lines = ["1 link 1 2 = ok", "2 unlink 1 2 = ok", "3 point 1 - = ok", "4 flag 1 0 = ok", "5 link 1 1 = refused 2 self-loop", "6 show 1 = -", "7 step 1 = 1:update"];
   assert.deepEqual(lines.map((line) => readEntry(line).disturbs), [true, true, true, true, false, false, false]);
   assert.equal(readEntry(lines[4]).refused, true);
+  const comings = ["1 join 2 = ok", "2 leave 2 = ok", "3 join 1 = refused 13 already-present", "4 leave 9 = refused 1 unknown-node"];
+  assert.deepEqual(comings.map((line) => readEntry(line).disturbs), [true, true, false, false]);
 });
 
 test("the moves of a step", () => {
@@ -48,4 +50,7 @@ test("a transcript's lines by number", () => {
   assert.deepEqual([transcript.rules, transcript.nodes, transcript.length], ["manne", 65535, 2]);
   assert.equal(transcript.entry(2).kind, "enabled");
   assert.equal(new Transcript("matching hh 0\n").length, 0);
+  assert.equal(transcript.present, 65535);
+  const some = new Transcript("matching hh 3 2\n1 join 3 = ok\n");
+  assert.deepEqual([some.nodes, some.present, some.length, nodesOf(some.entry(1))], [3, 2, 1, [3]]);
 });
