@@ -1,7 +1,7 @@
-//! Every network of up to three names, of which all or the first few are present, in every state and under every small choice:
-//! the engine against the plain machine, and the auditor's judge against both.
+//! Every network of up to three names, of which any are present, in every state and under every small choice: the engine
+//! against the plain machine, and the auditor's judge against both.
 //!
-//! A network has n names, of which the first p are present. The choices at n names have items of n + 1 names, the last of
+//! A network has n names, and those that are present have joined. The choices at n names have items of n + 1 names, the last of
 //! them above the capacity, each with no wish or one of these names: (n + 1)(n + 2) items i, so 1 + i + i·i choices of up
 //! to two, and 6 more of three at three names. There are 2 items and 7 choices at no name, 6 and 43 at one, 12 and 157 at
 //! two, and 20 and 421 + 6 = 427 at three.
@@ -9,7 +9,7 @@
 //! and at three 1 with no edge, 4 with one (3 networks), 12 with two (3 networks) and 27 with three: 76. With flags
 //! each counts twice for each node.
 
-ghost use Rattle.std.specs.Prelude.{◌≡◌, ◌<◌, ◌≤◌};
+ghost use Rattle.std.specs.Prelude.{◌<◌};
 
 use crate::helpers::named;
 use crate::machines::{Plain, moves_in, net_with, plain_with};
@@ -20,11 +20,14 @@ use rules_manne::Manne;
 use std::alloc::Global;
 use std::process::Abort;
 
-/// How many names a network has, and how many of them, the first, are present.
+/// The names, each with its bit in a set of those that are present.
+const BITS: [(u32, u8); 3] = [(1, 1), (2, 2), (3, 4)];
+
+/// How many names a network has, and which of them are present: a bit for each, the lowest for the first.
 #[derive(Clone, Copy)]
 struct Names {
     all: u8,
-    present: u8,
+    here: u8,
 }
 
 /// What kind of reply came.
@@ -48,21 +51,13 @@ struct Twins<R: Rules> {
 }
 
 impl<R: Rules> Twins<R> {
-    /// Two networks without an edge.
-    fn new(rt: &impl Abort, alloc: Global, rules: RuleSet, names: Names, edges: u32) -> Twins<R>
-        requires { names.present ≤ names.all }
-    {
-        let (all, present) = (u32::from(names.all), u32::from(names.present));
-        let judge = Judge::with_present(alloc, all, present);
+    /// Two networks without a node.
+    fn new(rt: &impl Abort, alloc: Global, rules: RuleSet, names: Names, edges: u32) -> Twins<R> {
+        let all = u32::from(names.all);
+        let judge = Judge::with_present(alloc, all, 0);
         Twins {
-            net: net_with(rt, alloc, all, present),
-            plain: plain_with(
-                rt,
-                alloc,
-                rules,
-                u16::from(names.all),
-                u16::from(names.present),
-            ),
+            net: net_with(rt, alloc, all, 0),
+            plain: plain_with(rt, alloc, rules, u16::from(names.all), 0),
             judge: judge.expect(rt, "memory"),
             names,
             edges,
@@ -105,6 +100,16 @@ impl<R: Rules> Twins<R> {
         self.ask(rt, alloc, event) == Kind::Accepted
     }
 
+    /// Lets the names join that are present.
+    fn join(&mut self, rt: &impl Abort, alloc: Global) {
+        let here = self.names.here;
+        for (name, bit) in BITS {
+            if here / bit % 2 == 1 {
+                assert!(rt; self.change(rt, alloc, Event::Join(named(rt, name))));
+            }
+        }
+    }
+
     /// Links the nodes: a bit for each of the edges 1-2, 1-3 and 2-3. Says whether these are edges of its nodes.
     fn link(&mut self, rt: &impl Abort, alloc: Global) -> bool {
         let edges = self.edges;
@@ -119,19 +124,27 @@ impl<R: Rules> Twins<R> {
 
     /// Writes the registers. Says whether each pointer is null or at a neighbour, and all digits are of its nodes.
     fn set(&mut self, rt: &impl Abort, alloc: Global) -> bool {
-        let mut rest = self.state;
-        for name in 1..=u32::from(self.names.present) {
-            let v = named(rt, name);
-            if !self.change(rt, alloc, Event::Point(v, Node::new(rest % 4))) {
+        let (mut rest, here) = (self.state, self.names.here);
+        for (name, bit) in BITS {
+            if here / bit % 2 == 1 && !self.write(rt, alloc, name, &mut rest) {
                 return false;
-            }
-            rest /= 4;
-            if R::FLAGS {
-                assert!(rt; self.change(rt, alloc, Event::Flag(v, rest % 2 == 1)));
-                rest /= 2;
             }
         }
         rest == 0
+    }
+
+    /// Writes the registers of a node by the next digits. Says whether its pointer is null or at a neighbour.
+    fn write(&mut self, rt: &impl Abort, alloc: Global, name: u32, rest: &mut u32) -> bool {
+        let v = named(rt, name);
+        if !self.change(rt, alloc, Event::Point(v, Node::new(*rest % 4))) {
+            return false;
+        }
+        *rest /= 4;
+        if R::FLAGS {
+            assert!(rt; self.change(rt, alloc, Event::Flag(v, *rest % 2 == 1)));
+            *rest /= 2;
+        }
+        true
     }
 
     /// Looks at every pointer, the enabled nodes, the matching and the numbers.
@@ -254,10 +267,9 @@ fn try_network<R: Rules>(
     rules: RuleSet,
     names: Names,
     edges: u32,
-) -> u64
-    requires { names.present ≤ names.all }
-{
+) -> u64 {
     let mut twins = Twins::<R>::new(rt, alloc, rules, names, edges);
+    twins.join(rt, alloc);
     if !twins.link(rt, alloc) {
         return 0;
     }
@@ -277,106 +289,104 @@ fn try_networks<R: Rules>(
     names: Names,
     count: u32,
     wanted: u64,
-)
-    requires { names.present ≤ names.all }
-{
+) {
     let mut tried = 0u64;
     for edges in 0..8u32 {
         if edges.count_ones() == count {
             tried = tried.wrapping_add(try_network::<R>(rt, alloc, rules, names, edges));
         }
     }
-    let (all, present) = (names.all, names.present);
+    let (all, here) = (names.all, names.here);
     assert!(rt;
         tried == wanted,
-        "{tried} choices at {present} of {all} names and {count} edges"
+        "{tried} choices at the set {here} of {all} names and {count} edges"
     );
 }
 
-fn try_hsu_huang(rt: &impl Abort, alloc: Global, names: Names, count: u32, wanted: u64)
-    requires { names.present ≤ names.all }
-{
+fn try_hsu_huang(rt: &impl Abort, alloc: Global, names: Names, count: u32, wanted: u64) {
     try_networks::<HsuHuang>(rt, alloc, RuleSet::Hh, names, count, wanted);
 }
 
-fn try_manne(rt: &impl Abort, alloc: Global, names: Names, count: u32, wanted: u64)
-    requires { names.present ≤ names.all }
-{
+fn try_manne(rt: &impl Abort, alloc: Global, names: Names, count: u32, wanted: u64) {
     try_networks::<Manne>(rt, alloc, RuleSet::Manne, names, count, wanted);
 }
 
-/// So many names, all present.
-fn all_of(all: u8) -> Names
-    ensures { result ≡ record { all = all; present = all } }
-{
-    Names { all, present: all }
-}
-
-/// So many names, of which the first are present.
-fn first_of(all: u8, present: u8) -> Names
-    ensures { result ≡ record { all = all; present = present } }
-{
-    Names { all, present }
+/// So many names, of which these are present.
+fn some_of(all: u8, here: u8) -> Names {
+    Names { all, here }
 }
 
 #[test]
 fn hsu_huang_up_to_two_nodes(rt: HostRuntime) {
-    try_hsu_huang(&rt, rt.alloc(), all_of(0), 0, 7);
-    try_hsu_huang(&rt, rt.alloc(), all_of(1), 0, 43);
-    try_hsu_huang(&rt, rt.alloc(), all_of(2), 0, 157);
-    try_hsu_huang(&rt, rt.alloc(), all_of(2), 1, 4 * 157);
+    try_hsu_huang(&rt, rt.alloc(), some_of(0, 0), 0, 7);
+    try_hsu_huang(&rt, rt.alloc(), some_of(1, 1), 0, 43);
+    try_hsu_huang(&rt, rt.alloc(), some_of(2, 3), 0, 157);
+    try_hsu_huang(&rt, rt.alloc(), some_of(2, 3), 1, 4 * 157);
 }
 
 #[test]
 fn hsu_huang_three_nodes(rt: HostRuntime) {
-    try_hsu_huang(&rt, rt.alloc(), all_of(3), 0, 427);
-    try_hsu_huang(&rt, rt.alloc(), all_of(3), 1, 3 * 4 * 427);
-    try_hsu_huang(&rt, rt.alloc(), all_of(3), 2, 3 * 12 * 427);
-    try_hsu_huang(&rt, rt.alloc(), all_of(3), 3, 27 * 427);
+    try_hsu_huang(&rt, rt.alloc(), some_of(3, 7), 0, 427);
+    try_hsu_huang(&rt, rt.alloc(), some_of(3, 7), 1, 3 * 4 * 427);
+    try_hsu_huang(&rt, rt.alloc(), some_of(3, 7), 2, 3 * 12 * 427);
+    try_hsu_huang(&rt, rt.alloc(), some_of(3, 7), 3, 27 * 427);
 }
 
 #[test]
 fn manne_up_to_two_nodes(rt: HostRuntime) {
-    try_manne(&rt, rt.alloc(), all_of(0), 0, 7);
-    try_manne(&rt, rt.alloc(), all_of(1), 0, 2 * 43);
-    try_manne(&rt, rt.alloc(), all_of(2), 0, 4 * 157);
-    try_manne(&rt, rt.alloc(), all_of(2), 1, 4 * 4 * 157);
+    try_manne(&rt, rt.alloc(), some_of(0, 0), 0, 7);
+    try_manne(&rt, rt.alloc(), some_of(1, 1), 0, 2 * 43);
+    try_manne(&rt, rt.alloc(), some_of(2, 3), 0, 4 * 157);
+    try_manne(&rt, rt.alloc(), some_of(2, 3), 1, 4 * 4 * 157);
 }
 
 #[test]
 fn manne_three_nodes_no_edge_or_one(rt: HostRuntime) {
-    try_manne(&rt, rt.alloc(), all_of(3), 0, 8 * 427);
-    try_manne(&rt, rt.alloc(), all_of(3), 1, 3 * 4 * 8 * 427);
+    try_manne(&rt, rt.alloc(), some_of(3, 7), 0, 8 * 427);
+    try_manne(&rt, rt.alloc(), some_of(3, 7), 1, 3 * 4 * 8 * 427);
 }
 
 #[test]
 fn manne_three_nodes_two_edges(rt: HostRuntime) {
-    try_manne(&rt, rt.alloc(), all_of(3), 2, 3 * 12 * 8 * 427);
+    try_manne(&rt, rt.alloc(), some_of(3, 7), 2, 3 * 12 * 8 * 427);
 }
 
 #[test]
 fn manne_three_nodes_three_edges(rt: HostRuntime) {
-    try_manne(&rt, rt.alloc(), all_of(3), 3, 27 * 8 * 427);
+    try_manne(&rt, rt.alloc(), some_of(3, 7), 3, 27 * 8 * 427);
 }
 
 #[test]
 fn hsu_huang_some_absent(rt: HostRuntime) {
-    try_hsu_huang(&rt, rt.alloc(), first_of(1, 0), 0, 43);
-    try_hsu_huang(&rt, rt.alloc(), first_of(2, 0), 0, 157);
-    try_hsu_huang(&rt, rt.alloc(), first_of(2, 1), 0, 157);
-    try_hsu_huang(&rt, rt.alloc(), first_of(3, 0), 0, 427);
-    try_hsu_huang(&rt, rt.alloc(), first_of(3, 1), 0, 427);
-    try_hsu_huang(&rt, rt.alloc(), first_of(3, 2), 0, 427);
-    try_hsu_huang(&rt, rt.alloc(), first_of(3, 2), 1, 4 * 427);
+    try_hsu_huang(&rt, rt.alloc(), some_of(1, 0), 0, 43);
+    for here in 0..3 {
+        try_hsu_huang(&rt, rt.alloc(), some_of(2, here), 0, 157);
+    }
+    for here in 0..7 {
+        try_hsu_huang(&rt, rt.alloc(), some_of(3, here), 0, 427);
+    }
+    for here in [3, 5, 6] {
+        try_hsu_huang(&rt, rt.alloc(), some_of(3, here), 1, 4 * 427);
+    }
 }
 
 #[test]
-fn manne_some_absent(rt: HostRuntime) {
-    try_manne(&rt, rt.alloc(), first_of(1, 0), 0, 43);
-    try_manne(&rt, rt.alloc(), first_of(2, 0), 0, 157);
-    try_manne(&rt, rt.alloc(), first_of(2, 1), 0, 2 * 157);
-    try_manne(&rt, rt.alloc(), first_of(3, 0), 0, 427);
-    try_manne(&rt, rt.alloc(), first_of(3, 1), 0, 2 * 427);
-    try_manne(&rt, rt.alloc(), first_of(3, 2), 0, 4 * 427);
-    try_manne(&rt, rt.alloc(), first_of(3, 2), 1, 4 * 4 * 427);
+fn manne_nobody_or_one(rt: HostRuntime) {
+    try_manne(&rt, rt.alloc(), some_of(1, 0), 0, 43);
+    try_manne(&rt, rt.alloc(), some_of(2, 0), 0, 157);
+    try_manne(&rt, rt.alloc(), some_of(3, 0), 0, 427);
+    for here in [1, 2] {
+        try_manne(&rt, rt.alloc(), some_of(2, here), 0, 2 * 157);
+    }
+    for here in [1, 2, 4] {
+        try_manne(&rt, rt.alloc(), some_of(3, here), 0, 2 * 427);
+    }
+}
+
+#[test]
+fn manne_two_of_three(rt: HostRuntime) {
+    for here in [3, 5, 6] {
+        try_manne(&rt, rt.alloc(), some_of(3, here), 0, 4 * 427);
+        try_manne(&rt, rt.alloc(), some_of(3, here), 1, 4 * 4 * 427);
+    }
 }
