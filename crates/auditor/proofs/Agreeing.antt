@@ -15,7 +15,7 @@ use Rattle.auditor.specs.Transcript.{IsEntry}
 use Rattle.auditor.specs.Damage.{first_line}
 use Rattle.auditor.proofs.Cutting.{onto_line-front}
 use Rattle.auditor.proofs.Feedless.{entry_free}
-use Rattle.auditor.proofs.Determined.{answers_once}
+use Rattle.machine_laws.specs.Determined.{answers_once}
 
 -- a text without a line feed is the first line where one follows it
 pub first_line-free : (line rest : List ℕ) → IsFree 10 line → first_line (line ++ 10 ∷ rest) ≡ Some (line, rest)

@@ -18,7 +18,7 @@ use Rattle.auditor.specs.Transcript.{IsEntry}
 use Rattle.auditor.specs.Damage.{Follows, first_line}
 use Rattle.auditor.specs.Reached.{EndsAt, IsStateAfter}
 use Rattle.auditor.specs.Epochs.{AreEpochs}
-use Rattle.auditor.proofs.Determined.{answers_once}
+use Rattle.machine_laws.specs.Determined.{answers_once}
 use Rattle.auditor.proofs.Agreeing.{first_entry}
 use Rattle.auditor.proofs.Ending.{Ended, begun, same_beginning, ended_once, run_once}
 

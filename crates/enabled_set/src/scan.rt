@@ -8,6 +8,7 @@ use crate::word::{Spot, bit_is_set, next_bit};
 use rule_machine::{Node, Want};
 
 /// The word at a place; 0 past the end.
+#[inline(always)]
 pub fn word_at(words: &[u64], place: usize) -> u64
     ensures { result ≡ slice_index words.now place }
 {
@@ -18,6 +19,7 @@ pub fn word_at(words: &[u64], place: usize) -> u64
 }
 
 /// Whether the words have the bit of a place.
+#[inline(always)]
 pub fn look(words: &[u64], place: usize) -> bool
     ensures { result ≡ is_on words.now place }
 {

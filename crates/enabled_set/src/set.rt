@@ -53,6 +53,7 @@ impl EnabledSet {
     }
 
     /// Whether a name is a member; `false` for a name that has no place. One look.
+    #[inline(always)]
     pub fn contains(&self, v: Node) -> bool
         ensures { result ≡ is_in self.now v }
     {

@@ -5,6 +5,7 @@ ghost use Rattle.enabled_set.specs.Words.{has_bit};
 ghost use Rattle.enabled_set.specs.Counts.{tally};
 
 /// Whether a word has a bit.
+#[inline(always)]
 pub fn bit_is_set(word: u64, at: usize) -> bool
     requires { at < 64 }
     ensures { result ≡ has_bit word at }

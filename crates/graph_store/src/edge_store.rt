@@ -103,6 +103,7 @@ impl EdgeStore {
     }
 
     /// Whether this is a node of the graph: a name up to the capacity that is present. One look at one bit.
+    #[inline(always)]
     pub fn has(&self, node: Node) -> bool
         ensures { result ≡ present self.now.network node }
     {

@@ -1,3 +1,2 @@
 pub mod Partners
 pub mod Edges
-pub mod Leaving

@@ -1,5 +1,5 @@
 -- What a network has after an edge was added or removed.
-use Rattle.std.proofs.Common.{[], ◌∷◌, List, ◌≡◌, ℕ, ◌+◌, ◌<◌, ◌≤◌, nat_le, nat_eq, leb-true, le-leb, get_or, min, max, Bool, true, false, cond, not, ◌&&◌, ◌||◌, Option, None, Some, is_some, IsTrue, refl, sym, ap, ap₂, ◌∙◌, subst, ◌⊎◌, inl, inr, ⊎_elim, arith, set}
+use Rattle.std.proofs.Common.{[], ◌∷◌, List, ◌≡◌, ℕ, ◌+◌, ◌<◌, ◌≤◌, nat_le, nat_eq, leb-true, get_or, min, max, Bool, true, false, cond, not, ◌&&◌, ◌||◌, Option, None, Some, is_some, IsTrue, refl, sym, ap, ap₂, ◌∙◌, subst, ◌⊎◌, inl, inr, ⊎_elim, arith, set}
 use Rattle.std.specs.Ordering.{nat_cmp, eq_by_cmp}
 use Rattle.std.specs.Cmp.{IsTotalOrder, nat_cmp_total}
 use Rattle.std.specs.FinMap as map

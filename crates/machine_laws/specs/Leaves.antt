@@ -1,6 +1,5 @@
 -- A node that leaves: its edges go one by one, and then its name.
-use Rattle.std.proofs.Common.{◌≡◌, ℕ, ◌+◌, ◌<◌, ◌≤◌, min, max, Bool, true, false, cond, not, ◌&&◌, ◌||◌, List, [], ◌∷◌, length, map, set, fold, filter, find, nat_eq, Option, None, Some, is_some, IsTrue, refl, sym, ap, ap₂, ◌∙◌, subst, inl, inr, ⊎_elim, ◌⊎◌, arith, get_or}
-use Rattle.std.specs.List.{range_with_len}
+use Rattle.std.proofs.Common.{◌≡◌, ℕ, ◌<◌, ◌≤◌, min, max, Bool, true, false, cond, not, ◌&&◌, ◌||◌, List, [], ◌∷◌, length, map, set, fold, find, nat_eq, Option, None, Some, is_some, IsTrue, refl, sym, ap, ap₂, ◌∙◌, ⊎_elim, arith, get_or}
 use Rattle.std.specs.FinMap as finmap
 use Rattle.std.proofs.lemmas.Bool.{cases_Bool, cases_eq, cases_lt, and_parts, and_from, or_cases, true≢false, eqb-true, eq-eqb, false_from_ne_true}
 use Rattle.std.specs.Cmp.{both_ways}
@@ -8,14 +7,12 @@ use Rattle.std.proofs.Math.ListN.{get_or-map}
 use Rattle.std.proofs.lemmas.List.{ext_get_or, length-set, length-map, get_or-set_other}
 use Rattle.std.specs.Ordering.{eq_by_cmp}
 use Rattle.std.proofs.lemmas.Cmp.{eq_by_cmp_equiv}
-use Rattle.std.proofs.lemmas.Map.Views.{tells_apart}
-use Rattle.rule_machine.specs.Network.{Network, PairSet, IsNetwork, pair_cmp, present, names, neighbours, linked, edge, is_end, without_edge, without_node}
+use Rattle.rule_machine.specs.Network.{pair_cmp, neighbours, linked, edge, is_end}
 use Rattle.rule_machine.specs.State.{State, Registers, IsState, is_at, points, pointer, pointer_of, with_pointer, with_flag}
-use Rattle.rule_machine.specs.Disturbance.{after_unlink, after_leave, without_pointer, unless_at, without_name}
-use Rattle.machine_laws.specs.Search.{find-filter}
-use Rattle.machine_laws.specs.Neighbours.{option_cases, linked_back, near_found}
-use Rattle.machine_laws.specs.Edges.{pair_total, pair_exact, contains-remove, removed_was, still_removed, contains-without, edge_comm}
-use Rattle.machine_laws.specs.Writes.{if_some_at, cleared, some_from_is_at, is_at_from_some, pointer-with_pointer_other, without_pointer_was, without_pointer_flags, without_pointer_len}
+use Rattle.rule_machine.specs.Disturbance.{after_unlink, after_leave, without_pointer, unless_at}
+use Rattle.machine_laws.specs.Neighbours.{linked_back, near_found}
+use Rattle.machine_laws.specs.Edges.{pair_total, pair_exact, contains-remove, removed_was, still_removed, contains-without}
+use Rattle.machine_laws.specs.Writes.{if_some_at, cleared, some_from_is_at, pointer-with_pointer_other, without_pointer_was, without_pointer_flags, without_pointer_len}
 use Rattle.machine_laws.specs.Keeps.{unlink_keeps}
 
 -- the edges between a node and these go, one after another

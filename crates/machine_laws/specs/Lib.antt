@@ -18,3 +18,5 @@ pub mod Passes
 pub mod Pairs
 pub mod Laws
 pub mod Leaves
+pub mod Parted
+pub mod Determined

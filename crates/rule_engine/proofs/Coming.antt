@@ -14,7 +14,7 @@ use Rattle.machine_laws.specs.Keeps.{join_keeps, leave_keeps}
 use Rattle.machine_laws.specs.Leaves.{after_parting}
 use Rattle.machine_laws.specs.Neighbours.{linked_apart, linked_back, linked_present, neighbours_range, present_range}
 use Rattle.machine_laws.specs.Writes.{flag-with_flag_other}
-use Rattle.indexed_state.proofs.Leaving.{no_edge}
+use Rattle.machine_laws.specs.Parted.{no_edge}
 use Rattle.rule_engine.specs.Kept.{is_on, IsKept}
 use Rattle.rule_engine.specs.Looked.{IsLookedAt}
 use Rattle.rule_engine.proofs.Again.{IsLocal, kept_again}
@@ -58,10 +58,6 @@ edge_unlinks net v w good there =
     linked_ends net v w good there (both_present net v w) (nat_eq v w)
     (and_from (present net v) (present net w) (linked_present net v w good there) (linked_present net w v good (linked_back net w v ∙ there)))
     (ne_eqb v w (linked_apart net v w good there))
-
-pub match_first : (o : Option ℕ) (N : Type 0) (P Q : ℕ → Type 0) → MatchOption o N (λ w. P w × Q w) → MatchOption o N P
-match_first None N P Q is = is
-match_first (Some w) N P Q is = is.0
 
 pub edges_unlink : (net : Network) (v : ℕ) (o : Option ℕ) → IsNetwork net → MatchOption o (neighbours net v ≡ []) (λ w. IsTrue (linked net v w)) → IfSome o (λ w. unlink_refusal net v w ≡ None)
 edges_unlink net v None good is = tt

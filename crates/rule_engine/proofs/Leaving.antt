@@ -18,7 +18,7 @@ use Rattle.machine_laws.specs.Edges.{linked_comm, present_other}
 use Rattle.machine_laws.specs.Keeps.{leave_keeps}
 use Rattle.machine_laws.specs.Leaves.{after_parting}
 use Rattle.machine_laws.specs.Neighbours.{present_range}
-use Rattle.indexed_state.proofs.Leaving.{no_edge}
+use Rattle.machine_laws.specs.Parted.{no_edge}
 use Rattle.enabled_set.specs.Members.{is_in}
 use Rattle.rule_engine.specs.Kept.{is_on, AreOn, AreOnBut, IsKept}
 use Rattle.rule_engine.specs.Looked.{is_near, IsLookedAt}

@@ -1,7 +1,7 @@
 use Rattle.std.proofs.Common.{◌≡◌, ◌∙◌, ℕ, List, [], IsTrue, MatchOption, ap, subst}
 use Rattle.rule_machine.specs.Network.{Network, neighbours, linked}
-use Rattle.indexed_state.proofs.Leaving.{last_passes}
-use Rattle.rule_engine.proofs.Coming.{edges_unlink, match_first}
+use Rattle.machine_laws.specs.Parted.{last_passes}
+use Rattle.rule_engine.proofs.Coming.{edges_unlink}
 use Rattle.rule_engine.proofs.parting.last_neighbour.Goals as goal
 
 pub returns-clause-last : goal.returns-clause-last
@@ -10,8 +10,7 @@ returns-clause-last g c =
     let o = c.copied.result in
     let net : Network = c.store.result.now.network in
     let nodes = c.neighbours.result.now in
-    let both = last_passes nodes o (λ w. IsTrue (linked net v w)) (λ w. IsTrue (linked net v w)) (c.copied.ensures ∙ c.last.ensures.value) c.neighbours.ensures.linked c.neighbours.ensures.linked in
-    let last = match_first o (nodes ≡ []) (λ w. IsTrue (linked net v w)) (λ w. IsTrue (linked net v w)) both in
+    let last = last_passes nodes o (λ w. IsTrue (linked net v w)) (c.copied.ensures ∙ c.last.ensures.value) c.neighbours.ensures.linked in
     subst (λ (n : Network). MatchOption o (neighbours n v ≡ []) (λ w. IsTrue (linked n v w))) c.store.ensures.value
     (subst (λ (list : List ℕ). MatchOption o (list ≡ []) (λ w. IsTrue (linked net v w))) c.neighbours.ensures.all last)
 

@@ -2,7 +2,7 @@ use Rattle.std.proofs.Common.{◌<◌, IsTrue, sym, ap, subst, ◌∙◌}
 use Rattle.rule_machine.specs.Network.{present, edge_count}
 use Rattle.rule_machine.specs.State.{State}
 use Rattle.rule_machine.specs.Disturbance.{after_leave}
-use Rattle.indexed_state.proofs.Leaving.{leave_after_unlink, fewer_edges}
+use Rattle.machine_laws.specs.Parted.{leave_after_unlink, fewer_edges}
 use Rattle.rule_engine.proofs.parting.unlink_all.Goals as goal
 
 pub loop-w-preserved : goal.loop-w-preserved

@@ -4,7 +4,7 @@ use Rattle.rule_machine.specs.State.{Registers, IsState, flag, flag_of}
 use Rattle.suitor_index.proofs.Nodes.{index_parted}
 use Rattle.suitor_index.specs.Tallies.{state_of, IsIndexOf}
 use Rattle.indexed_state.specs.Indexed.{Indexed}
-use Rattle.indexed_state.proofs.Leaving.{parted_is_state}
+use Rattle.machine_laws.specs.Parted.{parted_is_state}
 use Rattle.indexed_state.proofs.state.IndexedState.free_name.Goals as goal
 
 pub invariant_of-self : goal.invariant_of-self

@@ -2,7 +2,7 @@ use Rattle.std.proofs.Common.{◌≡◌, ℕ, false, set, ap, subst, ◌∙◌}
 use Rattle.rule_machine.specs.State.{State, IsState, flag}
 use Rattle.rule_machine.specs.Disturbance.{after_flag}
 use Rattle.machine_laws.specs.Leaves.{after_parting}
-use Rattle.indexed_state.proofs.Leaving.{lowered, lowered_leaves}
+use Rattle.machine_laws.specs.Parted.{lowered, lowered_leaves}
 use Rattle.indexed_state.proofs.state.IndexedState.part.Goals as goal
 
 pub free_name-requires-clause-unflagged : goal.free_name-requires-clause-unflagged

@@ -2,7 +2,7 @@ use Rattle.std.proofs.Common.{◌≡◌, [], false, sym, subst}
 use Rattle.rule_machine.specs.Network.{Network, neighbours}
 use Rattle.rule_machine.specs.State.{State, Registers, IsState, flag, flag_of}
 use Rattle.judge.specs.States.{state_of}
-use Rattle.judge.proofs.Leaving.{parted_is_state}
+use Rattle.machine_laws.specs.Parted.{parted_is_state}
 use Rattle.judge.proofs.net_state.NetState.free_name.Goals as goal
 
 pub invariant_of-self : goal.invariant_of-self

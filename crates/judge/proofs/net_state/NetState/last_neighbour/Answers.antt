@@ -1,7 +1,7 @@
 use Rattle.std.proofs.Common.{◌≡◌, ◌∙◌, List, ℕ, [], IsTrue, MatchOption, subst}
 use Rattle.rule_machine.specs.Network.{Network, neighbours, linked}
 use Rattle.rule_machine.specs.State.{State}
-use Rattle.judge.proofs.Leaving.{last_passes}
+use Rattle.machine_laws.specs.Parted.{last_passes}
 use Rattle.judge.proofs.net_state.NetState.last_neighbour.Goals as goal
 
 pub returns-clause-last : goal.returns-clause-last

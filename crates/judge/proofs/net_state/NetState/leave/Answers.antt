@@ -1,7 +1,7 @@
 use Rattle.std.proofs.Common.{◌∙◌, ap, subst}
 use Rattle.rule_machine.specs.State.{State, IsState, flag}
 use Rattle.judge.specs.States.{without_place}
-use Rattle.judge.proofs.Leaving.{lowered, lowered_leaves}
+use Rattle.machine_laws.specs.Parted.{lowered, lowered_leaves}
 use Rattle.judge.proofs.net_state.NetState.leave.Goals as goal
 
 pub free_name-requires-clause-unflagged : goal.free_name-requires-clause-unflagged

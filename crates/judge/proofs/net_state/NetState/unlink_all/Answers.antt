@@ -2,7 +2,8 @@ use Rattle.std.proofs.Common.{◌<◌, IsTrue, sym, ap, subst, ◌∙◌}
 use Rattle.rule_machine.specs.Network.{present, edge_count}
 use Rattle.rule_machine.specs.State.{State}
 use Rattle.rule_machine.specs.Disturbance.{after_leave}
-use Rattle.judge.proofs.Leaving.{may_unlink, leave_after_unlink, fewer_edges}
+use Rattle.machine_laws.specs.Parted.{leave_after_unlink, fewer_edges}
+use Rattle.judge.proofs.Leaving.{may_unlink}
 use Rattle.judge.proofs.net_state.NetState.unlink_all.Goals as goal
 
 pub unlink-requires : goal.unlink-requires

@@ -1,4 +1,4 @@
--- A node that leaves: its edges go one by one, in any order, and then its name.
+-- The last steps of a node that leaves: an edge at a time, then its flag, then its name.
 use Rattle.std.proofs.Common.{◌≡◌, ◌≢◌, ℕ, ◌-◌, ◌<◌, ◌≤◌, true, false, cond, List, [], ◌∷◌, set, length, find, Option, IsTrue, MatchOption, All, slice_get, refl, sym, ap, ◌∙◌, subst, ⊎_elim, arith}
 use Rattle.std.specs.FinMap as map
 use Rattle.std.proofs.lemmas.Bool.{cases_lt, false_from_ne_true, true≢false}
@@ -12,7 +12,6 @@ use Rattle.machine_laws.specs.Edges.{pair_total, contains-empty, present_other, 
 use Rattle.machine_laws.specs.Neighbours.{near_none}
 use Rattle.machine_laws.specs.Keeps.{unlink_keeps}
 use Rattle.machine_laws.specs.Leaves.{after_parting, none_left, leaves_by_unlinks}
-use Rattle.suitor_index.specs.Tallies.{state_of}
 
 -- a node without neighbours is linked to none
 pub no_edge : (net : Network) (v : ℕ) → IsNetwork net → neighbours net v ≡ [] → (w : ℕ) → linked net v w ≡ false
@@ -48,9 +47,9 @@ lowered r v =
     (cases_lt v (length r.flags))
 
 -- a state whose node without an edge and with its flag false is absent then
-pub parted_is_state : (net : Network) (r : Registers) (v : ℕ) → IsState (state_of net r) → neighbours net v ≡ [] → flag_of r v ≡ false → IsState (state_of (record net { here = set net.here v false }) r)
+pub parted_is_state : (net : Network) (r : Registers) (v : ℕ) → IsState (record { network = net; registers = r }) → neighbours net v ≡ [] → flag_of r v ≡ false → IsState (record { network = record net { here = set net.here v false }; registers = r })
 parted_is_state net r v good none unflagged = record {
-  is_network = subst IsNetwork (ap (λ (s : State). s.network) (part_leaves (state_of net r) v good none)) (without_node_is_network net v good.is_network);
+  is_network = subst IsNetwork (ap (λ (s : State). s.network) (part_leaves (record { network = net; registers = r }) v good none)) (without_node_is_network net v good.is_network);
   pointers_len = good.pointers_len;
   flags_len = good.flags_len;
   neighbourly = good.neighbourly;
@@ -71,10 +70,13 @@ fewer_edges net a b there =
     (cases_lt 0 (edge_count net))
 
 -- the last of some nodes, if there is one, is what they all are
-pub last_passes : (nodes : List ℕ) (o : Option ℕ) (P Q : ℕ → Type 0) → o ≡ slice_get nodes (length nodes - 1) → All P nodes → All Q nodes → MatchOption o (nodes ≡ []) (λ w. P w × Q w)
-last_passes [] o P Q found p q = subst (λ r. MatchOption r (◌≡◌ {A = List ℕ} [] []) (λ w. P w × Q w)) (sym found) refl
-last_passes (x ∷ xs) o P Q found p q =
+pub last_passes : (nodes : List ℕ) (o : Option ℕ) (P : ℕ → Type 0) → o ≡ slice_get nodes (length nodes - 1) → All P nodes → MatchOption o (nodes ≡ []) P
+last_passes [] o P found all = subst (λ r. MatchOption r (◌≡◌ {A = List ℕ} [] []) P) (sym found) refl
+last_passes (x ∷ xs) o P found all =
     let i : ℕ = length (x ∷ xs) - 1 in
     let inside : i < length (x ∷ xs) = omega arith in
-    subst (λ r. MatchOption r ((x ∷ xs) ≡ []) (λ w. P w × Q w)) (sym (found ∙ slice_get-get_or (x ∷ xs) i 0 inside))
-    (All-get_or P (x ∷ xs) i 0 inside p, All-get_or Q (x ∷ xs) i 0 inside q)
+    subst (λ r. MatchOption r ((x ∷ xs) ≡ []) P) (sym (found ∙ slice_get-get_or (x ∷ xs) i 0 inside)) (All-get_or P (x ∷ xs) i 0 inside all)
+
+-- what is both one thing and another
+pub all_both : (nodes : List ℕ) (P Q : ℕ → Type 0) → All P nodes → All Q nodes → All (λ w. P w × Q w) nodes
+all_both nodes P Q p q = λ i d inside. (p i d inside, q i d inside)
