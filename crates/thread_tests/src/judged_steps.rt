@@ -2,13 +2,12 @@
 
 use crate::clerks::{clerk_of, expect_link, expect_log, shared};
 use crate::helpers::{TwoGuards, named};
-use locked_net::{CallFault, Clerk, LockedNet, StepFault};
+use locked_net::{Clerk, LockedNet, StepFault};
 use rule_engine::{Act, Choice, Event, Item, Moved, Reply};
 use rules_manne::Manne;
 use std::alloc::Global;
 use std::process::Abort;
 use std::sync::Wait;
-use steal_pool::{NoGate, PoolFault};
 
 /// A star with three ends, the last of which is flagged, and the clerk that made it.
 fn flagged_star<W: Wait + Abort>(rt: &W, alloc: Global) -> (LockedNet<Manne>, Clerk) {
@@ -61,26 +60,4 @@ fn two_workers_judge_a_step_at_once(rt: HostRuntime) {
     assert!(rt; gate.is_met());
     assert!(rt; clerk.front() == 5);
     expect_log(&rt, net, 5);
-}
-
-#[test]
-fn no_workers_judge_nothing(rt: HostRuntime) {
-    let (net, mut clerk) = flagged_star(&rt, rt.alloc());
-    let choice = end_and_centre(&rt, rt.alloc());
-    let told = clerk.step_with(&rt, &net, choice, 0, &NoGate);
-    assert!(rt; told == Err(StepFault::Pool(PoolFault::ZeroWorkers)));
-    assert!(rt; clerk.receipts().len() == 4);
-    expect_log(&rt, net, 4);
-}
-
-#[test]
-fn a_clerk_behind_is_told_before_its_workers_are_counted(rt: HostRuntime) {
-    let (net, mut clerk) = flagged_star(&rt, rt.alloc());
-    let new = shared::<Manne>(&rt, rt.alloc(), 4, 9);
-    let choice = end_and_centre(&rt, rt.alloc());
-    let behind = StepFault::Call(CallFault::Behind { front: 0, seen: 4 });
-    let told = clerk.step_with(&rt, &new, choice, 0, &NoGate);
-    assert!(rt; told == Err(behind));
-    expect_log(&rt, new, 0);
-    expect_log(&rt, net, 4);
 }

@@ -1,9 +1,6 @@
-//! Tests of what threads share: boards and networks and their readers, clerks of one network and those that roam, and workers that share a
-//! choice.
+//! Tests of threads that meet: clerks of one network and a reader beside them, clerks that roam, and workers that share a choice.
 #![tactic(auto)]
 
-#[cfg(test)]
-mod boards;
 #[cfg(test)]
 mod clerks;
 #[cfg(test)]
@@ -16,7 +13,5 @@ mod pool;
 mod readers;
 #[cfg(test)]
 mod roaming;
-#[cfg(test)]
-mod turns;
 #[cfg(test)]
 mod two_threads;

@@ -8,7 +8,7 @@ use std::process::Abort;
 use std::sync::Wait;
 use std::sync::atomic::{AtomicU64, Ordering};
 use std::thread::Threads;
-use steal_pool::{Gate, NoGate, PoolFault, evaluate, hands, merge};
+use steal_pool::{Gate, evaluate};
 
 /// The choice of these names, in this order.
 fn choice_of(rt: &impl Abort, alloc: Global, names: &[u32]) -> Choice {
@@ -53,80 +53,21 @@ fn expect_star(rt: &impl Abort, verdicts: &[Verdict]) {
     assert!(rt; verdicts[1] == moves(rt, 1, 1, Act::Seduce, 3));
 }
 
-/// Evaluates a choice on the star.
+/// What two workers find of the choice `4 1` on the star.
 fn on_a_star<G: Gate + Sync, T: Threads + Wait + Sync + Abort>(
     rt: &T,
     alloc: Global,
-    names: &[u32],
-    workers: u32,
     gate: &G,
-) -> Result<Vec<Verdict>, PoolFault> {
+) -> Vec<Verdict> {
     let net = star(rt, alloc);
-    let choice = choice_of(rt, alloc, names);
-    evaluate(rt, alloc, &net, &choice, workers, gate)
-}
-
-#[test]
-fn one_two_or_many_workers_find_the_same(rt: HostRuntime) {
-    for workers in [1, 2, 64] {
-        let found = on_a_star(&rt, rt.alloc(), &[4, 1], workers, &NoGate);
-        expect_star(&rt, &found.expect(&rt, "verdicts"));
-    }
-}
-
-#[test]
-fn idle_and_absent_nodes_are_found(rt: HostRuntime) {
-    let found = on_a_star(&rt, rt.alloc(), &[2, 9], 2, &NoGate).expect(&rt, "verdicts");
-    assert!(rt; found.len() == 2);
-    assert!(rt; found[0].outcome == Outcome::Idle);
-    assert!(rt; found[1].outcome == Outcome::Absent);
-}
-
-#[test]
-fn no_workers_find_nothing(rt: HostRuntime) {
-    assert!(rt; on_a_star(&rt, rt.alloc(), &[4, 1], 0, &NoGate) == Err(PoolFault::ZeroWorkers));
-    assert!(rt; on_a_star(&rt, rt.alloc(), &[], 0, &NoGate) == Err(PoolFault::ZeroWorkers));
-}
-
-#[test]
-fn an_empty_choice_has_no_verdicts(rt: HostRuntime) {
-    for workers in [1, 3] {
-        let found = on_a_star(&rt, rt.alloc(), &[], workers, &NoGate);
-        assert!(rt; found.expect(&rt, "verdicts").is_empty());
-    }
-}
-
-#[test]
-fn hands_work_one_after_the_other(rt: HostRuntime) {
-    let net = star(&rt, rt.alloc());
-    let choice = choice_of(&rt, rt.alloc(), &[4, 1]);
-    let Ok(mut hands) = hands(rt.alloc(), &choice, 2) else {
-        panic!(rt; "no hands");
-    };
-    let (Some(second), Some(first)) = (hands.pop(), hands.pop()) else {
-        panic!(rt; "no two hands");
-    };
-    assert!(rt; hands.is_empty());
-    let Ok(first_share) = first.work(&rt, &net, &choice, &NoGate) else {
-        panic!(rt; "no share");
-    };
-    let Ok(second_share) = second.work(&rt, &net, &choice, &NoGate) else {
-        panic!(rt; "no share");
-    };
-    expect_star(&rt, first_share.verdicts());
-    assert!(rt; second_share.verdicts().is_empty());
-    let Ok(shares) = Vec::from_array(rt.alloc(), [first_share, second_share]) else {
-        panic!(rt; "no memory");
-    };
-    let found = merge(rt.alloc(), shares, &net, &choice);
-    expect_star(&rt, &found.expect(&rt, "verdicts"));
+    let choice = choice_of(rt, alloc, &[4, 1]);
+    evaluate(rt, alloc, &net, &choice, 2, gate).expect(rt, "verdicts")
 }
 
 #[test]
 fn two_guards_meet(rt: HostRuntime) {
     let gate = TwoGuards::new();
-    let found = on_a_star(&rt, rt.alloc(), &[4, 1], 2, &gate);
-    expect_star(&rt, &found.expect(&rt, "verdicts"));
+    expect_star(&rt, &on_a_star(&rt, rt.alloc(), &gate));
     assert!(rt; gate.is_met());
 }
 
@@ -144,51 +85,12 @@ fn flag_many(rt: &impl Abort, alloc: Global, net: &mut Net<Manne>) -> Choice {
     Choice::new(items).expect(rt, "a choice")
 }
 
-/// Evaluates the choice of all of many nodes, each of which is enabled.
-fn on_many<G: Gate + Sync, T: Threads + Wait + Sync + Abort>(
-    rt: &T,
-    alloc: Global,
-    workers: u32,
-    gate: &G,
-) {
+/// Lets two workers evaluate the choice of all of many nodes, each of which is enabled.
+fn on_many<G: Gate + Sync, T: Threads + Wait + Sync + Abort>(rt: &T, alloc: Global, gate: &G) {
     let mut net = Net::<Manne>::new(alloc, MANY).expect(rt, "a network");
     let choice = flag_many(rt, alloc, &mut net);
-    let found = evaluate(rt, alloc, &net, &choice, workers, gate);
+    let found = evaluate(rt, alloc, &net, &choice, 2, gate);
     assert!(rt; found.expect(rt, "verdicts").len() == MANY as usize);
-}
-
-/// A gate that counts its passes by place.
-#[derive(Drop)]
-struct Counting {
-    passes: Vec<AtomicU64>,
-}
-
-impl Gate for Counting {
-    fn pass<W: Wait>(&self, _rt: &W, _worker: u32, place: u32) {
-        if let Some(count) = self.passes.get(place as usize) {
-            count.fetch_add(1, Ordering::SeqCst);
-        }
-    }
-}
-
-/// A gate that has counted nothing.
-fn gate_at_rest(rt: &impl Abort, alloc: Global) -> Counting {
-    let mut passes = Vec::new(alloc);
-    for _ in 0..MANY {
-        passes.push(AtomicU64::new(0)).expect(rt, "memory");
-    }
-    Counting { passes }
-}
-
-#[test]
-fn each_place_once(rt: HostRuntime) {
-    for workers in [1, 2, 64] {
-        let gate = gate_at_rest(&rt, rt.alloc());
-        on_many(&rt, rt.alloc(), workers, &gate);
-        for count in &gate.passes {
-            assert!(rt; count.load(Ordering::SeqCst) == 1);
-        }
-    }
 }
 
 /// The most looks that a worker waits for others.
@@ -221,6 +123,6 @@ fn none_waits(rt: HostRuntime) {
         entered: AtomicU64::new(0),
         missed: AtomicU64::new(0),
     };
-    on_many(&rt, rt.alloc(), 2, &gate);
+    on_many(&rt, rt.alloc(), &gate);
     assert!(rt; gate.missed.load(Ordering::SeqCst) == 0);
 }

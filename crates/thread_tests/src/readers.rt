@@ -1,15 +1,14 @@
-//! Readers of a shared network, who wait for nobody.
+//! A reader of a shared network, who waits for nobody.
 
 ghost use Rattle.std.specs.Prelude.{◌≡◌};
 ghost use Rattle.std.specs.Thread.{IsSync};
 ghost use Rattle.locked_net.specs.Nets.{book_of, name_of};
 ghost use Rattle.locked_net.specs.Receipts.{HasNoteOf};
 
-use crate::clerks::{clerk_of, expect_log, link, shared, shared_with};
+use crate::clerks::{clerk_of, link, shared};
 use crate::helpers::named;
-use locked_net::{BoardReader, Clerk, LockedNet, NoView, ReadFault, ReaderFault, SeenPointer};
+use locked_net::{BoardReader, Clerk, LockedNet, SeenPointer};
 use rule_engine::{Event, Node, Reply};
-use rule_machine::Refusal;
 use rules_hsu_huang::HsuHuang;
 use std::alloc::Global;
 use std::process::Abort;
@@ -35,94 +34,6 @@ fn reader_of<W: Wait + Abort>(rt: &W, net: &Net) -> BoardReader<HsuHuang>
     ensures { result.name ≡ name_of net.now }
 {
     net.reader(rt).expect(rt, "a place")
-}
-
-/// Where a reader sees a node point.
-fn seen_at(rt: &impl Abort, reader: &mut BoardReader<HsuHuang>, v: u32) -> Option<u32>
-    ensures { reader.new.name ≡ reader.old.name }
-{
-    let seen = reader.pointer(named(rt, v)).expect(rt, "a view");
-    seen.pointer.map(Node::name)
-}
-
-/// With whom a reader sees a node paired.
-fn partner_of(rt: &impl Abort, reader: &mut BoardReader<HsuHuang>, v: u32) -> Option<u32>
-    ensures { reader.new.name ≡ reader.old.name }
-{
-    let seen = reader.partner(named(rt, v)).expect(rt, "a view");
-    seen.partner.map(Node::name)
-}
-
-/// A reader knows no node of this name, after so many entries.
-fn expect_unknown(rt: &impl Abort, reader: &mut BoardReader<HsuHuang>, v: u32, front: u32)
-    ensures { reader.new.name ≡ reader.old.name }
-{
-    assert!(rt; reader.pointer(named(rt, v)) == Err(ReadFault::UnknownNode { front }));
-    assert!(rt; reader.partner(named(rt, v)) == Err(ReadFault::UnknownNode { front }));
-}
-
-#[test]
-fn a_reader_sees_what_its_clerk_wrote(rt: HostRuntime) {
-    let net = shared::<HsuHuang>(&rt, rt.alloc(), 2, 9);
-    let mut clerk = clerk_of(&rt, &net);
-    expect_accepted(&rt, &mut clerk, &net, link(&rt, 1, 2));
-    expect_accepted(&rt, &mut clerk, &net, point(&rt, 1, 2));
-    let mut reader = reader_of(&rt, &net);
-    reader.learn(&mut clerk);
-    assert!(rt; reader.front().expect(&rt, "a view") >= 2);
-    assert!(rt; seen_at(&rt, &mut reader, 1) == Some(2));
-    assert!(rt; partner_of(&rt, &mut reader, 1) == None);
-    expect_unknown(&rt, &mut reader, 3, 2);
-    expect_accepted(&rt, &mut clerk, &net, point(&rt, 2, 1));
-    reader.learn(&mut clerk);
-    assert!(rt; partner_of(&rt, &mut reader, 1) == Some(2));
-    expect_log(&rt, net, 3);
-}
-
-#[test]
-fn a_reader_sees_no_absent_name(rt: HostRuntime) {
-    let net = shared_with::<HsuHuang>(&rt, rt.alloc(), 4, 2);
-    let mut clerk = clerk_of(&rt, &net);
-    let mut reader = reader_of(&rt, &net);
-    expect_unknown(&rt, &mut reader, 3, 0);
-    let told = clerk.call(&rt, &net, link(&rt, 2, 3)).expect(&rt, "room");
-    assert!(rt; told == Reply::Refused(Refusal::UnknownNode));
-    expect_accepted(&rt, &mut clerk, &net, link(&rt, 1, 2));
-    reader.learn(&mut clerk);
-    assert!(rt; seen_at(&rt, &mut reader, 2) == None);
-    expect_unknown(&rt, &mut reader, 3, 2);
-    expect_unknown(&rt, &mut reader, 5, 2);
-    expect_log(&rt, net, 2);
-}
-
-#[test]
-fn a_reader_goes_on_without_its_clerk(rt: HostRuntime) {
-    let net = shared::<HsuHuang>(&rt, rt.alloc(), 2, 9);
-    let mut reader = reader_of(&rt, &net);
-    assert!(rt; reader.front() == Ok(0));
-    {
-        let mut clerk = clerk_of(&rt, &net);
-        expect_accepted(&rt, &mut clerk, &net, link(&rt, 1, 2));
-        reader.learn(&mut clerk);
-    }
-    assert!(rt; reader.front() == Ok(1));
-    assert!(rt; seen_at(&rt, &mut reader, 2) == None);
-    expect_log(&rt, net, 1);
-    assert!(rt; reader.front() == Err(NoView));
-    assert!(rt; reader.pointer(named(&rt, 1)) == Err(ReadFault::NoView));
-}
-
-#[test]
-fn a_network_has_64_readers_at_most(rt: HostRuntime) {
-    let net = shared::<HsuHuang>(&rt, rt.alloc(), 2, 9);
-    let mut readers = Vec::new(rt.alloc());
-    for _ in 0..64 {
-        readers.push(reader_of(&rt, &net)).expect(&rt, "memory");
-    }
-    assert!(rt; net.reader(&rt).err() == Some(ReaderFault::NoPlace));
-    readers.pop();
-    assert!(rt; net.reader(&rt).is_ok());
-    expect_log(&rt, net, 0);
 }
 
 /// How often a busy clerk writes.
