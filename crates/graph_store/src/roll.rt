@@ -15,10 +15,7 @@ pub fn first_names(alloc: Global, size: u32, count: u32) -> Result<EnabledSet, W
 {
     let mut set = EnabledSet::new(alloc, size)?;
     for name in 1..count + 1 {
-        let Some(v) = Node::new(name) else {
-            continue;
-        };
-        set.insert(v);
+        set.insert(Node::new(name).unwrap());
     }
     Ok(set)
 }
