@@ -1,6 +1,7 @@
 //! What a board tells of what it has published.
 
 ghost use Rattle.std.specs.Prelude.{◌≡◌};
+ghost use Rattle.board.specs.OneLog.{AreComparable};
 
 use crate::history::Front;
 use std::marker::Model;
@@ -33,5 +34,13 @@ impl Note {
         Note {
             front: self.front.again(),
         }
+    }
+
+    /// Of what two notes of one board tell, one begins the other. Nothing runs.
+    pub fn meets(&self, other: &Note)
+        requires { other.now.book ≡ self.now.book }
+        ensures { AreComparable self.now.log other.now.log }
+    {
+        self.front.meets(&other.front);
     }
 }

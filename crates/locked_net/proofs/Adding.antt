@@ -10,7 +10,7 @@ use Rattle.rule_machine.specs.Run.{Entry}
 use Rattle.board.specs.Views.{Told}
 use Rattle.step_log.specs.declared.receipt.Receipt.{Receipt}
 use Rattle.step_log.specs.Log.{Log, entry_of, recorded, receipt_of}
-use Rattle.locked_net.specs.Receipts.{front_from, front_of, RiseAbove, IsEntry, StandsLastFrom, StandsLast, NotesLast, IsClerk}
+use Rattle.locked_net.specs.Receipts.{front_from, front_of, noted, RiseAbove, IsEntry, StandsLastFrom, StandsLast, NotesLast, IsClerk}
 use Rattle.locked_net.specs.declared.call_fault.CallFault.{CallFault}
 use Rattle.locked_net.specs.declared.call_fault.CallFault.TheVariants.{Behind, LogFull}
 use Rattle.locked_net.specs.Calls.{call_fault}
@@ -28,6 +28,11 @@ seen_few seen log none =
 rise_more : (low : ℕ) (receipts : List Receipt) (receipt : Receipt) → RiseAbove low receipts → front_from low receipts < receipt.seq → RiseAbove low (receipts ++ receipt ∷ [])
 rise_more low [] receipt rise above = (above, tt)
 rise_more low (first ∷ receipts) receipt rise above = (rise.0, rise_more first.seq receipts receipt rise.1 above)
+
+-- its number is the front then
+front_more : (low : ℕ) (receipts : List Receipt) (receipt : Receipt) → front_from low (receipts ++ receipt ∷ []) ≡ receipt.seq
+front_more low [] receipt = refl
+front_more low (first ∷ receipts) receipt = front_more first.seq receipts receipt
 
 -- ---- the last receipt
 
@@ -55,13 +60,16 @@ stands_last log (first ∷ receipts) receipt is = stands_from log first receipts
 -- a clerk that adds the receipt of an entry, and a note of the log with that entry, is one
 pub is_clerk_after : (t : RuleTable) (log after : Log) (event : Event) (told : Told) (old new : List Receipt) (note : Option Told) → RiseAbove 0 old → call_fault (front_of old) log ≡ None
     → after ≡ recorded t log event → told.log ≡ after.entries → new ≡ old ++ receipt_of t log event ∷ [] → note ≡ Some told → IsClerk (record { receipts = new; note = note })
-is_clerk_after t log after event told old new note rise free is tells added noted =
+is_clerk_after t log after event told old new note rise free is tells added kept =
     let receipt : Receipt = receipt_of t log event in
     let few = seen_few (front_of old) log free in
     let shown : told.log ≡ (recorded t log event).entries = tells ∙ ap (λ (l : Log). l.entries) is in
     let stands : StandsLast told.log (old ++ receipt ∷ []) =
     subst (λ l. StandsLast l (old ++ receipt ∷ [])) (sym shown) (stands_last (recorded t log event).entries old receipt (added_is_entry t log event)) in
+    let size : length told.log ≡ length log.entries + 1 = omega (arith, ap length shown, length-append log.entries (entry_of t log event ∷ [])) in
+    let ends : length told.log ≡ front_of (old ++ receipt ∷ []) = size ∙ sym (front_more 0 old receipt) in
     record {
       rise = subst (RiseAbove 0) (sym added) (rise_more 0 old receipt rise (omega (arith, few)));
-      last = subst (λ o. NotesLast new o) (sym noted) (subst (λ rs. NotesLast rs (Some told)) (sym added) stands);
+      last = subst (λ o. NotesLast new o) (sym kept) (subst (λ rs. NotesLast rs (Some told)) (sym added) stands);
+      ends = subst (λ o. length (noted o) ≡ front_of new) (sym kept) (subst (λ rs. length told.log ≡ front_of rs) (sym added) ends);
     }

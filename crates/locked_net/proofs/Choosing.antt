@@ -1,5 +1,5 @@
 -- What is told of an event that somebody else chose, and of a call that is not answered.
-use Rattle.std.proofs.Common.{◌≡◌, ◌∷◌, ◌++◌, [], ℕ, Bool, List, Option, None, Some, Result, Ok, Err, IfOk, IfErr, OnOk, IsNone, MatchOption, ◌↔◌, ◌+◌, length, refl, ap, sym, ◌∙◌, subst, arith}
+use Rattle.std.proofs.Common.{◌≡◌, ◌∷◌, ◌++◌, [], ℕ, Bool, List, Option, None, Some, Result, Ok, Err, IfOk, IfErr, IfSome, OnOk, IsNone, MatchOption, ◌↔◌, ◌+◌, length, refl, ap, sym, ◌∙◌, subst, arith}
 use Rattle.rule_machine.specs.declared.choice.Item.{Item}
 use Rattle.rule_machine.specs.declared.event.Event.{Event}
 use Rattle.rule_machine.specs.declared.event.Event.TheVariants.{Step}
@@ -8,10 +8,12 @@ use Rattle.rule_machine.specs.Network.{node_count}
 use Rattle.rule_machine.specs.State.{State}
 use Rattle.rule_machine.specs.RuleTable.{RuleTable, enabled_names}
 use Rattle.step_log.specs.declared.receipt.Receipt.{Receipt}
-use Rattle.step_log.specs.Log.{Log, receipt_of}
-use Rattle.locked_net.specs.Receipts.{ClerkView, front_of}
+use mathlib.Core.List.{IsPrefix}
+use Rattle.board.specs.Views.{Told}
+use Rattle.step_log.specs.Log.{Log, entry_of, recorded, receipt_of}
+use Rattle.locked_net.specs.Receipts.{ClerkView, front_of, noted}
 use Rattle.locked_net.specs.Settings.{Setting, IsLogIn}
-use Rattle.locked_net.specs.Calls.{call_fault, Explains, Breaks, KeepsFault}
+use Rattle.locked_net.specs.Calls.{call_fault, Explains, Drives, Breaks, KeepsFault}
 use Rattle.locked_net.specs.Stepping.{ExplainsStep}
 use Rattle.locked_net.specs.Choosing.{ChoosesStep, ChoosesOn, TakesChoice, Refuses, RefusesStep}
 use Rattle.locked_net.specs.declared.call_fault.CallFault.{CallFault}
@@ -28,23 +30,40 @@ choice_on t log Chooses names central found items old new reply enabled same som
   is_told = (ap (λ r. Some r) told, receipt);
 }
 
+-- a log to which an event was added begins what is told then
+begins_in : (t : RuleTable) (log after : Log) (event : Event) (note : Option Told) → after ≡ recorded t log event → noted note ≡ after.entries → IsPrefix log.entries (noted note)
+begins_in t log after event note is tells = (entry_of t log event ∷ [], sym (tells ∙ ap (λ (l : Log). l.entries) is))
+
+pub begins_driven : (t : RuleTable) (log after : Log) (note : Option Told) (old new : List Receipt) (Same : Type 0) (result : Result (Option Reply) CallFault)
+    → IfOk result (λ told. MatchOption told Same (λ reply. Drives t log after old new reply)) → IfOk result (λ told. IfSome told (λ _. noted note ≡ after.entries)) → IfOk result (λ told. IfSome told (λ _. IsPrefix log.entries (noted note)))
+begins_driven t log after note old new Same (Err fault) is tells = tt
+begins_driven t log after note old new Same (Ok None) is tells = tt
+begins_driven t log after note old new Same (Ok (Some reply)) is tells = begins_in t log after (Step is.items) note is.told.log tells
+
+pub begins_broken : (t : RuleTable) (log after : Log) (note : Option Told) (old new : List Receipt) (Same : Type 0) (result : Result (Option Reply) CallFault)
+    → IfOk result (λ told. MatchOption told Same (λ reply. Breaks t log after old new reply)) → IfOk result (λ told. IfSome told (λ _. noted note ≡ after.entries)) → IfOk result (λ told. IfSome told (λ _. IsPrefix log.entries (noted note)))
+begins_broken t log after note old new Same (Err fault) is tells = tt
+begins_broken t log after note old new Same (Ok None) is tells = tt
+begins_broken t log after note old new Same (Ok (Some reply)) is tells = begins_in t log after is.event note is.told.log tells
+
 -- on a log behind the lock
-pub takes : (setting : Setting) (Chooses : State → Option Event → Type 0) (log : Log) (old new : List Receipt) (result : Result (Option Reply) CallFault) → IsLogIn setting log
-    → OnOk result (call_fault (front_of old) log ≡ None) → IfOk result (ChoosesOn setting.table log Chooses old new) → IfOk result (TakesChoice setting Chooses old new)
-takes setting Chooses log old new (Ok told) own free taken = record { log = log; own = own; free = free; taken = taken }
-takes setting Chooses log old new (Err fault) own free taken = tt
+pub takes : (setting : Setting) (Chooses : State → Option Event → Type 0) (log : Log) (old new : List Receipt) (note : Option Told) (result : Result (Option Reply) CallFault) → IsLogIn setting log
+    → OnOk result (call_fault (front_of old) log ≡ None) → IfOk result (ChoosesOn setting.table log Chooses old new) → IfOk result (λ told. IfSome told (λ _. IsPrefix log.entries (noted note))) → IfOk result (TakesChoice setting Chooses old new note)
+takes setting Chooses log old new note (Ok told) own free taken begins = record { log = log; own = own; free = free; taken = taken; begins = begins }
+takes setting Chooses log old new note (Err fault) own free taken begins = tt
 
 -- nothing was chosen exactly where there is no node
-pub finds_none : (setting : Setting) (Chooses : State → Option Event → Type 0) (log : Log) (old new : List Receipt) (result : Result (Option Reply) CallFault) → IsLogIn setting log
+pub finds_none : (setting : Setting) (Chooses : State → Option Event → Type 0) (log : Log) (old new : List Receipt) (note : Option Told) (result : Result (Option Reply) CallFault) → IsLogIn setting log
     → OnOk result (call_fault (front_of old) log ≡ None) → IfOk result (ChoosesOn setting.table log Chooses old new) → IfOk result (λ told. IsNone told ↔ (node_count log.state.network ≡ 0))
-    → IfOk result (λ told. TakesChoice setting (λ s _. IsNone told ↔ (node_count s.network ≡ 0)) old new told)
-finds_none setting Chooses log old new (Ok told) own free taken none = record {
+    → IfOk result (λ told. IfSome told (λ _. IsPrefix log.entries (noted note))) → IfOk result (λ told. TakesChoice setting (λ s _. IsNone told ↔ (node_count s.network ≡ 0)) old new note told)
+finds_none setting Chooses log old new note (Ok told) own free taken none begins = record {
   log = log;
   own = own;
   free = free;
   taken = record { event = taken.event; chosen = none; is_told = taken.is_told };
+  begins = begins;
 }
-finds_none setting Chooses log old new (Err fault) own free taken none = tt
+finds_none setting Chooses log old new note (Err fault) own free taken none begins = tt
 
 -- a fault that was recorded is kept
 pub keeps_fault : (t : RuleTable) (log after : Log) (old new : ClerkView) (Same : Type 0) (result : Result (Option Reply) CallFault) → OnOk result (call_fault (front_of old.receipts) log ≡ None)

@@ -2,8 +2,9 @@
 --
 -- Who calls sees no log. So a clause says that there is one, which lay behind the lock: a run of the network's rules, of its nodes and with
 -- its limit.
-use Rattle.std.specs.Prelude.{◌≡◌, ℕ, List, [], ◌∷◌, ◌++◌, Option, None, Some}
+use Rattle.std.specs.Prelude.{◌≡◌, ℕ, List, [], ◌∷◌, ◌++◌, Option, None, Some, IfSome}
 use Rattle.std.specs.Option.{option_map}
+use mathlib.Core.List.{IsPrefix}
 use Rattle.rule_machine.specs.declared.choice.Item.{Item}
 use Rattle.rule_machine.specs.declared.event.Event.{Event}
 use Rattle.rule_machine.specs.declared.event.Event.TheVariants.{Step}
@@ -12,7 +13,8 @@ use Rattle.rule_machine.specs.State.{State}
 use Rattle.rule_machine.specs.RuleTable.{RuleTable, enabled_names}
 use Rattle.step_log.specs.declared.receipt.Receipt.{Receipt}
 use Rattle.step_log.specs.Log.{Log, receipt_of}
-use Rattle.locked_net.specs.Receipts.{front_of}
+use Rattle.board.specs.Views.{Told}
+use Rattle.locked_net.specs.Receipts.{front_of, noted}
 use Rattle.locked_net.specs.Settings.{Setting, IsLogIn}
 use Rattle.locked_net.specs.Calls.{call_fault, Explains}
 use Rattle.locked_net.specs.Stepping.{ExplainsStep}
@@ -35,12 +37,14 @@ pub record ChoosesOn (t : RuleTable) (log : Log) (Chooses : State → Option Eve
   pub chosen : Chooses log.state event
   pub is_told : IsTold t log event old new told
 
--- So it was on a log that holds all that the clerk has seen, and has room for an entry.
-pub record TakesChoice (setting : Setting) (Chooses : State → Option Event → Type 0) (old new : List Receipt) (told : Option Reply) : Type 0 where
+-- So it was on a log that holds all that the clerk has seen, and has room for an entry; where the event was recorded, what the clerk's note
+-- tells then begins with this log.
+pub record TakesChoice (setting : Setting) (Chooses : State → Option Event → Type 0) (old new : List Receipt) (note : Option Told) (told : Option Reply) : Type 0 where
   pub log : Log
   pub own : IsLogIn setting log
   pub free : call_fault (front_of old) log ≡ None
   pub taken : ChoosesOn setting.table log Chooses old new told
+  pub begins : IfSome told (λ _. IsPrefix log.entries (noted note))
 
 -- A log has this fault for a clerk who has seen so many entries, and gives it for want of memory where it has none.
 pub record Refuses (setting : Setting) (seen : ℕ) (fault : CallFault) : Type 0 where

@@ -1,6 +1,6 @@
 -- What a clerk keeps: a receipt for each reply that it got, oldest first, each with the number of its entry in the log; and a note of what was
 -- published when it got the last.
-use Rattle.std.specs.Prelude.{◌≡◌, ℕ, ◌<◌, ◌-◌, List, [], ◌∷◌, Option, None, Some, IsSomeAnd, slice_get}
+use Rattle.std.specs.Prelude.{◌≡◌, ℕ, ◌<◌, ◌-◌, List, [], ◌∷◌, length, Option, None, Some, IfSome, IsSomeAnd, slice_get}
 use Rattle.rule_machine.specs.Run.{Entry}
 use Rattle.step_log.specs.declared.receipt.Receipt.{Receipt}
 use Rattle.logbook.specs.Pages.{Book}
@@ -49,11 +49,21 @@ abbrev pub NotesLast : List Receipt → Option Told → Type 0
 NotesLast receipts None = receipts ≡ []
 NotesLast receipts (Some told) = StandsLast told.log receipts
 
--- the numbers rise, and the note has the last
+-- the entries that a note tells; none where there is no note
+abbrev pub noted : Option Told → List Entry
+noted None = []
+noted (Some told) = told.log
+
+-- the numbers rise, and the note has the last, and ends with it
 pub record IsClerk (clerk : ClerkView) : Type 0 where
   pub rise : RiseAbove 0 clerk.receipts
   pub last : NotesLast clerk.receipts clerk.note
+  pub ends : length (noted clerk.note) ≡ front_of clerk.receipts
 
 -- there is a note, of this history
 abbrev pub HasNoteOf : Book → ClerkView → Type 0
 HasNoteOf book clerk = IsSomeAnd clerk.note (λ told. told.book ≡ book)
+
+-- a note, if there is one, is of this history
+abbrev pub IsOfBook : Book → ClerkView → Type 0
+IsOfBook book clerk = IfSome clerk.note (λ told. told.book ≡ book)

@@ -1,7 +1,8 @@
 //! Who calls a network and keeps what it was told.
 
-ghost use Rattle.std.specs.Prelude.{◌≡◌, None, Some, MatchOption};
-ghost use Rattle.locked_net.specs.Receipts.{fresh, front_of, IsClerk, RiseAbove};
+ghost use Rattle.std.specs.Prelude.{◌≡◌, None, Some, IfSome, MatchOption};
+ghost use Rattle.board.specs.OneLog.{AreComparable};
+ghost use Rattle.locked_net.specs.Receipts.{fresh, front_of, noted, IsClerk, IsOfBook, RiseAbove};
 
 use board::Note;
 use std::alloc::Global;
@@ -71,5 +72,28 @@ impl Clerk {
         ensures clerk { IsClerk self.now }
     {
         self.note.as_ref()
+    }
+
+    /// A copy of the note that it got with its last receipt: what it tells ends with the entry of that receipt. It takes no memory.
+    pub fn noted(&self) -> Option<Note>
+        ensures note { result ≡ self.now.note }
+        ensures clerk { IsClerk self.now }
+    {
+        let note = self.note.as_ref()?;
+        Some(note.again())
+    }
+
+    /// Of what another note of its network tells and what its own tells, one begins the other. Nothing runs.
+    pub fn follows(&self, before: &Option<Note>)
+        requires { IfSome before.now (λ told. IsOfBook told.book self.now) }
+        ensures notes { AreComparable (noted before.now) (noted self.now.note) }
+        ensures clerk { IsClerk self.now }
+    {
+        let own = self.note();
+        if let Some(before) = before {
+            if let Some(own) = own {
+                before.meets(own);
+            }
+        }
     }
 }

@@ -1,15 +1,21 @@
 //! How a locked network ends.
 
-ghost use Rattle.std.specs.Prelude.{◌≡◌, IfOk, IfErr};
+ghost use Rattle.std.specs.Prelude.{◌≡◌, IfOk, IfErr, OnOk};
+ghost use Rattle.std.specs.List.{All};
+ghost use mathlib.Core.List.{IsPrefix};
+ghost use Rattle.board.specs.OneLog.{AreComparable};
 ghost use Rattle.step_log.specs.Held.{log_of};
 ghost use Rattle.step_log.specs.Log.{IsLog};
 ghost use Rattle.locked_net.specs.Headline.{Headline};
-ghost use Rattle.locked_net.specs.Nets.{nodes_of, first_of, limit_of};
+ghost use Rattle.locked_net.specs.Nets.{book_of, nodes_of, first_of, limit_of};
+ghost use Rattle.locked_net.specs.Receipts.{IsClerk, IsOfBook, noted};
 ghost use Rattle.locked_net.specs.Settled.{Settled, Unsettles};
 
 use crate::settling::settled_with;
 use crate::{Clerk, LockedNet, Unsettled};
+use board::Note;
 use rule_engine::Rules;
+use std::alloc::Global;
 use std::sync::Wait;
 use step_log::Journal;
 
@@ -27,8 +33,66 @@ pub fn settle<R: Rules, W: Wait>(
     ensures back { IfErr result (λ unsettled. IsLog R.table (log_of unsettled.journal) × (unsettled.journal.state.network.size ≡ nodes_of net) × (unsettled.journal.first ≡ first_of net) × (unsettled.journal.limit ≡ limit_of net)) }
 {
     let alloc = net.alloc();
-    let journal = net.into_journal(rt);
-    match settled_with(alloc, &journal, &clerks) {
+    settle_journal(alloc, net.into_journal(rt), &clerks)
+}
+
+/// The same for clerks of which each has called this network, or nobody: what each one's note tells is then a beginning of the log.
+pub fn settle_own<R: Rules, W: Wait>(
+    rt: &W,
+    net: LockedNet<R>,
+    clerks: Vec<Clerk>,
+) -> Result<Journal<R>, Unsettled<R>>
+    requires { All (IsOfBook (book_of net)) clerks.items }
+    ensures headline { IfOk result (λ journal. Headline R.table R.NODE_WEIGHT (log_of journal) clerks.items) }
+    ensures settled { IfOk result (λ journal. Settled journal.entries clerks.items) }
+    ensures noted { IfOk result (λ journal. All (λ clerk. IsPrefix (noted clerk.note) journal.entries) clerks.items) }
+    ensures run { IfOk result (λ journal. IsLog R.table (log_of journal)) }
+    ensures size { IfOk result (λ journal. (journal.state.network.size ≡ nodes_of net) × (journal.first ≡ first_of net) × (journal.limit ≡ limit_of net)) }
+    ensures fault { IfErr result (λ unsettled. Unsettles unsettled.journal.entries clerks.items unsettled.why) }
+    ensures back { IfErr result (λ unsettled. IsLog R.table (log_of unsettled.journal) × (unsettled.journal.state.network.size ≡ nodes_of net) × (unsettled.journal.first ≡ first_of net) × (unsettled.journal.limit ≡ limit_of net)) }
+{
+    let alloc = net.alloc();
+    let desk = net.into_desk(rt);
+    let last = desk.note();
+    let journal = desk.close(rt);
+    let settled = settle_journal(alloc, journal, &clerks);
+    all_meet(&clerks, &last);
+    settled
+}
+
+/// Of what each clerk's note tells and what another note of its network tells, one begins the other. Nothing runs but the loop.
+fn all_meet(clerks: &[Clerk], last: &Note)
+    requires { All (IsOfBook last.now.book) clerks.now }
+    ensures { All (λ clerk. IsClerk clerk × AreComparable (noted clerk.note) last.now.log) clerks.now }
+{
+    for clerk in clerks {
+        meet(clerk, last);
+    }
+}
+
+/// The same of one clerk.
+fn meet(clerk: &Clerk, last: &Note)
+    requires { IsOfBook last.now.book clerk.now }
+    ensures { IsClerk clerk.now × AreComparable (noted clerk.now.note) last.now.log }
+{
+    if let Some(note) = clerk.note() {
+        note.meets(last);
+    }
+}
+
+/// Settles clerks against a journal.
+fn settle_journal<R: Rules>(
+    alloc: Global,
+    journal: Journal<R>,
+    clerks: &[Clerk],
+) -> Result<Journal<R>, Unsettled<R>>
+    requires { IsLog R.table (log_of journal) }
+    ensures same { IfOk result (λ settled. settled ≡ journal) }
+    ensures headline { OnOk result (Headline R.table R.NODE_WEIGHT (log_of journal) clerks.now) }
+    ensures fault { IfErr result (λ unsettled. Unsettles journal.entries clerks.now unsettled.why) }
+    ensures back { IfErr result (λ unsettled. unsettled.journal ≡ journal) }
+{
+    match settled_with(alloc, &journal, clerks) {
         Ok(()) => Ok(journal),
         Err(why) => Err(Unsettled { why, journal }),
     }

@@ -22,7 +22,7 @@ mod unsettled;
 pub use board_reader::{BoardReader, SeenPartner, SeenPointer};
 pub use call_fault::CallFault;
 pub use clerk::Clerk;
-pub use ending::settle;
+pub use ending::{settle, settle_own};
 pub use law::{own_numbers_never_clash, settling_is_exact};
 pub use net::LockedNet;
 pub use read_fault::{NoView, ReadFault, ReaderFault};

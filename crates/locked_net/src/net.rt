@@ -141,7 +141,14 @@ impl<R: Rules> LockedNet<R> {
         ensures first { result.first ≡ first_of self }
         ensures limit { result.limit ≡ limit_of self }
     {
+        self.into_desk(rt).close(rt)
+    }
+
+    /// The desk of a network that no thread shares any more, as `into_journal` takes it.
+    pub(crate) fn into_desk<W: Wait>(self, rt: &W) -> Desk<R>
+        ensures { IsOfKey (net_key_of self) result }
+    {
         let LockedNet { alloc: _, lock } = self;
-        lock.into_inner(rt).close(rt)
+        lock.into_inner(rt)
     }
 }

@@ -1,10 +1,11 @@
 -- Turns that are taken one by one.
-use Rattle.std.proofs.Common.{◌≡◌, ◌∙◌, ℕ, ◌+◌, ◌≤◌, Bool, false, true, not, List, [], ◌∷◌, ◌++◌, length, Option, None, Some, IsNone, ◌↔◌, MatchOption, refl, sym, ap, subst, append_assoc, length-append, arith}
+use Rattle.std.proofs.Common.{◌≡◌, ◌∙◌, ℕ, ◌+◌, ◌≤◌, Bool, false, true, not, List, [], ◌∷◌, ◌++◌, length, Option, None, Some, IfSome, IsNone, ◌↔◌, MatchOption, refl, sym, ap, subst, append_assoc, length-append, arith}
 use Rattle.std.specs.List.{All}
 use Rattle.std.specs.Option.{is_some, option_map}
 use Rattle.std.proofs.lemmas.Bool.{false≢true}
 use Rattle.std.proofs.lemmas.List.{append_cancel_left}
 use Rattle.std.proofs.lemmas.List.Elements.{All-push}
+use mathlib.Core.List.{IsPrefix}
 use Rattle.rand_core.specs.Stream.{Stream}
 use Rattle.rule_machine.specs.declared.choice.Item.{Item}
 use Rattle.rule_machine.specs.declared.reply.Reply.{Reply}
@@ -17,13 +18,18 @@ use Rattle.daemon.proofs.Rests.{rests}
 use Rattle.seeded_turns.specs.Drawn.{Draws, drawn_step}
 use Rattle.step_log.specs.declared.receipt.Receipt.{Receipt}
 use Rattle.step_log.specs.Log.{Log, receipt_of}
-use Rattle.locked_net.specs.Receipts.{ClerkView, front_from, front_of}
+use Rattle.board.specs.OneLog.{AreComparable}
+use Rattle.board.specs.Views.{Told}
+use Rattle.locked_net.specs.Receipts.{ClerkView, front_from, front_of, noted, IsClerk}
 use Rattle.locked_net.specs.Settings.{Setting}
 use Rattle.locked_net.specs.Calls.{KeepsStep, KeepsFault}
 use Rattle.locked_net.specs.Choosing.{ChoosesStep, IsTold, TakesChoice}
 use Rattle.locked_net.proofs.Adding.{seen_few}
+use Rattle.locked_net.proofs.Noting.{later_note}
 use Rattle.storm_call.specs.Storm.{IsOfStep, IsOfFault}
-use Rattle.storm_call.specs.Turns.{IsTurn, AreTurns, DrawnFrom, IsQuietBehind, IsEmptyBehind}
+use Rattle.storm_call.specs.Turns.{Scene, IsTurn, AreTurns, DrawnFrom, IsQuietBehind, IsEmptyBehind}
+use Rattle.storm_call.specs.Played.{scene_of}
+use Rattle.storm_call.proofs.Lasting.{turns_last}
 
 -- ---- one turn
 
@@ -57,15 +63,21 @@ pub struck : (old new : ClerkView) (told : Option Reply) (b : Bool) → MatchOpt
 struck old new None b kept e f = absurd (false≢true (e ∙ ap not f))
 struck old new (Some reply) b kept e f = gains_fault old.receipts new.receipts reply kept
 
+-- so what the clerk's note told before begins what it tells now
+pub grown : (P : Receipt → Type 0) (old new : ClerkView) (before : Option Told) → before ≡ old.note → IsClerk old → Gains P old.receipts new.receipts → AreComparable (noted before) (noted new.note) → IsClerk new
+    → IsPrefix (noted old.note) (noted new.note)
+grown P old new before is was gains comparable now =
+    later_note old new (gains.receipt ∷ []) was now gains.added (subst (λ (o : Option Told). AreComparable (noted o) (noted new.note)) is comparable)
+
 -- ---- the words of a turn
 
 -- what these words draw in the state of a log was recorded, if anything, and those are left
-abbrev pub Draw : Setting → Draws → Stream → Stream → List Receipt → List Receipt → Option Reply → Type 0
-Draw setting draws words left old new told = TakesChoice setting (λ s event. (event, left) ≡ draws setting.table s words) old new told
+abbrev pub Draw : Setting → Draws → Stream → Stream → List Receipt → ClerkView → Option Reply → Type 0
+Draw setting draws words left old new told = TakesChoice setting (λ s event. (event, left) ≡ draws setting.table s words) old new.receipts new.note told
 
 -- a daemon's choice by its words is its event
-pub drew_step : (setting : Setting) (words left : Stream) (old new : List Receipt) (told : Option Reply)
-    → TakesChoice setting (ChoosesStep setting.table (λ names choice. (choice, left) ≡ drawn setting.table.central names words)) old new told → Draw setting drawn_step words left old new told
+pub drew_step : (setting : Setting) (words left : Stream) (old : List Receipt) (new : ClerkView) (told : Option Reply)
+    → TakesChoice setting (ChoosesStep setting.table (λ names choice. (choice, left) ≡ drawn setting.table.central names words)) old new.receipts new.note told → Draw setting drawn_step words left old new told
 drew_step setting words left old new told took =
     let chosen = took.taken.chosen in
     record {
@@ -79,52 +91,55 @@ drew_step setting words left old new told took =
             ∙ ap (λ (d : Option (List Item) × Stream). (option_map (λ items. Step items) d.0, d.1)) chosen.2;
         is_told = took.taken.is_told;
       };
+      begins = took.begins;
     }
 
 -- the receipt of a turn that was answered is the one that was added
 first_of : (r other : Receipt) → r ∷ [] ≡ other ∷ [] → r ≡ other
 first_of r other same = cc
 
-turn_at : (setting : Setting) (draws : Draws) (words left : Stream) (old new : List Receipt) (told : Option Reply) (receipt : Receipt) (took : Draw setting draws words left old new told) (event : Option Event)
-    → (event, left) ≡ draws setting.table took.log.state words → IsTold setting.table took.log event old new told → is_some told ≡ true → new ≡ old ++ receipt ∷ [] → IsTurn setting draws words receipt left
+turn_at : (setting : Setting) (draws : Draws) (words left : Stream) (old : List Receipt) (new : ClerkView) (told : Option Reply) (receipt : Receipt) (took : Draw setting draws words left old new told) (event : Option Event)
+    → (event, left) ≡ draws setting.table took.log.state words → IsTold setting.table took.log event old new.receipts told → is_some told ≡ true → new.receipts ≡ old ++ receipt ∷ [] → IsTurn (scene_of setting new) draws words receipt left
 turn_at setting draws words left old new told receipt took None is (none, same) some added = absurd (false≢true (sym (ap is_some none) ∙ some))
 turn_at setting draws words left old new told receipt took (Some event) is (answer, more) some added =
     let same : receipt_of setting.table took.log event ≡ receipt = first_of (receipt_of setting.table took.log event) receipt (append_cancel_left old _ _ (sym more ∙ added)) in
-    subst (λ r. IsTurn setting draws words r left) same (record { log = took.log; own = took.own; drawn = is; told = refl })
+    let begins : IsPrefix took.log.entries (noted new.note) = subst (λ (o : Option Reply). IfSome o (λ _. IsPrefix took.log.entries (noted new.note))) answer took.begins in
+    subst (λ r. IsTurn (scene_of setting new) draws words r left) same (record { log = took.log; own = took.own; begins = begins; drawn = is; told = refl })
 
 -- ---- some turns
 
 -- so many turns were taken
-pub record Took (setting : Setting) (draws : Draws) (P : Receipt → Type 0) (words : Stream) (count : ℕ) (old new : List Receipt) (left : Stream) : Type 0 where
+pub record Took (setting : Setting) (draws : Draws) (P : Receipt → Type 0) (words : Stream) (count : ℕ) (old : List Receipt) (new : ClerkView) (left : Stream) : Type 0 where
   pub own : List Receipt
-  pub added : new ≡ old ++ own
+  pub added : new.receipts ≡ old ++ own
   pub as_many : length own ≡ count
   pub kind : All P own
-  pub turns : AreTurns setting draws words own left
+  pub turns : AreTurns (scene_of setting new) draws words own left
 
-are_more : (setting : Setting) (draws : Draws) (words next left : Stream) (own : List Receipt) (receipt : Receipt) → AreTurns setting draws words own next → IsTurn setting draws next receipt left
-    → AreTurns setting draws words (own ++ receipt ∷ []) left
-are_more setting draws words next left [] receipt same turn = (left, subst (λ w. IsTurn setting draws w receipt left) same turn, refl)
-are_more setting draws words next left (first ∷ own) receipt (second, taken, turns) turn =
-    (second, taken, are_more setting draws second next left own receipt turns turn)
+are_more : (scene : Scene) (draws : Draws) (words next left : Stream) (own : List Receipt) (receipt : Receipt) → AreTurns scene draws words own next → IsTurn scene draws next receipt left
+    → AreTurns scene draws words (own ++ receipt ∷ []) left
+are_more scene draws words next left [] receipt same turn = (left, subst (λ w. IsTurn scene draws w receipt left) same turn, refl)
+are_more scene draws words next left (first ∷ own) receipt (second, taken, turns) turn =
+    (second, taken, are_more scene draws second next left own receipt turns turn)
 
-pub one_more : (setting : Setting) (draws : Draws) (P : Receipt → Type 0) (words next left : Stream) (count : ℕ) (old mid new : List Receipt) (told : Option Reply) (b : Bool)
-    → Took setting draws P words count old mid next → Gains P mid new → Draw setting draws next left mid new told → is_some told ≡ not b → b ≡ false → Took setting draws P words (count + 1) old new left
-one_more setting draws P words next left count old mid new told b so_far gains took e f =
+pub one_more : (setting : Setting) (draws : Draws) (P : Receipt → Type 0) (words next left : Stream) (count : ℕ) (old : List Receipt) (mid new : ClerkView) (told : Option Reply) (b : Bool) → IsPrefix (noted mid.note) (noted new.note)
+    → Took setting draws P words count old mid next → Gains P mid.receipts new.receipts → Draw setting draws next left mid.receipts new told → is_some told ≡ not b → b ≡ false → Took setting draws P words (count + 1) old new left
+one_more setting draws P words next left count old mid new told b grows so_far gains took e f =
     let own = so_far.own in
     let last = gains.receipt in
-    let turn = turn_at setting draws next left mid new told last took took.taken.event took.taken.chosen took.taken.is_told (e ∙ ap not f) gains.added in
+    let turn = turn_at setting draws next left mid.receipts new told last took took.taken.event took.taken.chosen took.taken.is_told (e ∙ ap not f) gains.added in
     let as_many = so_far.as_many in record {
       own = own ++ last ∷ [];
       added = gains.added ∙ ap (λ rs. rs ++ last ∷ []) so_far.added ∙ append_assoc old own (last ∷ []);
       as_many = omega (arith, as_many, length-append own (last ∷ []));
       kind = All-push P own last so_far.kind gains.is;
-      turns = are_more setting draws words next left own last so_far.turns turn;
+      turns = are_more (scene_of setting new) draws words next left own last (turns_last setting (noted mid.note) (noted new.note) grows draws words own next so_far.turns) turn;
     }
 
 -- ---- where they end
 
-pub drawn_from : (setting : Setting) (draws : Draws) (P : Receipt → Type 0) (words left : Stream) (count : ℕ) (old new : List Receipt) (so_far : Took setting draws P words count old new left) → DrawnFrom setting draws words P so_far.own
+pub drawn_from : (setting : Setting) (draws : Draws) (P : Receipt → Type 0) (words left : Stream) (count : ℕ) (old : List Receipt) (new : ClerkView) (so_far : Took setting draws P words count old new left)
+    → DrawnFrom (scene_of setting new) draws words P so_far.own
 drawn_from setting draws P words left count old new so_far = (so_far.kind, (left, so_far.turns))
 
 -- the front of some receipts is not beyond that of all
@@ -142,11 +157,11 @@ none_drawn setting log old new told None is none = refl
 none_drawn setting log old new told (Some event) (answer, more) none = absurd (false≢true (sym none ∙ ap is_some answer))
 
 -- a daemon that finds nothing finds no node enabled, behind all that its clerk has seen
-pub quiet_behind : (setting : Setting) (words left : Stream) (old mid new own : List Receipt) (told : Option Reply) (b : Bool) → mid ≡ old ++ own → Draw setting drawn_step words left mid new told → is_some told ≡ not b → b ≡ true
-    → IsQuietBehind setting own
+pub quiet_behind : (setting : Setting) (words left : Stream) (old mid : List Receipt) (new : ClerkView) (own : List Receipt) (told : Option Reply) (b : Bool) → mid ≡ old ++ own → Draw setting drawn_step words left mid new told
+    → is_some told ≡ not b → b ≡ true → IsQuietBehind setting own
 quiet_behind setting words left old mid new own told b added took e f =
     let names = enabled_names setting.table took.log.state in
-    let none = none_drawn setting took.log mid new told took.taken.event took.taken.is_told (e ∙ ap not f) in
+    let none = none_drawn setting took.log mid new.receipts told took.taken.event took.taken.is_told (e ∙ ap not f) in
     let nobody : option_map (λ items. Step items) (drawn setting.table.central names words).0 ≡ None =
     sym (ap (λ (d : Option Event × Stream). d.0) took.taken.chosen) ∙ none in
     let few : front_of mid ≤ length took.log.entries = seen_few (front_of mid) took.log took.free in
@@ -159,7 +174,8 @@ quiet_behind setting words left old mid new own told b added took e f =
     }
 
 -- an injector that finds nothing finds no node, behind all that its clerk has seen
-pub empty_behind : (setting : Setting) (old mid new own : List Receipt) (told : Option Reply) → mid ≡ old ++ own → TakesChoice setting (λ s _. IsNone told ↔ (node_count s.network ≡ 0)) mid new told → IsNone told → IsEmptyBehind setting own
+pub empty_behind : (setting : Setting) (old mid : List Receipt) (new : ClerkView) (own : List Receipt) (told : Option Reply) → mid ≡ old ++ own
+    → TakesChoice setting (λ s _. IsNone told ↔ (node_count s.network ≡ 0)) mid new.receipts new.note told → IsNone told → IsEmptyBehind setting own
 empty_behind setting old mid new own told added took none =
     let few : front_of mid ≤ length took.log.entries = seen_few (front_of mid) took.log took.free in
     let low : front_of own ≤ front_of mid = subst (λ rs. front_of own ≤ front_of rs) (sym added) (front_low own old 0) in

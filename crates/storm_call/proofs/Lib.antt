@@ -1,4 +1,6 @@
+pub mod Lasting
 pub mod Adding
+pub mod Noted
 pub mod Turning
 pub mod Standing
 pub mod Forking

@@ -1,19 +1,24 @@
 -- What clerks have that had called nobody before they roamed.
-use Rattle.std.proofs.Common.{◌≡◌, ◌≢◌, ◌↔◌, ◌∙◌, ℕ, suc, ◌≤◌, List, [], ◌∷◌, ◌++◌, length, take, Result, Ok, Err, Option, None, IfErr, OnOk, IsErrOf, refl, sym, ap, subst, arith}
+use Rattle.std.proofs.Common.{◌≡◌, ◌≢◌, ◌↔◌, ◌∙◌, ℕ, suc, ◌≤◌, List, [], ◌∷◌, ◌++◌, length, take, Result, Ok, Err, Option, None, Some, IfErr, IfSome, IsSomeAnd, OnOk, IsErrOf, ⊎_elim, refl, sym, ap, subst, arith}
 use Rattle.std.specs.List.{All}
 use Rattle.std.proofs.lemmas.List.{length-drop, take_all}
-use Rattle.std.proofs.lemmas.List.Elements.{All-nil, All-cons, All-head, All-tail}
+use Rattle.std.proofs.lemmas.List.Elements.{All-nil, All-cons, All-head, All-tail, All-weaker}
 use Rattle.std.specs.Option.{option_or}
-use Rattle.locked_net.specs.Receipts.{ClerkView}
+use mathlib.Core.List.{IsPrefix}
+use Rattle.logbook.specs.Pages.{Book}
+use Rattle.board.specs.Views.{Told}
+use Rattle.locked_net.specs.Receipts.{ClerkView, fresh, noted, HasNoteOf, IsOfBook}
 use Rattle.locked_net.specs.Settings.{Setting}
-use Rattle.locked_net.specs.Roamed.{AllRoam, Roamed, TakesTurns, AllTakeTurns, MayStop}
+use Rattle.locked_net.specs.Roamed.{AllRoam, Roamed, KeepsNote, AllKeepNotes, TakesTurns, AllTakeTurns, MayStop}
 use Rattle.locked_net.specs.declared.roam_fault.RoamFault.{RoamFault}
 use Rattle.locked_net.specs.declared.roam_fault.RoamFault.TheVariants.{ZeroWorkers, Thread}
 use Rattle.locked_net.specs.declared.roam_fault.RoamFault.TheVariants as roam
 use Rattle.locked_net.specs.declared.call_fault.CallFault.{CallFault}
 use Rattle.script_text.specs.declared.script.ScriptLine.{ScriptLine}
-use Rattle.storm_call.specs.Storm.{AllPlayed, IsRoaming, AllTold}
+use Rattle.storm_call.specs.Storm.{IsRoaming}
+use Rattle.storm_call.specs.Played.{PlayedOn, ToldOn}
 use Rattle.storm_call.specs.Roaming.{RoamedAfresh, roam_fault}
+use Rattle.storm_call.proofs.Forking.{all_left}
 
 -- that of their turns alone
 all_turns : (turns : ℕ) (old new : List ClerkView) → AllRoam turns old new → All (λ clerk. clerk.receipts ≡ []) old → (length new ≡ length old) × All (λ clerk. IsRoaming turns clerk.receipts) new
@@ -54,11 +59,35 @@ all_took setting turns old new (Ok done) few same fresh took =
     let left : length new ≤ 64 = omega (arith, few, same) in
     fresh_turns setting turns old new (subst (λ news. AllTakeTurns setting turns old news) (take_all 64 new left) (subst (λ olds. AllTakeTurns setting turns olds (take 64 new)) (take_all 64 old few) took)) fresh
 
-pub roamed_afresh : (setting : Setting) (turns : ℕ) (old new : List ClerkView) (ended : Result Unit RoamFault) → length old ≤ 64 → All (λ clerk. clerk.receipts ≡ []) old
+-- who has called nobody has no receipts
+no_receipts : (clerks : List ClerkView) → All (λ clerk. clerk ≡ fresh) clerks → All (λ clerk. clerk.receipts ≡ []) clerks
+no_receipts clerks all = All-weaker (λ clerk. clerk ≡ fresh) (λ clerk. clerk.receipts ≡ []) (λ clerk is. ap (λ (c : ClerkView). c.receipts) is) clerks all
+
+pub roamed_afresh : (setting : Setting) (turns : ℕ) (old new : List ClerkView) (ended : Result Unit RoamFault) → length old ≤ 64 → All (λ clerk. clerk ≡ fresh) old
     → Roamed turns old new → OnOk ended (AllTakeTurns setting turns (take 64 old) (take 64 new)) → (IsErrOf ended ZeroWorkers ↔ (old ≡ [])) → IfErr ended (λ fault. MayStop new fault) → RoamedAfresh setting turns old new ended
-roamed_afresh setting turns old new ended few fresh roamed took none may_stop =
-    let all = all_turns turns old new (all_workers turns old new few roamed) fresh in
-    record { as_many = all.0; steps = all.1; whole = all_took setting turns old new ended few all.0 fresh took; nobody = none; thread = no_thread new ended may_stop }
+roamed_afresh setting turns old new ended few new_clerks roamed took none may_stop =
+    let all = all_turns turns old new (all_workers turns old new few roamed) (no_receipts old new_clerks) in
+    record { as_many = all.0; steps = all.1; whole = all_took setting turns old new ended few all.0 (no_receipts old new_clerks) took; nobody = none; thread = no_thread new ended may_stop }
+
+-- so their notes are of the network in which they roamed
+one_noted : (book : Book) (old new : ClerkView) → old ≡ fresh → KeepsNote book old new → IsOfBook book new
+one_noted book old new is keeps =
+    ⊎_elim
+    (λ (same : new.note ≡ old.note). subst (λ (o : Option Told). IfSome o (λ told. told.book ≡ book)) (sym (same ∙ ap (λ (c : ClerkView). c.note) is)) tt)
+    (λ (has : HasNoteOf book new). of_book new.note has)
+    keeps
+  where
+    of_book : (note : Option Told) → IsSomeAnd note (λ told. told.book ≡ book) → IfSome note (λ told. told.book ≡ book)
+    of_book None has = tt
+    of_book (Some told) has = has
+
+pub all_noted : (book : Book) (old new : List ClerkView) → All (λ clerk. clerk ≡ fresh) old → AllKeepNotes book old new → All (IsOfBook book) new
+all_noted book [] [] none keep = All-nil (IsOfBook book)
+all_noted book [] (new ∷ news) none keep = absurd keep
+all_noted book (old ∷ olds) [] none keep = absurd keep
+all_noted book (old ∷ olds) (new ∷ news) none (own, keep) =
+    let Fresh = λ (clerk : ClerkView). clerk ≡ fresh in
+    All-cons (IsOfBook book) new news (one_noted book old new (All-head Fresh old olds none) own) (all_noted book olds news (All-tail Fresh old olds none) keep)
 
 -- ---- beside scripts
 
@@ -81,17 +110,19 @@ whole_turns setting turns old new (Err roam.LogFull) roamed none = cc
 whole_turns setting turns old new (Err roam.Memory) roamed none = cc
 
 pub told_beside : (setting : Setting) (scripts : List (List ScriptLine)) (roamers turns : ℕ) (own before roaming : List ClerkView) (met fault : Option CallFault) (ended : Result Unit RoamFault)
-    → AllPlayed setting scripts own met → RoamedAfresh setting turns before roaming ended → length before ≡ roamers → fault ≡ option_or met (roam_fault ended) → AllTold setting scripts roamers turns (own ++ roaming) fault
+    → PlayedOn setting scripts own met → RoamedAfresh setting turns before roaming ended → length before ≡ roamers → fault ≡ option_or met (roam_fault ended) → ToldOn setting scripts roamers turns (own ++ roaming) fault
 told_beside setting scripts roamers turns own before roaming met fault ended played roamed size first = record {
-  own = own;
-  roaming = roaming;
-  met = met;
-  other = roam_fault ended;
-  all = refl;
-  played = played;
-  as_many = roamed.as_many ∙ size;
-  roamed = roamed.steps;
-  first = first;
-  nobody = λ none. nobody_met ended (roamed.nobody.1 (no_clerk before (size ∙ none)));
-  whole = whole_turns setting turns before roaming ended roamed;
+  each = λ log begin. record {
+    own = own;
+    roaming = roaming;
+    met = met;
+    other = roam_fault ended;
+    all = refl;
+    played = played.each log (all_left (λ clerk. IsPrefix (noted clerk.note) log) own roaming begin);
+    as_many = roamed.as_many ∙ size;
+    roamed = roamed.steps;
+    first = first;
+    nobody = λ none. nobody_met ended (roamed.nobody.1 (no_clerk before (size ∙ none)));
+    whole = whole_turns setting turns before roaming ended roamed;
+  };
 }

@@ -1,9 +1,21 @@
--- What the play of one command adds to a clerk's receipts.
-use Rattle.std.specs.Prelude.{◌≡◌, List, ◌++◌, Result, Ok, Err}
+-- What the play of one command adds to a clerk's receipts, and what is played by whom.
+use Rattle.std.specs.Prelude.{◌≡◌, ℕ, List, [], ◌∷◌, ◌++◌, Option, None, Result, Ok, Err}
+use Rattle.std.specs.List.{All}
+use Rattle.std.specs.Option.{option_or}
+use mathlib.Core.List.{IsPrefix}
+use Rattle.rule_machine.specs.Run.{Entry}
 use Rattle.step_log.specs.declared.receipt.Receipt.{Receipt}
+use Rattle.locked_net.specs.Receipts.{ClerkView, noted}
 use Rattle.locked_net.specs.Settings.{Setting}
+use Rattle.locked_net.specs.declared.call_fault.CallFault.{CallFault}
 use Rattle.script_text.specs.declared.command.Command.{Command}
-use Rattle.storm_call.specs.Storm.{IsFor, IsPartOf}
+use Rattle.script_text.specs.declared.script.ScriptLine.{ScriptLine}
+use Rattle.storm_call.specs.Turns.{Scene}
+use Rattle.storm_call.specs.Storm.{IsFor, IsPartOf, MayStop, AllPlayed, AllTold}
+
+-- the log as far as a clerk's note tells it
+abbrev pub scene_of : Setting → ClerkView → Scene
+scene_of setting clerk = record { setting = setting; log = noted clerk.note }
 
 -- some receipts were added, and P holds of them
 pub record Adds (P : List Receipt → Type 0) (old new : List Receipt) : Type 0 where
@@ -11,7 +23,23 @@ pub record Adds (P : List Receipt → Type 0) (old new : List Receipt) : Type 0 
   pub added : new ≡ old ++ own
   pub fits : P own
 
--- the command was carried out, or a fault broke it off
-abbrev pub Plays : {A E : Type 0} → Setting → Command → List Receipt → List Receipt → Result A E → Type 0
-Plays setting command old new (Ok done) = Adds (IsFor setting command) old new
-Plays setting command old new (Err fault) = Adds (IsPartOf setting command) old new
+-- the command was carried out, or a fault broke it off, on the log as the clerk's note tells it then
+abbrev pub Plays : {A E : Type 0} → Setting → Command → ClerkView → ClerkView → Result A E → Type 0
+Plays setting command old new (Ok done) = Adds (IsFor (scene_of setting new) command) old.receipts new.receipts
+Plays setting command old new (Err fault) = Adds (IsPartOf (scene_of setting new) command) old.receipts new.receipts
+
+-- each script was played by the clerk at its place, on the log as this one's note tells it
+abbrev pub AllStop : Setting → List (List ScriptLine) → List ClerkView → Option CallFault → Type 0
+AllStop setting [] [] fault = fault ≡ None
+AllStop setting (script ∷ scripts) (clerk ∷ clerks) fault =
+    (own : Option CallFault) × (others : Option CallFault) × (fault ≡ option_or own others) × MayStop (scene_of setting clerk) script clerk.receipts own × AllStop setting scripts clerks others
+AllStop setting scripts clerks fault = ⊥
+
+-- What each of these clerks was told is of one log, whichever it is, that begins with what their notes tell: each script was played by the clerk at its
+-- place.
+pub record PlayedOn (setting : Setting) (scripts : List (List ScriptLine)) (clerks : List ClerkView) (fault : Option CallFault) : Type 0 where
+  pub each : (log : List Entry) → All (λ clerk. IsPrefix (noted clerk.note) log) clerks → AllPlayed (record { setting = setting; log = log }) scripts clerks fault
+
+-- So it is of these clerks, of which some roamed.
+pub record ToldOn (setting : Setting) (scripts : List (List ScriptLine)) (roamers turns : ℕ) (clerks : List ClerkView) (fault : Option CallFault) : Type 0 where
+  pub each : (log : List Entry) → All (λ clerk. IsPrefix (noted clerk.note) log) clerks → AllTold (record { setting = setting; log = log }) scripts roamers turns clerks fault

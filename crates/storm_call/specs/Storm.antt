@@ -24,7 +24,7 @@ use Rattle.locked_net.specs.Settled.{Settled}
 use Rattle.locked_net.specs.Roamed.{IsLoneStep, TakesTurns}
 use Rattle.locked_net.specs.declared.call_fault.CallFault.{CallFault}
 use Rattle.script_text.specs.declared.script.ScriptLine.{ScriptLine}
-use Rattle.storm_call.specs.Turns.{DrawnFrom, IsQuietBehind, IsEmptyBehind}
+use Rattle.storm_call.specs.Turns.{Scene, DrawnFrom, IsQuietBehind, IsEmptyBehind}
 
 -- the receipt of a step that was answered by its moves
 pub record IsOfStep (receipt : Receipt) : Type 0 where
@@ -41,29 +41,29 @@ pub record IsOfFault (receipt : Receipt) : Type 0 where
 -- What a command is told when it was carried out: one receipt of its event; or the receipts of its turns, by the words of the generator
 -- that it seeds. There are fewer turns than it asks for only where a daemon found no node enabled, or an injector no
 -- node to break, behind the last of them.
-abbrev pub IsFor : Setting → Command → List Receipt → Type 0
-IsFor setting (Tell event) own = map (λ r. r.event) own ≡ event ∷ []
-IsFor setting (Drive turns) own =
-    (length own ≤ turns.count) × DrawnFrom setting drawn_step (seeded_stream turns.seed) IsOfStep own × (length own < turns.count → IsQuietBehind setting own)
-IsFor setting (Scramble turns) own =
-    (length own ≤ turns.count) × DrawnFrom setting drawn_fault (seeded_stream turns.seed) IsOfFault own × (length own < turns.count → IsEmptyBehind setting own)
+abbrev pub IsFor : Scene → Command → List Receipt → Type 0
+IsFor scene (Tell event) own = map (λ r. r.event) own ≡ event ∷ []
+IsFor scene (Drive turns) own =
+    (length own ≤ turns.count) × DrawnFrom scene drawn_step (seeded_stream turns.seed) IsOfStep own × (length own < turns.count → IsQuietBehind scene.setting own)
+IsFor scene (Scramble turns) own =
+    (length own ≤ turns.count) × DrawnFrom scene drawn_fault (seeded_stream turns.seed) IsOfFault own × (length own < turns.count → IsEmptyBehind scene.setting own)
 
 -- what it is told when a fault broke it off: nothing of its event; or fewer turns than it asks for
-abbrev pub IsPartOf : Setting → Command → List Receipt → Type 0
-IsPartOf setting (Tell event) own = own ≡ []
-IsPartOf setting (Drive turns) own =
-    (length own < turns.count) × DrawnFrom setting drawn_step (seeded_stream turns.seed) IsOfStep own
-IsPartOf setting (Scramble turns) own =
-    (length own < turns.count) × DrawnFrom setting drawn_fault (seeded_stream turns.seed) IsOfFault own
+abbrev pub IsPartOf : Scene → Command → List Receipt → Type 0
+IsPartOf scene (Tell event) own = own ≡ []
+IsPartOf scene (Drive turns) own =
+    (length own < turns.count) × DrawnFrom scene drawn_step (seeded_stream turns.seed) IsOfStep own
+IsPartOf scene (Scramble turns) own =
+    (length own < turns.count) × DrawnFrom scene drawn_fault (seeded_stream turns.seed) IsOfFault own
 
 -- the receipts are those of these lines, each line's behind those of the line before it
-abbrev pub Stands : Setting → List ScriptLine → List Receipt → Type 0
-Stands setting [] receipts = receipts ≡ []
-Stands setting (line ∷ lines) receipts =
-    (own : List Receipt) × (rest : List Receipt) × (receipts ≡ own ++ rest) × IsFor setting line.command own × Stands setting lines rest
+abbrev pub Stands : Scene → List ScriptLine → List Receipt → Type 0
+Stands scene [] receipts = receipts ≡ []
+Stands scene (line ∷ lines) receipts =
+    (own : List Receipt) × (rest : List Receipt) × (receipts ≡ own ++ rest) × IsFor scene line.command own × Stands scene lines rest
 
 -- the receipts are those of the lines before one that was broken off, and then of a part of it
-pub record StandsInPart (setting : Setting) (lines : List ScriptLine) (receipts : List Receipt) : Type 0 where
+pub record StandsInPart (scene : Scene) (lines : List ScriptLine) (receipts : List Receipt) : Type 0 where
   pub before : List ScriptLine
   pub line : ScriptLine
   pub behind : List ScriptLine
@@ -71,21 +71,21 @@ pub record StandsInPart (setting : Setting) (lines : List ScriptLine) (receipts 
   pub part : List Receipt
   pub splits : lines ≡ before ++ line ∷ behind
   pub told : receipts ≡ done ++ part
-  pub whole : Stands setting before done
-  pub broken : IsPartOf setting line.command part
+  pub whole : Stands scene before done
+  pub broken : IsPartOf scene line.command part
 
 -- a script was played to its end, or up to a fault
-abbrev pub MayStop : Setting → List ScriptLine → List Receipt → Option CallFault → Type 0
-MayStop setting lines receipts None = Stands setting lines receipts
-MayStop setting lines receipts (Some fault) = StandsInPart setting lines receipts
+abbrev pub MayStop : Scene → List ScriptLine → List Receipt → Option CallFault → Type 0
+MayStop scene lines receipts None = Stands scene lines receipts
+MayStop scene lines receipts (Some fault) = StandsInPart scene lines receipts
 
 -- Each script was played by the clerk at its place; the fault is the first that a script met, in the order of the scripts, and
 -- there is none where all were played to their ends.
-abbrev pub AllPlayed : Setting → List (List ScriptLine) → List ClerkView → Option CallFault → Type 0
-AllPlayed setting [] [] fault = fault ≡ None
-AllPlayed setting (script ∷ scripts) (clerk ∷ clerks) fault =
-    (own : Option CallFault) × (others : Option CallFault) × (fault ≡ option_or own others) × MayStop setting script clerk.receipts own × AllPlayed setting scripts clerks others
-AllPlayed setting scripts clerks fault = ⊥
+abbrev pub AllPlayed : Scene → List (List ScriptLine) → List ClerkView → Option CallFault → Type 0
+AllPlayed scene [] [] fault = fault ≡ None
+AllPlayed scene (script ∷ scripts) (clerk ∷ clerks) fault =
+    (own : Option CallFault) × (others : Option CallFault) × (fault ≡ option_or own others) × MayStop scene script clerk.receipts own × AllPlayed scene scripts clerks others
+AllPlayed scene scripts clerks fault = ⊥
 
 -- what a worker is told who roams for so many turns: steps of one node alone, one a turn at most
 abbrev pub IsRoaming : ℕ → List Receipt → Type 0
@@ -94,22 +94,22 @@ IsRoaming turns own = (length own ≤ turns) × All IsLoneStep own
 -- The clerks of a storm are one for each script, by which it was played, and behind them one for each worker that roamed. The fault
 -- is the first that a script met, in the order of the scripts; where none did, it is one that a worker met, if there are workers and
 -- one of them met any. Where none of these did, each took all its turns, and each turn was one on a run of the rules.
-pub record AllTold (setting : Setting) (scripts : List (List ScriptLine)) (roamers turns : ℕ) (clerks : List ClerkView) (fault : Option CallFault) : Type 0 where
+pub record AllTold (scene : Scene) (scripts : List (List ScriptLine)) (roamers turns : ℕ) (clerks : List ClerkView) (fault : Option CallFault) : Type 0 where
   pub own : List ClerkView
   pub roaming : List ClerkView
   pub met : Option CallFault
   pub other : Option CallFault
   pub all : clerks ≡ own ++ roaming
-  pub played : AllPlayed setting scripts own met
+  pub played : AllPlayed scene scripts own met
   pub as_many : length roaming ≡ roamers
   pub roamed : All (λ clerk. IsRoaming turns clerk.receipts) roaming
   pub first : fault ≡ option_or met other
   pub nobody : roamers ≡ 0 → other ≡ None
-  pub whole : other ≡ None → All (λ clerk. TakesTurns setting turns [] clerk.receipts) roaming
+  pub whole : other ≡ None → All (λ clerk. TakesTurns scene.setting turns [] clerk.receipts) roaming
 
 -- The log that these scripts leave with so many workers beside them, and the first fault that was met: the clerks account for the
--- whole log.
+-- whole log, and each turn of a script was taken on a beginning of it.
 pub record IsStorm (setting : Setting) (log : List Entry) (scripts : List (List ScriptLine)) (roamers turns : ℕ) (fault : Option CallFault) : Type 0 where
   pub clerks : List ClerkView
   pub settled : Settled log clerks
-  pub told : AllTold setting scripts roamers turns clerks fault
+  pub told : AllTold (record { setting = setting; log = log }) scripts roamers turns clerks fault

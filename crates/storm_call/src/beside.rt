@@ -1,12 +1,13 @@
 //! Scripts that are played while workers roam beside them.
 
-ghost use Rattle.std.specs.Prelude.{◌≡◌, ◌≢◌, ◌+◌, ◌≤◌, [], length, IfErr};
+ghost use Rattle.std.specs.Prelude.{◌≡◌, ◌≢◌, ◌+◌, ◌≤◌, length, IfErr};
 ghost use Rattle.std.specs.List.{All};
 ghost use Rattle.std.specs.Option.{option_or};
 ghost use Rattle.std.specs.Thread.{IsSync, IsSend};
-ghost use Rattle.locked_net.specs.Nets.{setting_of};
+ghost use Rattle.locked_net.specs.Nets.{book_of, setting_of};
+ghost use Rattle.locked_net.specs.Receipts.{fresh, IsOfBook};
 ghost use Rattle.locked_net.specs.declared.roam_fault.RoamFault.TheVariants.{Thread};
-ghost use Rattle.storm_call.specs.Storm.{AllPlayed, AllTold};
+ghost use Rattle.storm_call.specs.Played.{PlayedOn, ToldOn};
 ghost use Rattle.storm_call.specs.Roaming.{RoamedAfresh, roam_fault};
 
 use crate::forks::play_all;
@@ -28,8 +29,9 @@ pub(crate) fn play_beside<R: Rules + Send + Sync, G: Gate + Sync, T: Threads + W
 ) -> Option<CallFault>
     requires size { length clerks.old ≡ length scripts.now + stage.now.crew.roamers }
     requires few { length scripts.now ≤ 64 }
-    requires fresh { All (λ clerk. clerk.receipts ≡ []) clerks.old }
-    ensures { AllTold (setting_of R.table stage.now.net.now) scripts.now stage.now.crew.roamers stage.now.crew.turns clerks.new result }
+    requires fresh { All (λ clerk. clerk ≡ fresh) clerks.old }
+    ensures told { ToldOn (setting_of R.table stage.now.net.now) scripts.now stage.now.crew.roamers stage.now.crew.turns clerks.new result }
+    ensures notes { All (IsOfBook (book_of stage.now.net.now)) clerks.new }
 {
     let (own, roaming) = clerks.split_at_mut(scripts.len());
     let (met, roamed) = play_and_roam(rt, stage, scripts, own, roaming);
@@ -47,10 +49,12 @@ fn play_and_roam<R: Rules + Send + Sync, G: Gate + Sync, T: Threads + Wait + Syn
     requires size { length scripts.now ≡ length own.old }
     requires few_scripts { length scripts.now ≤ 64 }
     requires few_workers { length roaming.old ≤ 64 }
-    requires own_fresh { All (λ clerk. clerk.receipts ≡ []) own.old }
-    requires roaming_fresh { All (λ clerk. clerk.receipts ≡ []) roaming.old }
-    ensures played { AllPlayed (setting_of R.table stage.now.net.now) scripts.now own.new result.0 }
+    requires own_fresh { All (λ clerk. clerk ≡ fresh) own.old }
+    requires roaming_fresh { All (λ clerk. clerk ≡ fresh) roaming.old }
+    ensures played { PlayedOn (setting_of R.table stage.now.net.now) scripts.now own.new result.0 }
     ensures roamed { RoamedAfresh (setting_of R.table stage.now.net.now) stage.now.crew.turns roaming.old roaming.new result.1 }
+    ensures own_notes { All (IsOfBook (book_of stage.now.net.now)) own.new }
+    ensures roaming_notes { All (IsOfBook (book_of stage.now.net.now)) roaming.new }
 {
     if roaming.is_empty() {
         return (
@@ -62,12 +66,14 @@ fn play_and_roam<R: Rules + Send + Sync, G: Gate + Sync, T: Threads + Wait + Syn
     let (roamed, met) = join_mut(
         rt,
         &mut || -> Result<(), RoamFault>
-            requires { IsSync T.row × IsSend R.row × (length roaming.now ≤ 64) × All (λ clerk. clerk.receipts ≡ []) roaming.now }
-            ensures { RoamedAfresh (setting_of R.table stage.entry.now.net.now) turns roaming.entry.now roaming.exit.now result }
+            requires { IsSync T.row × IsSend R.row × (length roaming.now ≤ 64) × All (λ clerk. clerk ≡ fresh) roaming.now }
+            ensures roamed { RoamedAfresh (setting_of R.table stage.entry.now.net.now) turns roaming.entry.now roaming.exit.now result }
+            ensures notes { All (IsOfBook (book_of stage.entry.now.net.now)) roaming.exit.now }
         { roam_new(rt, stage, turns, roaming) },
         &mut || -> Option<CallFault>
-            requires { IsSync T.row × IsSync G.row × IsSend R.row × IsSync R.row × (length scripts.now ≡ length own.now) × (length scripts.now ≤ 64) × All (λ clerk. clerk.receipts ≡ []) own.now }
-            ensures { AllPlayed (setting_of R.table stage.entry.now.net.now) scripts.entry.now own.exit.now result }
+            requires { IsSync T.row × IsSync G.row × IsSend R.row × IsSync R.row × (length scripts.now ≡ length own.now) × (length scripts.now ≤ 64) × All (λ clerk. clerk ≡ fresh) own.now }
+            ensures played { PlayedOn (setting_of R.table stage.entry.now.net.now) scripts.entry.now own.exit.now result }
+            ensures notes { All (IsOfBook (book_of stage.entry.now.net.now)) own.exit.now }
         { play_all(rt, stage, 0, scripts, own) },
     );
     (met, roamed)
@@ -81,8 +87,9 @@ fn roam_new<R: Rules + Send, G: Gate, T: Threads + Wait + Sync>(
     clerks: &mut [Clerk],
 ) -> Result<(), RoamFault>
     requires few { length clerks.old ≤ 64 }
-    requires fresh { All (λ clerk. clerk.receipts ≡ []) clerks.old }
-    ensures { RoamedAfresh (setting_of R.table stage.now.net.now) turns clerks.old clerks.new result }
+    requires fresh { All (λ clerk. clerk ≡ fresh) clerks.old }
+    ensures roamed { RoamedAfresh (setting_of R.table stage.now.net.now) turns clerks.old clerks.new result }
+    ensures notes { All (IsOfBook (book_of stage.now.net.now)) clerks.new }
 {
     roam(rt, stage.net, clerks, turns, &NoGate)
 }

@@ -1,10 +1,11 @@
 //! How many scripts are played at once.
 
-ghost use Rattle.std.specs.Prelude.{◌≡◌, ◌+◌, ◌<◌, ◌^◌, [], length};
+ghost use Rattle.std.specs.Prelude.{◌≡◌, ◌+◌, ◌<◌, ◌^◌, length};
 ghost use Rattle.std.specs.List.{All};
 ghost use Rattle.std.specs.Thread.{IsSync, IsSend};
-ghost use Rattle.locked_net.specs.Nets.{setting_of};
-ghost use Rattle.storm_call.specs.Storm.{AllPlayed};
+ghost use Rattle.locked_net.specs.Nets.{book_of, setting_of};
+ghost use Rattle.locked_net.specs.Receipts.{fresh, IsOfBook};
+ghost use Rattle.storm_call.specs.Played.{PlayedOn};
 
 use crate::stage::{Stage, play_first};
 use locked_net::{CallFault, Clerk};
@@ -17,6 +18,7 @@ use steal_pool::Gate;
 /// Plays each script by the clerk at its place, all at once where threads can be had, and answers the first fault in their
 /// order. The first script has the number handed in.
 #[cycle(forks)]
+#[tactic(auto, using(crate::proofs::Forking::on_one_log))]
 pub(crate) fn play_all<R: Rules + Send + Sync, G: Gate + Sync, T: Threads + Wait + Sync>(
     rt: &T,
     stage: &Stage<R, G>,
@@ -26,8 +28,9 @@ pub(crate) fn play_all<R: Rules + Send + Sync, G: Gate + Sync, T: Threads + Wait
 ) -> Option<CallFault>
     requires size { length scripts.now ≡ length clerks.old }
     requires numbers { first + length scripts.now < 2 ^ 32 }
-    requires fresh { All (λ clerk. clerk.receipts ≡ []) clerks.old }
-    ensures { AllPlayed (setting_of R.table stage.now.net.now) scripts.now clerks.new result }
+    requires fresh { All (λ clerk. clerk ≡ fresh) clerks.old }
+    ensures played { PlayedOn (setting_of R.table stage.now.net.now) scripts.now clerks.new result }
+    ensures notes { All (IsOfBook (book_of stage.now.net.now)) clerks.new }
 {
     if scripts.len() < 2 {
         return play_first(rt, stage, first, scripts, clerks);
@@ -53,21 +56,25 @@ fn play_halves<R: Rules + Send + Sync, G: Gate + Sync, T: Threads + Wait + Sync>
     requires left_size { length left.now ≡ length ours.old }
     requires right_size { length right.now ≡ length theirs.old }
     requires numbers { first + length left.now + length right.now < 2 ^ 32 }
-    requires left_fresh { All (λ clerk. clerk.receipts ≡ []) ours.old }
-    requires right_fresh { All (λ clerk. clerk.receipts ≡ []) theirs.old }
-    ensures left { AllPlayed (setting_of R.table stage.now.net.now) left.now ours.new result.0 }
-    ensures right { AllPlayed (setting_of R.table stage.now.net.now) right.now theirs.new result.1 }
+    requires left_fresh { All (λ clerk. clerk ≡ fresh) ours.old }
+    requires right_fresh { All (λ clerk. clerk ≡ fresh) theirs.old }
+    ensures left { PlayedOn (setting_of R.table stage.now.net.now) left.now ours.new result.0 }
+    ensures right { PlayedOn (setting_of R.table stage.now.net.now) right.now theirs.new result.1 }
+    ensures left_notes { All (IsOfBook (book_of stage.now.net.now)) ours.new }
+    ensures right_notes { All (IsOfBook (book_of stage.now.net.now)) theirs.new }
 {
     let second = first + left.len() as u32;
     join_mut(
         rt,
         &mut || -> Option<CallFault>
-            requires { IsSync T.row × IsSync G.row × IsSend R.row × IsSync R.row × (length left.now ≡ length ours.now) × (first + length left.now < 2 ^ 32) × All (λ clerk. clerk.receipts ≡ []) ours.now }
-            ensures { AllPlayed (setting_of R.table stage.entry.now.net.now) left.entry.now ours.exit.now result }
+            requires { IsSync T.row × IsSync G.row × IsSend R.row × IsSync R.row × (length left.now ≡ length ours.now) × (first + length left.now < 2 ^ 32) × All (λ clerk. clerk ≡ fresh) ours.now }
+            ensures played { PlayedOn (setting_of R.table stage.entry.now.net.now) left.entry.now ours.exit.now result }
+            ensures notes { All (IsOfBook (book_of stage.entry.now.net.now)) ours.exit.now }
         { play_all(rt, stage, first, left, ours) },
         &mut || -> Option<CallFault>
-            requires { IsSync T.row × IsSync G.row × IsSend R.row × IsSync R.row × (length right.now ≡ length theirs.now) × (second + length right.now < 2 ^ 32) × All (λ clerk. clerk.receipts ≡ []) theirs.now }
-            ensures { AllPlayed (setting_of R.table stage.entry.now.net.now) right.entry.now theirs.exit.now result }
+            requires { IsSync T.row × IsSync G.row × IsSend R.row × IsSync R.row × (length right.now ≡ length theirs.now) × (second + length right.now < 2 ^ 32) × All (λ clerk. clerk ≡ fresh) theirs.now }
+            ensures played { PlayedOn (setting_of R.table stage.entry.now.net.now) right.entry.now theirs.exit.now result }
+            ensures notes { All (IsOfBook (book_of stage.entry.now.net.now)) theirs.exit.now }
         { play_all(rt, stage, second, right, theirs) },
     )
 }

@@ -1,7 +1,9 @@
 //! How a command is carried out.
 
+ghost use mathlib.Core.List.{IsPrefix};
 ghost use Rattle.rule_machine.specs.declared.event.Event.TheVariants.{Step};
-ghost use Rattle.locked_net.specs.Nets.{setting_of};
+ghost use Rattle.locked_net.specs.Nets.{book_of, setting_of};
+ghost use Rattle.locked_net.specs.Receipts.{IsOfBook, noted};
 ghost use Rattle.script_text.specs.declared.command.Command.TheVariants.{Tell};
 ghost use Rattle.storm_call.specs.Played.{Plays};
 
@@ -22,10 +24,17 @@ fn step<R: Rules + Sync, G: Gate, T: Threads + Wait + Sync>(
     clerk: &mut Clerk,
     choice: Choice,
 ) -> Result<(), CallFault>
-    ensures { Plays (setting_of R.table stage.now.net.now) (Tell (Step choice)) clerk.old.receipts clerk.new.receipts result }
+    requires { IsOfBook (book_of stage.now.net.now) clerk.old }
+    ensures plays { Plays (setting_of R.table stage.now.net.now) (Tell (Step choice)) clerk.old clerk.new result }
+    ensures note { IsOfBook (book_of stage.now.net.now) clerk.new }
+    ensures grows { IsPrefix (noted clerk.old.note) (noted clerk.new.note) }
 {
+    let before = clerk.noted();
     match clerk.step_with(rt, stage.net, choice, stage.crew.workers, &NoGate) {
-        Ok(_) => Ok(()),
+        Ok(_) => {
+            clerk.follows(&before);
+            Ok(())
+        }
         Err(StepFault::Call(fault)) => Err(fault),
         Err(StepFault::Pool(_)) => unreachable!(),
     }
@@ -37,12 +46,17 @@ fn tell<R: Rules + Sync, G: Gate, T: Threads + Wait + Sync>(
     clerk: &mut Clerk,
     event: &Event,
 ) -> Result<(), CallFault>
-    ensures { Plays (setting_of R.table stage.now.net.now) (Tell event.now) clerk.old.receipts clerk.new.receipts result }
+    requires { IsOfBook (book_of stage.now.net.now) clerk.old }
+    ensures plays { Plays (setting_of R.table stage.now.net.now) (Tell event.now) clerk.old clerk.new result }
+    ensures note { IsOfBook (book_of stage.now.net.now) clerk.new }
+    ensures grows { IsPrefix (noted clerk.old.note) (noted clerk.new.note) }
 {
     match event.clone()? {
         Event::Step(choice) => step(rt, stage, clerk, choice),
         event => {
+            let before = clerk.noted();
             clerk.call(rt, stage.net, event)?;
+            clerk.follows(&before);
             Ok(())
         }
     }
@@ -55,7 +69,10 @@ pub(crate) fn play<R: Rules + Sync, G: Gate, T: Threads + Wait + Sync>(
     clerk: &mut Clerk,
     command: &Command,
 ) -> Result<(), CallFault>
-    ensures { Plays (setting_of R.table stage.now.net.now) command.now clerk.old.receipts clerk.new.receipts result }
+    requires { IsOfBook (book_of stage.now.net.now) clerk.old }
+    ensures plays { Plays (setting_of R.table stage.now.net.now) command.now clerk.old clerk.new result }
+    ensures note { IsOfBook (book_of stage.now.net.now) clerk.new }
+    ensures grows { IsPrefix (noted clerk.old.note) (noted clerk.new.note) }
 {
     match command {
         Command::Tell(event) => tell(rt, stage, clerk, event),

@@ -1,17 +1,18 @@
 //! Scripts and workers on one network, and the log that they leave.
 
-ghost use Rattle.std.specs.Prelude.{◌≡◌, ◌≤◌, [], length, IfOk, vec_len};
+ghost use Rattle.std.specs.Prelude.{◌≡◌, ◌≤◌, length, IfOk, vec_len};
 ghost use Rattle.std.specs.List.{All};
 ghost use Rattle.step_log.specs.Headline.{Upholds};
 ghost use Rattle.step_log.specs.Held.{log_of};
 ghost use Rattle.step_log.specs.Log.{IsLog};
 ghost use Rattle.locked_net.specs.Nets.{nodes_of, first_of, limit_of, setting_of};
+ghost use Rattle.locked_net.specs.Receipts.{fresh};
 ghost use Rattle.storm_call.specs.Storm.{IsStorm};
 
 use crate::beside::play_beside;
 use crate::stage::Stage;
 use crate::{Crew, PlayFault};
-use locked_net::{CallFault, Clerk, LockedNet, settle};
+use locked_net::{CallFault, Clerk, LockedNet, settle_own};
 use rule_machine::Want;
 use rule_set::Rules;
 use script_text::Script;
@@ -24,7 +25,7 @@ use step_log::Journal;
 /// As many clerks, who have called nobody.
 fn clerks_of<R: Rules>(alloc: Global, net: &LockedNet<R>, count: usize) -> Result<Vec<Clerk>, Want>
     ensures count { IfOk result (λ clerks. vec_len clerks ≡ count) }
-    ensures fresh { IfOk result (λ clerks. All (λ clerk. clerk.receipts ≡ []) clerks.items) }
+    ensures fresh { IfOk result (λ clerks. All (λ clerk. clerk ≡ fresh) clerks.items) }
 {
     let mut clerks = Vec::new(alloc);
     for _ in 0..count {
@@ -71,7 +72,7 @@ pub fn play_scripts<R: Rules + Send + Sync, G: Gate + Sync, T: Threads + Wait + 
         crew,
     };
     let fault = play_beside(rt, &stage, scripts, &mut clerks);
-    match settle(rt, net, clerks) {
+    match settle_own(rt, net, clerks) {
         Ok(journal) => Ok((journal, fault)),
         Err(unsettled) => Err(PlayFault::from(unsettled.why)),
     }

@@ -1,10 +1,12 @@
 //! How one script is played.
 
-ghost use Rattle.std.specs.Prelude.{◌≡◌, ◌<◌, [], length};
+ghost use Rattle.std.specs.Prelude.{◌≡◌, ◌<◌, length};
 ghost use Rattle.std.specs.List.{All};
 ghost use Rattle.std.specs.Result.{result_err};
-ghost use Rattle.locked_net.specs.Nets.{setting_of};
-ghost use Rattle.storm_call.specs.Storm.{MayStop, AllPlayed};
+ghost use Rattle.locked_net.specs.Nets.{book_of, setting_of};
+ghost use Rattle.locked_net.specs.Receipts.{fresh, IsOfBook};
+ghost use Rattle.storm_call.specs.Storm.{MayStop};
+ghost use Rattle.storm_call.specs.Played.{scene_of, AllStop};
 
 use crate::Crew;
 use crate::play::play;
@@ -34,8 +36,9 @@ fn play_script<R: Rules + Sync, G: Gate, T: Threads + Wait + Sync>(
     script: &Script,
     clerk: &mut Clerk,
 ) -> Result<(), CallFault>
-    requires { clerk.old.receipts ≡ [] }
-    ensures { MayStop (setting_of R.table stage.now.net.now) script.now clerk.new.receipts (result_err result) }
+    requires { clerk.old ≡ fresh }
+    ensures played { MayStop (scene_of (setting_of R.table stage.now.net.now) clerk.new) script.now clerk.new.receipts (result_err result) }
+    ensures note { IsOfBook (book_of stage.now.net.now) clerk.new }
 {
     for line in script.lines() {
         stage.gate.pass(rt, number, line.line);
@@ -54,8 +57,9 @@ pub(crate) fn play_first<R: Rules + Sync, G: Gate, T: Threads + Wait + Sync>(
 ) -> Option<CallFault>
     requires few { length scripts.now < 2 }
     requires size { length scripts.now ≡ length clerks.old }
-    requires fresh { All (λ clerk. clerk.receipts ≡ []) clerks.old }
-    ensures { AllPlayed (setting_of R.table stage.now.net.now) scripts.now clerks.new result }
+    requires fresh { All (λ clerk. clerk ≡ fresh) clerks.old }
+    ensures played { AllStop (setting_of R.table stage.now.net.now) scripts.now clerks.new result }
+    ensures notes { All (IsOfBook (book_of stage.now.net.now)) clerks.new }
 {
     if scripts.is_empty() {
         return None;

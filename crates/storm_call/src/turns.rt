@@ -1,6 +1,8 @@
 //! How the turns of one line are taken.
 
-ghost use Rattle.locked_net.specs.Nets.{setting_of};
+ghost use mathlib.Core.List.{IsPrefix};
+ghost use Rattle.locked_net.specs.Nets.{book_of, setting_of};
+ghost use Rattle.locked_net.specs.Receipts.{IsOfBook, noted};
 ghost use Rattle.script_text.specs.declared.command.Command.TheVariants.{Drive, Scramble};
 ghost use Rattle.storm_call.specs.Played.{Plays};
 
@@ -22,13 +24,18 @@ pub(crate) fn drive<R: Rules, W: Wait>(
     clerk: &mut Clerk,
     turns: Turns,
 ) -> Result<(), CallFault>
-    ensures { Plays (setting_of R.table net.now) (Drive turns) clerk.old.receipts clerk.new.receipts result }
+    requires { IsOfBook (book_of net.now) clerk.old }
+    ensures plays { Plays (setting_of R.table net.now) (Drive turns) clerk.old clerk.new result }
+    ensures note { IsOfBook (book_of net.now) clerk.new }
+    ensures grows { IsPrefix (noted clerk.old.note) (noted clerk.new.note) }
 {
     let mut daemon = Seeded::new(alloc, Pcg32::seed_from_u64(turns.seed));
     for _ in 0..turns.count {
+        let before = clerk.noted();
         if clerk.drive_with(rt, net, &mut daemon)?.is_none() {
             return Ok(());
         }
+        clerk.follows(&before);
     }
     Ok(())
 }
@@ -40,13 +47,18 @@ pub(crate) fn scramble<R: Rules, W: Wait>(
     clerk: &mut Clerk,
     turns: Turns,
 ) -> Result<(), CallFault>
-    ensures { Plays (setting_of R.table net.now) (Scramble turns) clerk.old.receipts clerk.new.receipts result }
+    requires { IsOfBook (book_of net.now) clerk.old }
+    ensures plays { Plays (setting_of R.table net.now) (Scramble turns) clerk.old clerk.new result }
+    ensures note { IsOfBook (book_of net.now) clerk.new }
+    ensures grows { IsPrefix (noted clerk.old.note) (noted clerk.new.note) }
 {
     let mut injector = Injector::new(Pcg32::seed_from_u64(turns.seed));
     for _ in 0..turns.count {
+        let before = clerk.noted();
         if clerk.fault_with(rt, net, &mut injector)?.is_none() {
             return Ok(());
         }
+        clerk.follows(&before);
     }
     Ok(())
 }

@@ -2,7 +2,7 @@
 
 ghost use Rattle.std.specs.Prelude.{◌≡◌, ◌<◌, ◌++◌, ◌∷◌, [], length, None, Some, IfOk, IfErr, OnOk, OnErr, vec_capacity};
 ghost use Rattle.step_log.specs.Log.{IsLog, recorded, receipt_of};
-ghost use Rattle.locked_net.specs.Receipts.{HasNoteOf, front_of};
+ghost use Rattle.locked_net.specs.Receipts.{HasNoteOf, front_of, noted};
 ghost use Rattle.locked_net.specs.Keys.{KeepsKey};
 ghost use Rattle.locked_net.specs.Calls.{call_fault, Explains};
 ghost use Rattle.locked_net.specs.declared.call_fault.CallFault.TheVariants.{Memory};
@@ -50,6 +50,7 @@ impl Clerk {
         ensures receipt { OnOk result (self.new.receipts ≡ self.old.receipts ++ receipt_of R.table desk.old.log event ∷ []) }
         ensures reply { IfOk result (λ reply. reply ≡ (receipt_of R.table desk.old.log event).reply) }
         ensures note { OnOk result (HasNoteOf desk.old.name.book self.new) }
+        ensures tells { OnOk result (noted self.new.note ≡ desk.new.log.entries) }
         ensures key { KeepsKey desk.old desk.new }
         ensures fault { IfErr result (λ fault. fault ≡ Memory) }
         ensures kept { OnErr result ((self.new ≡ self.old) × (desk.new ≡ desk.old)) }

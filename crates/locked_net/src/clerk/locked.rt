@@ -85,7 +85,7 @@ impl Clerk {
     ) -> Result<Option<Reply>, CallFault>
         ensures note { IfOk result (λ told. IfSome told (λ _. HasNoteOf (book_of net.now) self.new)) }
         ensures step { IfOk result (λ told. MatchOption told (self.new ≡ self.old) (KeepsStep R.table.central self.old.receipts self.new.receipts)) }
-        ensures chosen { IfOk result (TakesChoice (setting_of R.table net.now) (ChoosesStep R.table (λ names choice. D.chooses names R.table.central daemon.old choice daemon.new)) self.old.receipts self.new.receipts) }
+        ensures chosen { IfOk result (TakesChoice (setting_of R.table net.now) (ChoosesStep R.table (λ names choice. D.chooses names R.table.central daemon.old choice daemon.new)) self.old.receipts self.new.receipts self.new.note) }
         ensures fault { IfErr result (λ fault. MayAnswer (front_of self.old.receipts) fault) }
         ensures refused { IfErr result (Refuses (setting_of R.table net.now) (front_of self.old.receipts)) }
         ensures kept { OnErr result (self.new ≡ self.old) }
@@ -105,10 +105,10 @@ impl Clerk {
         net: &LockedNet<R>,
         injector: &mut Injector<G>,
     ) -> Result<Option<Reply>, CallFault>
-        ensures none { IfOk result (λ told. TakesChoice (setting_of R.table net.now) (λ s _. IsNone told ↔ (node_count s.network ≡ 0)) self.old.receipts self.new.receipts told) }
+        ensures none { IfOk result (λ told. TakesChoice (setting_of R.table net.now) (λ s _. IsNone told ↔ (node_count s.network ≡ 0)) self.old.receipts self.new.receipts self.new.note told) }
         ensures note { IfOk result (λ told. IfSome told (λ _. HasNoteOf (book_of net.now) self.new)) }
         ensures register { IfOk result (λ told. MatchOption told (self.new ≡ self.old) (KeepsFault self.old.receipts self.new.receipts)) }
-        ensures drawn { IfOk result (TakesChoice (setting_of R.table net.now) (λ s event. (event, G.stream injector.new) ≡ drawn s.network R.table.flags (G.stream injector.old)) self.old.receipts self.new.receipts) }
+        ensures drawn { IfOk result (TakesChoice (setting_of R.table net.now) (λ s event. (event, G.stream injector.new) ≡ drawn s.network R.table.flags (G.stream injector.old)) self.old.receipts self.new.receipts self.new.note) }
         ensures fault { IfErr result (λ fault. MayAnswer (front_of self.old.receipts) fault) }
         ensures refused { IfErr result (Refuses (setting_of R.table net.now) (front_of self.old.receipts)) }
         ensures kept { OnErr result (self.new ≡ self.old) }

@@ -3,8 +3,8 @@ use Rattle.locked_net.specs.Nets.{setting_of}
 use Rattle.storm_call.proofs.Roving.{told_beside}
 use Rattle.storm_call.proofs.beside.play_beside.Goals as goal
 
-pub returns : goal.returns
-returns g c =
+pub returns-clause-told : goal.returns-clause-told
+returns-clause-told g c =
     let rows = c.split_at_mut-own in
     let told = c.play_and_roam-met in
     let crew = c.args.stage.now.crew in

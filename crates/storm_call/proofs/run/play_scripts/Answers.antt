@@ -1,14 +1,26 @@
-use Rattle.std.proofs.Common.{◌≡◌, length, drop, subst, arith}
+use Rattle.std.proofs.Common.{◌≡◌, length, drop, sym, subst, arith}
+use Rattle.std.specs.List.{All}
 use Rattle.std.proofs.lemmas.List.{take_at}
+use mathlib.Core.List.{IsPrefix}
+use Rattle.locked_net.specs.Nets.{book_of}
+use Rattle.locked_net.specs.Receipts.{noted, IsOfBook}
 use Rattle.locked_net.specs.Settled.{Settled}
 use Rattle.storm_call.proofs.run.play_scripts.Goals as goal
 
-pub returns-in-Ok-settle-clause-storm : goal.returns-in-Ok-settle-clause-storm
-returns-in-Ok-settle-clause-storm g c =
+pub settle_own-requires : goal.settle_own-requires
+settle_own-requires g c =
     let told = c.play_beside-fault.new.clerks in
     let size : length told ≡ c.in-Ok.clerks.len = omega arith in
+    subst (All (IsOfBook (book_of c.args.net))) (sym (take_at told (drop (length told) c.in-Ok.clerks.items) c.in-Ok.clerks.len size)) c.play_beside-fault.ensures.notes
+
+pub returns-in-Ok-settle_own-clause-storm : goal.returns-in-Ok-settle_own-clause-storm
+returns-in-Ok-settle_own-clause-storm g c =
+    let told = c.play_beside-fault.new.clerks in
+    let log = c.in-Ok-settle_own.journal.entries in
+    let size : length told ≡ c.in-Ok.clerks.len = omega arith in
+    let same = take_at told (drop (length told) c.in-Ok.clerks.items) c.in-Ok.clerks.len size in
     record {
       clerks = told;
-      settled = subst (λ clerks. Settled c.in-Ok-settle.journal.entries clerks) (take_at told (drop (length told) c.in-Ok.clerks.items) c.in-Ok.clerks.len size) c.in-Ok-settle.ensures.settled;
-      told = c.play_beside-fault.ensures;
+      settled = subst (λ clerks. Settled log clerks) same c.in-Ok-settle_own.ensures.settled;
+      told = c.play_beside-fault.ensures.told.each log (subst (All (λ clerk. IsPrefix (noted clerk.note) log)) same c.in-Ok-settle_own.ensures.noted);
     }

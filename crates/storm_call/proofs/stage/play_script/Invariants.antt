@@ -1,7 +1,13 @@
 use Rattle.std.proofs.Common.{take}
-use Rattle.locked_net.specs.Nets.{setting_of}
+use Rattle.locked_net.specs.Nets.{book_of, setting_of}
+use Rattle.locked_net.specs.Receipts.{IsOfBook}
 use Rattle.storm_call.specs.Storm.{Stands}
+use Rattle.storm_call.specs.Played.{scene_of}
 use Rattle.storm_call.proofs.stage.play_script.Given as goal
 
 abbrev pub invariant-loop-line : goal.invariant-loop-line
-invariant-loop-line g l = Stands (setting_of g.R.Rules.table l.fn.stage.net.now) (take l.line-index l.line-items) l.clerk.receipts
+invariant-loop-line g l =
+    record {
+      stands : Stands (scene_of (setting_of g.R.Rules.table l.fn.stage.net.now) l.clerk) (take l.line-index l.line-items) l.clerk.receipts;
+      note : IsOfBook (book_of l.fn.stage.net.now) l.clerk;
+    }

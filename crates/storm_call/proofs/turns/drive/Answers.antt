@@ -1,20 +1,28 @@
-use Rattle.locked_net.specs.Nets.{setting_of}
+use Rattle.locked_net.specs.Nets.{book_of, setting_of}
+use Rattle.locked_net.specs.Receipts.{noted}
 use Rattle.seeded_turns.specs.Drawn.{pcg32_stream, seeded_stream, drawn_step}
+use Rattle.board.proofs.Fronts.{prefix_trans}
 use Rattle.storm_call.specs.Storm.{IsOfStep}
-use Rattle.storm_call.proofs.Adding.{drew_step, one_more, stepped}
+use Rattle.storm_call.proofs.Adding.{drew_step, grown, one_more, stepped}
+use Rattle.storm_call.proofs.Noted.{answered, of_book, may_follow}
 use Rattle.storm_call.proofs.Turning.{rested, drive_rested}
 use Rattle.storm_call.proofs.turns.drive.Goals as goal
 
-pub returns-then-is_none : goal.returns-then-is_none
-returns-then-is_none g c =
+pub returns-then-is_none-clause-plays : goal.returns-then-is_none-clause-plays
+returns-then-is_none-clause-plays g c =
     let setting = setting_of g.R.Rules.table c.args.net.now in
     let told = c.in_ok-drive_with.ensures in
     let left = pcg32_stream c.loop.daemon in
     let next = pcg32_stream c.drive_with.new.daemon in
-    let mid = c.loop.clerk.receipts in
-    let new = c.drive_with.new.self.receipts in
+    let mid = c.loop.clerk in
+    let new = c.drive_with.new.self in
     let same = rested _ _ _ _ _ told.step c.is_none.ensures c.if-is_none.true in
-    drive_rested setting c.args.turns c.loop.counter left c.args.clerk.now.receipts mid next new _ _ c.loop-test.true c.loop.invariant same (drew_step setting left next mid new _ told.chosen) c.is_none.ensures c.if-is_none.true
+    drive_rested setting c.args.turns c.loop.counter left c.args.clerk.now.receipts mid next new _ _ c.loop-test.true c.loop.invariant.took same (drew_step setting left next mid.receipts new _ told.chosen) c.is_none.ensures c.if-is_none.true
+
+pub follows-requires : goal.follows-requires
+follows-requires g c =
+    let has = answered _ _ _ c.in_ok-drive_with.ensures.note c.is_none.ensures c.if-is_none.false in
+    may_follow (book_of c.args.net.now) c.noted-before.result c.loop.clerk c.drive_with.new.self c.noted-before.ensures.note c.loop.invariant.note has
 
 pub loop-preserved : goal.loop-preserved
 loop-preserved g c =
@@ -22,7 +30,13 @@ loop-preserved g c =
     let told = c.in_ok-drive_with.ensures in
     let left = pcg32_stream c.loop.daemon in
     let next = pcg32_stream c.drive_with.new.daemon in
-    let mid = c.loop.clerk.receipts in
-    let new = c.drive_with.new.self.receipts in
+    let mid = c.loop.clerk in
+    let new = c.drive_with.new.self in
     let gains = stepped _ _ _ _ _ told.step c.is_none.ensures c.if-is_none.false in
-    one_more setting drawn_step IsOfStep (seeded_stream c.args.turns.seed) left next c.loop.counter c.args.clerk.now.receipts mid new _ _ c.loop.invariant gains (drew_step setting left next mid new _ told.chosen) c.is_none.ensures c.if-is_none.false
+    let grows = grown IsOfStep mid new c.noted-before.result c.noted-before.ensures.note c.noted-before.ensures.clerk gains c.follows.ensures.notes c.follows.ensures.clerk in
+    let has = answered _ _ _ c.in_ok-drive_with.ensures.note c.is_none.ensures c.if-is_none.false in
+    record {
+      took = one_more setting drawn_step IsOfStep (seeded_stream c.args.turns.seed) left next c.loop.counter c.args.clerk.now.receipts mid new _ _ grows c.loop.invariant.took gains (drew_step setting left next mid.receipts new _ told.chosen) c.is_none.ensures c.if-is_none.false;
+      note = of_book (book_of c.args.net.now) new has;
+      grows = prefix_trans (noted c.args.clerk.now.note) (noted mid.note) (noted new.note) c.loop.invariant.grows grows;
+    }

@@ -1,6 +1,6 @@
 use Rattle.locked_net.specs.Receipts.{front_of}
 use Rattle.locked_net.specs.Nets.{setting_of}
-use Rattle.locked_net.proofs.Choosing.{refuses, takes, finds_none, keeps_fault}
+use Rattle.locked_net.proofs.Choosing.{refuses, begins_broken, takes, finds_none, keeps_fault}
 use Rattle.locked_net.proofs.clerk.Clerk.fault_with.Goals as goal
 
 pub returns-clause-drawn : goal.returns-clause-drawn
@@ -8,14 +8,20 @@ returns-clause-drawn g c =
     let setting = setting_of g.R.Rules.table c.args.net.now in
     let key = c.take-desk.ensures.key in
     let told = c.fault_on-answer.ensures in
-    takes setting _ c.take-desk.result.0.log c.args.self.now.receipts c.fault_on-answer.new.self.receipts c.fault_on-answer.result (record { run = told.run; nodes = key.nodes; first = key.first; limit = key.limit }) told.seen told.drawn
+    let log = c.take-desk.result.0.log in
+    let new = c.fault_on-answer.new.self in
+    let begins = begins_broken g.R.Rules.table log c.fault_on-answer.new.desk.log new.note c.args.self.now.receipts new.receipts _ c.fault_on-answer.result told.register told.tells in
+    takes setting _ log c.args.self.now.receipts new.receipts new.note c.fault_on-answer.result (record { run = told.run; nodes = key.nodes; first = key.first; limit = key.limit }) told.seen told.drawn begins
 
 pub returns-clause-none : goal.returns-clause-none
 returns-clause-none g c =
     let setting = setting_of g.R.Rules.table c.args.net.now in
     let key = c.take-desk.ensures.key in
     let told = c.fault_on-answer.ensures in
-    finds_none setting _ c.take-desk.result.0.log c.args.self.now.receipts c.fault_on-answer.new.self.receipts c.fault_on-answer.result (record { run = told.run; nodes = key.nodes; first = key.first; limit = key.limit }) told.seen told.drawn told.none
+    let log = c.take-desk.result.0.log in
+    let new = c.fault_on-answer.new.self in
+    let begins = begins_broken g.R.Rules.table log c.fault_on-answer.new.desk.log new.note c.args.self.now.receipts new.receipts _ c.fault_on-answer.result told.register told.tells in
+    finds_none setting _ log c.args.self.now.receipts new.receipts new.note c.fault_on-answer.result (record { run = told.run; nodes = key.nodes; first = key.first; limit = key.limit }) told.seen told.drawn told.none begins
 
 pub returns-clause-register : goal.returns-clause-register
 returns-clause-register g c =

@@ -1,11 +1,8 @@
-use Rattle.std.proofs.Common.{List, subst}
 use Rattle.machine_laws.specs.LeastMoves.{IsTable}
 use Rattle.charge_laws.specs.Charged.{IsCharged}
 use Rattle.step_log.specs.Held.{log_of}
 use Rattle.step_log.proofs.Upheld.{upheld}
-use Rattle.locked_net.specs.Receipts.{ClerkView}
-use Rattle.locked_net.specs.Headline.{Headline}
-use Rattle.locked_net.proofs.ending.settle.Goals as goal
+use Rattle.locked_net.proofs.ending.settle_journal.Goals as goal
 
 pub returns-in-Ok-clause-headline : goal.returns-in-Ok-clause-headline
 returns-in-Ok-clause-headline g c =
@@ -14,6 +11,6 @@ returns-in-Ok-clause-headline g c =
     let weight = g.R.Rules.NODE_WEIGHT in
     let table : IsTable t = record { allowed_is_neighbour = laws.allowed_is_neighbour; allowed_takes_target = laws.allowed_takes_target; has_target = laws.has_target } in
     let charged : IsCharged t weight = record { falls = laws.charge_falls; bounded = laws.charge_is_bounded; zero_is_stable = laws.no_charge_is_stable } in
-    let log = log_of c.into_journal-journal.result in
-    let kept = upheld t weight table charged laws.quiet_is_stable laws.stable_is_quiet log c.into_journal-journal.ensures.run in
-    subst (λ (clerks : List ClerkView). Headline t weight log clerks) c.deref.ensures.value (record { upheld = kept; told = c.in-Ok.ensures.settled })
+    let log = log_of c.args.journal in
+    let kept = upheld t weight table charged laws.quiet_is_stable laws.stable_is_quiet log c.requires in
+    record { upheld = kept; told = c.in-Ok.ensures.settled }

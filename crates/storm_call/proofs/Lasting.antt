@@ -1,0 +1,70 @@
+-- What was told of a log holds of each log that goes on from it.
+use Rattle.std.proofs.Common.{List, [], ◌∷◌, Option, None, Some}
+use mathlib.Core.List.{IsPrefix}
+use Rattle.rand_core.specs.Stream.{Stream}
+use Rattle.rule_machine.specs.Run.{Entry}
+use Rattle.board.proofs.Fronts.{prefix_trans}
+use Rattle.seeded_turns.specs.Drawn.{Draws, seeded_stream, drawn_step, drawn_fault}
+use Rattle.step_log.specs.declared.receipt.Receipt.{Receipt}
+use Rattle.locked_net.specs.Settings.{Setting}
+use Rattle.locked_net.specs.declared.call_fault.CallFault.{CallFault}
+use Rattle.script_text.specs.declared.command.Command.{Command}
+use Rattle.script_text.specs.declared.command.Command.TheVariants.{Tell, Drive, Scramble}
+use Rattle.script_text.specs.declared.script.ScriptLine.{ScriptLine}
+use Rattle.storm_call.specs.Turns.{Scene, IsTurn, AreTurns, DrawnFrom}
+use Rattle.storm_call.specs.Storm.{IsOfStep, IsOfFault, IsFor, IsPartOf, Stands, StandsInPart, MayStop}
+
+module _ (setting : Setting) (some all : List Entry) (p : IsPrefix some all) where
+  abbrev pub short : Scene
+  short = record { setting = setting; log = some }
+
+  abbrev pub long : Scene
+  long = record { setting = setting; log = all }
+
+  turn_lasts : (draws : Draws) (words : Stream) (receipt : Receipt) (left : Stream) → IsTurn short draws words receipt left → IsTurn long draws words receipt left
+  turn_lasts draws words receipt left turn = record {
+    log = turn.log;
+    own = turn.own;
+    begins = prefix_trans turn.log.entries some all turn.begins p;
+    drawn = turn.drawn;
+    told = turn.told;
+  }
+
+  pub turns_last : (draws : Draws) (words : Stream) (receipts : List Receipt) (left : Stream) → AreTurns short draws words receipts left → AreTurns long draws words receipts left
+  turns_last draws words [] left same = same
+  turns_last draws words (receipt ∷ receipts) left (next, turn, turns) =
+      (next, turn_lasts draws words receipt next turn, turns_last draws next receipts left turns)
+
+  drawn_lasts : (draws : Draws) (words : Stream) (P : Receipt → Type 0) (own : List Receipt) → DrawnFrom short draws words P own → DrawnFrom long draws words P own
+  drawn_lasts draws words P own (kind, (left, turns)) = (kind, (left, turns_last draws words own left turns))
+
+  for_lasts : (command : Command) (own : List Receipt) → IsFor short command own → IsFor long command own
+  for_lasts (Tell event) own is = is
+  for_lasts (Drive turns) own (few, drawn, quiet) = (few, drawn_lasts drawn_step (seeded_stream turns.seed) IsOfStep own drawn, quiet)
+  for_lasts (Scramble turns) own (few, drawn, empty) = (few, drawn_lasts drawn_fault (seeded_stream turns.seed) IsOfFault own drawn, empty)
+
+  part_lasts : (command : Command) (own : List Receipt) → IsPartOf short command own → IsPartOf long command own
+  part_lasts (Tell event) own is = is
+  part_lasts (Drive turns) own (few, drawn) = (few, drawn_lasts drawn_step (seeded_stream turns.seed) IsOfStep own drawn)
+  part_lasts (Scramble turns) own (few, drawn) = (few, drawn_lasts drawn_fault (seeded_stream turns.seed) IsOfFault own drawn)
+
+  pub stands_last : (lines : List ScriptLine) (receipts : List Receipt) → Stands short lines receipts → Stands long lines receipts
+  stands_last [] receipts none = none
+  stands_last (line ∷ lines) receipts (own, rest, is, for, others) = (own, rest, is, for_lasts line.command own for, stands_last lines rest others)
+
+  in_part_lasts : (lines : List ScriptLine) (receipts : List Receipt) → StandsInPart short lines receipts → StandsInPart long lines receipts
+  in_part_lasts lines receipts part = record {
+    before = part.before;
+    line = part.line;
+    behind = part.behind;
+    done = part.done;
+    part = part.part;
+    splits = part.splits;
+    told = part.told;
+    whole = stands_last part.before part.done part.whole;
+    broken = part_lasts part.line.command part.part part.broken;
+  }
+
+  pub stop_lasts : (lines : List ScriptLine) (receipts : List Receipt) (fault : Option CallFault) → MayStop short lines receipts fault → MayStop long lines receipts fault
+  stop_lasts lines receipts None stands = stands_last lines receipts stands
+  stop_lasts lines receipts (Some fault) part = in_part_lasts lines receipts part

@@ -1,0 +1,40 @@
+-- Whose notes a clerk has, and what they tell after a call.
+use Rattle.std.proofs.Common.{◌≡◌, ◌∙◌, Bool, false, not, Option, None, Some, IfSome, IsSomeAnd, ap, sym, subst}
+use Rattle.std.specs.Option.{is_some}
+use Rattle.std.proofs.lemmas.Bool.{false≢true}
+use mathlib.Core.List.{IsPrefix}
+use Rattle.logbook.specs.Pages.{Book}
+use Rattle.rule_machine.specs.declared.event.Event.{Event}
+use Rattle.rule_machine.specs.declared.reply.Reply.{Reply}
+use Rattle.board.specs.OneLog.{AreComparable}
+use Rattle.board.specs.Views.{Told}
+use Rattle.locked_net.specs.Receipts.{ClerkView, noted, IsClerk, HasNoteOf, IsOfBook}
+use Rattle.locked_net.specs.Calls.{Keeps}
+use Rattle.storm_call.proofs.Adding.{grown}
+
+-- what holds at an answer
+pub answered : {A : Type 0} (P : Type 0) (told : Option A) (b : Bool) → IfSome told (λ _. P) → is_some told ≡ not b → b ≡ false → P
+answered P None b has e f = absurd (false≢true (e ∙ ap not f))
+answered P (Some a) b has e f = has
+
+pub some_if : {A : Type 0} (P : A → Type 0) (o : Option A) → IsSomeAnd o P → IfSome o P
+some_if P None has = tt
+some_if P (Some a) has = has
+
+-- a note of this history
+pub of_book : (book : Book) (clerk : ClerkView) → HasNoteOf book clerk → IsOfBook book clerk
+of_book book clerk has = some_if (λ (told : Told). told.book ≡ book) clerk.note has
+
+-- is of that of a note from before
+pub may_follow : (book : Book) (before : Option Told) (old new : ClerkView) → before ≡ old.note → IsOfBook book old → HasNoteOf book new → IfSome before (λ told. IsOfBook told.book new)
+may_follow book before old new is was has = follow before (subst (λ (o : Option Told). IfSome o (λ told. told.book ≡ book)) (sym is) was)
+  where
+    follow : (o : Option Told) → IfSome o (λ told. told.book ≡ book) → IfSome o (λ told. IsOfBook told.book new)
+    follow None own = tt
+    follow (Some told) own = subst (λ b. IsOfBook b new) (sym own) (of_book book new has)
+
+-- with one receipt more
+pub kept_grown : (old new : ClerkView) (before : Option Told) (event : Event) (reply : Reply) → before ≡ old.note → IsClerk old → Keeps old.receipts new.receipts event reply → AreComparable (noted before) (noted new.note) → IsClerk new
+    → IsPrefix (noted old.note) (noted new.note)
+kept_grown old new before event reply is was kept comparable now =
+    grown (λ _. Unit {0}) old new before is was (record { receipt = record { seq = kept.seq; event = event; reply = reply }; added = kept.added; is = tt }) comparable now
