@@ -1,7 +1,8 @@
 -- What `map_err` passes on, and the order of a rising list's places.
-use Rattle.std.proofs.Common.{◌≡◌, ℕ, ◌<◌, ◌≤◌, List, length, get_or, Result, Ok, Err, IfOk, OnOk, MatchResult, ap, sym, subst, arith, ⊎_elim}
+use Rattle.std.proofs.Common.{◌≡◌, ℕ, ◌-◌, ◌<◌, ◌≤◌, List, length, get_or, Result, Ok, Err, IfOk, OnOk, MatchResult, ap, sym, subst, arith, ⊎_elim}
 use Rattle.std.specs.Result.{IsErrAnd}
 use Rattle.std.specs.List.Sorted.{IsStrictlyIncreasing}
+use Rattle.graph_store.specs.Rows.{IsGapFor}
 use Rattle.std.proofs.lemmas.Bool.{cases_lt}
 use Rattle.std.proofs.lemmas.List.Kept.{AllPairs-from_increasing}
 
@@ -23,3 +24,11 @@ never_falls xs up i j le inside =
     (λ (lt : i < j). let below = AllPairs-from_increasing xs up i j 0 lt inside in omega arith)
     (λ (ge : j ≤ i). let e : i ≡ j = omega arith in omega (arith, ap (λ k. get_or xs k 0) e))
     (cases_lt i j)
+
+-- a place of a rising list before which the last name is lower, and at which the name is higher, is where a name belongs
+pub gap_here : (row : List ℕ) (name place : ℕ) → IsStrictlyIncreasing row → place ≤ length row → (0 < place → get_or row (place - 1) 0 < name) → (place < length row → name < get_or row place 0) → IsGapFor row name place
+gap_here row name place up inside low high = record {
+  inside = inside;
+  below = λ k lt. let l = low (omega (arith, lt)) in let le = never_falls row up k (place - 1) (omega (arith, lt)) (omega (arith, lt, inside)) in omega (arith, l, le);
+  above = λ k ge lt. let h = high (omega (arith, ge, lt)) in let le = never_falls row up place k ge lt in omega (arith, h, le);
+}

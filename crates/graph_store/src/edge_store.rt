@@ -9,7 +9,7 @@ ghost use Rattle.graph_store.specs.declared.fault.GraphFault.TheVariants.{Memory
 
 use crate::GraphFault;
 use crate::roll::first_names;
-use crate::rows::{empty_rows, find_place, put_both, reserve_both, take_both};
+use crate::rows::{empty_rows, find_gap, find_place, put_both, reserve_both, take_both};
 use enabled_set::EnabledSet;
 use rule_machine::Node;
 use std::alloc::Global;
@@ -30,6 +30,8 @@ pub struct EdgeStore {
     nodes: u32,
     here: EnabledSet,
     edges: u32,
+    // Where the last edge for which room was made belongs in its first end's row: a guess, which is looked at before it is used.
+    last_gap: usize,
 }
 
 impl Model for EdgeStore {
@@ -76,6 +78,7 @@ impl EdgeStore {
             nodes,
             here,
             edges: 0,
+            last_gap: 0,
         })
     }
 
@@ -170,13 +173,13 @@ impl EdgeStore {
         Ok(place)
     }
 
-    // The place where `w` belongs among the neighbours of `v`.
+    // The place where `w` belongs among the neighbours of `v`: two looks where it is the last that was found.
     fn find_gap(&self, v: Node, w: Node) -> usize
         requires present { IsTrue (present self.now.network v) }
         requires apart { linked self.now.network v w ≡ false }
         ensures { IsGapFor (neighbours self.now.network v) w result }
     {
-        find_place(&self.rows[v.place()], w).unwrap_err()
+        find_gap(&self.rows[v.place()], self.last_gap, w)
     }
 
     // Makes room for the edge between two nodes.
@@ -225,12 +228,12 @@ impl EdgeStore {
         ensures fault { IfErr result (λ fault. Explains (link_fault self.old.network a b) fault) }
         ensures unchanged { self.new.network ≡ self.old.network }
     {
-        self.check_link(a, b)?;
+        self.last_gap = self.check_link(a, b)?;
         self.make_room(a, b)
     }
 
-    /// Puts in the edge between two nodes for which there is room: by a look-up by halves and a shift in the rows of the two.
-    /// Takes no memory.
+    /// Puts in the edge between two nodes for which there is room: by a look-up by halves in the row of `b`, and in that of `a`
+    /// where the last `reserve_link` was of another edge, and a shift in both. Takes no memory.
     pub fn link_reserved(&mut self, a: Node, b: Node)
         requires free { link_fault self.old.network a b ≡ None }
         requires room { HasRoomFor self.old.room a b }

@@ -1,6 +1,6 @@
 //! Neighbour lists, which rise.
 
-ghost use Rattle.std.specs.Prelude.{◌≡◌, ◌≢◌, ℕ, ◌+◌, ◌<◌, ◌≤◌, [], length, replicate, slice_set, IfOk, OnOk, MatchResult, true, false};
+ghost use Rattle.std.specs.Prelude.{◌≡◌, ◌≢◌, ℕ, ◌+◌, ◌<◌, ◌≤◌, [], length, replicate, slice_set, IfOk, OnOk, MatchResult, IsTrue, slice_index, ◌-◌, true, false};
 ghost use Rattle.std.specs.List.{insert, remove};
 ghost use Rattle.std.specs.List.Sorted.{IsStrictlyIncreasing};
 ghost use Rattle.graph_store.specs.Rows.{contents, row_at, has, IsPlaceOf, IsGapFor, HasRoom};
@@ -25,6 +25,39 @@ pub fn find_place(row: &[Node], name: Node) -> Result<usize, usize>
     ensures { MatchResult result (IsPlaceOf row.now name) (IsGapFor row.now name) }
 {
     row.binary_search(&name)
+}
+
+/// Whether a name is above the one before a place of a row, where there is one.
+fn is_above(row: &[Node], place: usize, name: Node) -> bool
+    requires { place ≤ length row.now }
+    ensures { IsTrue result → 0 < place → slice_index row.now (place - 1) < name }
+{
+    if place == 0 {
+        return true;
+    }
+    row[place - 1] < name
+}
+
+/// Whether a name is below the one at a place of a row, where there is one.
+fn is_below(row: &[Node], place: usize, name: Node) -> bool
+    ensures { IsTrue result → place < length row.now → name < slice_index row.now place }
+{
+    match row.get(place) {
+        Some(next) => name < *next,
+        None => true,
+    }
+}
+
+/// The place where a name that is not in a row belongs: two looks where the guess is right, else a look-up by halves.
+pub fn find_gap(row: &[Node], guess: usize, name: Node) -> usize
+    requires rising { IsStrictlyIncreasing row.now }
+    requires apart { has row.now name ≡ false }
+    ensures { IsGapFor row.now name result }
+{
+    if guess <= row.len() && is_above(row, guess, name) && is_below(row, guess, name) {
+        return guess;
+    }
+    find_place(row, name).unwrap_err()
 }
 
 /// Makes room for one more name in a node's row, and changes no names.

@@ -1,13 +1,13 @@
 //! The lines of a transcript.
 
-ghost use Rattle.std.specs.Prelude.{◌≡◌, ◌++◌, OnOk, OnErr};
+ghost use Rattle.std.specs.Prelude.{◌≡◌, [], ◌∷◌, ◌++◌, codes, OnOk, OnErr};
 ghost use Rattle.line_text.specs.EventText.{IsEvent};
-ghost use Rattle.line_text.specs.ReplyText.{IsReply};
+ghost use Rattle.line_text.specs.ReplyText.{IsReply, reply_text};
 ghost use Rattle.line_text.specs.EntryText.{sizes_text, header_line, entry_line};
 ghost use Rattle.line_text.specs.Growth.{Extends};
 
 use crate::events::put_event;
-use crate::numbers::put_number;
+use crate::numbers::{put_name_then, put_number, put_number_then};
 use crate::replies::put_reply;
 use rule_machine::{Event, Reply, RuleSet, Want};
 
@@ -35,18 +35,32 @@ fn append_header(out: &mut Vec<u8>, rules: RuleSet, size: u32, count: u32) -> Re
     out.extend_from_slice(b"\n")
 }
 
+// Writes what stands behind an entry's event. The two short replies are written with the LF behind them.
+fn append_answer(out: &mut Vec<u8>, reply: &Reply) -> Result<(), Want>
+    ensures ok { OnOk result (out.new.items ≡ out.old.items ++ (codes " = " ++ reply_text reply.now ++ 10 ∷ [])) }
+    ensures err { OnErr result (Extends out.old.items out.new.items) }
+    ensures named { OnOk result (IsReply reply.now) }
+{
+    if let Reply::Accepted = reply {
+        return out.extend_from_slice(b" = ok\n");
+    }
+    out.extend_from_slice(b" = ")?;
+    if let Reply::Shown(Some(node)) = reply {
+        return put_name_then(out, *node, b'\n');
+    }
+    put_reply(out, reply)?;
+    out.push(b'\n')?;
+    Ok(())
+}
+
 fn append_entry(out: &mut Vec<u8>, number: u32, event: &Event, reply: &Reply) -> Result<(), Want>
     ensures ok { OnOk result (out.new.items ≡ out.old.items ++ entry_line number event.now reply.now) }
     ensures err { OnErr result (Extends out.old.items out.new.items) }
     ensures named { OnOk result (IsEvent event.now × IsReply reply.now) }
 {
-    put_number(out, number)?;
-    out.push(b' ')?;
+    put_number_then(out, number, b' ')?;
     put_event(out, event)?;
-    out.extend_from_slice(b" = ")?;
-    put_reply(out, reply)?;
-    out.push(b'\n')?;
-    Ok(())
+    append_answer(out, reply)
 }
 
 /// Writes a transcript's header, with its LF: the rules, how many names there are and, where not all of them are present

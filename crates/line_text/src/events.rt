@@ -5,7 +5,7 @@ ghost use Rattle.line_text.specs.Words.{IsName};
 ghost use Rattle.line_text.specs.EventText.{IsEvent, IsItem, event_text, item_text, pair_text, point_text, flag_text};
 ghost use Rattle.line_text.specs.Growth.{Extends};
 
-use crate::numbers::{put_marked, put_name, put_target};
+use crate::numbers::{put_marked, put_name, put_name_then, put_target};
 use crate::word::{Word, put_spaced};
 use rule_machine::{Event, Item, Node, Want};
 
@@ -14,8 +14,7 @@ fn put_pair(out: &mut Vec<u8>, a: Node, b: Node) -> Result<(), Want>
     ensures err { OnErr result (Extends out.old.items out.new.items) }
     ensures named { OnOk result (IsName a × IsName b) }
 {
-    put_name(out, a)?;
-    out.push(b' ')?;
+    put_name_then(out, a, b' ')?;
     put_name(out, b)
 }
 
@@ -24,8 +23,7 @@ fn put_point(out: &mut Vec<u8>, node: Node, target: Option<Node>) -> Result<(), 
     ensures err { OnErr result (Extends out.old.items out.new.items) }
     ensures named { OnOk result (IsName node × IfSome target IsName) }
 {
-    put_name(out, node)?;
-    out.push(b' ')?;
+    put_name_then(out, node, b' ')?;
     put_target(out, target)
 }
 
@@ -34,8 +32,7 @@ fn put_flag(out: &mut Vec<u8>, node: Node, value: bool) -> Result<(), Want>
     ensures err { OnErr result (Extends out.old.items out.new.items) }
     ensures named { OnOk result (IsName node) }
 {
-    put_name(out, node)?;
-    out.push(b' ')?;
+    put_name_then(out, node, b' ')?;
     out.push(if value { b'1' } else { b'0' })?;
     Ok(())
 }

@@ -1,6 +1,6 @@
 //! Numbers and names at the end of a text.
 
-ghost use Rattle.std.specs.Prelude.{◌≡◌, ◌+◌, ◌/◌, ◌%◌, ◌<◌, ◌≤◌, ◌++◌, IfSome, codes, OnOk, OnErr};
+ghost use Rattle.std.specs.Prelude.{◌≡◌, ◌+◌, ◌/◌, ◌%◌, ◌<◌, ◌≤◌, [], ◌∷◌, ◌++◌, IfSome, codes, OnOk, OnErr};
 ghost use Rattle.line_text.specs.Words.{number_text, IsName, marked_text};
 ghost use Rattle.line_text.specs.EventText.{target_text};
 ghost use Rattle.line_text.specs.Growth.{Extends};
@@ -23,45 +23,69 @@ fn pair(number: u32) -> (u8, u8)
     (PAIRS[at], PAIRS[at + 1])
 }
 
-// Writes a number of at most four digits.
-fn put_short(out: &mut Vec<u8>, number: u32) -> Result<(), Want>
+// Writes a number of at most four digits, and the byte behind it.
+fn put_short(out: &mut Vec<u8>, number: u32, behind: u8) -> Result<(), Want>
     requires { number < 10000 }
-    ensures ok { OnOk result (out.new.items ≡ out.old.items ++ number_text number) }
+    ensures ok { OnOk result (out.new.items ≡ out.old.items ++ (number_text number ++ behind ∷ [])) }
     ensures err { OnErr result (out.new.items ≡ out.old.items) }
 {
     if number < 10 {
-        return out.extend_from_slice(&[b'0' + number as u8]);
+        return out.extend_from_slice(&[b'0' + number as u8, behind]);
     }
     let (front, back) = (number / 100, number % 100);
     let (tens, ones) = pair(back);
     if front == 0 {
-        return out.extend_from_slice(&[tens, ones]);
+        return out.extend_from_slice(&[tens, ones, behind]);
     }
     if front < 10 {
-        return out.extend_from_slice(&[b'0' + front as u8, tens, ones]);
+        return out.extend_from_slice(&[b'0' + front as u8, tens, ones, behind]);
     }
     let (first, second) = pair(front);
-    out.extend_from_slice(&[first, second, tens, ones])
+    out.extend_from_slice(&[first, second, tens, ones, behind])
 }
 
-// Writes a number of more than four digits.
-fn put_long(out: &mut Vec<u8>, number: u32) -> Result<(), Want>
+// Writes a number of more than six digits, and the byte behind it.
+fn put_longest(out: &mut Vec<u8>, number: u32, behind: u8) -> Result<(), Want>
+    ensures ok { OnOk result (out.new.items ≡ out.old.items ++ (number_text number ++ behind ∷ [])) }
+    ensures err { OnErr result (out.new.items ≡ out.old.items) }
+{
+    let mut buffer = Buffer::new();
+    let digits = buffer.format(number).as_bytes();
+    out.reserve(digits.len() + 1)?;
+    out.extend_from_slice(digits)?;
+    out.push(behind)?;
+    Ok(())
+}
+
+// Writes a number of more than four digits, and the byte behind it.
+fn put_long(out: &mut Vec<u8>, number: u32, behind: u8) -> Result<(), Want>
     requires { 10000 ≤ number }
-    ensures ok { OnOk result (out.new.items ≡ out.old.items ++ number_text number) }
+    ensures ok { OnOk result (out.new.items ≡ out.old.items ++ (number_text number ++ behind ∷ [])) }
     ensures err { OnErr result (out.new.items ≡ out.old.items) }
 {
     if number >= 1_000_000 {
-        return out.extend_from_slice(Buffer::new().format(number).as_bytes());
+        return put_longest(out, number, behind);
     }
     let (front, back) = (number / 10_000, number % 10_000);
     let (thousands, hundreds) = pair(back / 100);
     let (tens, ones) = pair(back % 100);
     if front < 10 {
         let first = b'0' + front as u8;
-        return out.extend_from_slice(&[first, thousands, hundreds, tens, ones]);
+        return out.extend_from_slice(&[first, thousands, hundreds, tens, ones, behind]);
     }
     let (first, second) = pair(front);
-    out.extend_from_slice(&[first, second, thousands, hundreds, tens, ones])
+    out.extend_from_slice(&[first, second, thousands, hundreds, tens, ones, behind])
+}
+
+/// Writes a number in decimal, and the byte behind it: one look for room.
+pub(crate) fn put_number_then(out: &mut Vec<u8>, number: u32, behind: u8) -> Result<(), Want>
+    ensures ok { OnOk result (out.new.items ≡ out.old.items ++ (number_text number ++ behind ∷ [])) }
+    ensures err { OnErr result (out.new.items ≡ out.old.items) }
+{
+    if number < 10_000 {
+        return put_short(out, number, behind);
+    }
+    put_long(out, number, behind)
 }
 
 /// Writes a number in decimal.
@@ -69,10 +93,9 @@ pub(crate) fn put_number(out: &mut Vec<u8>, number: u32) -> Result<(), Want>
     ensures ok { OnOk result (out.new.items ≡ out.old.items ++ number_text number) }
     ensures err { OnErr result (out.new.items ≡ out.old.items) }
 {
-    if number < 10_000 {
-        return put_short(out, number);
-    }
-    put_long(out, number)
+    put_number_then(out, number, b' ')?;
+    out.pop();
+    Ok(())
 }
 
 /// Writes a node's name.
@@ -82,6 +105,15 @@ pub(crate) fn put_name(out: &mut Vec<u8>, node: Node) -> Result<(), Want>
     ensures named { IsName node }
 {
     put_number(out, node.name())
+}
+
+/// Writes a node's name, and the byte behind it.
+pub(crate) fn put_name_then(out: &mut Vec<u8>, node: Node, behind: u8) -> Result<(), Want>
+    ensures ok { OnOk result (out.new.items ≡ out.old.items ++ (number_text node ++ behind ∷ [])) }
+    ensures err { OnErr result (out.new.items ≡ out.old.items) }
+    ensures named { IsName node }
+{
+    put_number_then(out, node.name(), behind)
 }
 
 /// Writes a name, or a dash for null.

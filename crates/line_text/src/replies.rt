@@ -4,7 +4,9 @@ ghost use Rattle.std.specs.Prelude.{◌≡◌, ◌++◌, OnOk, OnErr};
 ghost use Rattle.line_text.specs.ReplyText.{IsCount, IsCounts, IsEnabled, IsMoved, IsPair, IsReply, act_word, counts_text, enabled_text, field_text, move_text, mutual_text, refusal_words, reply_text};
 ghost use Rattle.line_text.specs.Growth.{Extends};
 
-use crate::numbers::{put_marked, put_name, put_number, put_target};
+use crate::numbers::{
+    put_marked, put_name, put_name_then, put_number, put_number_then, put_target,
+};
 use crate::word::{Word, put_joined, put_joined_or};
 use rule_machine::{Act, Counts, Edge, Moved, Node, Refusal, Reply, Want};
 
@@ -24,8 +26,7 @@ fn put_refusal(out: &mut Vec<u8>, refusal: Refusal) -> Result<(), Want>
     ensures ok { OnOk result (out.new.items ≡ out.old.items ++ refusal_words refusal) }
     ensures err { OnErr result (Extends out.old.items out.new.items) }
 {
-    put_number(out, refusal.number())?;
-    out.push(b' ')?;
+    put_number_then(out, refusal.number(), b' ')?;
     out.extend_from_slice(refusal.text().as_bytes())
 }
 
@@ -35,8 +36,7 @@ impl Word for Moved {
     ghost fits = { IsMoved };
 
     fn put(&self, out: &mut Vec<u8>) -> Result<(), Want> {
-        put_name(out, self.node)?;
-        out.push(b':')?;
+        put_name_then(out, self.node, b':')?;
         put_act(out, self.act)?;
         put_marked(out, self.target)
     }
@@ -48,8 +48,7 @@ impl Word for (Node, Act) {
     ghost fits = { IsEnabled };
 
     fn put(&self, out: &mut Vec<u8>) -> Result<(), Want> {
-        put_name(out, self.0)?;
-        out.push(b':')?;
+        put_name_then(out, self.0, b':')?;
         put_act(out, self.1)
     }
 }
@@ -60,8 +59,7 @@ impl Word for Edge {
     ghost fits = { IsPair };
 
     fn put(&self, out: &mut Vec<u8>) -> Result<(), Want> {
-        put_name(out, self.low())?;
-        out.push(b'-')?;
+        put_name_then(out, self.low(), b'-')?;
         put_name(out, self.high())
     }
 }

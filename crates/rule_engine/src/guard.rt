@@ -1,6 +1,7 @@
 //! Guards, outcomes and refusals at the nodes of a network.
 
-ghost use Rattle.std.specs.Prelude.{◌≡◌, ◌+◌, ◌≤◌, [], length, take, IfOk};
+ghost use Rattle.std.specs.Prelude.{◌≡◌, ◌+◌, ◌≤◌, [], length, take, IfOk, IsTrue};
+ghost use Rattle.rule_machine.specs.Network.{present};
 ghost use Rattle.rule_machine.specs.Refuse.{items_refusal, step_refusal};
 ghost use Rattle.rule_machine.specs.Least.{outcome_of};
 ghost use Rattle.rule_engine.specs.Kept.{guard_at};
@@ -14,6 +15,14 @@ use rule_machine::{Act, Item, Moved, Node, Outcome, Refusal, Verdict, Want};
 use rule_set::Rules;
 use std::alloc::Global;
 
+/// The rule that is enabled at a node that is present, if any is.
+pub(crate) fn rule_at<R: Rules>(state: &IndexedState<R>, v: Node) -> Option<Act>
+    requires { IsTrue (present state.now.state.network v) }
+    ensures { result ≡ guard_at R.table state.now.state v }
+{
+    R::guard(&state.at(v), v)
+}
+
 /// The rule that is enabled at a node, if any is; none at an absent one.
 pub(crate) fn rule_enabled<R: Rules>(state: &IndexedState<R>, v: Node) -> Option<Act>
     ensures { result ≡ guard_at R.table state.now.state v }
@@ -21,7 +30,7 @@ pub(crate) fn rule_enabled<R: Rules>(state: &IndexedState<R>, v: Node) -> Option
     if !state.store().has(v) {
         return None;
     }
-    R::guard(&state.at(v), v)
+    rule_at(state, v)
 }
 
 /// What an item would do alone.

@@ -4,7 +4,7 @@ ghost use Rattle.std.specs.Prelude.{◌≡◌, ◌+◌, All, IsTrue, length, nat
 ghost use Rattle.rule_machine.specs.Network.{present};
 ghost use Rattle.rule_engine.specs.Looked.{is_near, is_near_mover, IsLookedAt};
 
-use crate::guard::rule_enabled;
+use crate::guard::rule_at;
 use enabled_set::EnabledSet;
 use indexed_state::IndexedState;
 use rule_machine::{Moved, Node};
@@ -16,7 +16,7 @@ pub(crate) fn look_at<R: Rules>(state: &IndexedState<R>, enabled: &mut EnabledSe
     requires places { length enabled.old ≡ state.now.state.network.size + 1 }
     ensures { IsLookedAt R.table state.now.state (λ w. nat_eq w v) enabled.old enabled.new }
 {
-    if rule_enabled(state, v).is_some() {
+    if rule_at(state, v).is_some() {
         enabled.insert(v);
     } else {
         enabled.remove(v);
