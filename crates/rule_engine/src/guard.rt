@@ -20,6 +20,7 @@ pub(crate) fn rule_at<R: Rules>(state: &IndexedState<R>, v: Node) -> Option<Act>
     requires { IsTrue (present state.now.state.network v) }
     ensures { result ≡ guard_at R.table state.now.state v }
 {
+    prove!(state.store().capacity() <= 65_535);
     R::guard(&state.at(v), v)
 }
 
