@@ -17,3 +17,4 @@ pub mod Zero
 pub mod Tables
 pub mod Runs
 pub mod Epochs
+pub mod Begun

@@ -13,6 +13,7 @@ use Rattle.rule_set.specs.Target.{takes_target}
 use Rattle.machine_laws.specs.Neighbours.{near_some, near_found, near_fails, present_range, linked_present, linked_back}
 use Rattle.machine_laws.specs.Pointers.{some_is}
 use Rattle.machine_laws.specs.LeastMoves.{IsTable}
+use Rattle.machine_laws.specs.Unflagged.{IsFlagless}
 use Rattle.charge_laws.specs.Inside.{hsu_huang_inside, manne_inside}
 
 -- where some neighbour passes a test, and the test is what is allowed there, a target is there
@@ -99,3 +100,10 @@ manne_table = record {
     has s v Marry good h taken = target_found manne s v Marry (suits s v) good (and_parts _ (has_suitor s v) h).1 (λ w near passes. and_from (linked s.network v w) (suits s v w) near passes)
     has s v Seduce good h taken = court_found s v good (and_parts _ _ h).1
     has s v Abandon good h taken = absurd (true≢false (sym taken))
+
+-- where no flags are used none is written
+pub hsu_huang_flagless : IsFlagless hsu_huang
+hsu_huang_flagless unused s v = refl
+
+pub manne_flagless : IsFlagless manne
+manne_flagless unused s v = absurd (true≢false unused)

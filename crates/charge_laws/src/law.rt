@@ -1,13 +1,15 @@
 //! The bounds on moves, as laws of all runs.
 
 ghost use Rattle.std.specs.Prelude.{ℕ, ◌+◌, ◌*◌, ◌≤◌, List, All, true, false};
+ghost use Rattle.rule_machine.specs.declared.base.Base.{Base};
+ghost use Rattle.rule_machine.specs.Base.{base_of, IsBegun};
 ghost use Rattle.rule_machine.specs.Network.{node_count, edge_count};
 ghost use Rattle.rule_machine.specs.State.{State, IsState, opening_with};
 ghost use Rattle.rule_machine.specs.HsuHuang.{hsu_huang};
 ghost use Rattle.rule_machine.specs.Manne.{manne};
 ghost use Rattle.rule_machine.specs.Stable.{IsStable};
 ghost use Rattle.rule_machine.specs.Run.{Entry, Moment, Run, beginning_with, epoch_at, epochs_from};
-ghost use Rattle.charge_laws.specs.Charged.{moves_in, IsUndisturbed};
+ghost use Rattle.charge_laws.specs.Charged.{charge_bound, moves_in, IsUndisturbed};
 ghost use Rattle.charge_laws.specs.Epochs.{IsPath, IsBounded};
 
 /// Between two disturbances, from whatever state and whatever the daemon chooses: at most 2m + n moves by the rules of Hsu and
@@ -55,4 +57,21 @@ pub fn epochs_are_bounded()
         → All (IsBounded 1) (epochs_from 1 (epoch_at 0 (opening_with size count)) path) }
     ensures manne { (size count : ℕ) (path : List (Entry × State)) → IsPath manne (beginning_with size count) path
         → All (IsBounded 3) (epochs_from 1 (epoch_at 0 (opening_with size count)) path) }
+{}
+
+/// Each moment of a run from the opening state may be kept as a base from which runs begin: it is a state of the same names, without
+/// a flag where none are used, in which what is spent and the charge are within the bound.
+pub fn runs_may_begin()
+    ensures hsu_huang { (size count number : ℕ) (log : List Entry) (end : Moment) → Run hsu_huang (beginning_with size count) log end
+        → IsBegun hsu_huang (charge_bound 1) size (base_of number end) end }
+    ensures manne { (size count number : ℕ) (log : List Entry) (end : Moment) → Run manne (beginning_with size count) log end
+        → IsBegun manne (charge_bound 3) size (base_of number end) end }
+{}
+
+/// So may each moment of a run that began at a base: the bound holds from there on.
+pub fn runs_may_go_on()
+    ensures hsu_huang { (size number : ℕ) (base : Base) (start : Moment) → IsBegun hsu_huang (charge_bound 1) size base start
+        → (log : List Entry) (end : Moment) → Run hsu_huang start log end → IsBegun hsu_huang (charge_bound 1) size (base_of number end) end }
+    ensures manne { (size number : ℕ) (base : Base) (start : Moment) → IsBegun manne (charge_bound 3) size base start
+        → (log : List Entry) (end : Moment) → Run manne start log end → IsBegun manne (charge_bound 3) size (base_of number end) end }
 {}

@@ -4,5 +4,6 @@
 mod law;
 
 pub use law::{
-    enough_moves_settle, epochs_are_bounded, moves_are_bounded, moves_are_paid, spending_is_bounded,
+    enough_moves_settle, epochs_are_bounded, moves_are_bounded, moves_are_paid, runs_may_begin,
+    runs_may_go_on, spending_is_bounded,
 };

@@ -14,7 +14,7 @@ use Rattle.entry_grammar.specs.Reading.{IsFree, CutAt}
 use Rattle.entry_grammar.proofs.Free.{free_by, free_number, free_no_cut, cut_once}
 
 -- a rule set's word has no space
-rules_free : (rules : RuleSet) → IsFree 32 (rules_word rules)
+pub rules_free : (rules : RuleSet) → IsFree 32 (rules_word rules)
 rules_free Hh = free_by 32 (rules_word Hh) refl
 rules_free Manne = free_by 32 (rules_word Manne) refl
 
@@ -84,7 +84,7 @@ sizes_once bytes m n c d f g e h = both (said m c bytes f e) (said n d bytes g h
         (first, decimal_injective c d (omega (arith, f.few, x)) (omega (arith, g.few, y)) parts.1)
 
 -- a rule set has one word
-rules_once : (r q : RuleSet) → rules_word r ≡ rules_word q → r ≡ q
+pub rules_once : (r q : RuleSet) → rules_word r ≡ rules_word q → r ≡ q
 rules_once Hh Hh e = refl
 rules_once Hh Manne e = absurd (omega (arith, ap length e))
 rules_once Manne Hh e = absurd (omega (arith, ap length e))

@@ -9,3 +9,4 @@ pub mod CountsOnce
 pub mod Replies
 pub mod Parts
 pub mod Entries
+pub mod BaseLines

@@ -1,12 +1,15 @@
 -- What the readers of an entry's parts say of the bytes that they are given.
-use Rattle.std.specs.Prelude.{◌≡◌, ◌≢◌, ℕ, Bool, true, false, List, ◌∷◌, ◌++◌, Option, IsTrue, codes}
+use Rattle.std.specs.Prelude.{◌≡◌, ◌≢◌, ℕ, Bool, true, false, List, ◌∷◌, ◌++◌, Option, IfSome, IsTrue, codes}
 use Rattle.std.specs.List.{AllByRecursion}
 use Rattle.rule_machine.specs.declared.act.Act.{Act}
 use Rattle.rule_machine.specs.declared.event.Event.{Event}
 use Rattle.rule_machine.specs.declared.event.Event.TheVariants.{Link, Unlink, Point, Flag, Step, Show, Enabled, Matching, Status, Join, Leave}
 use Rattle.rule_machine.specs.declared.reply.Reply.{Reply}
 use Rattle.rule_machine.specs.declared.reply.Reply.TheVariants.{Accepted, Refused, Moves, Shown, EnabledAre, Pairs, Counts}
-use Rattle.line_text.specs.Words.{marked_text}
+use Rattle.rule_machine.specs.declared.rules.RuleSet.{RuleSet}
+use Rattle.rule_machine.specs.Tables.{rules_word}
+use Rattle.line_text.specs.Words.{IsName, marked_text, number_text}
+use Rattle.line_text.specs.EventText.{bool_text, target_text}
 use Rattle.line_text.specs.ReplyText.{IsCount, act_word, field_text, reply_text}
 use Rattle.line_text.specs.Reading.{Reads}
 use Rattle.entry_grammar.specs.Spelling.{IsReply}
@@ -85,3 +88,19 @@ suits Status reply = are_counts reply
 -- the bytes spell a reply of the kind that the test tells, or what was found is none and they spell no such reply
 abbrev pub ReadsReply : (Reply → Bool) → List ℕ → Option Reply → Type 0
 ReadsReply kind bytes found = Reads (λ reply. IsTrue (kind reply) × IsReply reply) reply_text bytes found
+
+-- the words of the first line of a base
+abbrev pub rules_text : RuleSet → ℕ → List ℕ
+rules_text rules size = rules_word rules ++ 32 ∷ number_text size
+
+-- what the four numbers of a base meet
+abbrev pub AreCounts : ℕ × ℕ × ℕ × ℕ → Type 0
+AreCounts q = IsCount q.0 × IsCount q.1 × IsCount q.2 × IsCount q.3
+
+-- where a pointer is, and a flag
+abbrev pub registers_text : Option ℕ → Bool → List ℕ
+registers_text target flag = target_text target ++ 32 ∷ bool_text flag
+
+-- the bytes are a node with its registers, or what was found is none and they are no such thing
+abbrev pub ReadsPlace : List ℕ → Option (ℕ × Option ℕ × Bool) → Type 0
+ReadsPlace bytes found = Reads (λ p. IsName p.0 × IfSome p.1 IsName) (λ p. number_text p.0 ++ 32 ∷ registers_text p.1 p.2) bytes found

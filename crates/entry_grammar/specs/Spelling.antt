@@ -1,12 +1,17 @@
 -- Which lines of a transcript are a header, and which an entry. Lines are without the LF that ends them.
-use Rattle.std.specs.Prelude.{◌≡◌, ℕ, ◌≤◌, Bool, true, false, List, ◌++◌, IsTrue, codes}
+use Rattle.std.specs.Prelude.{◌≡◌, ℕ, ◌≤◌, Bool, true, false, List, ◌++◌, IfSome, IsTrue, codes}
 use Rattle.rule_machine.specs.declared.event.Event.{Event}
 use Rattle.rule_machine.specs.declared.event.Event.TheVariants.{Step, Enabled, Matching}
 use Rattle.rule_machine.specs.declared.reply.Reply.{Reply}
 use Rattle.rule_machine.specs.declared.rules.RuleSet.{RuleSet}
 use Rattle.log_entry.specs.Kinds.{fits}
 pub use Rattle.line_text.specs.ReplyText.{IsMoved, IsEnabled, IsPair, IsReply}
+use Rattle.line_text.specs.Words.{IsName}
+use Rattle.line_text.specs.ReplyText.{IsCount}
 use Rattle.line_text.specs.EventText.{IsEvent, event_text}
+use Rattle.line_text.specs.BaseText.{base_head, base_counts, place_text, link_text}
+use Rattle.entry_grammar.specs.declared.base_line.BaseLine.{BaseLine}
+use Rattle.entry_grammar.specs.declared.base_line.BaseLine.TheVariants.{Head, Base, Place, Link}
 use Rattle.line_text.specs.EntryText.{header_text, entry_text}
 
 -- the most entries that a log holds
@@ -47,3 +52,21 @@ pub record SpellsHeader (line : List ℕ) (rules : RuleSet) (size count : ℕ) :
   pub few : size ≤ 65535
   pub within : count ≤ size
   pub is : line ≡ header_text rules size count
+
+-- what each value of the program's type of a base's lines meets
+abbrev pub IsBaseLine : BaseLine → Type 0
+IsBaseLine (Head rules size) = size ≤ 65535
+IsBaseLine (Base number spent nodes edges) = IsCount number × IsCount spent × IsCount nodes × IsCount edges
+IsBaseLine (Place node target flagged) = IsName node × IfSome target IsName
+IsBaseLine (Link edge) = IsPair edge
+
+abbrev pub base_line_text : BaseLine → List ℕ
+base_line_text (Head rules size) = base_head rules size
+base_line_text (Base number spent nodes edges) = base_counts number spent nodes edges
+base_line_text (Place node target flagged) = place_text (record { node = node; target = target; flagged = flagged })
+base_line_text (Link edge) = link_text edge
+
+-- the line is the one spelling of this line of a base
+pub record SpellsBaseLine (line : List ℕ) (found : BaseLine) : Type 0 where
+  pub fits : IsBaseLine found
+  pub is : line ≡ base_line_text found

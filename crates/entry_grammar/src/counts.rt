@@ -9,8 +9,8 @@ use crate::cut::cut;
 use line_text::{after, read_number};
 use rule_machine::Counts;
 
-// Reads a number behind its name.
-fn read_field(bytes: &[u8], name: &[u8]) -> Option<u32>
+/// Reads a number behind its name.
+pub(crate) fn read_field(bytes: &[u8], name: &[u8]) -> Option<u32>
     ensures { Reads IsCount (λ number. field_text (name.now, number)) bytes.now result }
 {
     let Some(digits) = after(bytes, name) else {
@@ -22,8 +22,8 @@ fn read_field(bytes: &[u8], name: &[u8]) -> Option<u32>
     Some(number as u32)
 }
 
-// Reads a number behind its name and the space behind it, and gives what follows the space.
-fn read_next<'a>(bytes: &'a [u8], name: &[u8]) -> Option<(u32, &'a [u8])>
+/// Reads a number behind its name and the space behind it, and gives what follows the space.
+pub(crate) fn read_next<'a>(bytes: &'a [u8], name: &[u8]) -> Option<(u32, &'a [u8])>
     requires { IsFree 32 name.now }
     ensures { MatchOption result
         ((number : ℕ) (rest : List ℕ) → FieldThen bytes.now name.now number rest → ⊥)

@@ -19,7 +19,8 @@ use std::alloc::Global;
 /// The most nodes that a header names.
 const MAX_NODES: u32 = 65_535;
 
-fn read_rules(bytes: &[u8]) -> Option<RuleSet>
+/// Reads a rule set by its word.
+pub(crate) fn read_rules(bytes: &[u8]) -> Option<RuleSet>
     ensures { Reads (λ (rules : RuleSet). ⊤) rules_word bytes.now result }
 {
     if bytes == RuleSet::Hh.word().as_bytes() {
@@ -31,8 +32,8 @@ fn read_rules(bytes: &[u8]) -> Option<RuleSet>
     None
 }
 
-// Reads how many names there are.
-fn read_size(bytes: &[u8]) -> Option<u32>
+/// Reads how many names there are.
+pub(crate) fn read_size(bytes: &[u8]) -> Option<u32>
     ensures { Reads (λ n. n ≤ 65535) number_text bytes.now result }
 {
     let Some(size) = read_number(bytes) else {

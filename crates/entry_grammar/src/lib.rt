@@ -1,6 +1,7 @@
 //! The lines of a transcript: each entry and each header has one spelling, which is written and read exactly.
 #![tactic(auto)]
 
+mod base_line;
 mod counts;
 mod cut;
 mod entry;
@@ -13,6 +14,7 @@ mod reply;
 mod tokens;
 mod words;
 
+pub use base_line::{BaseLine, read_base_line};
 pub use entry::{entry_text, read_entry};
 pub use fault::EntryFault;
 pub use header::{header_text, read_header};

@@ -14,8 +14,8 @@ use crate::words::Token;
 use line_text::read_last;
 use rule_machine::{Act, Edge, Moved, Node};
 
-// Reads the name that stands before the first byte that is the mark, and gives what stands behind the mark.
-fn read_marked(bytes: &[u8], mark: u8) -> Option<(Node, &[u8])>
+/// Reads the name that stands before the first byte that is the mark, and gives what stands behind the mark.
+pub(crate) fn read_marked(bytes: &[u8], mark: u8) -> Option<(Node, &[u8])>
     requires { IsInRange 48 57 mark → ⊥ }
     ensures { MatchOption result
         ((name : ℕ) (rest : List ℕ) → IsName name → bytes.now ≡ number_text name ++ mark ∷ rest → ⊥)
@@ -68,6 +68,23 @@ fn read_deed(bytes: &[u8]) -> Option<(Act, Option<Node>)>
     Some((act, Some(target)))
 }
 
+/// Reads the two ends of an edge with the mark between them, the lower one first.
+pub(crate) fn read_ends(bytes: &[u8], mark: u8) -> Option<Edge>
+    requires { IsInRange 48 57 mark → ⊥ }
+    ensures { Reads IsPair (λ e. number_text e.0 ++ mark ∷ number_text e.1) bytes.now result }
+{
+    let Some((low, name)) = read_marked(bytes, mark) else {
+        return None;
+    };
+    let Some(high) = read_last(name) else {
+        return None;
+    };
+    if low.name() >= high.name() {
+        return None;
+    }
+    Edge::new(low, high)
+}
+
 impl Token for Moved {
     ghost text = { move_text };
 
@@ -106,15 +123,6 @@ impl Token for Edge {
     ghost fits = { IsPair };
 
     fn read(bytes: &[u8]) -> Option<Edge> {
-        let Some((low, name)) = read_marked(bytes, b'-') else {
-            return None;
-        };
-        let Some(high) = read_last(name) else {
-            return None;
-        };
-        if low.name() >= high.name() {
-            return None;
-        }
-        Edge::new(low, high)
+        read_ends(bytes, b'-')
     }
 }

@@ -8,3 +8,4 @@ pub mod Contents
 pub mod Faults
 pub mod Present
 pub mod Leaving
+pub mod Listed

@@ -12,12 +12,12 @@ use Rattle.std.proofs.Math.Seq.{drop-cons}
 use Rattle.graph_store.specs.Rows.{has, IsPlaceOf, IsGapFor}
 
 -- the names rise, from a on
-RisesFrom : ℕ → List ℕ → Type 0
+unfoldable pub RisesFrom : ℕ → List ℕ → Type 0
 RisesFrom a [] = Unit {0}
 RisesFrom a (x ∷ xs) = (a ≤ x) × RisesFrom (x + 1) xs
 
 -- a list whose names rise by places rises from any lower name on
-rises_from : (a x : ℕ) (xs : List ℕ) → a ≤ x → IsStrictlyIncreasing (x ∷ xs) → RisesFrom a (x ∷ xs)
+pub rises_from : (a x : ℕ) (xs : List ℕ) → a ≤ x → IsStrictlyIncreasing (x ∷ xs) → RisesFrom a (x ∷ xs)
 unfolding RisesFrom
 rises_from a x [] low up = (low, tt)
 rises_from a x (y ∷ ys) low up =
@@ -25,7 +25,7 @@ rises_from a x (y ∷ ys) low up =
     (low, rises_from (x + 1) y ys (omega arith) (λ k inside. let h = up (suc k) (omega arith) in simp add-one (simp add-one at h)))
 
 -- and from any name that is lower still
-lower_rises : (a b : ℕ) (xs : List ℕ) → b ≤ a → RisesFrom a xs → RisesFrom b xs
+pub lower_rises : (a b : ℕ) (xs : List ℕ) → b ≤ a → RisesFrom a xs → RisesFrom b xs
 unfolding RisesFrom
 lower_rises a b [] low up = tt
 lower_rises a b (x ∷ xs) low up = (let le = up.0 in omega arith, up.1)

@@ -1,7 +1,7 @@
 //! The edges of a network.
 
 ghost use Rattle.std.specs.Prelude.{◌≡◌, ◌≤◌, false, [], slice_get, slice_set, IfOk, IfErr, OnOk, OnErr, MatchOption, IsTrue, All, None, Some};
-ghost use Rattle.rule_machine.specs.Network.{Network, edgeless, edgeless_with, with_node, without_node, names, node_count, edge_count, present, linked, neighbours, with_edge, without_edge};
+ghost use Rattle.rule_machine.specs.Network.{Network, edgeless, edgeless_with, with_node, without_node, names, node_count, edge_count, edge_list, present, linked, neighbours, with_edge, without_edge};
 ghost use Rattle.graph_store.specs.Fault.{nodes_fault, ends_fault, join_fault, leave_fault, link_fault, unlink_fault, Explains};
 ghost use Rattle.graph_store.specs.Graph.{HasRoomFor};
 ghost use Rattle.graph_store.specs.Rows.{IsGapFor};
@@ -9,9 +9,11 @@ ghost use Rattle.graph_store.specs.declared.fault.GraphFault.TheVariants.{Memory
 
 use crate::GraphFault;
 use crate::roll::first_names;
-use crate::rows::{empty_rows, find_gap, find_place, put_both, reserve_both, take_both};
+use crate::rows::{
+    empty_rows, find_gap, find_place, list_pairs, put_both, reserve_both, take_both,
+};
 use enabled_set::EnabledSet;
-use rule_machine::Node;
+use rule_machine::{Edge, Node, Want};
 use std::alloc::Global;
 use std::marker::Model;
 
@@ -141,6 +143,14 @@ impl EdgeStore {
         ensures linked { All (λ w. IsTrue (linked self.now.network node w)) result.now }
     {
         &self.rows[node.place()]
+    }
+
+    /// The edges, by rising lower ends, and those of one lower end by rising higher ends; takes four bytes an edge. A look at
+    /// every name, and at both ends of every edge.
+    pub fn list(&self) -> Result<Vec<Edge>, Want>
+        ensures { IfOk result (λ edges. edges.items ≡ edge_list self.now.network) }
+    {
+        list_pairs(self.rows.allocator().clone()?, &self.rows, self.edges)
     }
 
     // Whether an edge may join the two, which have to be nodes of the graph, and different.

@@ -1,11 +1,11 @@
 //! Neighbour lists, which rise.
 
-ghost use Rattle.std.specs.Prelude.{◌≡◌, ◌≢◌, ℕ, ◌+◌, ◌<◌, ◌≤◌, [], length, replicate, slice_set, IfOk, OnOk, MatchResult, IsTrue, slice_index, ◌-◌, true, false};
+ghost use Rattle.std.specs.Prelude.{◌≡◌, ◌++◌, filter, map, nat_lt, ◌≢◌, ℕ, ◌+◌, ◌<◌, ◌≤◌, [], length, replicate, slice_set, IfOk, OnOk, MatchResult, IsTrue, slice_index, ◌-◌, true, false};
 ghost use Rattle.std.specs.List.{insert, remove};
 ghost use Rattle.std.specs.List.Sorted.{IsStrictlyIncreasing};
-ghost use Rattle.graph_store.specs.Rows.{contents, row_at, has, IsPlaceOf, IsGapFor, HasRoom};
+ghost use Rattle.graph_store.specs.Rows.{contents, pairs_from, row_at, has, IsPlaceOf, IsGapFor, HasRoom};
 
-use rule_machine::{Node, Want};
+use rule_machine::{Edge, Node, Want};
 use std::alloc::Global;
 
 /// As many empty rows as `count` says.
@@ -127,4 +127,29 @@ pub fn take_both(rows: &mut [Vec<Node>], a: Node, place_in_a: usize, b: Node, pl
 {
     take_out(rows, a, place_in_a);
     take_out(rows, b, place_in_b);
+}
+
+/// Adds the pairs of a node with those of its row that have higher names.
+fn push_above(pairs: &mut Vec<Edge>, v: Node, row: &[Node]) -> Result<(), Want>
+    ensures { OnOk result (pairs.new.items ≡ pairs.old.items ++ map (λ w. (v, w)) (filter (nat_lt v) row.now)) }
+{
+    for &w in row {
+        if v < w {
+            pairs.push(Edge::new(v, w).unwrap())?;
+        }
+    }
+    Ok(())
+}
+
+/// The pairs of all rows, each once, in their order; takes memory for as many as there are said to be.
+pub fn list_pairs(alloc: Global, rows: &[Vec<Node>], count: u32) -> Result<Vec<Edge>, Want>
+    requires few { length rows.now ≤ 65536 }
+    requires nobody { row_at (contents rows.now) 0 ≡ [] }
+    ensures { IfOk result (λ pairs. pairs.items ≡ pairs_from 0 (contents rows.now)) }
+{
+    let mut pairs = Vec::with_capacity(alloc, count as usize)?;
+    for place in 1..rows.len() {
+        push_above(&mut pairs, Node::new(place as u32).unwrap(), &rows[place])?;
+    }
+    Ok(pairs)
 }

@@ -5,3 +5,4 @@ pub mod EntryText
 pub mod LogText
 pub mod Growth
 pub mod Reading
+pub mod BaseText

@@ -29,3 +29,7 @@ joined text (item ∷ items) = text item ++ spaced text items
 abbrev pub joined_or : {X : Type 0} → List ℕ → (X → List ℕ) → List X → List ℕ
 joined_or word text [] = word
 joined_or word text (item ∷ items) = joined text (item ∷ items)
+
+-- each item's text, with an LF behind it
+abbrev pub ended : {X : Type 0} → (X → List ℕ) → List X → List ℕ
+ended text items = flat_map (λ item. text item ++ 10 ∷ []) items

@@ -1,6 +1,7 @@
 //! The text of scripts and transcripts: commands are read exactly, and entries written exactly.
 #![tactic(auto)]
 
+mod base;
 mod command;
 mod entry;
 mod events;
@@ -13,6 +14,7 @@ mod numeral;
 mod replies;
 mod word;
 
+pub use base::put_base;
 pub use command::{read_command, read_target};
 pub use entry::{put_entry, put_header};
 pub use front::after;

@@ -65,7 +65,7 @@ impl Word for Edge {
 }
 
 // Writes a number behind its name.
-fn put_field(out: &mut Vec<u8>, name: &[u8], number: u32) -> Result<(), Want>
+pub(crate) fn put_field(out: &mut Vec<u8>, name: &[u8], number: u32) -> Result<(), Want>
     ensures ok { OnOk result (out.new.items ≡ out.old.items ++ field_text (name.now, number)) }
     ensures err { OnErr result (Extends out.old.items out.new.items) }
     ensures fit { IsCount number }

@@ -27,7 +27,7 @@ blank_null n v =
 blank_pointer : (n v x : ℕ) → get_or (replicate n nowhere) v nowhere ≡ Some x → ⊥
 blank_pointer n v x e = let k : nowhere ≡ Some x = sym (blank_null n v) ∙ e in cc
 
-blank_flag : (n v : ℕ) → get_or (replicate n false) v false ≡ false
+pub blank_flag : (n v : ℕ) → get_or (replicate n false) v false ≡ false
 blank_flag n v =
     ⊎_elim (λ (below : v < n). get_or-replicate n v false false below) (λ (past : n ≤ v). get_or_past (replicate n false) v false (let k = length-replicate n false in omega (arith, k))) (cases_lt v n)
 

@@ -20,3 +20,6 @@ pub mod Laws
 pub mod Leaves
 pub mod Parted
 pub mod Determined
+pub mod Bases
+pub mod Unflagged
+pub mod Sizes

@@ -2,7 +2,9 @@
 
 ghost use Rattle.std.specs.Prelude.{◌≡◌, ℕ, Bool, Some, IfSome, IsTrue, All, Contains};
 ghost use Rattle.std.specs.FinMap as map;
+ghost use Rattle.rule_machine.specs.Base.{base_of};
 ghost use Rattle.rule_machine.specs.Network.{present};
+ghost use Rattle.rule_machine.specs.Run.{Moment};
 ghost use Rattle.rule_machine.specs.State.{State, IsState, pointer, flag, married};
 ghost use Rattle.rule_machine.specs.Stable.{IsStable, IsMaximalMatching, ShareAnEnd, mutual_pairs};
 
@@ -21,4 +23,9 @@ pub fn stable_is_maximal()
 /// are used, a network is stable.
 pub fn maximal_is_stable()
     ensures { (uses_flags : Bool) (s : State) → IsState s → ((v : ℕ) → IfSome (pointer s v) (λ w. pointer s w ≡ Some v)) → (IsTrue uses_flags → (v : ℕ) → IsTrue (present s.network v) → flag s v ≡ married s v) → IsMaximalMatching s.network (mutual_pairs s) → IsStable uses_flags s }
+{}
+
+/// For names up to the same size a base is that of one moment: its nodes and edges tell the state.
+pub fn base_tells()
+    ensures { (number : ℕ) (m o : Moment) → IsState m.state → IsState o.state → m.state.network.size ≡ o.state.network.size → base_of number m ≡ base_of number o → m ≡ o }
 {}

@@ -4,4 +4,4 @@
 
 mod laws;
 
-pub use laws::{maximal_is_stable, mutual_pairs_apart, stable_is_maximal};
+pub use laws::{base_tells, maximal_is_stable, mutual_pairs_apart, stable_is_maximal};

@@ -6,20 +6,19 @@ use Rattle.rule_machine.specs.declared.refusal.Refusal.TheVariants.{UnknownNode,
 use Rattle.rule_machine.specs.Network.{Network, IsNetwork, present, linked, neighbours, with_node}
 use Rattle.rule_machine.specs.State.{State, IsState}
 use Rattle.rule_machine.specs.RuleTable.{RuleTable, rule_at}
-use Rattle.rule_machine.specs.Disturbance.{after_join, after_leave}
+use Rattle.rule_machine.specs.Disturbance.{after_join}
 use Rattle.rule_machine.specs.Refuse.{both_present, unlink_refusal}
 use Rattle.rule_set.specs.Near.{IsNear, SameAt}
 use Rattle.machine_laws.specs.Edges.{linked_comm, present_other}
-use Rattle.machine_laws.specs.Keeps.{join_keeps, leave_keeps}
+use Rattle.machine_laws.specs.Keeps.{join_keeps}
 use Rattle.machine_laws.specs.Leaves.{after_parting}
-use Rattle.machine_laws.specs.Neighbours.{linked_apart, linked_back, linked_present, neighbours_range, present_range}
+use Rattle.machine_laws.specs.Neighbours.{linked_apart, linked_back, linked_present, neighbours_range}
 use Rattle.machine_laws.specs.Writes.{flag-with_flag_other}
 use Rattle.machine_laws.specs.Parted.{no_edge}
 use Rattle.rule_engine.specs.Kept.{is_on, IsKept}
 use Rattle.rule_engine.specs.Looked.{IsLookedAt}
 use Rattle.rule_engine.proofs.Again.{IsLocal, kept_again}
 use Rattle.rule_engine.proofs.Far.{not_same}
-use Rattle.rule_engine.proofs.Looked.{looked_one}
 
 -- ---- a node that joins
 

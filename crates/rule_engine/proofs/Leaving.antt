@@ -1,5 +1,5 @@
 -- A node that leaves: while its edges go one by one, who is enabled is known but at the node and at its neighbours that are left.
-use Rattle.std.proofs.Common.{◌≡◌, ℕ, ◌+◌, Bool, true, false, cond, not, ◌||◌, List, [], length, set, get_or, replicate, Option, None, Some, nat_eq, refl, sym, ap, ◌∙◌, subst, ⊎_elim, arith}
+use Rattle.std.proofs.Common.{◌≡◌, ℕ, ◌+◌, Bool, true, false, cond, not, ◌||◌, List, [], set, get_or, replicate, None, Some, nat_eq, refl, sym, ap, ◌∙◌, subst, ⊎_elim, arith}
 use Rattle.std.specs.Prelude.{IsTrue}
 use Rattle.std.proofs.lemmas.Bool.{cases_Bool, cases_eq, cond-true, cond-false, ne_eqb, or_parts, and_parts, true≢false}
 use Rattle.std.proofs.lemmas.Option.{none-some}

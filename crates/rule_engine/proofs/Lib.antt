@@ -16,3 +16,4 @@ pub mod Ascending
 pub mod Moments
 pub mod Counted
 pub mod NextVerdict
+pub mod Placed

@@ -5,6 +5,8 @@ use Rattle.rule_machine.specs.declared.act.Act.{Act}
 use Rattle.rule_machine.specs.Network.{Network, present}
 use Rattle.rule_machine.specs.State.{State, Registers, IsState, points, pointer_of, pointer, flag, married}
 use Rattle.rule_machine.specs.Run.{Moment}
+use Rattle.rule_machine.specs.declared.base.Place.{Place}
+use Rattle.rule_machine.specs.Base.{place_at}
 use Rattle.rule_machine.specs.RuleTable.{RuleTable, rule_at}
 
 abbrev pub state_of : Network → Registers → State
@@ -51,3 +53,7 @@ pub record IsAnswered (uses_flags : Bool) (s : State) : Type 0 where
 -- a state, and the moves spent
 abbrev pub moment : State → ℕ → Moment
 moment s spent = record { state = s; spent = spent }
+
+-- a name with its registers, where it is a node of the state
+abbrev pub place_in : State → ℕ → Option Place
+place_in s v = if present s.network v then Some (place_at s v) else None

@@ -1,6 +1,7 @@
 //! The rule engine: a network whose replies and states are the rule machine's, for any set of rules.
 #![tactic(auto)]
 
+mod base;
 mod charge;
 mod edits;
 mod engine;
@@ -16,7 +17,7 @@ pub use enabled_set::EnabledSet;
 pub use graph_store::{Edge, GraphFault, Node};
 pub use net::Net;
 pub use rule_machine::{
-    Act, Choice, Counts, Event, Item, Listing, Moved, Outcome, Refusal, Reply, RuleSet, Verdict,
-    Want,
+    Act, Base, Choice, Counts, Event, Item, Listing, Moved, Outcome, Place, Refusal, Reply,
+    RuleSet, Verdict, Want,
 };
 pub use rule_set::{BadTarget, Local, Rules};

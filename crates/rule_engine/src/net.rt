@@ -3,6 +3,7 @@
 ghost use Rattle.std.specs.Prelude.{◌≡◌, ◌<◌, ◌≤◌, ◌+◌, ◌*◌, ◌↔◌, ℕ, [], IfOk, IfErr, IfSome, OnOk, OnErr, IsTrue, None, length, zip, slice_get};
 ghost use Rattle.enabled_set.specs.Members.{members};
 ghost use Rattle.graph_store.specs.Fault.{nodes_fault, Explains};
+ghost use Rattle.rule_machine.specs.Base.{base_of};
 ghost use Rattle.rule_machine.specs.Network.{node_count, edge_count};
 ghost use Rattle.rule_machine.specs.State.{IsState};
 ghost use Rattle.rule_machine.specs.RuleTable.{enabled_names};
@@ -17,12 +18,13 @@ ghost use Rattle.rule_engine.specs.Applied.{StopsAt, moment_after_all, takes_mem
 ghost use Rattle.rule_engine.specs.Choosing.{verdict_of, verdicts_of};
 ghost use Rattle.rule_engine.specs.Prepared.{IsPrepared, moment_of};
 
+use crate::base::list_places;
 use crate::charge::spent_after;
 use crate::engine::Engine;
 use enabled_set::EnabledSet;
 use graph_store::{EdgeStore, GraphFault};
 use registers::Registers;
-use rule_machine::{Act, Choice, Event, Listing, Node, Reply, Verdict, Want};
+use rule_machine::{Act, Base, Choice, Event, Listing, Node, Reply, Verdict, Want};
 use rule_set::Rules;
 use std::alloc::Global;
 use std::marker::Model;
@@ -137,6 +139,22 @@ impl<R: Rules> Net<R> {
         ensures settled { result ≡ 0 → IsStable R.table.flags self.now.state }
     {
         self.engine.charge()
+    }
+
+    /// The base at which the network stands where so many entries led there: what is spent, each node with its registers, and the
+    /// edges. Takes some eight bytes a node and four an edge; a look at every name and at both ends of every edge.
+    pub fn base(&self, number: u32) -> Result<Base, Want>
+        ensures { IfOk result (λ base. base ≡ base_of number (moment_of self.now)) }
+    {
+        let store = self.engine.store();
+        let nodes = list_places(self.alloc, store, self.engine.registers())?;
+        let edges = store.list()?;
+        Ok(Base {
+            number,
+            spent: self.spent,
+            nodes: Listing::from_vec(nodes),
+            edges: Listing::from_vec(edges),
+        })
     }
 
     /// The moves since the last accepted disturbance, or since the start. With the charge they are at most twice the

@@ -12,3 +12,4 @@ pub mod Answer
 pub mod Least
 pub mod Run
 pub mod Tables
+pub mod Base

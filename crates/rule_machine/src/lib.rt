@@ -2,6 +2,7 @@
 #![tactic(auto)]
 
 mod act;
+mod base;
 mod choice;
 mod counts;
 mod edge;
@@ -16,6 +17,7 @@ mod rules;
 mod verdict;
 
 pub use act::Act;
+pub use base::{Base, Place};
 pub use choice::{Choice, Item, MAX_ITEMS};
 pub use counts::Counts;
 pub use edge::Edge;

@@ -1,8 +1,9 @@
 //! A set of rules.
 
-ghost use Rattle.std.specs.Prelude.{◌≡◌, ℕ, ◌+◌, ◌*◌, ◌≤◌, Bool, not, List, [], length, count_by, sum_by, IsTrue, IsSome};
+ghost use Rattle.std.specs.Prelude.{◌≡◌, ℕ, ◌+◌, ◌*◌, ◌≤◌, Bool, false, not, List, [], length, count_by, sum_by, IsTrue, IsSome};
 ghost use Rattle.std.specs.Result.{result_ok};
 ghost use Rattle.rule_machine.specs.declared.act.Act.{Act};
+ghost use Rattle.rule_machine.specs.declared.act.Act.TheVariants.{Update};
 ghost use Rattle.rule_machine.specs.declared.choice.Item.{Item};
 ghost use Rattle.rule_machine.specs.declared.moved.Moved.{Moved};
 ghost use Rattle.rule_machine.specs.State.{State, IsState, is_unanswered};
@@ -97,6 +98,9 @@ pub trait Rules {
 
     /// At most one rule is enabled at a node.
     ghost one_rule: { (s : State) (v : ℕ) (a b : Act) → IsTrue (table.guard s v a) → IsTrue (table.guard s v b) → a ≡ b };
+
+    /// Where flags are not used the rule that writes them is enabled nowhere.
+    ghost no_update: { table.flags ≡ false → (s : State) (v : ℕ) → table.guard s v Update ≡ false };
 
     /// Where no rule is enabled the network is stable.
     ghost quiet_is_stable: { (s : State) → IsState s → enabled_names table s ≡ [] → IsStable table.flags s };

@@ -10,6 +10,7 @@ pub struct HsuHuang;
 impl Rules for HsuHuang {
     ghost use Rattle.std.specs.Prelude.{true, false, refl};
     ghost use Rattle.charge_laws.specs.Laws.{hsu_huang_charged};
+    ghost use Rattle.charge_laws.specs.Tables.{hsu_huang_flagless};
     ghost use Rattle.rule_machine.specs.HsuHuang.{hsu_huang};
     ghost use Rattle.rule_machine.specs.Charge.{hsu_huang_closed};
     ghost use Rattle.rules_hsu_huang.specs.Charge.{nothing, charge_without_nodes, light};
@@ -98,6 +99,8 @@ impl Rules for HsuHuang {
     ghost is_local = { guard_is_local };
 
     ghost one_rule = { one_rule_at };
+
+    ghost no_update = { hsu_huang_flagless };
 
     ghost quiet_is_stable = { stable_from_quiet };
 

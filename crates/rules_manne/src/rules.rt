@@ -18,6 +18,7 @@ pub struct Manne;
 impl Rules for Manne {
     ghost use Rattle.std.specs.Prelude.{true, false, refl};
     ghost use Rattle.charge_laws.specs.Laws.{manne_charged};
+    ghost use Rattle.charge_laws.specs.Tables.{manne_flagless};
     ghost use Rattle.rule_machine.specs.Manne.{manne};
     ghost use Rattle.rule_machine.specs.Charge.{manne_closed, manne_node_charge};
     ghost use Rattle.rules_manne.specs.Rule.{guard_is_local, one_rule_at};
@@ -105,6 +106,8 @@ impl Rules for Manne {
     ghost is_local = { guard_is_local };
 
     ghost one_rule = { one_rule_at };
+
+    ghost no_update = { manne_flagless };
 
     ghost quiet_is_stable = { stable_from_quiet };
 

@@ -15,6 +15,7 @@ use Rattle.machine_laws.specs.Keeps.{opening_is_state}
 use Rattle.machine_laws.specs.LeastMoves.{IsTable}
 use Rattle.machine_laws.specs.LeastAnswers.{least_answers}
 use Rattle.machine_laws.specs.Runs.{runs_end_in_states, run_add}
+use Rattle.machine_laws.specs.Sizes.{runs_keep_size}
 use Rattle.log_entry.specs.Kinds.{fits}
 use Rattle.step_log.specs.declared.epoch.Epoch.{Epoch}
 use Rattle.step_log.specs.Epochs.{IsTold, begun_by, ended_by, of_run, open_at}
@@ -22,27 +23,6 @@ use Rattle.step_log.specs.Held.{IsKept}
 use Rattle.step_log.specs.Log.{Log, IsLog, entry_of, recorded}
 use Rattle.step_log.proofs.Fitting.{nodes_few, reply_fits}
 use Rattle.step_log.proofs.Telling.{told_add}
-
-accepted_size : (t : RuleTable) (s : State) (event : Event) → (accepted_state t s event).network.size ≡ s.network.size
-accepted_size t s (Link a b) = refl
-accepted_size t s (Unlink a b) = refl
-accepted_size t s (Point v target) = refl
-accepted_size t s (Flag v value) = refl
-accepted_size t s (Join v) = refl
-accepted_size t s (Leave v) = refl
-accepted_size t s (Step items) = refl
-accepted_size t s (Show v) = refl
-accepted_size t s Enabled = refl
-accepted_size t s Matching = refl
-accepted_size t s Status = refl
-
-size_by : (t : RuleTable) (s : State) (event : Event) (r : Option Refusal) → (state_by t s event r).network.size ≡ s.network.size
-size_by t s event (Some refusal) = refl
-size_by t s event None = accepted_size t s event
-
--- no event changes how many names there are
-pub size_kept : (t : RuleTable) (s : State) (event : Event) → (state_after t s event).network.size ≡ s.network.size
-size_kept t s event = size_by t s event (refusal_of t s event)
 
 -- a log ends in a state
 pub ends_in_state : (t : RuleTable) → IsTable t → (log : Log) → IsLog t log → IsState log.state
@@ -61,8 +41,8 @@ recorded_is_log t table log is below event =
     let after = state_after t log.state event in
     let entry = entry_of t log event in
     let end : Moment = record { state = after; spent = spent_by t log.state log.spent event } in
-    let size : after.network.size ≡ log.state.network.size = size_kept t log.state event in
     let answers = least_answers t table log.state (ends_in_state t table log is) log.spent event in
+    let size = runs_keep_size t (record { state = log.state; spent = log.spent }) (entry ∷ []) end (after, answers, refl) in
     let run : Run t begun (log.entries ++ entry ∷ []) end = run_add t begun (record { state = log.state; spent = log.spent }) log.entries entry after is.run answers in
     record {
       run = subst (λ (n : ℕ). Run t (beginning_with n log.first) (log.entries ++ entry ∷ []) end) (sym size) run;
@@ -79,8 +59,8 @@ recorded_is_kept t table log over begun kept below event next are =
     let after = state_after t log.state event in
     let end : Moment = record { state = after; spent = spent_by t log.state log.spent event } in
     let entries = log.entries ++ entry_of t log event ∷ [] in
-    let size : after.network.size ≡ log.state.network.size = size_kept t log.state event in
     let answers = least_answers t table log.state (ends_in_state t table log kept.is_log) log.spent event in
+    let size = runs_keep_size t m (entry_of t log event ∷ []) end (after, answers, refl) in
     let told = told_add t (beginning_with log.state.network.size log.first) m log.entries (map of_run over) begun kept.told (entry_of t log event) after answers in
     record {
       is_log = recorded_is_log t table log kept.is_log below event;

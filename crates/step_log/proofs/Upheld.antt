@@ -5,6 +5,7 @@ use Rattle.rule_machine.specs.RuleTable.{RuleTable, enabled_names}
 use Rattle.rule_machine.specs.Answer.{spent_after}
 use Rattle.rule_machine.specs.Stable.{IsStable}
 use Rattle.rule_machine.specs.Run.{Entry, Moment, Run, beginning_with}
+use Rattle.machine_laws.specs.Bases.{run_splits}
 use Rattle.machine_laws.specs.Keeps.{opening_is_state}
 use Rattle.machine_laws.specs.LeastMoves.{IsTable}
 use Rattle.machine_laws.specs.Laws.{maximal_from_stable, stable_from_maximal}
@@ -18,15 +19,10 @@ use Rattle.step_log.proofs.Once.{run_once}
 
 -- ---- a log leads to one moment
 
-run_splits : (t : RuleTable) (start : Moment) (some rest : List Entry) (end : Moment) → Run t start (some ++ rest) end → (middle : Moment) × Run t start some middle × Run t middle rest end
-run_splits t start [] rest end run = (start, refl, run)
-run_splits t start (entry ∷ some) rest end run =
-    let m = run_splits t (record { state = run.0; spent = spent_after start.spent entry.1 }) some rest end run.2 in (m.0, (run.0, run.1, m.1), m.2)
-
 -- a run goes on from where its beginning has led
 run_goes_on : (t : RuleTable) (start : Moment) (some rest : List Entry) (middle end : Moment) → Run t start some middle → Run t start (some ++ rest) end → Run t middle rest end
 run_goes_on t start some rest middle end here run =
-    let m = run_splits t start some rest end run in subst (λ (n : Moment). Run t n rest end) (run_once t start some m.0 middle m.1 here) m.2
+    let m = run_splits t start end some rest run in subst (λ (n : Moment). Run t n rest end) (run_once t start some m.0 middle m.1 here) m.2
 
 -- each beginning of a log leads to one moment
 pub leads_somewhere : (t : RuleTable) (weight : ℕ) (log : Log) → Upholds t weight log → (before after : List Entry) → before ++ after ≡ log.entries → (m : Moment) × LeadsTo t log before m × ((n : Moment) → LeadsTo t log before n → n ≡ m)
@@ -34,7 +30,7 @@ leads_somewhere t weight log upholds before after same =
     let begun = beginning_with log.state.network.size log.first in
     let end : Moment = record { state = log.state; spent = log.spent } in
     let whole : Run t begun (before ++ after) end = subst (λ (l : List Entry). Run t begun l end) (sym same) upholds.run in
-    let m = run_splits t begun before after end whole in (m.0, m.1, λ n there. run_once t begun before n m.0 there m.1)
+    let m = run_splits t begun end before after whole in (m.0, m.1, λ n there. run_once t begun before n m.0 there m.1)
 
 -- ---- the headline
 

@@ -1,4 +1,4 @@
-use Rattle.std.proofs.Common.{◌≡◌, ◌∙◌, ℕ, List, [], IsTrue, MatchOption, ap, subst}
+use Rattle.std.proofs.Common.{◌≡◌, ◌∙◌, ℕ, List, [], IsTrue, MatchOption, subst}
 use Rattle.rule_machine.specs.Network.{Network, neighbours, linked}
 use Rattle.machine_laws.specs.Parted.{last_passes}
 use Rattle.rule_engine.proofs.Coming.{edges_unlink}

@@ -1,8 +1,6 @@
-use Rattle.std.proofs.Common.{◌≡◌, Bool, List, IsTrue, ap, sym, subst, arith}
-use Rattle.rule_machine.specs.Network.{present}
+use Rattle.std.proofs.Common.{Bool, List, sym, subst, arith}
 use Rattle.rule_machine.specs.State.{State}
 use Rattle.machine_laws.specs.Neighbours.{present_range}
-use Rattle.indexed_state.specs.Indexed.{Indexed}
 use Rattle.rule_engine.specs.Kept.{IsKept}
 use Rattle.rule_engine.specs.Looked.{is_near}
 use Rattle.rule_engine.proofs.Leaving.{right_but, kept_left}

@@ -1,0 +1,166 @@
+//! The lines of a base.
+
+ghost use Rattle.std.specs.Prelude.{◌≡◌, ◌≤◌, ◌∷◌, ◌++◌, ⊤, IfOk, IfErr, IfSome, MatchOption};
+ghost use Rattle.line_text.specs.Words.{IsName, joined};
+ghost use Rattle.line_text.specs.EventText.{bool_text};
+ghost use Rattle.line_text.specs.ReplyText.{field_text};
+ghost use Rattle.line_text.specs.BaseText.{base_fields};
+ghost use Rattle.line_text.specs.Reading.{Reads, ReadsTwo};
+ghost use Rattle.entry_grammar.specs.declared.base_line.BaseLine.{BaseLine as Line};
+ghost use Rattle.entry_grammar.specs.Spelling.{SpellsBaseLine};
+ghost use Rattle.entry_grammar.specs.Reading.{AreCounts, ReadsPlace, registers_text, rules_text};
+ghost use Rattle.entry_grammar.specs.declared.fault.EntryFault.TheVariants.{NotALine};
+
+use crate::counts::{read_field, read_next};
+use crate::cut::cut;
+use crate::fault::EntryFault;
+use crate::header::{read_rules, read_size};
+use crate::tokens::{read_ends, read_marked};
+use line_text::{after, read_target};
+use rule_machine::{Edge, Node, RuleSet};
+
+/// A line of a base.
+#[derive(Clone, Copy, Debug, PartialEq, Eq)]
+pub enum BaseLine {
+    /// The first: the rules, and how many names there are.
+    Head(RuleSet, u32),
+    /// The second, which says where the run stands.
+    Base {
+        /// How many entries led there.
+        number: u32,
+        /// The moves since the last accepted disturbance, or since the start.
+        spent: u32,
+        /// How many lines of nodes follow.
+        nodes: u32,
+        /// How many lines of edges follow these.
+        edges: u32,
+    },
+    /// A node, where its pointer is, and what its flag says.
+    Place(Node, Option<Node>, bool),
+    /// An edge.
+    Link(Edge),
+}
+
+// Reads the rules and how many names there are.
+fn read_head(bytes: &[u8]) -> Option<(RuleSet, u32)>
+    ensures { ReadsTwo (λ rules size. size ≤ 65535) rules_text bytes.now result }
+{
+    let Some((word, size)) = cut(bytes, b' ') else {
+        return None;
+    };
+    let Some(rules) = read_rules(word) else {
+        return None;
+    };
+    let Some(size) = read_size(size) else {
+        return None;
+    };
+    Some((rules, size))
+}
+
+// Reads four numbers, the last three behind their names.
+fn read_base(bytes: &[u8]) -> Option<(u32, u32, u32, u32)>
+    ensures { Reads AreCounts (λ q. joined field_text (base_fields q.0 q.1 q.2 q.3)) bytes.now result }
+{
+    let Some((number, rest)) = read_next(bytes, b"") else {
+        return None;
+    };
+    let Some((spent, rest)) = read_next(rest, b"spent=") else {
+        return None;
+    };
+    let Some((nodes, rest)) = read_next(rest, b"nodes=") else {
+        return None;
+    };
+    let Some(edges) = read_field(rest, b"edges=") else {
+        return None;
+    };
+    Some((number, spent, nodes, edges))
+}
+
+fn read_flag(bytes: &[u8]) -> Option<bool>
+    ensures { Reads (λ value. ⊤) bool_text bytes.now result }
+{
+    if bytes == b"0".as_slice() {
+        return Some(false);
+    }
+    if bytes == b"1".as_slice() {
+        return Some(true);
+    }
+    None
+}
+
+// Reads where a pointer is, and what a flag says.
+fn read_registers(bytes: &[u8]) -> Option<(Option<Node>, bool)>
+    ensures { ReadsTwo (λ target flag. IfSome target IsName) registers_text bytes.now result }
+{
+    let Some((target, flag)) = cut(bytes, b' ') else {
+        return None;
+    };
+    let Some(target) = read_target(target) else {
+        return None;
+    };
+    let Some(flag) = read_flag(flag) else {
+        return None;
+    };
+    Some((target, flag))
+}
+
+// Reads a node and its registers.
+fn read_place(bytes: &[u8]) -> Option<(Node, Option<Node>, bool)>
+    ensures { ReadsPlace bytes.now result }
+{
+    let Some((node, rest)) = read_marked(bytes, b' ') else {
+        return None;
+    };
+    let Some((target, flag)) = read_registers(rest) else {
+        return None;
+    };
+    Some((node, target, flag))
+}
+
+fn find_base_line(line: &[u8]) -> Option<BaseLine>
+    ensures { MatchOption result
+        ((found : Line) → SpellsBaseLine line.now found → ⊥)
+        (λ found. SpellsBaseLine line.now found) }
+{
+    if let Some(rest) = after(line, b"node ") {
+        let Some((node, target, flag)) = read_place(rest) else {
+            return None;
+        };
+        return Some(BaseLine::Place(node, target, flag));
+    }
+    if let Some(rest) = after(line, b"edge ") {
+        let Some(edge) = read_ends(rest, b' ') else {
+            return None;
+        };
+        return Some(BaseLine::Link(edge));
+    }
+    if let Some(rest) = after(line, b"base ") {
+        let Some((number, spent, nodes, edges)) = read_base(rest) else {
+            return None;
+        };
+        return Some(BaseLine::Base {
+            number,
+            spent,
+            nodes,
+            edges,
+        });
+    }
+    let Some(rest) = after(line, b"matching2 ") else {
+        return None;
+    };
+    let Some((rules, size)) = read_head(rest) else {
+        return None;
+    };
+    Some(BaseLine::Head(rules, size))
+}
+
+/// Reads a line of a base, without its LF. Takes no memory.
+pub fn read_base_line(line: &[u8]) -> Result<BaseLine, EntryFault>
+    ensures ok { IfOk result (λ found. SpellsBaseLine line.now found) }
+    ensures not_a_line { IfErr result (λ fault. (fault ≡ NotALine) × ((found : Line) → SpellsBaseLine line.now found → ⊥)) }
+{
+    match find_base_line(line) {
+        Some(found) => Ok(found),
+        None => Err(EntryFault::NotALine),
+    }
+}

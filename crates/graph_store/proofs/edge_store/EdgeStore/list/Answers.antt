@@ -1,0 +1,20 @@
+use Rattle.std.proofs.Common.{ap, sym, ◌∙◌}
+use Rattle.std.proofs.lemmas.Result.{IfOk-weaker}
+use Rattle.rule_machine.specs.Network.{edge_list}
+use Rattle.graph_store.specs.Graph.{Graph}
+use Rattle.graph_store.specs.Rows.{contents, pairs_from, row_at}
+use Rattle.graph_store.proofs.Listed.{edges_listed, nobody_row}
+use Rattle.graph_store.proofs.edge_store.EdgeStore.list.Goals as goal
+
+pub list_pairs-requires-clause-nobody : goal.list_pairs-requires-clause-nobody
+list_pairs-requires-clause-nobody c =
+    let inside = c.self.inside in
+    ap (λ rows. row_at (contents rows) 0) c.deref.ensures.value ∙ nobody_row inside.nodes inside.here (contents inside.rows.items) c.self.invariant.is_rows
+
+pub returns : goal.returns
+returns c =
+    let inside = c.self.inside in
+    IfOk-weaker c.list_pairs.result _ _ (λ edges is.
+    is ∙ ap (λ rows. pairs_from 0 (contents rows)) c.deref.ensures.value
+    ∙ sym (edges_listed (contents inside.rows.items) c.self.invariant.is_rows.rising)
+    ∙ ap edge_list (ap (λ (g : Graph). g.network) c.self.view_is)) c.list_pairs.ensures

@@ -1,0 +1,34 @@
+-- The lines of a base. Each ends with an LF.
+use Rattle.std.specs.Prelude.{ℕ, List, [], ◌∷◌, ◌++◌, length, codes}
+use Rattle.rule_machine.specs.declared.base.Place.{Place}
+use Rattle.rule_machine.specs.declared.base.Base.{Base}
+use Rattle.rule_machine.specs.declared.rules.RuleSet.{RuleSet}
+use Rattle.rule_machine.specs.Tables.{rules_word}
+use Rattle.line_text.specs.Words.{number_text, ended, joined}
+use Rattle.line_text.specs.ReplyText.{field_text}
+use Rattle.line_text.specs.EventText.{pair_text, target_text, bool_text}
+
+-- the rule set, and how many names there are
+abbrev pub base_head : RuleSet → ℕ → List ℕ
+base_head rules size = codes "matching2 " ++ rules_word rules ++ codes " " ++ number_text size
+
+-- how many entries led to it, the moves spent, and how many nodes and edges there are, all but the first with their names
+abbrev pub base_fields : ℕ → ℕ → ℕ → ℕ → List (List ℕ × ℕ)
+base_fields number spent nodes edges =
+    (codes "", number) ∷ (codes "spent=", spent) ∷ (codes "nodes=", nodes) ∷ (codes "edges=", edges) ∷ []
+
+abbrev pub base_counts : ℕ → ℕ → ℕ → ℕ → List ℕ
+base_counts number spent nodes edges = codes "base " ++ joined field_text (base_fields number spent nodes edges)
+
+-- a node, where its pointer is, and its flag
+abbrev pub place_text : Place → List ℕ
+place_text place = codes "node " ++ number_text place.node ++ codes " " ++ target_text place.target ++ codes " " ++ bool_text place.flagged
+
+-- an edge, by its lower and its higher end
+abbrev pub link_text : ℕ × ℕ → List ℕ
+link_text edge = codes "edge " ++ pair_text edge.0 edge.1
+
+-- all lines of a base of so many names
+abbrev pub base_text : RuleSet → ℕ → Base → List ℕ
+base_text rules size base =
+    (base_head rules size ++ 10 ∷ []) ++ (base_counts base.number base.spent (length base.nodes) (length base.edges) ++ 10 ∷ []) ++ ended place_text base.nodes ++ ended link_text base.edges

@@ -1,0 +1,5 @@
+use Rattle.machine_laws.specs.Bases as bases
+use Rattle.machine_laws.proofs.laws.base_tells.Goals as goal
+
+pub returns : goal.returns
+returns c = bases.base_tells

@@ -1,0 +1,52 @@
+-- Bases: what is left of a run where its older entries are dropped; and logs in which bases stand among entries.
+use Rattle.std.specs.Prelude.{◌≡◌, ℕ, ◌+◌, ◌≤◌, false, List, [], ◌∷◌, map}
+use Rattle.rule_machine.specs.declared.base.Place.{Place}
+use Rattle.rule_machine.specs.declared.base.Base.{Base}
+use Rattle.rule_machine.specs.Network.{Network, names, edge_list}
+use Rattle.rule_machine.specs.State.{State, IsState, pointer, flag}
+use Rattle.rule_machine.specs.RuleTable.{RuleTable}
+use Rattle.rule_machine.specs.Answer.{Answers, spent_after}
+use Rattle.rule_machine.specs.Run.{Entry, Moment}
+
+-- a node of a state with its registers
+abbrev pub place_at : State → ℕ → Place
+place_at s v = record { node = v; target = pointer s v; flagged = flag s v }
+
+-- the nodes of a state, ascending
+abbrev pub places : State → List Place
+places s = map (place_at s) (names s.network)
+
+-- the base at a moment to which so many entries led
+abbrev pub base_of : ℕ → Moment → Base
+base_of number m = record { number = number; spent = m.spent; nodes = places m.state; edges = edge_list m.state.network }
+
+-- where a run may begin at a base, for names up to size: the state is one, its lines are the base's, and what is spent is
+-- within the bound of its network
+pub record IsBegun (t : RuleTable) (bound : Network → ℕ) (size : ℕ) (base : Base) (start : Moment) : Type 0 where
+  pub is_state : IsState start.state
+  pub size_is : start.state.network.size ≡ size
+  pub lines : base ≡ base_of base.number start
+  pub unflagged : t.flags ≡ false → (v : ℕ) → flag start.state v ≡ false
+  pub within : start.spent + t.charge start.state ≤ bound start.state.network
+
+-- a part of a transcript: an entry, or a base
+pub data Part : Type 0 where
+  Told : Entry → Part
+  Kept : Base → Part
+
+-- a moment, and how many entries led to it
+pub record Stand : Type 0 where
+  pub moment : Moment
+  pub count : ℕ
+
+-- From one stand to another: the machine may answer the events by their replies, and a base is that of where it stands.
+abbrev pub Passes : RuleTable → Stand → List Part → Stand → Type 0
+Passes t at [] end = end ≡ at
+Passes t at (Told entry ∷ log) end =
+    (next : State) × Answers t at.moment.state at.moment.spent entry.0 entry.1 next × Passes t (record { moment = record { state = next; spent = spent_after at.moment.spent entry.1 }; count = at.count + 1 }) log end
+Passes t at (Kept base ∷ log) end = (base ≡ base_of at.count at.moment) × Passes t at log end
+
+abbrev pub entries_in : List Part → List Entry
+entries_in [] = []
+entries_in (Told entry ∷ log) = entry ∷ entries_in log
+entries_in (Kept base ∷ log) = entries_in log
