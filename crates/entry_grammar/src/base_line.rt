@@ -1,8 +1,7 @@
 //! The lines of a base.
 
-ghost use Rattle.std.specs.Prelude.{◌≡◌, ◌≤◌, ◌∷◌, ◌++◌, ⊤, IfOk, IfErr, IfSome, MatchOption};
+ghost use Rattle.std.specs.Prelude.{◌≡◌, ◌≤◌, ◌∷◌, ◌++◌, IfOk, IfErr, IfSome, MatchOption};
 ghost use Rattle.line_text.specs.Words.{IsName, joined};
-ghost use Rattle.line_text.specs.EventText.{bool_text};
 ghost use Rattle.line_text.specs.ReplyText.{field_text};
 ghost use Rattle.line_text.specs.BaseText.{base_fields};
 ghost use Rattle.line_text.specs.Reading.{Reads, ReadsTwo};
@@ -16,7 +15,7 @@ use crate::cut::cut;
 use crate::fault::EntryFault;
 use crate::header::{read_rules, read_size};
 use crate::tokens::{read_ends, read_marked};
-use line_text::{after, read_target};
+use line_text::{after, read_bool, read_target};
 use rule_machine::{Edge, Node, RuleSet};
 
 /// A line of a base.
@@ -76,18 +75,6 @@ fn read_base(bytes: &[u8]) -> Option<(u32, u32, u32, u32)>
     Some((number, spent, nodes, edges))
 }
 
-fn read_flag(bytes: &[u8]) -> Option<bool>
-    ensures { Reads (λ value. ⊤) bool_text bytes.now result }
-{
-    if bytes == b"0".as_slice() {
-        return Some(false);
-    }
-    if bytes == b"1".as_slice() {
-        return Some(true);
-    }
-    None
-}
-
 // Reads where a pointer is, and what a flag says.
 fn read_registers(bytes: &[u8]) -> Option<(Option<Node>, bool)>
     ensures { ReadsTwo (λ target flag. IfSome target IsName) registers_text bytes.now result }
@@ -98,7 +85,7 @@ fn read_registers(bytes: &[u8]) -> Option<(Option<Node>, bool)>
     let Some(target) = read_target(target) else {
         return None;
     };
-    let Some(flag) = read_flag(flag) else {
+    let Some(flag) = read_bool(flag) else {
         return None;
     };
     Some((target, flag))

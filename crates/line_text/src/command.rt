@@ -50,8 +50,8 @@ fn read_point(bytes: &[u8]) -> Option<(Node, Option<Node>)>
     Some((node, target))
 }
 
-// Reads 1 for true, or 0 for false.
-fn read_bool(bytes: &[u8]) -> Option<bool>
+/// Reads 1 for true, or 0 for false.
+pub fn read_bool(bytes: &[u8]) -> Option<bool>
     ensures { Reads (λ (b : Bool). ⊤) bool_text bytes.now result }
 {
     if bytes == b"0".as_slice() {

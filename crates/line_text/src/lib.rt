@@ -15,7 +15,7 @@ mod replies;
 mod word;
 
 pub use base::put_base;
-pub use command::{read_command, read_target};
+pub use command::{read_bool, read_command, read_target};
 pub use entry::{put_entry, put_header};
 pub use front::after;
 pub use law::one_reading;

@@ -12,7 +12,7 @@ returns-in_default-read_target c target flag f e =
     let r = cut_once 32 c.args.bytes.now c.in-Some.target.now (target_text target) c.in-Some.flag.now (bool_text flag) c.in-Some.ensures (registers_cut c.args.bytes.now target flag f e) in
     c.in_default-read_target.ensures target f r.0
 
-pub returns-in_default-read_flag : goal.returns-in_default-read_flag
-returns-in_default-read_flag c target flag f e =
+pub returns-in_default-read_bool : goal.returns-in_default-read_bool
+returns-in_default-read_bool c target flag f e =
     let r = cut_once 32 c.args.bytes.now c.in-Some.target.now (target_text target) c.in-Some.flag.now (bool_text flag) c.in-Some.ensures (registers_cut c.args.bytes.now target flag f e) in
-    c.in_default-read_flag.ensures flag tt r.1
+    c.in_default-read_bool.ensures flag tt r.1
