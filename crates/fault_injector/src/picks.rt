@@ -1,21 +1,32 @@
 //! What a word picks.
 
-ghost use Rattle.std.specs.Prelude.{◌≡◌, ◌<◌, IsTrue, None};
-ghost use Rattle.rule_machine.specs.Network.{node_count, present};
+ghost use Rattle.std.specs.Prelude.{◌≡◌, ◌<◌, IsTrue, None, slice_index};
+ghost use Rattle.rule_machine.specs.Network.{names, node_count, present};
 ghost use Rattle.rule_machine.specs.Refuse.{point_refusal};
 ghost use Rattle.fault_injector.specs.Drawn.{node_at, target_at, is_odd};
 
 use graph_store::EdgeStore;
 use rule_machine::Node;
 
-/// The node that a word picks: of n nodes the one at the place `word mod n`, counted from 0 by rising names. Names that are
-/// absent are passed over, by a look at some 80 counts and a word at most.
+/// The node at a place, counted from 0 by rising names: a look at some 80 counts and a word at most, and none where no name is
+/// absent.
+fn nth_node(store: &EdgeStore, place: u32) -> Node
+    requires { place < node_count store.now.network }
+    ensures { result ≡ slice_index (names store.now.network) place }
+{
+    if store.nodes() == store.capacity() {
+        return Node::new(place + 1).unwrap();
+    }
+    store.nth(place).unwrap()
+}
+
+/// The node that a word picks: of n nodes the one at the place `word mod n`, counted from 0 by rising names.
 pub(crate) fn pick_node(store: &EdgeStore, word: u32) -> Node
     requires { 0 < node_count store.now.network }
     ensures node { result ≡ node_at store.now.network word }
     ensures present { IsTrue (present store.now.network result) }
 {
-    store.nth(word % store.nodes()).unwrap()
+    nth_node(store, word % store.nodes())
 }
 
 /// What a word makes a node's pointer: with d neighbours, null where `word mod (d + 1)` is 0, and else the neighbour
