@@ -35,22 +35,26 @@ fn append_header(out: &mut Vec<u8>, rules: RuleSet, size: u32, count: u32) -> Re
     out.extend_from_slice(b"\n")
 }
 
-// Writes what stands behind an entry's event. The two short replies are written with the LF behind them.
+// Writes what stands behind an entry's event. Short replies are written with the LF behind them.
 fn append_answer(out: &mut Vec<u8>, reply: &Reply) -> Result<(), Want>
     ensures ok { OnOk result (out.new.items ≡ out.old.items ++ (codes " = " ++ reply_text reply.now ++ 10 ∷ [])) }
     ensures err { OnErr result (Extends out.old.items out.new.items) }
     ensures named { OnOk result (IsReply reply.now) }
 {
-    if let Reply::Accepted = reply {
-        return out.extend_from_slice(b" = ok\n");
+    match reply {
+        Reply::Accepted => out.extend_from_slice(b" = ok\n"),
+        Reply::Shown(None) => out.extend_from_slice(b" = -\n"),
+        Reply::Shown(Some(node)) => {
+            out.extend_from_slice(b" = ")?;
+            put_name_then(out, *node, b'\n')
+        }
+        _ => {
+            out.extend_from_slice(b" = ")?;
+            put_reply(out, reply)?;
+            out.push(b'\n')?;
+            Ok(())
+        }
     }
-    out.extend_from_slice(b" = ")?;
-    if let Reply::Shown(Some(node)) = reply {
-        return put_name_then(out, *node, b'\n');
-    }
-    put_reply(out, reply)?;
-    out.push(b'\n')?;
-    Ok(())
 }
 
 fn append_entry(out: &mut Vec<u8>, number: u32, event: &Event, reply: &Reply) -> Result<(), Want>
