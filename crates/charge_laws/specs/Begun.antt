@@ -1,15 +1,18 @@
 -- Runs that begin at a base: each moment of a run may be kept as one, and whoever goes on from it keeps within the bound.
-use Rattle.std.proofs.Common.{ℕ, List, refl, ◌∙◌}
+use Rattle.std.proofs.Common.{◌≡◌, ℕ, List, Option, None, Some, refl, sym, ap, ◌∙◌, subst}
 use Rattle.rule_machine.specs.declared.base.Base.{Base}
+use Rattle.rule_machine.specs.Network.{Network}
+use Rattle.rule_machine.specs.State.{IsState}
 use Rattle.rule_machine.specs.RuleTable.{RuleTable}
 use Rattle.rule_machine.specs.Run.{Entry, Moment, Run, beginning_with}
-use Rattle.rule_machine.specs.Base.{base_of, IsBegun}
+use Rattle.rule_machine.specs.Base.{base_of, IsBegun, BeginsAt}
+use Rattle.machine_laws.specs.Bases.{base_tells}
 use Rattle.machine_laws.specs.LeastMoves.{IsTable}
 use Rattle.machine_laws.specs.Keeps.{opening_is_state}
 use Rattle.machine_laws.specs.Runs.{runs_end_in_states}
 use Rattle.machine_laws.specs.Sizes.{runs_keep_size}
 use Rattle.machine_laws.specs.Unflagged.{IsFlagless, opening_is_unflagged, runs_stay_unflagged}
-use Rattle.charge_laws.specs.Charged.{charge_bound, IsCharged}
+use Rattle.charge_laws.specs.Charged.{charge_bound, IsCharged, IsWithinBound}
 use Rattle.charge_laws.specs.Runs.{run_within}
 use Rattle.charge_laws.specs.Laws.{beginning_is_within}
 
@@ -32,3 +35,30 @@ runs_may_go_on t weight table charged flagless size number base start begun log 
   unflagged = λ unused. runs_stay_unflagged t unused (flagless unused) start (begun.unflagged unused) log end run;
   within = run_within t weight table charged start begun.is_state begun.within log end run;
 }
+
+-- ---- from either beginning
+
+pub begins_in_state : (t : RuleTable) (bound : Network → ℕ) (size first : ℕ) (base : Option Base) (start : Moment) → BeginsAt t bound size first base start → IsState start.state
+begins_in_state t bound size first None start begins = subst (λ (m : Moment). IsState m.state) (sym begins) (opening_is_state size first)
+begins_in_state t bound size first (Some base) start begins = begins.is_state
+
+pub begins_with_size : (t : RuleTable) (bound : Network → ℕ) (size first : ℕ) (base : Option Base) (start : Moment) → BeginsAt t bound size first base start → start.state.network.size ≡ size
+begins_with_size t bound size first None start begins = ap (λ (m : Moment). m.state.network.size) begins
+begins_with_size t bound size first (Some base) start begins = begins.size_is
+
+pub begins_within : (t : RuleTable) (weight : ℕ) → IsCharged t weight → (size first : ℕ) (base : Option Base) (start : Moment) → BeginsAt t (charge_bound weight) size first base start → IsWithinBound t weight start
+begins_within t weight charged size first None start begins = subst (IsWithinBound t weight) (sym begins) (beginning_is_within t weight charged size first)
+begins_within t weight charged size first (Some base) start begins = begins.within
+
+-- there is one such moment
+pub begins_once : (t : RuleTable) (bound : Network → ℕ) (size first : ℕ) (base : Option Base) (x y : Moment) → BeginsAt t bound size first base x → BeginsAt t bound size first base y → x ≡ y
+begins_once t bound size first None x y begins begins' = begins ∙ sym begins'
+begins_once t bound size first (Some base) x y begins begins' =
+    base_tells base.number x y begins.is_state begins'.is_state (begins.size_is ∙ sym begins'.size_is) (sym begins.lines ∙ begins'.lines)
+
+-- and a run from it may go on from any of its moments
+pub may_begin_again : (t : RuleTable) (weight : ℕ) → IsTable t → IsCharged t weight → IsFlagless t → (size first number : ℕ) (base : Option Base) (start : Moment) → BeginsAt t (charge_bound weight) size first base start → (log : List Entry) (end : Moment) → Run t start log end → IsBegun t (charge_bound weight) size (base_of number end) end
+may_begin_again t weight table charged flagless size first number None start begins log end run =
+    runs_may_begin t weight table charged flagless size first number log end (subst (λ (m : Moment). Run t m log end) begins run)
+may_begin_again t weight table charged flagless size first number (Some base) start begins log end run =
+    runs_may_go_on t weight table charged flagless size number base start begins log end run

@@ -1,6 +1,6 @@
 //! The edges of a network.
 
-ghost use Rattle.std.specs.Prelude.{◌≡◌, ◌≤◌, false, [], slice_get, slice_set, IfOk, IfErr, OnOk, OnErr, MatchOption, IsTrue, All, None, Some};
+ghost use Rattle.std.specs.Prelude.{◌≡◌, ◌≤◌, false, length, [], slice_get, slice_set, IfOk, IfErr, OnOk, OnErr, MatchOption, IsTrue, All, None, Some};
 ghost use Rattle.rule_machine.specs.Network.{Network, edgeless, edgeless_with, with_node, without_node, names, node_count, edge_count, edge_list, present, linked, neighbours, with_edge, without_edge};
 ghost use Rattle.graph_store.specs.Fault.{nodes_fault, ends_fault, join_fault, leave_fault, link_fault, unlink_fault, Explains};
 ghost use Rattle.graph_store.specs.Graph.{HasRoomFor};
@@ -148,7 +148,8 @@ impl EdgeStore {
     /// The edges, by rising lower ends, and those of one lower end by rising higher ends; takes four bytes an edge. A look at
     /// every name, and at both ends of every edge.
     pub fn list(&self) -> Result<Vec<Edge>, Want>
-        ensures { IfOk result (λ edges. edges.items ≡ edge_list self.now.network) }
+        ensures list { IfOk result (λ edges. edges.items ≡ edge_list self.now.network) }
+        ensures few { IfOk result (λ edges. length edges.items ≤ 1048576) }
     {
         list_pairs(self.rows.allocator().clone()?, &self.rows, self.edges)
     }

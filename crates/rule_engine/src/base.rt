@@ -1,6 +1,6 @@
 //! The nodes of a base.
 
-ghost use Rattle.std.specs.Prelude.{◌≡◌, IfOk};
+ghost use Rattle.std.specs.Prelude.{◌≡◌, ◌≤◌, IfOk, length};
 ghost use Rattle.rule_machine.specs.Base.{places};
 ghost use Rattle.rule_machine.specs.State.{IsState};
 ghost use Rattle.rule_engine.specs.Kept.{state_of, place_in};
@@ -32,7 +32,8 @@ pub(crate) fn list_places(
     registers: &Registers,
 ) -> Result<Vec<Place>, Want>
     requires { IsState (state_of store.now.network registers.now) }
-    ensures { IfOk result (λ v. v.items ≡ places (state_of store.now.network registers.now)) }
+    ensures places { IfOk result (λ v. v.items ≡ places (state_of store.now.network registers.now)) }
+    ensures few { IfOk result (λ v. length v.items ≤ 65535) }
 {
     let mut places = Vec::with_capacity(alloc, store.nodes() as usize)?;
     for name in 1..store.capacity() + 1 {

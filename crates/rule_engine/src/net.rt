@@ -144,7 +144,8 @@ impl<R: Rules> Net<R> {
     /// The base at which the network stands where so many entries led there: what is spent, each node with its registers, and the
     /// edges. Takes some eight bytes a node and four an edge; a look at every name and at both ends of every edge.
     pub fn base(&self, number: u32) -> Result<Base, Want>
-        ensures { IfOk result (λ base. base ≡ base_of number (moment_of self.now)) }
+        ensures base { IfOk result (λ base. base ≡ base_of number (moment_of self.now)) }
+        ensures few { IfOk result (λ base. (length base.nodes ≤ 65535) × (length base.edges ≤ 1048576)) }
     {
         let store = self.engine.store();
         let nodes = list_places(self.alloc, store, self.engine.registers())?;

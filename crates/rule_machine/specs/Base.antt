@@ -1,12 +1,14 @@
 -- Bases: what is left of a run where its older entries are dropped; and logs in which bases stand among entries.
-use Rattle.std.specs.Prelude.{◌≡◌, ℕ, ◌+◌, ◌≤◌, false, List, [], ◌∷◌, map}
+use Rattle.std.specs.Prelude.{◌≡◌, ℕ, ◌+◌, ◌≤◌, false, List, [], ◌∷◌, map, Option, None, Some}
+use Rattle.rule_machine.specs.declared.epoch.Start.{Start}
+use Rattle.rule_machine.specs.declared.epoch.Start.TheVariants.{At, Forgotten}
 use Rattle.rule_machine.specs.declared.base.Place.{Place}
 use Rattle.rule_machine.specs.declared.base.Base.{Base}
 use Rattle.rule_machine.specs.Network.{Network, names, edge_list}
 use Rattle.rule_machine.specs.State.{State, IsState, pointer, flag}
 use Rattle.rule_machine.specs.RuleTable.{RuleTable}
 use Rattle.rule_machine.specs.Answer.{Answers, spent_after}
-use Rattle.rule_machine.specs.Run.{Entry, Moment}
+use Rattle.rule_machine.specs.Run.{Entry, Moment, beginning_with}
 
 -- a node of a state with its registers
 abbrev pub place_at : State → ℕ → Place
@@ -28,6 +30,21 @@ pub record IsBegun (t : RuleTable) (bound : Network → ℕ) (size : ℕ) (base 
   pub lines : base ≡ base_of base.number start
   pub unflagged : t.flags ≡ false → (v : ℕ) → flag start.state v ≡ false
   pub within : start.spent + t.charge start.state ≤ bound start.state.network
+
+-- where the entries that are kept begin, for names up to size: at the opening state with the first of them present, or at a base
+abbrev pub BeginsAt : RuleTable → (Network → ℕ) → ℕ → ℕ → Option Base → Moment → Type 0
+BeginsAt t bound size first None start = start ≡ beginning_with size first
+BeginsAt t bound size first (Some base) start = IsBegun t bound size base start
+
+-- the number of the last entry before those that are kept
+abbrev pub dropped : Option Base → ℕ
+dropped None = 0
+dropped (Some base) = base.number
+
+-- where the first of their epochs began
+abbrev pub begun_at : Option Base → Start
+begun_at None = At 0
+begun_at (Some base) = Forgotten
 
 -- a part of a transcript: an entry, or a base
 pub data Part : Type 0 where

@@ -1,6 +1,8 @@
 -- Runs: what a log of events and replies says of the machine.
 use Rattle.std.specs.Prelude.{◌≡◌, ℕ, ◌+◌, List, [], ◌∷◌, ◌++◌, length, refl}
 use Rattle.std.specs.Coded.{Coded, code_by, coded×, coded_ℕ}
+use Rattle.rule_machine.specs.declared.epoch.Start.{Start}
+use Rattle.rule_machine.specs.declared.epoch.Start.TheVariants.{At}
 use Rattle.rule_machine.specs.declared.event.Event.{Event}
 use Rattle.rule_machine.specs.declared.reply.Reply.{Reply}
 use Rattle.rule_machine.specs.declared.reply.Reply.TheVariants.{Accepted, Refused, Moves, Shown, EnabledAre, Pairs, Counts}
@@ -41,16 +43,21 @@ beginning_with size count = record { state = opening_with size count; spent = 0 
 abbrev pub beginning : ℕ → Moment
 beginning size = beginning_with size size
 
--- The entries between two accepted disturbances: the number of the entry that began it (0 for the start), the moves in
--- it, and how many edges and nodes there are.
+-- The entries between two accepted disturbances: where it began, the moves in it, and how many edges and nodes there are.
 pub record Epoch : Type 0 where
-  pub start : ℕ
+  pub start : Start
   pub moves : ℕ
   pub edges : ℕ
   pub nodes : ℕ
 
+-- the one that the entry with this number begins, 0 for the start
 abbrev pub epoch_at : ℕ → State → Epoch
-epoch_at start s = record { start = start; moves = 0; edges = edge_count s.network; nodes = node_count s.network }
+epoch_at start s = record { start = At start; moves = 0; edges = edge_count s.network; nodes = node_count s.network }
+
+-- the epoch that began there and has come to a moment
+abbrev pub open_at : Start → Moment → Epoch
+open_at start m =
+    record { start = start; moves = m.spent; edges = edge_count m.state.network; nodes = node_count m.state.network }
 
 -- the epoch is over where its successor begins, and else it grows by the moves of a step
 abbrev pub epochs_by : Reply → ℕ → State → Epoch → List Epoch × Epoch

@@ -20,8 +20,8 @@ loop-name-preserved c =
       | in_default w ↦ grind (arith, common_steps, w.places-is, more, place)
     ]
 
-pub returns : goal.returns
-returns c =
+pub returns-clause-places : goal.returns-clause-places
+returns-clause-places c =
     let s = state_of c.args.store.now.network c.args.registers.now in
     let count : c.loop-name.name - 1 ≡ s.network.size = omega (arith, c.capacity-name-end.ensures.size) in
     c.loop-name.invariant ∙ ap (λ n. filter_map (place_in s) (range_with_len 1 n)) count ∙ places_found s

@@ -1,8 +1,10 @@
-use Rattle.std.proofs.Common.{ap, sym, ◌∙◌}
+use Rattle.std.proofs.Common.{◌≡◌, length, ap, sym, ◌∙◌, arith}
+use Rattle.std.proofs.lemmas.List.{length-map}
+use Rattle.std.specs.FinMap.{len-entries}
 use Rattle.std.proofs.lemmas.Result.{IfOk-weaker}
 use Rattle.rule_machine.specs.Network.{edge_list}
 use Rattle.graph_store.specs.Graph.{Graph}
-use Rattle.graph_store.specs.Rows.{contents, pairs_from, row_at}
+use Rattle.graph_store.specs.Rows.{contents, network_of, pairs_from, row_at}
 use Rattle.graph_store.proofs.Listed.{edges_listed, nobody_row}
 use Rattle.graph_store.proofs.edge_store.EdgeStore.list.Goals as goal
 
@@ -11,10 +13,19 @@ list_pairs-requires-clause-nobody c =
     let inside = c.self.inside in
     ap (λ rows. row_at (contents rows) 0) c.deref.ensures.value ∙ nobody_row inside.nodes inside.here (contents inside.rows.items) c.self.invariant.is_rows
 
-pub returns : goal.returns
-returns c =
+pub returns-clause-list : goal.returns-clause-list
+returns-clause-list c =
     let inside = c.self.inside in
     IfOk-weaker c.list_pairs.result _ _ (λ edges is.
     is ∙ ap (λ rows. pairs_from 0 (contents rows)) c.deref.ensures.value
     ∙ sym (edges_listed (contents inside.rows.items) c.self.invariant.is_rows.rising)
     ∙ ap edge_list (ap (λ (g : Graph). g.network) c.self.view_is)) c.list_pairs.ensures
+
+pub returns-clause-few : goal.returns-clause-few
+returns-clause-few c =
+    let inside = c.self.inside in
+    let rows = contents inside.rows.items in
+    let listed = edges_listed rows c.self.invariant.is_rows.rising in
+    let counted : length (edge_list (network_of inside.nodes inside.here rows)) ≡ inside.edges = length-map _ _ ∙ sym (len-entries (network_of inside.nodes inside.here rows).edges) ∙ c.self.invariant.counted in
+    IfOk-weaker c.list_pairs.result _ _ (λ edges is.
+    omega (arith, ap length (is ∙ ap (λ rows. pairs_from 0 (contents rows)) c.deref.ensures.value ∙ sym listed), counted, c.self.invariant.few_edges)) c.list_pairs.ensures
