@@ -1,7 +1,10 @@
-use Rattle.std.proofs.Common.{◌≡◌, ◌∙◌, ◌+◌, ◌-◌, ◌++◌, ℕ, Option, ap, filter_map, option_to_list, arith}
+use Rattle.std.proofs.Common.{◌≡◌, ◌∙◌, ◌+◌, ◌-◌, ◌++◌, ℕ, Option, ap, filter_map, length, option_to_list, arith}
+use Rattle.std.proofs.lemmas.List.{length-map}
 use Rattle.std.specs.List.{range_with_len}
 use Rattle.std.proofs.lemmas.Grind.{common_steps}
 use Rattle.rule_machine.specs.declared.base.Place.{Place}
+use Rattle.rule_machine.specs.Network.{names, node_count}
+use Rattle.rule_machine.specs.Base.{place_at}
 use Rattle.rule_engine.specs.Kept.{state_of, place_in}
 use Rattle.rule_engine.proofs.Found.{found_more}
 use Rattle.rule_engine.proofs.Placed.{places_found}
@@ -25,3 +28,11 @@ returns-clause-places c =
     let s = state_of c.args.store.now.network c.args.registers.now in
     let count : c.loop-name.name - 1 ≡ s.network.size = omega (arith, c.capacity-name-end.ensures.size) in
     c.loop-name.invariant ∙ ap (λ n. filter_map (place_in s) (range_with_len 1 n)) count ∙ places_found s
+
+pub returns-clause-few : goal.returns-clause-few
+returns-clause-few c =
+    let s = state_of c.args.store.now.network c.args.registers.now in
+    let end : c.loop-name.name - 1 ≡ s.network.size = omega (arith, c.capacity-name-end.ensures.size) in
+    let listed = c.loop-name.invariant ∙ ap (λ n. filter_map (place_in s) (range_with_len 1 n)) end ∙ places_found s in
+    let count : length c.loop-name.places.items ≡ node_count s.network = ap length listed ∙ length-map (names s.network) (place_at s) in
+    omega (arith, count, c.nodes.ensures.count, c.nodes.ensures.few)
