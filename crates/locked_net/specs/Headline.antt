@@ -3,6 +3,7 @@
 use Rattle.std.specs.Prelude.{ℕ, List}
 use Rattle.rule_machine.specs.RuleTable.{RuleTable}
 use Rattle.step_log.specs.Log.{Log}
+use Rattle.step_log.specs.Kept.{whole}
 use Rattle.step_log.specs.Headline.{Upholds}
 use Rattle.locked_net.specs.Receipts.{ClerkView}
 use Rattle.locked_net.specs.Settled.{Settled}
@@ -10,5 +11,5 @@ use Rattle.locked_net.specs.Settled.{Settled}
 -- * upheld: the log is a run of the rule machine, quiet exactly where stable, and its moves keep within their bounds;
 -- * told: each reply that a caller was given is that run's, and each entry was told to one caller alone.
 pub record Headline (t : RuleTable) (weight : ℕ) (log : Log) (clerks : List ClerkView) : Type 0 where
-  pub upheld : Upholds t weight log
+  pub upheld : Upholds t weight (whole log)
   pub told : Settled log.entries clerks

@@ -1,6 +1,6 @@
 //! What lies behind a network's lock.
 
-ghost use Rattle.std.specs.Prelude.{◌≡◌, ◌+◌, ◌≤◌, ◌↔◌, length, min, IfOk, IfErr, OnOk, OnErr, IsErrOf, IsTrue};
+ghost use Rattle.std.specs.Prelude.{◌≡◌, ◌+◌, ◌≤◌, ◌↔◌, length, min, None, IfOk, IfErr, OnOk, OnErr, IsErrOf, IsTrue};
 ghost use Rattle.graph_store.specs.Fault.{nodes_fault, Explains};
 ghost use Rattle.rule_machine.specs.declared.event.Event.TheVariants.{Step};
 ghost use Rattle.rule_engine.specs.Choosing.{verdicts_of};
@@ -40,7 +40,7 @@ impl<R: Rules> Model for Desk<R> {
 
     ghost view = { λ d. record { log = log_of d.journal; name = d.board.name } };
 
-    ghost invariant = { λ d. IsDesk (log_of d.journal) d.board };
+    ghost invariant = { λ d. IsDesk d.journal.base (log_of d.journal) d.board };
 }
 
 /// What came of an event: the receipt of its entry, the reply, and a note of what is published, with the entry at its end.
@@ -153,6 +153,7 @@ impl<R: Rules> Desk<R> {
     /// The journal; nothing is published any more.
     pub(crate) fn close<W: Wait>(self, rt: &W) -> Journal<R>
         ensures log { log_of result ≡ self.log }
+        ensures undropped { result.base ≡ None }
         ensures run { IsLog R.table self.log }
     {
         let Desk { journal, board } = self;
@@ -170,9 +171,9 @@ fn finish<R: Rules, W: Wait>(
     prepared: Prepared,
 ) -> Result<Recorded, AllocError>
     requires ready { IsReady R.table journal.old prepared }
-    requires desk { IsDesk (log_of journal.old) board.old }
+    requires desk { IsDesk journal.old.base (log_of journal.old) board.old }
     ensures log { OnOk result (log_of journal.new ≡ recorded R.table (log_of journal.old) prepared.event) }
-    ensures desk { IsDesk (log_of journal.new) board.new }
+    ensures desk { IsDesk journal.new.base (log_of journal.new) board.new }
     ensures receipt { IfOk result (λ told. told.receipt ≡ prepared) }
     ensures reply { IfOk result (λ told. told.reply ≡ prepared.reply) }
     ensures note { IfOk result (λ told. (told.note.log ≡ journal.new.entries) × (told.note.book ≡ board.old.name.book)) }

@@ -1,6 +1,6 @@
 //! How a locked network ends.
 
-ghost use Rattle.std.specs.Prelude.{◌≡◌, IfOk, IfErr, OnOk};
+ghost use Rattle.std.specs.Prelude.{◌≡◌, None, IfOk, IfErr, OnOk};
 ghost use Rattle.std.specs.List.{All};
 ghost use mathlib.Core.List.{IsPrefix};
 ghost use Rattle.board.specs.OneLog.{AreComparable};
@@ -28,9 +28,10 @@ pub fn settle<R: Rules, W: Wait>(
     ensures headline { IfOk result (λ journal. Headline R.table R.NODE_WEIGHT (log_of journal) clerks.items) }
     ensures settled { IfOk result (λ journal. Settled journal.entries clerks.items) }
     ensures run { IfOk result (λ journal. IsLog R.table (log_of journal)) }
+    ensures undropped { IfOk result (λ journal. journal.base ≡ None) }
     ensures size { IfOk result (λ journal. (journal.state.network.size ≡ nodes_of net) × (journal.first ≡ first_of net) × (journal.limit ≡ limit_of net)) }
     ensures fault { IfErr result (λ unsettled. Unsettles unsettled.journal.entries clerks.items unsettled.why) }
-    ensures back { IfErr result (λ unsettled. IsLog R.table (log_of unsettled.journal) × (unsettled.journal.state.network.size ≡ nodes_of net) × (unsettled.journal.first ≡ first_of net) × (unsettled.journal.limit ≡ limit_of net)) }
+    ensures back { IfErr result (λ unsettled. IsLog R.table (log_of unsettled.journal) × (unsettled.journal.base ≡ None) × (unsettled.journal.state.network.size ≡ nodes_of net) × (unsettled.journal.first ≡ first_of net) × (unsettled.journal.limit ≡ limit_of net)) }
 {
     let alloc = net.alloc();
     settle_journal(alloc, net.into_journal(rt), &clerks)
@@ -47,9 +48,10 @@ pub fn settle_own<R: Rules, W: Wait>(
     ensures settled { IfOk result (λ journal. Settled journal.entries clerks.items) }
     ensures noted { IfOk result (λ journal. All (λ clerk. IsPrefix (noted clerk.note) journal.entries) clerks.items) }
     ensures run { IfOk result (λ journal. IsLog R.table (log_of journal)) }
+    ensures undropped { IfOk result (λ journal. journal.base ≡ None) }
     ensures size { IfOk result (λ journal. (journal.state.network.size ≡ nodes_of net) × (journal.first ≡ first_of net) × (journal.limit ≡ limit_of net)) }
     ensures fault { IfErr result (λ unsettled. Unsettles unsettled.journal.entries clerks.items unsettled.why) }
-    ensures back { IfErr result (λ unsettled. IsLog R.table (log_of unsettled.journal) × (unsettled.journal.state.network.size ≡ nodes_of net) × (unsettled.journal.first ≡ first_of net) × (unsettled.journal.limit ≡ limit_of net)) }
+    ensures back { IfErr result (λ unsettled. IsLog R.table (log_of unsettled.journal) × (unsettled.journal.base ≡ None) × (unsettled.journal.state.network.size ≡ nodes_of net) × (unsettled.journal.first ≡ first_of net) × (unsettled.journal.limit ≡ limit_of net)) }
 {
     let alloc = net.alloc();
     let desk = net.into_desk(rt);
@@ -86,7 +88,8 @@ fn settle_journal<R: Rules>(
     journal: Journal<R>,
     clerks: &[Clerk],
 ) -> Result<Journal<R>, Unsettled<R>>
-    requires { IsLog R.table (log_of journal) }
+    requires run { IsLog R.table (log_of journal) }
+    requires undropped { journal.base ≡ None }
     ensures same { IfOk result (λ settled. settled ≡ journal) }
     ensures headline { OnOk result (Headline R.table R.NODE_WEIGHT (log_of journal) clerks.now) }
     ensures fault { IfErr result (λ unsettled. Unsettles journal.entries clerks.now unsettled.why) }

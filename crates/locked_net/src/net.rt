@@ -137,6 +137,7 @@ impl<R: Rules> LockedNet<R> {
     /// still under the lock, which a network that is owned never has.
     pub fn into_journal<W: Wait>(self, rt: &W) -> Journal<R>
         ensures run { IsLog R.table (log_of result) }
+        ensures undropped { result.base ≡ None }
         ensures nodes { result.state.network.size ≡ nodes_of self }
         ensures first { result.first ≡ first_of self }
         ensures limit { result.limit ≡ limit_of self }

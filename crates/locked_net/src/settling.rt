@@ -1,6 +1,6 @@
 //! Whether clerks account for a log.
 
-ghost use Rattle.std.specs.Prelude.{◌≡◌, ◌↔◌, ◌+◌, ◌^◌, ◌<◌, ◌≤◌, ◌⊎◌, length, IsTrue, IfErr, OnOk, MatchOption};
+ghost use Rattle.std.specs.Prelude.{◌≡◌, ◌↔◌, ◌+◌, ◌^◌, ◌<◌, ◌≤◌, ◌⊎◌, length, None, IsTrue, IfErr, OnOk, MatchOption};
 ghost use Rattle.locked_net.specs.declared.settle_fault.SettleFault.TheVariants.{Stranger, Memory};
 ghost use Rattle.locked_net.specs.Receipts.{IsEntry};
 ghost use Rattle.locked_net.specs.Settled.{receipt_count, Settled, IsFirstStranger, Unsettles};
@@ -21,6 +21,7 @@ pub(crate) fn settled_with<R: Rules>(
     journal: &Journal<R>,
     clerks: &[Clerk],
 ) -> Result<(), SettleFault>
+    requires undropped { journal.now.base ≡ None }
     ensures settled { OnOk result (Settled journal.now.entries clerks.now) }
     ensures fault { IfErr result (λ why. Unsettles journal.now.entries clerks.now why) }
 {
@@ -75,6 +76,7 @@ fn first_stranger<R: Rules>(
     clerk: usize,
     taken: &mut [bool],
 ) -> Option<usize>
+    requires undropped { journal.now.base ≡ None }
     requires inside { clerk < length clerks.now }
     requires marked { IsMarked journal.now.entries clerks.now clerk 0 taken.old }
     ensures { MatchOption result
@@ -96,12 +98,13 @@ fn first_stranger<R: Rules>(
 
 /// Whether a receipt is the log's entry at its number.
 fn is_entry<R: Rules>(journal: &Journal<R>, receipt: &Receipt) -> bool
+    requires undropped { journal.now.base ≡ None }
     ensures { IsTrue result ↔ IsEntry journal.now.entries receipt.now }
 {
     match journal.entry(receipt.seq) {
-        Some(entry) => {
+        Ok(entry) => {
             same_event(entry.event(), &receipt.event) && same_reply(entry.reply(), &receipt.reply)
         }
-        None => false,
+        Err(_) => false,
     }
 }

@@ -2,21 +2,26 @@
 use Rattle.std.proofs.Common.{◌≡◌, ◌≢◌, ℕ, ◌+◌, ◌*◌, ◌≤◌, List, [], ◌∷◌, ◌++◌, length, map, All, append_assoc, refl, sym, ap, ap₂, ◌∙◌, subst, arith}
 use Rattle.std.proofs.lemmas.List.{append-nil, map-append, length-map}
 use Rattle.std.proofs.lemmas.List.Elements.{All-nil, All-cons, All-head, All-tail}
+use Rattle.rule_machine.specs.declared.epoch.Start.{Start}
 use Rattle.rule_machine.specs.declared.event.Event.{Event}
 use Rattle.rule_machine.specs.declared.reply.Reply.{Reply}
 use Rattle.rule_machine.specs.declared.reply.Reply.TheVariants.{Accepted, Refused, Moves, Shown, EnabledAre, Pairs, Counts}
 use Rattle.rule_machine.specs.Network.{node_count, edge_count}
-use Rattle.rule_machine.specs.State.{State, opening_with}
+use Rattle.rule_machine.specs.State.{State}
 use Rattle.rule_machine.specs.RuleTable.{RuleTable}
 use Rattle.rule_machine.specs.Answer.{Answers, spent_after}
-use Rattle.rule_machine.specs.Run.{Entry, Moment, beginning_with, epoch_at, epochs_by, epochs_from}
+use Rattle.rule_machine.specs.Run.{Entry, Moment, epochs_by, epochs_from, open_at}
 use Rattle.rule_machine.specs.Run.{Epoch as EpochOf}
 use Rattle.machine_laws.specs.LeastMoves.{IsTable}
-use Rattle.charge_laws.specs.Charged.{IsCharged}
+use Rattle.charge_laws.specs.Begun.{begins_in_state, begins_once, begins_within}
+use Rattle.charge_laws.specs.Charged.{charge_bound, IsCharged}
 use Rattle.charge_laws.specs.Runs.{Effect, rests, steps, disturbs, effect, step_network}
-use Rattle.charge_laws.specs.Epochs.{IsPath, opening_epochs_are_bounded}
+use Rattle.charge_laws.specs.Epochs.{IsPath, epochs_are_bounded}
 use Rattle.step_log.specs.declared.epoch.Epoch.{Epoch}
-use Rattle.step_log.specs.Epochs.{AreEpochs, IsBounded, IsTold, begun_by, ended_by, of_run, open_at, open_in, over_in, path_end}
+use Rattle.rule_machine.specs.Base.{begun_at, dropped}
+use Rattle.step_log.specs.Epochs.{AreEpochs, IsBounded, IsTold, begun_by, ended_by, epochs_along, of_run, open_in, over_in, path_end}
+use Rattle.step_log.specs.Held.{IsJournal}
+use Rattle.step_log.specs.Kept.{Kept, Begins, moment_in}
 use Rattle.step_log.proofs.Once.{path_once}
 
 -- ---- one step more on a path
@@ -72,11 +77,11 @@ ends (EnabledAre nodes) number s e = refl
 ends (Pairs pairs) number s e = refl
 ends (Counts counts) number s e = refl
 
-same_size : (start spent : ℕ) (s s' : State) → s'.network ≡ s.network → record { start = start; moves = spent; edges = edge_count s.network; nodes = node_count s.network } ≡ open_at start (record { state = s'; spent = spent })
+same_size : (start : Start) (spent : ℕ) (s s' : State) → s'.network ≡ s.network → record { start = start; moves = spent; edges = edge_count s.network; nodes = node_count s.network } ≡ open_at start (record { state = s'; spent = spent })
 same_size start spent s s' same =
     ap₂ (λ (m n : ℕ). record { start = start; moves = spent; edges = m; nodes = n }) (sym (ap edge_count same)) (sym (ap node_count same))
 
-continues : (reply : Reply) (number begun : ℕ) (m : Moment) (s' : State) → (reply ≢ Accepted → s'.network ≡ m.state.network) → (epochs_by reply number s' (open_at begun m)).1 ≡ open_at (begun_by reply number begun) (record { state = s'; spent = spent_after m.spent reply })
+continues : (reply : Reply) (number : ℕ) (begun : Start) (m : Moment) (s' : State) → (reply ≢ Accepted → s'.network ≡ m.state.network) → (epochs_by reply number s' (open_at begun m)).1 ≡ open_at (begun_by reply number begun) (record { state = s'; spent = spent_after m.spent reply })
 continues Accepted number begun m s' calm = refl
 continues (Moves moves) number begun m s' calm = same_size begun (m.spent + length moves) m.state s' (calm (λ e. cc))
 continues (Refused refusal) number begun m s' calm = same_size begun m.spent m.state s' (calm (λ e. cc))
@@ -86,21 +91,21 @@ continues (Pairs pairs) number begun m s' calm = same_size begun m.spent m.state
 continues (Counts counts) number begun m s' calm = same_size begun m.spent m.state s' (calm (λ e. cc))
 
 -- one entry more
-pub told_add : (t : RuleTable) (start m : Moment) (log : List Entry) (over : List EpochOf) (begun : ℕ) → IsTold t start log m over begun → (entry : Entry) (s : State) → Answers t m.state m.spent entry.0 entry.1 s → IsTold t start (log ++ entry ∷ []) (record { state = s; spent = spent_after m.spent entry.1 }) (over ++ ended_by entry.1 (open_at begun m)) (begun_by entry.1 (length log + 1) begun)
-told_add t start m log over begun told entry s answers =
-    let first = epoch_at 0 start.state in
+pub told_add : (t : RuleTable) (n : ℕ) (began : Start) (start m : Moment) (log : List Entry) (over : List EpochOf) (begun : Start) → IsTold t n began start log m over begun → (entry : Entry) (s : State) → Answers t m.state m.spent entry.0 entry.1 s → IsTold t n began start (log ++ entry ∷ []) (record { state = s; spent = spent_after m.spent entry.1 }) (over ++ ended_by entry.1 (open_at begun m)) (begun_by entry.1 (n + length log) begun)
+told_add t n began start m log over begun told entry s answers =
+    let first = open_at began start in
     let step : Entry × State = (entry, s) in
-    let number = length log + 1 in
-    let at : number ≡ 1 + length told.path = omega (arith, ap length told.entries, length-map told.path (λ (q : Entry × State). q.0)) in
-    let before : open_in 1 first told.path ≡ open_at begun m = told.goes_on in
+    let number = n + length log in
+    let at : number ≡ n + length told.path = omega (arith, ap length told.entries, length-map told.path (λ (q : Entry × State). q.0)) in
+    let before : open_in n first told.path ≡ open_at begun m = told.goes_on in
     record {
       path = told.path ++ step ∷ [];
       entries = map-append (λ (q : Entry × State). q.0) told.path (step ∷ []) ∙ ap (λ l. l ++ entry ∷ []) told.entries;
-      is_path = path_add t start told.path step told.is_path (subst (λ (n : Moment). Answers t n.state n.spent entry.0 entry.1 s) (sym told.ends) answers);
-      ends = end_add start told.path step ∙ ap (λ (n : Moment). record { state = s; spent = spent_after n.spent entry.1 }) told.ends;
-      ended = ap₂ (λ (a b : List EpochOf). a ++ b) told.ended (ap (ended_by entry.1) (sym before) ∙ sym (ends entry.1 number s (open_in 1 first told.path)))
-          ∙ sym (over_add 1 number first told.path step at);
-      goes_on = open_add 1 number first told.path step at
+      is_path = path_add t start told.path step told.is_path (subst (λ (o : Moment). Answers t o.state o.spent entry.0 entry.1 s) (sym told.ends) answers);
+      ends = end_add start told.path step ∙ ap (λ (o : Moment). record { state = s; spent = spent_after o.spent entry.1 }) told.ends;
+      ended = ap₂ (λ (a b : List EpochOf). a ++ b) told.ended (ap (ended_by entry.1) (sym before) ∙ sym (ends entry.1 number s (open_in n first told.path)))
+          ∙ sym (over_add n number first told.path step at);
+      goes_on = open_add n number first told.path step at
           ∙ ap (λ (e : EpochOf). (epochs_by entry.1 number s e).1) before
           ∙ continues entry.1 number begun m s (stays t m.state m.spent entry.0 entry.1 s answers);
     }
@@ -111,20 +116,33 @@ All-unmap : {X Y : Type 0} (P : Y → Type 0) (f : X → Y) (xs : List X) → Al
 All-unmap P f [] all = All-nil (λ x. P (f x))
 All-unmap P f (x ∷ xs) all = All-cons (λ x. P (f x)) x xs (All-head P (f x) (map f xs) all) (All-unmap P f xs (All-tail P (f x) (map f xs) all))
 
-told_along : (t : RuleTable) (start m : Moment) (log : List Entry) (over : List EpochOf) (begun : ℕ) (told : IsTold t start log m over begun) → over ++ open_at begun m ∷ [] ≡ epochs_from 1 (epoch_at 0 start.state) told.path
-told_along t start m log over begun told =
-    ap₂ (λ (a : List EpochOf) (e : EpochOf). a ++ e ∷ []) told.ended (sym told.goes_on) ∙ sym (all_epochs 1 (epoch_at 0 start.state) told.path)
+told_along : (t : RuleTable) (weight : ℕ) (kept : Kept) (over : List Epoch) (begun : Start) (is : IsJournal t weight kept over begun) → map of_run over ++ open_at begun (moment_in kept) ∷ [] ≡ epochs_along kept is.is_kept.start is.told.path
+told_along t weight kept over begun is =
+    ap₂ (λ (a : List EpochOf) (e : EpochOf). a ++ e ∷ []) is.told.ended (sym is.told.goes_on) ∙ sym (all_epochs (dropped kept.base + 1) (open_at (begun_at kept.base) is.is_kept.start) is.told.path)
 
-pub told_epochs : (t : RuleTable) (size first : ℕ) (m : Moment) (log : List Entry) (over : List EpochOf) (begun : ℕ) → IsTold t (beginning_with size first) log m over begun → (epochs : List Epoch) → map of_run epochs ≡ over ++ open_at begun m ∷ [] → AreEpochs t size first log epochs
-told_epochs t size first m log over begun told epochs are = record {
-  exact = λ path same is. subst (λ (p : List (Entry × State)). map of_run epochs ≡ epochs_from 1 (epoch_at 0 (opening_with size first)) p) (path_once t (beginning_with size first) told.path path (told.entries ∙ sym same) told.is_path is) (are ∙ told_along t (beginning_with size first) m log over begun told);
-  path = told.path;
-  entries = told.entries;
-  is_path = told.is_path;
+pub told_epochs : (t : RuleTable) (weight : ℕ) (kept : Kept) (over : List Epoch) (begun : Start) → IsJournal t weight kept over begun → (epochs : List Epoch) → map of_run epochs ≡ map of_run over ++ open_at begun (moment_in kept) ∷ [] → AreEpochs t weight kept epochs
+told_epochs t weight kept over begun is epochs are = record {
+  exact = λ start path begins same along.
+      let one : is.is_kept.start ≡ start = begins_once t (charge_bound weight) kept.state.network.size kept.first kept.base is.is_kept.start start is.is_kept.begins begins in
+      let along' : IsPath t is.is_kept.start path = subst (λ (m : Moment). IsPath t m path) (sym one) along in
+      are ∙ told_along t weight kept over begun is
+      ∙ ap₂ (λ (m : Moment) (p : List (Entry × State)). epochs_along kept m p) one (path_once t is.is_kept.start is.told.path path (is.told.entries ∙ sym same) is.told.is_path along');
+  start = is.is_kept.start;
+  begins = is.is_kept.begins;
+  path = is.told.path;
+  entries = is.told.entries;
+  is_path = is.told.is_path;
 }
 
--- each within its bound
-pub told_bounded : (t : RuleTable) (weight : ℕ) → IsTable t → IsCharged t weight → (size first : ℕ) (m : Moment) (log : List Entry) (over : List EpochOf) (begun : ℕ) → IsTold t (beginning_with size first) log m over begun → (epochs : List Epoch) → map of_run epochs ≡ over ++ open_at begun m ∷ [] → All (IsBounded weight) epochs
-told_bounded t weight table charged size first m log over begun told epochs are =
+-- along each path from where what is kept begins, they are within their bounds
+pub bounded_along : (t : RuleTable) (weight : ℕ) → IsTable t → IsCharged t weight → (kept : Kept) (start : Moment) (path : List (Entry × State)) → Begins t weight kept start → IsPath t start path → All (λ (e : EpochOf). e.moves ≤ 2 * e.edges + weight * e.nodes) (epochs_along kept start path)
+bounded_along t weight table charged kept start path begins along =
+    epochs_are_bounded t weight table charged start
+    (begins_in_state t (charge_bound weight) kept.state.network.size kept.first kept.base start begins)
+    (begins_within t weight charged kept.state.network.size kept.first kept.base start begins)
+    (dropped kept.base + 1) (open_at (begun_at kept.base) start) (record { moves = refl; edges = refl; nodes = refl }) path along
+
+pub told_bounded : (t : RuleTable) (weight : ℕ) → IsTable t → IsCharged t weight → (kept : Kept) (over : List Epoch) (begun : Start) → IsJournal t weight kept over begun → (epochs : List Epoch) → map of_run epochs ≡ map of_run over ++ open_at begun (moment_in kept) ∷ [] → All (IsBounded weight) epochs
+told_bounded t weight table charged kept over begun is epochs are =
     All-unmap (λ (e : EpochOf). e.moves ≤ 2 * e.edges + weight * e.nodes) of_run epochs
-    (subst (λ (es : List EpochOf). All (λ (e : EpochOf). e.moves ≤ 2 * e.edges + weight * e.nodes) es) (sym (are ∙ told_along t (beginning_with size first) m log over begun told)) (opening_epochs_are_bounded t weight table charged size first 1 told.path told.is_path))
+    (subst (λ (es : List EpochOf). All (λ (e : EpochOf). e.moves ≤ 2 * e.edges + weight * e.nodes) es) (sym (are ∙ told_along t weight kept over begun is)) (bounded_along t weight table charged kept is.is_kept.start is.told.path is.is_kept.begins is.told.is_path))

@@ -1,19 +1,24 @@
 -- A journal as contracts see it, and when an entry is prepared for it.
-use Rattle.std.specs.Prelude.{◌≡◌, ℕ, ◌<◌, List, length, map}
+use Rattle.std.specs.Prelude.{◌≡◌, ℕ, ◌+◌, ◌<◌, List, map, Option}
+use Rattle.rule_machine.specs.declared.base.Base.{Base}
+use Rattle.rule_machine.specs.declared.epoch.Start.{Start}
 use Rattle.rule_machine.specs.declared.reply.Reply.TheVariants.{Accepted}
 use Rattle.rule_machine.specs.State.{State}
 use Rattle.rule_machine.specs.RuleTable.{RuleTable}
-use Rattle.rule_machine.specs.Run.{Entry, beginning_with}
+use Rattle.rule_machine.specs.Run.{Entry}
+use Rattle.rule_machine.specs.Base.{begun_at, dropped}
 use Rattle.rule_engine.specs.Prepared.{NetView, IsPrepared}
 use Rattle.step_log.specs.declared.receipt.Receipt.{Receipt}
 use Rattle.step_log.specs.declared.epoch.Epoch.{Epoch}
-use Rattle.step_log.specs.Log.{Log, IsLog, receipt_of}
+use Rattle.step_log.specs.Log.{Log}
+use Rattle.step_log.specs.Kept.{Kept, IsKept, last_number, moment_in, next_receipt}
 use Rattle.step_log.specs.Epochs.{IsTold, of_run}
 
--- its log with how many names were present at the start, for how many more neighbours each name has room, and for how many more entries and how many more epochs there is room
+-- what it keeps, with for how many more neighbours each name has room, and for how many more entries and how many more epochs there is room
 pub record Held : Type 0 where
   pub state : State
   pub spent : ℕ
+  pub base : Option Base
   pub entries : List Entry
   pub limit : ℕ
   pub first : ℕ
@@ -21,7 +26,12 @@ pub record Held : Type 0 where
   pub spare : ℕ
   pub spare_epochs : ℕ
 
--- the log alone
+-- what it keeps alone
+abbrev pub kept_of : Held → Kept
+kept_of held =
+    record { state = held.state; spent = held.spent; base = held.base; entries = held.entries; limit = held.limit; first = held.first }
+
+-- the log, where nothing was dropped
 abbrev pub log_of : Held → Log
 log_of held = record { state = held.state; spent = held.spent; entries = held.entries; limit = held.limit; first = held.first }
 
@@ -29,15 +39,15 @@ log_of held = record { state = held.state; spent = held.spent; entries = held.en
 abbrev pub net_of : Held → NetView
 net_of held = record { state = held.state; spent = held.spent; room = held.room }
 
--- A journal's log is one, and its epochs are told: those that are over, and the number of the entry that began the one that goes on.
-pub record IsKept (t : RuleTable) (log : Log) (over : List Epoch) (begun : ℕ) : Type 0 where
-  pub is_log : IsLog t log
-  pub told : IsTold t (beginning_with log.state.network.size log.first) log.entries (record { state = log.state; spent = log.spent }) (map of_run over) begun
+-- What a journal keeps is a run from where it begins, and its epochs are told: those that are over, and where the one began that goes on.
+pub record IsJournal (t : RuleTable) (weight : ℕ) (kept : Kept) (over : List Epoch) (begun : Start) : Type 0 where
+  pub is_kept : IsKept t weight kept
+  pub told : IsTold t (dropped kept.base + 1) (begun_at kept.base) is_kept.start kept.entries (moment_in kept) (map of_run over) begun
 
 -- The receipt is that of the next entry, and to record it takes no memory.
 pub record IsReady (t : RuleTable) (held : Held) (receipt : Receipt) : Type 0 where
-  pub next : receipt ≡ receipt_of t (log_of held) receipt.event
+  pub next : receipt ≡ next_receipt t (kept_of held) receipt.event
   pub net : IsPrepared t (net_of held) receipt.event receipt.reply
   pub room : 0 < held.spare
   pub epochs : receipt.reply ≡ Accepted → 0 < held.spare_epochs
-  pub below : length held.entries < held.limit
+  pub below : last_number (kept_of held) < held.limit

@@ -1,5 +1,7 @@
 pub mod Recording
 pub mod Log
+pub mod Kept
+pub mod Wholes
 pub mod Epochs
 pub mod Held
 pub mod Headline

@@ -3,18 +3,20 @@
 ghost use Rattle.std.specs.Prelude.{◌≡◌, ◌<◌, ◌++◌, [], ◌∷◌, IfOk, OnOk, length, map, vec_capacity};
 ghost use Rattle.rule_engine.specs.Prepared.{moment_of};
 ghost use Rattle.rule_machine.specs.declared.reply.Reply.TheVariants.{Accepted};
-ghost use Rattle.step_log.specs.Epochs.{begun_by, ended_by, of_run, open_at};
+ghost use Rattle.rule_machine.specs.Run.{open_at};
+ghost use Rattle.step_log.specs.Epochs.{begun_by, ended_by, of_run};
 
 use rule_engine::{Net, Reply, Rules, Want};
+use rule_machine::Start;
 use std::alloc::Global;
 
 /// The moves between two accepted disturbances, the start or the end, and how large the network was then. They are at most
 /// twice the edges and the rules' weight for each node.
 #[derive(Clone, Copy, Debug, PartialEq, Eq)]
 pub struct Epoch {
-    /// The number of the accepted disturbance that began it, 0 for the start.
-    pub start: u32,
-    /// How many moves there were.
+    /// Where it began: at an accepted disturbance, at the start, or before the base, of which no entry tells.
+    pub start: Start,
+    /// How many moves there were, those that were spent at a base included.
     pub moves: u32,
     /// How many edges there were after the disturbance.
     pub edges: u32,
@@ -23,8 +25,8 @@ pub struct Epoch {
 }
 
 impl Epoch {
-    /// The epoch that the entry with this number began, where it has come to what the network is now.
-    fn up_to_now<R: Rules>(start: u32, net: &Net<R>) -> Epoch
+    /// The epoch that began there, where it has come to what the network is now.
+    fn up_to_now<R: Rules>(start: Start, net: &Net<R>) -> Epoch
         ensures { of_run result ≡ open_at start (moment_of net.now) }
     {
         let store = net.store();
@@ -37,23 +39,23 @@ impl Epoch {
     }
 }
 
-/// The epochs of a log: those that are over, and the number of the accepted disturbance that began the one that goes on, 0
-/// for the start. What else there is to tell of that one the network knows.
+/// The epochs of a log: those that are over, and where the one began that goes on. What else there is to tell of that one the
+/// network knows.
 #[derive(Drop)]
 pub(crate) struct Epochs {
     pub over: Vec<Epoch>,
-    pub begun: u32,
+    pub begun: Start,
 }
 
 impl Epochs {
-    /// The epochs of a log without entries.
-    pub fn new(alloc: Global) -> Epochs
+    /// The epochs before any entry, where the first began there.
+    pub fn new(alloc: Global, begun: Start) -> Epochs
         ensures over { result.over.items ≡ [] }
-        ensures begun { result.begun ≡ 0 }
+        ensures begun { result.begun ≡ begun }
     {
         Epochs {
             over: Vec::new(alloc),
-            begun: 0,
+            begun,
         }
     }
 
@@ -78,7 +80,7 @@ impl Epochs {
     {
         if let Reply::Accepted = reply {
             self.over.push(Epoch::up_to_now(self.begun, net)).unwrap();
-            self.begun = number;
+            self.begun = Start::At(number);
         }
     }
 

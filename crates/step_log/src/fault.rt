@@ -1,4 +1,4 @@
-//! Why an event is not recorded.
+//! Why an event is not recorded, and why there is no entry to be shown.
 
 use std::alloc::AllocError;
 use thiserror::Error;
@@ -6,7 +6,7 @@ use thiserror::Error;
 /// Why an event was not recorded. The journal is as before.
 #[derive(Clone, Copy, Debug, PartialEq, Eq, Error)]
 pub enum RecordFault {
-    /// The log holds as many entries as it may.
+    /// The last entry has the greatest number that one may have.
     #[error("log full")]
     LogFull,
     /// A growth of memory was refused.
@@ -23,4 +23,15 @@ impl From<AllocError> for RecordFault {
     fn from(_: AllocError) -> RecordFault {
         RecordFault::Memory
     }
+}
+
+/// Why a journal shows no entry with a number.
+#[derive(Clone, Copy, Debug, PartialEq, Eq, Error)]
+pub enum NoEntry {
+    /// A checkpoint dropped it.
+    #[error("forgotten")]
+    Forgotten,
+    /// There was never one: the number is 0, or above the last.
+    #[error("no such entry")]
+    Beyond,
 }

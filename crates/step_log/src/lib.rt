@@ -2,6 +2,7 @@
 #![tactic(auto)]
 
 mod answer;
+mod checkpoint;
 mod epoch;
 mod fault;
 mod journal;
@@ -12,7 +13,7 @@ mod recorder;
 
 pub use answer::Answer;
 pub use epoch::Epoch;
-pub use fault::RecordFault;
+pub use fault::{NoEntry, RecordFault};
 pub use journal::Journal;
 pub use law::{beginnings_lead_somewhere, budgets_by_name, epochs_by_name};
 pub use log_entry::Entry;

@@ -16,17 +16,17 @@ from_place log k e at =
     ∙ ap (λ (n : ℕ). e ∷ drop n log) (sym (add-one k))
 
 -- once the entry at a place is written, the others from there on make up the same text
-pub one_more : (log : List Entry) (k : ℕ) (e : Entry) (event : Event) (reply : Reply) (old before after : List ℕ) → slice_get log k ≡ Some e → event ≡ e.0 → reply ≡ e.1
-    → after ≡ before ++ entry_line (k + 1) event reply
-    → before ++ entry_lines (k + 1) (drop k log) ≡ old ++ entry_lines 1 log
-    → after ++ entry_lines (k + 1 + 1) (drop (k + 1) log) ≡ old ++ entry_lines 1 log
-one_more log k e event reply old before after at is_event is_reply wrote so_far =
-    let rest = entry_lines (k + 1 + 1) (drop (k + 1) log) in
+pub one_more : (log : List Entry) (number k : ℕ) (e : Entry) (event : Event) (reply : Reply) (all before after : List ℕ) → slice_get log k ≡ Some e → event ≡ e.0 → reply ≡ e.1
+    → after ≡ before ++ entry_line number event reply
+    → before ++ entry_lines number (drop k log) ≡ all
+    → after ++ entry_lines (number + 1) (drop (k + 1) log) ≡ all
+one_more log number k e event reply all before after at is_event is_reply wrote so_far =
+    let rest = entry_lines (number + 1) (drop (k + 1) log) in
     ap (λ (l : List ℕ). l ++ rest) wrote
-    ∙ ap (λ (v : Event). (before ++ entry_line (k + 1) v reply) ++ rest) is_event
-    ∙ ap (λ (r : Reply). (before ++ entry_line (k + 1) e.0 r) ++ rest) is_reply
-    ∙ append_assoc before (entry_line (k + 1) e.0 e.1) rest
-    ∙ ap (λ (l : List Entry). before ++ entry_lines (k + 1) l) (sym (from_place log k e at))
+    ∙ ap (λ (v : Event). (before ++ entry_line number v reply) ++ rest) is_event
+    ∙ ap (λ (r : Reply). (before ++ entry_line number e.0 r) ++ rest) is_reply
+    ∙ append_assoc before (entry_line number e.0 e.1) rest
+    ∙ ap (λ (l : List Entry). before ++ entry_lines number l) (sym (from_place log k e at))
     ∙ so_far
 
 -- a text that has grown, and grows by another line

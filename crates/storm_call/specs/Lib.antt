@@ -8,3 +8,4 @@ pub mod FaultText
 pub mod Status
 pub mod Outcome
 pub mod Parts
+pub mod KeptText

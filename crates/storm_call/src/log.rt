@@ -1,8 +1,10 @@
 //! A log as a transcript.
 
-ghost use Rattle.std.specs.Prelude.{◌≡◌, ◌++◌, OnOk, OnErr};
-ghost use Rattle.line_text.specs.LogText.{entry_lines, transcript};
+ghost use Rattle.std.specs.Prelude.{◌≡◌, ◌+◌, ◌++◌, OnOk, OnErr};
+ghost use Rattle.line_text.specs.LogText.{entry_lines};
 ghost use Rattle.line_text.specs.Growth.{Extends};
+ghost use Rattle.rule_machine.specs.Base.{dropped};
+ghost use Rattle.storm_call.specs.KeptText.{kept_text, opening_text};
 
 use line_text::{put_entry, put_header};
 use rule_machine::{RuleSet, Want};
@@ -10,19 +12,37 @@ use rule_set::Rules;
 use step_log::Journal;
 
 fn append_entries<R: Rules>(out: &mut Vec<u8>, journal: &Journal<R>) -> Result<(), Want>
-    ensures ok { OnOk result (out.new.items ≡ out.old.items ++ entry_lines 1 journal.now.entries) }
+    ensures ok { OnOk result (out.new.items ≡ out.old.items ++ entry_lines (dropped journal.now.base + 1) journal.now.entries) }
     ensures err { OnErr result (Extends out.old.items out.new.items) }
 {
-    for before in 0..journal.len() {
+    for before in journal.base().unwrap_or(0)..journal.len() {
         let entry = journal.entry(before + 1).unwrap();
         put_entry(out, before + 1, entry.event(), entry.reply())?;
     }
     Ok(())
 }
 
-/// Writes the text of a journal's log behind what is there: a header with the rule set, the number of names and that of the nodes at
-/// the start, and a line for each entry, numbered from 1. At want of memory nothing was written. Takes the memory of the text alone, and a look
-/// at each entry.
+// Writes a header, or where there is a base its lines.
+fn put_opening<R: Rules>(
+    out: &mut Vec<u8>,
+    rules: RuleSet,
+    nodes: u32,
+    present: u32,
+    journal: &Journal<R>,
+) -> Result<(), Want>
+    ensures ok { OnOk result (out.new.items ≡ out.old.items ++ opening_text rules nodes present journal.now.state.network.size journal.now.base) }
+    ensures err { OnErr result (out.new.items ≡ out.old.items) }
+{
+    if journal.base().is_none() {
+        return put_header(out, rules, nodes, present);
+    }
+    let text = journal.base_text(rules)?;
+    out.extend_from_slice(&text)
+}
+
+/// Writes the text of what a journal keeps of its log: a header with the rule set, the number of names and that of the nodes at
+/// the start, or where entries were dropped the lines of its base; and a line for each entry, numbered on. At want of memory nothing
+/// was written. Takes the memory of the text, a base's twice, and a look at each entry.
 pub fn put_log<R: Rules>(
     out: &mut Vec<u8>,
     rules: RuleSet,
@@ -30,11 +50,11 @@ pub fn put_log<R: Rules>(
     present: u32,
     journal: &Journal<R>,
 ) -> Result<(), Want>
-    ensures ok { OnOk result (out.new.items ≡ out.old.items ++ transcript rules nodes present journal.now.entries) }
+    ensures ok { OnOk result (out.new.items ≡ out.old.items ++ kept_text rules nodes present journal.now.state.network.size journal.now.base journal.now.entries) }
     ensures err { OnErr result (out.new.items ≡ out.old.items) }
 {
     let len = out.len();
-    put_header(out, rules, nodes, present)?;
+    put_opening(out, rules, nodes, present, journal)?;
     let done = append_entries(out, journal);
     if done.is_err() {
         out.truncate(len);

@@ -1,9 +1,10 @@
 //! Scripts and workers on one network, and the log that they leave.
 
-ghost use Rattle.std.specs.Prelude.{◌≡◌, ◌≤◌, length, IfOk, vec_len};
+ghost use Rattle.std.specs.Prelude.{◌≡◌, ◌≤◌, length, None, IfOk, vec_len};
 ghost use Rattle.std.specs.List.{All};
 ghost use Rattle.step_log.specs.Headline.{Upholds};
 ghost use Rattle.step_log.specs.Held.{log_of};
+ghost use Rattle.step_log.specs.Kept.{whole};
 ghost use Rattle.step_log.specs.Log.{IsLog};
 ghost use Rattle.locked_net.specs.Nets.{nodes_of, first_of, limit_of, setting_of};
 ghost use Rattle.locked_net.specs.Receipts.{fresh};
@@ -57,7 +58,8 @@ pub fn play_scripts<R: Rules + Send + Sync, G: Gate + Sync, T: Threads + Wait + 
     requires { length scripts.now ≤ 64 }
     ensures storm { IfOk result (λ left. IsStorm (setting_of R.table net) left.0.entries scripts.now crew.roamers crew.turns left.1) }
     ensures run { IfOk result (λ left. IsLog R.table (log_of left.0)) }
-    ensures upheld { IfOk result (λ left. Upholds R.table R.NODE_WEIGHT (log_of left.0)) }
+    ensures upheld { IfOk result (λ left. Upholds R.table R.NODE_WEIGHT (whole (log_of left.0))) }
+    ensures undropped { IfOk result (λ left. left.0.base ≡ None) }
     ensures size { IfOk result (λ left. (left.0.state.network.size ≡ nodes_of net) × (left.0.first ≡ first_of net) × (left.0.limit ≡ limit_of net)) }
 {
     let count = scripts.len() + crew.roamers as usize;

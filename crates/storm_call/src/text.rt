@@ -1,6 +1,6 @@
 //! What a storm writes.
 
-ghost use Rattle.std.specs.Prelude.{OnOk, IfErr};
+ghost use Rattle.std.specs.Prelude.{◌≡◌, None, OnOk, IfErr};
 ghost use Rattle.std.specs.Io.KnownBytes.{Appends};
 ghost use Rattle.line_text.specs.LogText.{transcript};
 ghost use Rattle.storm_call.specs.Parts.{FailsToWrite};
@@ -20,6 +20,7 @@ pub fn write_log<R: Rules, Out: Write>(
     journal: &Journal<R>,
     writer: &mut Out,
 ) -> Result<(), StormFault>
+    requires undropped { journal.now.base ≡ None }
     ensures ok { OnOk result (Appends (Out.contents writer.old) (Out.contents writer.new) (transcript options.now.rules options.now.nodes options.now.present journal.now.entries)) }
     ensures fault { IfErr result (FailsToWrite (Out.contents writer.old) (Out.contents writer.new) (transcript options.now.rules options.now.nodes options.now.present journal.now.entries)) }
 {

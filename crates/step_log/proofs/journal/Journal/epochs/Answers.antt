@@ -1,21 +1,22 @@
-use Rattle.std.proofs.Common.{map, subst}
+use Rattle.std.proofs.Common.{subst}
 use Rattle.std.specs.Prelude.{IfOk}
 use Rattle.std.proofs.lemmas.Result.{IfOk-weaker}
-use Rattle.rule_machine.specs.Run.{Moment}
 use Rattle.machine_laws.specs.LeastMoves.{IsTable}
 use Rattle.charge_laws.specs.Charged.{IsCharged}
-use Rattle.step_log.specs.Epochs.{AreEpochs, of_run}
-use Rattle.step_log.specs.Held.{Held}
+use Rattle.step_log.specs.Epochs.{AreEpochs}
+use Rattle.step_log.specs.Held.{Held, kept_of}
+use Rattle.step_log.specs.Kept.{Kept}
 use Rattle.step_log.proofs.Telling.{told_epochs, told_bounded}
 use Rattle.step_log.proofs.journal.Journal.epochs.Goals as goal
 
 pub returns-clause-epochs : goal.returns-clause-epochs
 returns-clause-epochs g c =
     let t = g.R.Rules.table in
+    let weight = g.R.Rules.NODE_WEIGHT in
     let inside = c.self.inside in
-    let now : Moment = record { state = inside.net.state; spent = inside.net.spent } in
-    subst (λ (held : Held). IfOk c.list.result (λ epochs. AreEpochs t held.state.network.size held.first held.entries epochs.items)) c.self.view_is
-    (IfOk-weaker c.list.result _ _ (λ epochs are. told_epochs t inside.net.state.network.size inside.first now inside.entries.items (map of_run inside.epochs.over.items) inside.epochs.begun c.self.invariant.told epochs.items are) c.list.ensures)
+    let kept : Kept = record { state = inside.net.state; spent = inside.net.spent; base = inside.base; entries = inside.entries.items; limit = inside.limit; first = inside.first } in
+    subst (λ (held : Held). IfOk c.list.result (λ epochs. AreEpochs t weight (kept_of held) epochs.items)) c.self.view_is
+    (IfOk-weaker c.list.result _ _ (λ epochs are. told_epochs t weight kept inside.epochs.over.items inside.epochs.begun c.self.invariant epochs.items are) c.list.ensures)
 
 pub returns-clause-bound : goal.returns-clause-bound
 returns-clause-bound g c =
@@ -25,5 +26,5 @@ returns-clause-bound g c =
     let table : IsTable t = record { allowed_is_neighbour = laws.allowed_is_neighbour; allowed_takes_target = laws.allowed_takes_target; has_target = laws.has_target } in
     let charged : IsCharged t weight = record { falls = laws.charge_falls; bounded = laws.charge_is_bounded; zero_is_stable = laws.no_charge_is_stable } in
     let inside = c.self.inside in
-    let now : Moment = record { state = inside.net.state; spent = inside.net.spent } in
-    IfOk-weaker c.list.result _ _ (λ epochs are. told_bounded t weight table charged inside.net.state.network.size inside.first now inside.entries.items (map of_run inside.epochs.over.items) inside.epochs.begun c.self.invariant.told epochs.items are) c.list.ensures
+    let kept : Kept = record { state = inside.net.state; spent = inside.net.spent; base = inside.base; entries = inside.entries.items; limit = inside.limit; first = inside.first } in
+    IfOk-weaker c.list.result _ _ (λ epochs are. told_bounded t weight table charged kept inside.epochs.over.items inside.epochs.begun c.self.invariant epochs.items are) c.list.ensures

@@ -1,9 +1,10 @@
 use Rattle.std.proofs.Common.{ℕ, ap, ap₂, ◌∙◌}
 use Rattle.rule_machine.specs.declared.reply.Reply.{Reply}
+use Rattle.rule_machine.specs.Least.{reply_of}
 use Rattle.log_entry.specs.Kinds.{fits}
 use Rattle.machine_laws.specs.LeastMoves.{IsTable}
-use Rattle.step_log.specs.Held.{Held, log_of}
-use Rattle.step_log.specs.Log.{Log, receipt_of}
+use Rattle.step_log.specs.Held.{Held}
+use Rattle.step_log.specs.Kept.{Kept}
 use Rattle.step_log.proofs.Running.{next_fits}
 use Rattle.step_log.proofs.journal.Journal.prepare.Goals as goal
 
@@ -12,11 +13,15 @@ new-requires g c =
     let laws = g.met.R.Rules in
     let table : IsTable g.R.Rules.table = record { allowed_is_neighbour = laws.allowed_is_neighbour; allowed_takes_target = laws.allowed_takes_target; has_target = laws.has_target } in
     let inside = c.self.inside in
-    let before : Log = record { state = inside.net.state; spent = inside.net.spent; entries = inside.entries.items; limit = inside.limit; first = inside.first } in
-    ap (fits c.args.event) c.in_ok-reply.ensures.reply ∙ next_fits g.R.Rules.table table before c.self.invariant.is_log c.args.event
+    let before : Kept = record { state = inside.net.state; spent = inside.net.spent; base = inside.base; entries = inside.entries.items; limit = inside.limit; first = inside.first } in
+    ap (fits c.args.event) c.in_ok-reply.ensures.reply ∙ next_fits g.R.Rules.table g.R.Rules.NODE_WEIGHT table before c.self.invariant.is_kept c.args.event
 
 pub returns-clause-receipt : goal.returns-clause-receipt
 returns-clause-receipt g c =
+    let t = g.R.Rules.table in
+    let event = c.args.event in
+    let replies = c.in_ok-reply.ensures.reply
+    ∙ ap (λ (held : Held). reply_of t held.state held.spent event) c.self.view_is
+    ∙ ap (λ (kept : Kept). reply_of t kept.state kept.spent event) c.make_room.ensures.kept in
     c.in_ok-new.ensures
-    ∙ ap₂ (λ (n : ℕ) (reply : Reply). record { seq = n; event = c.args.event; reply = reply }) c.in_ok-seq.ensures.number c.in_ok-reply.ensures.reply
-    ∙ ap (λ (held : Held). receipt_of g.R.Rules.table (log_of held) c.args.event) c.self.view_is
+    ∙ ap₂ (λ (n : ℕ) (reply : Reply). record { seq = n; event = event; reply = reply }) c.in_ok-seq.ensures.number replies

@@ -2,7 +2,7 @@ use Rattle.std.proofs.Common.{ap, ◌∙◌}
 use Rattle.rule_machine.specs.declared.event.Event.TheVariants.{Step}
 use Rattle.log_entry.specs.Kinds.{fits}
 use Rattle.machine_laws.specs.LeastMoves.{IsTable}
-use Rattle.step_log.specs.Log.{Log}
+use Rattle.step_log.specs.Kept.{Kept}
 use Rattle.step_log.proofs.Running.{next_fits}
 use Rattle.step_log.proofs.journal.Journal.prepare_step.Goals as goal
 
@@ -11,5 +11,5 @@ new-requires g c =
     let laws = g.met.R.Rules in
     let table : IsTable g.R.Rules.table = record { allowed_is_neighbour = laws.allowed_is_neighbour; allowed_takes_target = laws.allowed_takes_target; has_target = laws.has_target } in
     let held = c.self.inside in
-    let before : Log = record { state = held.net.state; spent = held.net.spent; entries = held.entries.items; limit = held.limit; first = held.first } in
-    ap (fits (Step c.args.choice)) c.in_ok-reply.ensures.reply ∙ next_fits g.R.Rules.table table before c.self.invariant.is_log (Step c.args.choice)
+    let before : Kept = record { state = held.net.state; spent = held.net.spent; base = held.base; entries = held.entries.items; limit = held.limit; first = held.first } in
+    ap (fits (Step c.args.choice)) c.in_ok-reply.ensures.reply ∙ next_fits g.R.Rules.table g.R.Rules.NODE_WEIGHT table before c.self.invariant.is_kept (Step c.args.choice)

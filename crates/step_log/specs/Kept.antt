@@ -1,0 +1,92 @@
+-- What a journal keeps of a log: where a checkpoint dropped entries, a base and those behind it.
+use Rattle.std.specs.Prelude.{ℕ, ◌+◌, ◌≤◌, List, [], ◌∷◌, ◌++◌, length, Option, None, Some}
+use Rattle.rule_machine.specs.declared.base.Base.{Base}
+use Rattle.rule_machine.specs.declared.event.Event.{Event}
+use Rattle.rule_machine.specs.State.{State}
+use Rattle.rule_machine.specs.RuleTable.{RuleTable}
+use Rattle.rule_machine.specs.Least.{reply_of, state_after, spent_by}
+use Rattle.rule_machine.specs.Run.{Entry, Moment, Run}
+use Rattle.rule_machine.specs.Base.{BeginsAt, base_of, dropped}
+use Rattle.charge_laws.specs.Charged.{charge_bound}
+use Rattle.step_log.specs.declared.receipt.Receipt.{Receipt}
+use Rattle.step_log.specs.Log.{Log, max_entries}
+
+-- the state of a network, the moves since it was last disturbed, the base if there is one, the entries behind it, the greatest number that
+-- an entry may have, and how many of the names were present at the start, from 1 on
+pub record Kept : Type 0 where
+  pub state : State
+  pub spent : ℕ
+  pub base : Option Base
+  pub entries : List Entry
+  pub limit : ℕ
+  pub first : ℕ
+
+-- where its network is
+abbrev pub moment_in : Kept → Moment
+moment_in kept = record { state = kept.state; spent = kept.spent }
+
+-- the number of its last entry, kept or dropped
+abbrev pub last_number : Kept → ℕ
+last_number kept = dropped kept.base + length kept.entries
+
+-- where its entries begin
+abbrev pub Begins : RuleTable → ℕ → Kept → Moment → Type 0
+Begins t weight kept start = BeginsAt t (charge_bound weight) kept.state.network.size kept.first kept.base start
+
+-- a base that a graph can have
+abbrev pub IsShort : Option Base → Type 0
+IsShort None = Unit {0}
+IsShort (Some base) = (length base.nodes ≤ 65535) × (length base.edges ≤ 1048576)
+
+-- the entries are a run of the machine from where they begin to the state and what is spent, and their numbers are within the limit
+pub record IsKept (t : RuleTable) (weight : ℕ) (kept : Kept) : Type 0 where
+  pub start : Moment
+  pub begins : Begins t weight kept start
+  pub run : Run t start kept.entries (moment_in kept)
+  pub size : kept.state.network.size ≤ 65535
+  pub room : last_number kept ≤ kept.limit
+  pub limit : kept.limit ≤ max_entries
+  pub short : IsShort kept.base
+
+-- what is kept of a log of which nothing was dropped
+abbrev pub whole : Log → Kept
+whole log =
+    record { state = log.state; spent = log.spent; base = None; entries = log.entries; limit = log.limit; first = log.first }
+
+-- the log, where nothing was dropped
+abbrev pub log_in : Kept → Log
+log_in kept =
+    record { state = kept.state; spent = kept.spent; entries = kept.entries; limit = kept.limit; first = kept.first }
+
+-- the event with the reply to it
+abbrev pub next_entry : RuleTable → Kept → Event → Entry
+next_entry t kept event = (event, reply_of t kept.state kept.spent event)
+
+-- with the event's entry at the end, and the state and what is spent after it
+abbrev pub kept_with : RuleTable → Kept → Event → Kept
+kept_with t kept event =
+    record {
+      state = state_after t kept.state event;
+      spent = spent_by t kept.state kept.spent event;
+      base = kept.base;
+      entries = kept.entries ++ next_entry t kept event ∷ [];
+      limit = kept.limit;
+      first = kept.first;
+    }
+
+-- what the caller is told of it
+abbrev pub next_receipt : RuleTable → Kept → Event → Receipt
+next_receipt t kept event =
+    record { seq = last_number kept + 1; event = event; reply = reply_of t kept.state kept.spent event }
+
+-- with the base at which its network stands, and without an entry
+abbrev pub checkpointed : Kept → Kept
+checkpointed kept =
+    record {
+      state = kept.state;
+      spent = kept.spent;
+      base = Some (base_of (last_number kept) (moment_in kept));
+      entries = [];
+      limit = kept.limit;
+      first = kept.first;
+    }

@@ -1,0 +1,63 @@
+//! The base of a journal.
+
+ghost use Rattle.std.specs.Prelude.{◌≡◌, ◌≤◌, [], IfOk, IfSome, IfNone, OnOk, OnErr, MatchOption};
+ghost use Rattle.line_text.specs.BaseText.{base_text};
+ghost use Rattle.rule_machine.specs.Base.{dropped};
+ghost use Rattle.rule_machine.specs.declared.base.Base.{Base};
+ghost use Rattle.step_log.specs.Held.{kept_of};
+ghost use Rattle.step_log.specs.Kept.{checkpointed, last_number};
+
+use crate::Journal;
+use crate::epoch::Epochs;
+use line_text::put_base;
+use rule_engine::{Rules, Want};
+use rule_machine::{RuleSet, Start};
+
+impl<R: Rules> Journal<R> {
+    /// Makes the present state the base of the log and drops all entries; the next one's number goes on. Gives the number of the
+    /// last entry, dropped now or before; 0, which is then the base too, where there was never one. The network, `spent` and `len`
+    /// stay. At want of memory nothing has changed. What was prepared can't be committed behind it. Takes some eight bytes a node
+    /// and four an edge, and gives back what the entries took; a look at every name and at both ends of every edge.
+    pub fn checkpoint(&mut self) -> Result<u32, Want>
+        ensures number { IfOk result (λ number. number ≡ last_number (kept_of self.old)) }
+        ensures log { OnOk result (kept_of self.new ≡ checkpointed (kept_of self.old)) }
+        ensures kept { OnErr result (self.new ≡ self.old) }
+    {
+        let number = self.len();
+        let base = self.net.base(number)?;
+        self.base = Some(base);
+        self.entries = Vec::new(self.alloc);
+        self.epochs = Epochs::new(self.alloc, Start::Forgotten);
+        Ok(number)
+    }
+
+    /// The number of the last entry that a checkpoint dropped; `None` where none was made. Takes no memory.
+    pub fn base(&self) -> Option<u32>
+        ensures { MatchOption result (self.now.base ≡ None) (λ number. (base : Base) × (self.now.base ≡ Some base) × (base.number ≡ number)) }
+    {
+        self.base.as_ref().map(|base| base.number)
+    }
+
+    /// How many entries were dropped.
+    pub(crate) fn dropped(&self) -> u32
+        ensures count { result ≡ dropped self.now.base }
+        ensures few { result ≤ 16777216 }
+    {
+        match &self.base {
+            Some(base) => base.number,
+            None => 0,
+        }
+    }
+
+    /// The lines of the base, each with its LF, with which a transcript of the entries behind it begins; no byte where there is no
+    /// base. At most some 18 megabytes; `Want` if memory runs out.
+    pub fn base_text(&self, rules: RuleSet) -> Result<Vec<u8>, Want>
+        ensures { IfOk result (λ text. MatchOption self.now.base (text.items ≡ []) (λ base. text.items ≡ base_text rules self.now.state.network.size base)) }
+    {
+        let mut text = Vec::new(self.alloc);
+        if let Some(base) = &self.base {
+            put_base(&mut text, rules, self.net.store().capacity(), base)?;
+        }
+        Ok(text)
+    }
+}
