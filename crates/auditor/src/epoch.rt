@@ -3,13 +3,13 @@
 ghost use Rattle.std.specs.Prelude.{◌≡◌, ◌+◌, ◌*◌, ◌<◌, ◌^◌};
 ghost use Rattle.auditor.specs.Epochs.{bound_of};
 
-use rule_machine::RuleSet;
+use rule_machine::{RuleSet, Start};
 use std::marker::Model;
 
 /// The entries between two accepted disturbances, or from the start on, or to the end.
 #[derive(Clone, Copy, Debug, PartialEq, Eq)]
 pub struct Epoch {
-    start: u32,
+    start: Start,
     moves: u64,
     edges: u32,
     nodes: u32,
@@ -28,7 +28,7 @@ impl Model for Epoch {
 
 impl Epoch {
     /// An epoch before its first move.
-    pub(crate) fn new(start: u32, edges: u32, nodes: u32) -> Epoch
+    pub(crate) fn new(start: Start, edges: u32, nodes: u32) -> Epoch
         ensures { result ≡ record { start = start; moves = 0; edges = edges; nodes = nodes } }
     {
         Epoch {
@@ -50,8 +50,9 @@ impl Epoch {
         }
     }
 
-    /// The number of the entry that began it, an accepted disturbance; 0 for the start of the run.
-    pub fn start(self) -> u32
+    /// Where it began: behind the entry with a number, an accepted disturbance, 0 for the start of the run; or before the
+    /// base that a transcript begins with, which none does.
+    pub fn start(self) -> Start
         ensures { result ≡ self.start }
     {
         self.start

@@ -10,7 +10,7 @@ ghost use Rattle.auditor.specs.Verdict.{IsJudged};
 use crate::check::Audit;
 use crate::replay::Replay;
 use crate::{Epoch, JudgeFault, Summary};
-use rule_machine::{RuleSet, Want};
+use rule_machine::{RuleSet, Start, Want};
 use std::alloc::Global;
 
 /// The epochs of a run, the first and the last included, in their order.
@@ -28,7 +28,7 @@ impl Audit {
         ensures { result ≡ epoch_at self.now.counted.entries self.now.state }
     {
         Epoch::new(
-            self.counted().entries,
+            Start::At(self.counted().entries),
             self.judge.edges(),
             self.judge.nodes(),
         )

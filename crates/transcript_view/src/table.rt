@@ -2,11 +2,11 @@
 
 ghost use Rattle.std.specs.Prelude.{◌≡◌, ◌++◌, IfOk, OnOk};
 ghost use Rattle.line_text.specs.Words.{number_text};
-ghost use Rattle.transcript_view.specs.Table.{cell, epoch_row, epoch_table};
+ghost use Rattle.transcript_view.specs.Table.{cell, epoch_row, epoch_table, start_cell};
 
 use auditor::{Epoch, Epochs};
 use itoa::Buffer;
-use rule_machine::{RuleSet, Want};
+use rule_machine::{RuleSet, Start, Want};
 use std::alloc::Global;
 
 fn put_number(out: &mut Vec<u8>, number: u64) -> Result<(), Want>
@@ -23,10 +23,19 @@ fn put_cell(out: &mut Vec<u8>, number: u64) -> Result<(), Want>
     out.extend_from_slice(b",")
 }
 
+fn put_start(out: &mut Vec<u8>, start: Start) -> Result<(), Want>
+    ensures { OnOk result (out.new.items ≡ out.old.items ++ start_cell start) }
+{
+    match start {
+        Start::At(number) => put_cell(out, u64::from(number)),
+        Start::Forgotten => out.extend_from_slice(b"-,"),
+    }
+}
+
 fn put_epoch(out: &mut Vec<u8>, rules: RuleSet, epoch: Epoch) -> Result<(), Want>
     ensures { OnOk result (out.new.items ≡ out.old.items ++ epoch_row rules epoch) }
 {
-    put_cell(out, u64::from(epoch.start()))?;
+    put_start(out, epoch.start())?;
     put_cell(out, epoch.moves())?;
     put_cell(out, u64::from(epoch.edges()))?;
     put_cell(out, u64::from(epoch.nodes()))?;

@@ -1,4 +1,6 @@
 use Rattle.std.proofs.Common.{◌≡◌, length, refl, subst, ◌∙◌, arith}
+use Rattle.step_log.specs.Held.{kept_of}
+use Rattle.step_log.specs.Wholes.{whole_count}
 use Rattle.locked_net.specs.Settled.{receipt_count}
 use Rattle.locked_net.specs.Marks.{IsMarked}
 use Rattle.locked_net.proofs.Marking.{settles, place_within}
@@ -12,6 +14,6 @@ stranger-requires g c =
 pub returns-clause-settled : goal.returns-clause-settled
 returns-clause-settled g c =
     let all : c.loop-clerk.clerk ≡ length c.args.clerks.now = omega (arith, c.loop-clerk-test.false, c.loop-clerk.auto.clerk-end) in
-    let counted : receipt_count c.args.clerks.now ≡ length c.args.journal.now.entries = c.if-not-has_count.ensures.0 refl ∙ c.len-len.ensures.count in
+    let counted : receipt_count c.args.clerks.now ≡ length c.args.journal.now.entries = c.if-not-has_count.ensures.0 refl ∙ c.len-len.ensures.number ∙ whole_count (kept_of c.args.journal.now) c.requires.undropped in
     settles c.args.journal.now.entries c.args.clerks.now c.loop-clerk.taken counted
     (subst (λ k. IsMarked c.args.journal.now.entries c.args.clerks.now k 0 c.loop-clerk.taken) all c.loop-clerk.invariant)
