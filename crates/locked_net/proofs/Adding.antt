@@ -58,9 +58,9 @@ stands_last log [] receipt is = is
 stands_last log (first ∷ receipts) receipt is = stands_from log first receipts receipt is
 
 -- a clerk that adds the receipt of an entry, and a note of the log with that entry, is one
-pub is_clerk_after : (t : RuleTable) (log after : Log) (event : Event) (told : Told) (old new : List Receipt) (note : Option Told) → RiseAbove 0 old → call_fault (front_of old) log ≡ None
-    → after ≡ recorded t log event → told.log ≡ after.entries → new ≡ old ++ receipt_of t log event ∷ [] → note ≡ Some told → IsClerk (record { receipts = new; note = note })
-is_clerk_after t log after event told old new note rise free is tells added kept =
+pub is_clerk_after : (t : RuleTable) (log after : Log) (event : Event) (told : Told) (old new : List Receipt) (note : Option Told) (base : Option ℕ) → RiseAbove 0 old → call_fault (front_of old) log ≡ None
+    → after ≡ recorded t log event → told.log ≡ after.entries → new ≡ old ++ receipt_of t log event ∷ [] → note ≡ Some told → IsClerk (record { receipts = new; note = note; base = base })
+is_clerk_after t log after event told old new note base rise free is tells added kept =
     let receipt : Receipt = receipt_of t log event in
     let few = seen_few (front_of old) log free in
     let shown : told.log ≡ (recorded t log event).entries = tells ∙ ap (λ (l : Log). l.entries) is in

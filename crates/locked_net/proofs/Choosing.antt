@@ -1,5 +1,5 @@
 -- What is told of an event that somebody else chose, and of a call that is not answered.
-use Rattle.std.proofs.Common.{◌≡◌, ◌∷◌, ◌++◌, [], ℕ, Bool, List, Option, None, Some, Result, Ok, Err, IfOk, IfErr, IfSome, OnOk, IsNone, MatchOption, ◌↔◌, ◌+◌, length, refl, ap, sym, ◌∙◌, subst, arith}
+use Rattle.std.proofs.Common.{◌≡◌, ◌∷◌, ◌++◌, [], ℕ, Bool, List, Option, None, Some, Result, Ok, Err, IfOk, IfErr, IfSome, OnOk, IsNone, MatchOption, ◌↔◌, ◌+◌, ◌≤◌, length, refl, ap, sym, ◌∙◌, subst, arith}
 use Rattle.rule_machine.specs.declared.choice.Item.{Item}
 use Rattle.rule_machine.specs.declared.event.Event.{Event}
 use Rattle.rule_machine.specs.declared.event.Event.TheVariants.{Step}
@@ -13,9 +13,9 @@ use Rattle.board.specs.Views.{Told}
 use Rattle.step_log.specs.Log.{Log, entry_of, recorded, receipt_of}
 use Rattle.locked_net.specs.Receipts.{ClerkView, front_of, noted}
 use Rattle.locked_net.specs.Settings.{Setting, IsLogIn}
-use Rattle.locked_net.specs.Calls.{call_fault, Explains, Drives, Breaks, KeepsFault}
+use Rattle.locked_net.specs.Calls.{call_fault, checkpoint_fault, Explains, Drives, Breaks, KeepsFault}
 use Rattle.locked_net.specs.Stepping.{ExplainsStep}
-use Rattle.locked_net.specs.Choosing.{ChoosesStep, ChoosesOn, TakesChoice, Refuses, RefusesStep}
+use Rattle.locked_net.specs.Choosing.{ChoosesStep, ChoosesOn, TakesChoice, HoldsAll, Refuses, RefusesCheckpoint, RefusesStep}
 use Rattle.locked_net.specs.declared.call_fault.CallFault.{CallFault}
 use Rattle.locked_net.specs.declared.step_fault.StepFault.{StepFault}
 use Rattle.locked_net.proofs.Adding.{seen_few}
@@ -89,3 +89,13 @@ pub refuses_step : {A : Type 0} (setting : Setting) (seen workers : ℕ) (log : 
     → IfErr result (RefusesStep setting seen workers)
 refuses_step setting seen workers log (Ok told) own explained = tt
 refuses_step setting seen workers log (Err fault) own explained = record { log = log; own = own; explained = explained }
+
+-- ---- a checkpoint
+
+pub holds_all : (setting : Setting) (seen : ℕ) (log : Log) (result : Result ℕ CallFault) → IsLogIn setting log → IfOk result (λ number. number ≡ length log.entries) → IfOk result (λ number. seen ≤ number) → IfOk result (HoldsAll setting seen)
+holds_all setting seen log (Ok number) own count all = record { log = log; own = own; count = count; all = all }
+holds_all setting seen log (Err fault) own count all = tt
+
+pub refuses_checkpoint : (setting : Setting) (seen : ℕ) (log : Log) (result : Result ℕ CallFault) → IsLogIn setting log → IfErr result (λ fault. Explains (checkpoint_fault seen log) fault) → IfErr result (RefusesCheckpoint setting seen)
+refuses_checkpoint setting seen log (Ok number) own explained = tt
+refuses_checkpoint setting seen log (Err fault) own explained = record { log = log; own = own; explained = explained }

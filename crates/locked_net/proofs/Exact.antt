@@ -2,12 +2,12 @@
 use Rattle.std.proofs.Common.{◌≡◌, ℕ, zero, suc, ◌<◌, ◌↔◌, List, [], ◌∷◌, Some, sym, subst, ◌∙◌, refl, inl, ⊎_elim, arith}
 use Rattle.std.specs.List.{slice_get}
 use Rattle.std.proofs.lemmas.Option.{same_Some}
-use Rattle.rule_machine.specs.Run.{Entry}
+use Rattle.step_log.specs.Kept.{Kept}
 use Rattle.step_log.specs.declared.receipt.Receipt.{Receipt}
 use Rattle.locked_net.specs.declared.settle_fault.SettleFault.{SettleFault}
-use Rattle.locked_net.specs.declared.settle_fault.SettleFault.TheVariants.{CountDiffers, Stranger, Memory}
-use Rattle.locked_net.specs.Receipts.{ClerkView, RiseAbove, IsEntry}
-use Rattle.locked_net.specs.Settled.{StandsAt, Holds, Agrees, Settled, Unsettles}
+use Rattle.locked_net.specs.declared.settle_fault.SettleFault.TheVariants.{CountDiffers, BaseDiffers, Stranger, Memory}
+use Rattle.locked_net.specs.Receipts.{ClerkView, RiseAbove}
+use Rattle.locked_net.specs.Settled.{StandsAt, Holds, IsEntryAbove, Agrees, Settled, Unsettles}
 
 -- each number is above where the rise begins
 above : (low : ℕ) (receipts : List Receipt) (p : ℕ) (receipt : Receipt) → RiseAbove low receipts → slice_get receipts p ≡ Some receipt → low < receipt.seq
@@ -33,8 +33,8 @@ apart clerks d c q p one other rise e lt stands here same =
     omega (arith, less, same)
 
 -- an earlier receipt with the number is an earlier clerk's
-pub agrees_by_clerks : (log : List Entry) (clerks : List ClerkView) (c p : ℕ) (receipt : Receipt) → ((d : ℕ) (clerk : ClerkView) → slice_get clerks d ≡ Some clerk → RiseAbove 0 clerk.receipts) → StandsAt clerks c p receipt → Agrees log clerks c p receipt ↔ (IsEntry log receipt × ((d : ℕ) → d < c → Holds clerks d receipt.seq → ⊥))
-agrees_by_clerks log clerks c p receipt rise here = (
+pub agrees_by_clerks : (kept : Kept) (clerks : List ClerkView) (c p : ℕ) (receipt : Receipt) → ((d : ℕ) (clerk : ClerkView) → slice_get clerks d ≡ Some clerk → RiseAbove 0 clerk.receipts) → StandsAt clerks c p receipt → Agrees kept clerks c p receipt ↔ (IsEntryAbove kept receipt × ((d : ℕ) → d < c → Holds clerks d receipt.seq → ⊥))
+agrees_by_clerks kept clerks c p receipt rise here = (
   λ agrees. (agrees.entry, λ d below holds. agrees.new d holds.place holds.receipt (inl below) holds.stands holds.numbered),
   λ own. record {
     entry = own.0;
@@ -46,15 +46,16 @@ agrees_by_clerks log clerks c p receipt rise here = (
   },
 )
 
-pub all_agree : (log : List Entry) (clerks : List ClerkView) (c p : ℕ) (receipt : Receipt) → Settled log clerks → StandsAt clerks c p receipt → Agrees log clerks c p receipt
-all_agree log clerks c p receipt settled here =
+pub all_agree : (kept : Kept) (clerks : List ClerkView) (c p : ℕ) (receipt : Receipt) → Settled kept clerks → StandsAt clerks c p receipt → Agrees kept clerks c p receipt
+all_agree kept clerks c p receipt settled here =
     let own : Holds clerks c receipt.seq = record { place = p; receipt = receipt; stands = here; numbered = refl } in
-    (agrees_by_clerks log clerks c p receipt settled.rise here).1 (
+    (agrees_by_clerks kept clerks c p receipt settled.rise here).1 (
       settled.told c p here.clerk receipt here.of_clerk here.at_place,
       λ d below holds. let same = settled.once receipt.seq d c holds own in omega (arith, below, same),
     )
 
-pub settled_not_refused : (log : List Entry) (clerks : List ClerkView) (why : SettleFault) → Settled log clerks → Unsettles log clerks why → why ≡ Memory
-settled_not_refused log clerks CountDiffers settled differs = absurd (differs settled.count)
-settled_not_refused log clerks (Stranger c p) settled found = absurd (found.1.strange (all_agree log clerks c p found.1.receipt settled found.1.stands))
-settled_not_refused log clerks Memory settled _ = refl
+pub settled_not_refused : (kept : Kept) (clerks : List ClerkView) (why : SettleFault) → Settled kept clerks → Unsettles kept clerks why → why ≡ Memory
+settled_not_refused kept clerks CountDiffers settled differs = absurd (differs settled.count)
+settled_not_refused kept clerks BaseDiffers settled differs = absurd (differs.1 settled.based)
+settled_not_refused kept clerks (Stranger c p) settled (same, based, found) = absurd (found.strange (all_agree kept clerks c p found.receipt settled found.stands))
+settled_not_refused kept clerks Memory settled _ = refl

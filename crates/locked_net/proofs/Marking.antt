@@ -13,10 +13,12 @@ use Rattle.std.proofs.lemmas.Bool.{cases_lt, cases_eq, cases_order, false≢true
 use Rattle.std.proofs.lemmas.List.{get_or-set_same, get_or-set_other, length-set, take_all}
 use Rattle.std.proofs.lemmas.List.Sums.{sum_by-cons, sum_by-set, sum_by_more, get_or-le-sum_by, count_by-le-length}
 use Rattle.std.proofs.lemmas.Option.{slice_get_read, slice_get_within, get_or_from_slice_get, same_Some}
+use Rattle.rule_machine.specs.Base.{dropped}
 use Rattle.rule_machine.specs.Run.{Entry}
+use Rattle.step_log.specs.Kept.{Kept, last_number}
 use Rattle.step_log.specs.declared.receipt.Receipt.{Receipt}
-use Rattle.locked_net.specs.Receipts.{ClerkView, RiseAbove, IsEntry}
-use Rattle.locked_net.specs.Settled.{receipt_count, StandsAt, Settled, IsBefore, Agrees, IsFirstStranger}
+use Rattle.locked_net.specs.Receipts.{ClerkView, RiseAbove}
+use Rattle.locked_net.specs.Settled.{receipt_count, greatest_base, base_number, IsEntryAbove, StandsAt, Settled, IsBefore, Agrees, IsFirstStranger}
 use Rattle.locked_net.specs.Marks.{mark_of, IsMarked}
 
 -- ---- places
@@ -98,8 +100,8 @@ all_set (false ∷ marks) k full inside =
 -- ---- the steps
 
 -- the receipt is the log's entry, and no receipt before has marked it: it agrees
-fresh_agrees : (log : List Entry) (clerks : List ClerkView) (c p : ℕ) (marks : List Bool) (receipt : Receipt) → IsMarked log clerks c p marks → IsEntry log receipt → mark_of marks receipt.seq ≡ false → Agrees log clerks c p receipt
-fresh_agrees log clerks c p marks receipt so_far entry clear = record {
+fresh_agrees : (kept : Kept) (clerks : List ClerkView) (c p : ℕ) (marks : List Bool) (receipt : Receipt) → IsMarked kept clerks c p marks → IsEntryAbove kept receipt → mark_of marks receipt.seq ≡ false → Agrees kept clerks c p receipt
+fresh_agrees kept clerks c p marks receipt so_far entry clear = record {
   entry = entry;
   new = λ d q other before stands same. false≢true (sym clear ∙ subst (λ n. mark_of marks n ≡ true) same (so_far.marked d q other before stands));
 }
@@ -110,10 +112,10 @@ at_place clerks d q c p other receipt e stands here =
     same_receipt clerks c p other receipt (subst (λ k. StandsAt clerks k p other) e.0 (subst (λ k. StandsAt clerks d k other) e.1 stands)) here
 
 -- one more receipt agrees, and its entry is marked
-pub place_more : (log : List Entry) (clerks : List ClerkView) (c p : ℕ) (marks : List Bool) (receipt : Receipt) → IsMarked log clerks c p marks → StandsAt clerks c p receipt → IsEntry log receipt → mark_of marks receipt.seq ≡ false → IsMarked log clerks c (p + 1) (set marks (receipt.seq - 1) true)
-place_more log clerks c p marks receipt so_far here entry clear =
-    let inside : receipt.seq - 1 < length marks = let within = slice_get_within log (receipt.seq - 1) (receipt.event, receipt.reply) entry.same in omega (arith, within, so_far.size) in
-    let agrees = fresh_agrees log clerks c p marks receipt so_far entry clear in
+pub place_more : (kept : Kept) (clerks : List ClerkView) (c p : ℕ) (marks : List Bool) (receipt : Receipt) → IsMarked kept clerks c p marks → StandsAt clerks c p receipt → IsEntryAbove kept receipt → mark_of marks receipt.seq ≡ false → IsMarked kept clerks c (p + 1) (set marks (receipt.seq - 1) true)
+place_more kept clerks c p marks receipt so_far here entry clear =
+    let inside : receipt.seq - 1 < length marks = omega (arith, entry.numbered, entry.within, so_far.size) in
+    let agrees = fresh_agrees kept clerks c p marks receipt so_far entry clear in
     record {
       size = length-set marks (receipt.seq - 1) true ∙ so_far.size;
       agree = λ d q other before stands.
@@ -121,7 +123,7 @@ place_more log clerks c p marks receipt so_far here entry clear =
           (λ (earlier : IsBefore d q c p). so_far.agree d q other earlier stands)
           (λ (e : (d ≡ c) × (q ≡ p)).
           let same = at_place clerks d q c p other receipt e stands here in
-          subst (λ k. Agrees log clerks k q other) (sym e.0) (subst (λ k. Agrees log clerks c k other) (sym e.1) (subst (λ r. Agrees log clerks c p r) (sym same) agrees)))
+          subst (λ k. Agrees kept clerks k q other) (sym e.0) (subst (λ k. Agrees kept clerks c k other) (sym e.1) (subst (λ r. Agrees kept clerks c p r) (sym same) agrees)))
           (before_more d q c p before);
       rise = so_far.rise;
       marked = λ d q other before stands.
@@ -156,8 +158,8 @@ place_more log clerks c p marks receipt so_far here entry clear =
     }
 
 -- all receipts of a clerk agree, and its numbers rise
-pub clerk_more : (log : List Entry) (clerks : List ClerkView) (c : ℕ) (clerk : ClerkView) (marks : List Bool) → slice_get clerks c ≡ Some clerk → RiseAbove 0 clerk.receipts → IsMarked log clerks c (length clerk.receipts) marks → IsMarked log clerks (c + 1) 0 marks
-clerk_more log clerks c clerk marks of_clerk rises so_far =
+pub clerk_more : (kept : Kept) (clerks : List ClerkView) (c : ℕ) (clerk : ClerkView) (marks : List Bool) → slice_get clerks c ≡ Some clerk → RiseAbove 0 clerk.receipts → IsMarked kept clerks c (length clerk.receipts) marks → IsMarked kept clerks (c + 1) 0 marks
+clerk_more kept clerks c clerk marks of_clerk rises so_far =
     let within = slice_get_within clerks c clerk of_clerk in
     record {
       size = so_far.size;
@@ -189,8 +191,8 @@ clerk_more log clerks c clerk marks of_clerk rises so_far =
     }
 
 -- a receipt whose entry is marked already, or that is not the log's entry, is the first stranger
-pub stranger_found : (log : List Entry) (clerks : List ClerkView) (c p : ℕ) (marks : List Bool) (receipt : Receipt) → IsMarked log clerks c p marks → StandsAt clerks c p receipt → (IsEntry log receipt → mark_of marks receipt.seq ≡ true) → IsFirstStranger log clerks c p
-stranger_found log clerks c p marks receipt so_far here taken = record {
+pub stranger_found : (kept : Kept) (clerks : List ClerkView) (c p : ℕ) (marks : List Bool) (receipt : Receipt) → IsMarked kept clerks c p marks → StandsAt clerks c p receipt → (IsEntryAbove kept receipt → mark_of marks receipt.seq ≡ true) → IsFirstStranger kept clerks c p
+stranger_found kept clerks c p marks receipt so_far here taken = record {
   receipt = receipt;
   stands = here;
   strange = λ agrees.
@@ -202,11 +204,11 @@ stranger_found log clerks c p marks receipt so_far here taken = record {
 
 -- ---- the end
 
--- All receipts agree, and there are as many as entries: all is settled. Each mark is set, since as many are set as there are
+-- All receipts agree, and there are as many as entries, and the base is the clerks': all is settled. Each mark is set, since as many are set as there are
 -- marks, so each entry has a receipt; and no receipt has the number of an earlier one, so no entry has two clerks.
-pub settles : (log : List Entry) (clerks : List ClerkView) (marks : List Bool) → receipt_count clerks ≡ length log → IsMarked log clerks (length clerks) 0 marks → Settled log clerks
-settles log clerks marks counted all =
-    let agree : (c p : ℕ) (receipt : Receipt) → StandsAt clerks c p receipt → Agrees log clerks c p receipt = λ c p receipt stands.
+pub settles : (kept : Kept) (clerks : List ClerkView) (marks : List Bool) → receipt_count clerks ≡ last_number kept → base_number kept.base ≡ greatest_base clerks → IsMarked kept clerks (length clerks) 0 marks → Settled kept clerks
+settles kept clerks marks counted based all =
+    let agree : (c p : ℕ) (receipt : Receipt) → StandsAt clerks c p receipt → Agrees kept clerks c p receipt = λ c p receipt stands.
     all.agree c p receipt (inl (slice_get_within clerks c stands.clerk stands.of_clerk)) stands in
     let full : count_by (λ mark. mark) marks ≡ length marks =
     let whole : receipt_count (take (length clerks) clerks) ≡ receipt_count clerks = ap receipt_count (take_all (length clerks) clerks (omega arith)) in
@@ -227,9 +229,24 @@ settles log clerks marks counted all =
           (λ (below : d < c). (agree c one.place one.receipt one.stands).new d other.place other.receipt (inl below) other.stands (other.numbered ∙ sym one.numbered))
           h))
           (cases_order c d);
+      based = based;
     }
 
 -- ---- what the code reads
+
+-- an entry that is kept has a number of the log
+pub is_kept : (kept : Kept) (receipt : Receipt) (entry : Entry) → dropped kept.base < receipt.seq → slice_get kept.entries (receipt.seq - dropped kept.base - 1) ≡ Some entry → entry ≡ (receipt.event, receipt.reply) → IsEntryAbove kept receipt
+is_kept kept receipt entry above there same =
+    let within = slice_get_within kept.entries (receipt.seq - dropped kept.base - 1) entry there in
+    record { numbered = omega (arith, above); within = omega (arith, within, above); same = λ _. there ∙ ap Some same }
+
+-- one that was dropped has a number alone
+pub is_dropped : (kept : Kept) (receipt : Receipt) → 0 < receipt.seq → receipt.seq ≤ dropped kept.base → IsEntryAbove kept receipt
+is_dropped kept receipt numbered low = record {
+  numbered = numbered;
+  within = omega (arith, low);
+  same = λ above. absurd (omega (arith, low, above));
+}
 
 -- the receipt that is read at a place of a clerk's list stands there
 pub standing : (clerks : List ClerkView) (c p : ℕ) (clerk : ClerkView) (items : List Receipt) (receipt : Receipt) → c < length clerks → clerk ≡ get_or clerks c clerk → items ≡ clerk.receipts → p < length items → receipt ≡ get_or items p receipt → StandsAt clerks c p receipt
@@ -240,8 +257,8 @@ standing clerks c p clerk items receipt there is same inside read = record {
 }
 
 -- a stranger's place is below the number of receipts
-pub place_within : (log : List Entry) (clerks : List ClerkView) (c p : ℕ) → IsFirstStranger log clerks c p → p < receipt_count clerks
-place_within log clerks c p found =
+pub place_within : (kept : Kept) (clerks : List ClerkView) (c p : ℕ) → IsFirstStranger kept clerks c p → p < receipt_count clerks
+place_within kept clerks c p found =
     let of_clerk = found.stands.of_clerk in
     let clerk : ClerkView = found.stands.clerk in
     let count_of : ClerkView → ℕ = λ k. length k.receipts in

@@ -1,26 +1,78 @@
--- What a desk publishes is a run of the rules.
-use Rattle.std.proofs.Common.{◌≡◌, ◌+◌, Option, [], ◌∷◌, ◌++◌, sym, ap, ap₂, ◌∙◌, subst}
-use Rattle.rule_machine.specs.declared.base.Base.{Base}
+-- What a desk publishes is a run of the rules, and it is a desk behind the next entry, behind a checkpoint, and at the start.
+use Rattle.std.proofs.Common.{◌≡◌, ◌+◌, ◌<◌, ◌≤◌, ℕ, List, [], ◌∷◌, ◌++◌, length, Result, Ok, Err, OnOk, OnErr, refl, sym, ap, ap₂, ◌∙◌, subst, arith}
+use Rattle.rule_machine.specs.declared.event.Event.{Event}
 use Rattle.rule_machine.specs.RuleTable.{RuleTable}
-use Rattle.rule_machine.specs.Run.{Entry, Moment, Run, beginning_with}
+use Rattle.rule_machine.specs.Run.{Entry, Run, beginning_with}
+use Rattle.machine_laws.specs.LeastMoves.{IsTable}
 use Rattle.board.specs.Row.{Extent}
 use Rattle.board.specs.Runs.{IsRun}
 use Rattle.board.specs.Views.{Standing}
-use Rattle.step_log.specs.declared.receipt.Receipt.{Receipt}
-use Rattle.step_log.specs.Log.{Log, IsLog, recorded, receipt_of}
+use Rattle.step_log.specs.Held.{Held, kept_of}
+use Rattle.step_log.specs.Kept.{Kept, checkpointed, kept_with, last_number, next_entry, whole}
+use Rattle.step_log.specs.Log.{Log, IsLog, empty_log_with, max_entries, recorded}
+use Rattle.locked_net.specs.Above.{IsAbove, log_over}
 use Rattle.locked_net.specs.Desks.{IsDesk}
+use Rattle.locked_net.proofs.Above.{above_len, end_of, recorded_is_log, recorded_size, recorded_above, checkpoint_above, whole_above, opening_is_log}
 
--- with the entry that is posted, where the log has just taken it
-pub is_run_posted : (t : RuleTable) (base : Option Base) (log after : Log) (receipt : Receipt) (entry : Entry) (board now : Standing) → IsDesk base log board → receipt ≡ receipt_of t log receipt.event → entry ≡ (receipt.event, receipt.reply)
-    → now ≡ record board { posted = entry ∷ [] } → after ≡ recorded t log receipt.event → after.state.network.size ≡ log.state.network.size → IsLog t after → IsRun t now.name.extent (now.list ++ now.posted)
-is_run_posted t base log after receipt entry board now desk next is posted told size run =
-    let end : Moment = record { state = after.state; spent = after.spent } in
-    let same : now.list ++ now.posted ≡ after.entries =
-    ap₂ (λ xs ys. xs ++ ys) (ap (λ (b : Standing). b.list) posted ∙ desk.list) (ap (λ (b : Standing). b.posted) posted ∙ ap (λ e. e ∷ []) (is ∙ ap (λ (r : Receipt). (receipt.event, r.reply)) next))
-    ∙ sym (ap (λ (l : Log). l.entries) told) in
-    let extent : now.name.extent ≡ record { places = log.state.network.size + 1; first = log.first } = ap (λ (b : Standing). b.name.extent) posted ∙ desk.extent in
-    let places : now.name.extent.places ≡ after.state.network.size + 1 = ap (λ (e : Extent). e.places) extent ∙ ap (λ n. n + 1) (sym size) in
-    let first : now.name.extent.first ≡ after.first = ap (λ (e : Extent). e.first) extent ∙ sym (ap (λ (l : Log). l.first) told) in
-    let begun : Run t (beginning_with after.state.network.size after.first) (now.list ++ now.posted) end =
-    subst (λ l. Run t (beginning_with after.state.network.size after.first) l end) (sym same) run.run in
-    (after.state.network.size, end, places, subst (λ n. Run t (beginning_with after.state.network.size n) (now.list ++ now.posted) end) (sym first) begun)
+-- the board's entries and the next one are a run
+run_more : (t : RuleTable) → IsTable t → (kept : Kept) (board : Standing) (event : Event) → IsDesk t kept board → last_number kept < kept.limit → IsRun t board.name.extent (board.list ++ next_entry t kept event ∷ [])
+run_more t table kept board event desk below =
+    let log = log_over kept board.list in
+    let after = recorded t log event in
+    let few : length board.list < kept.limit = omega (arith, below, above_len t log kept desk.above) in
+    let is = recorded_is_log t table log desk.is_log few event in
+    let size = recorded_size t table log desk.is_log event in
+    let places : board.name.extent.places ≡ after.state.network.size + 1 = ap (λ (e : Extent). e.places) desk.extent ∙ ap (λ n. n + 1) (sym size) in
+    let first : board.name.extent.first ≡ kept.first = ap (λ (e : Extent). e.first) desk.extent in
+    (after.state.network.size, end_of after, places, subst (λ (n : ℕ). Run t (beginning_with after.state.network.size n) after.entries (end_of after)) (sym first) is.run)
+
+-- with the entry that is posted
+pub is_run_posted : (t : RuleTable) → IsTable t → (kept : Kept) (board now : Standing) (event : Event) (entry : Entry) → IsDesk t kept board → last_number kept < kept.limit → entry ≡ next_entry t kept event → now ≡ record board { posted = entry ∷ [] }
+    → IsRun t now.name.extent (now.list ++ now.posted)
+is_run_posted t table kept board now event entry desk below next posted =
+    subst (λ (b : Standing). IsRun t b.name.extent (b.list ++ b.posted)) (sym posted)
+    (subst (λ (e : Entry). IsRun t board.name.extent (board.list ++ e ∷ [])) (sym next) (run_more t table kept board event desk below))
+
+-- once it is recorded and published
+pub desk_after : (t : RuleTable) → IsTable t → (kept after : Kept) (board now : Standing) (event : Event) (entry : Entry) → IsDesk t kept board → last_number kept < kept.limit → entry ≡ next_entry t kept event → after ≡ kept_with t kept event
+    → now ≡ record { list = board.list ++ entry ∷ []; posted = []; name = board.name } → IsDesk t after now
+desk_after t table kept after board now event entry desk below next told shown =
+    let log = log_over kept board.list in
+    let few : length board.list < kept.limit = omega (arith, below, above_len t log kept desk.above) in
+    let size = recorded_size t table log desk.is_log event in
+    let there : IsDesk t (kept_with t kept event) (record { list = board.list ++ next_entry t kept event ∷ []; posted = []; name = board.name }) = record {
+      is_log = recorded_is_log t table log desk.is_log few event;
+      above = recorded_above t table log kept desk.is_log desk.above event;
+      posted = refl;
+      extent = desk.extent ∙ ap (λ (n : ℕ). record { places = n + 1; first = kept.first }) (sym size);
+    } in
+    subst (λ (k : Kept). IsDesk t k now) (sym told)
+    (subst (IsDesk t (kept_with t kept event)) (sym (shown ∙ ap (λ (e : Entry). record { list = board.list ++ e ∷ []; posted = []; name = board.name }) next)) there)
+
+-- the whole log then
+pub log_after : (t : RuleTable) (kept after : Kept) (list now : List Entry) (event : Event) (entry : Entry) → entry ≡ next_entry t kept event → after ≡ kept_with t kept event → now ≡ list ++ entry ∷ [] → log_over after now ≡ recorded t (log_over kept list) event
+log_after t kept after list now event entry next told shown = ap₂ log_over told (shown ∙ ap (λ (e : Entry). list ++ e ∷ []) next)
+
+-- behind a checkpoint
+pub desk_checkpointed : (t : RuleTable) (kept after : Kept) (board : Standing) → IsDesk t kept board → after ≡ checkpointed kept → IsDesk t after board
+desk_checkpointed t kept after board desk told =
+    subst (λ (k : Kept). IsDesk t k board) (sym told)
+    record { is_log = desk.is_log; above = checkpoint_above t (log_over kept board.list) kept desk.is_log desk.above; posted = desk.posted; extent = desk.extent }
+
+pub desk_kept : {A B : Type 0} (t : RuleTable) (held after : Held) (board : Standing) (result : Result A B) → IsDesk t (kept_of held) board → OnOk result (kept_of after ≡ checkpointed (kept_of held)) → OnErr result (after ≡ held) → IsDesk t (kept_of after) board
+desk_kept t held after board (Ok number) desk told same = desk_checkpointed t (kept_of held) (kept_of after) board desk told
+desk_kept t held after board (Err fault) desk told same = subst (λ (h : Held). IsDesk t (kept_of h) board) (sym same) desk
+
+-- at the start
+pub desk_opened : (t : RuleTable) (kept : Kept) (board : Standing) (size first limit : ℕ) → size ≤ 65535 → limit ≤ max_entries → kept ≡ whole (empty_log_with size first limit) → board.list ≡ [] → board.posted ≡ [] → board.name.extent ≡ record { places = size + 1; first = first }
+    → IsDesk t kept board
+desk_opened t kept board size first limit small within is list posted extent =
+    let log = empty_log_with size first limit in
+    let same : log_over (whole log) board.list ≡ log = ap (log_over (whole log)) list in
+    subst (λ (k : Kept). IsDesk t k board) (sym is)
+    record {
+      is_log = subst (IsLog t) (sym same) (opening_is_log t size first limit small within);
+      above = subst (λ (l : Log). IsAbove t l (whole log)) (sym same) (whole_above t log);
+      posted = posted;
+      extent = extent;
+    }

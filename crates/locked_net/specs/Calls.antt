@@ -22,6 +22,11 @@ call_fault seen log =
     if nat_lt (length log.entries) seen then Some (Behind (length log.entries) seen)
     else (if nat_eq (length log.entries) log.limit then Some LogFull else None)
 
+-- why it gets no checkpoint, which a full log does not refuse
+abbrev pub checkpoint_fault : ℕ → Log → Option CallFault
+checkpoint_fault seen log =
+    if nat_lt (length log.entries) seen then Some (Behind (length log.entries) seen) else None
+
 -- an answer is the fault in the call, and want of memory only where there is none
 abbrev pub Explains : Option CallFault → CallFault → Type 0
 Explains None fault = fault ≡ Memory
@@ -32,6 +37,12 @@ abbrev pub MayAnswer : ℕ → CallFault → Type 0
 MayAnswer seen (Behind front told) = (told ≡ seen) × (front < seen)
 MayAnswer seen LogFull = Unit {0}
 MayAnswer seen Memory = Unit {0}
+
+-- the same of a fault of a checkpoint
+abbrev pub MayRefuseCheckpoint : ℕ → CallFault → Type 0
+MayRefuseCheckpoint seen (Behind front told) = (told ≡ seen) × (front < seen)
+MayRefuseCheckpoint seen LogFull = ⊥
+MayRefuseCheckpoint seen Memory = Unit {0}
 
 -- a journal's fault as a call's
 abbrev pub fault_for : RecordFault → CallFault

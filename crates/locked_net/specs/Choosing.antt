@@ -1,8 +1,8 @@
--- What a clerk is told where somebody else chooses the event, and why it is not answered.
+-- What a clerk is told where somebody else chooses the event, and of a checkpoint, and why it is not answered.
 --
 -- Who calls sees no log. So a clause says that there is one, which lay behind the lock: a run of the network's rules, of its nodes and with
 -- its limit.
-use Rattle.std.specs.Prelude.{◌≡◌, ℕ, List, [], ◌∷◌, ◌++◌, Option, None, Some, IfSome}
+use Rattle.std.specs.Prelude.{◌≡◌, ◌≤◌, ℕ, List, [], ◌∷◌, ◌++◌, length, Option, None, Some, IfSome}
 use Rattle.std.specs.Option.{option_map}
 use mathlib.Core.List.{IsPrefix}
 use Rattle.rule_machine.specs.declared.choice.Item.{Item}
@@ -16,7 +16,7 @@ use Rattle.step_log.specs.Log.{Log, receipt_of}
 use Rattle.board.specs.Views.{Told}
 use Rattle.locked_net.specs.Receipts.{front_of, noted}
 use Rattle.locked_net.specs.Settings.{Setting, IsLogIn}
-use Rattle.locked_net.specs.Calls.{call_fault, Explains}
+use Rattle.locked_net.specs.Calls.{call_fault, checkpoint_fault, Explains}
 use Rattle.locked_net.specs.Stepping.{ExplainsStep}
 use Rattle.locked_net.specs.declared.call_fault.CallFault.{CallFault}
 use Rattle.locked_net.specs.declared.step_fault.StepFault.{StepFault}
@@ -51,6 +51,19 @@ pub record Refuses (setting : Setting) (seen : ℕ) (fault : CallFault) : Type 0
   pub log : Log
   pub own : IsLogIn setting log
   pub explained : Explains (call_fault seen log) fault
+
+-- So many entries a log had, which holds all that the clerk has seen.
+pub record HoldsAll (setting : Setting) (seen number : ℕ) : Type 0 where
+  pub log : Log
+  pub own : IsLogIn setting log
+  pub count : number ≡ length log.entries
+  pub all : seen ≤ number
+
+-- A log gives this fault in place of a checkpoint.
+pub record RefusesCheckpoint (setting : Setting) (seen : ℕ) (fault : CallFault) : Type 0 where
+  pub log : Log
+  pub own : IsLogIn setting log
+  pub explained : Explains (checkpoint_fault seen log) fault
 
 -- So it does where workers judge a step.
 pub record RefusesStep (setting : Setting) (seen workers : ℕ) (fault : StepFault) : Type 0 where

@@ -2,14 +2,14 @@
 -- queries and daemon choices the callers' threads made.
 use Rattle.std.specs.Prelude.{ℕ, List}
 use Rattle.rule_machine.specs.RuleTable.{RuleTable}
-use Rattle.step_log.specs.Log.{Log}
-use Rattle.step_log.specs.Kept.{whole}
+use Rattle.step_log.specs.Kept.{Kept}
 use Rattle.step_log.specs.Headline.{Upholds}
 use Rattle.locked_net.specs.Receipts.{ClerkView}
 use Rattle.locked_net.specs.Settled.{Settled}
 
 -- * upheld: the log is a run of the rule machine, quiet exactly where stable, and its moves keep within their bounds;
 -- * told: each reply that a caller was given is that run's, and each entry was told to one caller alone.
-pub record Headline (t : RuleTable) (weight : ℕ) (log : Log) (clerks : List ClerkView) : Type 0 where
-  pub upheld : Upholds t weight (whole log)
-  pub told : Settled log.entries clerks
+-- Both are said of what is kept of the log, the entries above its base; of those below it the receipts' numbers alone.
+pub record Headline (t : RuleTable) (weight : ℕ) (kept : Kept) (clerks : List ClerkView) : Type 0 where
+  pub upheld : Upholds t weight kept
+  pub told : Settled kept clerks

@@ -1,5 +1,5 @@
--- What no event changes: how many names a network has, how many nodes it had at the start, how many entries its log may hold, and which
--- board publishes it.
+-- What no event changes: how many names a network has, how many nodes it had at the start, how many entries its log may hold, which
+-- board publishes it, and, beside its key, the base of what is kept of its log.
 use Rattle.std.specs.Prelude.{◌≡◌, ◌+◌}
 use Rattle.board.specs.Views.{Name}
 use Rattle.locked_net.specs.Desks.{DeskView}
@@ -15,9 +15,10 @@ pub record IsOfKey (key : NetKey) (desk : DeskView) : Type 0 where
   pub limit : desk.log.limit ≡ key.limit
   pub name : desk.name ≡ name_from key
 
--- all four are as they were
+-- all five are as they were
 pub record KeepsKey (old new : DeskView) : Type 0 where
   pub nodes : new.log.state.network.size ≡ old.log.state.network.size
   pub first : new.log.first ≡ old.log.first
   pub limit : new.log.limit ≡ old.log.limit
   pub name : new.name ≡ old.name
+  pub base : new.base ≡ old.base

@@ -1,6 +1,7 @@
 pub mod Receipts
 pub mod Settled
 pub mod Settings
+pub mod Above
 pub mod Calls
 pub mod Choosing
 pub mod Marks

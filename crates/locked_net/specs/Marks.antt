@@ -2,7 +2,7 @@
 -- has named.
 use Rattle.std.specs.Prelude.{◌≡◌, ℕ, ◌+◌, ◌-◌, ◌<◌, Bool, true, false, List, Some, length, take, slice_get, slice_index_or}
 use Rattle.std.specs.List.{sum_by, count_by}
-use Rattle.rule_machine.specs.Run.{Entry}
+use Rattle.step_log.specs.Kept.{Kept, last_number}
 use Rattle.step_log.specs.declared.receipt.Receipt.{Receipt}
 use Rattle.locked_net.specs.Receipts.{ClerkView, RiseAbove}
 use Rattle.locked_net.specs.Settled.{StandsAt, IsBefore, Agrees}
@@ -21,9 +21,9 @@ abbrev pub mark_of : List Bool → ℕ → Bool
 mark_of marks number = slice_index_or marks (number - 1) false
 
 -- All receipts before place p of clerk c agree, the clerks before c rise, and the marks are those of these receipts, one each.
-pub record IsMarked (log : List Entry) (clerks : List ClerkView) (c p : ℕ) (marks : List Bool) : Type 0 where
-  pub size : length marks ≡ length log
-  pub agree : (d q : ℕ) (other : Receipt) → IsBefore d q c p → StandsAt clerks d q other → Agrees log clerks d q other
+pub record IsMarked (kept : Kept) (clerks : List ClerkView) (c p : ℕ) (marks : List Bool) : Type 0 where
+  pub size : length marks ≡ last_number kept
+  pub agree : (d q : ℕ) (other : Receipt) → IsBefore d q c p → StandsAt clerks d q other → Agrees kept clerks d q other
   pub rise : (d : ℕ) (clerk : ClerkView) → d < c → slice_get clerks d ≡ Some clerk → RiseAbove 0 clerk.receipts
   pub marked : (d q : ℕ) (other : Receipt) → IsBefore d q c p → StandsAt clerks d q other → mark_of marks other.seq ≡ true
   pub numbered : (k : ℕ) → slice_index_or marks k false ≡ true → IsNumbered clerks c p (k + 1)

@@ -1,6 +1,6 @@
--- What a clerk keeps: a receipt for each reply that it got, oldest first, each with the number of its entry in the log; and a note of what was
--- published when it got the last.
-use Rattle.std.specs.Prelude.{◌≡◌, ℕ, ◌<◌, ◌-◌, List, [], ◌∷◌, length, Option, None, Some, IfSome, IsSomeAnd, slice_get}
+-- What a clerk keeps: a receipt for each reply that it got, oldest first, each with the number of its entry in the log; a note of what was
+-- published when it got the last; and the greatest number that a checkpoint answered it.
+use Rattle.std.specs.Prelude.{◌≡◌, ℕ, ◌<◌, ◌-◌, max, List, [], ◌∷◌, length, Option, None, Some, IfSome, IsSomeAnd, slice_get}
 use Rattle.rule_machine.specs.Run.{Entry}
 use Rattle.step_log.specs.declared.receipt.Receipt.{Receipt}
 use Rattle.logbook.specs.Pages.{Book}
@@ -29,10 +29,11 @@ pub record IsEntry (log : List Entry) (receipt : Receipt) : Type 0 where
 pub record ClerkView : Type 0 where
   pub receipts : List Receipt
   pub note : Option Told
+  pub base : Option ℕ
 
 -- one who has called nobody
 abbrev pub fresh : ClerkView
-fresh = record { receipts = []; note = None }
+fresh = record { receipts = []; note = None; base = None }
 
 -- the last receipt is the log's entry at its number
 abbrev pub StandsLastFrom : List Entry → Receipt → List Receipt → Type 0
@@ -59,6 +60,12 @@ pub record IsClerk (clerk : ClerkView) : Type 0 where
   pub rise : RiseAbove 0 clerk.receipts
   pub last : NotesLast clerk.receipts clerk.note
   pub ends : length (noted clerk.note) ≡ front_of clerk.receipts
+
+-- the greater of two numbers, where there is any
+abbrev pub greater_base : Option ℕ → Option ℕ → Option ℕ
+greater_base None other = other
+greater_base (Some one) None = Some one
+greater_base (Some one) (Some other) = Some (max one other)
 
 -- there is a note, of this history
 abbrev pub HasNoteOf : Book → ClerkView → Type 0

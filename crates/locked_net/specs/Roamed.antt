@@ -56,9 +56,10 @@ pub record IsBehind (clerks : List ClerkView) (front seen : ℕ) : Type 0 where
   pub own : seen ≡ front_of view.receipts
   pub fewer : front < seen
 
--- a clerk's note is as it was, or one of this history
-abbrev pub KeepsNote : Book → ClerkView → ClerkView → Type 0
-KeepsNote book old new = (new.note ≡ old.note) ⊎ HasNoteOf book new
+-- A clerk's note is as it was, or one of this history; its base is as it was.
+pub record KeepsNote (book : Book) (old new : ClerkView) : Type 0 where
+  pub note : (new.note ≡ old.note) ⊎ HasNoteOf book new
+  pub base : new.base ≡ old.base
 
 -- so is each of these
 abbrev pub AllKeepNotes : Book → List ClerkView → List ClerkView → Type 0

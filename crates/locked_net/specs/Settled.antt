@@ -1,19 +1,37 @@
--- When the receipts of some clerks account for a log, and why they do not.
+-- When the receipts of some clerks account for what is kept of a log, and why they do not.
 --
 -- Each clerk stands with its list of receipts. That a log and clerks are settled says two things of them together: each reply
 -- that a clerk was given is the log's reply to that event, at the number that the clerk was told; and nothing else is in
--- the log, since each of its entries was handed to one of these clerks, and to one alone.
-use Rattle.std.specs.Prelude.{◌≡◌, ◌≢◌, ℕ, ◌<◌, ◌≤◌, ◌⊎◌, List, Some, length, slice_get}
+-- the log, since each of its entries was handed to one of these clerks, and to one alone. Where a checkpoint dropped entries, their
+-- numbers alone are left to compare with; and the last of them is the greatest that a checkpoint answered one of these clerks.
+use Rattle.std.specs.Prelude.{◌≡◌, ◌≢◌, ℕ, ◌-◌, ◌<◌, ◌≤◌, ◌⊎◌, List, Option, None, Some, fold, length, slice_get}
 use Rattle.std.specs.List.{sum_by}
-use Rattle.rule_machine.specs.Run.{Entry}
+use Rattle.std.specs.Option.{option_map}
+use Rattle.rule_machine.specs.declared.base.Base.{Base}
+use Rattle.rule_machine.specs.Base.{dropped}
+use Rattle.step_log.specs.Kept.{Kept, last_number}
 use Rattle.step_log.specs.declared.receipt.Receipt.{Receipt}
 use Rattle.locked_net.specs.declared.settle_fault.SettleFault.{SettleFault}
-use Rattle.locked_net.specs.declared.settle_fault.SettleFault.TheVariants.{CountDiffers, Stranger, Memory}
-use Rattle.locked_net.specs.Receipts.{ClerkView, RiseAbove, IsEntry}
+use Rattle.locked_net.specs.declared.settle_fault.SettleFault.TheVariants.{CountDiffers, BaseDiffers, Stranger, Memory}
+use Rattle.locked_net.specs.Receipts.{ClerkView, RiseAbove, greater_base}
 
 -- how many receipts the clerks have together
 abbrev pub receipt_count : List ClerkView → ℕ
 receipt_count clerks = sum_by (λ clerk. length clerk.receipts) clerks
+
+-- the greatest number that a checkpoint answered one of the clerks; none where none has one
+abbrev pub greatest_base : List ClerkView → Option ℕ
+greatest_base clerks = fold (λ greatest clerk. greater_base greatest clerk.base) None clerks
+
+-- the number of the last entry that was dropped; none where there is no base
+abbrev pub base_number : Option Base → Option ℕ
+base_number base = option_map (λ b. b.number) base
+
+-- The receipt has a number of the log, counted from 1. Where its entry is kept, that is the same event with the same reply.
+pub record IsEntryAbove (kept : Kept) (receipt : Receipt) : Type 0 where
+  pub numbered : 0 < receipt.seq
+  pub within : receipt.seq ≤ last_number kept
+  pub same : dropped kept.base < receipt.seq → slice_get kept.entries (receipt.seq - dropped kept.base - 1) ≡ Some (receipt.event, receipt.reply)
 
 -- the clerk at place c of the list has, at place p of its own, this receipt; both places from 0
 pub record StandsAt (clerks : List ClerkView) (c p : ℕ) (receipt : Receipt) : Type 0 where
@@ -29,37 +47,42 @@ pub record Holds (clerks : List ClerkView) (c n : ℕ) : Type 0 where
   pub numbered : receipt.seq ≡ n
 
 -- The log and the clerks are settled:
--- * told: each receipt is the log's entry at its number;
+-- * told: each receipt is the log's entry at its number, or has the number of an entry that was dropped;
 -- * rise: the numbers rise within each clerk;
--- * count: there are exactly as many receipts as entries;
+-- * count: there are exactly as many receipts as entries, kept or dropped;
 -- * held: each entry was handed to a clerk, and
--- * once: to no other.
-pub record Settled (log : List Entry) (clerks : List ClerkView) : Type 0 where
-  pub told : (c p : ℕ) (clerk : ClerkView) (receipt : Receipt) → slice_get clerks c ≡ Some clerk → slice_get clerk.receipts p ≡ Some receipt → IsEntry log receipt
+-- * once: to no other;
+-- * based: the entries were dropped up to the greatest number that a checkpoint answered one of the clerks.
+pub record Settled (kept : Kept) (clerks : List ClerkView) : Type 0 where
+  pub told : (c p : ℕ) (clerk : ClerkView) (receipt : Receipt) → slice_get clerks c ≡ Some clerk → slice_get clerk.receipts p ≡ Some receipt → IsEntryAbove kept receipt
   pub rise : (c : ℕ) (clerk : ClerkView) → slice_get clerks c ≡ Some clerk → RiseAbove 0 clerk.receipts
-  pub count : receipt_count clerks ≡ length log
-  pub held : (n : ℕ) → 0 < n → n ≤ length log → (c : ℕ) × Holds clerks c n
+  pub count : receipt_count clerks ≡ last_number kept
+  pub held : (n : ℕ) → 0 < n → n ≤ last_number kept → (c : ℕ) × Holds clerks c n
   pub once : (n c d : ℕ) → Holds clerks c n → Holds clerks d n → c ≡ d
+  pub based : base_number kept.base ≡ greatest_base clerks
 
 -- place q of clerk d comes before place p of clerk c: a clerk's receipts come together, in the order of the clerks
 abbrev pub IsBefore : ℕ → ℕ → ℕ → ℕ → Type 0
 IsBefore d q c p = (d < c) ⊎ ((d ≡ c) × (q < p))
 
--- The receipt at place p of clerk c agrees: it is the log's entry at its number, and no receipt before it has that number.
-pub record Agrees (log : List Entry) (clerks : List ClerkView) (c p : ℕ) (receipt : Receipt) : Type 0 where
-  pub entry : IsEntry log receipt
+-- The receipt at place p of clerk c agrees: it is the log's entry at its number, where that is kept, and no receipt before it has that
+-- number.
+pub record Agrees (kept : Kept) (clerks : List ClerkView) (c p : ℕ) (receipt : Receipt) : Type 0 where
+  pub entry : IsEntryAbove kept receipt
   pub new : (d q : ℕ) (other : Receipt) → IsBefore d q c p → StandsAt clerks d q other → other.seq ≢ receipt.seq
 
 -- The receipt at place p of clerk c does not agree, and all before it do.
-pub record IsFirstStranger (log : List Entry) (clerks : List ClerkView) (c p : ℕ) : Type 0 where
+pub record IsFirstStranger (kept : Kept) (clerks : List ClerkView) (c p : ℕ) : Type 0 where
   pub receipt : Receipt
   pub stands : StandsAt clerks c p receipt
-  pub strange : Agrees log clerks c p receipt → ⊥
-  pub first : (d q : ℕ) (other : Receipt) → IsBefore d q c p → StandsAt clerks d q other → Agrees log clerks d q other
+  pub strange : Agrees kept clerks c p receipt → ⊥
+  pub first : (d q : ℕ) (other : Receipt) → IsBefore d q c p → StandsAt clerks d q other → Agrees kept clerks d q other
 
--- Why the log and the clerks were not settled: that the numbers of receipts and of entries differ comes before a stranger.
--- Want of memory says nothing of either.
-abbrev pub Unsettles : List Entry → List ClerkView → SettleFault → Type 0
-Unsettles log clerks CountDiffers = receipt_count clerks ≢ length log
-Unsettles log clerks (Stranger clerk place) = (receipt_count clerks ≡ length log) × IsFirstStranger log clerks clerk place
-Unsettles log clerks Memory = Unit {0}
+-- Why the log and the clerks were not settled: that the numbers of receipts and of entries differ comes before a base that differs, and
+-- that before a stranger. Want of memory says nothing of any.
+abbrev pub Unsettles : Kept → List ClerkView → SettleFault → Type 0
+Unsettles kept clerks CountDiffers = receipt_count clerks ≢ last_number kept
+Unsettles kept clerks BaseDiffers = (receipt_count clerks ≡ last_number kept) × (base_number kept.base ≢ greatest_base clerks)
+Unsettles kept clerks (Stranger clerk place) =
+    (receipt_count clerks ≡ last_number kept) × (base_number kept.base ≡ greatest_base clerks) × IsFirstStranger kept clerks clerk place
+Unsettles kept clerks Memory = Unit {0}

@@ -34,7 +34,8 @@ pub struct SeenPartner {
 }
 
 /// A reader of a network. It waits for nobody and takes no memory. Contracts see the entries that it saw last, which are its view,
-/// those that each later view has at least, and whose they are. A view is a beginning of the network's log, and grows.
+/// those that each later view has at least, and whose they are. A view is a beginning of the network's whole log, and grows. A
+/// checkpoint is not seen: the journal's entries are the part of that log above its base.
 #[derive(Drop)]
 pub struct BoardReader<R: Rules> {
     reader: Reader<Runs<R>>,

@@ -10,17 +10,22 @@ use std::marker::Model;
 use step_log::Receipt;
 
 mod calls;
+mod checkpoint;
 mod chosen;
 mod judged;
 mod locked;
 mod lone;
 
+pub(crate) use checkpoint::greater;
+
 /// A caller of a network, seen in contracts as its receipts, oldest first (one for each of its calls that was answered; their
-/// numbers rise strictly), and its note of what was published when it got the last.
+/// numbers rise strictly), its note of what was published when it got the last, and the greatest number that its `checkpoint`
+/// answered.
 #[derive(Drop)]
 pub struct Clerk {
     receipts: Vec<Receipt>,
     note: Option<Note>,
+    base: Option<u32>,
 }
 
 impl Model for Clerk {
@@ -32,9 +37,9 @@ impl Model for Clerk {
 
     ghost coded = { Prim.hlevel (codes, book_coded) };
 
-    ghost view = { λ c. record { receipts = c.receipts.items; note = c.note } };
+    ghost view = { λ c. record { receipts = c.receipts.items; note = c.note; base = c.base } };
 
-    ghost invariant = { λ c. IsClerk (record { receipts = c.receipts.items; note = c.note }) };
+    ghost invariant = { λ c. IsClerk (record { receipts = c.receipts.items; note = c.note; base = c.base }) };
 }
 
 impl Clerk {
@@ -45,6 +50,7 @@ impl Clerk {
         Clerk {
             receipts: Vec::new(alloc),
             note: None,
+            base: None,
         }
     }
 
@@ -56,6 +62,14 @@ impl Clerk {
             Some(receipt) => receipt.seq,
             None => 0,
         }
+    }
+
+    /// The greatest number that this clerk's `checkpoint` answered; `None` before the first. No other call changes it. It takes no
+    /// memory.
+    pub fn base(&self) -> Option<u32>
+        ensures { result ≡ self.now.base }
+    {
+        self.base
     }
 
     /// Its receipts, oldest first.

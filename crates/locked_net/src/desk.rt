@@ -1,17 +1,20 @@
 //! What lies behind a network's lock.
 
-ghost use Rattle.std.specs.Prelude.{◌≡◌, ◌+◌, ◌≤◌, ◌↔◌, length, min, None, IfOk, IfErr, OnOk, OnErr, IsErrOf, IsTrue};
+ghost use Rattle.std.specs.Prelude.{◌≡◌, ◌+◌, ◌≤◌, ◌↔◌, length, min, Some, IfOk, IfErr, OnOk, OnErr, IsErrOf, IsTrue};
 ghost use Rattle.graph_store.specs.Fault.{nodes_fault, Explains};
 ghost use Rattle.rule_machine.specs.declared.event.Event.TheVariants.{Step};
+ghost use Rattle.rule_machine.specs.Base.{base_of};
 ghost use Rattle.rule_engine.specs.Choosing.{verdicts_of};
 ghost use Rattle.step_log.specs.declared.fault.RecordFault.TheVariants.{LogFull};
-ghost use Rattle.step_log.specs.Held.{IsReady, log_of};
+ghost use Rattle.step_log.specs.Held.{IsReady, kept_of};
+ghost use Rattle.step_log.specs.Kept.{IsKept};
 ghost use Rattle.step_log.specs.Log.{IsLog, max_entries, recorded, receipt_of};
+ghost use Rattle.locked_net.specs.Above.{IsAbove, log_over};
 ghost use Rattle.locked_net.specs.Desks.{IsDesk};
 ghost use Rattle.locked_net.specs.Keys.{KeepsKey};
 
 use board::{Board, NoPlace, Note, Reader, Runs};
-use rule_engine::{Choice, Event, GraphFault, Net, Reply, Rules, Verdict};
+use rule_engine::{Choice, Event, GraphFault, Net, Reply, Rules, Verdict, Want};
 use std::alloc::{AllocError, Global};
 use std::marker::Model;
 use std::sync::Wait;
@@ -20,8 +23,8 @@ use step_log::{Journal, Prepared, Receipt, RecordFault};
 /// How many readers of a network there may be at once.
 const READERS: usize = 64;
 
-/// A journal and the board that publishes it: whatever is recorded is published. Contracts see the log, and the board's name. It
-/// can't be dropped: `close` ends it.
+/// A journal and the board that publishes it: whatever is recorded is published. Contracts see the whole log, with the entries that a
+/// checkpoint dropped, which is what is published; the journal's base; and the board's name. It can't be dropped: `close` ends it.
 pub(crate) struct Desk<R: Rules> {
     journal: Journal<R>,
     board: Board<Runs<R>>,
@@ -31,16 +34,17 @@ impl<R: Rules> Model for Desk<R> {
     ghost use Rattle.std.specs.Coded.{codes};
     ghost use Rattle.rule_machine.specs.State.{state_code};
     ghost use Rattle.logbook.specs.Pages.{book_coded};
-    ghost use Rattle.step_log.specs.Held.{log_of};
+    ghost use Rattle.step_log.specs.Held.{kept_of};
+    ghost use Rattle.locked_net.specs.Above.{log_over};
     ghost use Rattle.locked_net.specs.Desks.{DeskView, IsDesk};
 
     ghost Value = { DeskView };
 
     ghost coded = { Prim.hlevel (codes, state_code, book_coded) };
 
-    ghost view = { λ d. record { log = log_of d.journal; name = d.board.name } };
+    ghost view = { λ d. record { log = log_over (kept_of d.journal) d.board.list; base = d.journal.base; name = d.board.name } };
 
-    ghost invariant = { λ d. IsDesk d.journal.base (log_of d.journal) d.board };
+    ghost invariant = { λ d. IsDesk R.table (kept_of d.journal) d.board };
 }
 
 /// What came of an event: the receipt of its entry, the reply, and a note of what is published, with the entry at its end.
@@ -76,9 +80,10 @@ impl<R: Rules> Desk<R> {
         }
     }
 
-    /// How many entries there are.
+    /// How many entries there are, with those that were dropped.
     pub(crate) fn len(&self) -> u32
-        ensures { result ≡ length self.now.log.entries }
+        ensures count { result ≡ length self.now.log.entries }
+        ensures run { IsLog R.table self.now.log }
     {
         self.journal.len()
     }
@@ -139,6 +144,16 @@ impl<R: Rules> Desk<R> {
         Ok(finish(&mut self.journal, &mut self.board, rt, prepared)?)
     }
 
+    /// Makes the present state the base of the journal, which drops its entries. Answers how many entries there are, with those that
+    /// were dropped. What is published stays. At want of memory nothing has changed.
+    pub(crate) fn checkpoint(&mut self) -> Result<u32, Want>
+        ensures number { IfOk result (λ number. number ≡ length self.old.log.entries) }
+        ensures base { OnOk result (self.new ≡ record self.old { base = Some (base_of (length self.old.log.entries) (record { state = self.old.log.state; spent = self.old.log.spent })) }) }
+        ensures kept { OnErr result (self.new ≡ self.old) }
+    {
+        self.journal.checkpoint()
+    }
+
     /// A reader of what is published.
     pub(crate) fn reader(&mut self) -> Result<Reader<Runs<R>>, NoPlace>
         ensures kept { self.new ≡ self.old }
@@ -146,14 +161,13 @@ impl<R: Rules> Desk<R> {
         ensures seen { IfOk result (λ reader. (reader.list ≡ self.old.log.entries) × (reader.learnt ≡ self.old.log.entries)) }
         ensures run { IsLog R.table self.old.log }
     {
-        prove!(self.journal.len() <= step_log::MAX_ENTRIES);
         self.board.reader()
     }
 
     /// The journal; nothing is published any more.
     pub(crate) fn close<W: Wait>(self, rt: &W) -> Journal<R>
-        ensures log { log_of result ≡ self.log }
-        ensures undropped { result.base ≡ None }
+        ensures kept { IsKept R.table R.NODE_WEIGHT (kept_of result) }
+        ensures above { IsAbove R.table self.log (kept_of result) }
         ensures run { IsLog R.table self.log }
     {
         let Desk { journal, board } = self;
@@ -171,20 +185,19 @@ fn finish<R: Rules, W: Wait>(
     prepared: Prepared,
 ) -> Result<Recorded, AllocError>
     requires ready { IsReady R.table journal.old prepared }
-    requires desk { IsDesk journal.old.base (log_of journal.old) board.old }
-    ensures log { OnOk result (log_of journal.new ≡ recorded R.table (log_of journal.old) prepared.event) }
-    ensures desk { IsDesk journal.new.base (log_of journal.new) board.new }
-    ensures receipt { IfOk result (λ told. told.receipt ≡ prepared) }
+    requires desk { IsDesk R.table (kept_of journal.old) board.old }
+    ensures log { OnOk result (log_over (kept_of journal.new) board.new.list ≡ recorded R.table (log_over (kept_of journal.old) board.old.list) prepared.event) }
+    ensures base { journal.new.base ≡ journal.old.base }
+    ensures desk { IsDesk R.table (kept_of journal.new) board.new }
+    ensures receipt { IfOk result (λ told. told.receipt ≡ receipt_of R.table (log_over (kept_of journal.old) board.old.list) prepared.event) }
     ensures reply { IfOk result (λ told. told.reply ≡ prepared.reply) }
-    ensures note { IfOk result (λ told. (told.note.log ≡ journal.new.entries) × (told.note.book ≡ board.old.name.book)) }
+    ensures note { IfOk result (λ told. (told.note.log ≡ board.new.list) × (told.note.book ≡ board.old.name.book)) }
     ensures name { board.new.name ≡ board.old.name }
-    ensures kept { OnErr result (log_of journal.new ≡ log_of journal.old) }
+    ensures kept { OnErr result ((kept_of journal.new ≡ kept_of journal.old) × (board.new.list ≡ board.old.list)) }
 {
     let reply = prepared.receipt().reply.clone()?;
-    prove!(journal.len() < step_log::MAX_ENTRIES);
     board.post(prepared.entry())?;
     let receipt = journal.commit(prepared);
-    prove!(receipt.seq == journal.len());
     let note = board.publish(rt);
     Ok(Recorded {
         receipt,

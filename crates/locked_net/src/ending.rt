@@ -1,13 +1,13 @@
 //! How a locked network ends.
 
-ghost use Rattle.std.specs.Prelude.{◌≡◌, None, IfOk, IfErr, OnOk};
+ghost use Rattle.std.specs.Prelude.{◌≡◌, IfOk, IfErr, OnOk};
 ghost use Rattle.std.specs.List.{All};
-ghost use mathlib.Core.List.{IsPrefix};
 ghost use Rattle.board.specs.OneLog.{AreComparable};
-ghost use Rattle.step_log.specs.Held.{log_of};
-ghost use Rattle.step_log.specs.Log.{IsLog};
+ghost use Rattle.step_log.specs.Held.{kept_of};
+ghost use Rattle.step_log.specs.Kept.{IsKept};
+ghost use Rattle.locked_net.specs.Above.{IsPart, IsPartNoted};
 ghost use Rattle.locked_net.specs.Headline.{Headline};
-ghost use Rattle.locked_net.specs.Nets.{book_of, nodes_of, first_of, limit_of};
+ghost use Rattle.locked_net.specs.Nets.{book_of, nodes_of, first_of, limit_of, setting_of};
 ghost use Rattle.locked_net.specs.Receipts.{IsClerk, IsOfBook, noted};
 ghost use Rattle.locked_net.specs.Settled.{Settled, Unsettles};
 
@@ -20,38 +20,45 @@ use std::sync::Wait;
 use step_log::Journal;
 
 /// Takes the journal out of a network that nobody calls any more, and settles its clerks against it.
+///
+/// Where a checkpoint dropped entries, the journal's base has to be the greatest that a checkpoint answered one of these clerks: so
+/// nobody has made one who is not handed in. Receipts at or below the base are compared by their numbers alone, and each number up
+/// to the last has to be there once; those above it are compared with the entries. `CountDiffers` where there are not as many
+/// receipts as entries, kept or dropped, then `BaseDiffers`, then `Stranger`; `Memory` in place of any answer. The journal comes back
+/// with each fault.
 pub fn settle<R: Rules, W: Wait>(
     rt: &W,
     net: LockedNet<R>,
     clerks: Vec<Clerk>,
 ) -> Result<Journal<R>, Unsettled<R>>
-    ensures headline { IfOk result (λ journal. Headline R.table R.NODE_WEIGHT (log_of journal) clerks.items) }
-    ensures settled { IfOk result (λ journal. Settled journal.entries clerks.items) }
-    ensures run { IfOk result (λ journal. IsLog R.table (log_of journal)) }
-    ensures undropped { IfOk result (λ journal. journal.base ≡ None) }
+    ensures headline { IfOk result (λ journal. Headline R.table R.NODE_WEIGHT (kept_of journal) clerks.items) }
+    ensures settled { IfOk result (λ journal. Settled (kept_of journal) clerks.items) }
+    ensures run { IfOk result (λ journal. IsKept R.table R.NODE_WEIGHT (kept_of journal)) }
+    ensures whole { IfOk result (λ journal. IsPart (setting_of R.table net) (kept_of journal)) }
     ensures size { IfOk result (λ journal. (journal.state.network.size ≡ nodes_of net) × (journal.first ≡ first_of net) × (journal.limit ≡ limit_of net)) }
-    ensures fault { IfErr result (λ unsettled. Unsettles unsettled.journal.entries clerks.items unsettled.why) }
-    ensures back { IfErr result (λ unsettled. IsLog R.table (log_of unsettled.journal) × (unsettled.journal.base ≡ None) × (unsettled.journal.state.network.size ≡ nodes_of net) × (unsettled.journal.first ≡ first_of net) × (unsettled.journal.limit ≡ limit_of net)) }
+    ensures fault { IfErr result (λ unsettled. Unsettles (kept_of unsettled.journal) clerks.items unsettled.why) }
+    ensures back { IfErr result (λ unsettled. IsKept R.table R.NODE_WEIGHT (kept_of unsettled.journal) × IsPart (setting_of R.table net) (kept_of unsettled.journal) × (unsettled.journal.state.network.size ≡ nodes_of net) × (unsettled.journal.first ≡ first_of net) × (unsettled.journal.limit ≡ limit_of net)) }
 {
     let alloc = net.alloc();
     settle_journal(alloc, net.into_journal(rt), &clerks)
 }
 
-/// The same for clerks of which each has called this network, or nobody: what each one's note tells is then a beginning of the log.
+/// The same for clerks of which each has called this network, or nobody: what each one's note tells is then a beginning of the whole
+/// log, of which the journal keeps the part above its base.
 pub fn settle_own<R: Rules, W: Wait>(
     rt: &W,
     net: LockedNet<R>,
     clerks: Vec<Clerk>,
 ) -> Result<Journal<R>, Unsettled<R>>
     requires { All (IsOfBook (book_of net)) clerks.items }
-    ensures headline { IfOk result (λ journal. Headline R.table R.NODE_WEIGHT (log_of journal) clerks.items) }
-    ensures settled { IfOk result (λ journal. Settled journal.entries clerks.items) }
-    ensures noted { IfOk result (λ journal. All (λ clerk. IsPrefix (noted clerk.note) journal.entries) clerks.items) }
-    ensures run { IfOk result (λ journal. IsLog R.table (log_of journal)) }
-    ensures undropped { IfOk result (λ journal. journal.base ≡ None) }
+    ensures headline { IfOk result (λ journal. Headline R.table R.NODE_WEIGHT (kept_of journal) clerks.items) }
+    ensures settled { IfOk result (λ journal. Settled (kept_of journal) clerks.items) }
+    ensures noted { IfOk result (λ journal. IsPartNoted (setting_of R.table net) (kept_of journal) clerks.items) }
+    ensures run { IfOk result (λ journal. IsKept R.table R.NODE_WEIGHT (kept_of journal)) }
+    ensures whole { IfOk result (λ journal. IsPart (setting_of R.table net) (kept_of journal)) }
     ensures size { IfOk result (λ journal. (journal.state.network.size ≡ nodes_of net) × (journal.first ≡ first_of net) × (journal.limit ≡ limit_of net)) }
-    ensures fault { IfErr result (λ unsettled. Unsettles unsettled.journal.entries clerks.items unsettled.why) }
-    ensures back { IfErr result (λ unsettled. IsLog R.table (log_of unsettled.journal) × (unsettled.journal.base ≡ None) × (unsettled.journal.state.network.size ≡ nodes_of net) × (unsettled.journal.first ≡ first_of net) × (unsettled.journal.limit ≡ limit_of net)) }
+    ensures fault { IfErr result (λ unsettled. Unsettles (kept_of unsettled.journal) clerks.items unsettled.why) }
+    ensures back { IfErr result (λ unsettled. IsKept R.table R.NODE_WEIGHT (kept_of unsettled.journal) × IsPart (setting_of R.table net) (kept_of unsettled.journal) × (unsettled.journal.state.network.size ≡ nodes_of net) × (unsettled.journal.first ≡ first_of net) × (unsettled.journal.limit ≡ limit_of net)) }
 {
     let alloc = net.alloc();
     let desk = net.into_desk(rt);
@@ -88,11 +95,10 @@ fn settle_journal<R: Rules>(
     journal: Journal<R>,
     clerks: &[Clerk],
 ) -> Result<Journal<R>, Unsettled<R>>
-    requires run { IsLog R.table (log_of journal) }
-    requires undropped { journal.base ≡ None }
+    requires run { IsKept R.table R.NODE_WEIGHT (kept_of journal) }
     ensures same { IfOk result (λ settled. settled ≡ journal) }
-    ensures headline { OnOk result (Headline R.table R.NODE_WEIGHT (log_of journal) clerks.now) }
-    ensures fault { IfErr result (λ unsettled. Unsettles journal.entries clerks.now unsettled.why) }
+    ensures headline { OnOk result (Headline R.table R.NODE_WEIGHT (kept_of journal) clerks.now) }
+    ensures fault { IfErr result (λ unsettled. Unsettles (kept_of journal) clerks.now unsettled.why) }
     ensures back { IfErr result (λ unsettled. unsettled.journal ≡ journal) }
 {
     match settled_with(alloc, &journal, clerks) {

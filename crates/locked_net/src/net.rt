@@ -1,7 +1,7 @@
 //! A network that many callers share.
 
 ghost use Rattle.std.specs.Prelude.{◌≡◌, ◌≤◌, min, IfOk, IfErr, OnOk};
-ghost use Rattle.step_log.specs.Log.{IsLog, max_entries};
+ghost use Rattle.step_log.specs.Log.{max_entries};
 ghost use Rattle.graph_store.specs.Fault.{nodes_fault, Explains};
 
 use crate::desk::Desk;
@@ -16,7 +16,8 @@ use step_log::{Journal, MAX_ENTRIES};
 
 /// A network under the rules `R` with its log, behind one lock, for callers in any threads, and with a published
 /// copy of its pointers, and of who is present, for readers that wait for nobody: whoever has the lock has the journal and the board, so whenever the lock
-/// is free the log is a run of the rule machine, and just this log is published. It can't be dropped: `into_journal` ends it.
+/// is free the log is a run of the rule machine, and just this log is published, also where a checkpoint dropped entries of the
+/// journal: published copies do not see a checkpoint. It can't be dropped: `into_journal` ends it.
 pub struct LockedNet<R: Rules> {
     alloc: Global,
     lock: KeyedLock<Desk<R>, NetKey, OfKey>,
@@ -25,10 +26,12 @@ pub struct LockedNet<R: Rules> {
 impl<R: Rules> LockedNet<R> {
     ghost use Rattle.keyed_lock.specs.Locks.{IsHoldOf};
     ghost use Rattle.locked_net.specs.Keys.{IsOfKey};
-    ghost use Rattle.locked_net.specs.Nets.{net_key_of, nodes_of, first_of, limit_of, name_of, HasSeenLog};
+    ghost use Rattle.locked_net.specs.Above.{IsPart};
+    ghost use Rattle.locked_net.specs.Nets.{net_key_of, nodes_of, first_of, limit_of, name_of, setting_of, HasSeenLog};
     ghost use Rattle.locked_net.specs.Receipts.{fresh};
     ghost use Rattle.locked_net.specs.declared.read_fault.ReaderFault.TheVariants.{NoPlace};
-    ghost use Rattle.step_log.specs.Held.{log_of};
+    ghost use Rattle.step_log.specs.Held.{kept_of};
+    ghost use Rattle.step_log.specs.Kept.{IsKept};
 
     /// A new network of the nodes 1 to `nodes`, whose log may hold 16,777,216 entries. `TooManyNodes` above 65,535 nodes,
     /// and `Memory` if memory runs out.
@@ -133,11 +136,12 @@ impl<R: Rules> LockedNet<R> {
         self.lock.give(hold, desk);
     }
 
-    /// The journal of a network that no thread shares any more: a run of the rule machine. It would wait for a call that is
-    /// still under the lock, which a network that is owned never has.
+    /// The journal of a network that no thread shares any more: a run of the rule machine. Where a checkpoint dropped entries, what it
+    /// keeps is the part above its base of a whole log, which was published, and its base tells where the entries below lead. It
+    /// would wait for a call that is still under the lock, which a network that is owned never has.
     pub fn into_journal<W: Wait>(self, rt: &W) -> Journal<R>
-        ensures run { IsLog R.table (log_of result) }
-        ensures undropped { result.base ≡ None }
+        ensures run { IsKept R.table R.NODE_WEIGHT (kept_of result) }
+        ensures whole { IsPart (setting_of R.table self) (kept_of result) }
         ensures nodes { result.state.network.size ≡ nodes_of self }
         ensures first { result.first ≡ first_of self }
         ensures limit { result.limit ≡ limit_of self }

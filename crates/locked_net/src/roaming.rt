@@ -22,8 +22,9 @@ pub const MAX_WORKERS: usize = 64;
 /// least target. Where none is enabled, nothing is recorded, and nothing asked of the log or of memory.
 ///
 /// A worker that meets a fault ends there, and the others go on; the answer is the first fault by the clerks' order. What was
-/// recorded before stays, with its receipts, and each clerk's note is as it was or one of this network's. `ZeroWorkers` where
-/// there is no clerk; in a turn `Behind` where the log holds fewer entries than the clerk has seen, then `LogFull`, then `Memory`.
+/// recorded before stays, with its receipts; each clerk's note is as it was or one of this network's, and its base is as it was.
+/// `ZeroWorkers` where there is no clerk; in a turn `Behind` where the log holds fewer entries than the clerk has seen, then
+/// `LogFull`, then `Memory`.
 /// Where no thread can be had, clerks roam one after another: so `Thread` never comes, and a gate that holds one worker until
 /// another has come holds it for ever then.
 ///

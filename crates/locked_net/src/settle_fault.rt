@@ -6,11 +6,14 @@ use thiserror::Error;
 /// Why clerks were not settled against a journal.
 #[derive(Clone, Copy, Debug, PartialEq, Eq, Error)]
 pub enum SettleFault {
-    /// The clerks' receipts are not as many as the log's entries.
+    /// The clerks' receipts are not as many as the log's entries, with those that were dropped.
     #[error("count-differs")]
     CountDiffers,
+    /// The journal's base is not the greatest that a checkpoint answered one of the clerks.
+    #[error("base-differs")]
+    BaseDiffers,
     /// The first receipt, in the order of the clerks and then of each clerk's receipts, that is not the log's entry at its
-    /// number, or whose number a receipt before it has.
+    /// number, or whose number a receipt before it has. At or below the journal's base it is the number alone that is compared.
     #[error("stranger")]
     Stranger {
         /// The place of its clerk, from 0.

@@ -1,33 +1,36 @@
 //! Whether clerks account for a log.
 
-ghost use Rattle.std.specs.Prelude.{◌≡◌, ◌↔◌, ◌+◌, ◌^◌, ◌<◌, ◌≤◌, ◌⊎◌, length, None, IsTrue, IfErr, OnOk, MatchOption};
+ghost use Rattle.std.specs.Prelude.{◌≡◌, ◌↔◌, ◌+◌, ◌^◌, ◌<◌, ◌≤◌, ◌⊎◌, length, IsTrue, IfErr, OnOk, MatchOption};
 ghost use Rattle.locked_net.specs.declared.settle_fault.SettleFault.TheVariants.{Stranger, Memory};
-ghost use Rattle.locked_net.specs.Receipts.{IsEntry};
-ghost use Rattle.locked_net.specs.Settled.{receipt_count, Settled, IsFirstStranger, Unsettles};
+ghost use Rattle.step_log.specs.Held.{kept_of};
+ghost use Rattle.locked_net.specs.Settled.{receipt_count, greatest_base, base_number, IsEntryAbove, Settled, IsFirstStranger, Unsettles};
 ghost use Rattle.locked_net.specs.Marks.{IsMarked};
 
+use crate::clerk::greater;
 use crate::{Clerk, SettleFault};
 use log_entry::{same_event, same_reply};
 use rule_engine::Rules;
 use std::alloc::Global;
-use step_log::{Journal, Receipt};
+use step_log::{Journal, NoEntry, Receipt};
 
 /// Whether the clerks account for the journal's log: each receipt is the log's entry at its number, and each entry belongs to
-/// one clerk. `CountDiffers` where there are not as many receipts as entries; else `Stranger`, the first receipt that does not
-/// agree; `Memory` in place of any answer. It takes a byte for each entry, and costs a look at each of them, each clerk and
-/// each receipt.
+/// one clerk. `CountDiffers` where there are not as many receipts as entries, kept or dropped; else `BaseDiffers` where the journal's
+/// base is not the greatest of the clerks'; else `Stranger`, the first receipt that does not agree; `Memory` in place of any answer. It
+/// takes a byte for each entry, and costs a look at each of them, each clerk and each receipt.
 pub(crate) fn settled_with<R: Rules>(
     alloc: Global,
     journal: &Journal<R>,
     clerks: &[Clerk],
 ) -> Result<(), SettleFault>
-    requires undropped { journal.now.base ≡ None }
-    ensures settled { OnOk result (Settled journal.now.entries clerks.now) }
-    ensures fault { IfErr result (λ why. Unsettles journal.now.entries clerks.now why) }
+    ensures settled { OnOk result (Settled (kept_of journal.now) clerks.now) }
+    ensures fault { IfErr result (λ why. Unsettles (kept_of journal.now) clerks.now why) }
 {
     let len = journal.len() as usize;
     if !has_count(clerks, len) {
         return Err(SettleFault::CountDiffers);
+    }
+    if last_base(journal) != greatest(clerks) {
+        return Err(SettleFault::BaseDiffers);
     }
     let mut marks = vec![in alloc; false; len]?;
     let taken = marks.as_mut_slice();
@@ -68,6 +71,24 @@ fn has_count(clerks: &[Clerk], count: usize) -> bool
     left == 0
 }
 
+/// The number of the last entry that was dropped.
+fn last_base<R: Rules>(journal: &Journal<R>) -> Option<u32>
+    ensures { result ≡ base_number journal.now.base }
+{
+    journal.base()
+}
+
+/// The greatest number that a checkpoint answered one of the clerks.
+fn greatest(clerks: &[Clerk]) -> Option<u32>
+    ensures { result ≡ greatest_base clerks.now }
+{
+    let mut found = None;
+    for clerk in clerks {
+        found = greater(found, clerk.base());
+    }
+    found
+}
+
 /// The place of a clerk's first receipt that does not agree, where all those of the clerks before it do and have their marks.
 /// Marks this clerk's.
 fn first_stranger<R: Rules>(
@@ -76,12 +97,11 @@ fn first_stranger<R: Rules>(
     clerk: usize,
     taken: &mut [bool],
 ) -> Option<usize>
-    requires undropped { journal.now.base ≡ None }
     requires inside { clerk < length clerks.now }
-    requires marked { IsMarked journal.now.entries clerks.now clerk 0 taken.old }
+    requires marked { IsMarked (kept_of journal.now) clerks.now clerk 0 taken.old }
     ensures { MatchOption result
-        (IsMarked journal.now.entries clerks.now (clerk + 1) 0 taken.new)
-        (λ place. IsFirstStranger journal.now.entries clerks.now clerk place) }
+        (IsMarked (kept_of journal.now) clerks.now (clerk + 1) 0 taken.new)
+        (λ place. IsFirstStranger (kept_of journal.now) clerks.now clerk place) }
 {
     for (place, receipt) in clerks[clerk].receipts().iter().enumerate() {
         if !is_entry(journal, receipt) {
@@ -96,15 +116,15 @@ fn first_stranger<R: Rules>(
     None
 }
 
-/// Whether a receipt is the log's entry at its number.
+/// Whether a receipt is the log's entry at its number, or has the number of an entry that was dropped.
 fn is_entry<R: Rules>(journal: &Journal<R>, receipt: &Receipt) -> bool
-    requires undropped { journal.now.base ≡ None }
-    ensures { IsTrue result ↔ IsEntry journal.now.entries receipt.now }
+    ensures { IsTrue result ↔ IsEntryAbove (kept_of journal.now) receipt.now }
 {
     match journal.entry(receipt.seq) {
         Ok(entry) => {
             same_event(entry.event(), &receipt.event) && same_reply(entry.reply(), &receipt.reply)
         }
-        Err(_) => false,
+        Err(NoEntry::Forgotten) => true,
+        Err(NoEntry::Beyond) => false,
     }
 }

@@ -12,7 +12,6 @@ use crate::CallFault;
 use crate::desk::{Desk, Recorded};
 use board::Note;
 use rule_engine::{Event, Reply, Rules};
-use rule_machine::MAX_NAME;
 use std::sync::Wait;
 use step_log::Receipt;
 
@@ -28,6 +27,7 @@ impl Clerk {
         ensures receipt { OnOk result (self.new.receipts ≡ self.old.receipts ++ receipt_of R.table desk.old.log event ∷ []) }
         ensures reply { IfOk result (λ reply. reply ≡ (receipt_of R.table desk.old.log event).reply) }
         ensures note { OnOk result (HasNoteOf desk.old.name.book self.new) }
+        ensures base { self.new.base ≡ self.old.base }
         ensures run { IsLog R.table desk.old.log }
         ensures key { KeepsKey desk.old desk.new }
         ensures seen { OnOk result (call_fault (front_of self.old.receipts) desk.old.log ≡ None) }
@@ -50,6 +50,7 @@ impl Clerk {
         ensures receipt { OnOk result (self.new.receipts ≡ self.old.receipts ++ receipt_of R.table desk.old.log event ∷ []) }
         ensures reply { IfOk result (λ reply. reply ≡ (receipt_of R.table desk.old.log event).reply) }
         ensures note { OnOk result (HasNoteOf desk.old.name.book self.new) }
+        ensures base { self.new.base ≡ self.old.base }
         ensures tells { OnOk result (noted self.new.note ≡ desk.new.log.entries) }
         ensures key { KeepsKey desk.old desk.new }
         ensures fault { IfErr result (λ fault. fault ≡ Memory) }
@@ -67,7 +68,6 @@ pub(super) fn admit<R: Rules>(desk: &Desk<R>, seen: u32) -> Result<(), CallFault
     ensures ok { OnOk result (call_fault seen desk.now.log ≡ None) }
     ensures fault { IfErr result (λ fault. call_fault seen desk.now.log ≡ Some fault) }
 {
-    prove!(desk.net().store().nodes() <= MAX_NAME);
     let front = desk.len();
     if front < seen {
         return Err(CallFault::Behind { front, seen });

@@ -34,6 +34,7 @@ impl Clerk {
         ensures chosen { IfOk result (ChoosesOn R.table desk.old.log (ChoosesStep R.table (λ names choice. D.chooses names R.table.central daemon.old choice daemon.new)) self.old.receipts self.new.receipts) }
         ensures run { IsLog R.table desk.old.log }
         ensures note { IfOk result (λ told. IfSome told (λ _. HasNoteOf desk.old.name.book self.new)) }
+        ensures base { self.new.base ≡ self.old.base }
         ensures tells { IfOk result (λ told. IfSome told (λ _. noted self.new.note ≡ desk.new.log.entries)) }
         ensures key { KeepsKey desk.old desk.new }
         ensures seen { OnOk result (call_fault (front_of self.old.receipts) desk.old.log ≡ None) }
@@ -62,6 +63,7 @@ impl Clerk {
         ensures run { IsLog R.table desk.old.log }
         ensures none { IfOk result (λ told. IsNone told ↔ (node_count desk.old.log.state.network ≡ 0)) }
         ensures note { IfOk result (λ told. IfSome told (λ _. HasNoteOf desk.old.name.book self.new)) }
+        ensures base { self.new.base ≡ self.old.base }
         ensures tells { IfOk result (λ told. IfSome told (λ _. noted self.new.note ≡ desk.new.log.entries)) }
         ensures key { KeepsKey desk.old desk.new }
         ensures seen { OnOk result (call_fault (front_of self.old.receipts) desk.old.log ≡ None) }

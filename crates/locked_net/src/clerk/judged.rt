@@ -35,6 +35,7 @@ impl Clerk {
         ensures receipt { OnOk result (self.new.receipts ≡ self.old.receipts ++ receipt_of R.table desk.old.log (Step choice) ∷ []) }
         ensures reply { IfOk result (λ reply. reply ≡ (receipt_of R.table desk.old.log (Step choice)).reply) }
         ensures note { OnOk result (HasNoteOf desk.old.name.book self.new) }
+        ensures base { self.new.base ≡ self.old.base }
         ensures run { IsLog R.table desk.old.log }
         ensures key { KeepsKey desk.old desk.new }
         ensures seen { OnOk result (call_fault (front_of self.old.receipts) desk.old.log ≡ None) }
@@ -61,6 +62,7 @@ impl Clerk {
         ensures receipt { OnOk result (self.new.receipts ≡ self.old.receipts ++ receipt_of R.table desk.old.log (Step choice) ∷ []) }
         ensures reply { IfOk result (λ reply. reply ≡ (receipt_of R.table desk.old.log (Step choice)).reply) }
         ensures note { OnOk result (HasNoteOf desk.old.name.book self.new) }
+        ensures base { self.new.base ≡ self.old.base }
         ensures key { KeepsKey desk.old desk.new }
         ensures fault { IfErr result (λ fault. fault ≡ Memory) }
         ensures kept { OnErr result ((self.new ≡ self.old) × (desk.new ≡ desk.old)) }

@@ -35,6 +35,7 @@ impl Clerk {
     ) -> Result<Reply, CallFault>
         ensures receipt { IfOk result (λ reply. Keeps self.old.receipts self.new.receipts event reply) }
         ensures note { OnOk result (HasNoteOf (book_of net.now) self.new) }
+        ensures base { self.new.base ≡ self.old.base }
         ensures fault { IfErr result (λ fault. MayAnswer (front_of self.old.receipts) fault) }
         ensures refused { IfErr result (Refuses (setting_of R.table net.now) (front_of self.old.receipts)) }
         ensures kept { OnErr result (self.new ≡ self.old) }
@@ -60,6 +61,7 @@ impl Clerk {
     ) -> Result<Reply, StepFault>
         ensures receipt { IfOk result (λ reply. Keeps self.old.receipts self.new.receipts (Step choice) reply) }
         ensures note { OnOk result (HasNoteOf (book_of net.now) self.new) }
+        ensures base { self.new.base ≡ self.old.base }
         ensures some { OnOk result (0 < workers) }
         ensures fault { IfErr result (λ fault. MayAnswerStep (front_of self.old.receipts) workers fault) }
         ensures refused { IfErr result (RefusesStep (setting_of R.table net.now) (front_of self.old.receipts) workers) }
@@ -84,6 +86,7 @@ impl Clerk {
         daemon: &mut D,
     ) -> Result<Option<Reply>, CallFault>
         ensures note { IfOk result (λ told. IfSome told (λ _. HasNoteOf (book_of net.now) self.new)) }
+        ensures base { self.new.base ≡ self.old.base }
         ensures step { IfOk result (λ told. MatchOption told (self.new ≡ self.old) (KeepsStep R.table.central self.old.receipts self.new.receipts)) }
         ensures chosen { IfOk result (TakesChoice (setting_of R.table net.now) (ChoosesStep R.table (λ names choice. D.chooses names R.table.central daemon.old choice daemon.new)) self.old.receipts self.new.receipts self.new.note) }
         ensures fault { IfErr result (λ fault. MayAnswer (front_of self.old.receipts) fault) }
@@ -107,6 +110,7 @@ impl Clerk {
     ) -> Result<Option<Reply>, CallFault>
         ensures none { IfOk result (λ told. TakesChoice (setting_of R.table net.now) (λ s _. IsNone told ↔ (node_count s.network ≡ 0)) self.old.receipts self.new.receipts self.new.note told) }
         ensures note { IfOk result (λ told. IfSome told (λ _. HasNoteOf (book_of net.now) self.new)) }
+        ensures base { self.new.base ≡ self.old.base }
         ensures register { IfOk result (λ told. MatchOption told (self.new ≡ self.old) (KeepsFault self.old.receipts self.new.receipts)) }
         ensures drawn { IfOk result (TakesChoice (setting_of R.table net.now) (λ s event. (event, G.stream injector.new) ≡ drawn s.network R.table.flags (G.stream injector.old)) self.old.receipts self.new.receipts self.new.note) }
         ensures fault { IfErr result (λ fault. MayAnswer (front_of self.old.receipts) fault) }

@@ -51,6 +51,7 @@ impl Clerk {
         ensures log { OnOk result (desk.new.log ≡ recorded R.table desk.old.log (lone_step node)) }
         ensures receipt { OnOk result (self.new.receipts ≡ self.old.receipts ++ receipt_of R.table desk.old.log (lone_step node) ∷ []) }
         ensures note { OnOk result (HasNoteOf desk.old.name.book self.new) }
+        ensures base { self.new.base ≡ self.old.base }
         ensures key { KeepsKey desk.old desk.new }
         ensures seen { OnOk result (call_fault (front_of self.old.receipts) desk.old.log ≡ None) }
         ensures fault { IfErr result (λ fault. Explains (call_fault (front_of self.old.receipts) desk.old.log) fault) }

@@ -1,19 +1,32 @@
-use Rattle.std.proofs.Common.{rules, ◌≡◌, ap, ◌∙◌}
-use Rattle.step_log.specs.Held.{kept_of, log_of}
-use Rattle.step_log.specs.Kept.{Kept, log_in}
-use Rattle.step_log.specs.Log.{Log}
-use Rattle.step_log.specs.Wholes.{whole_receipt}
-use Rattle.locked_net.proofs.Publishing.{is_run_posted}
+use Rattle.std.proofs.Common.{◌≡◌, ◌++◌, [], ap, ◌∙◌}
+use Rattle.rule_machine.specs.Run.{Entry}
+use Rattle.machine_laws.specs.LeastMoves.{IsTable}
+use Rattle.board.specs.Views.{Standing}
+use Rattle.step_log.specs.declared.receipt.Receipt.{Receipt}
+use Rattle.step_log.specs.Held.{kept_of}
+use Rattle.step_log.specs.Kept.{Kept, next_entry}
+use Rattle.locked_net.proofs.Publishing.{is_run_posted, desk_after}
 use Rattle.locked_net.proofs.desk.finish.Goals as goal
 
 pub publish-note-requires : goal.publish-note-requires
 publish-note-requires g c =
-    let log : Log = log_of c.args.journal.now in
-    let after : Log = log_of c.commit-receipt.new.self in
-    let size : after.state.network.size ≡ log.state.network.size = search rules in
+    let laws = g.met.R.Rules in
     let t = g.R.Rules.table in
-    let undropped = c.requires.desk.undropped in
-    let next = c.requires.ready.next ∙ whole_receipt t (kept_of c.args.journal.now) c.args.prepared.event undropped in
-    let told = ap log_in c.commit-receipt.ensures.log in
-    let run = c.len-2.ensures.log (ap (λ (k : Kept). k.base) c.commit-receipt.ensures.log ∙ undropped) in
-    is_run_posted t c.args.journal.now.base log after c.args.prepared c.entry.result.now c.args.board.now c.post.new.self c.requires.desk next c.entry.ensures c.in_ok-post.ensures.posted told size run
+    let table : IsTable t = record { allowed_is_neighbour = laws.allowed_is_neighbour; allowed_takes_target = laws.allowed_takes_target; has_target = laws.has_target } in
+    let kept : Kept = kept_of c.args.journal.now in
+    let event = c.args.prepared.event in
+    let ready = c.requires.ready in
+    let next : c.entry.result.now ≡ next_entry t kept event = c.entry.ensures ∙ ap (λ (r : Receipt). (event, r.reply)) ready.next in
+    is_run_posted t table kept c.args.board.now c.post.new.self event c.entry.result.now c.requires.desk ready.below next c.in_ok-post.ensures.posted
+
+pub returns-clause-desk : goal.returns-clause-desk
+returns-clause-desk g c =
+    let laws = g.met.R.Rules in
+    let t = g.R.Rules.table in
+    let table : IsTable t = record { allowed_is_neighbour = laws.allowed_is_neighbour; allowed_takes_target = laws.allowed_takes_target; has_target = laws.has_target } in
+    let kept : Kept = kept_of c.args.journal.now in
+    let event = c.args.prepared.event in
+    let ready = c.requires.ready in
+    let next : c.entry.result.now ≡ next_entry t kept event = c.entry.ensures ∙ ap (λ (r : Receipt). (event, r.reply)) ready.next in
+    let shown = c.publish-note.ensures.published ∙ ap (λ (b : Standing). record b { list = b.list ++ b.posted; posted = [] }) c.in_ok-post.ensures.posted in
+    desk_after t table kept (kept_of c.commit-receipt.new.self) c.args.board.now c.publish-note.new.self event c.entry.result.now c.requires.desk ready.below next c.commit-receipt.ensures.log shown

@@ -1,8 +1,6 @@
 use Rattle.machine_laws.specs.LeastMoves.{IsTable}
 use Rattle.charge_laws.specs.Charged.{IsCharged}
-use Rattle.step_log.specs.Held.{log_of}
-use Rattle.step_log.specs.Kept.{whole}
-use Rattle.step_log.specs.Wholes.{log_is_kept}
+use Rattle.step_log.specs.Held.{kept_of}
 use Rattle.step_log.proofs.Upheld.{upheld}
 use Rattle.locked_net.proofs.ending.settle_journal.Goals as goal
 
@@ -13,6 +11,5 @@ returns-in-Ok-clause-headline g c =
     let weight = g.R.Rules.NODE_WEIGHT in
     let table : IsTable t = record { allowed_is_neighbour = laws.allowed_is_neighbour; allowed_takes_target = laws.allowed_takes_target; has_target = laws.has_target } in
     let charged : IsCharged t weight = record { falls = laws.charge_falls; bounded = laws.charge_is_bounded; zero_is_stable = laws.no_charge_is_stable } in
-    let log = log_of c.args.journal in
-    let kept = upheld t weight table charged laws.quiet_is_stable laws.stable_is_quiet (whole log) (log_is_kept t weight log c.requires.run) in
+    let kept = upheld t weight table charged laws.quiet_is_stable laws.stable_is_quiet (kept_of c.args.journal) c.requires.run in
     record { upheld = kept; told = c.in-Ok.ensures.settled }

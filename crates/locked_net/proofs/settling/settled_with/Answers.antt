@@ -1,19 +1,21 @@
-use Rattle.std.proofs.Common.{◌≡◌, length, refl, subst, ◌∙◌, arith}
+use Rattle.std.proofs.Common.{rules, ◌≡◌, length, refl, subst, ◌∙◌, arith}
 use Rattle.step_log.specs.Held.{kept_of}
-use Rattle.step_log.specs.Wholes.{whole_count}
-use Rattle.locked_net.specs.Settled.{receipt_count}
+use Rattle.step_log.specs.Kept.{last_number}
+use Rattle.locked_net.specs.Settled.{receipt_count, greatest_base, base_number}
 use Rattle.locked_net.specs.Marks.{IsMarked}
 use Rattle.locked_net.proofs.Marking.{settles, place_within}
 use Rattle.locked_net.proofs.settling.settled_with.Goals as goal
 
 pub stranger-requires : goal.stranger-requires
 stranger-requires g c =
-    let within = place_within c.args.journal.now.entries c.args.clerks.now c.loop-clerk.clerk c.in-Some.place c.in-Some.ensures in
+    let within = place_within (kept_of c.args.journal.now) c.args.clerks.now c.loop-clerk.clerk c.in-Some.place c.in-Some.ensures in
     omega (arith, within, c.if-not-has_count.ensures.0 refl, c.len-len.type_inv)
 
 pub returns-clause-settled : goal.returns-clause-settled
 returns-clause-settled g c =
+    let kept = kept_of c.args.journal.now in
     let all : c.loop-clerk.clerk ≡ length c.args.clerks.now = omega (arith, c.loop-clerk-test.false, c.loop-clerk.auto.clerk-end) in
-    let counted : receipt_count c.args.clerks.now ≡ length c.args.journal.now.entries = c.if-not-has_count.ensures.0 refl ∙ c.len-len.ensures.number ∙ whole_count (kept_of c.args.journal.now) c.requires.undropped in
-    settles c.args.journal.now.entries c.args.clerks.now c.loop-clerk.taken counted
-    (subst (λ k. IsMarked c.args.journal.now.entries c.args.clerks.now k 0 c.loop-clerk.taken) all c.loop-clerk.invariant)
+    let counted : receipt_count c.args.clerks.now ≡ last_number kept = c.if-not-has_count.ensures.0 refl ∙ c.len-len.ensures.number in
+    let based : base_number kept.base ≡ greatest_base c.args.clerks.now = search rules in
+    settles kept c.args.clerks.now c.loop-clerk.taken counted based
+    (subst (λ k. IsMarked kept c.args.clerks.now k 0 c.loop-clerk.taken) all c.loop-clerk.invariant)

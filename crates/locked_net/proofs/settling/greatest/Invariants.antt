@@ -1,0 +1,6 @@
+use Rattle.std.proofs.Common.{◌≡◌, take}
+use Rattle.locked_net.specs.Settled.{greatest_base}
+use Rattle.locked_net.proofs.settling.greatest.Given as goal
+
+abbrev pub invariant-loop-clerk : goal.invariant-loop-clerk
+invariant-loop-clerk l = l.found ≡ greatest_base (take l.clerk-index l.clerks)

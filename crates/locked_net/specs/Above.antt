@@ -1,0 +1,44 @@
+-- A whole log, with each entry from the opening state on, and what a journal keeps of it: the part above its base.
+use Rattle.std.specs.Prelude.{◌≡◌, ◌++◌, List, Option, None, Some, length}
+use Rattle.std.specs.List.{All}
+use mathlib.Core.List.{IsPrefix}
+use Rattle.rule_machine.specs.declared.base.Base.{Base}
+use Rattle.rule_machine.specs.RuleTable.{RuleTable}
+use Rattle.rule_machine.specs.Run.{Entry, Moment, Run, beginning_with}
+use Rattle.rule_machine.specs.Base.{base_of, dropped}
+use Rattle.step_log.specs.Log.{Log}
+use Rattle.step_log.specs.Kept.{Kept}
+use Rattle.locked_net.specs.Receipts.{ClerkView, noted}
+use Rattle.locked_net.specs.Settings.{Setting, IsLogIn}
+
+-- the base, if there is one, tells the moment to which these entries lead
+abbrev pub TellsEnd : RuleTable → Moment → List Entry → Option Base → Type 0
+TellsEnd t start entries None = Unit {0}
+TellsEnd t start entries (Some base) = (m : Moment) × Run t start entries m × (base ≡ base_of (length entries) m)
+
+-- The entries of the log that are kept are those above the base, which tells where those below lead. All else is the log's.
+pub record IsAbove (t : RuleTable) (log : Log) (kept : Kept) : Type 0 where
+  pub below : List Entry
+  pub splits : log.entries ≡ below ++ kept.entries
+  pub count : length below ≡ dropped kept.base
+  pub tells : TellsEnd t (beginning_with log.state.network.size log.first) below kept.base
+  pub state : kept.state ≡ log.state
+  pub spent : kept.spent ≡ log.spent
+  pub limit : kept.limit ≡ log.limit
+  pub first : kept.first ≡ log.first
+
+-- a log with these entries, and all else as it is kept
+abbrev pub log_over : Kept → List Entry → Log
+log_over kept entries =
+    record { state = kept.state; spent = kept.spent; entries = entries; limit = kept.limit; first = kept.first }
+
+-- There is a whole log in the setting, of which the part above the base is kept.
+pub record IsPart (setting : Setting) (kept : Kept) : Type 0 where
+  pub log : Log
+  pub own : IsLogIn setting log
+  pub above : IsAbove setting.table log kept
+
+-- What the note of each of these clerks tells begins this log.
+pub record IsPartNoted (setting : Setting) (kept : Kept) (clerks : List ClerkView) : Type 0 where
+  pub part : IsPart setting kept
+  pub begins : All (λ clerk. IsPrefix (noted clerk.note) part.log.entries) clerks
