@@ -1,5 +1,4 @@
 use Rattle.std.proofs.Common.{◌≡◌, ◌++◌, [], ap, ◌∙◌}
-use Rattle.rule_machine.specs.Run.{Entry}
 use Rattle.machine_laws.specs.LeastMoves.{IsTable}
 use Rattle.board.specs.Views.{Standing}
 use Rattle.step_log.specs.declared.receipt.Receipt.{Receipt}
