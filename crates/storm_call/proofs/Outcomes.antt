@@ -2,8 +2,7 @@
 use Rattle.std.proofs.Common.{◌≡◌, ℕ, inl, inr, List, Option, None, Some, Result, Ok, Err, IsErr, IsErrAnd, sym, ap, subst}
 use Rattle.std.specs.Io.KnownBytes.{Appends}
 use Rattle.rule_machine.specs.RuleTable.{RuleTable}
-use Rattle.line_text.specs.LogText.{transcript}
-use Rattle.step_log.specs.Log.{Log}
+use Rattle.step_log.specs.Kept.{Kept}
 use Rattle.locked_net.specs.declared.call_fault.CallFault.{CallFault}
 use Rattle.locked_net.specs.declared.call_fault.CallFault.TheVariants.{Behind, LogFull, Memory}
 use Rattle.script_text.specs.declared.script.ScriptLine.{ScriptLine}
@@ -12,26 +11,26 @@ use Rattle.script_text.specs.Readers.{AllHold}
 use Rattle.storm_call.specs.declared.fault.StormFault.{StormFault}
 use Rattle.storm_call.specs.declared.fault.StormFault.TheVariants as storm
 use Rattle.storm_call.specs.Faults.{of_call}
-use Rattle.storm_call.specs.Outcome.{Leaves, LeavesText, Ends}
+use Rattle.storm_call.specs.Outcome.{Leaves, LeavesText, Ends, text_of}
 use Rattle.storm_call.specs.Parts.{FailsToWrite}
 
 told : (result : Result Unit StormFault) (fault : StormFault) → IsErr result → IsErrAnd result (λ found. found ≡ fault) → Err fault ≡ result
 told (Ok done) fault is gives = cc
 told (Err found) fault is gives = ap (λ (f : StormFault). Err f) (sym gives)
 
-module _ (t : RuleTable) (weight : ℕ) (asked : Asked) (texts : List (Option (List ℕ))) (scripts : List (List ScriptLine)) (log : Log) (old new : Option (List ℕ)) where
+module _ (t : RuleTable) (weight : ℕ) (asked : Asked) (texts : List (Option (List ℕ))) (scripts : List (List ScriptLine)) (kept : Kept) (old new : Option (List ℕ)) where
   -- all was written, and the first fault that a script met is told
-  told_fault : (fault : CallFault) → AllHold texts scripts → Leaves t weight asked scripts (Some fault) log → Appends old new (transcript asked.rules asked.nodes asked.present log.entries)
+  told_fault : (fault : CallFault) → AllHold texts scripts → Leaves t weight asked scripts (Some fault) kept → Appends old new (text_of asked kept)
       → Ends t weight asked texts old new (Err (of_call fault))
-  told_fault (Behind front seen) held leaves wrote = (front, seen, (scripts, log, held, leaves, wrote))
-  told_fault LogFull held leaves wrote = (scripts, log, held, leaves, wrote)
-  told_fault Memory held leaves wrote = inl (scripts, log, held, leaves, wrote)
+  told_fault (Behind front seen) held leaves wrote = (front, seen, (scripts, kept, held, leaves, wrote))
+  told_fault LogFull held leaves wrote = (scripts, kept, held, leaves, wrote)
+  told_fault Memory held leaves wrote = inl (scripts, kept, held, leaves, wrote)
 
   -- or not all was written
-  failed : (met : Option CallFault) (fault : StormFault) → AllHold texts scripts → Leaves t weight asked scripts met log → FailsToWrite old new (transcript asked.rules asked.nodes asked.present log.entries) fault
+  failed : (met : Option CallFault) (fault : StormFault) → AllHold texts scripts → Leaves t weight asked scripts met kept → FailsToWrite old new (text_of asked kept) fault
       → Ends t weight asked texts old new (Err fault)
-  failed met storm.Write held leaves wrote = (met, (scripts, log, held, leaves, wrote))
-  failed met storm.Memory held leaves kept = inr kept
+  failed met storm.Write held leaves wrote = (met, (scripts, kept, held, leaves, wrote))
+  failed met storm.Memory held leaves nothing = inr nothing
   failed met storm.TooManyScripts held leaves never = absurd never
   failed met (storm.BadLine script line) held leaves never = absurd never
   failed met storm.LogFull held leaves never = absurd never
@@ -42,19 +41,19 @@ module _ (t : RuleTable) (weight : ℕ) (asked : Asked) (texts : List (Option (L
 
   -- so that is what is told
   pub told_failed : (met : Option CallFault) (fault : StormFault) (result : Result Unit StormFault) → IsErr result → IsErrAnd result (λ found. found ≡ fault) → AllHold texts scripts
-      → Leaves t weight asked scripts met log → FailsToWrite old new (transcript asked.rules asked.nodes asked.present log.entries) fault → Ends t weight asked texts old new result
+      → Leaves t weight asked scripts met kept → FailsToWrite old new (text_of asked kept) fault → Ends t weight asked texts old new result
   told_failed met fault result is gives held leaves fails =
       subst (λ (r : Result Unit StormFault). Ends t weight asked texts old new r) (told result fault is gives) (failed met fault held leaves fails)
 
   -- all scripts were played to their ends, and all was written
-  pub done_all : (met : Option CallFault) → met ≡ None → AllHold texts scripts → Leaves t weight asked scripts met log → Appends old new (transcript asked.rules asked.nodes asked.present log.entries)
+  pub done_all : (met : Option CallFault) → met ≡ None → AllHold texts scripts → Leaves t weight asked scripts met kept → Appends old new (text_of asked kept)
       → LeavesText t weight asked texts None (Appends old new)
   done_all met is held leaves wrote =
-      (scripts, log, held, subst (λ (f : Option CallFault). Leaves t weight asked scripts f log) is leaves, wrote)
+      (scripts, kept, held, subst (λ (f : Option CallFault). Leaves t weight asked scripts f kept) is leaves, wrote)
 
   -- a script met a fault, and all was written
-  pub told_met : (met : Option CallFault) (fault : CallFault) (found : StormFault) → met ≡ Some fault → found ≡ of_call fault → AllHold texts scripts → Leaves t weight asked scripts met log
-      → Appends old new (transcript asked.rules asked.nodes asked.present log.entries) → Ends t weight asked texts old new (Err found)
+  pub told_met : (met : Option CallFault) (fault : CallFault) (found : StormFault) → met ≡ Some fault → found ≡ of_call fault → AllHold texts scripts → Leaves t weight asked scripts met kept
+      → Appends old new (text_of asked kept) → Ends t weight asked texts old new (Err found)
   told_met met fault found is same held leaves wrote =
       subst (λ (f : StormFault). Ends t weight asked texts old new (Err f)) (sym same)
-      (told_fault fault held (subst (λ (f : Option CallFault). Leaves t weight asked scripts f log) is leaves) wrote)
+      (told_fault fault held (subst (λ (f : Option CallFault). Leaves t weight asked scripts f kept) is leaves) wrote)

@@ -75,7 +75,7 @@ one_noted book old new is keeps =
     ⊎_elim
     (λ (same : new.note ≡ old.note). subst (λ (o : Option Told). IfSome o (λ told. told.book ≡ book)) (sym (same ∙ ap (λ (c : ClerkView). c.note) is)) tt)
     (λ (has : HasNoteOf book new). of_book new.note has)
-    keeps
+    keeps.note
   where
     of_book : (note : Option Told) → IsSomeAnd note (λ told. told.book ≡ book) → IfSome note (λ told. told.book ≡ book)
     of_book None has = tt

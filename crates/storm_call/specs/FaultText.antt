@@ -13,6 +13,7 @@ bad_line script line = (codes "! script " ++ number_text script) ++ ((codes " li
 -- why receipts do not account for a log
 abbrev pub unsettled_line : SettleFault → List ℕ
 unsettled_line settle.CountDiffers = codes "! settle refused: count-differs\n"
+unsettled_line settle.BaseDiffers = codes "! settle refused: base-differs\n"
 unsettled_line (settle.Stranger clerk place) = codes "! settle refused: stranger\n"
 unsettled_line settle.Memory = codes "! out of memory\n"
 

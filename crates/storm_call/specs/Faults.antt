@@ -25,6 +25,7 @@ of_call call.Memory = Memory
 -- of playing and settling
 abbrev pub of_play : PlayFault → StormFault
 of_play (play.Unsettled settle.CountDiffers) = Unsettled settle.CountDiffers
+of_play (play.Unsettled settle.BaseDiffers) = Unsettled settle.BaseDiffers
 of_play (play.Unsettled (settle.Stranger clerk place)) = Unsettled (settle.Stranger clerk place)
 of_play (play.Unsettled settle.Memory) = Memory
 of_play play.Memory = Memory

@@ -1,18 +1,18 @@
 -- How a storm of scripts ends, and what it has written.
 --
--- The scripts that were read leave a log. It is a run of the rule machine from the opening state; and the clerks, one for each
--- script and one for each worker who roams, account for the whole of it: what each was told is the log's, each entry was told to
--- one of them alone, what the clerk of a script was told is what the script asks for, line after line, as far as it came, and what
--- that of a worker was told are steps of one node alone, at most as many as it has turns.
+-- The scripts that were read leave what a journal keeps of a log: all of it, or the part above the last checkpoint. It is a run of the
+-- rule machine from the opening state or from the base; and the clerks, one for each script and one for each worker who roams, account
+-- for the whole of it: what each was told is the log's, each entry was told to one of them alone, what the clerk of a script was told
+-- is what the script asks for, line after line, as far as it came, and what that of a worker was told are steps of one node alone, at
+-- most as many as it has turns.
 use Rattle.std.specs.Prelude.{◌≡◌, ◌≢◌, ℕ, ◌<◌, ◌⊎◌, List, [], length, Option, None, Some, Result, Ok, Err}
 use Rattle.std.specs.Io.KnownBytes.{Appends, Keeps}
 use Rattle.rule_machine.specs.declared.rules.RuleSet.{RuleSet}
 use Rattle.rule_machine.specs.declared.rules.RuleSet.TheVariants.{Hh, Manne}
 use Rattle.rule_machine.specs.RuleTable.{RuleTable}
 use Rattle.rule_machine.specs.Tables.{table_of}
-use Rattle.line_text.specs.LogText.{transcript}
 use Rattle.byte_streams.specs.Beginning.{AppendsBeginning}
-use Rattle.step_log.specs.Log.{Log, IsLog}
+use Rattle.step_log.specs.Kept.{Kept, IsKept}
 use Rattle.locked_net.specs.declared.call_fault.CallFault.{CallFault}
 use Rattle.locked_net.specs.declared.call_fault.CallFault.TheVariants as call
 use Rattle.locked_net.specs.declared.settle_fault.SettleFault.TheVariants as settle
@@ -20,6 +20,7 @@ use Rattle.locked_net.specs.Settings.{Setting}
 use Rattle.locked_net.specs.Headline.{Headline}
 use Rattle.script_text.specs.declared.script.ScriptLine.{ScriptLine}
 use Rattle.storm_call.specs.Storm.{IsStorm}
+use Rattle.storm_call.specs.KeptText.{kept_text}
 use Rattle.script_run.specs.Asked.{Asked}
 use Rattle.script_text.specs.Readers.{AllHold, FirstBadScript}
 use Rattle.storm_call.specs.declared.fault.StormFault.{StormFault}
@@ -29,20 +30,24 @@ use Rattle.storm_call.specs.declared.fault.StormFault.TheVariants.{TooManyScript
 abbrev pub asked_setting : RuleTable → Asked → Setting
 asked_setting t asked = record { table = t; nodes = asked.nodes; first = asked.present; limit = asked.limit }
 
--- These scripts leave the log, on as many names and nodes, with the limit and with the workers that are asked for, and this is the first fault
+-- These scripts leave what is kept of a log, on as many names and nodes, with the limit and with the workers that are asked for, and this is the first fault
 -- that a script met, or where none did, one of the workers'.
-pub record Leaves (t : RuleTable) (weight : ℕ) (asked : Asked) (scripts : List (List ScriptLine)) (fault : Option CallFault) (log : Log) : Type 0 where
-  pub run : IsLog t log
-  pub nodes_are : log.state.network.size ≡ asked.nodes
-  pub first_is : log.first ≡ asked.present
-  pub limit_is : log.limit ≡ asked.limit
-  pub storm : IsStorm (asked_setting t asked) log.entries scripts asked.roamers asked.turns fault
-  pub headline : Headline t weight log storm.clerks
+pub record Leaves (t : RuleTable) (weight : ℕ) (asked : Asked) (scripts : List (List ScriptLine)) (fault : Option CallFault) (kept : Kept) : Type 0 where
+  pub run : IsKept t weight kept
+  pub nodes_are : kept.state.network.size ≡ asked.nodes
+  pub first_is : kept.first ≡ asked.present
+  pub limit_is : kept.limit ≡ asked.limit
+  pub storm : IsStorm (asked_setting t asked) kept scripts asked.roamers asked.turns fault
+  pub headline : Headline t weight kept storm.clerks
 
--- the scripts are those of the texts, they leave a log with this fault, and P holds of its text
+-- the text of what is kept: the header, or the lines of the base, and the entries, numbered on
+abbrev pub text_of : Asked → Kept → List ℕ
+text_of asked kept = kept_text asked.rules asked.nodes asked.present kept.state.network.size kept.base kept.entries
+
+-- the scripts are those of the texts, they leave what is kept with this fault, and P holds of its text
 abbrev pub LeavesText : RuleTable → ℕ → Asked → List (Option (List ℕ)) → Option CallFault → (List ℕ → Type 0) → Type 0
 LeavesText t weight asked texts fault P =
-    (scripts : List (List ScriptLine)) × (log : Log) × AllHold texts scripts × Leaves t weight asked scripts fault log × P (transcript asked.rules asked.nodes asked.present log.entries)
+    (scripts : List (List ScriptLine)) × (kept : Kept) × AllHold texts scripts × Leaves t weight asked scripts fault kept × P (text_of asked kept)
 
 -- The whole text was written where all scripts were played to their ends and no worker met a fault, or the first fault that was met
 -- is told; a beginning of it where the writer failed; and nothing where the receipts do not account for the log, or the scripts could

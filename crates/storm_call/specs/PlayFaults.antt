@@ -6,5 +6,6 @@ use Rattle.storm_call.specs.declared.play_fault.PlayFault.TheVariants.{Unsettled
 
 abbrev pub fault_for : SettleFault → PlayFault
 fault_for settle.CountDiffers = Unsettled settle.CountDiffers
+fault_for settle.BaseDiffers = Unsettled settle.BaseDiffers
 fault_for (settle.Stranger clerk place) = Unsettled (settle.Stranger clerk place)
 fault_for settle.Memory = Memory

@@ -15,6 +15,7 @@ status_of Memory = 4
 status_of Behind = 4
 status_of Thread = 4
 status_of (Unsettled settle.CountDiffers) = 1
+status_of (Unsettled settle.BaseDiffers) = 1
 status_of (Unsettled (settle.Stranger clerk place)) = 1
 status_of (Unsettled settle.Memory) = 4
 

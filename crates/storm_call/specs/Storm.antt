@@ -8,16 +8,17 @@
 use Rattle.std.specs.Prelude.{◌≡◌, ℕ, ◌<◌, ◌≤◌, List, [], ◌∷◌, ◌++◌, IsTrue, length, map, Option, None, Some}
 use Rattle.std.specs.List.{All}
 use Rattle.std.specs.Option.{option_or}
-use Rattle.rule_machine.specs.Run.{Entry}
 use Rattle.rule_machine.specs.declared.choice.Item.{Item}
 use Rattle.rule_machine.specs.declared.moved.Moved.{Moved}
 use Rattle.rule_machine.specs.declared.event.Event.TheVariants.{Step}
 use Rattle.rule_machine.specs.declared.reply.Reply.TheVariants.{Accepted, Moves}
 use Rattle.fault_injector.specs.Drawn.{is_register_fault}
 use Rattle.step_log.specs.declared.receipt.Receipt.{Receipt}
+use Rattle.step_log.specs.Kept.{Kept}
 use Rattle.seeded_turns.specs.Drawn.{seeded_stream, drawn_step, drawn_fault}
 use Rattle.script_text.specs.declared.command.Command.{Command}
 use Rattle.script_text.specs.declared.command.Command.TheVariants.{Tell, Drive, Scramble}
+use Rattle.locked_net.specs.Above.{IsPart}
 use Rattle.locked_net.specs.Receipts.{ClerkView}
 use Rattle.locked_net.specs.Settings.{Setting}
 use Rattle.locked_net.specs.Settled.{Settled}
@@ -107,9 +108,10 @@ pub record AllTold (scene : Scene) (scripts : List (List ScriptLine)) (roamers t
   pub nobody : roamers ≡ 0 → other ≡ None
   pub whole : other ≡ None → All (λ clerk. TakesTurns scene.setting turns [] clerk.receipts) roaming
 
--- The log that these scripts leave with so many workers beside them, and the first fault that was met: the clerks account for the
--- whole log, and each turn of a script was taken on a beginning of it.
-pub record IsStorm (setting : Setting) (log : List Entry) (scripts : List (List ScriptLine)) (roamers turns : ℕ) (fault : Option CallFault) : Type 0 where
+-- What these scripts leave with so many workers beside them, and the first fault that was met: the clerks account for what is kept, which
+-- is the part above the last checkpoint of a whole log, and each turn of a script was taken on a beginning of that log.
+pub record IsStorm (setting : Setting) (kept : Kept) (scripts : List (List ScriptLine)) (roamers turns : ℕ) (fault : Option CallFault) : Type 0 where
   pub clerks : List ClerkView
-  pub settled : Settled log clerks
-  pub told : AllTold (record { setting = setting; log = log }) scripts roamers turns clerks fault
+  pub settled : Settled kept clerks
+  pub part : IsPart setting kept
+  pub told : AllTold (record { setting = setting; log = part.log.entries }) scripts roamers turns clerks fault

@@ -16,7 +16,9 @@ pub fn status(fault: StormFault) -> u8
     ensures { result ≡ status_of fault }
 {
     match fault {
-        StormFault::Unsettled(SettleFault::CountDiffers | SettleFault::Stranger { .. }) => 1,
+        StormFault::Unsettled(
+            SettleFault::CountDiffers | SettleFault::BaseDiffers | SettleFault::Stranger { .. },
+        ) => 1,
         StormFault::TooManyScripts | StormFault::BadLine { .. } => 2,
         StormFault::Read | StormFault::Write => 3,
         _ => 4,

@@ -64,6 +64,7 @@ fn plain_line(fault: StormFault) -> &'static [u8]
         StormFault::Behind => b"! behind\n",
         StormFault::Thread => b"! no thread\n",
         StormFault::Unsettled(SettleFault::CountDiffers) => b"! settle refused: count-differs\n",
+        StormFault::Unsettled(SettleFault::BaseDiffers) => b"! settle refused: base-differs\n",
         StormFault::Unsettled(SettleFault::Stranger { .. }) => b"! settle refused: stranger\n",
         StormFault::Unsettled(SettleFault::Memory) | StormFault::Memory => b"! out of memory\n",
     }

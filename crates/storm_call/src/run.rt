@@ -1,11 +1,10 @@
 //! Scripts and workers on one network, and the log that they leave.
 
-ghost use Rattle.std.specs.Prelude.{◌≡◌, ◌≤◌, length, None, IfOk, vec_len};
+ghost use Rattle.std.specs.Prelude.{◌≡◌, ◌≤◌, length, IfOk, vec_len};
 ghost use Rattle.std.specs.List.{All};
 ghost use Rattle.step_log.specs.Headline.{Upholds};
-ghost use Rattle.step_log.specs.Held.{log_of};
-ghost use Rattle.step_log.specs.Kept.{whole};
-ghost use Rattle.step_log.specs.Log.{IsLog};
+ghost use Rattle.step_log.specs.Held.{kept_of};
+ghost use Rattle.step_log.specs.Kept.{IsKept};
 ghost use Rattle.locked_net.specs.Nets.{nodes_of, first_of, limit_of, setting_of};
 ghost use Rattle.locked_net.specs.Receipts.{fresh};
 ghost use Rattle.storm_call.specs.Storm.{IsStorm};
@@ -37,8 +36,8 @@ fn clerks_of<R: Rules>(alloc: Global, net: &LockedNet<R>, count: usize) -> Resul
 
 /// Plays scripts on a network, each by a clerk of its own and all at once where threads can be had, while as many workers roam
 /// in it as the crew has, each by a clerk of its own and for so many turns; and settles all clerks against the log. It answers
-/// that log, with the first fault that a script met, in the order of the scripts, and where none did, with the first of the
-/// workers': `Behind`, `LogFull`, or `Memory` in a call. Who meets a fault ends there, and the others go on.
+/// what the journal keeps of that log, with the first fault that a script met, in the order of the scripts, and where none did, with
+/// the first of the workers': `Behind`, `LogFull`, or `Memory` in a call. Who meets a fault ends there, and the others go on.
 ///
 /// A `step` line is evaluated by as many workers as the crew has for it. Before each command the gate is passed with the number
 /// of the script, from 0, and that of the line; workers pass none. Where no thread can be had, scripts are played one after
@@ -56,10 +55,9 @@ pub fn play_scripts<R: Rules + Send + Sync, G: Gate + Sync, T: Threads + Wait + 
     gate: &G,
 ) -> Result<(Journal<R>, Option<CallFault>), PlayFault>
     requires { length scripts.now ≤ 64 }
-    ensures storm { IfOk result (λ left. IsStorm (setting_of R.table net) left.0.entries scripts.now crew.roamers crew.turns left.1) }
-    ensures run { IfOk result (λ left. IsLog R.table (log_of left.0)) }
-    ensures upheld { IfOk result (λ left. Upholds R.table R.NODE_WEIGHT (whole (log_of left.0))) }
-    ensures undropped { IfOk result (λ left. left.0.base ≡ None) }
+    ensures storm { IfOk result (λ left. IsStorm (setting_of R.table net) (kept_of left.0) scripts.now crew.roamers crew.turns left.1) }
+    ensures run { IfOk result (λ left. IsKept R.table R.NODE_WEIGHT (kept_of left.0)) }
+    ensures upheld { IfOk result (λ left. Upholds R.table R.NODE_WEIGHT (kept_of left.0)) }
     ensures size { IfOk result (λ left. (left.0.state.network.size ≡ nodes_of net) × (left.0.first ≡ first_of net) × (left.0.limit ≡ limit_of net)) }
 {
     let count = scripts.len() + crew.roamers as usize;

@@ -1,8 +1,8 @@
 //! A storm: scripts read, played at once on one network, settled and written.
 
-ghost use Rattle.std.specs.Prelude.{◌≡◌, ◌≤◌, length, map, None, IfOk, IfErr};
+ghost use Rattle.std.specs.Prelude.{◌≤◌, length, map, IfOk, IfErr};
 ghost use Rattle.script_run.specs.Asked.{asked_of};
-ghost use Rattle.step_log.specs.Held.{log_of};
+ghost use Rattle.step_log.specs.Held.{kept_of};
 ghost use Rattle.storm_call.specs.Outcome.{Leaves, Ends, IsOutcome};
 ghost use Rattle.storm_call.specs.Parts.{FailsToPlay};
 
@@ -31,8 +31,7 @@ fn play<R: Rules + Send + Sync, G: Gate + Sync, T: Threads + Wait + Sync>(
     gate: &G,
 ) -> Result<(Journal<R>, Option<CallFault>), StormFault>
     requires { length scripts.now ≤ 64 }
-    ensures undropped { IfOk result (λ left. left.0.base ≡ None) }
-    ensures log { IfOk result (λ left. Leaves R.table R.NODE_WEIGHT (asked_of options.now) scripts.now left.1 (log_of left.0)) }
+    ensures log { IfOk result (λ left. Leaves R.table R.NODE_WEIGHT (asked_of options.now) scripts.now left.1 (kept_of left.0)) }
     ensures fault { IfErr result FailsToPlay }
 {
     let Ok(net) = LockedNet::<R>::with_present(

@@ -1,8 +1,10 @@
 //! What a storm writes.
 
-ghost use Rattle.std.specs.Prelude.{◌≡◌, None, OnOk, IfErr};
+ghost use Rattle.std.specs.Prelude.{OnOk, IfErr};
 ghost use Rattle.std.specs.Io.KnownBytes.{Appends};
-ghost use Rattle.line_text.specs.LogText.{transcript};
+ghost use Rattle.script_run.specs.Asked.{asked_of};
+ghost use Rattle.step_log.specs.Held.{kept_of};
+ghost use Rattle.storm_call.specs.Outcome.{text_of};
 ghost use Rattle.storm_call.specs.Parts.{FailsToWrite};
 
 use crate::{StormFault, put_log};
@@ -13,16 +15,15 @@ use std::alloc::Global;
 use std::io::Write;
 use step_log::Journal;
 
-/// Writes the text of a journal's log. `Memory` before anything is written.
+/// Writes the text of what a journal keeps of its log. `Memory` before anything is written.
 pub fn write_log<R: Rules, Out: Write>(
     alloc: Global,
     options: &Options,
     journal: &Journal<R>,
     writer: &mut Out,
 ) -> Result<(), StormFault>
-    requires undropped { journal.now.base ≡ None }
-    ensures ok { OnOk result (Appends (Out.contents writer.old) (Out.contents writer.new) (transcript options.now.rules options.now.nodes options.now.present journal.now.entries)) }
-    ensures fault { IfErr result (FailsToWrite (Out.contents writer.old) (Out.contents writer.new) (transcript options.now.rules options.now.nodes options.now.present journal.now.entries)) }
+    ensures ok { OnOk result (Appends (Out.contents writer.old) (Out.contents writer.new) (text_of (asked_of options.now) (kept_of journal.now))) }
+    ensures fault { IfErr result (FailsToWrite (Out.contents writer.old) (Out.contents writer.new) (text_of (asked_of options.now) (kept_of journal.now))) }
 {
     let mut text = Vec::new(alloc);
     put_log(

@@ -19,6 +19,7 @@ fn each_fault_has_its_line_and_its_status(rt: HostRuntime) {
         line: 4_294_967_296,
     };
     let differs = StormFault::Unsettled(SettleFault::CountDiffers);
+    let based = StormFault::Unsettled(SettleFault::BaseDiffers);
     let stranger = StormFault::Unsettled(SettleFault::Stranger { clerk: 7, place: 9 });
     let unsettled = StormFault::Unsettled(SettleFault::Memory);
     for (fault, line, status) in [
@@ -31,6 +32,7 @@ fn each_fault_has_its_line_and_its_status(rt: HostRuntime) {
         (StormFault::Behind, "! behind\n", 4),
         (StormFault::Thread, "! no thread\n", 4),
         (differs, "! settle refused: count-differs\n", 1),
+        (based, "! settle refused: base-differs\n", 1),
         (stranger, "! settle refused: stranger\n", 1),
         (unsettled, "! out of memory\n", 4),
     ] {

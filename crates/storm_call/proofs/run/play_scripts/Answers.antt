@@ -1,9 +1,10 @@
 use Rattle.std.proofs.Common.{◌≡◌, length, drop, sym, subst, arith}
 use Rattle.std.specs.List.{All}
 use Rattle.std.proofs.lemmas.List.{take_at}
-use mathlib.Core.List.{IsPrefix}
-use Rattle.locked_net.specs.Nets.{book_of}
-use Rattle.locked_net.specs.Receipts.{noted, IsOfBook}
+use Rattle.step_log.specs.Held.{kept_of}
+use Rattle.locked_net.specs.Above.{IsPartNoted}
+use Rattle.locked_net.specs.Nets.{book_of, setting_of}
+use Rattle.locked_net.specs.Receipts.{IsOfBook}
 use Rattle.locked_net.specs.Settled.{Settled}
 use Rattle.storm_call.proofs.run.play_scripts.Goals as goal
 
@@ -16,11 +17,14 @@ settle_own-requires g c =
 pub returns-in-Ok-settle_own-clause-storm : goal.returns-in-Ok-settle_own-clause-storm
 returns-in-Ok-settle_own-clause-storm g c =
     let told = c.play_beside-fault.new.clerks in
-    let log = c.in-Ok-settle_own.journal.entries in
+    let setting = setting_of g.R.Rules.table c.args.net in
+    let kept = kept_of c.in-Ok-settle_own.journal in
     let size : length told ≡ c.in-Ok.clerks.len = omega arith in
     let same = take_at told (drop (length told) c.in-Ok.clerks.items) c.in-Ok.clerks.len size in
+    let own = subst (λ clerks. IsPartNoted setting kept clerks) same c.in-Ok-settle_own.ensures.noted in
     record {
       clerks = told;
-      settled = subst (λ clerks. Settled log clerks) same c.in-Ok-settle_own.ensures.settled;
-      told = c.play_beside-fault.ensures.told.each log (subst (All (λ clerk. IsPrefix (noted clerk.note) log)) same c.in-Ok-settle_own.ensures.noted);
+      settled = subst (λ clerks. Settled kept clerks) same c.in-Ok-settle_own.ensures.settled;
+      part = own.part;
+      told = c.play_beside-fault.ensures.told.each own.part.log.entries own.begins;
     }
