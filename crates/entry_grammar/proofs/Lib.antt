@@ -1,3 +1,4 @@
+pub mod Cutting
 pub mod Free
 pub mod Numbers
 pub mod Headers

@@ -1,0 +1,12 @@
+-- The lines of a text: each ends with an LF.
+use Rattle.std.specs.Prelude.{ℕ, List, [], ◌∷◌, ◌==◌, Option, None, Some, if◌then◌else◌}
+
+-- a byte in front of the first line, where there is one
+abbrev pub onto_line : ℕ → Option (List ℕ × List ℕ) → Option (List ℕ × List ℕ)
+onto_line b None = None
+onto_line b (Some found) = Some (b ∷ found.0, found.1)
+
+-- the first line without the LF that ends it, and what follows; None where there is no LF
+abbrev pub first_line : List ℕ → Option (List ℕ × List ℕ)
+first_line [] = None
+first_line (b ∷ bytes) = if b == 10 then Some ([], bytes) else onto_line b (first_line bytes)
