@@ -33,7 +33,7 @@ few_near net v =
     omega (arith, count, few, nodes, here, all)
 
 -- a range with one more number at its end
-range_more : (a n : ℕ) → range_with_len a (n + 1) ≡ range_with_len a n ++ (a + n) ∷ []
+pub range_more : (a n : ℕ) → range_with_len a (n + 1) ≡ range_with_len a n ++ (a + n) ∷ []
 range_more a n = rw add-one (go a n) where
   go : (a n : ℕ) → range_with_len a (suc n) ≡ range_with_len a n ++ (a + n) ∷ []
   go a zero = ap (λ x. x ∷ []) (omega arith)

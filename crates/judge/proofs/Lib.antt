@@ -5,3 +5,6 @@ pub mod Table
 pub mod Courting
 pub mod Counting
 pub mod Leaving
+pub mod Placed
+pub mod Made
+pub mod Begun

@@ -3,3 +3,4 @@ pub mod Choices
 pub mod Courting
 pub mod Charging
 pub mod Judging
+pub mod Bases

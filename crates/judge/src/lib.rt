@@ -1,14 +1,17 @@
 //! A judge of replies: whether the rule machine may give one, found by looks at the nodes that its event is about.
 #![tactic(auto)]
 
+mod bases;
 mod charge;
 mod choices;
 mod courted;
 mod guards;
 mod judging;
+mod lines;
 mod looks;
 mod moves;
 mod net_state;
+mod places;
 mod questions;
 mod refusals;
 mod replay;

@@ -1,6 +1,6 @@
 //! A network with its registers.
 
-ghost use Rattle.std.specs.Prelude.{◌≡◌, ◌≤◌, ◌&&◌, [], All, IfOk, IsTrue, MatchOption, None, OnOk, OnErr, false, nat_le};
+ghost use Rattle.std.specs.Prelude.{◌≡◌, ◌≤◌, ◌&&◌, [], All, IfOk, IsTrue, MatchOption, None, OnOk, OnErr, false, length, nat_le};
 ghost use Rattle.std.specs.List.{AllByRecursion};
 ghost use Rattle.rule_machine.specs.Network as network;
 ghost use Rattle.rule_machine.specs.State as state;
@@ -13,7 +13,7 @@ ghost use Rattle.judge.specs.States.{without_place};
 use crate::moves::{clear_pointer, write_moves};
 use graph_store::EdgeStore;
 use registers::Registers;
-use rule_machine::{Moved, Node, Want};
+use rule_machine::{Edge, Moved, Node, Place, Want};
 use std::alloc::{AllocError, Global};
 use std::marker::Model;
 
@@ -73,6 +73,14 @@ impl NetState {
         ensures { result ≡ network.edge_count self.now.network }
     {
         self.store.edges()
+    }
+
+    /// The edges, by rising lower ends, and those of one lower end by rising higher ends.
+    pub(crate) fn list_edges(&self) -> Result<Vec<Edge>, Want>
+        ensures list { IfOk result (λ edges. edges.items ≡ network.edge_list self.now.network) }
+        ensures few { IfOk result (λ edges. length edges.items ≤ 1048576) }
+    {
+        self.store.list()
     }
 
     /// Whether a node has this name.
@@ -190,6 +198,17 @@ impl NetState {
         ensures { self.new ≡ after_flag self.old v value }
     {
         self.registers.set_flag(v, value);
+    }
+
+    /// Writes a node's registers.
+    pub(crate) fn write(&mut self, place: Place)
+        requires { point_refusal self.old.network place.node place.target ≡ None }
+        ensures written { self.new ≡ after_flag (after_point self.old place.node place.target) place.node place.flagged }
+        ensures sound { state.IsState self.old }
+    {
+        let _ = &self.store;
+        self.point(place.node, place.target);
+        self.set_flag(place.node, place.flagged);
     }
 
     /// Makes a name a node, without an edge: its registers are null and false already. Takes no memory.

@@ -52,6 +52,14 @@ impl Judge {
         ensures { IfOk result (λ judge. judge ≡ opening_with nodes present) }
     {
         let net = NetState::with_present(alloc, nodes, present)?;
+        Judge::of_net(alloc, net)
+    }
+
+    /// The judge in the state of a network.
+    pub(crate) fn of_net(alloc: Global, net: NetState) -> Result<Judge, Want>
+        ensures { IfOk result (λ judge. judge ≡ net) }
+    {
+        let nodes = net.capacity();
         let chosen = Chosen::new(alloc, nodes)?;
         let courted = Courted::new(alloc, nodes)?;
         Ok(Judge {

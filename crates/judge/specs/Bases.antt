@@ -1,0 +1,44 @@
+-- Bases at which a judge begins, and that it tells.
+use Rattle.std.specs.Prelude.{◌≡◌, ℕ, ◌<◌, List, [], ◌∷◌, Option, None, Some, if◌then◌else◌}
+use Rattle.std.specs.declared.cmp.Ordering.TheVariants.{Less}
+use Rattle.rule_machine.specs.declared.base.Place.{Place}
+use Rattle.rule_machine.specs.declared.rules.RuleSet.{RuleSet}
+use Rattle.rule_machine.specs.declared.rules.RuleSet.TheVariants.{Hh, Manne}
+use Rattle.rule_machine.specs.Network.{pair_cmp, present, edge_list}
+use Rattle.rule_machine.specs.State.{State}
+use Rattle.rule_machine.specs.Base.{place_at, places}
+
+-- what a node adds to the bound of a rule set
+abbrev pub weight_of : RuleSet → ℕ
+weight_of Hh = 1
+weight_of Manne = 3
+
+-- the names are above a name, and rise
+abbrev pub NamesRise : ℕ → List Place → Type 0
+NamesRise v [] = Unit {0}
+NamesRise v (place ∷ nodes) = (v < place.node) × NamesRise place.node nodes
+
+-- the edges are above an edge, and rise by lower, then by higher ends
+abbrev pub EdgesRise : ℕ × ℕ → List (ℕ × ℕ) → Type 0
+EdgesRise e [] = Unit {0}
+EdgesRise e (next ∷ edges) = (pair_cmp e next ≡ Less) × EdgesRise next edges
+
+-- what the next name has to be above
+abbrev pub last_name : ℕ → List Place → ℕ
+last_name v [] = v
+last_name v (place ∷ nodes) = last_name place.node nodes
+
+-- what the next edge has to be above
+abbrev pub last_edge : ℕ × ℕ → List (ℕ × ℕ) → ℕ × ℕ
+last_edge e [] = e
+last_edge e (next ∷ edges) = last_edge next edges
+
+-- the lines of a state, for names up to size
+pub record HasLines (size : ℕ) (nodes : List Place) (edges : List (ℕ × ℕ)) (s : State) : Type 0 where
+  pub size_is : s.network.size ≡ size
+  pub nodes_are : places s ≡ nodes
+  pub edges_are : edge_list s.network ≡ edges
+
+-- a name with its registers, where it is a node of the state
+abbrev pub place_in : State → ℕ → Option Place
+place_in s v = if present s.network v then Some (place_at s v) else None

@@ -1,0 +1,98 @@
+//! A judge that begins at a base.
+
+ghost use Rattle.std.specs.Prelude.{◌≡◌, ◌≤◌, ◌+◌, ◌↔◌, ℕ, IfOk, IfSome, IsTrue, None, false, length, nat_le};
+ghost use Rattle.std.specs.List.{list_any};
+ghost use Rattle.charge_laws.specs.Charged.{charge_bound};
+ghost use Rattle.rule_machine.specs.Base.{IsBegun, places};
+ghost use Rattle.rule_machine.specs.Run.{Moment};
+ghost use Rattle.rule_machine.specs.State.{IsState, flag};
+ghost use Rattle.rule_machine.specs.Tables.{table_of};
+ghost use Rattle.judge.specs.Bases.{NamesRise, EdgesRise, weight_of};
+
+use crate::{Courted, Judge, NetState};
+use graph_store::MAX_EDGES;
+use rule_machine::{Base, Place, RuleSet, Want};
+use std::alloc::Global;
+
+/// Whether a flag is true.
+fn has_flag(nodes: &[Place]) -> bool
+    ensures { result ≡ list_any (λ p. p.flagged) nodes.now }
+{
+    for place in nodes {
+        if place.flagged {
+            return true;
+        }
+    }
+    false
+}
+
+impl NetState {
+    /// What is the most that may be spent, with the charge that is left: twice the edges, and the rules' weight for each node.
+    fn bound(&self, rules: RuleSet) -> u64
+        ensures { result ≡ charge_bound (weight_of rules) self.now.network }
+    {
+        let weight = match rules {
+            RuleSet::Hh => 1,
+            RuleSet::Manne => 3,
+        };
+        2 * u64::from(self.edges()) + weight * u64::from(self.nodes())
+    }
+
+    /// Whether what is spent is within the bound of the network, with the charge.
+    fn is_within(&self, alloc: Global, rules: RuleSet, spent: u32) -> Result<bool, Want>
+        ensures within { IfOk result (λ within. within ≡ nat_le (spent + (table_of rules).charge self.now) (charge_bound (weight_of rules) self.now.network)) }
+        ensures sound { IsState self.now }
+    {
+        let mut courted = Courted::new(alloc, self.capacity())?;
+        courted.find(self);
+        // The charge alone never exceeds the bound.
+        Ok(u64::from(spent) <= self.bound(rules) - self.charge(rules, &courted))
+    }
+
+    /// Whether the flags that are true are used by the rules.
+    fn has_fit_flags(&self, rules: RuleSet, nodes: &[Place]) -> bool
+        requires sound { IsState self.now }
+        requires listed { places self.now ≡ nodes.now }
+        ensures { IsTrue result ↔ ((table_of rules).flags ≡ false → (v : ℕ) → flag self.now v ≡ false) }
+    {
+        match rules {
+            RuleSet::Hh => !has_flag(nodes),
+            RuleSet::Manne => true,
+        }
+    }
+}
+
+impl Judge {
+    /// The judge in the state of which these are the lines, for names up to `size`, at most 65,535, where a run may begin there.
+    /// None where none may: a name is above `size`, an end of an edge is no node, there are more than 1,048,576 edges, a pointer is
+    /// at no neighbour, a flag is true though the rules use none, or what is spent and the charge are together above the bound
+    /// of the network. A look-up a node, a search an edge, and one charge; takes some forty bytes a name, and four an edge.
+    pub fn at_base(
+        alloc: Global,
+        rules: RuleSet,
+        size: u32,
+        base: &Base,
+    ) -> Result<Option<Judge>, Want>
+        requires few { size ≤ 65535 }
+        requires nodes_rise { NamesRise 0 base.now.nodes }
+        requires edges_rise { EdgesRise (0, 0) base.now.edges }
+        ensures begun { IfOk result (λ found. IfSome found (λ judge. IsBegun (table_of rules) (charge_bound (weight_of rules)) size base.now (record { state = judge; spent = base.now.spent }) × (length base.now.edges ≤ 1048576))) }
+        ensures none { IfOk result (λ found. found ≡ None → (start : Moment) → IsBegun (table_of rules) (charge_bound (weight_of rules)) size base.now start → length base.now.edges ≤ 1048576 → ⊥) }
+    {
+        let nodes = base.nodes.as_slice();
+        let edges = base.edges.as_slice();
+        if edges.len() > MAX_EDGES as usize {
+            return Ok(None);
+        }
+        let Some(net) = NetState::from_lines(alloc, size, nodes, edges)? else {
+            return Ok(None);
+        };
+        if !net.is_within(alloc, rules, base.spent)? {
+            return Ok(None);
+        }
+        if !net.has_fit_flags(rules, nodes) {
+            return Ok(None);
+        }
+        Ok(Some(Judge::of_net(alloc, net)?))
+    }
+}
