@@ -28,7 +28,7 @@ SoFar-none text fits bytes some = record {
 }
 
 -- one more word that fits
-fits_push : {X : Type 0} (fits : X → Type 0) (words : List X) (x : X) → AllByRecursion fits words → fits x → AllByRecursion fits (words ++ x ∷ [])
+pub fits_push : {X : Type 0} (fits : X → Type 0) (words : List X) (x : X) → AllByRecursion fits words → fits x → AllByRecursion fits (words ++ x ∷ [])
 fits_push fits [] x f g = (g, tt)
 fits_push fits (w ∷ words) x f g = (f.0, fits_push fits words x f.1 g)
 

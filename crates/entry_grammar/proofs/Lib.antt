@@ -11,3 +11,7 @@ pub mod Replies
 pub mod Parts
 pub mod Entries
 pub mod BaseLines
+pub mod FirstLines
+pub mod NextLines
+pub mod BaseLists
+pub mod BaseBreaks

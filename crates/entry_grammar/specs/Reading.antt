@@ -104,3 +104,8 @@ registers_text target flag = target_text target ++ 32 ∷ bool_text flag
 -- the bytes are a node with its registers, or what was found is none and they are no such thing
 abbrev pub ReadsPlace : List ℕ → Option (ℕ × Option ℕ × Bool) → Type 0
 ReadsPlace bytes found = Reads (λ p. IsName p.0 × IfSome p.1 IsName) (λ p. number_text p.0 ++ 32 ∷ registers_text p.1 p.2) bytes found
+
+-- the bytes begin with the text of this value, an LF behind it, and then the rest
+pub record Starts {X : Type 0} (Fits : X → Type 0) (text : X → List ℕ) (bytes : List ℕ) (value : X) (rest : List ℕ) : Type 0 where
+  pub fits : Fits value
+  pub is : bytes ≡ text value ++ 10 ∷ rest

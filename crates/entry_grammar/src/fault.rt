@@ -24,3 +24,14 @@ impl From<AllocError> for EntryFault {
         EntryFault::Memory
     }
 }
+
+/// Why the lines of a base were not read.
+#[derive(Clone, Copy, Debug, PartialEq, Eq, Error)]
+pub enum BaseFault {
+    /// This line, counted from 1 for the one behind the head, is missing or without its LF, or another line than may come there.
+    #[error("line {0} behind the head of a base is not as it has to be")]
+    BadLine(u64),
+    /// A growth of memory was refused.
+    #[error("out of memory")]
+    Memory,
+}

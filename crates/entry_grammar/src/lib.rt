@@ -2,6 +2,7 @@
 #![tactic(auto)]
 
 mod base_line;
+mod base_reader;
 mod counts;
 mod cut;
 mod entry;
@@ -16,8 +17,9 @@ mod tokens;
 mod words;
 
 pub use base_line::{BaseLine, read_base_line};
+pub use base_reader::read_base;
 pub use entry::{entry_text, read_entry};
-pub use fault::EntryFault;
+pub use fault::{BaseFault, EntryFault};
 pub use header::{header_text, read_header};
 pub use law::one_spelling;
 pub use lines::split_line;

@@ -1,0 +1,52 @@
+-- What the readers of a base's nodes and edges say of the bytes that they are given.
+use Rattle.std.specs.Prelude.{◌≡◌, ℕ, ◌+◌, ◌<◌, List, [], ◌∷◌, ◌++◌, length}
+use Rattle.std.specs.List.{AllByRecursion}
+use Rattle.rule_machine.specs.declared.base.Place.{Place}
+use Rattle.line_text.specs.Words.{ended}
+use Rattle.line_text.specs.BaseText.{base_counts, place_text, link_text}
+use Rattle.entry_grammar.specs.Spelling.{IsPair}
+use Rattle.entry_grammar.specs.Reading.{Starts}
+use Rattle.entry_grammar.specs.BaseLines.{IsAbove, NodesRise, EdgesRise, IsPlace}
+
+-- the line of the four numbers
+abbrev pub numbers_text : ℕ × ℕ × ℕ × ℕ → List ℕ
+numbers_text q = base_counts q.0 q.1 q.2 q.3
+
+-- the last of some nodes' names, or what was last before them
+abbrev pub last_node : ℕ → List Place → ℕ
+last_node last [] = last
+last_node last (place ∷ places) = last_node place.node places
+
+abbrev pub last_edge : ℕ × ℕ → List (ℕ × ℕ) → ℕ × ℕ
+last_edge last [] = last
+last_edge last (edge ∷ edges) = last_edge edge edges
+
+-- the bytes begin with the lines of these nodes, which rise
+pub record NodesRead (bytes : List ℕ) (places : List Place) (rest : List ℕ) : Type 0 where
+  pub is : bytes ≡ ended place_text places ++ rest
+  pub fit : AllByRecursion IsPlace places
+  pub rise : NodesRise 0 places
+
+-- behind fewer nodes than so many comes none that rises further; the first of them is line 2
+pub record NodesBreak (bytes : List ℕ) (count k : ℕ) : Type 0 where
+  pub places : List Place
+  pub rest : List ℕ
+  pub read : NodesRead bytes places rest
+  pub few : length places < count
+  pub number : k ≡ length places + 2
+  pub stops : (place : Place) (more : List ℕ) → last_node 0 places < place.node → Starts IsPlace place_text rest place more → ⊥
+
+-- the bytes begin with the lines of these edges, which rise
+pub record EdgesRead (bytes : List ℕ) (edges : List (ℕ × ℕ)) (rest : List ℕ) : Type 0 where
+  pub is : bytes ≡ ended link_text edges ++ rest
+  pub fit : AllByRecursion IsPair edges
+  pub rise : EdgesRise (0, 0) edges
+
+-- behind fewer edges than so many comes none that rises further; the first of them is the given line
+pub record EdgesBreak (bytes : List ℕ) (count first k : ℕ) : Type 0 where
+  pub edges : List (ℕ × ℕ)
+  pub rest : List ℕ
+  pub read : EdgesRead bytes edges rest
+  pub few : length edges < count
+  pub number : k ≡ first + length edges
+  pub stops : (edge : ℕ × ℕ) (more : List ℕ) → IsAbove (last_edge (0, 0) edges) edge → Starts IsPair link_text rest edge more → ⊥

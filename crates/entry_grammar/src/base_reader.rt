@@ -1,0 +1,217 @@
+//! The lines of a whole base.
+
+ghost use Rattle.std.specs.Prelude.{◌≡◌, ℕ, ◌<◌, ◌≤◌, List, ◌++◌, length, IfOk, IfErr, MatchOption, MatchBool};
+ghost use Rattle.rule_machine.specs.declared.base.Place.{Place as PlaceKept};
+ghost use Rattle.line_text.specs.BaseText.{place_text, link_text};
+ghost use Rattle.entry_grammar.specs.declared.base_line.BaseLine.{BaseLine as Line};
+ghost use Rattle.entry_grammar.specs.declared.base_line.BaseLine.TheVariants.{Base as LineOfNumbers, Link};
+ghost use Rattle.entry_grammar.specs.declared.fault.BaseFault.TheVariants.{BadLine};
+ghost use Rattle.entry_grammar.specs.Spelling.{IsBaseLine, IsPair, base_line_text};
+ghost use Rattle.entry_grammar.specs.Reading.{AreCounts, Starts};
+ghost use Rattle.entry_grammar.specs.BaseLines.{IsAbove, IsPlace, IsShaped, base_lines, BreaksAt, place_line};
+ghost use Rattle.entry_grammar.specs.BaseParts.{NodesRead, NodesBreak, EdgesRead, EdgesBreak, numbers_text};
+
+use crate::base_line::{BaseLine, read_base_line};
+use crate::fault::BaseFault;
+use crate::lines::split_line;
+use rule_machine::{Base, Edge, Listing, Place};
+use std::alloc::Global;
+
+// Reads the line that comes first, with its LF, and gives what follows.
+fn next_line(bytes: &[u8]) -> Option<(BaseLine, &[u8])>
+    ensures { MatchOption result
+        ((line : Line) (more : List ℕ) → Starts IsBaseLine base_line_text bytes.now line more → ⊥)
+        (λ found. Starts IsBaseLine base_line_text bytes.now found.0 found.1.now) }
+{
+    let Some((text, rest)) = split_line(bytes) else {
+        return None;
+    };
+    match read_base_line(text) {
+        Ok(line) => Some((line, rest)),
+        Err(_) => None,
+    }
+}
+
+// The numbers of a line.
+fn numbers_of(line: BaseLine) -> Option<(u32, u32, u32, u32)>
+    ensures { MatchOption result
+        ((q : ℕ × ℕ × ℕ × ℕ) → line ≡ LineOfNumbers q.0 q.1 q.2 q.3 → ⊥)
+        (λ q. line ≡ LineOfNumbers q.0 q.1 q.2 q.3) }
+{
+    match line {
+        BaseLine::Base {
+            number,
+            spent,
+            nodes,
+            edges,
+        } => Some((number, spent, nodes, edges)),
+        _ => None,
+    }
+}
+
+// Reads the numbers of a base.
+fn next_numbers(bytes: &[u8]) -> Option<((u32, u32, u32, u32), &[u8])>
+    ensures { MatchOption result
+        ((q : ℕ × ℕ × ℕ × ℕ) (more : List ℕ) → Starts AreCounts numbers_text bytes.now q more → ⊥)
+        (λ found. Starts AreCounts numbers_text bytes.now found.0 found.1.now) }
+{
+    let Some((line, rest)) = next_line(bytes) else {
+        return None;
+    };
+    let Some(numbers) = numbers_of(line) else {
+        return None;
+    };
+    Some((numbers, rest))
+}
+
+// The node of a line.
+fn place_of(line: BaseLine) -> Option<Place>
+    ensures { MatchOption result ((place : PlaceKept) → line ≡ place_line place → ⊥) (λ place. line ≡ place_line place) }
+{
+    match line {
+        BaseLine::Place(node, target, flagged) => Some(Place {
+            node,
+            target,
+            flagged,
+        }),
+        _ => None,
+    }
+}
+
+// The edge of a line.
+fn edge_of(line: BaseLine) -> Option<Edge>
+    ensures { MatchOption result ((edge : ℕ × ℕ) → line ≡ Link edge → ⊥) (λ edge. line ≡ Link edge) }
+{
+    match line {
+        BaseLine::Link(edge) => Some(edge),
+        _ => None,
+    }
+}
+
+// Reads a node whose name is above the last one.
+fn next_node(bytes: &[u8], last: u32) -> Option<(Place, &[u8])>
+    ensures { MatchOption result
+        ((place : PlaceKept) (more : List ℕ) → last < place.node → Starts IsPlace place_text bytes.now place more → ⊥)
+        (λ found. (last < found.0.node) × Starts IsPlace place_text bytes.now found.0 found.1.now) }
+{
+    let Some((line, rest)) = next_line(bytes) else {
+        return None;
+    };
+    let Some(place) = place_of(line) else {
+        return None;
+    };
+    if place.node.name() <= last {
+        return None;
+    }
+    Some((place, rest))
+}
+
+// The names of an edge's ends.
+fn ends(edge: Edge) -> (u32, u32)
+    ensures { result ≡ edge }
+{
+    (edge.low().name(), edge.high().name())
+}
+
+// Whether an edge stands above the last one.
+fn is_above(last: (u32, u32), edge: Edge) -> bool
+    ensures { MatchBool result (IsAbove last edge) (IsAbove last edge → ⊥) }
+{
+    let low = edge.low().name();
+    last.0 < low || last.0 == low && last.1 < edge.high().name()
+}
+
+// Reads an edge that stands above the last one.
+fn next_edge(bytes: &[u8], last: (u32, u32)) -> Option<(Edge, &[u8])>
+    ensures { MatchOption result
+        ((edge : ℕ × ℕ) (more : List ℕ) → IsAbove last edge → Starts IsPair link_text bytes.now edge more → ⊥)
+        (λ found. IsAbove last found.0 × Starts IsPair link_text bytes.now found.0 found.1.now) }
+{
+    let Some((line, rest)) = next_line(bytes) else {
+        return None;
+    };
+    let Some(edge) = edge_of(line) else {
+        return None;
+    };
+    if !is_above(last, edge) {
+        return None;
+    }
+    Some((edge, rest))
+}
+
+// Reads so many nodes, which begin at line 2.
+fn read_nodes<'a>(
+    alloc: Global,
+    bytes: &'a [u8],
+    count: u32,
+) -> Result<(Vec<Place>, &'a [u8]), BaseFault>
+    ensures read { IfOk result (λ found. NodesRead bytes.now found.0.items found.1.now) }
+    ensures all { IfOk result (λ found. length found.0.items ≡ count) }
+    ensures bad { IfErr result (λ fault. (k : ℕ) → fault ≡ BadLine k → NodesBreak bytes.now count k) }
+{
+    let mut places = Vec::new(alloc);
+    let mut last = 0;
+    let mut rest = bytes;
+    for i in 0..count {
+        let Some((place, behind)) = next_node(rest, last) else {
+            return Err(BaseFault::BadLine(u64::from(i) + 2));
+        };
+        last = place.node.name();
+        if places.push(place).is_err() {
+            return Err(BaseFault::Memory);
+        }
+        rest = behind;
+    }
+    Ok((places, rest))
+}
+
+// Reads so many edges, which begin at the given line.
+fn read_edges<'a>(
+    alloc: Global,
+    bytes: &'a [u8],
+    count: u32,
+    first: u64,
+) -> Result<(Vec<Edge>, &'a [u8]), BaseFault>
+    requires { first ≤ 4294967297 }
+    ensures read { IfOk result (λ found. EdgesRead bytes.now found.0.items found.1.now) }
+    ensures all { IfOk result (λ found. length found.0.items ≡ count) }
+    ensures bad { IfErr result (λ fault. (k : ℕ) → fault ≡ BadLine k → EdgesBreak bytes.now count first k) }
+{
+    let mut edges = Vec::new(alloc);
+    let mut last = (0, 0);
+    let mut rest = bytes;
+    for i in 0..count {
+        let Some(found) = next_edge(rest, last) else {
+            return Err(BaseFault::BadLine(first + u64::from(i)));
+        };
+        last = ends(found.0);
+        if edges.push(found.0).is_err() {
+            return Err(BaseFault::Memory);
+        }
+        rest = found.1;
+    }
+    Ok((edges, rest))
+}
+
+/// Reads the lines of a base behind its head, each with its LF: its numbers, its nodes by rising names, and its edges by
+/// rising lower and higher ends; so many of them as its numbers say. Gives the base, and what follows it. `BadLine` tells the
+/// first line that is another, or is missing; `Memory` comes where memory runs out before such a line was met. One look at
+/// each line; memory for what was read, however many the numbers say.
+pub fn read_base<'a>(alloc: Global, bytes: &'a [u8]) -> Result<(Base, &'a [u8]), BaseFault>
+    ensures base { IfOk result (λ found. bytes.now ≡ base_lines found.0 ++ found.1.now) }
+    ensures shaped { IfOk result (λ found. IsShaped found.0) }
+    ensures bad { IfErr result (λ fault. (k : ℕ) → fault ≡ BadLine k → BreaksAt bytes.now k) }
+{
+    let Some(((number, spent, node_count, edge_count), rest)) = next_numbers(bytes) else {
+        return Err(BaseFault::BadLine(1));
+    };
+    let (nodes, rest) = read_nodes(alloc, rest, node_count)?;
+    let (edges, rest) = read_edges(alloc, rest, edge_count, u64::from(node_count) + 2)?;
+    let base = Base {
+        number,
+        spent,
+        nodes: Listing::from_vec(nodes),
+        edges: Listing::from_vec(edges),
+    };
+    Ok((base, rest))
+}
