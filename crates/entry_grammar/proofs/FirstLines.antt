@@ -55,7 +55,7 @@ fields_free number spent nodes edges f =
     (spaced_free (codes "nodes=", nodes) last (count_free (codes "nodes=") nodes (free_by 10 (codes "nodes=") refl) f.2)
     (spaced_free (codes "edges=", edges) [] (count_free (codes "edges=") edges (free_by 10 (codes "edges=") refl) f.3) tt)))
 
-line_free : (line : BaseLine) → IsBaseLine line → IsFree 10 (base_line_text line)
+pub line_free : (line : BaseLine) → IsBaseLine line → IsFree 10 (base_line_text line)
 line_free (Head rules size) f =
     apart (codes "matching2 " ++ rules_word rules) (number_text size)
     (free_append 10 (codes "matching2 ") (rules_word rules) (free_by 10 (codes "matching2 ") refl) (rules_free rules))

@@ -15,3 +15,4 @@ pub mod FirstLines
 pub mod NextLines
 pub mod BaseLists
 pub mod BaseBreaks
+pub mod BaseOnce

@@ -1,10 +1,12 @@
 //! What holds of all lines of a transcript.
 
-ghost use Rattle.std.specs.Prelude.{◌≡◌, ℕ, List};
+ghost use Rattle.std.specs.Prelude.{◌≡◌, ◌++◌, ℕ, List};
+ghost use Rattle.rule_machine.specs.declared.base.Base.{Base};
 ghost use Rattle.rule_machine.specs.declared.event.Event.{Event};
 ghost use Rattle.rule_machine.specs.declared.reply.Reply.{Reply};
 ghost use Rattle.rule_machine.specs.declared.rules.RuleSet.{RuleSet};
 ghost use Rattle.entry_grammar.specs.declared.base_line.BaseLine.{BaseLine};
+ghost use Rattle.entry_grammar.specs.BaseLines.{IsShaped, BreaksAt, base_lines};
 ghost use Rattle.entry_grammar.specs.Spelling.{SpellsBaseLine, SpellsEntry, SpellsHeader};
 
 /// A line spells at most one entry, one header, and one line of a base.
@@ -14,4 +16,12 @@ pub fn one_spelling()
     ensures base { (line : List ℕ) (a b : BaseLine) → SpellsBaseLine line a → SpellsBaseLine line b → a ≡ b }
     ensures header { (line : List ℕ) (r q : RuleSet) (m n c d : ℕ)
         → SpellsHeader line r m c → SpellsHeader line q n d → (r ≡ q) × (m ≡ n) × (c ≡ d) }
+{}
+
+/// A text begins with the lines of one base at most; or they break off, at one line.
+pub fn one_base()
+    ensures base { (bytes : List ℕ) (a b : Base) (x y : List ℕ)
+        → IsShaped a → IsShaped b → bytes ≡ base_lines a ++ x → bytes ≡ base_lines b ++ y → (a ≡ b) × (x ≡ y) }
+    ensures line { (bytes : List ℕ) (k l : ℕ) → BreaksAt bytes k → BreaksAt bytes l → k ≡ l }
+    ensures whole { (bytes : List ℕ) (base : Base) (rest : List ℕ) (k : ℕ) → IsShaped base → bytes ≡ base_lines base ++ rest → BreaksAt bytes k → ⊥ }
 {}

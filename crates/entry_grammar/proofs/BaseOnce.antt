@@ -1,0 +1,253 @@
+-- A text begins with the lines of one base at most, and they break off at one line at most.
+use Rattle.std.proofs.Common.{◌≡◌, ℕ, zero, suc, ◌+◌, ◌⊎◌, inl, inr, List, [], ◌∷◌, ◌++◌, length, map, refl, sym, ap, subst, ◌∙◌, append_assoc, arith}
+use Rattle.std.specs.List.{AllByRecursion}
+use Rattle.std.proofs.lemmas.List.{length-append, length-map, append-nil}
+use Rattle.rule_machine.specs.declared.rules.RuleSet.{RuleSet}
+use Rattle.rule_machine.specs.declared.base.Place.{Place as PlaceKept}
+use Rattle.rule_machine.specs.declared.base.Base.{Base as BaseKept}
+use Rattle.line_text.specs.Words.{ended}
+use Rattle.line_text.specs.BaseText.{base_head, base_counts, place_text, link_text, base_text}
+use Rattle.entry_grammar.specs.declared.base_line.BaseLine.{BaseLine}
+use Rattle.entry_grammar.specs.declared.base_line.BaseLine.TheVariants.{Head, Base, Place, Link}
+use Rattle.entry_grammar.specs.Spelling.{IsBaseLine, IsPair, base_line_text}
+use Rattle.entry_grammar.specs.BaseLines.{IsShaped, IsPlace, NodesRise, EdgesRise, base_lines, place_line, lines_of_base, EdgesFollow, NodesFollow, MayFollow, IsShort, BreaksAt}
+use Rattle.entry_grammar.proofs.Free.{mark_once}
+use Rattle.entry_grammar.proofs.BaseLines.{spells_base_line_once}
+use Rattle.entry_grammar.proofs.FirstLines.{line_free}
+
+-- ---- two lists of lines at the beginning of one text
+
+abbrev text : List BaseLine → List ℕ
+text lines = ended base_line_text lines
+
+-- one line and the rest
+one_line : (line : BaseLine) (lines : List BaseLine) (x : List ℕ) → text (line ∷ lines) ++ x ≡ base_line_text line ++ 10 ∷ (text lines ++ x)
+one_line line lines x = append_assoc (base_line_text line ++ 10 ∷ []) (text lines) x ∙ append_assoc (base_line_text line) (10 ∷ []) (text lines ++ x)
+
+-- the second goes on where the first ends
+record GoesOn (ls ms : List BaseLine) (x y : List ℕ) : Type 0 where
+  more : List BaseLine
+  is : ms ≡ ls ++ more
+  behind : x ≡ text more ++ y
+  fit : AllByRecursion IsBaseLine more
+
+goes_more : (a b : BaseLine) (ls ms : List BaseLine) (x y : List ℕ) → a ≡ b → GoesOn ls ms x y → GoesOn (a ∷ ls) (b ∷ ms) x y
+goes_more a b ls ms x y same g = record { more = g.more; is = ap (λ l. l ∷ ms) (sym same) ∙ ap (λ l. a ∷ l) g.is; behind = g.behind; fit = g.fit }
+
+meet : (ls ms : List BaseLine) (x y : List ℕ) → AllByRecursion IsBaseLine ls → AllByRecursion IsBaseLine ms → text ls ++ x ≡ text ms ++ y → GoesOn ls ms x y ⊎ GoesOn ms ls y x
+meet [] ms x y f g e = inl (record { more = ms; is = refl; behind = e; fit = g })
+meet (a ∷ ls) [] x y f g e = inr (record { more = a ∷ ls; is = refl; behind = sym e; fit = f })
+meet (a ∷ ls) (b ∷ ms) x y f g e =
+    let cut = mark_once 10 (base_line_text a) (base_line_text b) (text ls ++ x) (text ms ++ y) (line_free a f.0) (line_free b g.0) (sym (one_line a ls x) ∙ e ∙ one_line b ms y) in
+    let same = spells_base_line_once (base_line_text a) a b (record { fits = f.0; is = refl }) (record { fits = g.0; is = cut.0 }) in
+    go same (meet ls ms x y f.1 g.1 cut.1)
+  where
+    go : a ≡ b → GoesOn ls ms x y ⊎ GoesOn ms ls y x → GoesOn (a ∷ ls) (b ∷ ms) x y ⊎ GoesOn (b ∷ ms) (a ∷ ls) y x
+    go same (inl h) = inl (goes_more a b ls ms x y same h)
+    go same (inr h) = inr (goes_more b a ms ls y x (sym same) h)
+
+-- ---- the first of lines that follow one another do so
+
+edges_front : (left : ℕ) (last : ℕ × ℕ) (some more : List BaseLine) → EdgesFollow left last (some ++ more) → EdgesFollow left last some
+edges_front left last [] more h = tt
+edges_front zero last (line ∷ some) more h = h
+edges_front (suc left) last (Link edge ∷ some) more h = (h.0, edges_front left edge some more h.1)
+edges_front (suc left) last (Head rules size ∷ some) more h = h
+edges_front (suc left) last (Base number spent nodes edges ∷ some) more h = h
+edges_front (suc left) last (Place node target flagged ∷ some) more h = h
+
+nodes_front : (left edges last : ℕ) (some more : List BaseLine) → NodesFollow left edges last (some ++ more) → NodesFollow left edges last some
+nodes_front left edges last [] more h = tt
+nodes_front zero edges last (line ∷ some) more h = edges_front edges (0, 0) (line ∷ some) more h
+nodes_front (suc left) edges last (Place node target flagged ∷ some) more h = (h.0, nodes_front left edges node some more h.1)
+nodes_front (suc left) edges last (Head rules size ∷ some) more h = h
+nodes_front (suc left) edges last (Base number spent nodes_b edges_b ∷ some) more h = h
+nodes_front (suc left) edges last (Link edge ∷ some) more h = h
+
+follow_front : (some more : List BaseLine) → MayFollow (some ++ more) → MayFollow some
+follow_front [] more h = tt
+follow_front (Base number spent nodes edges ∷ some) more h = nodes_front nodes edges 0 some more h
+follow_front (Head rules size ∷ some) more h = h
+follow_front (Place node target flagged ∷ some) more h = h
+follow_front (Link edge ∷ some) more h = h
+
+-- ---- the lines of a base
+
+all_links : (edges : List (ℕ × ℕ)) → AllByRecursion IsPair edges → AllByRecursion IsBaseLine (map (λ edge. Link edge) edges)
+all_links [] f = tt
+all_links (edge ∷ edges) f = (f.0, all_links edges f.1)
+
+all_places : (places : List PlaceKept) (lines : List BaseLine) → AllByRecursion IsPlace places → AllByRecursion IsBaseLine lines → AllByRecursion IsBaseLine (map place_line places ++ lines)
+all_places [] lines f g = g
+all_places (place ∷ places) lines f g = (f.0, all_places places lines f.1 g)
+
+all_lines : (base : BaseKept) → IsShaped base → AllByRecursion IsBaseLine (lines_of_base base)
+all_lines base is =
+    ((is.number, is.spent, is.nodes, is.edges), all_places base.nodes (map (λ edge. Link edge) base.edges) is.places (all_links base.edges is.links))
+
+links_follow : (last : ℕ × ℕ) (edges : List (ℕ × ℕ)) → EdgesRise last edges → EdgesFollow (length edges) last (map (λ edge. Link edge) edges)
+links_follow last [] h = tt
+links_follow last (edge ∷ edges) h = (h.0, links_follow edge edges h.1)
+
+no_node_left : (edges last : ℕ) (lines : List BaseLine) → EdgesFollow edges (0, 0) lines → NodesFollow zero edges last lines
+no_node_left edges last [] h = tt
+no_node_left edges last (line ∷ lines) h = h
+
+places_follow : (last : ℕ) (places : List PlaceKept) (edges : ℕ) (lines : List BaseLine) → NodesRise last places → EdgesFollow edges (0, 0) lines → NodesFollow (length places) edges last (map place_line places ++ lines)
+places_follow last [] edges lines h g = no_node_left edges last lines g
+places_follow last (place ∷ places) edges lines h g = (h.0, places_follow place.node places edges lines h.1 g)
+
+pub lines_follow : (base : BaseKept) → IsShaped base → MayFollow (lines_of_base base)
+lines_follow base is = places_follow 0 base.nodes (length base.edges) (map (λ edge. Link edge) base.edges) is.nodes_rise (links_follow (0, 0) base.edges is.edges_rise)
+
+text_append : (some more : List BaseLine) → text (some ++ more) ≡ text some ++ text more
+text_append [] more = refl
+text_append (line ∷ some) more = ap (λ t. (base_line_text line ++ 10 ∷ []) ++ t) (text_append some more) ∙ sym (append_assoc (base_line_text line ++ 10 ∷ []) (text some) (text more))
+
+places_text : (places : List PlaceKept) → text (map place_line places) ≡ ended place_text places
+places_text [] = refl
+places_text (place ∷ places) = ap (λ t. (place_text place ++ 10 ∷ []) ++ t) (places_text places)
+
+links_text : (edges : List (ℕ × ℕ)) → text (map (λ edge. Link edge) edges) ≡ ended link_text edges
+links_text [] = refl
+links_text (edge ∷ edges) = ap (λ t. (link_text edge ++ 10 ∷ []) ++ t) (links_text edges)
+
+pub lines_text : (base : BaseKept) → text (lines_of_base base) ≡ base_lines base
+lines_text base =
+    ap (λ t. (base_counts base.number base.spent (length base.nodes) (length base.edges) ++ 10 ∷ []) ++ t)
+    (text_append (map place_line base.nodes) (map (λ edge. Link edge) base.edges) ∙ ap (λ t. t ++ text (map (λ edge. Link edge) base.edges)) (places_text base.nodes) ∙ ap (λ t. ended place_text base.nodes ++ t) (links_text base.edges))
+
+-- the text of a base is its head and these lines
+pub base_text_is : (rules : RuleSet) (size : ℕ) (base : BaseKept) → base_text rules size base ≡ (base_head rules size ++ 10 ∷ []) ++ base_lines base
+base_text_is rules size base =
+    let head = base_head rules size ++ 10 ∷ [] in
+    let counts = base_counts base.number base.spent (length base.nodes) (length base.edges) ++ 10 ∷ [] in
+    append_assoc (head ++ counts) (ended place_text base.nodes) (ended link_text base.edges)
+    ∙ append_assoc head counts (ended place_text base.nodes ++ ended link_text base.edges)
+
+-- the lines behind the first
+abbrev tail_of : BaseKept → List BaseLine
+tail_of base = map place_line base.nodes ++ map (λ edge. Link edge) base.edges
+
+abbrev first_of : BaseKept → BaseLine
+first_of base = Base base.number base.spent (length base.nodes) (length base.edges)
+
+tail_len : (base : BaseKept) → length (tail_of base) ≡ length base.nodes + length base.edges
+tail_len base =
+    let both = length-append (map place_line base.nodes) (map (λ edge. Link edge) base.edges) in
+    let nodes = length-map base.nodes place_line in
+    let edges = length-map base.edges (λ edge. Link edge) in
+    omega (arith, both, nodes, edges)
+
+cons_is : (a b : BaseLine) (ls ms : List BaseLine) → a ∷ ls ≡ b ∷ ms → (a ≡ b) × (ls ≡ ms)
+cons_is a b ls ms e = let head : a ≡ b = cc in let rest : ls ≡ ms = cc in (head, rest)
+
+base_is : (a b c d k l m n : ℕ) → Base a b c d ≡ Base k l m n → (a ≡ k) × (b ≡ l) × (c ≡ m) × (d ≡ n)
+base_is a b c d k l m n e =
+    let number : a ≡ k = cc in
+    let spent : b ≡ l = cc in
+    let nodes : c ≡ m = cc in
+    let edges : d ≡ n = cc in
+    (number, spent, nodes, edges)
+
+links_once : (es fs : List (ℕ × ℕ)) → map (λ edge. Link edge) es ≡ map (λ edge. Link edge) fs → es ≡ fs
+links_once [] [] e = refl
+links_once [] (f ∷ fs) e = absurd cc
+links_once (g ∷ es) [] e = absurd cc
+links_once (g ∷ es) (f ∷ fs) e =
+    let head : g ≡ f = cc in
+    let rest : map (λ edge. Link edge) es ≡ map (λ edge. Link edge) fs = cc in
+    ap (λ z. z ∷ es) head ∙ ap (λ l. f ∷ l) (links_once es fs rest)
+
+place_once : (p q : PlaceKept) → place_line p ≡ place_line q → p ≡ q
+place_once p q e =
+    let node : p.node ≡ q.node = cc in
+    let target : p.target ≡ q.target = cc in
+    let flagged : p.flagged ≡ q.flagged = cc in
+    λ i. record { node = node i; target = target i; flagged = flagged i }
+
+parts_once : (ps qs : List PlaceKept) (es fs : List (ℕ × ℕ)) → map place_line ps ++ map (λ edge. Link edge) es ≡ map place_line qs ++ map (λ edge. Link edge) fs → (ps ≡ qs) × (es ≡ fs)
+parts_once [] [] es fs e = (refl, links_once es fs e)
+parts_once [] (q ∷ qs) [] fs e = absurd cc
+parts_once [] (q ∷ qs) (g ∷ es) fs e = absurd cc
+parts_once (p ∷ ps) [] es [] e = absurd cc
+parts_once (p ∷ ps) [] es (f ∷ fs) e = absurd cc
+parts_once (p ∷ ps) (q ∷ qs) es fs e =
+    let two = cons_is (place_line p) (place_line q) (map place_line ps ++ map (λ edge. Link edge) es) (map place_line qs ++ map (λ edge. Link edge) fs) e in
+    let more = parts_once ps qs es fs two.1 in
+    (ap (λ z. z ∷ ps) (place_once p q two.0) ∙ ap (λ l. q ∷ l) more.0, more.1)
+
+base_from_lines : (a b : BaseKept) → lines_of_base a ≡ lines_of_base b → a ≡ b
+base_from_lines a b e =
+    let two = cons_is (first_of a) (first_of b) (tail_of a) (tail_of b) e in
+    let four = base_is a.number a.spent (length a.nodes) (length a.edges) b.number b.spent (length b.nodes) (length b.edges) two.0 in
+    let parts = parts_once a.nodes b.nodes a.edges b.edges two.1 in
+    λ i. record { number = four.0 i; spent = four.1 i; nodes = parts.0 i; edges = parts.1 i }
+
+-- a base's lines go on behind another's by none
+no_more : (a b : BaseKept) (more : List BaseLine) → lines_of_base b ≡ lines_of_base a ++ more → length more ≡ 0
+no_more a b more e =
+    let two = cons_is (first_of b) (first_of a) (tail_of b) (tail_of a ++ more) e in
+    let four = base_is b.number b.spent (length b.nodes) (length b.edges) a.number a.spent (length a.nodes) (length a.edges) two.0 in
+    let lens = ap length two.1 ∙ length-append (tail_of a) more in
+    let la = tail_len a in
+    let lb = tail_len b in
+    omega (arith, lens, la, lb, four.2, four.3)
+
+empty : (more : List BaseLine) → length more ≡ 0 → more ≡ []
+empty [] e = refl
+empty (line ∷ more) e = absurd (omega (arith, e))
+
+record SameBase (a b : BaseKept) (x y : List ℕ) : Type 0 where
+  bases : a ≡ b
+  rests : x ≡ y
+
+same_from : (a b : BaseKept) (x y : List ℕ) → GoesOn (lines_of_base a) (lines_of_base b) x y → SameBase a b x y
+same_from a b x y g =
+    let none = empty g.more (no_more a b g.more g.is) in
+    let same : lines_of_base b ≡ lines_of_base a = g.is ∙ ap (λ l. lines_of_base a ++ l) none ∙ append-nil (lines_of_base a) in
+    record { bases = sym (base_from_lines b a same); rests = g.behind ∙ ap (λ l. text l ++ y) none }
+
+pub base_once : (bytes : List ℕ) (a b : BaseKept) (x y : List ℕ) → IsShaped a → IsShaped b → bytes ≡ base_lines a ++ x → bytes ≡ base_lines b ++ y → (a ≡ b) × (x ≡ y)
+base_once bytes a b x y f g d e =
+    go (meet (lines_of_base a) (lines_of_base b) x y (all_lines a f) (all_lines b g) (ap (λ t. t ++ x) (lines_text a) ∙ sym d ∙ e ∙ sym (ap (λ t. t ++ y) (lines_text b))))
+  where
+    go : GoesOn (lines_of_base a) (lines_of_base b) x y ⊎ GoesOn (lines_of_base b) (lines_of_base a) y x → (a ≡ b) × (x ≡ y)
+    go (inl h) = let s = same_from a b x y h in (s.bases, s.rests)
+    go (inr h) = let s = same_from b a y x h in (sym s.bases, sym s.rests)
+
+-- ---- where lines break off
+
+-- lines that may come next do not where others break off
+not_behind : (bytes : List ℕ) (k : ℕ) (b : BreaksAt bytes k) (lines : List BaseLine) (y : List ℕ) → MayFollow lines → GoesOn b.lines lines b.rest y → lines ≡ b.lines
+not_behind bytes k b lines y follow g = go g.more g.is g.behind g.fit
+  where
+    go : (more : List BaseLine) → lines ≡ b.lines ++ more → b.rest ≡ text more ++ y → AllByRecursion IsBaseLine more → lines ≡ b.lines
+    go [] is behind fit = is ∙ append-nil b.lines
+    go (line ∷ more) is behind fit =
+        let next : (b.lines ++ line ∷ []) ++ more ≡ lines = append_assoc b.lines (line ∷ []) more ∙ sym is in
+        absurd (b.stops line (text more ++ y) fit.0 (follow_front (b.lines ++ line ∷ []) more (subst MayFollow (sym next) follow)) (behind ∙ one_line line more y))
+
+pub breaks_once : (bytes : List ℕ) (k l : ℕ) → BreaksAt bytes k → BreaksAt bytes l → k ≡ l
+breaks_once bytes k l b c = go (meet b.lines c.lines b.rest c.rest b.fit c.fit (sym b.is ∙ c.is))
+  where
+    go : GoesOn b.lines c.lines b.rest c.rest ⊎ GoesOn c.lines b.lines c.rest b.rest → k ≡ l
+    go (inl h) = b.number ∙ ap (λ ls. length ls + 1) (sym (not_behind bytes k b c.lines c.rest c.follow h)) ∙ sym c.number
+    go (inr h) = b.number ∙ ap (λ ls. length ls + 1) (not_behind bytes l c b.lines b.rest b.follow h) ∙ sym c.number
+
+-- a whole base is not short, and neither is what goes on behind it
+not_short : (base : BaseKept) (more : List BaseLine) → IsShort (lines_of_base base ++ more) → ⊥
+not_short base more short =
+    let lens = length-append (tail_of base) more in
+    let len = tail_len base in
+    omega (arith, short, lens, len)
+
+pub base_unbroken : (bytes : List ℕ) (base : BaseKept) (rest : List ℕ) (k : ℕ) → IsShaped base → bytes ≡ base_lines base ++ rest → BreaksAt bytes k → ⊥
+base_unbroken bytes base rest k shaped e b =
+    go (meet b.lines (lines_of_base base) b.rest rest b.fit (all_lines base shaped) (sym b.is ∙ e ∙ sym (ap (λ t. t ++ rest) (lines_text base))))
+  where
+    go : GoesOn b.lines (lines_of_base base) b.rest rest ⊎ GoesOn (lines_of_base base) b.lines rest b.rest → ⊥
+    go (inl h) =
+        let same = not_behind bytes k b (lines_of_base base) rest (lines_follow base shaped) h in
+        not_short base [] (subst IsShort (sym same ∙ sym (append-nil (lines_of_base base))) b.short)
+    go (inr h) = not_short base h.more (subst IsShort h.is b.short)
