@@ -1,79 +1,128 @@
--- Of the lines up to an entry there is one verdict: they are good, or damaged, or too few.
-use Rattle.std.proofs.Common.{◌≡◌, ◌≢◌, ℕ, ◌+◌, ◌<◌, ◌≤◌, List, [], ◌∷◌, ◌++◌, Option, None, Some, length, sym, ap, subst, ◌∙◌, arith}
-use Rattle.std.specs.List.{AllByRecursion}
+-- Of the lines up to an entry there is one verdict: they are good, or damaged, or too few, or forgotten.
+use Rattle.std.proofs.Common.{◌≡◌, ◌≢◌, ℕ, ◌<◌, ◌⊎◌, inl, inr, List, [], Option, None, Some, sym, ap, subst, ◌∙◌, arith}
 use Rattle.std.proofs.lemmas.Option.{same_Some}
 use Rattle.rule_machine.specs.declared.rules.RuleSet.{RuleSet}
 use Rattle.rule_machine.specs.State.{State}
-use Rattle.rule_machine.specs.RuleTable.{RuleTable}
-use Rattle.rule_machine.specs.Run.{Entry, Moment, Run, beginning_with}
-use Rattle.rule_machine.specs.Answer.{Answers}
+use Rattle.rule_machine.specs.Base.{Part, Stand}
 use Rattle.rule_machine.specs.Tables.{table_of}
-use Rattle.entry_grammar.specs.Spelling.{max_entries}
 use Rattle.auditor.specs.declared.damage.Damage.{Damage}
-use Rattle.auditor.specs.declared.damage.Damage.TheVariants.{BadHeader, NotALine, OutOfOrder, NotTheMachines}
-use Rattle.auditor.specs.declared.summary.Summary.{Summary}
-use Rattle.line_text.specs.LogText.{entry_lines}
-use Rattle.auditor.specs.Transcript.{IsEntry}
-use Rattle.auditor.specs.Damage.{Follows, IsDamage, IsLineBehind}
-use Rattle.auditor.specs.Reached.{EndsAt, HasTooFew, IsLookedAt, IsStateAfter, line_of}
-use Rattle.auditor.proofs.Agreeing.{GoesOn, goes_on, later}
-use Rattle.auditor.proofs.Ending.{Ended, begun, same_beginning, ended_once, transcript_ends, no_line_ends, number_ends, reply_ends, header_good, some_rest, comes_rest, accepted_no_damage, count_once}
-use Rattle.auditor.proofs.Level.{first_once, behind_once, at_once, at, over}
-
--- behind the shorter of two logs that begin one text, the longer one goes on
-beyond : (t : RuleTable) (number : ℕ) (start : Moment) (log also : List Entry) (end last : Moment) (rest left : List ℕ) → 1 ≤ number → number + length log ≤ max_entries + 1 → length also < length log → AllByRecursion IsEntry log → AllByRecursion IsEntry also → Run t start log end → Run t start also last → entry_lines number log ++ rest ≡ entry_lines number also ++ left → GoesOn t (number + length also) last left
-beyond t number start [] also end last rest left one few less all every run ran e = absurd (omega (arith, less))
-beyond t number start (entry ∷ log) [] end last rest left one few less all every (next, answers, run) ran e =
-    let from = subst (λ (m : Moment). Answers t m.state m.spent entry.0 entry.1 next) (sym ran) answers in
-    goes_on t number last entry log left rest next one (omega (arith, few)) all.0 from (sym e)
-beyond t number start (entry ∷ log) (other ∷ also) end last rest left one few less all every (next, answers, run) (following, answered, ran) e =
-    let first = first_once number entry other log also rest left one (omega (arith, few)) all.0 every.0 e in
-    let there = behind_once t start entry other next following first.0 answers answered in
-    let moment = at_once next following start.spent entry other first.0 there in
-    later t number last left other also
-    (beyond t (number + 1) (at following start.spent other.1) log also end last rest left (omega arith) (omega (arith, few)) (omega (arith, less)) all.1 every.1
-    (subst (λ (m : Moment). Run t m log end) moment run) ran first.1)
+use Rattle.auditor.specs.declared.damage.Damage.TheVariants.{BadHeader, NotALine, OutOfOrder, NotTheMachines, BadBase}
+use Rattle.auditor.specs.Parts.{size_of}
+use Rattle.auditor.specs.Damage.{Follows, IsDamage}
+use Rattle.auditor.specs.Reached.{EndsAt, HasForgotten, HasTooFew, IsBefore, IsLookedAt, IsMetDamage, IsStateAfter}
+use Rattle.auditor.proofs.Steps.{passes_rise}
+use Rattle.auditor.proofs.Chains.{chain_beyond}
+use Rattle.auditor.proofs.Openings.{parts_behind}
+use Rattle.auditor.proofs.Ending.{Split, Ended, FailsFirst, FailsBehind, base_fails, begun, chain_behind, chain_same, ended_once, fails_some, failure_ends, first_good, followed, no_damage, run_once, split_at, stops_same, transcript_ends, whole}
+use Rattle.auditor.proofs.Level.{over}
 
 -- no transcript goes on behind where the text ends
-not_beyond : (bytes : List ℕ) (r q : RuleSet) (n d : ℕ) (log also : List Entry) (end last : Moment) (rest left : List ℕ) → Follows bytes r log end rest → Ended bytes q n d also last left → length also < length log → ⊥
-not_beyond bytes r q n d log also end last rest left f e less =
-    let g = e.follows in
-    let b = begun bytes r q log also end last rest left f g in
-    let few = f.transcript.not_too_many in
-    let table = subst (λ (x : RuleSet). Run (table_of x) (beginning_with g.size g.count) also last) (sym b.rules) g.transcript.run in
-    let run = subst (λ (m : Moment). Run (table_of r) m also last) (sym (same_beginning f.size g.size f.count g.count b.size b.count)) table in
-    let more = beyond (table_of r) 1 (beginning_with f.size f.count) log also end last rest left (omega arith) (omega (arith, few)) less f.transcript.entries g.transcript.entries f.transcript.run run b.behind in
-    e.stops (subst (λ (x : RuleSet). GoesOn (table_of x) (1 + length also) last left) b.rules more)
+not_beyond : (bytes : List ℕ) (r : RuleSet) (log : List Part) (end : Stand) (rest : List ℕ) (b : Split) → Follows bytes r log end rest → Ended bytes b → b.end.count < end.count → ⊥
+not_beyond bytes r log end rest b f e less =
+    let g = followed bytes b e in
+    let same = begun bytes r b.rules log b.log end b.end rest b.rest f g in
+    let text = parts_behind bytes r log end rest f in
+    let start = f.transcript.start in
+    let other = chain_same r b.rules f.opening b.opening start e.transcript.start text (parts_behind bytes b.rules b.log b.end b.rest g) b.log b.end b.rest same (chain_behind bytes b.rules b.log b.end b.rest g) in
+    let halts = stops_same r b.rules f.opening b.opening b.end b.rest same.rules same.openings e.stops in
+    chain_beyond r (size_of f.opening) start log b.log end b.end text rest b.rest (chain_behind bytes r log end rest f) other halts less
 
-apart : (bytes : List ℕ) (stop : Option ℕ) (r q : RuleSet) (n d : ℕ) (log also : List Entry) (end last : Moment) (rest left : List ℕ) (line : ℕ) → Follows bytes r log end rest → EndsAt stop log rest → Ended bytes q n d also last left → left ≢ [] → IsLineBehind line also → IsLookedAt stop line → ⊥
-apart bytes None r q n d log also end last rest left line f ends e some behind looked =
-    let once = ended_once bytes r q f.size n f.count d log also end last rest left (over bytes r log end rest f ends) e in
-    some (sym once.same.rests ∙ ends)
-apart bytes (Some k) r q n d log also end last rest left line f ends e some behind looked =
-    not_beyond bytes r q n d log also end last rest left f e (omega (arith, ends, behind, looked))
+apart : (bytes : List ℕ) (stop : Option ℕ) (r : RuleSet) (log : List Part) (end : Stand) (rest : List ℕ) (b : Split) → Follows bytes r log end rest → EndsAt stop end.count rest → Ended bytes b → b.rest ≢ [] → IsBefore stop b.end.count → ⊥
+apart bytes None r log end rest b f ends e some before =
+    let once = ended_once bytes (split_at bytes r log end rest f) b (over bytes r log end rest f ends) e in
+    some (sym (ap (λ (z : Split). z.rest) once) ∙ ends)
+apart bytes (Some k) r log end rest b f ends e some before = not_beyond bytes r log end rest b f e (omega (arith, ends, before))
+
+-- ---- a damage that is met
+
+-- it stands at the start, or behind fewer entries than were asked for
+pub record MetBehind (bytes : List ℕ) (stop : Option ℕ) (d : Damage) : Type 0 where
+  pub behind : FailsBehind bytes d
+  pub before : IsBefore stop behind.end.count
+
+pub met_fails : (bytes : List ℕ) (stop : Option ℕ) (d : Damage) (damage : IsDamage bytes d) → IsLookedAt bytes stop d damage → FailsFirst bytes d ⊎ MetBehind bytes stop d
+met_fails bytes stop BadHeader x looked = inl x
+met_fails bytes stop (NotALine line) x looked = inr (record {
+  behind = record { rules = x.rules; log = x.log; end = x.end; rest = x.rest; follows = x.follows; fails = (x.number, x.other, x.damage) };
+  before = looked;
+})
+met_fails bytes stop (OutOfOrder line) x looked = inr (record {
+  behind = record { rules = x.rules; log = x.log; end = x.end; rest = x.rest; follows = x.follows; fails = (x.number, (x.seq, x.entry, x.comes, x.damage)) };
+  before = looked;
+})
+met_fails bytes stop (NotTheMachines line) x looked = inr (record {
+  behind = record { rules = x.rules; log = x.log; end = x.end; rest = x.rest; follows = x.follows; fails = (x.number, (x.entry, x.comes, x.damage)) };
+  before = looked;
+})
+met_fails bytes stop (BadBase line) (inl x) looked = inl x
+met_fails bytes stop (BadBase line) (inr x) looked = inr (record { behind = base_fails bytes line x; before = looked })
 
 -- good lines have no damage
-pub good_no_damage : (bytes : List ℕ) (stop : Option ℕ) (rules : RuleSet) (s : State) (d : Damage) → IsStateAfter bytes stop rules s → IsDamage bytes d → IsLookedAt stop (line_of d) → ⊥
-good_no_damage bytes stop rules s BadHeader x d looked = header_good bytes rules x.log x.end x.rest d x.follows
-good_no_damage bytes stop rules s (NotALine l) x d looked =
-    apart bytes stop rules d.rules d.follows.size d.follows.count x.log d.log x.end d.end x.rest d.rest l x.follows x.ends (no_line_ends bytes l d) (some_rest d.rest d.damage) d.number looked
-good_no_damage bytes stop rules s (OutOfOrder l) x d looked =
-    apart bytes stop rules d.rules d.follows.size d.follows.count x.log d.log x.end d.end x.rest d.rest l x.follows x.ends (number_ends bytes l d) (comes_rest d.rest d.seq d.entry d.comes) d.number looked
-good_no_damage bytes stop rules s (NotTheMachines l) x d looked =
-    apart bytes stop rules d.rules d.follows.size d.follows.count x.log d.log x.end d.end x.rest d.rest l x.follows x.ends (reply_ends bytes l d) (comes_rest d.rest (length d.log + 1) d.entry d.comes) d.number looked
+pub good_no_damage : (bytes : List ℕ) (stop : Option ℕ) (rules : RuleSet) (s : State) (d : Damage) → IsStateAfter bytes stop rules s → IsMetDamage bytes stop d → ⊥
+good_no_damage bytes stop rules s d x met = by (met_fails bytes stop d met.is met.looked_at)
+  where
+    by : FailsFirst bytes d ⊎ MetBehind bytes stop d → ⊥
+    by (inl first) = first_good bytes d rules x.log x.end x.rest first x.follows
+    by (inr m) =
+        let b = m.behind in
+        let place = split_at bytes b.rules b.log b.end b.rest b.follows in
+        apart bytes stop rules x.log x.end x.rest place x.follows x.ends (failure_ends bytes d b) (fails_some place d b.fails) m.before
+
+-- ---- too few
 
 -- an entry that is there is not asked for in vain
 pub good_not_few : (bytes : List ℕ) (stop : Option ℕ) (rules : RuleSet) (s : State) (asked entries : ℕ) → IsStateAfter bytes stop rules s → HasTooFew bytes stop asked entries → ⊥
 good_not_few bytes stop rules s asked entries x few =
-    let ends : length x.log ≡ asked = subst (λ (o : Option ℕ). EndsAt o x.log x.rest) few.last_is x.ends in
-    let a = few.accepted in
-    let count : few.counted.entries ≡ length a.log = a.counts.entries in
-    not_beyond bytes rules a.rules a.size a.count x.log a.log x.end a.end x.rest [] x.follows (transcript_ends bytes a.rules a.size a.count a.log a.end a.transcript)
-    (omega (arith, ends, count, few.entries_are, few.fewer))
+    let ends : x.end.count ≡ asked = subst (λ (o : Option ℕ). EndsAt o x.end.count x.rest) few.last_is x.ends in
+    let less : few.end.count < x.end.count = omega (arith, ends, few.entries_are, few.fewer) in
+    not_beyond bytes rules x.log x.end x.rest (whole bytes few.rules few.opening few.log few.end) x.follows (transcript_ends bytes few.rules few.opening few.log few.end few.transcript) less
 
 pub few_once : (bytes : List ℕ) (stop : Option ℕ) (asked wanted entries count : ℕ) → HasTooFew bytes stop asked entries → HasTooFew bytes stop wanted count → (asked ≡ wanted) × (entries ≡ count)
 few_once bytes stop asked wanted entries count x y =
-    (same_Some asked wanted (sym x.last_is ∙ y.last_is), x.entries_are ∙ ap (λ (c : Summary). c.entries) (count_once bytes x.counted y.counted x.accepted y.accepted) ∙ sym y.entries_are)
+    let once = run_once bytes x.rules y.rules x.opening y.opening x.log y.log x.end y.end x.transcript y.transcript in
+    (same_Some asked wanted (sym x.last_is ∙ y.last_is), x.entries_are ∙ ap (λ (z : Stand). z.count) once.ends ∙ sym y.entries_are)
 
 pub few_no_damage : (bytes : List ℕ) (stop : Option ℕ) (asked entries : ℕ) (d : Damage) → HasTooFew bytes stop asked entries → IsDamage bytes d → ⊥
-few_no_damage bytes stop asked entries d x damage = accepted_no_damage bytes x.counted d x.accepted damage
+few_no_damage bytes stop asked entries d x damage = no_damage bytes x.rules x.opening x.log x.end d x.transcript damage
+
+-- ---- forgotten
+
+-- the run of a text goes on behind the base that it begins with
+forgotten_below : (bytes : List ℕ) (stop : Option ℕ) (asked base : ℕ) (rules : RuleSet) (log : List Part) (end : Stand) (rest : List ℕ) → HasForgotten bytes stop asked base → Follows bytes rules log end rest → asked < end.count
+forgotten_below bytes stop asked base rules log end rest x f =
+    let same = begun bytes x.rules rules [] log x.end end x.rest rest x.follows f in
+    let stands = ap (λ (z : Stand). z.count) x.follows.transcript.passes in
+    let starts = ap (λ (z : Stand). z.count) same.starts in
+    let rises = passes_rise (table_of rules) f.transcript.start end log f.transcript.passes in
+    omega (arith, x.fewer, x.base_is, stands, starts, rises)
+
+pub forgotten_once : (bytes : List ℕ) (stop : Option ℕ) (asked wanted base other : ℕ) → HasForgotten bytes stop asked base → HasForgotten bytes stop wanted other → (asked ≡ wanted) × (base ≡ other)
+forgotten_once bytes stop asked wanted base other x y =
+    let same = begun bytes x.rules y.rules [] [] x.end y.end x.rest y.rest x.follows y.follows in
+    let ends = x.follows.transcript.passes ∙ same.starts ∙ sym y.follows.transcript.passes in
+    (same_Some asked wanted (sym x.last_is ∙ y.last_is), x.base_is ∙ ap (λ (z : Stand). z.count) ends ∙ sym y.base_is)
+
+pub good_not_forgotten : (bytes : List ℕ) (stop : Option ℕ) (rules : RuleSet) (s : State) (asked base : ℕ) → IsStateAfter bytes stop rules s → HasForgotten bytes stop asked base → ⊥
+good_not_forgotten bytes stop rules s asked base x forgotten =
+    let ends : x.end.count ≡ asked = subst (λ (o : Option ℕ). EndsAt o x.end.count x.rest) forgotten.last_is x.ends in
+    let below = forgotten_below bytes stop asked base rules x.log x.end x.rest forgotten x.follows in
+    omega (arith, ends, below)
+
+pub few_not_forgotten : (bytes : List ℕ) (stop : Option ℕ) (asked entries wanted base : ℕ) → HasTooFew bytes stop asked entries → HasForgotten bytes stop wanted base → ⊥
+few_not_forgotten bytes stop asked entries wanted base x forgotten =
+    let place = whole bytes x.rules x.opening x.log x.end in
+    let f = followed bytes place (transcript_ends bytes x.rules x.opening x.log x.end x.transcript) in
+    let same = same_Some asked wanted (sym x.last_is ∙ forgotten.last_is) in
+    let below = forgotten_below bytes stop wanted base x.rules x.log x.end [] forgotten f in
+    omega (arith, same, below, x.entries_are, x.fewer)
+
+pub forgotten_no_damage : (bytes : List ℕ) (stop : Option ℕ) (asked base : ℕ) (d : Damage) → HasForgotten bytes stop asked base → IsMetDamage bytes stop d → ⊥
+forgotten_no_damage bytes stop asked base d x met = by (met_fails bytes stop d met.is met.looked_at)
+  where
+    by : FailsFirst bytes d ⊎ MetBehind bytes stop d → ⊥
+    by (inl first) = first_good bytes d x.rules [] x.end x.rest first x.follows
+    by (inr m) =
+        let b = m.behind in
+        let below = forgotten_below bytes stop asked base b.rules b.log b.end b.rest x b.follows in
+        let before : b.end.count < asked = subst (λ (o : Option ℕ). IsBefore o b.end.count) x.last_is m.before in
+        omega (arith, below, before)

@@ -1,79 +1,85 @@
 -- How far a replay of the first entries is, and what it says at its end.
-use Rattle.std.proofs.Common.{◌≡◌, ℕ, ◌+◌, ◌<◌, ◌⊎◌, true, false, List, [], Option, None, Some, Result, Ok, Err, refl, sym, ap, subst, ◌∙◌, ⊎_elim, arith, rules}
+use Rattle.std.proofs.Common.{◌≡◌, ℕ, ◌+◌, ◌<◌, ◌≤◌, ◌⊎◌, true, false, List, [], ◌++◌, Option, None, Some, Result, Ok, Err, refl, sym, ap, subst, ◌∙◌, ⊎_elim, append-nil, arith, rules}
 use Rattle.std.specs.Prelude.{IfOk, IfErr}
 use Rattle.std.proofs.lemmas.Bool.{true≢false}
+use Rattle.rule_machine.specs.declared.epoch.Start.{Start}
 use Rattle.rule_machine.specs.declared.rules.RuleSet.{RuleSet}
+use Rattle.rule_machine.specs.Base.{Part, Told, Kept}
 use Rattle.rule_machine.specs.Tables.{table_of}
 use Rattle.auditor.specs.declared.damage.JudgeFault.{JudgeFault}
 use Rattle.auditor.specs.declared.damage.JudgeFault.TheVariants.{Damaged, Memory}
 use Rattle.auditor.specs.declared.reach.Reached.{Reached}
 use Rattle.auditor.specs.declared.reach.ReplayFault.{ReplayFault}
-use Rattle.auditor.specs.declared.reach.ReplayFault.TheVariants.{Judged, TooFew}
-use Rattle.auditor.specs.declared.summary.Summary.{Summary}
-use Rattle.auditor.specs.Position.{Position}
+use Rattle.auditor.specs.declared.reach.ReplayFault.TheVariants.{Judged, TooFew, Forgotten}
+use Rattle.auditor.specs.declared.replay.Replay.{Replay}
+use Rattle.auditor.specs.Parts.{count_after}
+use Rattle.auditor.specs.Transcript.{IsTranscript}
+use Rattle.auditor.specs.Position.{Position, IsFurther, stand_of}
+use Rattle.auditor.specs.Parted.{IsSameText}
 use Rattle.auditor.specs.Accepted.{IsReached}
-use Rattle.auditor.specs.Verdict.{IsJudged}
-use Rattle.auditor.specs.Reached.{EndsAt, IsStateAfter, HasTooFew, IsLookedAt, IsReplayFault, IsOpened, IsOneFurther, IsAtLine, IsWithin, IsLongEnough, falls_short}
-use Rattle.auditor.proofs.Reaching.{reached_start, reached_more, reached_end}
+use Rattle.auditor.specs.Reached.{EndsAt, IsStateAfter, HasTooFew, IsReplayFault, IsBefore, IsMetBehind, IsMetFirst, IsOpened, IsWithin, IsLongEnough, falls_short}
+use Rattle.auditor.proofs.Steps.{step_count}
+use Rattle.auditor.proofs.Going.{IsAt, went_on}
 
-within_start : (last : Option ℕ) (entries : ℕ) → entries ≡ 0 → IsWithin last entries
-within_start None entries e = tt
-within_start (Some n) entries e = omega (arith, e)
+-- ---- one part further
 
-pub opened : (bytes rest : List ℕ) (rules : RuleSet) (p : Position) → IsOpened bytes rules p rest → IsReached bytes rules p rest
-opened bytes rest rules p o = subst (λ (q : Position). IsReached bytes rules q rest) (sym o.opening) (reached_start bytes o.line rest rules o.size o.count o.cut o.spells)
+count_more : (count : ℕ) (part : Part) → count_after count part ≤ count + 1
+count_more count (Told entry) = omega arith
+count_more count (Kept base) = omega arith
 
-pub started : (bytes rest : List ℕ) (rules : RuleSet) (p : Position) (last : Option ℕ) → IsOpened bytes rules p rest → IsReached bytes rules p rest × IsWithin last p.counted.entries
-started bytes rest rules p last o =
-    (opened bytes rest rules p o, within_start last p.counted.entries (ap (λ (q : Position). q.counted.entries) o.opening))
+within_more : (last : Option ℕ) (entries next : ℕ) → next ≤ entries + 1 → falls_short last entries ≡ true → IsWithin last next
+within_more None entries next more short = tt
+within_more (Some n) entries next more short = let below : entries < n = search rules in omega (arith, below, more)
 
-within_more : (last : Option ℕ) (entries : ℕ) → falls_short last entries ≡ true → IsWithin last (entries + 1)
-within_more None entries short = tt
-within_more (Some n) entries short = let below : entries < n = search rules in omega (arith, below)
+pub further_within : (bytes : List ℕ) (old new : Replay) (last : Option ℕ) → IsAt bytes old → falls_short last old.audit.number ≡ true → IsSameText old new → IsFurther old.rules old.size old.audit old.rest.now new.audit new.rest.now → IsAt bytes new × IsWithin last new.audit.number
+further_within bytes old new last at short same further =
+    let count : new.audit.number ≡ count_after old.audit.number further.part = step_count (table_of old.rules) (stand_of old.audit) (stand_of new.audit) further.part further.comes.steps in
+    let more = count_more old.audit.number further.part in
+    (went_on bytes old new at same further, within_more last old.audit.number new.audit.number (omega (arith, count, more)) short)
 
-pub further : (rules after_rules : RuleSet) (p q : Position) (bytes rest behind : List ℕ) (last : Option ℕ) → after_rules ≡ rules → IsReached bytes rules p rest → falls_short last p.counted.entries ≡ true → IsOneFurther (table_of rules) p rest q behind → IsReached bytes after_rules q behind × IsWithin last q.counted.entries
-further rules after_rules p q bytes rest behind last same reached short one =
-    let more = ap (λ (c : Summary). c.entries) one.good.counted in (
-      subst (λ (r : RuleSet). IsReached bytes r q behind) (sym same) (reached_more rules p q bytes one.line rest behind reached one.cut one.good),
-      subst (IsWithin last) (sym more) (within_more last p.counted.entries short),
-    )
+-- ---- faults
 
--- the line that is looked at next
-looked_at : (last : Option ℕ) (entries : ℕ) → falls_short last entries ≡ true → IsLookedAt last (entries + 2)
-looked_at None entries short = tt
-looked_at (Some n) entries short = let below : entries < n = search rules in omega (arith, below)
+pub first_fault : (bytes : List ℕ) (last : Option ℕ) (fault : JudgeFault) → IsMetFirst bytes fault → IsReplayFault bytes last (Judged fault)
+first_fault bytes last (Damaged damage) met = met last
+first_fault bytes last Memory met = tt
 
-first_looked_at : (last : Option ℕ) → IsLookedAt last 1
-first_looked_at None = tt
-first_looked_at (Some n) = omega arith
+comes_before : (last : Option ℕ) (entries : ℕ) → falls_short last entries ≡ true → IsBefore last entries
+comes_before None entries short = tt
+comes_before (Some n) entries short = let below : entries < n = search rules in below
 
-faulty : (bytes : List ℕ) (last : Option ℕ) (fault : JudgeFault) (line : ℕ) → IsLookedAt last line → IsAtLine line fault → IsJudged bytes (Err fault) → IsReplayFault bytes last (Judged fault)
-faulty bytes last (Damaged damage) line looked at judged = (judged, subst (IsLookedAt last) (sym at) looked)
-faulty bytes last Memory line looked at judged = tt
+pub part_fault : (bytes : List ℕ) (replay : Replay) (last : Option ℕ) (fault : JudgeFault) → IsAt bytes replay → falls_short last replay.audit.number ≡ true → IsMetBehind replay.text.now replay.audit.number fault → IsReplayFault bytes last (Judged fault)
+part_fault bytes replay last (Damaged damage) at short met =
+    (subst (λ (b : List ℕ). IsMetBehind b replay.audit.number (Damaged damage)) at.1 met) last (comes_before last replay.audit.number short)
+part_fault bytes replay last Memory at short met = tt
 
-pub open_fault : (bytes : List ℕ) (last : Option ℕ) (fault : JudgeFault) → IsJudged bytes (Err fault) × IsAtLine 1 fault → IsReplayFault bytes last (Judged fault)
-open_fault bytes last fault (judged, at) = faulty bytes last fault 1 (first_looked_at last) at judged
-
-pub line_fault : (bytes : List ℕ) (last : Option ℕ) (fault : JudgeFault) (entries : ℕ) → falls_short last entries ≡ true → IsAtLine (entries + 2) fault → IsJudged bytes (Err fault) → IsReplayFault bytes last (Judged fault)
-line_fault bytes last fault entries short at judged = faulty bytes last fault (entries + 2) (looked_at last entries short) at judged
+pub forgotten_fault : (bytes : List ℕ) (rules : RuleSet) (size : ℕ) (begun : Start) (p : Position) (rest : List ℕ) (last : Option ℕ) (asked : ℕ) → IsOpened bytes rules size begun p rest → last ≡ Some asked → asked < p.number → IsReplayFault bytes last (Forgotten asked p.number)
+forgotten_fault bytes rules size begun p rest last asked o is fewer = record {
+  last_is = is;
+  fewer = fewer;
+  rules = rules;
+  end = o.start;
+  rest = rest;
+  follows = o.follows;
+  base_is = ap (λ (q : Position). q.number) o.opening;
+}
 
 -- ---- the end
 
-ends_at : (bytes : List ℕ) (rules : RuleSet) (p : Position) (rest : List ℕ) (last : Option ℕ) (r : IsReached bytes rules p rest) → IsWithin last p.counted.entries → IsLongEnough last p.counted.entries → (rest ≡ []) ⊎ (falls_short last p.counted.entries ≡ false) → EndsAt last r.log rest
-ends_at bytes rules p rest None r within enough stop = ⊎_elim (λ none. none) (λ no. absurd (true≢false no)) stop
-ends_at bytes rules p rest (Some n) r within enough stop = omega (arith, within, enough, r.counts.entries)
+ends_at : (p : Position) (rest : List ℕ) (last : Option ℕ) → IsWithin last p.number → IsLongEnough last p.number → (rest ≡ []) ⊎ (falls_short last p.number ≡ false) → EndsAt last p.number rest
+ends_at p rest None within enough stop = ⊎_elim (λ none. none) (λ no. absurd (true≢false no)) stop
+ends_at p rest (Some n) within enough stop = omega (arith, within, enough)
 
-pub ended : (bytes : List ℕ) (rules : RuleSet) (p : Position) (rest : List ℕ) (last : Option ℕ) (result : Result Reached ReplayFault) → IsReached bytes rules p rest → IsWithin last p.counted.entries → (rest ≡ []) ⊎ (falls_short last p.counted.entries ≡ false)
-    → IfOk result (λ reached. (reached.rules ≡ rules) × (reached.judge ≡ p.state) × IsLongEnough last p.counted.entries) → IfOk result (λ reached. IsStateAfter bytes last reached.rules reached.judge)
-ended bytes rules p rest last (Err fault) r within stop given = tt
-ended bytes rules p rest last (Ok reached) r within stop (same, state, enough) =
+pub ended : (bytes : List ℕ) (rules : RuleSet) (size : ℕ) (p : Position) (rest : List ℕ) (last : Option ℕ) (result : Result Reached ReplayFault) → IsReached bytes rules size p rest → IsWithin last p.number → (rest ≡ []) ⊎ (falls_short last p.number ≡ false)
+    → IfOk result (λ reached. (reached.rules ≡ rules) × (reached.judge ≡ p.state) × IsLongEnough last p.number) → IfOk result (λ reached. IsStateAfter bytes last reached.rules reached.judge)
+ended bytes rules size p rest last (Err fault) r within stop given = tt
+ended bytes rules size p rest last (Ok reached) r within stop (same, state, enough) =
     let at : IsStateAfter bytes last rules reached.judge = record {
       log = r.log;
-      end = r.end;
+      end = stand_of p;
       rest = rest;
       follows = r.follows;
-      ends = ends_at bytes rules p rest last r within enough stop;
-      state = state ∙ r.state;
+      ends = ends_at p rest last within enough stop;
+      state = state;
     } in
     subst (λ (set : RuleSet). IsStateAfter bytes last set reached.judge) (sym same) at
 
@@ -82,15 +88,20 @@ all_read rest last entries asked is fewer stop =
     let short : falls_short last entries ≡ true = ap (λ (o : Option ℕ). falls_short o entries) is ∙ search rules in
     ⊎_elim (λ none. none) (λ no. absurd (true≢false (sym short ∙ no))) stop
 
-pub ended_early : (bytes : List ℕ) (rules : RuleSet) (p : Position) (rest : List ℕ) (last : Option ℕ) (result : Result Reached ReplayFault) → IsReached bytes rules p rest → (rest ≡ []) ⊎ (falls_short last p.counted.entries ≡ false)
-    → IfErr result (λ fault. (asked : ℕ) × (fault ≡ TooFew asked p.counted.entries) × (last ≡ Some asked) × (p.counted.entries < asked)) → IfErr result (IsReplayFault bytes last)
-ended_early bytes rules p rest last (Ok reached) r stop given = tt
-ended_early bytes rules p rest last (Err fault) r stop (asked, is, last_is, fewer) =
-    let few : HasTooFew bytes last asked p.counted.entries = record {
+pub ended_early : (bytes : List ℕ) (rules : RuleSet) (size : ℕ) (p : Position) (rest : List ℕ) (last : Option ℕ) (result : Result Reached ReplayFault) → IsReached bytes rules size p rest → (rest ≡ []) ⊎ (falls_short last p.number ≡ false)
+    → IfErr result (λ fault. (asked : ℕ) × (fault ≡ TooFew asked p.number) × (last ≡ Some asked) × (p.number < asked)) → IfErr result (IsReplayFault bytes last)
+ended_early bytes rules size p rest last (Ok reached) r stop given = tt
+ended_early bytes rules size p rest last (Err fault) r stop (asked, is, last_is, fewer) =
+    let none = all_read rest last p.number asked last_is fewer stop in
+    let same : bytes ≡ r.follows.good = r.follows.splits ∙ ap (λ (z : List ℕ). r.follows.good ++ z) none ∙ append-nil r.follows.good in
+    let few : HasTooFew bytes last asked p.number = record {
       last_is = last_is;
       fewer = fewer;
-      counted = p.counted;
-      accepted = reached_end bytes rules p rest r (all_read rest last p.counted.entries asked last_is fewer stop);
+      rules = rules;
+      opening = r.follows.opening;
+      log = r.log;
+      end = stand_of p;
+      transcript = subst (λ (b : List ℕ). IsTranscript b rules r.follows.opening r.log (stand_of p)) (sym same) r.follows.transcript;
       entries_are = refl;
     } in
     subst (IsReplayFault bytes last) (sym is) few

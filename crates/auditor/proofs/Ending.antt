@@ -1,223 +1,356 @@
 -- A text ends, as a transcript or in a damage, in one way.
-use Rattle.std.proofs.Common.{◌≡◌, ◌≢◌, ℕ, ◌+◌, ◌≤◌, inl, inr, List, [], ◌∷◌, ◌++◌, Option, Some, length, refl, sym, ap, subst, ◌∙◌, append_assoc, append-nil, arith}
+use Rattle.std.proofs.Common.{◌≡◌, ◌≢◌, ℕ, ◌+◌, ◌⊎◌, inl, inr, List, [], ◌∷◌, ◌++◌, Option, length, drop, refl, sym, ap, subst, ◌∙◌, append_assoc, append-nil}
 use Rattle.std.proofs.lemmas.Option.{none-some, same_Some}
+use Rattle.std.proofs.lemmas.List.{append_cancel_left, append_cancel_right}
+use Rattle.rule_machine.specs.declared.base.Base.{Base}
 use Rattle.rule_machine.specs.declared.rules.RuleSet.{RuleSet}
-use Rattle.rule_machine.specs.Run.{Entry, Moment, Run, beginning_with}
+use Rattle.rule_machine.specs.State.{State}
+use Rattle.rule_machine.specs.Base.{Part, Told, Kept, Stand, base_of, entries_in}
+use Rattle.rule_machine.specs.Run.{Entry}
 use Rattle.rule_machine.specs.Answer.{Answers}
 use Rattle.rule_machine.specs.Tables.{table_of}
-use Rattle.line_text.specs.EntryText.{header_text, header_line}
-use Rattle.entry_grammar.specs.Spelling.{SpellsEntry, SpellsHeader}
+use Rattle.line_text.specs.EntryText.{entry_text}
+use Rattle.line_text.specs.BaseText.{base_text}
+use Rattle.entry_grammar.specs.Lines.{first_line}
+use Rattle.entry_grammar.specs.Spelling.{SpellsEntry}
+use Rattle.entry_grammar.proofs.Cutting.{first_line-splits}
 use Rattle.entry_grammar.proofs.Entries.{spells_entry_once}
-use Rattle.entry_grammar.proofs.Headers.{spells_header_once}
+use Rattle.entry_grammar.proofs.Free.{cons_parts}
 use Rattle.auditor.specs.declared.damage.Damage.{Damage}
-use Rattle.auditor.specs.declared.damage.Damage.TheVariants.{BadHeader, NotALine, OutOfOrder, NotTheMachines}
+use Rattle.auditor.specs.declared.damage.Damage.TheVariants.{BadHeader, NotALine, OutOfOrder, NotTheMachines, BadBase}
 use Rattle.auditor.specs.declared.summary.Summary.{Summary}
-use Rattle.line_text.specs.LogText.{entry_lines}
-use Rattle.auditor.specs.Transcript.{IsTranscript, epoch_count, move_count}
-use Rattle.auditor.specs.Damage.{Follows, EntryComes, IsLineBehind, HasNoEntry, HasBadHeader, EndsInNoLine, EndsOutOfOrder, EndsNotTheMachines, IsDamage, first_line}
+use Rattle.auditor.specs.Parts.{Opening, size_of}
+use Rattle.auditor.specs.Transcript.{IsTranscript, Comes, epoch_count, move_count}
+use Rattle.auditor.specs.Damage.{Follows, EntryComes, BeginsBase, Parting, IsLineBehind, HasNoEntry, HasBadHeader, HasBadStart, EndsInBadBase, IsDamage}
 use Rattle.auditor.specs.Accepted.{Counts, IsAccepted}
 use Rattle.auditor.specs.Once.{SameRun}
-use Rattle.auditor.proofs.Feedless.{header_free}
-use Rattle.auditor.proofs.Agreeing.{GoesOn, SameEnd, Meet, meet, first_line-free}
+use Rattle.auditor.proofs.Feedless.{entry_free}
+use Rattle.auditor.proofs.Chains.{BeginsOther, Chain, Stops, chain_of, chain_meet, entry_other, nothing_stops, other_no_base, told_spells, told_is}
+use Rattle.auditor.proofs.Openings.{SameOpening, first_line-free, follows_text, opening_once, parts_behind, header_good, start_good, header_no_start, start_once_bad}
 
 -- ---- two transcripts at the beginning of one text
 
-spells_of : (rules : RuleSet) (size count : ℕ) → size ≤ 65535 → count ≤ size → SpellsHeader (header_text rules size count) rules size count
-spells_of rules size count few within = record { few = few; within = within; is = refl }
-
--- the first line is the header
-header_first : (bytes : List ℕ) (rules : RuleSet) (log : List Entry) (end : Moment) (rest : List ℕ) (f : Follows bytes rules log end rest) → first_line bytes ≡ Some (header_text rules f.size f.count, entry_lines 1 log ++ rest)
-header_first bytes rules log end rest f =
-    let header = header_text rules f.size f.count in
-    let lines = entry_lines 1 log in
-    let whole : bytes ≡ header ++ 10 ∷ (lines ++ rest) =
-    f.splits ∙ ap (λ (l : List ℕ). l ++ rest) f.transcript.text ∙ append_assoc (header_line rules f.size f.count) lines rest ∙ append_assoc header (10 ∷ []) (lines ++ rest) in
-    ap first_line whole ∙ first_line-free header (lines ++ rest) (header_free rules f.size f.count f.transcript.few f.transcript.within)
-
-pub record Begun (r q : RuleSet) (m n c d : ℕ) (lines also : List ℕ) : Type 0 where
-  pub rules : r ≡ q
-  pub size : m ≡ n
-  pub count : c ≡ d
-  pub behind : lines ≡ also
-
-pub begun : (bytes : List ℕ) (r q : RuleSet) (log also : List Entry) (end last : Moment) (rest left : List ℕ) (f : Follows bytes r log end rest) (g : Follows bytes q also last left) → Begun r q f.size g.size f.count g.count (entry_lines 1 log ++ rest) (entry_lines 1 also ++ left)
+pub begun : (bytes : List ℕ) (r q : RuleSet) (log also : List Part) (end last : Stand) (rest left : List ℕ) (f : Follows bytes r log end rest) (g : Follows bytes q also last left) → SameOpening r q f.opening g.opening f.transcript.start g.transcript.start (parts_behind bytes r log end rest f) (parts_behind bytes q also last left g)
 begun bytes r q log also end last rest left f g =
-    let header = header_text r f.size f.count in
-    let other = header_text q g.size g.count in
-    let first : (header, entry_lines 1 log ++ rest) ≡ (other, entry_lines 1 also ++ left) =
-    same_Some (header, entry_lines 1 log ++ rest) (other, entry_lines 1 also ++ left) (sym (header_first bytes r log end rest f) ∙ header_first bytes q also last left g) in
-    let spelled = subst (λ (l : List ℕ). SpellsHeader l q g.size g.count) (sym (ap (λ (p : List ℕ × List ℕ). p.0) first)) (spells_of q g.size g.count g.transcript.few g.transcript.within) in
-    let once = spells_header_once header r q f.size g.size f.count g.count (spells_of r f.size f.count f.transcript.few f.transcript.within) spelled in
-    record { rules = once.0; size = once.1; count = once.2; behind = ap (λ (p : List ℕ × List ℕ). p.1) first }
+    opening_once r q f.opening g.opening f.transcript.start g.transcript.start (parts_behind bytes r log end rest f) (parts_behind bytes q also last left g) f.transcript.opens g.transcript.opens
+    (sym (follows_text bytes r log end rest f) ∙ follows_text bytes q also last left g)
 
--- where as many names are present, the runs begin in one place
-pub same_beginning : (m n c d : ℕ) → m ≡ n → c ≡ d → beginning_with m c ≡ beginning_with n d
-same_beginning m n c d sizes counts = ap (λ (k : ℕ). beginning_with k c) sizes ∙ ap (λ (k : ℕ). beginning_with n k) counts
+pub chain_behind : (bytes : List ℕ) (rules : RuleSet) (log : List Part) (end : Stand) (rest : List ℕ) (f : Follows bytes rules log end rest) → Chain rules (size_of f.opening) f.transcript.start log end (parts_behind bytes rules log end rest f) rest
+chain_behind bytes rules log end rest f =
+    let is = f.transcript in
+    chain_of rules (size_of f.opening) is.start log end rest is.parts is.not_too_many is.passes
 
-follows_meet : (bytes : List ℕ) (r q : RuleSet) (log also : List Entry) (end last : Moment) (rest left : List ℕ) (f : Follows bytes r log end rest) (g : Follows bytes q also last left) → r ≡ q → f.size ≡ g.size → f.count ≡ g.count → entry_lines 1 log ++ rest ≡ entry_lines 1 also ++ left → Meet (table_of r) 1 log also end last rest left
-follows_meet bytes r q log also end last rest left f g rules sizes counts behind =
-    let few = f.transcript.not_too_many in
-    let little = g.transcript.not_too_many in
-    let table = subst (λ (x : RuleSet). Run (table_of x) (beginning_with g.size g.count) also last) (sym rules) g.transcript.run in
-    let run = subst (λ (m : Moment). Run (table_of r) m also last) (sym (same_beginning f.size g.size f.count g.count sizes counts)) table in
-    meet (table_of r) 1 (beginning_with f.size f.count) log also end last rest left (omega arith) (omega (arith, few)) (omega (arith, little)) f.transcript.entries g.transcript.entries f.transcript.run run behind
+-- a chain of the one is a chain of the other
+pub chain_same : (r q : RuleSet) (o u : Opening) (start begin : Stand) (x y : List ℕ) (also : List Part) (last : Stand) (left : List ℕ) → SameOpening r q o u start begin x y → Chain q (size_of u) begin also last y left → Chain r (size_of o) start also last x left
+chain_same r q o u start begin x y also last left same chain =
+    subst (λ (z : RuleSet). Chain z (size_of o) start also last x left) (sym same.rules)
+    (subst (λ (z : Opening). Chain q (size_of z) start also last x left) (sym same.openings)
+    (subst (λ (z : Stand). Chain q (size_of u) z also last x left) (sym same.starts)
+    (subst (λ (z : List ℕ). Chain q (size_of u) begin also last z left) (sym same.rests) chain)))
+
+pub stops_same : (r q : RuleSet) (o u : Opening) (last : Stand) (left : List ℕ) → r ≡ q → o ≡ u → Stops q (size_of u) last left → Stops r (size_of o) last left
+stops_same r q o u last left rules openings stops =
+    subst (λ (z : RuleSet). Stops z (size_of o) last left) (sym rules) (subst (λ (z : Opening). Stops q (size_of z) last left) (sym openings) stops)
 
 -- ---- where a text ends
 
--- behind the log no entry comes of which the machine may give the reply
-pub record Ended (bytes : List ℕ) (rules : RuleSet) (size count : ℕ) (log : List Entry) (end : Moment) (rest : List ℕ) : Type 0 where
-  pub follows : Follows bytes rules log end rest
-  pub size_is : follows.size ≡ size
-  pub count_is : follows.count ≡ count
-  pub stops : GoesOn (table_of rules) (1 + length log) end rest → ⊥
+-- the beginning of a text that is a transcript, and the rest
+pub record Split : Type 0 where
+  pub rules : RuleSet
+  pub opening : Opening
+  pub good : List ℕ
+  pub log : List Part
+  pub end : Stand
+  pub rest : List ℕ
 
-pub record EndedOnce (r q : RuleSet) (m n c d : ℕ) (log also : List Entry) (end last : Moment) (rest left : List ℕ) : Type 0 where
-  pub rules : r ≡ q
-  pub size : m ≡ n
-  pub count : c ≡ d
-  pub same : SameEnd log also end last rest left
+-- no part comes behind it
+pub record Ended (bytes : List ℕ) (at : Split) : Type 0 where
+  pub transcript : IsTranscript at.good at.rules at.opening at.log at.end
+  pub splits : bytes ≡ at.good ++ at.rest
+  pub stops : Stops at.rules (size_of at.opening) at.end at.rest
 
-same_end : (r q : RuleSet) (log also : List Entry) (end last : Moment) (rest left : List ℕ) → r ≡ q → (GoesOn (table_of r) (1 + length log) end rest → ⊥) → (GoesOn (table_of q) (1 + length also) last left → ⊥) → Meet (table_of r) 1 log also end last rest left → SameEnd log also end last rest left
-same_end r q log also end last rest left rules stops halts (inl same) = same
-same_end r q log also end last rest left rules stops halts (inr (inl g)) = absurd (stops g)
-same_end r q log also end last rest left rules stops halts (inr (inr g)) =
-    absurd (halts (subst (λ (x : RuleSet). GoesOn (table_of x) (1 + length also) last left) rules g))
+abbrev pub followed : (bytes : List ℕ) (at : Split) → Ended bytes at → Follows bytes at.rules at.log at.end at.rest
+followed bytes at x = record { opening = at.opening; good = at.good; transcript = x.transcript; splits = x.splits }
+
+abbrev pub split_at : (bytes : List ℕ) (rules : RuleSet) (log : List Part) (end : Stand) (rest : List ℕ) → Follows bytes rules log end rest → Split
+split_at bytes rules log end rest f = record { rules = rules; opening = f.opening; good = f.good; log = log; end = end; rest = rest }
+
+pub ends_here : (bytes : List ℕ) (rules : RuleSet) (log : List Part) (end : Stand) (rest : List ℕ) (f : Follows bytes rules log end rest) → Stops rules (size_of f.opening) end rest → Ended bytes (split_at bytes rules log end rest f)
+ends_here bytes rules log end rest f stops = record { transcript = f.transcript; splits = f.splits; stops = stops }
+
+goods_same : (bytes good fine rest left : List ℕ) → bytes ≡ good ++ rest → bytes ≡ fine ++ left → rest ≡ left → good ≡ fine
+goods_same bytes good fine rest left e f same =
+    append_cancel_right good fine left (ap (λ (z : List ℕ). good ++ z) (sym same) ∙ sym e ∙ f)
 
 -- a text ends in one place
-pub ended_once : (bytes : List ℕ) (r q : RuleSet) (m n c d : ℕ) (log also : List Entry) (end last : Moment) (rest left : List ℕ) → Ended bytes r m c log end rest → Ended bytes q n d also last left → EndedOnce r q m n c d log also end last rest left
-ended_once bytes r q m n c d log also end last rest left x y =
-    let b = begun bytes r q log also end last rest left x.follows y.follows in
-    record {
-      rules = b.rules;
-      size = sym x.size_is ∙ b.size ∙ y.size_is;
-      count = sym x.count_is ∙ b.count ∙ y.count_is;
-      same = same_end r q log also end last rest left b.rules x.stops y.stops (follows_meet bytes r q log also end last rest left x.follows y.follows b.rules b.size b.count b.behind);
-    }
+pub ended_once : (bytes : List ℕ) (a b : Split) → Ended bytes a → Ended bytes b → a ≡ b
+ended_once bytes a b x y =
+    let f = followed bytes a x in
+    let g = followed bytes b y in
+    let same = begun bytes a.rules b.rules a.log b.log a.end b.end a.rest b.rest f g in
+    let start = x.transcript.start in
+    let text = parts_behind bytes a.rules a.log a.end a.rest f in
+    let also = chain_same a.rules b.rules a.opening b.opening start y.transcript.start text (parts_behind bytes b.rules b.log b.end b.rest g) b.log b.end b.rest same (chain_behind bytes b.rules b.log b.end b.rest g) in
+    let halts = stops_same a.rules b.rules a.opening b.opening b.end b.rest same.rules same.openings y.stops in
+    let met = chain_meet a.rules (size_of a.opening) start a.log b.log a.end b.end text a.rest b.rest (chain_behind bytes a.rules a.log a.end a.rest f) also x.stops halts in
+    let goods = goods_same bytes a.good b.good a.rest b.rest x.splits y.splits met.rests in
+    λ i. record { rules = same.rules i; opening = same.openings i; good = goods i; log = met.logs i; end = met.ends i; rest = met.rests i }
 
 -- ---- how it ends there
 
-pub transcript_ends : (bytes : List ℕ) (rules : RuleSet) (size count : ℕ) (log : List Entry) (end : Moment) → IsTranscript bytes rules size count log end → Ended bytes rules size count log end []
-transcript_ends bytes rules size count log end is = record {
-  follows = record { size = size; count = count; good = bytes; transcript = is; splits = sym (append-nil bytes) };
-  size_is = refl;
-  count_is = refl;
-  stops = λ g. none-some (g.line, g.more) g.is;
+abbrev pub whole : List ℕ → RuleSet → Opening → List Part → Stand → Split
+whole bytes rules opening log end = record { rules = rules; opening = opening; good = bytes; log = log; end = end; rest = [] }
+
+abbrev pub transcript_ends : (bytes : List ℕ) (rules : RuleSet) (opening : Opening) (log : List Part) (end : Stand) → IsTranscript bytes rules opening log end → Ended bytes (whole bytes rules opening log end)
+transcript_ends bytes rules opening log end is = record {
+  transcript = is;
+  splits = sym (append-nil bytes);
+  stops = nothing_stops rules (size_of opening) end;
 }
 
+-- what fails behind a transcript
+abbrev pub Fails : Split → Damage → Type 0
+Fails at BadHeader = ⊥
+Fails at (NotALine line) = IsLineBehind line at.good × (BeginsBase at.rest → ⊥) × HasNoEntry at.rest (first_line at.rest)
+Fails at (OutOfOrder line) = IsLineBehind line at.good × ((seq : ℕ) × (entry : Entry) × EntryComes at.rest seq entry × (seq ≢ at.end.count + 1))
+Fails at (NotTheMachines line) =
+    IsLineBehind line at.good × ((entry : Entry) × EntryComes at.rest (at.end.count + 1) entry × ((s : State) → Answers (table_of at.rules) at.end.moment.state at.end.moment.spent entry.0 entry.1 s → ⊥))
+Fails at (BadBase line) =
+    BeginsBase at.rest × ((parting : Parting (base_text at.rules (size_of at.opening) (base_of at.end.count at.end.moment)) at.rest) × IsLineBehind line (at.good ++ parting.common))
+
+-- what fails at the start
+abbrev pub FailsFirst : List ℕ → Damage → Type 0
+FailsFirst bytes BadHeader = HasBadHeader (first_line bytes)
+FailsFirst bytes (NotALine line) = ⊥
+FailsFirst bytes (OutOfOrder line) = ⊥
+FailsFirst bytes (NotTheMachines line) = ⊥
+FailsFirst bytes (BadBase line) = HasBadStart bytes line
+
+-- behind a transcript something fails
+pub record FailsBehind (bytes : List ℕ) (d : Damage) : Type 0 where
+  pub rules : RuleSet
+  pub log : List Part
+  pub end : Stand
+  pub rest : List ℕ
+  pub follows : Follows bytes rules log end rest
+  pub fails : Fails (split_at bytes rules log end rest follows) d
+
+abbrev pub base_fails : (bytes : List ℕ) (line : ℕ) → EndsInBadBase bytes line → FailsBehind bytes (BadBase line)
+base_fails bytes line x = record {
+  rules = x.rules;
+  log = x.log;
+  end = x.end;
+  rest = x.rest;
+  follows = x.follows;
+  fails = (x.begins, (x.parting, x.number));
+}
+
+pub damage_fails : (bytes : List ℕ) (d : Damage) → IsDamage bytes d → FailsFirst bytes d ⊎ FailsBehind bytes d
+damage_fails bytes BadHeader x = inl x
+damage_fails bytes (NotALine line) x =
+    inr (record { rules = x.rules; log = x.log; end = x.end; rest = x.rest; follows = x.follows; fails = (x.number, x.other, x.damage) })
+damage_fails bytes (OutOfOrder line) x =
+    inr (record { rules = x.rules; log = x.log; end = x.end; rest = x.rest; follows = x.follows; fails = (x.number, (x.seq, x.entry, x.comes, x.damage)) })
+damage_fails bytes (NotTheMachines line) x =
+    inr (record { rules = x.rules; log = x.log; end = x.end; rest = x.rest; follows = x.follows; fails = (x.number, (x.entry, x.comes, x.damage)) })
+damage_fails bytes (BadBase line) (inl x) = inl x
+damage_fails bytes (BadBase line) (inr x) = inr (base_fails bytes line x)
+
+-- ---- what comes
+
 -- one first line, and one entry that it spells
-comes_once : (rest : List ℕ) (m n : ℕ) (e f : Entry) → EntryComes rest m e → EntryComes rest n f → (m ≡ n) × (e ≡ f)
-comes_once rest m n e f a b =
+entry_once : (rest : List ℕ) (m n : ℕ) (e f : Entry) → EntryComes rest m e → EntryComes rest n f → (m ≡ n) × (e ≡ f)
+entry_once rest m n e f a b =
     let same : (a.line, a.more) ≡ (b.line, b.more) = same_Some (a.line, a.more) (b.line, b.more) (sym a.is ∙ b.is) in
     spells_entry_once a.line m n e f a.spells (subst (λ (l : List ℕ). SpellsEntry l n f) (sym (ap (λ (p : List ℕ × List ℕ). p.0) same)) b.spells)
 
-goes_comes : (rules : RuleSet) (number : ℕ) (m : Moment) (rest : List ℕ) (g : GoesOn (table_of rules) number m rest) → EntryComes rest number g.entry
-goes_comes rules number m rest g = record { line = g.line; more = g.more; is = g.is; spells = g.spells }
+told_comes : (rules : RuleSet) (size : ℕ) (at : Stand) (rest : List ℕ) (entry : Entry) (next : Stand) (behind : List ℕ) → Comes rules size at rest (Told entry) next behind → EntryComes rest (at.count + 1) entry
+told_comes rules size at rest entry next behind x =
+    let line = entry_text (at.count + 1) entry.0 entry.1 in
+    let spells = told_spells rules size at rest entry next behind x in
+    record {
+      line = line;
+      more = behind;
+      is = ap first_line (told_is rules size at rest entry next behind x) ∙ first_line-free line behind (entry_free line (at.count + 1) entry spells);
+      spells = spells;
+    }
+
+comes_other : (rest : List ℕ) (number : ℕ) (entry : Entry) → EntryComes rest number entry → BeginsOther rest
+comes_other rest number entry x =
+    let is : rest ≡ entry_text number entry.0 entry.1 ++ 10 ∷ x.more = first_line-splits rest x.line x.more x.is ∙ ap (λ (l : List ℕ). l ++ 10 ∷ x.more) x.spells.is in
+    subst BeginsOther (sym is) (entry_other number entry (10 ∷ x.more) x.spells.numbered.1)
+
+-- where a base begins, no entry comes
+pub comes_no_base : (rest : List ℕ) (number : ℕ) (entry : Entry) → EntryComes rest number entry → BeginsBase rest → ⊥
+comes_no_base rest number entry x begins = other_no_base rest _ (comes_other rest number entry x) begins.1
+
+kept_begins : (rules : RuleSet) (size : ℕ) (at : Stand) (rest : List ℕ) (base : Base) (next : Stand) (behind : List ℕ) → Comes rules size at rest (Kept base) next behind → BeginsBase rest
+kept_begins rules size at rest base next behind x = (drop 9 (base_text rules size base ++ behind), x.is)
 
 none_comes : (rest : List ℕ) (number : ℕ) (entry : Entry) → HasNoEntry rest (first_line rest) → EntryComes rest number entry → ⊥
 none_comes rest number entry none comes =
     let no = subst (λ (found : Option (List ℕ × List ℕ)). HasNoEntry rest found) comes.is none in
     no number entry comes.spells
 
-pub no_line_ends : (bytes : List ℕ) (line : ℕ) (e : EndsInNoLine bytes line) → Ended bytes e.rules e.follows.size e.follows.count e.log e.end e.rest
-no_line_ends bytes line e = record {
-  follows = e.follows;
-  size_is = refl;
-  count_is = refl;
-  stops = λ g. none_comes e.rest (1 + length e.log) g.entry e.damage (goes_comes e.rules (1 + length e.log) e.end e.rest g);
-}
+-- the text that the bytes part from does not begin them
+parted : (common missing more behind : List ℕ) → missing ≢ [] → ((b : ℕ) (x y : List ℕ) → missing ≡ b ∷ x → more ≡ b ∷ y → ⊥) → common ++ more ≡ (common ++ missing) ++ behind → ⊥
+parted common [] more behind some apart e = some refl
+parted common (b ∷ missing) more behind some apart e =
+    apart b missing (missing ++ behind) refl (append_cancel_left common more ((b ∷ missing) ++ behind) (e ∙ append_assoc common (b ∷ missing) behind))
 
-pub number_ends : (bytes : List ℕ) (line : ℕ) (e : EndsOutOfOrder bytes line) → Ended bytes e.rules e.follows.size e.follows.count e.log e.end e.rest
-number_ends bytes line e = record {
-  follows = e.follows;
-  size_is = refl;
-  count_is = refl;
-  stops = λ g.
-      let same = (comes_once e.rest e.seq (1 + length e.log) e.entry g.entry e.comes (goes_comes e.rules (1 + length e.log) e.end e.rest g)).0 in
-      e.damage (omega (arith, same));
-}
+pub parting_begins : (text bytes behind : List ℕ) → Parting text bytes → bytes ≡ text ++ behind → ⊥
+parting_begins text bytes behind p e =
+    parted p.common p.missing p.more behind p.some p.apart (sym p.had ∙ e ∙ ap (λ (t : List ℕ). t ++ behind) p.wanted)
 
-pub reply_ends : (bytes : List ℕ) (line : ℕ) (e : EndsNotTheMachines bytes line) → Ended bytes e.rules e.follows.size e.follows.count e.log e.end e.rest
-reply_ends bytes line e = record {
-  follows = e.follows;
-  size_is = refl;
-  count_is = refl;
-  stops = λ g.
-      let same = (comes_once e.rest (length e.log + 1) (1 + length e.log) e.entry g.entry e.comes (goes_comes e.rules (1 + length e.log) e.end e.rest g)).1 in
-      e.damage g.next (subst (λ (x : Entry). Answers (table_of e.rules) e.end.state e.end.spent x.0 x.1 g.next) (sym same) g.answers);
-}
+pub fails_stops : (at : Split) (d : Damage) → Fails at d → Stops at.rules (size_of at.opening) at.end at.rest
+fails_stops at BadHeader x = absurd x
+fails_stops at (NotALine line) x = stops
+  where
+    stops : Stops at.rules (size_of at.opening) at.end at.rest
+    stops (Told entry) next behind comes = none_comes at.rest (at.end.count + 1) entry x.2 (told_comes at.rules (size_of at.opening) at.end at.rest entry next behind comes)
+    stops (Kept base) next behind comes = x.1 (kept_begins at.rules (size_of at.opening) at.end at.rest base next behind comes)
+fails_stops at (OutOfOrder line) (number, (seq, other, comes, damage)) = stops
+  where
+    stops : Stops at.rules (size_of at.opening) at.end at.rest
+    stops (Told entry) next behind told = damage (entry_once at.rest seq (at.end.count + 1) other entry comes (told_comes at.rules (size_of at.opening) at.end at.rest entry next behind told)).0
+    stops (Kept base) next behind kept = comes_no_base at.rest seq other comes (kept_begins at.rules (size_of at.opening) at.end at.rest base next behind kept)
+fails_stops at (NotTheMachines line) (number, (other, comes, damage)) = stops
+  where
+    stops : Stops at.rules (size_of at.opening) at.end at.rest
+    stops (Told entry) next behind told =
+        let same = (entry_once at.rest (at.end.count + 1) (at.end.count + 1) other entry comes (told_comes at.rules (size_of at.opening) at.end at.rest entry next behind told)).1 in
+        let answers = told.steps.1 in
+        damage told.steps.0 (subst (λ (z : Entry). Answers (table_of at.rules) at.end.moment.state at.end.moment.spent z.0 z.1 told.steps.0) (sym same) answers)
+    stops (Kept base) next behind kept = comes_no_base at.rest (at.end.count + 1) other comes (kept_begins at.rules (size_of at.opening) at.end at.rest base next behind kept)
+fails_stops at (BadBase line) (begins, (parting, number)) = stops
+  where
+    stops : Stops at.rules (size_of at.opening) at.end at.rest
+    stops (Told entry) next behind told = comes_no_base at.rest (at.end.count + 1) entry (told_comes at.rules (size_of at.opening) at.end at.rest entry next behind told) begins
+    stops (Kept base) next behind kept =
+        parting_begins (base_text at.rules (size_of at.opening) (base_of at.end.count at.end.moment)) at.rest behind parting
+        (kept.is ∙ ap (λ (b : Base). base_text at.rules (size_of at.opening) b ++ behind) kept.steps.0)
 
--- ---- one way
-
-pub header_good : (bytes : List ℕ) (rules : RuleSet) (log : List Entry) (end : Moment) (rest : List ℕ) → HasBadHeader (first_line bytes) → Follows bytes rules log end rest → ⊥
-header_good bytes rules log end rest bad f =
-    let no = subst HasBadHeader (header_first bytes rules log end rest f) bad in
-    no rules f.size f.count (spells_of rules f.size f.count f.transcript.few f.transcript.within)
-
-same_line : (line other : ℕ) (log also : List Entry) → IsLineBehind line log → IsLineBehind other also → log ≡ also → line ≡ other
-same_line line other log also a b e = a ∙ ap (λ (l : List Entry). length l + 2) e ∙ sym b
-
+-- something is left where something fails
 pub some_rest : (rest : List ℕ) → HasNoEntry rest (first_line rest) → rest ≢ []
 some_rest rest none e = (subst (λ (l : List ℕ). HasNoEntry l (first_line l)) e none) refl
 
 pub comes_rest : (rest : List ℕ) (number : ℕ) (entry : Entry) → EntryComes rest number entry → rest ≢ []
 comes_rest rest number entry comes e = none-some (comes.line, comes.more) (sym (ap first_line e) ∙ comes.is)
 
-line_number : (bytes : List ℕ) (l k : ℕ) → EndsInNoLine bytes l → EndsOutOfOrder bytes k → ⊥
-line_number bytes l k x y =
-    let once = ended_once bytes x.rules y.rules x.follows.size y.follows.size x.follows.count y.follows.count x.log y.log x.end y.end x.rest y.rest (no_line_ends bytes l x) (number_ends bytes k y) in
-    none_comes y.rest y.seq y.entry (subst (λ (r : List ℕ). HasNoEntry r (first_line r)) once.same.rests x.damage) y.comes
+begins_rest : (rest : List ℕ) → BeginsBase rest → rest ≢ []
+begins_rest rest begins e = nothing _ (sym begins.1 ∙ e)
+  where
+    nothing : (more : List ℕ) → 109 ∷ more ≡ [] → ⊥
+    nothing more same = absurd cc
 
-line_reply : (bytes : List ℕ) (l k : ℕ) → EndsInNoLine bytes l → EndsNotTheMachines bytes k → ⊥
-line_reply bytes l k x y =
-    let once = ended_once bytes x.rules y.rules x.follows.size y.follows.size x.follows.count y.follows.count x.log y.log x.end y.end x.rest y.rest (no_line_ends bytes l x) (reply_ends bytes k y) in
-    none_comes y.rest (length y.log + 1) y.entry (subst (λ (r : List ℕ). HasNoEntry r (first_line r)) once.same.rests x.damage) y.comes
+pub fails_some : (at : Split) (d : Damage) → Fails at d → at.rest ≢ []
+fails_some at BadHeader x = absurd x
+fails_some at (NotALine line) x = some_rest at.rest x.2
+fails_some at (OutOfOrder line) (number, (seq, entry, comes, damage)) = comes_rest at.rest seq entry comes
+fails_some at (NotTheMachines line) (number, (entry, comes, damage)) = comes_rest at.rest (at.end.count + 1) entry comes
+fails_some at (BadBase line) x = begins_rest at.rest x.0
 
-number_reply : (bytes : List ℕ) (l k : ℕ) → EndsOutOfOrder bytes l → EndsNotTheMachines bytes k → ⊥
-number_reply bytes l k x y =
-    let once = ended_once bytes x.rules y.rules x.follows.size y.follows.size x.follows.count y.follows.count x.log y.log x.end y.end x.rest y.rest (number_ends bytes l x) (reply_ends bytes k y) in
-    let comes = subst (λ (r : List ℕ). EntryComes r x.seq x.entry) once.same.rests x.comes in
-    let same = (comes_once y.rest x.seq (length y.log + 1) x.entry y.entry comes y.comes).0 in
-    x.damage (same ∙ ap (λ (l : List Entry). length l + 1) (sym once.same.logs))
+pub failure_ends : (bytes : List ℕ) (d : Damage) (x : FailsBehind bytes d) → Ended bytes (split_at bytes x.rules x.log x.end x.rest x.follows)
+failure_ends bytes d x =
+    ends_here bytes x.rules x.log x.end x.rest x.follows (fails_stops (split_at bytes x.rules x.log x.end x.rest x.follows) d x.fails)
 
-line_line : (bytes : List ℕ) (l k : ℕ) → EndsInNoLine bytes l → EndsInNoLine bytes k → l ≡ k
-line_line bytes l k x y =
-    let once = ended_once bytes x.rules y.rules x.follows.size y.follows.size x.follows.count y.follows.count x.log y.log x.end y.end x.rest y.rest (no_line_ends bytes l x) (no_line_ends bytes k y) in
-    same_line l k x.log y.log x.number y.number once.same.logs
+-- ---- one way
 
-number_number : (bytes : List ℕ) (l k : ℕ) → EndsOutOfOrder bytes l → EndsOutOfOrder bytes k → l ≡ k
-number_number bytes l k x y =
-    let once = ended_once bytes x.rules y.rules x.follows.size y.follows.size x.follows.count y.follows.count x.log y.log x.end y.end x.rest y.rest (number_ends bytes l x) (number_ends bytes k y) in
-    same_line l k x.log y.log x.number y.number once.same.logs
+-- two texts are the same up to one place
+common_once : (c d m n x y : List ℕ) → c ++ m ≡ d ++ n → c ++ x ≡ d ++ y → ((b : ℕ) (k l : List ℕ) → m ≡ b ∷ k → x ≡ b ∷ l → ⊥) → ((b : ℕ) (k l : List ℕ) → n ≡ b ∷ k → y ≡ b ∷ l → ⊥) → c ≡ d
+common_once [] [] m n x y e f apart parts = refl
+common_once [] (b ∷ d) m n x y e f apart parts = absurd (apart b (d ++ n) (d ++ y) e f)
+common_once (b ∷ c) [] m n x y e f apart parts = absurd (parts b (c ++ m) (c ++ x) (sym e) (sym f))
+common_once (a ∷ c) (b ∷ d) m n x y e f apart parts =
+    let text = cons_parts a b (c ++ m) (d ++ n) e in
+    let had = cons_parts a b (c ++ x) (d ++ y) f in
+    ap (λ (z : ℕ). z ∷ c) text.0 ∙ ap (λ (l : List ℕ). b ∷ l) (common_once c d m n x y text.1 had.1 apart parts)
 
-reply_reply : (bytes : List ℕ) (l k : ℕ) → EndsNotTheMachines bytes l → EndsNotTheMachines bytes k → l ≡ k
-reply_reply bytes l k x y =
-    let once = ended_once bytes x.rules y.rules x.follows.size y.follows.size x.follows.count y.follows.count x.log y.log x.end y.end x.rest y.rest (reply_ends bytes l x) (reply_ends bytes k y) in
-    same_line l k x.log y.log x.number y.number once.same.logs
+pub parting_once : (text bytes : List ℕ) (p q : Parting text bytes) → p.common ≡ q.common
+parting_once text bytes p q =
+    common_once p.common q.common p.missing q.missing p.more q.more (sym p.wanted ∙ q.wanted) (sym p.had ∙ q.had) p.apart q.apart
+
+line_same : (k l : ℕ) (good : List ℕ) → IsLineBehind k good → IsLineBehind l good → k ≡ l
+line_same k l good x y = x ∙ sym y
+
+-- at one place one check fails
+pub fails_once : (at : Split) (d e : Damage) → Fails at d → Fails at e → d ≡ e
+fails_once at BadHeader e x y = absurd x
+fails_once at (NotALine k) BadHeader x y = absurd y
+fails_once at (NotALine k) (NotALine l) x y = ap (λ (n : ℕ). NotALine n) (line_same k l at.good x.0 y.0)
+fails_once at (NotALine k) (OutOfOrder l) x (number, (seq, entry, comes, damage)) = absurd (none_comes at.rest seq entry x.2 comes)
+fails_once at (NotALine k) (NotTheMachines l) x (number, (entry, comes, damage)) = absurd (none_comes at.rest (at.end.count + 1) entry x.2 comes)
+fails_once at (NotALine k) (BadBase l) x y = absurd (x.1 y.0)
+fails_once at (OutOfOrder k) BadHeader x y = absurd y
+fails_once at (OutOfOrder k) (NotALine l) (number, (seq, entry, comes, damage)) y = absurd (none_comes at.rest seq entry y.2 comes)
+fails_once at (OutOfOrder k) (OutOfOrder l) x y = ap (λ (n : ℕ). OutOfOrder n) (line_same k l at.good x.0 y.0)
+fails_once at (OutOfOrder k) (NotTheMachines l) (number, (seq, entry, comes, damage)) (numbered, (other, came, broken)) =
+    absurd (damage (entry_once at.rest seq (at.end.count + 1) entry other comes came).0)
+fails_once at (OutOfOrder k) (BadBase l) (number, (seq, entry, comes, damage)) y = absurd (comes_no_base at.rest seq entry comes y.0)
+fails_once at (NotTheMachines k) BadHeader x y = absurd y
+fails_once at (NotTheMachines k) (NotALine l) (number, (entry, comes, damage)) y = absurd (none_comes at.rest (at.end.count + 1) entry y.2 comes)
+fails_once at (NotTheMachines k) (OutOfOrder l) (numbered, (other, came, broken)) (number, (seq, entry, comes, damage)) =
+    absurd (damage (entry_once at.rest seq (at.end.count + 1) entry other comes came).0)
+fails_once at (NotTheMachines k) (NotTheMachines l) x y = ap (λ (n : ℕ). NotTheMachines n) (line_same k l at.good x.0 y.0)
+fails_once at (NotTheMachines k) (BadBase l) (number, (entry, comes, damage)) y = absurd (comes_no_base at.rest (at.end.count + 1) entry comes y.0)
+fails_once at (BadBase k) BadHeader x y = absurd y
+fails_once at (BadBase k) (NotALine l) x y = absurd (y.1 x.0)
+fails_once at (BadBase k) (OutOfOrder l) x (number, (seq, entry, comes, damage)) = absurd (comes_no_base at.rest seq entry comes x.0)
+fails_once at (BadBase k) (NotTheMachines l) x (number, (entry, comes, damage)) = absurd (comes_no_base at.rest (at.end.count + 1) entry comes x.0)
+fails_once at (BadBase k) (BadBase l) (begins, (p, number)) (began, (q, numbered)) =
+    let common = parting_once (base_text at.rules (size_of at.opening) (base_of at.end.count at.end.moment)) at.rest p q in
+    ap (λ (n : ℕ). BadBase n) (line_same k l (at.good ++ q.common) (subst (λ (c : List ℕ). IsLineBehind k (at.good ++ c)) common number) numbered)
+
+pub first_once : (bytes : List ℕ) (d e : Damage) → FailsFirst bytes d → FailsFirst bytes e → d ≡ e
+first_once bytes BadHeader BadHeader x y = refl
+first_once bytes BadHeader (BadBase l) x y = absurd (header_no_start bytes l x y)
+first_once bytes (BadBase k) BadHeader x y = absurd (header_no_start bytes k y x)
+first_once bytes (BadBase k) (BadBase l) x y = ap (λ (n : ℕ). BadBase n) (start_once_bad bytes k l x y)
+first_once bytes BadHeader (NotALine l) x y = absurd y
+first_once bytes BadHeader (OutOfOrder l) x y = absurd y
+first_once bytes BadHeader (NotTheMachines l) x y = absurd y
+first_once bytes (BadBase k) (NotALine l) x y = absurd y
+first_once bytes (BadBase k) (OutOfOrder l) x y = absurd y
+first_once bytes (BadBase k) (NotTheMachines l) x y = absurd y
+first_once bytes (NotALine k) e x y = absurd x
+first_once bytes (OutOfOrder k) e x y = absurd x
+first_once bytes (NotTheMachines k) e x y = absurd x
+
+-- a transcript begins no text that fails at the start
+pub first_good : (bytes : List ℕ) (d : Damage) (rules : RuleSet) (log : List Part) (end : Stand) (rest : List ℕ) → FailsFirst bytes d → Follows bytes rules log end rest → ⊥
+first_good bytes BadHeader rules log end rest x f = header_good bytes rules log end rest x f
+first_good bytes (NotALine line) rules log end rest x f = x
+first_good bytes (OutOfOrder line) rules log end rest x f = x
+first_good bytes (NotTheMachines line) rules log end rest x f = x
+first_good bytes (BadBase line) rules log end rest x f = start_good bytes line rules log end rest x f
+
+behind_once : (bytes : List ℕ) (d e : Damage) → FailsBehind bytes d → FailsBehind bytes e → d ≡ e
+behind_once bytes d e x y =
+    let a = split_at bytes x.rules x.log x.end x.rest x.follows in
+    let b = split_at bytes y.rules y.log y.end y.rest y.follows in
+    let same : a ≡ b = ended_once bytes a b (failure_ends bytes d x) (failure_ends bytes e y) in
+    fails_once b d e (subst (λ (z : Split). Fails z d) same x.fails) y.fails
 
 pub damage_once : (bytes : List ℕ) (d e : Damage) → IsDamage bytes d → IsDamage bytes e → d ≡ e
-damage_once bytes BadHeader BadHeader x y = refl
-damage_once bytes BadHeader (NotALine k) x y = absurd (header_good bytes y.rules y.log y.end y.rest x y.follows)
-damage_once bytes BadHeader (OutOfOrder k) x y = absurd (header_good bytes y.rules y.log y.end y.rest x y.follows)
-damage_once bytes BadHeader (NotTheMachines k) x y = absurd (header_good bytes y.rules y.log y.end y.rest x y.follows)
-damage_once bytes (NotALine l) BadHeader x y = absurd (header_good bytes x.rules x.log x.end x.rest y x.follows)
-damage_once bytes (NotALine l) (NotALine k) x y = ap (λ (n : ℕ). NotALine n) (line_line bytes l k x y)
-damage_once bytes (NotALine l) (OutOfOrder k) x y = absurd (line_number bytes l k x y)
-damage_once bytes (NotALine l) (NotTheMachines k) x y = absurd (line_reply bytes l k x y)
-damage_once bytes (OutOfOrder l) BadHeader x y = absurd (header_good bytes x.rules x.log x.end x.rest y x.follows)
-damage_once bytes (OutOfOrder l) (NotALine k) x y = absurd (line_number bytes k l y x)
-damage_once bytes (OutOfOrder l) (OutOfOrder k) x y = ap (λ (n : ℕ). OutOfOrder n) (number_number bytes l k x y)
-damage_once bytes (OutOfOrder l) (NotTheMachines k) x y = absurd (number_reply bytes l k x y)
-damage_once bytes (NotTheMachines l) BadHeader x y = absurd (header_good bytes x.rules x.log x.end x.rest y x.follows)
-damage_once bytes (NotTheMachines l) (NotALine k) x y = absurd (line_reply bytes k l y x)
-damage_once bytes (NotTheMachines l) (OutOfOrder k) x y = absurd (number_reply bytes k l y x)
-damage_once bytes (NotTheMachines l) (NotTheMachines k) x y = ap (λ (n : ℕ). NotTheMachines n) (reply_reply bytes l k x y)
+damage_once bytes d e x y = by (damage_fails bytes d x) (damage_fails bytes e y)
+  where
+    by : FailsFirst bytes d ⊎ FailsBehind bytes d → FailsFirst bytes e ⊎ FailsBehind bytes e → d ≡ e
+    by (inl a) (inl b) = first_once bytes d e a b
+    by (inl a) (inr b) = absurd (first_good bytes d b.rules b.log b.end b.rest a b.follows)
+    by (inr a) (inl b) = absurd (first_good bytes e a.rules a.log a.end a.rest b a.follows)
+    by (inr a) (inr b) = behind_once bytes d e a b
 
 -- ---- transcripts
 
-pub run_once : (bytes : List ℕ) (r q : RuleSet) (m n c d : ℕ) (log also : List Entry) (end last : Moment) → IsTranscript bytes r m c log end → IsTranscript bytes q n d also last → SameRun r q m n c d log also end last
-run_once bytes r q m n c d log also end last x y =
-    let once = ended_once bytes r q m n c d log also end last [] [] (transcript_ends bytes r m c log end x) (transcript_ends bytes q n d also last y) in
-    record { rules = once.rules; size = once.size; count = once.count; entries = once.same.logs; ends = once.same.ends }
+pub run_once : (bytes : List ℕ) (r q : RuleSet) (o p : Opening) (log also : List Part) (end last : Stand) → IsTranscript bytes r o log end → IsTranscript bytes q p also last → SameRun r q o p log also end last
+run_once bytes r q o p log also end last x y =
+    let once = ended_once bytes (whole bytes r o log end) (whole bytes q p also last) (transcript_ends bytes r o log end x) (transcript_ends bytes q p also last y) in
+    record {
+      rules = ap (λ (z : Split). z.rules) once;
+      openings = ap (λ (z : Split). z.opening) once;
+      parts = ap (λ (z : Split). z.log) once;
+      ends = ap (λ (z : Split). z.end) once;
+    }
 
 abbrev summary : ℕ → ℕ → ℕ → Summary
 summary entries epochs moves = record { entries = entries; epochs = epochs; moves = moves }
@@ -230,22 +363,20 @@ counted_is : (c : Summary) (log : List Entry) → Counts c log → c ≡ summary
 counted_is c log is =
     ap (λ (n : ℕ). summary n c.epochs c.moves) is.entries ∙ ap (λ (n : ℕ). summary (length log) n c.moves) is.epochs ∙ ap (λ (n : ℕ). summary (length log) (epoch_count log) n) is.moves
 
-pub no_damage : (bytes : List ℕ) (rules : RuleSet) (size count : ℕ) (log : List Entry) (end : Moment) (d : Damage) → IsTranscript bytes rules size count log end → IsDamage bytes d → ⊥
-no_damage bytes rules size count log end BadHeader is x = header_good bytes rules log end [] x (transcript_ends bytes rules size count log end is).follows
-no_damage bytes rules size count log end (NotALine l) is x =
-    let once = ended_once bytes rules x.rules size x.follows.size count x.follows.count log x.log end x.end [] x.rest (transcript_ends bytes rules size count log end is) (no_line_ends bytes l x) in
-    some_rest x.rest x.damage (sym once.same.rests)
-no_damage bytes rules size count log end (OutOfOrder l) is x =
-    let once = ended_once bytes rules x.rules size x.follows.size count x.follows.count log x.log end x.end [] x.rest (transcript_ends bytes rules size count log end is) (number_ends bytes l x) in
-    comes_rest x.rest x.seq x.entry x.comes (sym once.same.rests)
-no_damage bytes rules size count log end (NotTheMachines l) is x =
-    let once = ended_once bytes rules x.rules size x.follows.size count x.follows.count log x.log end x.end [] x.rest (transcript_ends bytes rules size count log end is) (reply_ends bytes l x) in
-    comes_rest x.rest (length x.log + 1) x.entry x.comes (sym once.same.rests)
+pub no_damage : (bytes : List ℕ) (rules : RuleSet) (opening : Opening) (log : List Part) (end : Stand) (d : Damage) → IsTranscript bytes rules opening log end → IsDamage bytes d → ⊥
+no_damage bytes rules opening log end d is x = by (damage_fails bytes d x)
+  where
+    by : FailsFirst bytes d ⊎ FailsBehind bytes d → ⊥
+    by (inl a) = first_good bytes d rules log end [] a (followed bytes (whole bytes rules opening log end) (transcript_ends bytes rules opening log end is))
+    by (inr a) =
+        let place = split_at bytes a.rules a.log a.end a.rest a.follows in
+        let once = ended_once bytes place (whole bytes rules opening log end) (failure_ends bytes d a) (transcript_ends bytes rules opening log end is) in
+        fails_some place d a.fails (ap (λ (z : Split). z.rest) once)
 
 pub accepted_no_damage : (bytes : List ℕ) (counted : Summary) (d : Damage) → IsAccepted bytes counted → IsDamage bytes d → ⊥
-accepted_no_damage bytes counted d is x = no_damage bytes is.rules is.size is.count is.log is.end d is.transcript x
+accepted_no_damage bytes counted d is x = no_damage bytes is.rules is.opening is.log is.end d is.transcript x
 
 pub count_once : (bytes : List ℕ) (c d : Summary) → IsAccepted bytes c → IsAccepted bytes d → c ≡ d
 count_once bytes c d x y =
-    let logs = (run_once bytes x.rules y.rules x.size y.size x.count y.count x.log y.log x.end y.end x.transcript y.transcript).entries in
-    counted_is c x.log x.counts ∙ ap summary_of logs ∙ sym (counted_is d y.log y.counts)
+    let logs = (run_once bytes x.rules y.rules x.opening y.opening x.log y.log x.end y.end x.transcript y.transcript).parts in
+    counted_is c (entries_in x.log) x.counts ∙ ap (λ (l : List Part). summary_of (entries_in l)) logs ∙ sym (counted_is d (entries_in y.log) y.counts)

@@ -5,7 +5,7 @@ use Rattle.std.proofs.KnownBytes.{Consumes-whole}
 use Rattle.byte_streams.specs.declared.input_fault.InputFault.{InputFault}
 use Rattle.byte_streams.specs.declared.input_fault.InputFault.TheVariants as input
 use Rattle.auditor.specs.declared.damage.Damage.{Damage}
-use Rattle.auditor.specs.declared.damage.Damage.TheVariants.{BadHeader, NotALine, OutOfOrder, NotTheMachines}
+use Rattle.auditor.specs.declared.damage.Damage.TheVariants.{BadHeader, NotALine, OutOfOrder, NotTheMachines, BadBase}
 use Rattle.auditor.specs.declared.damage.JudgeFault.{JudgeFault}
 use Rattle.auditor.specs.declared.damage.JudgeFault.TheVariants.{Damaged, Memory}
 use Rattle.auditor.specs.declared.fault.AuditFault.{AuditFault}
@@ -37,6 +37,7 @@ told_damage bytes (Err (Damaged BadHeader)) is = is
 told_damage bytes (Err (Damaged (NotALine line))) is = is
 told_damage bytes (Err (Damaged (OutOfOrder line))) is = is
 told_damage bytes (Err (Damaged (NotTheMachines line))) is = is
+told_damage bytes (Err (Damaged (BadBase line))) is = is
 told_damage bytes (Err Memory) is = tt
 
 told_accepts : (bytes : List ℕ) (judged : Result Summary JudgeFault) → IsJudged bytes judged → AcceptsRuns bytes (told judged)

@@ -1,12 +1,18 @@
-pub mod Cutting
-pub mod Reaching
+pub mod Steps
 pub mod Feedless
-pub mod Agreeing
+pub mod Chains
+pub mod Openings
 pub mod Ending
-pub mod Undamaged
 pub mod Exact
-pub mod Arriving
-pub mod Turning
 pub mod Level
 pub mod Apart
+pub mod Bases
+pub mod Undamaged
+pub mod Counted
+pub mod Reaching
+pub mod Opened
+pub mod Spent
 mod Refusing
+pub mod Going
+pub mod Arriving
+pub mod Turning

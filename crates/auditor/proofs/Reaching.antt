@@ -1,83 +1,38 @@
--- How far an audit is, line by line.
-use Rattle.std.proofs.Common.{◌≡◌, ℕ, ◌+◌, List, [], ◌∷◌, ◌++◌, Option, Some, Err, length, sum_by, refl, sym, ap, subst, ◌∙◌, append_assoc, arith}
-use Rattle.std.specs.List.{AllByRecursion}
-use Rattle.std.proofs.lemmas.List.{append-nil, length-append}
+-- How far an audit is, part by part.
+use Rattle.std.proofs.Common.{◌≡◌, ℕ, ◌+◌, ◌≤◌, inr, List, [], ◌∷◌, ◌++◌, Option, Some, Err, take, length, sum_by, refl, sym, ap, subst, ◌∙◌, append_assoc, append-nil, arith}
+use Rattle.std.proofs.lemmas.List.{length-append}
 use Rattle.std.proofs.lemmas.List.Sums.{sum_by-append}
+use Rattle.rule_machine.specs.declared.base.Base.{Base}
 use Rattle.rule_machine.specs.declared.rules.RuleSet.{RuleSet}
 use Rattle.rule_machine.specs.State.{State}
-use Rattle.rule_machine.specs.Run.{Entry, Moment, beginning_with}
-use Rattle.rule_machine.specs.Answer.{Answers, spent_after}
+use Rattle.rule_machine.specs.Base.{Part, Told, Kept, Stand, base_of, entries_in}
+use Rattle.rule_machine.specs.Run.{Entry}
 use Rattle.rule_machine.specs.Tables.{table_of}
-use Rattle.machine_laws.specs.Runs.{run_add}
-use Rattle.line_text.specs.EntryText.{header_text, header_line, entry_text, entry_line}
-use Rattle.entry_grammar.specs.Spelling.{SpellsEntry, SpellsHeader}
-use Rattle.auditor.specs.declared.damage.Damage.TheVariants.{BadHeader, NotALine, OutOfOrder, NotTheMachines}
-use Rattle.auditor.specs.declared.damage.JudgeFault.{JudgeFault}
-use Rattle.auditor.specs.declared.damage.JudgeFault.TheVariants.{Damaged, Memory}
+use Rattle.line_text.specs.BaseText.{base_head, base_text}
+use Rattle.line_text.specs.EntryText.{header_text, header_line, entry_text}
+use Rattle.entry_grammar.specs.Lines.{first_line}
+use Rattle.entry_grammar.specs.Spelling.{SpellsHeader}
+use Rattle.entry_grammar.specs.BaseLines.{base_lines}
+use Rattle.entry_grammar.proofs.BaseOnce.{base_text_is}
+use Rattle.entry_grammar.proofs.Cutting.{first_line-splits}
+use Rattle.auditor.specs.declared.check.Flaw.{Flaw}
+use Rattle.auditor.specs.declared.check.Flaw.TheVariants as flaw
+use Rattle.auditor.specs.declared.damage.Damage.TheVariants.{NotALine, OutOfOrder, NotTheMachines, BadBase}
+use Rattle.auditor.specs.declared.damage.JudgeFault.TheVariants.{Damaged}
 use Rattle.auditor.specs.declared.summary.Summary.{Summary}
-use Rattle.line_text.specs.LogText.{entry_lines, transcript}
-use Rattle.auditor.specs.Transcript.{IsEntry, IsTranscript, disturbances_in, moves_in}
-use Rattle.auditor.specs.Damage.{Follows, EndsInNoLine, EndsOutOfOrder, EndsNotTheMachines, HasNoEntry, first_line}
-use Rattle.auditor.specs.Position.{Position, opening_position, counted_more, GoodLine, BadNumber, BadReply, IsNext, LineJudged}
+use Rattle.auditor.specs.Parts.{Opening, Opens, opening_text, size_of}
+use Rattle.auditor.specs.Transcript.{IsTranscript, Comes, disturbances_in, moves_in}
+use Rattle.auditor.specs.Damage.{Follows, BeginsBase, IsLineBehind, HasNoEntry}
+use Rattle.auditor.specs.Position.{Position, stand_of, position_at, counted_more, counted_part, GoodLine, BadNumber, BadReply, LineJudged, IsFurther}
+use Rattle.auditor.specs.Parted.{PartAt, flaw_at}
 use Rattle.auditor.specs.Accepted.{Counts, IsAccepted, IsReached}
-use Rattle.auditor.specs.Verdict.{IsJudged}
-use Rattle.auditor.proofs.Cutting.{first_line-splits}
+use Rattle.auditor.specs.Reached.{IsMetBehind}
+use Rattle.auditor.proofs.Steps.{follows_more}
 
--- ---- lists
+-- ---- counts
 
 sum_by-push : (f : Entry → ℕ) (log : List Entry) (entry : Entry) → sum_by f (log ++ entry ∷ []) ≡ sum_by f log + f entry
 sum_by-push f log entry = sum_by-append f log (entry ∷ []) ∙ omega arith
-
-pub all_push : (log : List Entry) (entry : Entry) → AllByRecursion IsEntry log → IsEntry entry → AllByRecursion IsEntry (log ++ entry ∷ [])
-all_push [] entry all is = (is, tt)
-all_push (first ∷ log) entry all is = (all.0, all_push log entry all.1 is)
-
-lines_push : (number : ℕ) (log : List Entry) (entry : Entry) → entry_lines number (log ++ entry ∷ []) ≡ entry_lines number log ++ entry_line (number + length log) entry.0 entry.1
-lines_push number [] entry = append-nil (entry_line number entry.0 entry.1) ∙ ap (λ (n : ℕ). entry_line n entry.0 entry.1) (omega arith)
-lines_push number (first ∷ log) entry =
-    let count : number + 1 + length log ≡ number + length (first ∷ log) = omega arith in
-    let front = entry_line number first.0 first.1 in
-    ap (λ (z : List ℕ). front ++ z) (lines_push (number + 1) log entry)
-    ∙ sym (append_assoc front (entry_lines (number + 1) log) (entry_line (number + 1 + length log) entry.0 entry.1))
-    ∙ ap (λ (n : ℕ). (front ++ entry_lines (number + 1) log) ++ entry_line n entry.0 entry.1) count
-
--- ---- the header
-
-abbrev pub follows_start : (bytes line rest : List ℕ) (rules : RuleSet) (size count : ℕ) → first_line bytes ≡ Some (line, rest) → SpellsHeader line rules size count → Follows bytes rules [] (beginning_with size count) rest
-follows_start bytes line rest rules size count cut spells = record {
-  size = size;
-  count = count;
-  good = header_line rules size count;
-  transcript = record {
-    few = spells.few;
-    within = spells.within;
-    text = sym (append-nil (header_line rules size count));
-    entries = tt;
-    not_too_many = omega arith;
-    run = refl;
-  };
-  splits = first_line-splits bytes line rest cut ∙ ap (λ (z : List ℕ). z ++ 10 ∷ rest) spells.is ∙ sym (append_assoc (header_text rules size count) (10 ∷ []) rest);
-}
-
-pub reached_start : (bytes line rest : List ℕ) (rules : RuleSet) (size count : ℕ) → first_line bytes ≡ Some (line, rest) → SpellsHeader line rules size count → IsReached bytes rules (opening_position size count) rest
-reached_start bytes line rest rules size count cut spells =
-    record {
-      log = [];
-      end = beginning_with size count;
-      follows = follows_start bytes line rest rules size count cut spells;
-      state = refl;
-      spent = refl;
-      counts = record { entries = refl; epochs = refl; moves = refl };
-    }
-
--- ---- one more line
-
-pub log_text : (bytes good line rest behind : List ℕ) (rules : RuleSet) (size count : ℕ) (log : List Entry) (entry : Entry) → bytes ≡ good ++ rest → good ≡ transcript rules size count log → rest ≡ line ++ 10 ∷ behind → line ≡ entry_text (length log + 1) entry.0 entry.1 → bytes ≡ transcript rules size count (log ++ entry ∷ []) ++ behind
-log_text bytes good line rest behind rules size count log entry splits text cut is =
-    let more : rest ≡ entry_line (length log + 1) entry.0 entry.1 ++ behind = cut ∙ ap (λ (z : List ℕ). z ++ 10 ∷ behind) is ∙ sym (append_assoc (entry_text (length log + 1) entry.0 entry.1) (10 ∷ []) behind) in
-    let lines : entry_lines 1 (log ++ entry ∷ []) ≡ entry_lines 1 log ++ entry_line (length log + 1) entry.0 entry.1 = lines_push 1 log entry ∙ ap (λ (n : ℕ). entry_lines 1 log ++ entry_line n entry.0 entry.1) (omega arith) in
-    let whole : transcript rules size count (log ++ entry ∷ []) ≡ transcript rules size count log ++ entry_line (length log + 1) entry.0 entry.1 = ap (λ (z : List ℕ). header_line rules size count ++ z) lines ∙ sym (append_assoc (header_line rules size count) (entry_lines 1 log) (entry_line (length log + 1) entry.0 entry.1)) in
-    splits ∙ ap (λ (z : List ℕ). z ++ rest) text ∙ ap (λ (z : List ℕ). transcript rules size count log ++ z) more ∙ sym (append_assoc (transcript rules size count log) (entry_line (length log + 1) entry.0 entry.1) behind) ∙ ap (λ (z : List ℕ). z ++ behind) (sym whole)
 
 pub more_counts : (c d : Summary) (log : List Entry) (entry : Entry) → Counts c log → d ≡ counted_more c entry.1 → Counts d (log ++ entry ∷ [])
 more_counts c d log entry counts is =
@@ -90,101 +45,211 @@ more_counts c d log entry counts is =
       moves = ap (λ (s : Summary). s.moves) is ∙ omega (arith, counts.moves, m);
     }
 
--- one more entry of which the machine may give the reply
-abbrev pub follows_more : (bytes line rest behind : List ℕ) (rules : RuleSet) (log : List Entry) (end : Moment) (entry : Entry) (s : State) → Follows bytes rules log end rest → first_line rest ≡ Some (line, behind) → SpellsEntry line (length log + 1) entry → Answers (table_of rules) end.state end.spent entry.0 entry.1 s → Follows bytes rules (log ++ entry ∷ []) (record { state = s; spent = spent_after end.spent entry.1 }) behind
-follows_more bytes line rest behind rules log end entry s follows cut spells answers =
-    let good = follows.transcript in
-    let l = length-append log (entry ∷ []) in
+-- the entries of a part
+abbrev pub entries_of : Part → List Entry
+entries_of (Told entry) = entry ∷ []
+entries_of (Kept base) = []
+
+pub entries_add : (log : List Part) (part : Part) → entries_in (log ++ part ∷ []) ≡ entries_in log ++ entries_of part
+entries_add [] (Told entry) = refl
+entries_add [] (Kept base) = refl
+entries_add (Told first ∷ log) part = ap (λ (l : List Entry). first ∷ l) (entries_add log part)
+entries_add (Kept base ∷ log) part = entries_add log part
+
+pub part_counts : (c d : Summary) (log : List Entry) (part : Part) → Counts c log → d ≡ counted_part c part → Counts d (log ++ entries_of part)
+part_counts c d log (Told entry) counts is = more_counts c d log entry counts is
+part_counts c d log (Kept base) counts is =
+    subst (λ (s : Summary). Counts s (log ++ [])) (sym is) (subst (Counts c) (sym (append-nil log)) counts)
+
+-- ---- the beginning
+
+abbrev pub opened_follows : (bytes rest : List ℕ) (rules : RuleSet) (opening : Opening) (start : Stand) → Opens rules opening start → start.count ≤ 16777216 → bytes ≡ opening_text rules opening ++ rest → Follows bytes rules [] start rest
+opened_follows bytes rest rules opening start opens few splits = record {
+  opening = opening;
+  good = opening_text rules opening;
+  transcript = record {
+    start = start;
+    opens = opens;
+    text = sym (append-nil (opening_text rules opening));
+    parts = tt;
+    not_too_many = few;
+    passes = refl;
+  };
+  splits = splits;
+}
+
+pub header_splits : (bytes line rest : List ℕ) (rules : RuleSet) (size count : ℕ) → first_line bytes ≡ Some (line, rest) → SpellsHeader line rules size count → bytes ≡ header_line rules size count ++ rest
+header_splits bytes line rest rules size count cut spells =
+    first_line-splits bytes line rest cut ∙ ap (λ (z : List ℕ). z ++ 10 ∷ rest) spells.is ∙ sym (append_assoc (header_text rules size count) (10 ∷ []) rest)
+
+pub base_splits : (bytes rest behind : List ℕ) (rules : RuleSet) (size : ℕ) (base : Base) → first_line bytes ≡ Some (base_head rules size, rest) → rest ≡ base_lines base ++ behind → bytes ≡ base_text rules size base ++ behind
+base_splits bytes rest behind rules size base cut is =
+    let head = base_head rules size in
+    first_line-splits bytes head rest cut
+    ∙ ap (λ (z : List ℕ). head ++ 10 ∷ z) is
+    ∙ sym (append_assoc head (10 ∷ []) (base_lines base ++ behind))
+    ∙ sym (append_assoc (head ++ 10 ∷ []) (base_lines base) behind)
+    ∙ ap (λ (z : List ℕ). z ++ behind) (sym (base_text_is rules size base))
+
+pub opened_reached : (bytes : List ℕ) (rules : RuleSet) (size : ℕ) (p : Position) (rest : List ℕ) (start : Stand) (f : Follows bytes rules [] start rest) → size_of f.opening ≡ size → p ≡ position_at start → IsReached bytes rules size p rest
+opened_reached bytes rules size p rest start f size_is opening =
+    subst (λ (q : Position). IsReached bytes rules size q rest) (sym opening) (record {
+      log = [];
+      follows = f;
+      size_is = size_is;
+      counts = record { entries = refl; epochs = refl; moves = refl };
+    })
+
+-- ---- one more part
+
+abbrev pub reached_more : (bytes : List ℕ) (rules : RuleSet) (size : ℕ) (p q : Position) (rest behind : List ℕ) → IsReached bytes rules size p rest → IsFurther rules size p rest q behind → IsReached bytes rules size q behind
+reached_more bytes rules size p q rest behind r further =
+    let part = further.part in
+    let comes = subst (λ (n : ℕ). Comes rules n (stand_of p) rest part (stand_of q) behind) (sym r.size_is) further.comes in
     record {
-      size = follows.size;
-      count = follows.count;
-      good = transcript rules follows.size follows.count (log ++ entry ∷ []);
-      transcript = record {
-        few = good.few;
-        within = good.within;
-        text = refl;
-        entries = all_push log entry good.entries (record { event = spells.event; reply = spells.reply; fits = spells.fits });
-        not_too_many = omega (arith, l, spells.numbered.1);
-        run = run_add (table_of rules) (beginning_with follows.size follows.count) end log entry s good.run answers;
+      log = r.log ++ part ∷ [];
+      follows = follows_more bytes rest behind rules r.log (stand_of p) (stand_of q) part r.follows comes;
+      size_is = r.size_is;
+      counts = subst (Counts q.counted) (sym (entries_add r.log part)) (part_counts p.counted q.counted (entries_in r.log) part r.counts further.counted);
+    }
+
+-- a good line is the next entry
+pub entry_further : (rules : RuleSet) (size : ℕ) (p q : Position) (line rest behind : List ℕ) → first_line rest ≡ Some (line, behind) → GoodLine (table_of rules) line p q → IsFurther rules size p rest q behind
+entry_further rules size p q line rest behind cut good =
+    let text = entry_text (p.number + 1) good.entry.0 good.entry.1 in
+    record {
+      part = Told good.entry;
+      comes = record {
+        fits = record { event = good.spells.event; reply = good.spells.reply; fits = good.spells.fits };
+        within = subst (λ (n : ℕ). n ≤ 16777216) (sym good.number) good.spells.numbered.1;
+        steps = (q.state, good.answers, stand_is (stand_of q) q.state _ _ refl good.spends good.number);
+        is = first_line-splits rest line behind cut ∙ ap (λ (z : List ℕ). z ++ 10 ∷ behind) good.spells.is ∙ sym (append_assoc text (10 ∷ []) behind);
       };
-      splits = log_text bytes follows.good line rest behind rules follows.size follows.count log entry follows.splits good.text (first_line-splits rest line behind cut) spells.is;
+      counted = good.counted;
     }
+  where
+    stand_is : (at : Stand) (s : State) (spent count : ℕ) → at.moment.state ≡ s → at.moment.spent ≡ spent → at.count ≡ count → at ≡ record { moment = record { state = s; spent = spent }; count = count }
+    stand_is at s spent count state moves number =
+        ap (λ (x : State). record { moment = record { state = x; spent = at.moment.spent }; count = at.count }) state
+        ∙ ap (λ (n : ℕ). record { moment = record { state = s; spent = n }; count = at.count }) moves
+        ∙ ap (λ (n : ℕ). record { moment = record { state = s; spent = spent }; count = n }) number
 
-more_entry : (rules : RuleSet) (p q : Position) (bytes line rest behind : List ℕ) (entry : Entry) (log : List Entry) (end : Moment) → Follows bytes rules log end rest → p.spent ≡ end.spent → Counts p.counted log → first_line rest ≡ Some (line, behind) → SpellsEntry line (length log + 1) entry → Answers (table_of rules) end.state end.spent entry.0 entry.1 q.state → q.spent ≡ spent_after p.spent entry.1 → q.counted ≡ counted_more p.counted entry.1 → IsReached bytes rules q behind
-more_entry rules p q bytes line rest behind entry log end follows spent counts cut spells answers spends counted =
-    record {
-      log = log ++ entry ∷ [];
-      end = record { state = q.state; spent = spent_after end.spent entry.1 };
-      follows = follows_more bytes line rest behind rules log end entry q.state follows cut spells answers;
-      state = refl;
-      spent = spends ∙ ap (λ (n : ℕ). spent_after n entry.1) spent;
-      counts = more_counts p.counted q.counted log entry counts counted;
-    }
-
-pub reached_more : (rules : RuleSet) (p q : Position) (bytes line rest behind : List ℕ) → IsReached bytes rules p rest → first_line rest ≡ Some (line, behind) → GoodLine (table_of rules) line p q → IsReached bytes rules q behind
-reached_more rules p q bytes line rest behind r cut good =
-    let spells = subst (λ (n : ℕ). SpellsEntry line (n + 1) good.entry) r.counts.entries good.spells in
-    let from = subst (λ (s : State). Answers (table_of rules) s p.spent good.entry.0 good.entry.1 q.state) r.state good.answers in
-    let answers = subst (λ (n : ℕ). Answers (table_of rules) r.end.state n good.entry.0 good.entry.1 q.state) r.spent from in
-    more_entry rules p q bytes line rest behind good.entry r.log r.end r.follows r.spent r.counts cut spells answers good.spends good.counted
+-- a base is that of where the run stands
+pub base_further : (rules : RuleSet) (size : ℕ) (p : Position) (rest behind : List ℕ) (base : Base) → p.number ≤ 16777216 → base ≡ base_of p.number (stand_of p).moment → rest ≡ base_text rules size base ++ behind → IsFurther rules size p rest p behind
+base_further rules size p rest behind base few is splits = record {
+  part = Kept base;
+  comes = record { fits = tt; within = few; steps = (is, refl); is = splits };
+  counted = refl;
+}
 
 -- ---- the end, and damage
 
-pub reached_end : (bytes : List ℕ) (rules : RuleSet) (p : Position) (rest : List ℕ) → IsReached bytes rules p rest → rest ≡ [] → IsAccepted bytes p.counted
-reached_end bytes rules p rest r none =
-    let good = r.follows.transcript in
+pub reached_end : (bytes : List ℕ) (rules : RuleSet) (size : ℕ) (p : Position) (rest : List ℕ) → IsReached bytes rules size p rest → rest ≡ [] → IsAccepted bytes p.counted
+reached_end bytes rules size p rest r none =
     let same : bytes ≡ r.follows.good = r.follows.splits ∙ ap (λ (z : List ℕ). r.follows.good ++ z) none ∙ append-nil r.follows.good in
     record {
       rules = rules;
-      size = r.follows.size;
-      count = r.follows.count;
+      opening = r.follows.opening;
       log = r.log;
-      end = r.end;
-      transcript = subst (λ (b : List ℕ). IsTranscript b rules r.follows.size r.follows.count r.log r.end) (sym same) good;
+      end = stand_of p;
+      transcript = subst (λ (b : List ℕ). IsTranscript b rules r.follows.opening r.log (stand_of p)) (sym same) r.follows.transcript;
       counts = r.counts;
     }
 
-pub damaged_line : (bytes : List ℕ) (rules : RuleSet) (p : Position) (rest : List ℕ) (number : ℕ) → IsReached bytes rules p rest → IsNext number p → HasNoEntry rest (first_line rest) → EndsInNoLine bytes number
-damaged_line bytes rules p rest number r next damage =
-    record { rules = rules; log = r.log; end = r.end; rest = rest; follows = r.follows; number = next ∙ ap (λ (n : ℕ). n + 2) r.counts.entries; damage = damage }
+pub not_longer : (bytes : List ℕ) (rules : RuleSet) (size : ℕ) (p : Position) (rest : List ℕ) → IsReached bytes rules size p rest → length rest ≤ length bytes
+not_longer bytes rules size p rest r =
+    let l = ap length r.follows.splits ∙ length-append r.follows.good rest in
+    omega (arith, l)
 
-pub damaged_number : (bytes line behind : List ℕ) (rules : RuleSet) (p : Position) (rest : List ℕ) (number : ℕ) → IsReached bytes rules p rest → IsNext number p → first_line rest ≡ Some (line, behind) → BadNumber line p → EndsOutOfOrder bytes number
-damaged_number bytes line behind rules p rest number r next cut bad =
+-- the number of the line that follows
+behind_good : (good : List ℕ) (line : ℕ) → IsLineBehind line (good ++ []) → IsLineBehind line good
+behind_good good line is = subst (IsLineBehind line) (append-nil good) is
+
+pub damaged_line : (bytes : List ℕ) (rules : RuleSet) (size : ℕ) (p : Position) (rest : List ℕ) (line : ℕ) → IsReached bytes rules size p rest → ((good : List ℕ) → bytes ≡ good ++ rest → IsLineBehind line (good ++ [])) → (BeginsBase rest → ⊥) → HasNoEntry rest (first_line rest) → IsMetBehind bytes p.number (Damaged (NotALine line))
+damaged_line bytes rules size p rest line r number other damage last before =
     record {
-      rules = rules;
-      log = r.log;
-      end = r.end;
-      rest = rest;
-      follows = r.follows;
-      number = next ∙ ap (λ (n : ℕ). n + 2) r.counts.entries;
-      seq = bad.seq;
-      entry = bad.entry;
-      comes = record { line = line; more = behind; is = cut; spells = bad.spells };
-      damage = λ e. bad.other (e ∙ ap (λ (n : ℕ). n + 1) (sym r.counts.entries));
+      is = record {
+        rules = rules;
+        log = r.log;
+        end = stand_of p;
+        rest = rest;
+        follows = r.follows;
+        number = behind_good r.follows.good line (number r.follows.good r.follows.splits);
+        other = other;
+        damage = damage;
+      };
+      looked_at = before;
     }
 
-pub damaged_reply : (bytes line behind : List ℕ) (rules : RuleSet) (p : Position) (rest : List ℕ) (number : ℕ) → IsReached bytes rules p rest → IsNext number p → first_line rest ≡ Some (line, behind) → BadReply (table_of rules) line p → EndsNotTheMachines bytes number
-damaged_reply bytes line behind rules p rest number r next cut bad =
+damaged_number : (bytes text behind : List ℕ) (rules : RuleSet) (size : ℕ) (p : Position) (rest : List ℕ) (line : ℕ) → IsReached bytes rules size p rest → ((good : List ℕ) → bytes ≡ good ++ rest → IsLineBehind line (good ++ [])) → first_line rest ≡ Some (text, behind) → BadNumber text p → IsMetBehind bytes p.number (Damaged (OutOfOrder line))
+damaged_number bytes text behind rules size p rest line r number cut bad last before =
     record {
-      rules = rules;
-      log = r.log;
-      end = r.end;
-      rest = rest;
-      follows = r.follows;
-      number = next ∙ ap (λ (n : ℕ). n + 2) r.counts.entries;
-      entry = bad.entry;
-      comes = record { line = line; more = behind; is = cut; spells = subst (λ (n : ℕ). SpellsEntry line (n + 1) bad.entry) r.counts.entries bad.spells };
-      damage = λ s a. bad.never s (subst (λ (u : State). Answers (table_of rules) u p.spent bad.entry.0 bad.entry.1 s) (sym r.state)
-          (subst (λ (n : ℕ). Answers (table_of rules) r.end.state n bad.entry.0 bad.entry.1 s) (sym r.spent) a));
+      is = record {
+        rules = rules;
+        log = r.log;
+        end = stand_of p;
+        rest = rest;
+        follows = r.follows;
+        number = behind_good r.follows.good line (number r.follows.good r.follows.splits);
+        seq = bad.seq;
+        entry = bad.entry;
+        comes = record { line = text; more = behind; is = cut; spells = bad.spells };
+        damage = bad.other;
+      };
+      looked_at = before;
+    }
+
+damaged_reply : (bytes text behind : List ℕ) (rules : RuleSet) (size : ℕ) (p : Position) (rest : List ℕ) (line : ℕ) → IsReached bytes rules size p rest → ((good : List ℕ) → bytes ≡ good ++ rest → IsLineBehind line (good ++ [])) → first_line rest ≡ Some (text, behind) → BadReply (table_of rules) text p → IsMetBehind bytes p.number (Damaged (NotTheMachines line))
+damaged_reply bytes text behind rules size p rest line r number cut bad last before =
+    record {
+      is = record {
+        rules = rules;
+        log = r.log;
+        end = stand_of p;
+        rest = rest;
+        follows = r.follows;
+        number = behind_good r.follows.good line (number r.follows.good r.follows.splits);
+        entry = bad.entry;
+        comes = record { line = text; more = behind; is = cut; spells = bad.spells };
+        damage = bad.never;
+      };
+      looked_at = before;
     }
 
 -- what the check of a line finds is the damage of the bytes
-pub damaged : (bytes line behind : List ℕ) (rules : RuleSet) (p q : Position) (rest : List ℕ) (fault : JudgeFault) → IsReached bytes rules p rest → first_line rest ≡ Some (line, behind) → LineJudged (table_of rules) line p q (Err fault) → IsJudged bytes (Err fault)
-damaged bytes line behind rules p q rest (Damaged BadHeader) r cut judged = absurd judged
-damaged bytes line behind rules p q rest (Damaged (NotALine number)) r cut judged =
-    damaged_line bytes rules p rest number r judged.0 (subst (λ (found : Option (List ℕ × List ℕ)). HasNoEntry rest found) (sym cut) judged.1)
-damaged bytes line behind rules p q rest (Damaged (OutOfOrder number)) r cut judged =
-    damaged_number bytes line behind rules p rest number r judged.0 cut judged.1
-damaged bytes line behind rules p q rest (Damaged (NotTheMachines number)) r cut judged =
-    damaged_reply bytes line behind rules p rest number r judged.0 cut judged.1
-damaged bytes line behind rules p q rest Memory r cut judged = tt
+pub damaged : (bytes text behind : List ℕ) (rules : RuleSet) (size : ℕ) (p q : Position) (rest : List ℕ) (found : Flaw) (line : ℕ) → IsReached bytes rules size p rest → ((good : List ℕ) → bytes ≡ good ++ rest → IsLineBehind line (good ++ [])) → (BeginsBase rest → ⊥) → first_line rest ≡ Some (text, behind) → LineJudged (table_of rules) text p q (Err found) → IsMetBehind bytes p.number (flaw_at found line)
+damaged bytes text behind rules size p q rest flaw.NotALine line r number other cut judged =
+    damaged_line bytes rules size p rest line r number other (subst (λ (found : Option (List ℕ × List ℕ)). HasNoEntry rest found) (sym cut) judged)
+damaged bytes text behind rules size p q rest flaw.OutOfOrder line r number other cut judged =
+    damaged_number bytes text behind rules size p rest line r number cut judged
+damaged bytes text behind rules size p q rest flaw.NotTheMachines line r number other cut judged =
+    damaged_reply bytes text behind rules size p rest line r number cut judged
+damaged bytes text behind rules size p q rest flaw.Memory line r number other cut judged = tt
+
+-- and a base that is not the one of where the run stands
+pub damaged_base : (bytes : List ℕ) (rules : RuleSet) (size : ℕ) (p : Position) (rest wanted : List ℕ) (base : Base) (line len : ℕ) → IsReached bytes rules size p rest → BeginsBase rest → base ≡ base_of p.number (stand_of p).moment → wanted ≡ base_text rules size base → PartAt wanted rest len → ((good : List ℕ) → bytes ≡ good ++ rest → IsLineBehind line (good ++ take len rest)) → IsMetBehind bytes p.number (Damaged (BadBase line))
+damaged_base bytes rules size p rest wanted base line len r begins is text parted number last before =
+    let whole : wanted ≡ base_text rules (size_of r.follows.opening) (base_of p.number (stand_of p).moment) =
+    text ∙ ap (λ (n : ℕ). base_text rules n base) (sym r.size_is) ∙ ap (base_text rules (size_of r.follows.opening)) is in
+    let parting = parted.parting in
+    record {
+      is = inr (record {
+        rules = rules;
+        log = r.log;
+        end = stand_of p;
+        rest = rest;
+        follows = r.follows;
+        begins = begins;
+        parting = record {
+          common = parting.common;
+          missing = parting.missing;
+          more = parting.more;
+          wanted = sym whole ∙ parting.wanted;
+          had = parting.had;
+          some = parting.some;
+          apart = parting.apart;
+        };
+        number = subst (λ (c : List ℕ). IsLineBehind line (r.follows.good ++ c)) parted.common_is (number r.follows.good r.follows.splits);
+      });
+      looked_at = before;
+    }

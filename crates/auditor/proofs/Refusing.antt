@@ -10,7 +10,7 @@ use Rattle.entry_grammar.specs.Spelling.{SpellsEntry}
 use Rattle.auditor.specs.Position.{Position, BadReply}
 
 pub bad_reply : (t : RuleTable) (line : List ℕ) (before : Position) (seq : ℕ) (entry : Entry) (event : Event) (reply : Reply) (s : State) (spent : ℕ)
-    → SpellsEntry line seq entry → seq ≡ before.counted.entries + 1 → event ≡ entry.0 → reply ≡ entry.1 → s ≡ before.state → spent ≡ before.spent
+    → SpellsEntry line seq entry → seq ≡ before.number + 1 → event ≡ entry.0 → reply ≡ entry.1 → s ≡ before.state → spent ≡ before.spent
     → ((u : State) → Answers t s spent event reply u → ⊥) → BadReply t line before
 bad_reply t line before seq entry event reply s spent spells next asked told at had never = record {
   entry = entry;

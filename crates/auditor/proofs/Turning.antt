@@ -1,28 +1,27 @@
 -- The epochs of the entries so far, entry by entry.
-use Rattle.std.proofs.Common.{◌≡◌, ℕ, ◌+◌, List, [], ◌∷◌, ◌++◌, Some, All, length, map, refl, sym, ap, ap₂, subst, ◌∙◌, append_assoc, arith}
-use Rattle.std.proofs.lemmas.List.{append-nil, length-map, map-append}
-use Rattle.rule_machine.specs.declared.reply.Reply.{Reply}
+use Rattle.std.proofs.Common.{◌≡◌, ℕ, ◌+◌, List, [], ◌∷◌, ◌++◌, All, length, map, refl, sym, ap, ap₂, subst, ◌∙◌, append_assoc, append-nil, arith}
+use Rattle.std.proofs.lemmas.List.{length-map, map-append}
+use Rattle.rule_machine.specs.declared.base.Base.{Base}
+use Rattle.rule_machine.specs.declared.epoch.Start.{Start}
 use Rattle.rule_machine.specs.declared.rules.RuleSet.{RuleSet}
-use Rattle.rule_machine.specs.declared.rules.RuleSet.TheVariants.{Hh, Manne}
-use Rattle.rule_machine.specs.State.{State, opening_with}
+use Rattle.rule_machine.specs.State.{State}
 use Rattle.rule_machine.specs.RuleTable.{RuleTable}
-use Rattle.rule_machine.specs.Run.{Entry, Moment, Epoch, beginning_with, epoch_at, epochs_by, epochs_from}
+use Rattle.rule_machine.specs.Base.{Part, Told, Kept, Stand, entries_in}
+use Rattle.rule_machine.specs.Run.{Entry, Moment, Epoch, epochs_by, epochs_from, open_at}
 use Rattle.rule_machine.specs.Answer.{Answers, spent_after}
 use Rattle.rule_machine.specs.Tables.{table_of}
-use Rattle.rule_machine.specs.HsuHuang.{hsu_huang}
-use Rattle.rule_machine.specs.Manne.{manne}
-use Rattle.charge_laws.specs.Tables.{hsu_huang_table, manne_table}
-use Rattle.charge_laws.specs.Laws.{hsu_huang_charged, manne_charged}
-use Rattle.charge_laws.specs.Epochs.{IsPath, opening_epochs_are_bounded}
-use Rattle.entry_grammar.specs.Spelling.{SpellsEntry}
-use Rattle.auditor.specs.declared.summary.Summary.{Summary}
-use Rattle.auditor.specs.Transcript.{IsTranscript}
-use Rattle.auditor.specs.Damage.{first_line}
-use Rattle.auditor.specs.Position.{Position, counted_more}
-use Rattle.auditor.specs.Accepted.{Counts, IsReached}
-use Rattle.auditor.specs.Reached.{IsOpened, IsOneFurther}
-use Rattle.auditor.specs.Epochs.{AreEpochs, IsWithinItsBound}
-use Rattle.auditor.proofs.Reaching.{follows_start, follows_more, more_counts}
+use Rattle.machine_laws.specs.Bases.{passes_run}
+use Rattle.charge_laws.specs.Epochs.{IsPath, epochs_are_bounded}
+use Rattle.judge.specs.Bases.{weight_of}
+use Rattle.auditor.specs.declared.replay.Replay.{Replay}
+use Rattle.auditor.specs.Transcript.{Comes}
+use Rattle.auditor.specs.Position.{Position, IsFurther, counted_part, position_at, stand_of}
+use Rattle.auditor.specs.Parted.{IsSameText}
+use Rattle.auditor.specs.Accepted.{IsReached}
+use Rattle.auditor.specs.Reached.{IsOpened}
+use Rattle.auditor.specs.Epochs.{AreEpochs, IsWithinItsBound, epochs_at, first_epoch}
+use Rattle.auditor.proofs.Reaching.{entries_add, reached_more}
+use Rattle.auditor.proofs.Spent.{is_table, is_charged, opens_in_state, opens_within}
 
 -- an entry, and the state after it
 abbrev pub Stage : Type 0
@@ -73,124 +72,138 @@ until_more number last epoch (first ∷ path) step at past next before is =
     let more = until_more (number + 1) last turn.1 path step (omega (arith, at)) (rest.0 ++ then.0) next refl is in
     (before ∙ append_assoc turn.0 rest.0 then.0 ∙ ap (λ (l : List Epoch). turn.0 ++ l) more.0, more.1)
 
--- The bytes begin with the transcript of a run that has led to the position, these epochs of it are over, and this one has begun.
-pub record IsListed (bytes : List ℕ) (rules : RuleSet) (p : Position) (rest : List ℕ) (past : List Epoch) (epoch : Epoch) : Type 0 where
-  pub size : ℕ
-  pub count : ℕ
+abbrev moment : State → ℕ → Moment
+moment s n = record { state = s; spent = n }
+
+-- The bytes begin with the transcript of a run that has led to the position, its entries lead through these states, these epochs of it
+-- are over, and this one has begun.
+pub record IsListed (bytes : List ℕ) (rules : RuleSet) (size : ℕ) (p : Position) (rest : List ℕ) (past : List Epoch) (epoch : Epoch) : Type 0 where
+  pub reached : IsReached bytes rules size p rest
   pub path : List Stage
-  pub good : List ℕ
-  pub transcript : IsTranscript good rules size count (entries path) (path_end (beginning_with size count) path)
-  pub splits : bytes ≡ good ++ rest
-  pub state : p.state ≡ (path_end (beginning_with size count) path).state
-  pub spent : p.spent ≡ (path_end (beginning_with size count) path).spent
-  pub counts : Counts p.counted (entries path)
-  pub is_path : IsPath (table_of rules) (beginning_with size count) path
-  pub past_is : past ≡ (epochs_until 1 (epoch_at 0 (opening_with size count)) path).0
-  pub epoch_is : epoch ≡ (epochs_until 1 (epoch_at 0 (opening_with size count)) path).1
+  pub entries_are : entries_in reached.log ≡ entries path
+  pub is_path : IsPath (table_of rules) reached.follows.transcript.start.moment path
+  pub ends : path_end reached.follows.transcript.start.moment path ≡ (stand_of p).moment
+  pub past_is : past ≡ (epochs_until (reached.follows.transcript.start.count + 1) (first_epoch reached.follows.opening reached.follows.transcript.start) path).0
+  pub epoch_is : epoch ≡ (epochs_until (reached.follows.transcript.start.count + 1) (first_epoch reached.follows.opening reached.follows.transcript.start) path).1
 
--- it is where an audit is
-pub listed_reached : (bytes : List ℕ) (rules : RuleSet) (p : Position) (rest : List ℕ) (past : List Epoch) (epoch : Epoch) → IsListed bytes rules p rest past epoch → IsReached bytes rules p rest
-listed_reached bytes rules p rest past epoch l = record {
-  log = entries l.path;
-  end = path_end (beginning_with l.size l.count) l.path;
-  follows = record { size = l.size; count = l.count; good = l.good; transcript = l.transcript; splits = l.splits };
-  state = l.state;
-  spent = l.spent;
-  counts = l.counts;
-}
-
-pub listed_start : (bytes : List ℕ) (rules : RuleSet) (p : Position) (rest : List ℕ) (epoch : Epoch) → IsOpened bytes rules p rest → epoch ≡ epoch_at p.counted.entries p.state → IsListed bytes rules p rest [] epoch
-listed_start bytes rules p rest epoch o is =
-    let follows = follows_start bytes o.line rest rules o.size o.count o.cut o.spells in
-    record {
-      size = o.size;
-      count = o.count;
+pub listed_start : (bytes : List ℕ) (rules : RuleSet) (size : ℕ) (begun : Start) (p : Position) (rest : List ℕ) (epoch : Epoch) → IsOpened bytes rules size begun p rest → epoch ≡ open_at begun (stand_of p).moment → IsListed bytes rules size p rest [] epoch
+listed_start bytes rules size begun p rest epoch o is =
+    let begins : o.start ≡ o.follows.transcript.start = o.follows.transcript.passes in
+    let at : IsListed bytes rules size (position_at o.start) rest [] epoch = record {
+      reached = record { log = []; follows = o.follows; size_is = o.size_is; counts = record { entries = refl; epochs = refl; moves = refl } };
       path = [];
-      good = follows.good;
-      transcript = follows.transcript;
-      splits = follows.splits;
-      state = ap (λ (q : Position). q.state) o.opening;
-      spent = ap (λ (q : Position). q.spent) o.opening;
-      counts = record {
-        entries = ap (λ (q : Position). q.counted.entries) o.opening;
-        epochs = ap (λ (q : Position). q.counted.epochs) o.opening;
-        moves = ap (λ (q : Position). q.counted.moves) o.opening;
-      };
+      entries_are = refl;
       is_path = tt;
+      ends = ap (λ (x : Stand). x.moment) (sym begins);
       past_is = refl;
-      epoch_is = is ∙ ap (λ (q : Position). epoch_at q.counted.entries q.state) o.opening;
-    }
+      epoch_is = is ∙ ap (λ (q : Position). open_at begun (stand_of q).moment) o.opening ∙ ap (λ (s : Start). open_at s o.start.moment) o.begun_is ∙ ap (first_epoch o.follows.opening) begins;
+    } in
+    subst (λ (q : Position). IsListed bytes rules size q rest [] epoch) (sym o.opening) at
 
 -- the entries of a path with one stage more
 entries_more : (path : List Stage) (step : Stage) → entries (path ++ step ∷ []) ≡ entries path ++ step.0 ∷ []
 entries_more path step = map-append (λ (x : Stage). x.0) path (step ∷ [])
 
-listed_step : (bytes line : List ℕ) (rules : RuleSet) (p q : Position) (rest behind : List ℕ) (past next : List Epoch) (epoch after : Epoch) (entry : Entry) (l : IsListed bytes rules p rest past epoch) → first_line rest ≡ Some (line, behind) → SpellsEntry line (length (entries l.path) + 1) entry → Answers (table_of rules) (path_end (beginning_with l.size l.count) l.path).state (path_end (beginning_with l.size l.count) l.path).spent entry.0 entry.1 q.state → q.spent ≡ spent_after (path_end (beginning_with l.size l.count) l.path).spent entry.1 → q.counted ≡ counted_more p.counted entry.1
-    → next ≡ past ++ (epochs_by entry.1 q.counted.entries q.state epoch).0 → after ≡ (epochs_by entry.1 q.counted.entries q.state epoch).1 → IsListed bytes rules q behind next after
-listed_step bytes line rules p q rest behind past next epoch after entry l cut spells answers spends counted next_is after_is =
-    let start = beginning_with l.size l.count in
-    let end = path_end start l.path in
+-- one entry more
+listed_told : (bytes : List ℕ) (rules : RuleSet) (size : ℕ) (p q : Position) (rest behind : List ℕ) (past next : List Epoch) (epoch after : Epoch) (entry : Entry) → IsListed bytes rules size p rest past epoch → Comes rules size (stand_of p) rest (Told entry) (stand_of q) behind → q.counted ≡ counted_part p.counted (Told entry)
+    → next ≡ past ++ (epochs_by entry.1 q.number q.state epoch).0 → after ≡ (epochs_by entry.1 q.number q.state epoch).1 → IsListed bytes rules size q behind next after
+listed_told bytes rules size p q rest behind past next epoch after entry l comes counted next_is after_is =
+    let start = l.reached.follows.transcript.start in
+    let t = table_of rules in
     let step : Stage = (entry, q.state) in
-    let path = l.path ++ step ∷ [] in
-    let follows = follows_more bytes line rest behind rules (entries l.path) end entry q.state (record { size = l.size; count = l.count; good = l.good; transcript = l.transcript; splits = l.splits }) cut spells answers in
-    let log = entries_more l.path step in
-    let moment = end_more start l.path step in
-    let last : q.counted.entries ≡ 1 + length l.path = ap (λ (c : Summary). c.entries) counted ∙ omega (arith, l.counts.entries, length-map l.path (λ (x : Stage). x.0)) in
-    let number = q.counted.entries in
-    let first = epoch_at 0 (opening_with l.size l.count) in
-    let turns = until_more 1 number first l.path step last next after
-    (next_is ∙ ap₂ (λ (x : List Epoch) (e : Epoch). x ++ (epochs_by entry.1 number q.state e).0) l.past_is l.epoch_is)
-    (after_is ∙ ap (λ (e : Epoch). (epochs_by entry.1 number q.state e).1) l.epoch_is) in
+    let stand : stand_of q ≡ _ = comes.steps.2 in
+    let state = ap (λ (x : Stand). x.moment.state) stand in
+    let spent : q.spent ≡ spent_after p.spent entry.1 = ap (λ (x : Stand). x.moment.spent) stand in
+    let number : q.number ≡ p.number + 1 = ap (λ (x : Stand). x.count) stand in
+    let answers : Answers t p.state p.spent entry.0 entry.1 q.state = subst (λ (s : State). Answers t p.state p.spent entry.0 entry.1 s) (sym state) comes.steps.1 in
+    let end = path_end start.moment l.path in
+    let from : Answers t end.state end.spent entry.0 entry.1 q.state = subst (λ (m : Moment). Answers t m.state m.spent entry.0 entry.1 q.state) (sym l.ends) answers in
+    let run = (passes_run t start (stand_of p) l.reached.log l.reached.follows.transcript.passes).1 in
+    let as_many = ap length l.entries_are ∙ length-map l.path (λ (x : Stage). x.0) in
+    let first = first_epoch l.reached.follows.opening start in
+    let turns = until_more (start.count + 1) q.number first l.path step (omega (arith, number, run, as_many)) next after
+    (next_is ∙ ap₂ (λ (x : List Epoch) (e : Epoch). x ++ (epochs_by entry.1 q.number q.state e).0) l.past_is l.epoch_is)
+    (after_is ∙ ap (λ (e : Epoch). (epochs_by entry.1 q.number q.state e).1) l.epoch_is) in
     record {
-      size = l.size;
-      count = l.count;
-      path = path;
-      good = follows.good;
-      transcript = subst (λ (m : Moment). IsTranscript follows.good rules l.size l.count (entries path) m) (sym moment) (subst (λ (log : List Entry). IsTranscript follows.good rules l.size l.count log (record { state = q.state; spent = spent_after end.spent entry.1 })) (sym log) follows.transcript);
-      splits = follows.splits;
-      state = ap (λ (m : Moment). m.state) (sym moment);
-      spent = spends ∙ ap (λ (m : Moment). m.spent) (sym moment);
-      counts = subst (λ (log : List Entry). Counts q.counted log) (sym log) (more_counts p.counted q.counted (entries l.path) entry l.counts counted);
-      is_path = path_more (table_of rules) start l.path step l.is_path answers;
+      reached = reached_more bytes rules size p q rest behind l.reached (record { part = Told entry; comes = comes; counted = counted });
+      path = l.path ++ step ∷ [];
+      entries_are = entries_add l.reached.log (Told entry) ∙ ap (λ (x : List Entry). x ++ entry ∷ []) l.entries_are ∙ sym (entries_more l.path step);
+      is_path = path_more t start.moment l.path step l.is_path from;
+      ends = end_more start.moment l.path step ∙ ap (λ (m : Moment). moment q.state (spent_after m.spent entry.1)) l.ends ∙ ap (moment q.state) (sym spent);
       past_is = turns.0;
       epoch_is = turns.1;
     }
 
--- one line further, and what its entry makes of the epochs
-pub listed_more : (bytes : List ℕ) (rules after_rules : RuleSet) (p q : Position) (rest behind : List ℕ) (past next : List Epoch) (epoch after : Epoch) → after_rules ≡ rules → IsListed bytes rules p rest past epoch → IsOneFurther (table_of rules) p rest q behind
-    → ((reply : Reply) → q.counted ≡ counted_more p.counted reply → (next ≡ past ++ (epochs_by reply q.counted.entries q.state epoch).0) × (after ≡ (epochs_by reply q.counted.entries q.state epoch).1))
-    → IsListed bytes after_rules q behind next after
-listed_more bytes rules after_rules p q rest behind past next epoch after same l one turn =
-    let good = one.good in
-    let spells = subst (λ (n : ℕ). SpellsEntry one.line (n + 1) good.entry) l.counts.entries good.spells in
-    let moved = subst (λ (s : State). Answers (table_of rules) s p.spent good.entry.0 good.entry.1 q.state) l.state good.answers in
-    let end = path_end (beginning_with l.size l.count) l.path in
-    let answers = subst (λ (n : ℕ). Answers (table_of rules) end.state n good.entry.0 good.entry.1 q.state) l.spent moved in
-    let spends = good.spends ∙ ap (λ (n : ℕ). spent_after n good.entry.1) l.spent in
-    let turned = turn good.entry.1 good.counted in
-    subst (λ (r : RuleSet). IsListed bytes r q behind next after) (sym same) (listed_step bytes one.line rules p q rest behind past next epoch after good.entry l one.cut spells answers spends good.counted turned.0 turned.1)
+-- one base more
+listed_kept : (bytes : List ℕ) (rules : RuleSet) (size : ℕ) (p q : Position) (rest behind : List ℕ) (past next : List Epoch) (epoch after : Epoch) (base : Base) → IsListed bytes rules size p rest past epoch → Comes rules size (stand_of p) rest (Kept base) (stand_of q) behind → q.counted ≡ counted_part p.counted (Kept base) → next ≡ past ++ [] → after ≡ epoch → IsListed bytes rules size q behind next after
+listed_kept bytes rules size p q rest behind past next epoch after base l comes counted next_is after_is = record {
+  reached = reached_more bytes rules size p q rest behind l.reached (record { part = Kept base; comes = comes; counted = counted });
+  path = l.path;
+  entries_are = entries_add l.reached.log (Kept base) ∙ append-nil (entries_in l.reached.log) ∙ l.entries_are;
+  is_path = l.is_path;
+  ends = l.ends ∙ ap (λ (x : Stand). x.moment) (sym comes.steps.1);
+  past_is = next_is ∙ append-nil past ∙ l.past_is;
+  epoch_is = after_is ∙ l.epoch_is;
+}
+
+-- one part further, and what it makes of the epochs
+pub listed_more : (bytes : List ℕ) (rules : RuleSet) (size : ℕ) (p q : Position) (rest behind : List ℕ) (past next : List Epoch) (epoch after : Epoch) → IsListed bytes rules size p rest past epoch → IsFurther rules size p rest q behind
+    → ((part : Part) → q.counted ≡ counted_part p.counted part → (next ≡ past ++ (epochs_at part q.number q.state epoch).0) × (after ≡ (epochs_at part q.number q.state epoch).1))
+    → IsListed bytes rules size q behind next after
+listed_more bytes rules size p q rest behind past next epoch after l further turn = by further.part further.comes further.counted
+  where
+    by : (part : Part) → Comes rules size (stand_of p) rest part (stand_of q) behind → q.counted ≡ counted_part p.counted part → IsListed bytes rules size q behind next after
+    by (Told entry) comes counted =
+        let turned = turn (Told entry) counted in
+        listed_told bytes rules size p q rest behind past next epoch after entry l comes counted turned.0 turned.1
+    by (Kept base) comes counted =
+        let turned = turn (Kept base) counted in
+        listed_kept bytes rules size p q rest behind past next epoch after base l comes counted turned.0 turned.1
 
 -- ---- the end
 
-pub listed_all : (bytes : List ℕ) (rules : RuleSet) (p : Position) (rest : List ℕ) (past all : List Epoch) (epoch : Epoch) → IsListed bytes rules p rest past epoch → rest ≡ [] → all ≡ past ++ epoch ∷ [] → AreEpochs bytes rules all
-listed_all bytes rules p rest past all epoch l none is =
-    let same : bytes ≡ l.good = l.splits ∙ ap (λ (z : List ℕ). l.good ++ z) none ∙ append-nil l.good in
+pub listed_all : (bytes : List ℕ) (rules : RuleSet) (size : ℕ) (p : Position) (rest : List ℕ) (past all : List Epoch) (epoch : Epoch) → IsListed bytes rules size p rest past epoch → rest ≡ [] → all ≡ past ++ epoch ∷ [] → AreEpochs bytes rules all
+listed_all bytes rules size p rest past all epoch l none is =
+    let f = l.reached.follows in
+    let good = f.transcript in
+    let same : bytes ≡ f.good = f.splits ∙ ap (λ (z : List ℕ). f.good ++ z) none ∙ append-nil f.good in
     record {
-      size = l.size;
-      count = l.count;
+      opening = f.opening;
       path = l.path;
       run = record {
-        end = path_end (beginning_with l.size l.count) l.path;
-        transcript = subst (λ (b : List ℕ). IsTranscript b rules l.size l.count (entries l.path) (path_end (beginning_with l.size l.count) l.path)) (sym same) l.transcript;
+        log = l.reached.log;
+        end = stand_of p;
+        transcript = record {
+          start = good.start;
+          opens = good.opens;
+          text = same ∙ good.text;
+          parts = good.parts;
+          not_too_many = good.not_too_many;
+          passes = good.passes;
+        };
+        entries = l.entries_are;
         is_path = l.is_path;
       };
-      are = is ∙ ap₂ (λ (x : List Epoch) (e : Epoch). x ++ e ∷ []) l.past_is l.epoch_is ∙ until_all 1 (epoch_at 0 (opening_with l.size l.count)) l.path;
+      are = is ∙ ap₂ (λ (x : List Epoch) (e : Epoch). x ++ e ∷ []) l.past_is l.epoch_is ∙ until_all (good.start.count + 1) (first_epoch f.opening good.start) l.path;
     }
 
 -- each epoch is within its bound
-bounded_by : (rules : RuleSet) (size count : ℕ) (path : List Stage) → IsPath (table_of rules) (beginning_with size count) path → All (IsWithinItsBound rules) (epochs_from 1 (epoch_at 0 (opening_with size count)) path)
-bounded_by Hh size count path is = opening_epochs_are_bounded hsu_huang 1 hsu_huang_table hsu_huang_charged size count 1 path is
-bounded_by Manne size count path is = opening_epochs_are_bounded manne 3 manne_table manne_charged size count 1 path is
-
 pub listed_bounded : (bytes : List ℕ) (rules : RuleSet) (all : List Epoch) → AreEpochs bytes rules all → All (IsWithinItsBound rules) all
-listed_bounded bytes rules all a = subst (All (IsWithinItsBound rules)) (sym a.are) (bounded_by rules a.size a.count a.path a.run.is_path)
+listed_bounded bytes rules all a =
+    let is = a.run.transcript in
+    subst (All (IsWithinItsBound rules)) (sym a.are)
+    (epochs_are_bounded (table_of rules) (weight_of rules) (is_table rules) (is_charged rules) is.start.moment (opens_in_state rules a.opening is.start is.opens) (opens_within rules a.opening is.start is.opens)
+    (is.start.count + 1) (first_epoch a.opening is.start) (record { moves = refl; edges = refl; nodes = refl }) a.path a.run.is_path)
+
+-- ---- of a replay
+
+pub listed_at : (bytes : List ℕ) (replay : Replay) (past : List Epoch) (epoch : Epoch) → IsListed bytes replay.rules replay.size replay.audit replay.rest.now past epoch → IsReached bytes replay.rules replay.size replay.audit replay.rest.now
+listed_at bytes replay past epoch l = l.reached
+
+pub listed_on : (bytes : List ℕ) (old new : Replay) (past next : List Epoch) (epoch after : Epoch) → IsListed bytes old.rules old.size old.audit old.rest.now past epoch → IsSameText old new → IsFurther old.rules old.size old.audit old.rest.now new.audit new.rest.now
+    → ((part : Part) → new.audit.counted ≡ counted_part old.audit.counted part → (next ≡ past ++ (epochs_at part new.audit.number new.audit.state epoch).0) × (after ≡ (epochs_at part new.audit.number new.audit.state epoch).1))
+    → IsListed bytes new.rules new.size new.audit new.rest.now next after
+listed_on bytes old new past next epoch after l same further turn =
+    let more = listed_more bytes old.rules old.size old.audit new.audit old.rest.now new.rest.now past next epoch after l further turn in
+    let ruled = subst (λ (r : RuleSet). IsListed bytes r old.size new.audit new.rest.now next after) (sym same.rules) more in
+    subst (λ (n : ℕ). IsListed bytes new.rules n new.audit new.rest.now next after) (sym same.size) ruled

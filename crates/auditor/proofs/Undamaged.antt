@@ -1,47 +1,114 @@
 -- A text without a damage cannot fail to be a transcript.
-use Rattle.std.proofs.Common.{◌≡◌, ◌≢◌, ℕ, zero, suc, ◌+◌, ◌≤◌, List, [], ◌∷◌, ◌++◌, Option, None, Some, length, refl, sym, ap, subst, ◌∙◌, arith}
+use Rattle.std.proofs.Common.{◌≡◌, ◌≢◌, ℕ, zero, suc, ◌+◌, ◌≤◌, ◌==◌, Bool, true, false, ◌⊎◌, inl, inr, List, [], ◌∷◌, ◌++◌, Option, None, Some, length, refl, sym, ap, subst, ◌∙◌, append_assoc, arith, eqb-true}
 use Rattle.std.proofs.lemmas.List.{append-nil, length-append, nil_from_length}
 use Rattle.rule_machine.specs.declared.rules.RuleSet.{RuleSet}
 use Rattle.rule_machine.specs.State.{State}
-use Rattle.rule_machine.specs.Run.{Entry, Moment, beginning_with}
+use Rattle.rule_machine.specs.Base.{Part, Told, Kept, Stand, base_of, entries_in}
+use Rattle.rule_machine.specs.Run.{Entry, beginning_with}
 use Rattle.rule_machine.specs.Answer.{Answers, spent_after}
 use Rattle.rule_machine.specs.Tables.{table_of}
-use Rattle.entry_grammar.specs.Spelling.{SpellsEntry}
+use Rattle.line_text.specs.EntryText.{header_text}
+use Rattle.line_text.specs.BaseText.{base_head, base_text}
+use Rattle.entry_grammar.specs.Lines.{first_line}
+use Rattle.entry_grammar.specs.Spelling.{SpellsEntry, SpellsHeader}
+use Rattle.entry_grammar.specs.BaseLines.{base_lines}
+use Rattle.entry_grammar.proofs.Cutting.{first_line-splits}
+use Rattle.entry_grammar.proofs.BaseOnce.{base_text_is}
+use Rattle.entry_grammar.proofs.Free.{cons_parts}
 use Rattle.auditor.specs.declared.damage.Damage.{Damage}
-use Rattle.auditor.specs.declared.damage.Damage.TheVariants.{BadHeader, NotALine, OutOfOrder, NotTheMachines}
+use Rattle.auditor.specs.declared.damage.Damage.TheVariants.{BadHeader, NotALine, OutOfOrder, NotTheMachines, BadBase}
 use Rattle.auditor.specs.declared.summary.Summary.{Summary}
-use Rattle.auditor.specs.Transcript.{IsTranscript, epoch_count, move_count}
-use Rattle.auditor.specs.Damage.{Follows, HasNoEntry, HasBadHeader, SpellsNoHeader, IsDamage, first_line}
+use Rattle.auditor.specs.Parts.{Opening, Named, Based, Opens, opening_text, size_of}
+use Rattle.auditor.specs.Transcript.{Comes, IsTranscript, epoch_count, move_count}
+use Rattle.auditor.specs.Damage.{BeginsBase, Follows, HasBadHeader, HasNoEntry, IsDamage, Parting, SpellsNoHead, SpellsNoHeader, line_feeds}
 use Rattle.auditor.specs.Accepted.{IsAccepted}
-use Rattle.auditor.proofs.Cutting.{first_line-splits}
-use Rattle.auditor.proofs.Reaching.{follows_start, follows_more}
+use Rattle.auditor.proofs.Steps.{follows_more}
+use Rattle.auditor.proofs.Chains.{entry_line_is, part_some}
+use Rattle.auditor.proofs.Bases.{base_or_breaks}
 
--- neither a transcript nor damaged
+-- ---- a text goes on with another, or parts from it
+
+-- the bytes begin with the text
+pub record Begins (text bytes : List ℕ) : Type 0 where
+  pub behind : List ℕ
+  pub is : bytes ≡ text ++ behind
+
+parting_more : (b c : ℕ) (text bytes : List ℕ) → b ≡ c → Begins text bytes ⊎ Parting text bytes → Begins (b ∷ text) (c ∷ bytes) ⊎ Parting (b ∷ text) (c ∷ bytes)
+parting_more b c text bytes same (inl x) = inl (record { behind = x.behind; is = ap (λ (z : ℕ). z ∷ bytes) (sym same) ∙ ap (λ (l : List ℕ). b ∷ l) x.is })
+parting_more b c text bytes same (inr p) = inr (record {
+  common = b ∷ p.common;
+  missing = p.missing;
+  more = p.more;
+  wanted = ap (λ (l : List ℕ). b ∷ l) p.wanted;
+  had = ap (λ (z : ℕ). z ∷ bytes) (sym same) ∙ ap (λ (l : List ℕ). b ∷ l) p.had;
+  some = p.some;
+  apart = p.apart;
+})
+
+cons_some : (b : ℕ) (text : List ℕ) → b ∷ text ≢ []
+cons_some b text e = absurd cc
+
+nothing_apart : (b : ℕ) (y : List ℕ) → [] ≡ b ∷ y → ⊥
+nothing_apart b y e = absurd cc
+
+parts_here : (b c : ℕ) (text bytes : List ℕ) → (b ≡ c → ⊥) → Parting (b ∷ text) (c ∷ bytes)
+parts_here b c text bytes other = record {
+  common = [];
+  missing = b ∷ text;
+  more = c ∷ bytes;
+  wanted = refl;
+  had = refl;
+  some = cons_some b text;
+  apart = λ d x y e f. other ((cons_parts b d text x e).0 ∙ sym (cons_parts c d bytes y f).0);
+}
+
+different : (b c : ℕ) → (b == c) ≡ false → b ≡ c → ⊥
+different b c e same = grind arith
+
+one_more : (b c : ℕ) (text bytes : List ℕ) (v : Bool) → (b == c) ≡ v → Begins text bytes ⊎ Parting text bytes → Begins (b ∷ text) (c ∷ bytes) ⊎ Parting (b ∷ text) (c ∷ bytes)
+one_more b c text bytes true e behind = parting_more b c text bytes (eqb-true b c e) behind
+one_more b c text bytes false e behind = inr (parts_here b c text bytes (different b c e))
+
+pub begins_or_parts : (text bytes : List ℕ) → Begins text bytes ⊎ Parting text bytes
+begins_or_parts [] bytes = inl (record { behind = bytes; is = refl })
+begins_or_parts (b ∷ text) [] = inr (record {
+  common = [];
+  missing = b ∷ text;
+  more = [];
+  wanted = refl;
+  had = refl;
+  some = cons_some b text;
+  apart = λ d x y e f. nothing_apart d y f;
+})
+begins_or_parts (b ∷ text) (c ∷ bytes) = one_more b c text bytes (b == c) refl (begins_or_parts text bytes)
+
+-- ---- neither a transcript nor damaged
+
 record Neither (bytes : List ℕ) : Type 0 where
   undamaged : (d : Damage) → IsDamage bytes d → ⊥
   refused : (c : Summary) → IsAccepted bytes c → ⊥
 
 -- something is left, since what there is would be a transcript
-left : (bytes : List ℕ) (rules : RuleSet) (log : List Entry) (end : Moment) (rest : List ℕ) → Neither bytes → Follows bytes rules log end rest → rest ≢ []
+left : (bytes : List ℕ) (rules : RuleSet) (log : List Part) (end : Stand) (rest : List ℕ) → Neither bytes → Follows bytes rules log end rest → rest ≢ []
 left bytes rules log end rest neither follows none =
     let all : bytes ≡ follows.good = follows.splits ∙ ap (λ (z : List ℕ). follows.good ++ z) none ∙ append-nil follows.good in
-    neither.refused (record { entries = length log; epochs = epoch_count log; moves = move_count log }) (record {
+    let entries = entries_in log in
+    neither.refused (record { entries = length entries; epochs = epoch_count entries; moves = move_count entries }) (record {
       rules = rules;
-      size = follows.size;
-      count = follows.count;
+      opening = follows.opening;
       log = log;
       end = end;
-      transcript = subst (λ (b : List ℕ). IsTranscript b rules follows.size follows.count log end) (sym all) follows.transcript;
+      transcript = subst (λ (b : List ℕ). IsTranscript b rules follows.opening log end) (sym all) follows.transcript;
       counts = record { entries = refl; epochs = refl; moves = refl };
     })
 
-no_line : (bytes : List ℕ) (rules : RuleSet) (log : List Entry) (end : Moment) (rest : List ℕ) → Neither bytes → Follows bytes rules log end rest → HasNoEntry rest (first_line rest) → ⊥
-no_line bytes rules log end rest neither follows damage =
-    neither.undamaged (NotALine (length log + 2)) (record { rules = rules; log = log; end = end; rest = rest; follows = follows; number = refl; damage = damage })
+no_line : (bytes : List ℕ) (rules : RuleSet) (log : List Part) (end : Stand) (rest : List ℕ) → Neither bytes → Follows bytes rules log end rest → (BeginsBase rest → ⊥) → HasNoEntry rest (first_line rest) → ⊥
+no_line bytes rules log end rest neither follows other damage =
+    neither.undamaged (NotALine (line_feeds follows.good + 1)) (record { rules = rules; log = log; end = end; rest = rest; follows = follows; number = refl; other = other; damage = damage })
 
-no_other_number : (bytes line more : List ℕ) (rules : RuleSet) (log : List Entry) (end : Moment) (rest : List ℕ) (number : ℕ) (entry : Entry) → Neither bytes → Follows bytes rules log end rest → first_line rest ≡ Some (line, more) → SpellsEntry line number entry → number ≢ length log + 1 → ⊥
+no_other_number : (bytes line more : List ℕ) (rules : RuleSet) (log : List Part) (end : Stand) (rest : List ℕ) (number : ℕ) (entry : Entry) → Neither bytes → Follows bytes rules log end rest → first_line rest ≡ Some (line, more) → SpellsEntry line number entry → number ≢ end.count + 1 → ⊥
 no_other_number bytes line more rules log end rest number entry neither follows cut spells other =
-    neither.undamaged (OutOfOrder (length log + 2)) (record {
+    neither.undamaged (OutOfOrder (line_feeds follows.good + 1)) (record {
       rules = rules;
       log = log;
       end = end;
@@ -54,9 +121,9 @@ no_other_number bytes line more rules log end rest number entry neither follows 
       damage = other;
     })
 
-no_other_reply : (bytes line more : List ℕ) (rules : RuleSet) (log : List Entry) (end : Moment) (rest : List ℕ) (entry : Entry) → Neither bytes → Follows bytes rules log end rest → first_line rest ≡ Some (line, more) → SpellsEntry line (length log + 1) entry → ((s : State) → Answers (table_of rules) end.state end.spent entry.0 entry.1 s → ⊥) → ⊥
+no_other_reply : (bytes line more : List ℕ) (rules : RuleSet) (log : List Part) (end : Stand) (rest : List ℕ) (entry : Entry) → Neither bytes → Follows bytes rules log end rest → first_line rest ≡ Some (line, more) → SpellsEntry line (end.count + 1) entry → ((s : State) → Answers (table_of rules) end.moment.state end.moment.spent entry.0 entry.1 s → ⊥) → ⊥
 no_other_reply bytes line more rules log end rest entry neither follows cut spells never =
-    neither.undamaged (NotTheMachines (length log + 2)) (record {
+    neither.undamaged (NotTheMachines (line_feeds follows.good + 1)) (record {
       rules = rules;
       log = log;
       end = end;
@@ -68,32 +135,139 @@ no_other_reply bytes line more rules log end rest entry neither follows cut spel
       damage = never;
     })
 
-shorter : (rest line more : List ℕ) (fuel : ℕ) → first_line rest ≡ Some (line, more) → length rest ≤ suc fuel → length more ≤ fuel
-shorter rest line more fuel cut few =
-    let l : length rest ≡ length line + length (10 ∷ more) = ap length (first_line-splits rest line more cut) ∙ length-append line (10 ∷ more) in
+-- ---- what comes next
+
+-- behind a part less is left
+shorter : (text behind rest : List ℕ) (fuel : ℕ) → rest ≡ text ++ behind → (text ++ [] ≡ [] → ⊥) → length rest ≤ suc fuel → length behind ≤ fuel
+shorter [] behind rest fuel is some few = absurd (some refl)
+shorter (b ∷ text) behind rest fuel is some few =
+    let l : length rest ≡ length (b ∷ text) + length behind = ap length is ∙ length-append (b ∷ text) behind in
     omega (arith, l, few)
 
--- There is always a further entry, and the machine may have given its reply: the text would have no end.
-walk : (fuel : ℕ) (bytes : List ℕ) (rules : RuleSet) (log : List Entry) (end : Moment) (rest : List ℕ) → length rest ≤ fuel → Neither bytes → Follows bytes rules log end rest → ⊥
+comes_shorter : (rules : RuleSet) (size : ℕ) (at : Stand) (rest : List ℕ) (part : Part) (next : Stand) (behind : List ℕ) (fuel : ℕ) → Comes rules size at rest part next behind → length rest ≤ suc fuel → length behind ≤ fuel
+comes_shorter rules size at rest part next behind fuel comes few =
+    shorter _ behind rest fuel comes.is (part_some rules size at.count part []) few
+
+abbrev told_to : State → Stand → Entry → Stand
+told_to s end entry = record { moment = record { state = s; spent = spent_after end.moment.spent entry.1 }; count = end.count + 1 }
+
+told_comes : (rules : RuleSet) (size : ℕ) (line more rest : List ℕ) (end : Stand) (entry : Entry) (s : State) → first_line rest ≡ Some (line, more) → SpellsEntry line (end.count + 1) entry → Answers (table_of rules) end.moment.state end.moment.spent entry.0 entry.1 s → Comes rules size end rest (Told entry) (told_to s end entry) more
+told_comes rules size line more rest end entry s cut spells answers = record {
+  fits = record { event = spells.event; reply = spells.reply; fits = spells.fits };
+  within = spells.numbered.1;
+  steps = (s, answers, refl);
+  is = first_line-splits rest line more cut ∙ ap (λ (l : List ℕ). l ++ 10 ∷ more) spells.is ∙ sym (entry_line_is (end.count + 1) entry more);
+}
+
+kept_comes : (bytes : List ℕ) (rules : RuleSet) (log : List Part) (end : Stand) (rest : List ℕ) (f : Follows bytes rules log end rest) (x : Begins (base_text rules (size_of f.opening) (base_of end.count end.moment)) rest) → Comes rules (size_of f.opening) end rest (Kept (base_of end.count end.moment)) end x.behind
+kept_comes bytes rules log end rest f x = record { fits = tt; within = f.transcript.not_too_many; steps = (refl, refl); is = x.is }
+
+-- a part comes that the machine may have given
+next_part : (bytes : List ℕ) (rules : RuleSet) (log : List Part) (end : Stand) (rest : List ℕ) → Neither bytes → (f : Follows bytes rules log end rest) → ((part : Part) (next : Stand) (behind : List ℕ) → Comes rules (size_of f.opening) end rest part next behind → ⊥) → ⊥
+next_part bytes rules log end rest neither f none = by (first_line rest) refl
+  where
+    same_base : BeginsBase rest → Begins (base_text rules (size_of f.opening) (base_of end.count end.moment)) rest ⊎ Parting (base_text rules (size_of f.opening) (base_of end.count end.moment)) rest → ⊥
+    same_base begins (inl x) = none (Kept (base_of end.count end.moment)) end x.behind (kept_comes bytes rules log end rest f x)
+    same_base begins (inr p) =
+        neither.undamaged (BadBase (line_feeds (f.good ++ p.common) + 1)) (inr (record { rules = rules; log = log; end = end; rest = rest; follows = f; begins = begins; parting = p; number = refl }))
+
+    no_base : BeginsBase rest → ⊥
+    no_base begins = same_base begins (begins_or_parts (base_text rules (size_of f.opening) (base_of end.count end.moment)) rest)
+
+    no_entry : (line more : List ℕ) → first_line rest ≡ Some (line, more) → (number : ℕ) (entry : Entry) → SpellsEntry line number entry → ⊥
+    no_entry line more cut number entry spells =
+        no_other_number bytes line more rules log end rest number entry neither f cut spells (λ same.
+        let next = subst (λ (n : ℕ). SpellsEntry line n entry) same spells in
+        no_other_reply bytes line more rules log end rest entry neither f cut next (λ s answers.
+        none (Told entry) (told_to s end entry) more (told_comes rules (size_of f.opening) line more rest end entry s cut next answers)))
+
+    by : (found : Option (List ℕ × List ℕ)) → first_line rest ≡ found → ⊥
+    by None cut =
+        no_line bytes rules log end rest neither f no_base (subst (λ (found : Option (List ℕ × List ℕ)). HasNoEntry rest found) (sym cut) (left bytes rules log end rest neither f))
+    by (Some (line, more)) cut =
+        no_line bytes rules log end rest neither f no_base (subst (λ (found : Option (List ℕ × List ℕ)). HasNoEntry rest found) (sym cut) (no_entry line more cut))
+
+-- There is always a further part: the text would have no end.
+walk : (fuel : ℕ) (bytes : List ℕ) (rules : RuleSet) (log : List Part) (end : Stand) (rest : List ℕ) → length rest ≤ fuel → Neither bytes → Follows bytes rules log end rest → ⊥
 walk zero bytes rules log end rest few neither follows = left bytes rules log end rest neither follows (nil_from_length rest (omega (arith, few)))
 walk (suc fuel) bytes rules log end rest few neither follows =
-    let P : Option (List ℕ × List ℕ) → Type 0 = λ found. (first_line rest ≡ found → ⊥) in
-    let none : P None = λ cut. no_line bytes rules log end rest neither follows (subst (λ (found : Option (List ℕ × List ℕ)). HasNoEntry rest found) (sym cut) (left bytes rules log end rest neither follows)) in
-    let some : (found : List ℕ × List ℕ) → P (Some found) = λ found cut.
-    no_line bytes rules log end rest neither follows (subst (λ (f : Option (List ℕ × List ℕ)). HasNoEntry rest f) (sym cut) (λ number entry spells.
-    no_other_number bytes found.0 found.1 rules log end rest number entry neither follows cut spells (λ same.
-    let next = subst (λ (n : ℕ). SpellsEntry found.0 n entry) same spells in
-    no_other_reply bytes found.0 found.1 rules log end rest entry neither follows cut next (λ s answers.
-    walk fuel bytes rules (log ++ entry ∷ []) (record { state = s; spent = spent_after end.spent entry.1 }) found.1 (shorter rest found.0 found.1 fuel cut few) neither
-    (follows_more bytes found.0 rest found.1 rules log end entry s follows cut next answers))))) in
-    (elim (first_line rest) as P [ None ↦ none | Some found ↦ some found ]) refl
+    next_part bytes rules log end rest neither follows (λ part next behind comes.
+    walk fuel bytes rules (log ++ part ∷ []) next behind (comes_shorter rules (size_of follows.opening) end rest part next behind fuel comes few) neither
+    (follows_more bytes rest behind rules log end next part follows comes))
+
+-- ---- how it begins
+
+-- behind an opening
+opened : (bytes rest : List ℕ) (rules : RuleSet) (opening : Opening) (start : Stand) → start.count ≤ 16777216 → Opens rules opening start → bytes ≡ opening_text rules opening ++ rest → Follows bytes rules [] start rest
+opened bytes rest rules opening start few opens is = record {
+  opening = opening;
+  good = opening_text rules opening;
+  transcript = record {
+    start = start;
+    opens = opens;
+    text = sym (append-nil (opening_text rules opening));
+    parts = tt;
+    not_too_many = few;
+    passes = refl;
+  };
+  splits = is;
+}
+
+-- a header does not begin it
+no_header : (bytes line rest : List ℕ) (rules : RuleSet) (size count : ℕ) → Neither bytes → first_line bytes ≡ Some (line, rest) → SpellsHeader line rules size count → ⊥
+no_header bytes line rest rules size count neither cut spells =
+    let start : Stand = record { moment = beginning_with size count; count = 0 } in
+    let header = header_text rules size count in
+    let is : bytes ≡ opening_text rules (Named size count) ++ rest =
+    first_line-splits bytes line rest cut ∙ ap (λ (l : List ℕ). l ++ 10 ∷ rest) spells.is ∙ sym (append_assoc header (10 ∷ []) rest) in
+    walk (length rest) bytes rules [] start rest (omega arith) neither
+    (opened bytes rest rules (Named size count) start (omega arith) (record { fits = record { few = spells.few; within = spells.within }; begins = refl; count = refl }) is)
+
+-- nor does a base
+no_head : (bytes line rest : List ℕ) (rules : RuleSet) (size : ℕ) → Neither bytes → first_line bytes ≡ Some (line, rest) → size ≤ 65535 → line ≡ base_head rules size → ⊥
+no_head bytes line rest rules size neither cut few head =
+    let first : first_line bytes ≡ Some (base_head rules size, rest) = cut ∙ ap (λ (l : List ℕ). Some (l, rest)) head in
+    base_or_breaks rest
+    (λ base more shaped is.
+    let whole : bytes ≡ opening_text rules (Based size base) ++ more =
+    first_line-splits bytes (base_head rules size) rest first
+    ∙ ap (λ (z : List ℕ). base_head rules size ++ 10 ∷ z) is
+    ∙ sym (append_assoc (base_head rules size) (10 ∷ []) (base_lines base ++ more))
+    ∙ sym (append_assoc (base_head rules size ++ 10 ∷ []) (base_lines base) more)
+    ∙ ap (λ (z : List ℕ). z ++ more) (sym (base_text_is rules size base)) in
+    neither.undamaged (BadBase 2) (inl (record {
+      rules = rules;
+      size = size;
+      rest = rest;
+      few = few;
+      first = first;
+      bad = inr (record {
+        base = base;
+        more = more;
+        shaped = shaped;
+        is = is;
+        nowhere = λ start opens.
+            walk (length more) bytes rules [] start more (omega arith) neither
+            (opened bytes more rules (Based size base) start (omega (arith, opens.count, opens.fits.number)) opens whole);
+        line_is = refl;
+      });
+    })))
+    (λ k breaks.
+    neither.undamaged (BadBase (k + 1)) (inl (record {
+      rules = rules;
+      size = size;
+      rest = rest;
+      few = few;
+      first = first;
+      bad = inl (record { number = k; breaks = breaks; line_is = refl });
+    })))
 
 begins : (bytes : List ℕ) → Neither bytes → (found : Option (List ℕ × List ℕ)) → first_line bytes ≡ found → ⊥
 begins bytes neither None cut = neither.undamaged BadHeader (subst HasBadHeader (sym cut) tt)
 begins bytes neither (Some (line, rest)) cut =
-    let bad : SpellsNoHeader line = λ rules size count spells.
-    walk (length rest) bytes rules [] (beginning_with size count) rest (omega arith) neither (follows_start bytes line rest rules size count cut spells) in
-    neither.undamaged BadHeader (subst HasBadHeader (sym cut) bad)
+    let bad : SpellsNoHeader line = λ rules size count spells. no_header bytes line rest rules size count neither cut spells in
+    let none : SpellsNoHead line = λ rules size few head. no_head bytes line rest rules size neither cut few head in
+    neither.undamaged BadHeader (subst HasBadHeader (sym cut) (bad, none))
 
 pub undamaged_accepted : (bytes : List ℕ) → ((d : Damage) → IsDamage bytes d → ⊥) → ((c : Summary) → IsAccepted bytes c → ⊥) → ⊥
 undamaged_accepted bytes undamaged refused = begins bytes (record { undamaged = undamaged; refused = refused }) (first_line bytes) refl

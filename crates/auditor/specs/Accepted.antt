@@ -1,13 +1,15 @@
 -- What an audit says of the bytes that it accepts, and how far it is while it reads them.
 use Rattle.std.specs.Prelude.{◌≡◌, ℕ, List, length}
 use Rattle.rule_machine.specs.declared.rules.RuleSet.{RuleSet}
-use Rattle.rule_machine.specs.Run.{Entry, Moment}
+use Rattle.rule_machine.specs.Base.{Part, Stand, entries_in}
+use Rattle.rule_machine.specs.Run.{Entry}
 use Rattle.auditor.specs.declared.summary.Summary.{Summary}
+use Rattle.auditor.specs.Parts.{Opening, size_of}
 use Rattle.auditor.specs.Transcript.{IsTranscript, epoch_count, move_count}
 use Rattle.auditor.specs.Damage.{Follows}
-use Rattle.auditor.specs.Position.{Position}
+use Rattle.auditor.specs.Position.{Position, stand_of}
 
--- the counts are those of the log
+-- the counts are those of the entries
 pub record Counts (c : Summary) (log : List Entry) : Type 0 where
   pub entries : c.entries ≡ length log
   pub epochs : c.epochs ≡ epoch_count log
@@ -16,18 +18,15 @@ pub record Counts (c : Summary) (log : List Entry) : Type 0 where
 -- the bytes are the transcript of a run, with these counts
 pub record IsAccepted (bytes : List ℕ) (c : Summary) : Type 0 where
   pub rules : RuleSet
-  pub size : ℕ
-  pub count : ℕ
-  pub log : List Entry
-  pub end : Moment
-  pub transcript : IsTranscript bytes rules size count log end
-  pub counts : Counts c log
+  pub opening : Opening
+  pub log : List Part
+  pub end : Stand
+  pub transcript : IsTranscript bytes rules opening log end
+  pub counts : Counts c (entries_in log)
 
--- the bytes begin with the transcript of a run that has led to the position, and the rest follows
-pub record IsReached (bytes : List ℕ) (rules : RuleSet) (p : Position) (rest : List ℕ) : Type 0 where
-  pub log : List Entry
-  pub end : Moment
-  pub follows : Follows bytes rules log end rest
-  pub state : p.state ≡ end.state
-  pub spent : p.spent ≡ end.spent
-  pub counts : Counts p.counted log
+-- the bytes begin with the transcript of a run, for so many names, that has led to the position, and the rest follows
+pub record IsReached (bytes : List ℕ) (rules : RuleSet) (size : ℕ) (p : Position) (rest : List ℕ) : Type 0 where
+  pub log : List Part
+  pub follows : Follows bytes rules log (stand_of p) rest
+  pub size_is : size_of follows.opening ≡ size
+  pub counts : Counts p.counted (entries_in log)

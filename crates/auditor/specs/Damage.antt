@@ -1,32 +1,36 @@
 -- What is wrong with bytes that are no transcript: the first line that fails, and its first check that does.
-use Rattle.std.specs.Prelude.{◌≡◌, ◌≢◌, ℕ, ◌+◌, List, [], ◌∷◌, ◌++◌, ◌==◌, length, Option, None, Some, if◌then◌else◌}
+use Rattle.std.specs.Prelude.{◌≡◌, ◌≢◌, ℕ, ◌+◌, ◌⊎◌, ◌≤◌, List, [], ◌∷◌, ◌++◌, ◌==◌, Option, None, Some, codes, if◌then◌else◌}
+use Rattle.rule_machine.specs.declared.base.Base.{Base}
 use Rattle.rule_machine.specs.declared.rules.RuleSet.{RuleSet}
 use Rattle.rule_machine.specs.State.{State}
-use Rattle.rule_machine.specs.Run.{Entry, Moment}
+use Rattle.rule_machine.specs.Base.{Part, Stand, base_of}
+use Rattle.rule_machine.specs.Run.{Entry}
 use Rattle.rule_machine.specs.Answer.{Answers}
 use Rattle.rule_machine.specs.Tables.{table_of}
+use Rattle.line_text.specs.BaseText.{base_head, base_text}
+use Rattle.entry_grammar.specs.Lines.{first_line}
 use Rattle.entry_grammar.specs.Spelling.{SpellsEntry, SpellsHeader}
+use Rattle.entry_grammar.specs.BaseLines.{IsShaped, BreaksAt, base_lines}
 use Rattle.auditor.specs.declared.damage.Damage.{Damage}
-use Rattle.auditor.specs.declared.damage.Damage.TheVariants.{BadHeader, NotALine, OutOfOrder, NotTheMachines}
+use Rattle.auditor.specs.declared.damage.Damage.TheVariants.{BadHeader, NotALine, OutOfOrder, NotTheMachines, BadBase}
+use Rattle.auditor.specs.Parts.{Opening, Based, Opens, size_of}
 use Rattle.auditor.specs.Transcript.{IsTranscript}
 
--- a byte in front of the first line, where there is one
-abbrev pub onto_line : ℕ → Option (List ℕ × List ℕ) → Option (List ℕ × List ℕ)
-onto_line b None = None
-onto_line b (Some found) = Some (b ∷ found.0, found.1)
-
--- the first line without the LF that ends it, and what follows; None where there is no LF
-abbrev pub first_line : List ℕ → Option (List ℕ × List ℕ)
-first_line [] = None
-first_line (b ∷ bytes) = if b == 10 then Some ([], bytes) else onto_line b (first_line bytes)
+-- how many lines end in a text
+abbrev pub line_feeds : List ℕ → ℕ
+line_feeds [] = 0
+line_feeds (b ∷ bytes) = if b == 10 then line_feeds bytes + 1 else line_feeds bytes
 
 abbrev pub SpellsNoHeader : List ℕ → Type 0
 SpellsNoHeader line = (rules : RuleSet) (size count : ℕ) → SpellsHeader line rules size count → ⊥
 
--- there is no first line, or it is no header
+abbrev pub SpellsNoHead : List ℕ → Type 0
+SpellsNoHead line = (rules : RuleSet) (size : ℕ) → size ≤ 65535 → line ≡ base_head rules size → ⊥
+
+-- there is no first line, or it is neither a header nor the first of a base
 abbrev pub HasBadHeader : Option (List ℕ × List ℕ) → Type 0
 HasBadHeader None = Unit {0}
-HasBadHeader (Some found) = SpellsNoHeader found.0
+HasBadHeader (Some found) = SpellsNoHeader found.0 × SpellsNoHead found.0
 
 abbrev pub SpellsNoEntry : List ℕ → Type 0
 SpellsNoEntry line = (number : ℕ) (entry : Entry) → SpellsEntry line number entry → ⊥
@@ -36,12 +40,15 @@ abbrev pub HasNoEntry : List ℕ → Option (List ℕ × List ℕ) → Type 0
 HasNoEntry rest None = rest ≢ []
 HasNoEntry rest (Some found) = SpellsNoEntry found.0
 
+-- a base comes, whatever becomes of it
+abbrev pub BeginsBase : List ℕ → Type 0
+BeginsBase rest = (more : List ℕ) × (rest ≡ codes "matching2" ++ more)
+
 -- The bytes begin with a transcript, behind which there is a rest.
-pub record Follows (bytes : List ℕ) (rules : RuleSet) (log : List Entry) (end : Moment) (rest : List ℕ) : Type 0 where
-  pub size : ℕ
-  pub count : ℕ
+pub record Follows (bytes : List ℕ) (rules : RuleSet) (log : List Part) (end : Stand) (rest : List ℕ) : Type 0 where
+  pub opening : Opening
   pub good : List ℕ
-  pub transcript : IsTranscript good rules size count log end
+  pub transcript : IsTranscript good rules opening log end
   pub splits : bytes ≡ good ++ rest
 
 -- the first line behind a transcript is the entry with this number
@@ -51,44 +58,90 @@ pub record EntryComes (rest : List ℕ) (number : ℕ) (entry : Entry) : Type 0 
   pub is : first_line rest ≡ Some (line, more)
   pub spells : SpellsEntry line number entry
 
--- the line that follows has this number in the file: line 1 is the header
-abbrev pub IsLineBehind : ℕ → List Entry → Type 0
-IsLineBehind line log = line ≡ length log + 2
+-- the line that begins behind these bytes
+abbrev pub IsLineBehind : ℕ → List ℕ → Type 0
+IsLineBehind line good = line ≡ line_feeds good + 1
 
--- the first line behind a transcript is no entry
+-- the first line behind a transcript is no entry, and no base begins there
 pub record EndsInNoLine (bytes : List ℕ) (line : ℕ) : Type 0 where
   pub rules : RuleSet
-  pub log : List Entry
-  pub end : Moment
+  pub log : List Part
+  pub end : Stand
   pub rest : List ℕ
   pub follows : Follows bytes rules log end rest
-  pub number : IsLineBehind line log
+  pub number : IsLineBehind line follows.good
+  pub other : BeginsBase rest → ⊥
   pub damage : HasNoEntry rest (first_line rest)
 
 -- it is an entry with another number than the next
 pub record EndsOutOfOrder (bytes : List ℕ) (line : ℕ) : Type 0 where
   pub rules : RuleSet
-  pub log : List Entry
-  pub end : Moment
+  pub log : List Part
+  pub end : Stand
   pub rest : List ℕ
   pub follows : Follows bytes rules log end rest
-  pub number : IsLineBehind line log
+  pub number : IsLineBehind line follows.good
   pub seq : ℕ
   pub entry : Entry
   pub comes : EntryComes rest seq entry
-  pub damage : seq ≢ length log + 1
+  pub damage : seq ≢ end.count + 1
 
 -- it is the next entry, and the machine may not give its reply
 pub record EndsNotTheMachines (bytes : List ℕ) (line : ℕ) : Type 0 where
   pub rules : RuleSet
-  pub log : List Entry
-  pub end : Moment
+  pub log : List Part
+  pub end : Stand
   pub rest : List ℕ
   pub follows : Follows bytes rules log end rest
-  pub number : IsLineBehind line log
+  pub number : IsLineBehind line follows.good
   pub entry : Entry
-  pub comes : EntryComes rest (length log + 1) entry
-  pub damage : (s : State) → Answers (table_of rules) end.state end.spent entry.0 entry.1 s → ⊥
+  pub comes : EntryComes rest (end.count + 1) entry
+  pub damage : (s : State) → Answers (table_of rules) end.moment.state end.moment.spent entry.0 entry.1 s → ⊥
+
+-- how far two texts are the same, where the bytes do not begin with the text
+pub record Parting (text bytes : List ℕ) : Type 0 where
+  pub common : List ℕ
+  pub missing : List ℕ
+  pub more : List ℕ
+  pub wanted : text ≡ common ++ missing
+  pub had : bytes ≡ common ++ more
+  pub some : missing ≢ []
+  pub apart : (b : ℕ) (x y : List ℕ) → missing ≡ b ∷ x → more ≡ b ∷ y → ⊥
+
+-- behind a transcript a base comes, which is not that of where it stands: the line is the first that differs
+pub record EndsInBadBase (bytes : List ℕ) (line : ℕ) : Type 0 where
+  pub rules : RuleSet
+  pub log : List Part
+  pub end : Stand
+  pub rest : List ℕ
+  pub follows : Follows bytes rules log end rest
+  pub begins : BeginsBase rest
+  pub parting : Parting (base_text rules (size_of follows.opening) (base_of end.count end.moment)) rest
+  pub number : IsLineBehind line (follows.good ++ parting.common)
+
+-- the lines behind the first are no base's, from this one of them on
+pub record BreaksOff (rest : List ℕ) (line : ℕ) : Type 0 where
+  pub number : ℕ
+  pub breaks : BreaksAt rest number
+  pub line_is : line ≡ number + 1
+
+-- they are a base's, and no run may begin there: the line is that of its numbers
+pub record BeginsNowhere (rules : RuleSet) (size : ℕ) (rest : List ℕ) (line : ℕ) : Type 0 where
+  pub base : Base
+  pub more : List ℕ
+  pub shaped : IsShaped base
+  pub is : rest ≡ base_lines base ++ more
+  pub nowhere : (start : Stand) → Opens rules (Based size base) start → ⊥
+  pub line_is : line ≡ 2
+
+-- the first line is that of a base, and the others are none's, or no run may begin there
+pub record HasBadStart (bytes : List ℕ) (line : ℕ) : Type 0 where
+  pub rules : RuleSet
+  pub size : ℕ
+  pub rest : List ℕ
+  pub few : size ≤ 65535
+  pub first : first_line bytes ≡ Some (base_head rules size, rest)
+  pub bad : BreaksOff rest line ⊎ BeginsNowhere rules size rest line
 
 -- The bytes have this damage: what stands before the line is a transcript, and the line fails this check first.
 abbrev pub IsDamage : List ℕ → Damage → Type 0
@@ -96,3 +149,4 @@ IsDamage bytes BadHeader = HasBadHeader (first_line bytes)
 IsDamage bytes (NotALine line) = EndsInNoLine bytes line
 IsDamage bytes (OutOfOrder line) = EndsOutOfOrder bytes line
 IsDamage bytes (NotTheMachines line) = EndsNotTheMachines bytes line
+IsDamage bytes (BadBase line) = HasBadStart bytes line ⊎ EndsInBadBase bytes line

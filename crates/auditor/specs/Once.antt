@@ -1,12 +1,12 @@
 -- That two runs are one.
-use Rattle.std.specs.Prelude.{◌≡◌, ℕ, List}
+use Rattle.std.specs.Prelude.{◌≡◌, List}
 use Rattle.rule_machine.specs.declared.rules.RuleSet.{RuleSet}
-use Rattle.rule_machine.specs.Run.{Entry, Moment}
+use Rattle.rule_machine.specs.Base.{Part, Stand}
+use Rattle.auditor.specs.Parts.{Opening}
 
--- the rule set, the number of names, the number of those present at the start, the log and its end are the same
-pub record SameRun (r q : RuleSet) (m n c d : ℕ) (log also : List Entry) (end last : Moment) : Type 0 where
+-- the rule set, what the transcript begins with, its parts and its end are the same
+pub record SameRun (r q : RuleSet) (o p : Opening) (log also : List Part) (end last : Stand) : Type 0 where
   pub rules : r ≡ q
-  pub size : m ≡ n
-  pub count : c ≡ d
-  pub entries : log ≡ also
+  pub openings : o ≡ p
+  pub parts : log ≡ also
   pub ends : end ≡ last

@@ -1,92 +1,115 @@
 -- What is said of a transcript of which only the first entries are looked at.
-use Rattle.std.specs.Prelude.{◌≡◌, ℕ, ◌+◌, ◌<◌, ◌≤◌, Bool, true, nat_lt, List, [], length, Option, None, Some}
+use Rattle.std.specs.Prelude.{◌≡◌, ℕ, ◌<◌, ◌≤◌, ◌⊎◌, Bool, true, nat_lt, List, [], Option, None, Some}
+use Rattle.std.proofs.Common.{inl, inr}
 use Rattle.rule_machine.specs.declared.rules.RuleSet.{RuleSet}
 use Rattle.rule_machine.specs.State.{State}
-use Rattle.rule_machine.specs.RuleTable.{RuleTable}
-use Rattle.rule_machine.specs.Run.{Entry, Moment}
-use Rattle.entry_grammar.specs.Spelling.{SpellsHeader}
+use Rattle.rule_machine.specs.declared.epoch.Start.{Start}
+use Rattle.rule_machine.specs.Base.{Part, Stand, begun_at}
 use Rattle.auditor.specs.declared.damage.Damage.{Damage}
-use Rattle.auditor.specs.declared.damage.Damage.TheVariants.{BadHeader, NotALine, OutOfOrder, NotTheMachines}
+use Rattle.auditor.specs.declared.damage.Damage.TheVariants.{BadHeader, NotALine, OutOfOrder, NotTheMachines, BadBase}
 use Rattle.auditor.specs.declared.damage.JudgeFault.{JudgeFault}
 use Rattle.auditor.specs.declared.damage.JudgeFault.TheVariants.{Damaged, Memory}
 use Rattle.auditor.specs.declared.reach.ReplayFault.{ReplayFault}
-use Rattle.auditor.specs.declared.reach.ReplayFault.TheVariants.{Judged, TooFew}
-use Rattle.auditor.specs.declared.summary.Summary.{Summary}
-use Rattle.auditor.specs.Accepted.{IsAccepted}
-use Rattle.auditor.specs.Damage.{Follows, IsDamage, first_line}
-use Rattle.auditor.specs.Position.{Position, GoodLine, opening_position}
+use Rattle.auditor.specs.declared.reach.ReplayFault.TheVariants.{Judged, TooFew, Forgotten}
+use Rattle.auditor.specs.Parts.{Opening, base_in, size_of}
+use Rattle.auditor.specs.Transcript.{IsTranscript}
+use Rattle.auditor.specs.Damage.{Follows, IsDamage}
+use Rattle.auditor.specs.Position.{Position, position_at}
 
--- where it ends: at the entry with this number, 0 for none, or with the bytes
-abbrev pub EndsAt : Option ℕ → List Entry → List ℕ → Type 0
-EndsAt None log rest = rest ≡ []
-EndsAt (Some last) log rest = length log ≡ last
+-- where it ends: at the entry with this number, or with the bytes
+abbrev pub EndsAt : Option ℕ → ℕ → List ℕ → Type 0
+EndsAt None count rest = rest ≡ []
+EndsAt (Some last) count rest = count ≡ last
 
 -- whether so many entries end before it
 abbrev pub falls_short : Option ℕ → ℕ → Bool
-falls_short None entries = true
-falls_short (Some last) entries = nat_lt entries last
+falls_short None count = true
+falls_short (Some last) count = nat_lt count last
 
 -- they don't end before it, where an entry is named
 abbrev pub IsLongEnough : Option ℕ → ℕ → Type 0
-IsLongEnough None entries = Unit {0}
-IsLongEnough (Some last) entries = last ≤ entries
+IsLongEnough None count = Unit {0}
+IsLongEnough (Some last) count = last ≤ count
 
 -- they don't go beyond it
 abbrev pub IsWithin : Option ℕ → ℕ → Type 0
-IsWithin None entries = Unit {0}
-IsWithin (Some last) entries = entries ≤ last
+IsWithin None count = Unit {0}
+IsWithin (Some last) count = count ≤ last
 
 -- The bytes begin with the transcript of a run under these rules, which ends there, and has led to this state.
 pub record IsStateAfter (bytes : List ℕ) (last : Option ℕ) (rules : RuleSet) (s : State) : Type 0 where
-  pub log : List Entry
-  pub end : Moment
+  pub log : List Part
+  pub end : Stand
   pub rest : List ℕ
   pub follows : Follows bytes rules log end rest
-  pub ends : EndsAt last log rest
-  pub state : s ≡ end.state
+  pub ends : EndsAt last end.count rest
+  pub state : s ≡ end.moment.state
 
--- The bytes are the transcript of a run of so many entries, which are fewer than were asked for.
+-- The bytes are the transcript of a run whose last entry has this number, and one with a greater number was asked for.
 pub record HasTooFew (bytes : List ℕ) (last : Option ℕ) (asked entries : ℕ) : Type 0 where
   pub last_is : last ≡ Some asked
   pub fewer : entries < asked
-  pub counted : Summary
-  pub accepted : IsAccepted bytes counted
-  pub entries_are : entries ≡ counted.entries
+  pub rules : RuleSet
+  pub opening : Opening
+  pub log : List Part
+  pub end : Stand
+  pub transcript : IsTranscript bytes rules opening log end
+  pub entries_are : entries ≡ end.count
 
--- the line of a damage
-abbrev pub line_of : Damage → ℕ
-line_of BadHeader = 1
-line_of (NotALine line) = line
-line_of (OutOfOrder line) = line
-line_of (NotTheMachines line) = line
+-- The bytes begin with a base behind the entry that was asked for, which that base has forgotten.
+pub record HasForgotten (bytes : List ℕ) (last : Option ℕ) (asked base : ℕ) : Type 0 where
+  pub last_is : last ≡ Some asked
+  pub fewer : asked < base
+  pub rules : RuleSet
+  pub end : Stand
+  pub rest : List ℕ
+  pub follows : Follows bytes rules [] end rest
+  pub base_is : base ≡ end.count
 
--- the line of the entry with this number is the last that is looked at
-abbrev pub IsLookedAt : Option ℕ → ℕ → Type 0
-IsLookedAt None line = Unit {0}
-IsLookedAt (Some last) line = line ≤ last + 1
+-- an entry is asked for behind so many
+abbrev pub IsBefore : Option ℕ → ℕ → Type 0
+IsBefore None count = Unit {0}
+IsBefore (Some last) count = count < last
+
+-- where a base is damaged
+abbrev pub base_looked_at : {X Y : Type 0} → Option ℕ → (Y → ℕ) → X ⊎ Y → Type 0
+base_looked_at last count (inl start) = Unit {0}
+base_looked_at last count (inr ends) = IsBefore last (count ends)
+
+-- the damage stands in what the transcript begins with, or behind fewer entries than were asked for
+abbrev pub IsLookedAt : (bytes : List ℕ) → Option ℕ → (d : Damage) → IsDamage bytes d → Type 0
+IsLookedAt bytes last BadHeader damage = Unit {0}
+IsLookedAt bytes last (NotALine line) damage = IsBefore last damage.end.count
+IsLookedAt bytes last (OutOfOrder line) damage = IsBefore last damage.end.count
+IsLookedAt bytes last (NotTheMachines line) damage = IsBefore last damage.end.count
+IsLookedAt bytes last (BadBase line) damage = base_looked_at last (λ ends. ends.end.count) damage
+
+-- the first damage, in a line that is looked at
+pub record IsMetDamage (bytes : List ℕ) (last : Option ℕ) (damage : Damage) : Type 0 where
+  pub is : IsDamage bytes damage
+  pub looked_at : IsLookedAt bytes last damage is
 
 -- what is wrong with the lines that are looked at; of want of memory nothing is said
 abbrev pub IsReplayFault : List ℕ → Option ℕ → ReplayFault → Type 0
-IsReplayFault bytes last (Judged (Damaged damage)) = IsDamage bytes damage × IsLookedAt last (line_of damage)
+IsReplayFault bytes last (Judged (Damaged damage)) = IsMetDamage bytes last damage
 IsReplayFault bytes last (Judged Memory) = Unit {0}
 IsReplayFault bytes last (TooFew asked entries) = HasTooFew bytes last asked entries
+IsReplayFault bytes last (Forgotten asked base) = HasForgotten bytes last asked base
 
--- the first line is the header of these rules, and the rest follows
-pub record IsOpened (bytes : List ℕ) (rules : RuleSet) (p : Position) (rest : List ℕ) : Type 0 where
-  pub line : List ℕ
-  pub size : ℕ
-  pub count : ℕ
-  pub cut : first_line bytes ≡ Some (line, rest)
-  pub spells : SpellsHeader line rules size count
-  pub opening : p ≡ opening_position size count
+-- the bytes begin with what a transcript of these rules begins with, for so many names, and the rest follows
+pub record IsOpened (bytes : List ℕ) (rules : RuleSet) (size : ℕ) (begun : Start) (p : Position) (rest : List ℕ) : Type 0 where
+  pub start : Stand
+  pub follows : Follows bytes rules [] start rest
+  pub size_is : size_of follows.opening ≡ size
+  pub begun_is : begun ≡ begun_at (base_in follows.opening)
+  pub opening : p ≡ position_at start
 
--- the next line is the next entry, the machine may give its reply, and the rest follows
-pub record IsOneFurther (t : RuleTable) (before : Position) (rest : List ℕ) (after : Position) (behind : List ℕ) : Type 0 where
-  pub line : List ℕ
-  pub cut : first_line rest ≡ Some (line, behind)
-  pub good : GoodLine t line before after
+-- a damage that is met behind so many entries, or in what the transcript begins with
+abbrev pub IsMetBehind : List ℕ → ℕ → JudgeFault → Type 0
+IsMetBehind bytes count (Damaged damage) = (last : Option ℕ) → IsBefore last count → IsMetDamage bytes last damage
+IsMetBehind bytes count Memory = Unit {0}
 
--- a damage is that of the line
-abbrev pub IsAtLine : ℕ → JudgeFault → Type 0
-IsAtLine line (Damaged damage) = line_of damage ≡ line
-IsAtLine line Memory = Unit {0}
+-- a damage of what the transcript begins with
+abbrev pub IsMetFirst : List ℕ → JudgeFault → Type 0
+IsMetFirst bytes (Damaged damage) = (last : Option ℕ) → IsMetDamage bytes last damage
+IsMetFirst bytes Memory = Unit {0}

@@ -1,15 +1,16 @@
--- Transcripts: the bytes of a header and of a log's entries, where the log is a run of the machine.
-use Rattle.std.specs.Prelude.{◌≡◌, ℕ, ◌+◌, ◌≤◌, List, length, sum_by, IsTrue}
+-- Transcripts: the bytes of a header or a base, and of the parts behind it, where the log is a run of the machine.
+use Rattle.std.specs.Prelude.{◌≡◌, ℕ, ◌+◌, ◌≤◌, List, ◌++◌, length, sum_by, IsTrue}
 use Rattle.std.specs.List.{AllByRecursion}
 use Rattle.rule_machine.specs.declared.reply.Reply.{Reply}
 use Rattle.rule_machine.specs.declared.reply.Reply.TheVariants.{Accepted, Refused, Moves, Shown, EnabledAre, Pairs, Counts}
 use Rattle.rule_machine.specs.declared.rules.RuleSet.{RuleSet}
-use Rattle.rule_machine.specs.Run.{Entry, Moment, Run, beginning_with}
+use Rattle.rule_machine.specs.Base.{Part, Told, Kept, Stand, Passes}
+use Rattle.rule_machine.specs.Run.{Entry}
 use Rattle.rule_machine.specs.Tables.{table_of}
 use Rattle.log_entry.specs.Kinds.{fits}
 use Rattle.line_text.specs.EventText.{IsEvent}
-use Rattle.line_text.specs.LogText.{transcript}
 use Rattle.entry_grammar.specs.Spelling.{IsReply, max_entries}
+use Rattle.auditor.specs.Parts.{Opening, Opens, StepsTo, size_of, opening_text, part_text, parts_text}
 
 -- what each value of the program's type of entries meets
 pub record IsEntry (entry : Entry) : Type 0 where
@@ -17,15 +18,25 @@ pub record IsEntry (entry : Entry) : Type 0 where
   pub reply : IsReply entry.1
   pub fits : IsTrue (fits entry.0 entry.1)
 
--- The bytes are the text of a log, which the machine may give from the opening state on, where so many of the names are
--- present, and it is at the end then.
-pub record IsTranscript (bytes : List ℕ) (rules : RuleSet) (size count : ℕ) (log : List Entry) (end : Moment) : Type 0 where
-  pub few : size ≤ 65535
-  pub within : count ≤ size
-  pub text : bytes ≡ transcript rules size count log
-  pub entries : AllByRecursion IsEntry log
-  pub not_too_many : length log ≤ max_entries
-  pub run : Run (table_of rules) (beginning_with size count) log end
+abbrev pub IsPart : Part → Type 0
+IsPart (Told entry) = IsEntry entry
+IsPart (Kept base) = Unit {0}
+
+-- The bytes are the text of an opening and of parts, which the machine may give from there on, and where it stands then.
+pub record IsTranscript (bytes : List ℕ) (rules : RuleSet) (opening : Opening) (log : List Part) (end : Stand) : Type 0 where
+  pub start : Stand
+  pub opens : Opens rules opening start
+  pub text : bytes ≡ opening_text rules opening ++ parts_text rules (size_of opening) start.count log
+  pub parts : AllByRecursion IsPart log
+  pub not_too_many : end.count ≤ max_entries
+  pub passes : Passes (table_of rules) start log end
+
+-- From a stand the text goes on with this part, which leads to the next stand, and the rest follows.
+pub record Comes (rules : RuleSet) (size : ℕ) (at : Stand) (rest : List ℕ) (part : Part) (next : Stand) (behind : List ℕ) : Type 0 where
+  pub fits : IsPart part
+  pub within : next.count ≤ max_entries
+  pub steps : StepsTo (table_of rules) at part next
+  pub is : rest ≡ part_text rules size at.count part ++ behind
 
 -- how many disturbances a reply says were made: only they are answered by Accepted
 abbrev pub disturbances_in : Reply → ℕ

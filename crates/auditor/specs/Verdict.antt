@@ -7,7 +7,7 @@ use Rattle.auditor.specs.declared.damage.Damage.TheVariants as damage
 use Rattle.auditor.specs.declared.damage.JudgeFault.{JudgeFault}
 use Rattle.auditor.specs.declared.damage.JudgeFault.TheVariants as judge
 use Rattle.auditor.specs.declared.fault.AuditFault.{AuditFault}
-use Rattle.auditor.specs.declared.fault.AuditFault.TheVariants.{BadHeader, NotALine, OutOfOrder, NotTheMachines, Read, Memory}
+use Rattle.auditor.specs.declared.fault.AuditFault.TheVariants.{BadHeader, NotALine, OutOfOrder, NotTheMachines, BadBase, Read, Memory}
 use Rattle.auditor.specs.declared.summary.Summary.{Summary}
 use Rattle.auditor.specs.Accepted.{IsAccepted}
 use Rattle.auditor.specs.Damage.{IsDamage}
@@ -18,6 +18,7 @@ of_damage damage.BadHeader = BadHeader
 of_damage (damage.NotALine line) = NotALine line
 of_damage (damage.OutOfOrder line) = OutOfOrder line
 of_damage (damage.NotTheMachines line) = NotTheMachines line
+of_damage (damage.BadBase line) = BadBase line
 
 abbrev pub of_judge : JudgeFault → AuditFault
 of_judge (judge.Damaged d) = of_damage d
@@ -48,6 +49,7 @@ IsFault bytes BadHeader = IsDamage bytes damage.BadHeader
 IsFault bytes (NotALine line) = IsDamage bytes (damage.NotALine line)
 IsFault bytes (OutOfOrder line) = IsDamage bytes (damage.OutOfOrder line)
 IsFault bytes (NotTheMachines line) = IsDamage bytes (damage.NotTheMachines line)
+IsFault bytes (BadBase line) = IsDamage bytes (damage.BadBase line)
 IsFault bytes Read = Unit {0}
 IsFault bytes Memory = Unit {0}
 

@@ -1,24 +1,55 @@
 //! One line of a transcript against the machine.
 
-ghost use Rattle.std.specs.Prelude.{◌≡◌, ◌≤◌, IfOk};
+ghost use Rattle.std.specs.Prelude.{◌≡◌, ◌≤◌, ◌+◌, ◌*◌, IfOk, length};
+ghost use Rattle.rule_machine.specs.Base.{base_of};
+ghost use Rattle.rule_machine.specs.Network.{edge_count, node_count};
 ghost use Rattle.rule_machine.specs.Tables.{table_of};
-ghost use Rattle.auditor.specs.Position.{opening_position, IsNext, LineJudged};
+ghost use Rattle.auditor.specs.Parted.{flaw_at};
+ghost use Rattle.auditor.specs.Position.{LineJudged, position_at, stand_of};
 
 use crate::summary::spent_after;
 use crate::{Damage, JudgeFault, Summary};
 use entry_grammar::{EntryFault, read_entry};
 use judge::Judge;
-use rule_machine::{RuleSet, Want};
+use rule_machine::{Base, RuleSet, Want};
 use std::alloc::Global;
 use std::marker::Model;
 
 /// How far an audit has come: the judge in the state to which the entries so far have led, the moves since the last
-/// accepted disturbance, and what was counted.
+/// accepted disturbance, the number of the last entry, and what was counted.
 #[derive(Drop)]
 pub(crate) struct Audit {
     pub(crate) judge: Judge,
     spent: u64,
+    number: u32,
     counted: Summary,
+}
+
+/// What is wrong with a line, or why it was not judged.
+#[derive(Clone, Copy)]
+pub(crate) enum Flaw {
+    /// It is the text of no entry.
+    NotALine,
+    /// It is an entry with another number than the next.
+    OutOfOrder,
+    /// It is the next entry, and the machine may not give this reply.
+    NotTheMachines,
+    /// A growth of memory was refused.
+    Memory,
+}
+
+impl Flaw {
+    /// The fault of the line with this number.
+    pub(crate) fn told_at(self, line: u64) -> JudgeFault
+        ensures { result ≡ flaw_at self line }
+    {
+        match self {
+            Flaw::NotALine => JudgeFault::Damaged(Damage::NotALine { line }),
+            Flaw::OutOfOrder => JudgeFault::Damaged(Damage::OutOfOrder { line }),
+            Flaw::NotTheMachines => JudgeFault::Damaged(Damage::NotTheMachines { line }),
+            Flaw::Memory => JudgeFault::Memory,
+        }
+    }
 }
 
 impl Model for Audit {
@@ -30,73 +61,91 @@ impl Model for Audit {
 
     ghost coded = { Prim.hlevel (codes, state_code) };
 
-    ghost view = { λ a. record { state = a.judge; spent = a.spent; counted = a.counted } };
+    ghost view = { λ a. record { state = a.judge; spent = a.spent; number = a.number; counted = a.counted } };
 
-    ghost invariant = { λ a. AreCounted a.spent a.counted };
+    ghost invariant = { λ a. AreCounted a.spent a.number a.counted };
 }
 
 impl Audit {
-    /// An audit before the first entry, where so many of the names are present.
-    pub(crate) fn new(alloc: Global, size: u32, count: u32) -> Result<Audit, Want>
-        requires few { size ≤ 65535 }
-        requires within { count ≤ size }
-        ensures { IfOk result (λ audit. audit ≡ opening_position size count) }
+    /// An audit that begins where so many entries have led, with these moves spent.
+    pub(crate) fn new(judge: Judge, spent: u32, number: u32) -> Audit
+        requires { number ≤ 16777216 }
+        ensures { result ≡ position_at (record { moment = record { state = judge; spent = spent }; count = number }) }
     {
-        Ok(Audit {
-            judge: Judge::with_present(alloc, size, count)?,
-            spent: 0,
+        Audit {
+            judge,
+            spent: u64::from(spent),
+            number,
             counted: Summary {
                 entries: 0,
                 epochs: 1,
                 moves: 0,
             },
-        })
+        }
     }
 
     /// What was counted.
     pub(crate) fn counted(&self) -> Summary
-        ensures { result ≡ self.now.counted }
+        ensures counted { result ≡ self.now.counted }
+        ensures few { result.moves ≤ 1099494850560 }
     {
         self.counted
     }
 
-    /// The number of the next line.
-    pub(crate) fn next_line(&self) -> u64
-        ensures { IsNext result self.now }
+    /// The number of the last entry.
+    pub(crate) fn number(&self) -> u32
+        ensures { result ≡ self.now.number }
     {
-        u64::from(self.counted.entries) + 2
+        self.number
     }
 
-    /// Checks that the next line is the next entry, and that the machine may give its reply.
+    /// The moves since the last accepted disturbance.
+    pub(crate) fn spent(&self) -> u64
+        ensures { result ≡ self.now.spent }
+    {
+        self.spent
+    }
+
+    /// The base at which it stands, where what is spent is within the bound.
+    pub(crate) fn base(&self, alloc: Global) -> Result<Base, Want>
+        requires bounded { self.now.spent ≤ 2 * edge_count self.now.state.network + 3 * node_count self.now.state.network }
+        ensures base { IfOk result (λ base. base ≡ base_of self.now.number (stand_of self.now).moment) }
+        ensures few { IfOk result (λ base. (length base.nodes ≤ 65535) × (length base.edges ≤ 1048576)) }
+    {
+        let base = self.judge.base(alloc, self.number, 0)?;
+        // It fits, since the base has few nodes and edges.
+        let spent = self.spent as u32;
+        Ok(Base { spent, ..base })
+    }
+
+    /// Checks that the line is the next entry, and that the machine may give its reply.
     pub(crate) fn check_line(
         &mut self,
         alloc: Global,
         rules: RuleSet,
         line: &[u8],
-    ) -> Result<(), JudgeFault>
+    ) -> Result<(), Flaw>
         ensures { LineJudged (table_of rules) line.now self.old self.new result }
     {
-        let number = self.next_line();
         let (seq, entry) = match read_entry(alloc, line) {
             Ok(found) => found,
-            Err(EntryFault::NotALine) => {
-                return Err(JudgeFault::Damaged(Damage::NotALine { line: number }));
-            }
-            Err(EntryFault::Memory) => return Err(JudgeFault::Memory),
+            Err(EntryFault::NotALine) => return Err(Flaw::NotALine),
+            Err(EntryFault::Memory) => return Err(Flaw::Memory),
         };
-        if seq != self.counted.entries + 1 {
-            return Err(JudgeFault::Damaged(Damage::OutOfOrder { line: number }));
+        if seq != self.number + 1 {
+            return Err(Flaw::OutOfOrder);
         }
         let judged = self
             .judge
             .replay(rules, self.spent, entry.event(), entry.reply());
         let Ok(right) = judged else {
-            return Err(JudgeFault::Memory);
+            return Err(Flaw::Memory);
         };
         if !right {
-            return Err(JudgeFault::Damaged(Damage::NotTheMachines { line: number }));
+            return Err(Flaw::NotTheMachines);
         }
         self.spent = spent_after(self.spent, entry.reply());
+        self.number = seq;
         self.counted = self.counted.with_reply(entry.reply());
         Ok(())
     }

@@ -5,7 +5,7 @@ use std::alloc::AllocError;
 /// The first line that fails, and the first check that it fails. Lines count from 1.
 #[derive(Clone, Copy, PartialEq, Eq)]
 pub enum Damage {
-    /// The first line is missing, has no LF, or is no header.
+    /// The first line is missing, has no LF, or is neither a header nor the first of a base.
     BadHeader,
     /// The line has no LF, or is the text of no entry.
     NotALine { line: u64 },
@@ -13,6 +13,9 @@ pub enum Damage {
     OutOfOrder { line: u64 },
     /// The line is the next entry, and the machine may not give this reply.
     NotTheMachines { line: u64 },
+    /// A base stands at the start, and the line is the first that is no base's, or that of its numbers where no run may begin
+    /// there; or a base comes behind entries, and the line is the first in which it is not that of the state reached.
+    BadBase { line: u64 },
 }
 
 /// Why bytes were not accepted.

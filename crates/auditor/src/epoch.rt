@@ -27,13 +27,13 @@ impl Model for Epoch {
 }
 
 impl Epoch {
-    /// An epoch before its first move.
-    pub(crate) fn new(start: Start, edges: u32, nodes: u32) -> Epoch
-        ensures { result ≡ record { start = start; moves = 0; edges = edges; nodes = nodes } }
+    /// An epoch with so many moves before the first that is told.
+    pub(crate) fn new(start: Start, moves: u64, edges: u32, nodes: u32) -> Epoch
+        ensures { result ≡ record { start = start; moves = moves; edges = edges; nodes = nodes } }
     {
         Epoch {
             start,
-            moves: 0,
+            moves,
             edges,
             nodes,
         }

@@ -7,7 +7,7 @@ use thiserror::Error;
 /// Why bytes were not accepted: the first line that fails, and the first check that it fails. Lines count from 1.
 #[derive(Clone, Copy, Debug, PartialEq, Eq, Error)]
 pub enum AuditFault {
-    /// The first line is missing, has no LF, or is no header.
+    /// The first line is missing, has no LF, or is neither a header nor the first of a base.
     #[error("line 1: bad header")]
     BadHeader,
     /// The line has no LF, or is the text of no entry.
@@ -19,6 +19,10 @@ pub enum AuditFault {
     /// The line is the next entry, and the machine may not give this reply.
     #[error("line {line}: not the machine's reply")]
     NotTheMachines { line: u64 },
+    /// A base stands at the start, and the line is the first that is no base's, or that of its numbers where no run may begin
+    /// there; or a base comes behind entries, and the line is the first in which it is not that of the state reached.
+    #[error("line {line}: bad base")]
+    BadBase { line: u64 },
     /// A read failed.
     #[error("read failed")]
     Read,
@@ -53,6 +57,7 @@ impl From<Damage> for AuditFault {
             Damage::NotALine { line } => AuditFault::NotALine { line },
             Damage::OutOfOrder { line } => AuditFault::OutOfOrder { line },
             Damage::NotTheMachines { line } => AuditFault::NotTheMachines { line },
+            Damage::BadBase { line } => AuditFault::BadBase { line },
         }
     }
 }

@@ -2,19 +2,20 @@
 
 ghost use Rattle.std.specs.Prelude.{◌≡◌, ℕ, List};
 ghost use Rattle.rule_machine.specs.declared.rules.RuleSet.{RuleSet};
-ghost use Rattle.rule_machine.specs.Run.{Entry, Moment};
+ghost use Rattle.rule_machine.specs.Base.{Part, Stand};
 ghost use Rattle.auditor.specs.declared.damage.Damage.{Damage};
 ghost use Rattle.auditor.specs.declared.summary.Summary.{Summary};
+ghost use Rattle.auditor.specs.Parts.{Opening};
 ghost use Rattle.auditor.specs.Transcript.{IsTranscript};
 ghost use Rattle.auditor.specs.Damage.{IsDamage};
 ghost use Rattle.auditor.specs.Accepted.{IsAccepted};
 ghost use Rattle.auditor.specs.Once.{SameRun};
 
-/// A text is the transcript of one run at most: the rule set, the number of names, how many of them are
-/// present at the start, the entries and where the machine is at the end are determined by the bytes.
+/// A text is the transcript of one run at most: the rule set, the header or the base that it begins with, the entries and the
+/// bases among them, and where the machine is at the end are determined by the bytes.
 pub fn one_run()
-    ensures { (bytes : List ℕ) (r q : RuleSet) (m n c d : ℕ) (log also : List Entry) (end last : Moment)
-        → IsTranscript bytes r m c log end → IsTranscript bytes q n d also last → SameRun r q m n c d log also end last }
+    ensures { (bytes : List ℕ) (r q : RuleSet) (o p : Opening) (log also : List Part) (end last : Stand)
+        → IsTranscript bytes r o log end → IsTranscript bytes q p also last → SameRun r q o p log also end last }
 {}
 
 /// A text that is accepted is accepted with one summary.

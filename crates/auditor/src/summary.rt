@@ -58,7 +58,7 @@ fn moves_in(reply: &Reply) -> usize
 
 /// The moves since the last accepted disturbance, after a reply.
 pub(crate) fn spent_after(spent: u64, reply: &Reply) -> u64
-    requires room { spent ≤ 1099494850560 }
+    requires room { spent ≤ 1103789817855 }
     requires few { moves_in reply.now ≤ 65535 }
     ensures { result ≡ answer.spent_after spent reply.now }
 {

@@ -9,11 +9,9 @@ ghost use Rattle.auditor.specs.Accepted.{IsAccepted};
 ghost use Rattle.auditor.specs.Damage.{IsDamage};
 ghost use Rattle.auditor.specs.Verdict.{IsJudged, IsAudited, IsFault, AcceptsRuns, NamesDamage, of_input};
 
-use crate::check::Audit;
-use crate::lines::split_line;
-use crate::{AuditFault, Damage, JudgeFault, Summary};
+use crate::replay::Replay;
+use crate::{AuditFault, JudgeFault, Summary};
 use byte_streams::{InputFault, read_whole};
-use entry_grammar::read_header;
 use std::alloc::Global;
 use std::io::Read;
 
@@ -44,10 +42,11 @@ fn judge_read(alloc: Global, read: Result<Vec<u8>, InputFault>) -> Result<Summar
 }
 
 /// Judges the bytes of a transcript: accepts exactly those that are the text of a run of the rule machine, whatever
-/// allowed targets it took, and counts its entries, epochs and moves. Else the first line that fails is named, by the
-/// first of these that it fails: its form, its number, its reply. `Memory` if memory runs out. An entry costs its
-/// line and what the judge looks at: look-ups, and the neighbours of the nodes that move; `enabled` and `status` cost a
-/// look at all edges, and `matching` one at all nodes.
+/// allowed targets it took, and counts its entries, epochs and moves. The text may begin with a base, which a run may go on
+/// from within its bound; and where a base comes among entries, it has to be that of the state reached. Else the first line that
+/// fails is named, by the first of these that it fails: its form, its number, its reply; of a base, that it is its line. `Memory`
+/// if memory runs out. An entry costs its line and what the judge looks at: look-ups, and the neighbours of the nodes that move;
+/// `enabled` and `status` cost a look at all edges, `matching` one at all nodes, and a base one at both and the memory of its text.
 pub fn audit_bytes(alloc: Global, bytes: &[u8]) -> Result<Summary, JudgeFault>
     ensures judged { IsJudged bytes.now result }
     ensures accepts_runs { (counted : Summary) → IsAccepted bytes.now counted → (result ≡ Ok counted) ⊎ (result ≡ Err Memory) }
@@ -56,27 +55,19 @@ pub fn audit_bytes(alloc: Global, bytes: &[u8]) -> Result<Summary, JudgeFault>
     judge_lines(alloc, bytes)
 }
 
-// Judges the lines in turn.
+// Judges one part after another.
 fn judge_lines(alloc: Global, bytes: &[u8]) -> Result<Summary, JudgeFault>
     ensures { IsJudged bytes.now result }
 {
-    let Some((line, behind)) = split_line(bytes) else {
-        return Err(JudgeFault::Damaged(Damage::BadHeader));
+    let mut replay = match Replay::open(alloc, bytes) {
+        Ok(replay) => replay,
+        Err(fault) => return Err(fault),
     };
-    let Ok((rules, size, count)) = read_header(line) else {
-        return Err(JudgeFault::Damaged(Damage::BadHeader));
-    };
-    let mut audit = Audit::new(alloc, size, count)?;
-    let mut rest = behind;
-    while !rest.is_empty() {
-        let Some((line, behind)) = split_line(rest) else {
-            let line = audit.next_line();
-            return Err(JudgeFault::Damaged(Damage::NotALine { line }));
-        };
-        match audit.check_line(alloc, rules, line) {
-            Ok(()) => rest = behind,
+    while !replay.rest.is_empty() {
+        match replay.advance(alloc) {
+            Ok(()) => {}
             Err(fault) => return Err(fault),
         }
     }
-    Ok(audit.counted())
+    Ok(replay.audit.counted())
 }

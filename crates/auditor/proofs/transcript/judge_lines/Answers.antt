@@ -1,36 +1,27 @@
-use Rattle.std.proofs.Common.{◌≡◌, ◌≢◌, ℕ, List, [], Option, None, length, sym, subst, ◌∙◌, arith, eqb-true}
+use Rattle.std.proofs.Common.{◌≡◌, ◌∙◌, [], length, sym, subst, eqb-true}
 use Rattle.std.proofs.lemmas.List.{nil_from_length}
 use Rattle.auditor.specs.declared.summary.Summary.{Summary}
-use Rattle.auditor.specs.Damage.{HasNoEntry}
-use Rattle.auditor.specs.Position.{Position}
-use Rattle.auditor.specs.Accepted.{IsReached, IsAccepted}
-use Rattle.auditor.proofs.Reaching.{reached_start, reached_more, reached_end, damaged_line, damaged}
+use Rattle.auditor.specs.Accepted.{IsAccepted}
+use Rattle.auditor.proofs.Going.{first_judged, met_judged, opened_at, went_on}
+use Rattle.auditor.proofs.Reaching.{reached_end}
 use Rattle.auditor.proofs.transcript.judge_lines.Goals as goal
 
-pub loop-rest-init : goal.loop-rest-init
-loop-rest-init c =
-    let bytes = c.args.bytes.now in
-    let rest = c.in-Some.behind.now in
-    let start = reached_start bytes c.in-Some.line.now rest c.in-Ok.rules c.in-Ok.size c.in-Ok.count c.in-Some.ensures.line c.in-Ok.ensures.ok in
-    subst (λ (p : Position). IsReached bytes c.in-Ok.rules p rest) (sym c.in_ok-audit.ensures) start
+pub returns-in-Err : goal.returns-in-Err
+returns-in-Err c = first_judged c.args.bytes.now c.in-Err.fault c.in-Err.ensures.fault
 
-pub returns-in_default-split_line : goal.returns-in_default-split_line
-returns-in_default-split_line c =
-    let rest = c.loop-rest.rest.now in
-    let some : rest ≢ [] = λ (h : rest ≡ []). absurd (grind arith) in
-    let damage : HasNoEntry rest None = some in
-    damaged_line c.args.bytes.now c.in-Ok.rules c.loop-rest.audit rest c.next_line-line.result c.loop-rest.invariant c.next_line-line.ensures (subst (λ (found : Option (List ℕ × List ℕ)). HasNoEntry rest found) (sym c.in_default-split_line.ensures.line) damage)
+pub loop-alloc-init : goal.loop-alloc-init
+loop-alloc-init c = opened_at c.args.bytes.now c.in-Ok.replay c.in-Ok.ensures.opened c.in-Ok.ensures.text
+
+pub loop-alloc-preserved : goal.loop-alloc-preserved
+loop-alloc-preserved c =
+    went_on c.args.bytes.now c.loop-alloc.replay c.advance.new.self c.loop-alloc.invariant c.advance.ensures.same c.in-Ok-advance.ensures.further
+
+pub returns-in-Err-advance : goal.returns-in-Err-advance
+returns-in-Err-advance c =
+    met_judged c.args.bytes.now c.loop-alloc.replay c.in-Err-advance.fault c.loop-alloc.invariant c.in-Err-advance.ensures.fault
 
 pub returns : goal.returns
 returns c =
-    let rest = c.loop-rest.rest.now in
-    let none : rest ≡ [] = nil_from_length rest (eqb-true (length rest) 0 (sym c.is_empty.ensures ∙ c.loop-rest-test.false)) in
-    subst (λ (counted : Summary). IsAccepted c.args.bytes.now counted) (sym c.counted.ensures) (reached_end c.args.bytes.now c.in-Ok.rules c.loop-rest.audit rest c.loop-rest.invariant none)
-
-pub loop-rest-preserved : goal.loop-rest-preserved
-loop-rest-preserved c =
-    reached_more c.in-Ok.rules c.loop-rest.audit c.check_line.new.self c.args.bytes.now c.in-Some-split_line.line.now c.loop-rest.rest.now c.in-Some-split_line.behind.now c.loop-rest.invariant c.in-Some-split_line.ensures.line c.in-Ok-check_line.ensures
-
-pub returns-in-Err : goal.returns-in-Err
-returns-in-Err c =
-    damaged c.args.bytes.now c.in-Some-split_line.line.now c.in-Some-split_line.behind.now c.in-Ok.rules c.loop-rest.audit c.check_line.new.self c.loop-rest.rest.now c.in-Err.fault c.loop-rest.invariant c.in-Some-split_line.ensures.line c.in-Err.ensures
+    let replay = c.loop-alloc.replay in
+    let none : replay.rest.now ≡ [] = nil_from_length replay.rest.now (eqb-true (length replay.rest.now) 0 (sym c.is_empty.ensures ∙ c.loop-alloc-test.false)) in
+    subst (λ (counted : Summary). IsAccepted c.args.bytes.now counted) (sym c.counted.ensures.counted) (reached_end c.args.bytes.now replay.rules replay.size replay.audit replay.rest.now c.loop-alloc.invariant.0 none)

@@ -1,0 +1,238 @@
+-- From a stand the parts that come are determined by the text.
+use Rattle.std.proofs.Common.{◌≡◌, ◌≢◌, ℕ, ◌+◌, ◌<◌, ◌≤◌, List, [], ◌∷◌, ◌++◌, refl, sym, ap, subst, ◌∙◌, append_assoc, arith}
+use Rattle.std.specs.Prelude.{codes}
+use Rattle.std.specs.List.{AllByRecursion}
+use Rattle.std.proofs.lemmas.List.{append_cancel_left}
+use Rattle.rule_machine.specs.declared.base.Base.{Base}
+use Rattle.rule_machine.specs.declared.rules.RuleSet.{RuleSet}
+use Rattle.rule_machine.specs.State.{State}
+use Rattle.rule_machine.specs.Base.{Part, Told, Kept, Stand, Passes}
+use Rattle.rule_machine.specs.Run.{Entry}
+use Rattle.rule_machine.specs.Answer.{Answers, spent_after}
+use Rattle.rule_machine.specs.Tables.{table_of}
+use Rattle.machine_laws.specs.Determined.{answers_once}
+use Rattle.line_text.specs.Words.{number_text}
+use Rattle.line_text.specs.EventText.{event_text}
+use Rattle.line_text.specs.ReplyText.{reply_text}
+use Rattle.line_text.specs.EntryText.{entry_text, entry_line}
+use Rattle.line_text.specs.BaseText.{base_text}
+use Rattle.entry_grammar.specs.Spelling.{SpellsEntry, max_entries}
+use Rattle.entry_grammar.specs.Reading.{IsFree}
+use Rattle.entry_grammar.proofs.Free.{free_number, mark_once}
+use Rattle.entry_grammar.proofs.Entries.{spells_entry_once}
+use Rattle.auditor.specs.Parts.{count_after, part_text, parts_text}
+use Rattle.auditor.specs.Transcript.{Comes, IsPart}
+use Rattle.auditor.proofs.Feedless.{entry_free}
+use Rattle.auditor.proofs.Steps.{passes_first, passes_rise, step_count, count_rises}
+
+-- ---- an entry begins with a digit, and a base with another byte
+
+-- there is a first byte, and it is not that of a base
+abbrev pub BeginsOther : List ℕ → Type 0
+BeginsOther [] = ⊥
+BeginsOther (b ∷ x) = b ≢ 109
+
+other_append : (x y : List ℕ) → BeginsOther x → BeginsOther (x ++ y)
+other_append [] y h = absurd h
+other_append (b ∷ x) y h = h
+
+other_digits : (digits : List ℕ) → IsFree 109 digits → BeginsOther (digits ++ codes " ")
+other_digits [] f = λ e. omega (arith, e)
+other_digits (d ∷ digits) f = f.0
+
+pub entry_other : (number : ℕ) (entry : Entry) (more : List ℕ) → number ≤ max_entries → BeginsOther (entry_text number entry.0 entry.1 ++ more)
+entry_other number entry more few =
+    let n = number_text number in
+    let first = other_digits n (free_number 109 number (λ h. omega (arith, h.1)) (omega (arith, few))) in
+    other_append (entry_text number entry.0 entry.1) more
+    (other_append (n ++ codes " " ++ event_text entry.0 ++ codes " = ") (reply_text entry.1)
+    (other_append (n ++ codes " " ++ event_text entry.0) (codes " = ")
+    (other_append (n ++ codes " ") (event_text entry.0) first)))
+
+-- no text begins with both
+pub other_no_base : (rest more : List ℕ) → BeginsOther rest → rest ≡ 109 ∷ more → ⊥
+other_no_base rest more other e = (subst BeginsOther e other) refl
+
+-- the line and its LF
+pub entry_line_is : (number : ℕ) (entry : Entry) (behind : List ℕ) → entry_line number entry.0 entry.1 ++ behind ≡ entry_text number entry.0 entry.1 ++ 10 ∷ behind
+entry_line_is number entry behind = append_assoc (entry_text number entry.0 entry.1) (10 ∷ []) behind
+
+-- ---- one part comes
+
+pub record SameStep (p q : Part) (next following : Stand) (behind after : List ℕ) : Type 0 where
+  pub parts : p ≡ q
+  pub stands : next ≡ following
+  pub rests : behind ≡ after
+
+-- an entry that comes is spelled
+pub told_spells : (rules : RuleSet) (size : ℕ) (at : Stand) (rest : List ℕ) (entry : Entry) (next : Stand) (behind : List ℕ) → Comes rules size at rest (Told entry) next behind → SpellsEntry (entry_text (at.count + 1) entry.0 entry.1) (at.count + 1) entry
+told_spells rules size at rest entry next behind x =
+    let count = step_count (table_of rules) at next (Told entry) x.steps in
+    let within = x.within in
+    record { numbered = (omega arith, omega (arith, count, within)); event = x.fits.event; reply = x.fits.reply; fits = x.fits.fits; is = refl }
+
+pub told_is : (rules : RuleSet) (size : ℕ) (at : Stand) (rest : List ℕ) (entry : Entry) (next : Stand) (behind : List ℕ) → Comes rules size at rest (Told entry) next behind → rest ≡ entry_text (at.count + 1) entry.0 entry.1 ++ 10 ∷ behind
+told_is rules size at rest entry next behind x = x.is ∙ entry_line_is (at.count + 1) entry behind
+
+-- where a base comes, no entry does
+told_not_kept : (rules : RuleSet) (size : ℕ) (at : Stand) (rest : List ℕ) (entry : Entry) (base : Base) (next following : Stand) (behind after : List ℕ) → Comes rules size at rest (Told entry) next behind → Comes rules size at rest (Kept base) following after → ⊥
+told_not_kept rules size at rest entry base next following behind after x y =
+    let spells = told_spells rules size at rest entry next behind x in
+    let other = subst BeginsOther (sym (told_is rules size at rest entry next behind x)) (entry_other (at.count + 1) entry (10 ∷ behind) spells.numbered.1) in
+    other_no_base rest _ other y.is
+
+abbrev stand : State → ℕ → Entry → ℕ → Stand
+stand s spent entry count = record { moment = record { state = s; spent = spent_after spent entry.1 }; count = count }
+
+stand_once : (s u : State) (spent : ℕ) (e f : Entry) (count : ℕ) → e ≡ f → s ≡ u → stand s spent e count ≡ stand u spent f count
+stand_once s u spent e f count same there =
+    ap (λ (x : State). stand x spent e count) there ∙ ap (λ (x : Entry). stand u spent x count) same
+
+told_once : (rules : RuleSet) (size : ℕ) (at : Stand) (rest : List ℕ) (e f : Entry) (next following : Stand) (behind after : List ℕ) → Comes rules size at rest (Told e) next behind → Comes rules size at rest (Told f) following after → SameStep (Told e) (Told f) next following behind after
+told_once rules size at rest e f next following behind after x y =
+    let number = at.count + 1 in
+    let t = table_of rules in
+    let n = at.moment.spent in
+    let line = entry_text number e.0 e.1 in
+    let spells = told_spells rules size at rest e next behind x in
+    let spelled = told_spells rules size at rest f following after y in
+    let cut = mark_once 10 line (entry_text number f.0 f.1) behind after (entry_free line number e spells) (entry_free (entry_text number f.0 f.1) number f spelled) (sym (told_is rules size at rest e next behind x) ∙ told_is rules size at rest f following after y) in
+    let same : e ≡ f = (spells_entry_once line number number e f spells (subst (λ (l : List ℕ). SpellsEntry l number f) (sym cut.0) spelled)).1 in
+    let answers = subst (λ (z : Entry). Answers t at.moment.state n z.0 z.1 x.steps.0) same x.steps.1 in
+    let there : x.steps.0 ≡ y.steps.0 = answers_once t at.moment.state n f.0 f.1 x.steps.0 y.steps.0 answers y.steps.1 in
+    record {
+      parts = ap (λ (z : Entry). Told z) same;
+      stands = x.steps.2 ∙ stand_once x.steps.0 y.steps.0 n e f number same there ∙ sym y.steps.2;
+      rests = cut.1;
+    }
+
+kept_once : (rules : RuleSet) (size : ℕ) (at : Stand) (rest : List ℕ) (a b : Base) (next following : Stand) (behind after : List ℕ) → Comes rules size at rest (Kept a) next behind → Comes rules size at rest (Kept b) following after → SameStep (Kept a) (Kept b) next following behind after
+kept_once rules size at rest a b next following behind after x y =
+    let same : a ≡ b = x.steps.0 ∙ sym y.steps.0 in
+    record {
+      parts = ap (λ (z : Base). Kept z) same;
+      stands = x.steps.1 ∙ sym y.steps.1;
+      rests = append_cancel_left (base_text rules size b) behind after (ap (λ (z : Base). base_text rules size z ++ behind) (sym same) ∙ sym x.is ∙ y.is);
+    }
+
+-- one part comes, it leads to one stand, and one rest follows
+pub comes_once : (rules : RuleSet) (size : ℕ) (at : Stand) (rest : List ℕ) (p q : Part) (next following : Stand) (behind after : List ℕ) → Comes rules size at rest p next behind → Comes rules size at rest q following after → SameStep p q next following behind after
+comes_once rules size at rest (Told e) (Told f) next following behind after x y = told_once rules size at rest e f next following behind after x y
+comes_once rules size at rest (Told e) (Kept b) next following behind after x y = absurd (told_not_kept rules size at rest e b next following behind after x y)
+comes_once rules size at rest (Kept a) (Told f) next following behind after x y = absurd (told_not_kept rules size at rest f a following next after behind y x)
+comes_once rules size at rest (Kept a) (Kept b) next following behind after x y = kept_once rules size at rest a b next following behind after x y
+
+-- a part has bytes
+line_some : (line more : List ℕ) → (line ++ 10 ∷ []) ++ more ≡ [] → ⊥
+line_some [] more e = absurd cc
+line_some (b ∷ line) more e = absurd cc
+
+pub part_some : (rules : RuleSet) (size count : ℕ) (part : Part) (behind : List ℕ) → part_text rules size count part ++ behind ≡ [] → ⊥
+part_some rules size count (Told entry) behind e = line_some (entry_text (count + 1) entry.0 entry.1) behind e
+part_some rules size count (Kept base) behind e = other_nothing _ e
+  where
+    other_nothing : (more : List ℕ) → 109 ∷ more ≡ [] → ⊥
+    other_nothing more same = absurd cc
+
+-- ---- chains of parts
+
+-- one part after another comes, from one stand to another
+abbrev pub Chain : RuleSet → ℕ → Stand → List Part → Stand → List ℕ → List ℕ → Type 0
+Chain rules size at [] end rest left = (end ≡ at) × (rest ≡ left)
+Chain rules size at (part ∷ log) end rest left =
+    (next : Stand) × (behind : List ℕ) × Comes rules size at rest part next behind × Chain rules size next log end behind left
+
+pub chain_of : (rules : RuleSet) (size : ℕ) (at : Stand) (log : List Part) (end : Stand) (left : List ℕ) → AllByRecursion IsPart log → end.count ≤ max_entries → Passes (table_of rules) at log end → Chain rules size at log end (parts_text rules size at.count log ++ left) left
+chain_of rules size at [] end left all few passes = (passes, refl)
+chain_of rules size at (part ∷ log) end left all few passes =
+    let t = table_of rules in
+    let split = passes_first t at end part log passes in
+    let next = split.0 in
+    let rises = passes_rise t next end log split.2 in
+    let count = step_count t at next part split.1 in
+    let own = part_text rules size at.count part in
+    let comes : Comes rules size at (parts_text rules size at.count (part ∷ log) ++ left) part next (parts_text rules size next.count log ++ left) = record {
+      fits = all.0;
+      within = omega (arith, rises, few);
+      steps = split.1;
+      is = append_assoc own (parts_text rules size (count_after at.count part) log) left ∙ ap (λ (n : ℕ). own ++ (parts_text rules size n log ++ left)) (sym count);
+    } in
+    (next, parts_text rules size next.count log ++ left, comes, chain_of rules size next log end left all.1 few split.2)
+
+chain_rise : (rules : RuleSet) (size : ℕ) (at : Stand) (log : List Part) (end : Stand) (rest left : List ℕ) → Chain rules size at log end rest left → at.count ≤ end.count
+chain_rise rules size at [] end rest left (is, same) = let count = ap (λ (x : Stand). x.count) is in omega (arith, count)
+chain_rise rules size at (part ∷ log) end rest left (next, behind, comes, chain) =
+    let count = step_count (table_of rules) at next part comes.steps in
+    let rises = count_rises at.count part in
+    let more = chain_rise rules size next log end behind left chain in
+    omega (arith, count, rises, more)
+
+-- no part comes
+abbrev pub Stops : RuleSet → ℕ → Stand → List ℕ → Type 0
+Stops rules size end rest = (part : Part) (next : Stand) (behind : List ℕ) → Comes rules size end rest part next behind → ⊥
+
+pub nothing_stops : (rules : RuleSet) (size : ℕ) (end : Stand) → Stops rules size end []
+nothing_stops rules size end part next behind comes = part_some rules size end.count part behind (sym comes.is)
+
+stops_here : (rules : RuleSet) (size : ℕ) (at end : Stand) (rest left : List ℕ) → end ≡ at → rest ≡ left → Stops rules size end left → Stops rules size at rest
+stops_here rules size at end rest left is same stops =
+    subst (λ (z : List ℕ). Stops rules size at z) (sym same) (subst (λ (x : Stand). Stops rules size x left) is stops)
+
+-- a chain from the same stand over the same text
+chain_from : (rules : RuleSet) (size : ℕ) (next following : Stand) (log : List Part) (end : Stand) (behind after left : List ℕ) → next ≡ following → behind ≡ after → Chain rules size next log end behind left → Chain rules size following log end after left
+chain_from rules size next following log end behind after left stands rests chain =
+    subst (λ (z : List ℕ). Chain rules size following log end z left) rests (subst (λ (x : Stand). Chain rules size x log end behind left) stands chain)
+
+-- both end at one place
+pub record SameEnd (log also : List Part) (end last : Stand) (rest left : List ℕ) : Type 0 where
+  pub logs : log ≡ also
+  pub ends : end ≡ last
+  pub rests : rest ≡ left
+
+-- two chains over one text that stop are one
+pub chain_meet : (rules : RuleSet) (size : ℕ) (at : Stand) (log also : List Part) (end last : Stand) (text rest left : List ℕ) → Chain rules size at log end text rest → Chain rules size at also last text left → Stops rules size end rest → Stops rules size last left → SameEnd log also end last rest left
+chain_meet rules size at [] [] end last text rest left x y stops halts = record { logs = refl; ends = x.0 ∙ sym y.0; rests = sym x.1 ∙ y.1 }
+chain_meet rules size at [] (q ∷ also) end last text rest left x (next, behind, comes, chain) stops halts =
+    absurd (stops_here rules size at end text rest x.0 x.1 stops q next behind comes)
+chain_meet rules size at (p ∷ log) [] end last text rest left (next, behind, comes, chain) y stops halts =
+    absurd (stops_here rules size at last text left y.0 y.1 halts p next behind comes)
+chain_meet rules size at (p ∷ log) (q ∷ also) end last text rest left (next, behind, comes, chain) (following, after, came, other) stops halts =
+    let one = comes_once rules size at text p q next following behind after comes came in
+    let more = chain_meet rules size following log also end last after rest left (chain_from rules size next following log end behind after rest one.stands one.rests chain) other stops halts in
+    record { logs = ap (λ (x : Part). x ∷ log) one.parts ∙ ap (λ (l : List Part). q ∷ l) more.logs; ends = more.ends; rests = more.rests }
+
+-- none goes on behind one that stops
+pub chain_beyond : (rules : RuleSet) (size : ℕ) (at : Stand) (log also : List Part) (end last : Stand) (text rest left : List ℕ) → Chain rules size at log end text rest → Chain rules size at also last text left → Stops rules size last left → last.count < end.count → ⊥
+chain_beyond rules size at [] also end last text rest left x y halts less =
+    let rises = chain_rise rules size at also last text left y in
+    let count = ap (λ (z : Stand). z.count) x.0 in
+    omega (arith, rises, count, less)
+chain_beyond rules size at (p ∷ log) [] end last text rest left (next, behind, comes, chain) y halts less =
+    stops_here rules size at last text left y.0 y.1 halts p next behind comes
+chain_beyond rules size at (p ∷ log) (q ∷ also) end last text rest left (next, behind, comes, chain) (following, after, came, other) halts less =
+    let one = comes_once rules size at text p q next following behind after comes came in
+    chain_beyond rules size following log also end last after rest left (chain_from rules size next following log end behind after rest one.stands one.rests chain) other halts less
+
+-- with no entry more a chain stays where it began
+chain_flat : (rules : RuleSet) (size : ℕ) (at : Stand) (log : List Part) (end : Stand) (rest left : List ℕ) → Chain rules size at log end rest left → end.count ≡ at.count → end ≡ at
+chain_flat rules size at [] end rest left x same = x.0
+chain_flat rules size at (Told entry ∷ log) end rest left (next, behind, comes, chain) same =
+    let count = step_count (table_of rules) at next (Told entry) comes.steps in
+    let rises = chain_rise rules size next log end behind left chain in
+    absurd (omega (arith, count, rises, same))
+chain_flat rules size at (Kept base ∷ log) end rest left (next, behind, comes, chain) same =
+    let stays : next ≡ at = comes.steps.1 in
+    let count = ap (λ (z : Stand). z.count) stays in
+    chain_flat rules size next log end behind left chain (omega (arith, same, count)) ∙ stays
+
+-- two chains of as many entries over one text end at one stand
+pub chain_level : (rules : RuleSet) (size : ℕ) (at : Stand) (log also : List Part) (end last : Stand) (text rest left : List ℕ) → Chain rules size at log end text rest → Chain rules size at also last text left → end.count ≡ last.count → end ≡ last
+chain_level rules size at [] also end last text rest left x y same =
+    let count = ap (λ (z : Stand). z.count) x.0 in
+    x.0 ∙ sym (chain_flat rules size at also last text left y (omega (arith, same, count)))
+chain_level rules size at (p ∷ log) [] end last text rest left x y same =
+    let count = ap (λ (z : Stand). z.count) y.0 in
+    chain_flat rules size at (p ∷ log) end text rest x (omega (arith, same, count)) ∙ sym y.0
+chain_level rules size at (p ∷ log) (q ∷ also) end last text rest left (next, behind, comes, chain) (following, after, came, other) same =
+    let one = comes_once rules size at text p q next following behind after comes came in
+    chain_level rules size following log also end last after rest left (chain_from rules size next following log end behind after rest one.stands one.rests chain) other same
