@@ -8,7 +8,7 @@ use Rattle.rule_machine.specs.declared.event.Event.TheVariants.{Link, Unlink, Po
 use Rattle.line_text.specs.Words.{number_text, IsName, marked_text, spaced}
 use Rattle.line_text.specs.EventText.{IsItem, IsEvent, pair_text, target_text, bool_text, flag_text, point_text, item_text, event_text}
 use Rattle.script_text.specs.declared.command.Command.{Command}
-use Rattle.script_text.specs.declared.command.Command.TheVariants.{Tell, Drive, Scramble}
+use Rattle.script_text.specs.declared.command.Command.TheVariants.{Tell, Drive, Scramble, Checkpoint}
 use Rattle.script_text.specs.declared.command.Turns.{Turns}
 use Rattle.script_text.specs.Command.{IsTurns, IsCommand, turns_text, command_text, SaysNothing}
 
@@ -71,6 +71,7 @@ command_short : (c : Command) → IsCommand c → length (command_text c) ≤ 78
 command_short (Tell event) h = event_short event h
 command_short (Drive turns) h = omega (arith, turns_short turns h, length-append (codes "drive ") (turns_text turns))
 command_short (Scramble turns) h = omega (arith, turns_short turns h, length-append (codes "scramble ") (turns_text turns))
+command_short Checkpoint h = omega arith
 
 -- so long a line says no command
 pub long_says_nothing : (line : List ℕ) → 1048576 < length line → SaysNothing line

@@ -5,6 +5,7 @@ use Rattle.std.proofs.lemmas.List.{append_cancel_left}
 use Rattle.std.proofs.lemmas.Fmt.{digits_decimal, decimal_injective}
 use Rattle.rand_core.specs.Stream.{Stream}
 use Rattle.rule_machine.specs.declared.event.Event.{Event}
+use Rattle.rule_machine.specs.declared.rules.RuleSet.{RuleSet}
 use Rattle.rule_machine.specs.declared.event.Event.TheVariants.{Link, Unlink, Point, Flag, Step, Show, Enabled, Matching, Status, Join, Leave}
 use Rattle.rule_machine.specs.Run.{Moment}
 use Rattle.rule_machine.specs.RuleTable.{RuleTable}
@@ -13,7 +14,7 @@ use Rattle.line_text.specs.EventText.{event_text}
 use Rattle.line_text.proofs.Digits.{own, run_once}
 use Rattle.line_text.proofs.EventsOnce.{spells_once}
 use Rattle.script_text.specs.declared.command.Command.{Command}
-use Rattle.script_text.specs.declared.command.Command.TheVariants.{Tell, Drive, Scramble}
+use Rattle.script_text.specs.declared.command.Command.TheVariants.{Tell, Drive, Scramble, Checkpoint}
 use Rattle.script_text.specs.declared.command.Turns.{Turns}
 use Rattle.script_text.specs.Command.{IsTurns, IsCommand, turns_text, command_text, Says}
 use Rattle.seeded_turns.specs.Drawn.{Draws, seeded_stream, drawn_step, drawn_fault}
@@ -67,6 +68,19 @@ no_scramble Enabled u e = omega (arith, ap head_of e)
 no_scramble Matching u e = omega (arith, ap head_of e)
 no_scramble Status u e = omega (arith, ap head_of e)
 
+no_checkpoint : (e : Event) → event_text e ≡ codes "checkpoint" → ⊥
+no_checkpoint (Link a b) e = omega (arith, ap head_of e)
+no_checkpoint (Unlink a b) e = omega (arith, ap head_of e)
+no_checkpoint (Point v w) e = omega (arith, ap head_of e)
+no_checkpoint (Flag v b) e = omega (arith, ap head_of e)
+no_checkpoint (Join v) e = omega (arith, ap head_of e)
+no_checkpoint (Leave v) e = omega (arith, ap head_of e)
+no_checkpoint (Step items) e = omega (arith, ap head_of e)
+no_checkpoint (Show v) e = omega (arith, ap head_of e)
+no_checkpoint Enabled e = omega (arith, ap head_of e)
+no_checkpoint Matching e = omega (arith, ap head_of e)
+no_checkpoint Status e = omega (arith, ap head_of e)
+
 -- a command has one text
 command_once : (c d : Command) → IsCommand c → IsCommand d → command_text c ≡ command_text d → c ≡ d
 command_once (Tell a) (Tell b) f g e = ap (λ (x : Event). Tell x) (spells_once (event_text a) a b (f, refl) (g, e))
@@ -78,23 +92,31 @@ command_once (Tell a) (Scramble b) f g e = absurd (no_scramble a b e)
 command_once (Scramble a) (Tell b) f g e = absurd (no_scramble b a (sym e))
 command_once (Drive a) (Scramble b) f g e = absurd (omega (arith, ap head_of e))
 command_once (Scramble a) (Drive b) f g e = absurd (omega (arith, ap head_of e))
+command_once Checkpoint Checkpoint f g e = refl
+command_once (Tell a) Checkpoint f g e = absurd (no_checkpoint a e)
+command_once Checkpoint (Tell b) f g e = absurd (no_checkpoint b (sym e))
+command_once (Drive a) Checkpoint f g e = absurd (omega (arith, ap head_of e))
+command_once Checkpoint (Drive b) f g e = absurd (omega (arith, ap head_of e))
+command_once (Scramble a) Checkpoint f g e = absurd (omega (arith, ap head_of e))
+command_once Checkpoint (Scramble b) f g e = absurd (omega (arith, ap head_of e))
 
 -- a line says one command
 pub says_once : (line : List ℕ) (c d : Command) → Says line c → Says line d → c ≡ d
 says_once line c d p q = command_once c d p.0 q.0 (sym p.1 ∙ q.1)
 
 -- the parts of a progress
-progress_of : Moment → ℕ → List ℕ → Progress
-progress_of m n x = record { moment = m; count = n; text = x }
+progress_of : RuleSet → Moment → ℕ → List ℕ → Progress
+progress_of r m n x = record { rules = r; moment = m; count = n; text = x }
 
-same_progress : (p q : Progress) → p.moment ≡ q.moment → p.count ≡ q.count → p.text ≡ q.text → p ≡ q
+same_progress : (p q : Progress) → p.rules ≡ q.rules → p.moment ≡ q.moment → p.count ≡ q.count → p.text ≡ q.text → p ≡ q
 unfolding progress_of
-same_progress p q m n x =
-    ap (λ (z : Moment). progress_of z p.count p.text) m ∙ ap (λ (z : ℕ). progress_of q.moment z p.text) n ∙ ap (λ (z : List ℕ). progress_of q.moment q.count z) x
+same_progress p q r m n x =
+    ap (λ (z : RuleSet). progress_of z p.moment p.count p.text) r ∙ ap (λ (z : Moment). progress_of q.rules z p.count p.text) m
+    ∙ ap (λ (z : ℕ). progress_of q.rules q.moment z p.text) n ∙ ap (λ (z : List ℕ). progress_of q.rules q.moment q.count z) x
 
 -- an event leads to one progress
 entry_once : (t : RuleTable) (event : Event) (before after other : Progress) → IsEntry t event before after → IsEntry t event before other → after ≡ other
-entry_once t event before after other p q = same_progress after other (p.moment ∙ sym q.moment) (p.count ∙ sym q.count) (p.text ∙ sym q.text)
+entry_once t event before after other p q = same_progress after other (p.rules ∙ sym q.rules) (p.moment ∙ sym q.moment) (p.count ∙ sym q.count) (p.text ∙ sym q.text)
 
 -- a turn leads to one progress, if those behind it do
 turn_once : (t : RuleTable) (drawn : Option Event) (P Q : Progress → Type 0) (before after other : Progress)
@@ -118,6 +140,7 @@ command_leads_once : (t : RuleTable) (limit : ℕ) (c : Command) (before after o
 command_leads_once t limit (Tell event) before after other p q = entry_once t event before after other p.1 q.1
 command_leads_once t limit (Drive turns) before after other p q = turns_lead_once drawn_step t limit turns.count (seeded_stream turns.seed) before after other p q
 command_leads_once t limit (Scramble turns) before after other p q = turns_lead_once drawn_fault t limit turns.count (seeded_stream turns.seed) before after other p q
+command_leads_once t limit Checkpoint before after other p q = p ∙ sym q
 
 -- a line leads to one progress
 line_once : (t : RuleTable) (limit : ℕ) (line : List ℕ) (before after other : Progress) → LineDoes t limit line before after → LineDoes t limit line before other → after ≡ other

@@ -3,7 +3,7 @@ use Rattle.std.specs.Prelude.{◌≡◌, ℕ, ◌≤◌, List, ◌++◌, codes}
 use Rattle.line_text.specs.Words.{number_text}
 use Rattle.line_text.specs.EventText.{IsEvent, event_text}
 use Rattle.script_text.specs.declared.command.Command.{Command}
-use Rattle.script_text.specs.declared.command.Command.TheVariants.{Tell, Drive, Scramble}
+use Rattle.script_text.specs.declared.command.Command.TheVariants.{Tell, Drive, Scramble, Checkpoint}
 use Rattle.script_text.specs.declared.command.Turns.{Turns}
 
 -- a seed that a generator may have, and at most a million turns
@@ -18,12 +18,14 @@ abbrev pub command_text : Command → List ℕ
 command_text (Tell event) = event_text event
 command_text (Drive turns) = codes "drive " ++ turns_text turns
 command_text (Scramble turns) = codes "scramble " ++ turns_text turns
+command_text Checkpoint = codes "checkpoint"
 
 -- what each value of the program's type of commands meets
 abbrev pub IsCommand : Command → Type 0
 IsCommand (Tell event) = IsEvent event
 IsCommand (Drive turns) = IsTurns turns
 IsCommand (Scramble turns) = IsTurns turns
+IsCommand Checkpoint = Unit {0}
 
 -- the line is the command's text
 abbrev pub Says : List ℕ → Command → Type 0

@@ -3,12 +3,15 @@ use Rattle.std.specs.Prelude.{◌≡◌, ◌≢◌, ℕ, zero, suc, ◌+◌, ◌
 use Rattle.std.specs.List.{AllByRecursion}
 use Rattle.rand_core.specs.Stream.{Stream}
 use Rattle.rule_machine.specs.declared.event.Event.{Event}
+use Rattle.rule_machine.specs.declared.rules.RuleSet.{RuleSet}
 use Rattle.rule_machine.specs.RuleTable.{RuleTable}
 use Rattle.rule_machine.specs.Least.{reply_of}
 use Rattle.rule_machine.specs.Run.{Moment, moment_after}
+use Rattle.rule_machine.specs.Base.{base_of}
 use Rattle.line_text.specs.EntryText.{entry_line}
+use Rattle.line_text.specs.BaseText.{base_text}
 use Rattle.script_text.specs.declared.command.Command.{Command}
-use Rattle.script_text.specs.declared.command.Command.TheVariants.{Tell, Drive, Scramble}
+use Rattle.script_text.specs.declared.command.Command.TheVariants.{Tell, Drive, Scramble, Checkpoint}
 use Rattle.script_text.specs.Command.{Says, SaysNothing}
 use Rattle.seeded_turns.specs.Drawn.{Draws, seeded_stream, drawn_step, drawn_fault}
 
@@ -26,14 +29,16 @@ lines_of (b ∷ bytes) = if b == 10 then [] ∷ lines_of bytes else onto_first b
 abbrev pub IsLine : List ℕ → Type 0
 IsLine bytes = AllByRecursion (λ b. b ≢ 10) bytes
 
--- where a run stands: the state and what is spent, how many entries there are, and their text
+-- where a run stands: the rule set by its name, the state and what is spent, how many entries there are, and their text
 pub record Progress : Type 0 where
+  pub rules : RuleSet
   pub moment : Moment
   pub count : ℕ
   pub text : List ℕ
 
 -- the machine answers the event, and its entry goes to the end of the text
 pub record IsEntry (t : RuleTable) (event : Event) (before after : Progress) : Type 0 where
+  pub rules : after.rules ≡ before.rules
   pub moment : after.moment ≡ moment_after t before.moment event
   pub count : after.count ≡ before.count + 1
   pub text : after.text ≡ before.text ++ entry_line (before.count + 1) event (reply_of t before.moment.state before.moment.spent event)
@@ -53,11 +58,16 @@ TurnsDo draws t limit zero stream before after = after ≡ before
 TurnsDo draws t limit (suc turns) stream before after =
     (before.count < limit) × TurnDoes t (draws t before.moment.state stream).0 (λ next. TurnsDo draws t limit turns (draws t before.moment.state stream).1 next after) before after
 
+-- the base of where a run stands, by its lines behind the text; it is no entry, and the next one's number goes on
+abbrev pub checkpointed : Progress → Progress
+checkpointed at = record at { text = at.text ++ base_text at.rules at.moment.state.network.size (base_of at.count at.moment) }
+
 -- what a command does
 abbrev pub CommandDoes : RuleTable → ℕ → Command → Progress → Progress → Type 0
 CommandDoes t limit (Tell event) before after = EventDoes t limit event before after
 CommandDoes t limit (Drive turns) before after = TurnsDo drawn_step t limit turns.count (seeded_stream turns.seed) before after
 CommandDoes t limit (Scramble turns) before after = TurnsDo drawn_fault t limit turns.count (seeded_stream turns.seed) before after
+CommandDoes t limit Checkpoint before after = after ≡ checkpointed before
 
 -- an empty line does nothing; any other says a command
 abbrev pub LineDoes : RuleTable → ℕ → List ℕ → Progress → Progress → Type 0
@@ -89,11 +99,12 @@ TurnsFill draws t limit (suc turns) stream before after =
     IsFull limit before after
     ⊎ ((before.count < limit) × TurnFills t (draws t before.moment.state stream).0 (λ next. TurnsFill draws t limit turns (draws t before.moment.state stream).1 next after) before)
 
--- the command, or a turn of it, comes when there are as many entries as there may be
+-- the command, or a turn of it, comes when there are as many entries as there may be; a checkpoint wants none
 abbrev pub CommandFills : RuleTable → ℕ → Command → Progress → Progress → Type 0
 CommandFills t limit (Tell event) before after = IsFull limit before after
 CommandFills t limit (Drive turns) before after = TurnsFill drawn_step t limit turns.count (seeded_stream turns.seed) before after
 CommandFills t limit (Scramble turns) before after = TurnsFill drawn_fault t limit turns.count (seeded_stream turns.seed) before after
+CommandFills t limit Checkpoint before after = ⊥
 
 -- a line says a command that meets a full log
 abbrev pub MeetsFullLog : RuleTable → ℕ → List ℕ → Progress → Progress → Type 0

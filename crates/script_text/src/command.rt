@@ -23,4 +23,6 @@ pub enum Command {
     Drive(Turns),
     /// Faults of a seeded injector.
     Scramble(Turns),
+    /// The state here as the base of all entries to come: no event, so no entry.
+    Checkpoint,
 }

@@ -50,5 +50,8 @@ pub fn read_line(alloc: Global, line: &[u8]) -> Result<Option<Command>, Want>
     if let Some(event) = read_command(alloc, line)? {
         return Ok(Some(Command::Tell(event)));
     }
+    if line == b"checkpoint".as_slice() {
+        return Ok(Some(Command::Checkpoint));
+    }
     Ok(read_turning(line))
 }
