@@ -48,6 +48,7 @@ Commands of a script, one a line, where A and B are names of nodes:
   matching      the pairs               status        the counts, the charge and what is spent
   drive S K     takes up to K steps, until no node is enabled, of a daemon with the seed S
   scramble S K  changes up to K registers, drawn with the seed S
+  checkpoint    writes the state as a base, a line a node and an edge; a transcript may begin at one
 
 Examples:
   console run --rules manne --nodes 4 < script.txt > transcript.txt
@@ -65,8 +66,9 @@ pub(crate) const AUDIT_ABOUT: &str =
     "Judges the transcript on standard input, in one line on standard output.";
 
 pub(crate) const AUDIT_NOTES: &str = "\
-It is accepted where it is the text of a run of the rules, whatever allowed targets were taken. Else the first line that
-fails is named, with the first of these that it fails: its form, its number, its reply.
+It is accepted where it is the text of a run of the rules, whatever allowed targets were taken: from its start, or from the
+base that a checkpoint wrote. Each further base has to be that of the state there. Else the first line that fails is named,
+with the first of these that it fails: its form, its number, its reply.
 
 Examples:
   console audit < transcript.txt
@@ -128,7 +130,8 @@ pub(crate) const STORM_ABOUT: &str =
 
 pub(crate) const STORM_NOTES: &str = "\
 Each script has the commands of run, and they are carried out in its order, between those of the others in any way. All scripts
-are read before the first command. When all have ended, the log is settled against what each of them did, and is written.
+are read before the first command. When all have ended, the log is settled against what each of them did, and is written; from
+the last checkpoint on, where there was one.
 
 Roaming workers need no script: in turn t, from 0, such a worker lets one enabled node move, the one at place t modulo their
 number, ascending from 0; where no node is enabled, the turn passes.

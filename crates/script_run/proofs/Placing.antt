@@ -98,13 +98,13 @@ module _ (t : RuleTable) (limit : ℕ) (start : Progress) (old : Option (List �
       → Stands t limit start old read [] behind (n + 1) after known
   Stands-line k read begun line behind rest n now after known result h ended e same ends is =
       let line_does = LineEnds-done t limit (n + 1) (begun ++ line) now after result (subst (λ m. LineEnds t m (n + 1) (begun ++ line) now after result) same ends) is in
-      let adds = line_adds t limit (begun ++ line) now.moment after.moment now.count after.count now.text after.text line_does in record {
+      let adds = line_adds t limit (begun ++ line) now.rules after.rules now.moment after.moment now.count after.count now.text after.text line_does in record {
         before = h.before ++ (begun ++ line) ∷ [];
         text = h.text ++ adds.more;
         splits = λ more. h.splits more ∙ ap (λ l. h.before ++ l) (first_line begun line behind rest more h.unended ended e) ∙ sym (append_assoc h.before ((begun ++ line) ∷ []) (lines_of (behind ++ more)));
         unended = tt;
         number = ap (λ m. m + 1) h.number ∙ sym (length-append h.before ((begun ++ line) ∷ []));
-        does = LinesDo-more t limit h.before (begun ++ line) start (at_line now.moment now.count h.text) _ h.does (adds.leads h.text);
+        does = LinesDo-more t limit h.before (begun ++ line) start (at_line now.rules now.moment now.count h.text) _ h.does (adds.leads h.text);
         handed = record {
           sent = h.handed.sent;
           wrote = h.handed.wrote;
@@ -120,15 +120,16 @@ module _ (t : RuleTable) (limit : ℕ) (start : Progress) (old : Option (List �
 
   -- some of what was held is written
   pub Stands-handed : (read begun rest : List ℕ) (n : ℕ) (now later : Progress) (known known' : Option (List ℕ))
-      → Stands t limit start old read begun rest n now known → now.moment ≡ later.moment → now.count ≡ later.count → Hands known known' now.text later.text
+      → Stands t limit start old read begun rest n now known → now.rules ≡ later.rules → now.moment ≡ later.moment → now.count ≡ later.count → Hands known known' now.text later.text
       → Stands t limit start old read begun rest n later known'
-  Stands-handed read begun rest n now later known known' h same count more = record {
+  Stands-handed read begun rest n now later known known' h rules same count more = record {
     before = h.before;
     text = h.text;
     splits = h.splits;
     unended = h.unended;
     number = h.number;
-    does = subst (λ m. LinesDo t limit h.before start (at_line m later.count h.text)) same (subst (λ c. LinesDo t limit h.before start (at_line now.moment c h.text)) count h.does);
+    does = subst (λ r. LinesDo t limit h.before start (at_line r later.moment later.count h.text)) rules
+        (subst (λ m. LinesDo t limit h.before start (at_line now.rules m later.count h.text)) same (subst (λ c. LinesDo t limit h.before start (at_line now.rules now.moment c h.text)) count h.does));
     handed = record {
       sent = h.handed.sent ++ more.sent;
       wrote = Appends-trans old known known' h.handed.sent more.sent h.handed.wrote more.wrote;
@@ -138,38 +139,38 @@ module _ (t : RuleTable) (limit : ℕ) (start : Progress) (old : Option (List �
 
   -- the lines so far are the first of all
   pub Stands-leads : (read begun rest : List ℕ) (n : ℕ) (now : Progress) (known : Option (List ℕ)) (h : Stands t limit start old read begun rest n now known)
-      → (more : List ℕ) → LeadsTo t limit (lines_of (read ++ more)) start (at_line now.moment now.count h.text)
+      → (more : List ℕ) → LeadsTo t limit (lines_of (read ++ more)) start (at_line now.rules now.moment now.count h.text)
   Stands-leads read begun rest n now known h more =
-      LeadsTo-before t limit h.before (lines_of (begun ++ (rest ++ more))) (lines_of (read ++ more)) start (at_line now.moment now.count h.text) (h.splits more) h.does
+      LeadsTo-before t limit h.before (lines_of (begun ++ (rest ++ more))) (lines_of (read ++ more)) start (at_line now.rules now.moment now.count h.text) (h.splits more) h.does
 
   -- what was held could not be written
   pub Stands-failed : (read begun rest : List ℕ) (n : ℕ) (now : Progress) (known known' : Option (List ℕ))
       → Stands t limit start old read begun rest n now known → AppendsLess known known' now.text
       → (more : List ℕ) → (end : Progress) × LeadsTo t limit (lines_of (read ++ more)) start end × AppendsLess old known' end.text
   Stands-failed read begun rest n now known known' h less more =
-      (at_line now.moment now.count h.text, Stands-leads read begun rest n now known h more, Hands-less old known known' h.text now.text h.handed less)
+      (at_line now.rules now.moment now.count h.text, Stands-leads read begun rest n now known h more, Hands-less old known known' h.text now.text h.handed less)
 
   pub Stands-began : (read begun rest : List ℕ) (n : ℕ) (now : Progress) (known known' : Option (List ℕ))
       → Stands t limit start old read begun rest n now known → AppendsBeginning known known' now.text
       → (more : List ℕ) → (end : Progress) × LeadsTo t limit (lines_of (read ++ more)) start end × AppendsBeginning old known' end.text
   Stands-began read begun rest n now known known' h part more =
-      (at_line now.moment now.count h.text, Stands-leads read begun rest n now known h more, Hands-begun old known known' h.text now.text h.handed part)
+      (at_line now.rules now.moment now.count h.text, Stands-leads read begun rest n now known h more, Hands-begun old known known' h.text now.text h.handed part)
 
   -- the reader failed
   pub Stands-unread : (read begun rest : List ℕ) (n : ℕ) (now : Progress) (known : Option (List ℕ)) → Stands t limit start old read begun rest n now known
       → (more : List ℕ) → Halts t limit (lines_of (read ++ more)) start Unread (λ text. Hands old known text now.text)
-  Stands-unread read begun rest n now known h more = (at_line now.moment now.count h.text, Stands-leads read begun rest n now known h more, h.handed)
+  Stands-unread read begun rest n now known h more = (at_line now.rules now.moment now.count h.text, Stands-leads read begun rest n now known h more, h.handed)
 
   -- memory was refused, and no text was added
   pub Stands-memory : (read begun rest : List ℕ) (n : ℕ) (now : Progress) (known : Option (List ℕ)) (held : List ℕ) → Stands t limit start old read begun rest n now known → held ≡ now.text
       → (more : List ℕ) → Halts t limit (lines_of (read ++ more)) start Memory (λ text. Hands old known text held)
   Stands-memory read begun rest n now known held h kept more =
-      (at_line now.moment now.count h.text, Stands-leads read begun rest n now known h more, subst (Hands old known h.text) (sym kept) h.handed)
+      (at_line now.rules now.moment now.count h.text, Stands-leads read begun rest n now known h more, subst (Hands old known h.text) (sym kept) h.handed)
 
   -- the line behind those so far stops the run
   stops : (read begun rest line : List ℕ) (others : List (List ℕ)) (n : ℕ) (now : Progress) (known : Option (List ℕ)) (more : List ℕ)
       → (h : Stands t limit start old read begun rest n now known) → lines_of (begun ++ (rest ++ more)) ≡ line ∷ others
-      → StopsAt t limit (lines_of (read ++ more)) start (n + 1) line (at_line now.moment now.count h.text)
+      → StopsAt t limit (lines_of (read ++ more)) start (n + 1) line (at_line now.rules now.moment now.count h.text)
   stops read begun rest line others n now known more h first = record {
     before = h.before;
     behind = others;
@@ -183,8 +184,8 @@ module _ (t : RuleTable) (limit : ℕ) (start : Progress) (old : Option (List �
       → m ≡ n + 1 → IsBadLine line → held ≡ now.text
       → Halts t limit (lines_of (read ++ more)) start (Stopped (BadLine m)) (λ text. Hands old known text held)
   stops_bad read begun rest line others n m now known held more h first same bad kept = (
-    at_line now.moment now.count h.text,
-    (line, subst (λ k. StopsAt t limit (lines_of (read ++ more)) start k line (at_line now.moment now.count h.text)) (sym same) (stops read begun rest line others n now known more h first), bad),
+    at_line now.rules now.moment now.count h.text,
+    (line, subst (λ k. StopsAt t limit (lines_of (read ++ more)) start k line (at_line now.rules now.moment now.count h.text)) (sym same) (stops read begun rest line others n now known more h first), bad),
     subst (Hands old known h.text) (sym kept) h.handed,
   )
 
@@ -195,9 +196,9 @@ module _ (t : RuleTable) (limit : ℕ) (start : Progress) (old : Option (List �
   Stands-stops E read begun rest line others n now after known (BadLine m) more h first (same, bad, kept) =
       stops_bad read begun rest line others n m now known after.text more h first same bad (ap (λ (p : Progress). p.text) kept)
   Stands-stops E read begun rest line others n now after known LogFull more h first meets =
-      let adds = meeting_adds t limit line now.moment after.moment now.count after.count now.text after.text meets in (
-        at_line after.moment after.count (h.text ++ adds.more),
-        (n + 1, line, at_line now.moment now.count h.text, stops read begun rest line others n now known more h first, adds.leads h.text),
+      let adds = meeting_adds t limit line now.rules after.rules now.moment after.moment now.count after.count now.text after.text meets in (
+        at_line after.rules after.moment after.count (h.text ++ adds.more),
+        (n + 1, line, at_line now.rules now.moment now.count h.text, stops read begun rest line others n now known more h first, adds.leads h.text),
         record {
           sent = h.handed.sent;
           wrote = h.handed.wrote;
@@ -246,7 +247,7 @@ module _ (t : RuleTable) (limit : ℕ) (start : Progress) (old : Option (List �
       → Halts t limit (lines_of read) start Whole (λ text. Hands old known text now.text)
   Last-none read begun n now known h none =
       let lines : lines_of (read ++ []) ≡ h.before = h.splits [] ∙ ap (λ l. h.before ++ lines_of (l ++ [])) none ∙ append-nil h.before in
-      (at_line now.moment now.count h.text, subst (λ l. LinesDo t limit l start (at_line now.moment now.count h.text)) (sym lines ∙ ap lines_of (append-nil read)) h.does, h.handed)
+      (at_line now.rules now.moment now.count h.text, subst (λ l. LinesDo t limit l start (at_line now.rules now.moment now.count h.text)) (sym lines ∙ ap lines_of (append-nil read)) h.does, h.handed)
 
   -- it ends behind a line that was carried out
   pub Last-whole : {E : Type 0} (read begun : List ℕ) (n : ℕ) (now after : Progress) (known : Option (List ℕ)) (result : Result (Option Stop) E) → Stands t limit start old read begun [] n now known → (begun ≡ [] → ⊥)
@@ -254,11 +255,11 @@ module _ (t : RuleTable) (limit : ℕ) (start : Progress) (old : Option (List �
       → Halts t limit (lines_of read) start Whole (λ text. Hands old known text after.text)
   Last-whole read begun n now after known result h some ends is =
       let does = subst (LineEnds t limit (n + 1) begun now after) is ends in
-      let adds = line_adds t limit begun now.moment after.moment now.count after.count now.text after.text does in
+      let adds = line_adds t limit begun now.rules after.rules now.moment after.moment now.count after.count now.text after.text does in
       let lines : lines_of (read ++ []) ≡ h.before ++ begun ∷ [] = h.splits [] ∙ ap (λ l. h.before ++ l) (last_line begun h.unended some) in
-      let all = LinesDo-more t limit h.before begun start (at_line now.moment now.count h.text) (at_line after.moment after.count (h.text ++ adds.more)) h.does (adds.leads h.text) in (
-        at_line after.moment after.count (h.text ++ adds.more),
-        subst (λ l. LinesDo t limit l start (at_line after.moment after.count (h.text ++ adds.more))) (sym lines ∙ ap lines_of (append-nil read)) all,
+      let all = LinesDo-more t limit h.before begun start (at_line now.rules now.moment now.count h.text) (at_line after.rules after.moment after.count (h.text ++ adds.more)) h.does (adds.leads h.text) in (
+        at_line after.rules after.moment after.count (h.text ++ adds.more),
+        subst (λ l. LinesDo t limit l start (at_line after.rules after.moment after.count (h.text ++ adds.more))) (sym lines ∙ ap lines_of (append-nil read)) all,
         record {
           sent = h.handed.sent;
           wrote = h.handed.wrote;
@@ -298,13 +299,13 @@ module _ (t : RuleTable) (limit : ℕ) (start : Progress) (old : Option (List �
   -- a piece that was read behind all that was written so far is carried out
   pub piece_read : {E : Type 0} (k : ℕ) (a b c : Option (List ℕ)) (read chunk buffer : List ℕ) (len : ℕ) (begun begun' : List ℕ) (n n' : ℕ) (now held now' : Progress) (known known' known'' : Option (List ℕ)) (result : Result (Option End) E)
       → Consumes a b read → Stands t limit start old read begun [] n now known
-      → now.moment ≡ held.moment → now.count ≡ held.count → Hands known known' now.text held.text
+      → now.rules ≡ held.rules → now.moment ≡ held.moment → now.count ≡ held.count → Hands known known' now.text held.text
       → chunk ≡ buffer → Consumes b c (take len chunk) → k ≡ limit
       → ((start : Progress) (old : Option (List ℕ)) (read : List ℕ) → Stands t k start old read begun (take len buffer) n held known' → PieceEnds t k start old read begun' n' now' known'' result)
       → Consumes a c (read ++ take len buffer) × PieceEnds t limit start old (read ++ take len buffer) begun' n' now' known'' result
-  piece_read k a b c read chunk buffer len begun begun' n n' now held now' known known' known'' result used stands moment count handed same bytes limits piece = (
+  piece_read k a b c read chunk buffer len begun begun' n n' now held now' known known' known'' result used stands rules moment count handed same bytes limits piece = (
     Consumes-trans a b c read (take len buffer) used (subst (λ l. Consumes b c (take len l)) same bytes),
-    piece_at k read (take len buffer) begun begun' n n' held now' known' known'' result limits piece (Stands-handed read begun [] n now held known known' stands moment count handed),
+    piece_at k read (take len buffer) begun begun' n n' held now' known' known'' result limits piece (Stands-handed read begun [] n now held known known' stands rules moment count handed),
   )
 
   pub last_at : (k : ℕ) (read begun : List ℕ) (n : ℕ) (now : Progress) (known : Option (List ℕ)) (held : List ℕ) (end : End) → k ≡ limit

@@ -2,110 +2,125 @@
 use Rattle.std.proofs.Common.{◌≡◌, ◌∙◌, ℕ, zero, suc, ◌+◌, List, [], ◌∷◌, ◌++◌, Option, None, Some, inl, inr, refl, sym, ap, subst, append_assoc, append-nil}
 use Rattle.rand_core.specs.Stream.{Stream}
 use Rattle.rule_machine.specs.declared.event.Event.{Event}
+use Rattle.rule_machine.specs.declared.rules.RuleSet.{RuleSet}
 use Rattle.rule_machine.specs.RuleTable.{RuleTable}
 use Rattle.rule_machine.specs.Least.{reply_of}
 use Rattle.rule_machine.specs.Run.{Moment}
+use Rattle.rule_machine.specs.Base.{base_of}
 use Rattle.line_text.specs.EntryText.{entry_line}
+use Rattle.line_text.specs.BaseText.{base_text}
 use Rattle.script_text.specs.declared.command.Command.{Command}
-use Rattle.script_text.specs.declared.command.Command.TheVariants.{Tell, Drive, Scramble}
+use Rattle.script_text.specs.declared.command.Command.TheVariants.{Tell, Drive, Scramble, Checkpoint}
 use Rattle.seeded_turns.specs.Drawn.{Draws, seeded_stream, drawn_step, drawn_fault}
-use Rattle.script_text.specs.Script.{Progress, IsEntry, IsFull, EventDoes, TurnDoes, TurnsDo, TurnFills, TurnsFill, CommandDoes, CommandFills, LineDoes, MeetsFullLog}
+use Rattle.script_text.specs.Script.{Progress, IsEntry, IsFull, EventDoes, TurnDoes, TurnsDo, TurnFills, TurnsFill, checkpointed, CommandDoes, CommandFills, LineDoes, MeetsFullLog}
 
 -- where a run stands
-abbrev pub at_line : Moment → ℕ → List ℕ → Progress
-at_line s count text = record { moment = s; count = count; text = text }
+abbrev pub at_line : RuleSet → Moment → ℕ → List ℕ → Progress
+at_line r s count text = record { rules = r; moment = s; count = count; text = text }
 
 -- what leads from one text to another leads from any text to one that has as much more
-pub record Adds (Leads : Progress → Progress → Type 0) (s s' : Moment) (n n' : ℕ) (old new : List ℕ) : Type 0 where
+pub record Adds (Leads : Progress → Progress → Type 0) (r r' : RuleSet) (s s' : Moment) (n n' : ℕ) (old new : List ℕ) : Type 0 where
   pub more : List ℕ
   pub grown : new ≡ old ++ more
-  pub leads : (text : List ℕ) → Leads (at_line s n text) (at_line s' n' (text ++ more))
+  pub leads : (text : List ℕ) → Leads (at_line r s n text) (at_line r' s' n' (text ++ more))
 
 -- to do nothing adds nothing
-stays_adds : (s s' : Moment) (n n' : ℕ) (old new : List ℕ) → at_line s' n' new ≡ at_line s n old → Adds (λ before after. after ≡ before) s s' n n' old new
-stays_adds s s' n n' old new same = record {
+stays_adds : (r r' : RuleSet) (s s' : Moment) (n n' : ℕ) (old new : List ℕ) → at_line r' s' n' new ≡ at_line r s n old → Adds (λ before after. after ≡ before) r r' s s' n n' old new
+stays_adds r r' s s' n n' old new same = record {
   more = [];
   grown = ap (λ (p : Progress). p.text) same ∙ sym (append-nil old);
-  leads = λ text. ap (λ (p : Progress). at_line p.moment p.count (text ++ [])) same ∙ ap (λ l. at_line s n l) (append-nil text);
+  leads = λ text. ap (λ (p : Progress). at_line p.rules p.moment p.count (text ++ [])) same ∙ ap (λ l. at_line r s n l) (append-nil text);
 }
 
 -- an entry, and what comes behind it
-entry_adds : (t : RuleTable) (event : Event) (Others : Progress → Progress → Type 0) (s s' : Moment) (n n' : ℕ) (old new : List ℕ) (next : Progress)
-    → IsEntry t event (at_line s n old) next → Adds Others next.moment s' next.count n' next.text new
-    → Adds (λ before after. (mid : Progress) × IsEntry t event before mid × Others mid after) s s' n n' old new
-entry_adds t event Others s s' n n' old new next entry later =
+entry_adds : (t : RuleTable) (event : Event) (Others : Progress → Progress → Type 0) (r r' : RuleSet) (s s' : Moment) (n n' : ℕ) (old new : List ℕ) (next : Progress)
+    → IsEntry t event (at_line r s n old) next → Adds Others next.rules r' next.moment s' next.count n' next.text new
+    → Adds (λ before after. (mid : Progress) × IsEntry t event before mid × Others mid after) r r' s s' n n' old new
+entry_adds t event Others r r' s s' n n' old new next entry later =
     let line : List ℕ = entry_line (n + 1) event (reply_of t s.state s.spent event) in record {
       more = line ++ later.more;
       grown = later.grown ∙ ap (λ l. l ++ later.more) entry.text ∙ append_assoc old line later.more;
       leads = λ text. (
-        at_line next.moment next.count (text ++ line),
-        record { moment = entry.moment; count = entry.count; text = refl },
-        subst (λ l. Others (at_line next.moment next.count (text ++ line)) (at_line s' n' l)) (append_assoc text line later.more) (later.leads (text ++ line)),
+        at_line next.rules next.moment next.count (text ++ line),
+        record { rules = entry.rules; moment = entry.moment; count = entry.count; text = refl },
+        subst (λ l. Others (at_line next.rules next.moment next.count (text ++ line)) (at_line r' s' n' l)) (append_assoc text line later.more) (later.leads (text ++ line)),
       );
     }
 
-turn_adds : (t : RuleTable) (drawn : Option Event) (Others : Progress → Progress → Type 0) (s s' : Moment) (n n' : ℕ) (old new : List ℕ)
-    → ((x : Moment) (m : ℕ) (text : List ℕ) → Others (at_line x m text) (at_line s' n' new) → Adds Others x s' m n' text new)
-    → TurnDoes t drawn (λ next. Others next (at_line s' n' new)) (at_line s n old) (at_line s' n' new)
-    → Adds (λ before after. TurnDoes t drawn (λ next. Others next after) before after) s s' n n' old new
-turn_adds t None Others s s' n n' old new later same = stays_adds s s' n n' old new same
-turn_adds t (Some event) Others s s' n n' old new later (next, entry, others) =
-    entry_adds t event Others s s' n n' old new next entry (later next.moment next.count next.text others)
+turn_adds : (t : RuleTable) (drawn : Option Event) (Others : Progress → Progress → Type 0) (r r' : RuleSet) (s s' : Moment) (n n' : ℕ) (old new : List ℕ)
+    → ((q : RuleSet) (x : Moment) (m : ℕ) (text : List ℕ) → Others (at_line q x m text) (at_line r' s' n' new) → Adds Others q r' x s' m n' text new)
+    → TurnDoes t drawn (λ next. Others next (at_line r' s' n' new)) (at_line r s n old) (at_line r' s' n' new)
+    → Adds (λ before after. TurnDoes t drawn (λ next. Others next after) before after) r r' s s' n n' old new
+turn_adds t None Others r r' s s' n n' old new later same = stays_adds r r' s s' n n' old new same
+turn_adds t (Some event) Others r r' s s' n n' old new later (next, entry, others) =
+    entry_adds t event Others r r' s s' n n' old new next entry (later next.rules next.moment next.count next.text others)
 
-turns_add : (draws : Draws) (t : RuleTable) (limit turns : ℕ) (stream : Stream) (s s' : Moment) (n n' : ℕ) (old new : List ℕ)
-    → TurnsDo draws t limit turns stream (at_line s n old) (at_line s' n' new) → Adds (TurnsDo draws t limit turns stream) s s' n n' old new
-turns_add draws t limit zero stream s s' n n' old new same = stays_adds s s' n n' old new same
-turns_add draws t limit (suc turns) stream s s' n n' old new (below, turn) =
+turns_add : (draws : Draws) (t : RuleTable) (limit turns : ℕ) (stream : Stream) (r r' : RuleSet) (s s' : Moment) (n n' : ℕ) (old new : List ℕ)
+    → TurnsDo draws t limit turns stream (at_line r s n old) (at_line r' s' n' new) → Adds (TurnsDo draws t limit turns stream) r r' s s' n n' old new
+turns_add draws t limit zero stream r r' s s' n n' old new same = stays_adds r r' s s' n n' old new same
+turns_add draws t limit (suc turns) stream r r' s s' n n' old new (below, turn) =
     let drawn = draws t s.state stream in
-    let a = turn_adds t drawn.0 (TurnsDo draws t limit turns drawn.1) s s' n n' old new (λ x m text others. turns_add draws t limit turns drawn.1 x s' m n' text new others) turn in
+    let a = turn_adds t drawn.0 (TurnsDo draws t limit turns drawn.1) r r' s s' n n' old new (λ q x m text others. turns_add draws t limit turns drawn.1 q r' x s' m n' text new others) turn in
     record { more = a.more; grown = a.grown; leads = λ text. (below, a.leads text) }
 
-fill_adds : (t : RuleTable) (drawn : Option Event) (Others : Progress → Progress → Type 0) (s s' : Moment) (n n' : ℕ) (old new : List ℕ)
-    → ((x : Moment) (m : ℕ) (text : List ℕ) → Others (at_line x m text) (at_line s' n' new) → Adds Others x s' m n' text new)
-    → TurnFills t drawn (λ next. Others next (at_line s' n' new)) (at_line s n old)
-    → Adds (λ before after. TurnFills t drawn (λ next. Others next after) before) s s' n n' old new
-fill_adds t None Others s s' n n' old new later none = absurd none
-fill_adds t (Some event) Others s s' n n' old new later (next, entry, others) =
-    entry_adds t event Others s s' n n' old new next entry (later next.moment next.count next.text others)
+fill_adds : (t : RuleTable) (drawn : Option Event) (Others : Progress → Progress → Type 0) (r r' : RuleSet) (s s' : Moment) (n n' : ℕ) (old new : List ℕ)
+    → ((q : RuleSet) (x : Moment) (m : ℕ) (text : List ℕ) → Others (at_line q x m text) (at_line r' s' n' new) → Adds Others q r' x s' m n' text new)
+    → TurnFills t drawn (λ next. Others next (at_line r' s' n' new)) (at_line r s n old)
+    → Adds (λ before after. TurnFills t drawn (λ next. Others next after) before) r r' s s' n n' old new
+fill_adds t None Others r r' s s' n n' old new later none = absurd none
+fill_adds t (Some event) Others r r' s s' n n' old new later (next, entry, others) =
+    entry_adds t event Others r r' s s' n n' old new next entry (later next.rules next.moment next.count next.text others)
 
-full_adds : (limit : ℕ) (s s' : Moment) (n n' : ℕ) (old new : List ℕ) → IsFull limit (at_line s n old) (at_line s' n' new) → Adds (IsFull limit) s s' n n' old new
-full_adds limit s s' n n' old new (full, same) =
-    let a = stays_adds s s' n n' old new same in record { more = a.more; grown = a.grown; leads = λ text. (full, a.leads text) }
+full_adds : (limit : ℕ) (r r' : RuleSet) (s s' : Moment) (n n' : ℕ) (old new : List ℕ) → IsFull limit (at_line r s n old) (at_line r' s' n' new) → Adds (IsFull limit) r r' s s' n n' old new
+full_adds limit r r' s s' n n' old new (full, same) =
+    let a = stays_adds r r' s s' n n' old new same in record { more = a.more; grown = a.grown; leads = λ text. (full, a.leads text) }
 
-turns_fill_add : (draws : Draws) (t : RuleTable) (limit turns : ℕ) (stream : Stream) (s s' : Moment) (n n' : ℕ) (old new : List ℕ)
-    → TurnsFill draws t limit turns stream (at_line s n old) (at_line s' n' new) → Adds (TurnsFill draws t limit turns stream) s s' n n' old new
-turns_fill_add draws t limit zero stream s s' n n' old new none = absurd none
-turns_fill_add draws t limit (suc turns) stream s s' n n' old new (inl full) =
-    let a = full_adds limit s s' n n' old new full in record { more = a.more; grown = a.grown; leads = λ text. inl (a.leads text) }
-turns_fill_add draws t limit (suc turns) stream s s' n n' old new (inr (below, fill)) =
+turns_fill_add : (draws : Draws) (t : RuleTable) (limit turns : ℕ) (stream : Stream) (r r' : RuleSet) (s s' : Moment) (n n' : ℕ) (old new : List ℕ)
+    → TurnsFill draws t limit turns stream (at_line r s n old) (at_line r' s' n' new) → Adds (TurnsFill draws t limit turns stream) r r' s s' n n' old new
+turns_fill_add draws t limit zero stream r r' s s' n n' old new none = absurd none
+turns_fill_add draws t limit (suc turns) stream r r' s s' n n' old new (inl full) =
+    let a = full_adds limit r r' s s' n n' old new full in record { more = a.more; grown = a.grown; leads = λ text. inl (a.leads text) }
+turns_fill_add draws t limit (suc turns) stream r r' s s' n n' old new (inr (below, fill)) =
     let drawn = draws t s.state stream in
-    let a = fill_adds t drawn.0 (TurnsFill draws t limit turns drawn.1) s s' n n' old new (λ x m text others. turns_fill_add draws t limit turns drawn.1 x s' m n' text new others) fill in
+    let a = fill_adds t drawn.0 (TurnsFill draws t limit turns drawn.1) r r' s s' n n' old new (λ q x m text others. turns_fill_add draws t limit turns drawn.1 q r' x s' m n' text new others) fill in
     record { more = a.more; grown = a.grown; leads = λ text. inr (below, a.leads text) }
 
-event_adds : (t : RuleTable) (limit : ℕ) (event : Event) (s s' : Moment) (n n' : ℕ) (old new : List ℕ) → EventDoes t limit event (at_line s n old) (at_line s' n' new) → Adds (EventDoes t limit event) s s' n n' old new
-event_adds t limit event s s' n n' old new (below, entry) = record {
+event_adds : (t : RuleTable) (limit : ℕ) (event : Event) (r r' : RuleSet) (s s' : Moment) (n n' : ℕ) (old new : List ℕ) → EventDoes t limit event (at_line r s n old) (at_line r' s' n' new) → Adds (EventDoes t limit event) r r' s s' n n' old new
+event_adds t limit event r r' s s' n n' old new (below, entry) = record {
   more = entry_line (n + 1) event (reply_of t s.state s.spent event);
   grown = entry.text;
-  leads = λ text. (below, record { moment = entry.moment; count = entry.count; text = refl });
+  leads = λ text. (below, record { rules = entry.rules; moment = entry.moment; count = entry.count; text = refl });
 }
 
-command_adds : (t : RuleTable) (limit : ℕ) (c : Command) (s s' : Moment) (n n' : ℕ) (old new : List ℕ) → CommandDoes t limit c (at_line s n old) (at_line s' n' new) → Adds (CommandDoes t limit c) s s' n n' old new
-command_adds t limit (Tell event) s s' n n' old new does = event_adds t limit event s s' n n' old new does
-command_adds t limit (Drive turns) s s' n n' old new does = turns_add drawn_step t limit turns.count (seeded_stream turns.seed) s s' n n' old new does
-command_adds t limit (Scramble turns) s s' n n' old new does = turns_add drawn_fault t limit turns.count (seeded_stream turns.seed) s s' n n' old new does
+-- the lines of a base are those of where the run stands, whatever text is there
+checkpoint_adds : (r r' : RuleSet) (s s' : Moment) (n n' : ℕ) (old new : List ℕ) → at_line r' s' n' new ≡ checkpointed (at_line r s n old)
+    → Adds (λ before after. after ≡ checkpointed before) r r' s s' n n' old new
+checkpoint_adds r r' s s' n n' old new same =
+    let lines : List ℕ = base_text r s.state.network.size (base_of n s) in record {
+      more = lines;
+      grown = ap (λ (p : Progress). p.text) same;
+      leads = λ text. ap (λ (p : Progress). at_line p.rules p.moment p.count (text ++ lines)) same;
+    }
 
-command_fills_add : (t : RuleTable) (limit : ℕ) (c : Command) (s s' : Moment) (n n' : ℕ) (old new : List ℕ) → CommandFills t limit c (at_line s n old) (at_line s' n' new) → Adds (CommandFills t limit c) s s' n n' old new
-command_fills_add t limit (Tell event) s s' n n' old new full = full_adds limit s s' n n' old new full
-command_fills_add t limit (Drive turns) s s' n n' old new fills = turns_fill_add drawn_step t limit turns.count (seeded_stream turns.seed) s s' n n' old new fills
-command_fills_add t limit (Scramble turns) s s' n n' old new fills = turns_fill_add drawn_fault t limit turns.count (seeded_stream turns.seed) s s' n n' old new fills
+command_adds : (t : RuleTable) (limit : ℕ) (c : Command) (r r' : RuleSet) (s s' : Moment) (n n' : ℕ) (old new : List ℕ) → CommandDoes t limit c (at_line r s n old) (at_line r' s' n' new) → Adds (CommandDoes t limit c) r r' s s' n n' old new
+command_adds t limit (Tell event) r r' s s' n n' old new does = event_adds t limit event r r' s s' n n' old new does
+command_adds t limit (Drive turns) r r' s s' n n' old new does = turns_add drawn_step t limit turns.count (seeded_stream turns.seed) r r' s s' n n' old new does
+command_adds t limit (Scramble turns) r r' s s' n n' old new does = turns_add drawn_fault t limit turns.count (seeded_stream turns.seed) r r' s s' n n' old new does
+command_adds t limit Checkpoint r r' s s' n n' old new does = checkpoint_adds r r' s s' n n' old new does
+
+command_fills_add : (t : RuleTable) (limit : ℕ) (c : Command) (r r' : RuleSet) (s s' : Moment) (n n' : ℕ) (old new : List ℕ) → CommandFills t limit c (at_line r s n old) (at_line r' s' n' new) → Adds (CommandFills t limit c) r r' s s' n n' old new
+command_fills_add t limit (Tell event) r r' s s' n n' old new full = full_adds limit r r' s s' n n' old new full
+command_fills_add t limit (Drive turns) r r' s s' n n' old new fills = turns_fill_add drawn_step t limit turns.count (seeded_stream turns.seed) r r' s s' n n' old new fills
+command_fills_add t limit (Scramble turns) r r' s s' n n' old new fills = turns_fill_add drawn_fault t limit turns.count (seeded_stream turns.seed) r r' s s' n n' old new fills
+command_fills_add t limit Checkpoint r r' s s' n n' old new none = absurd none
 
 -- a line that is carried out
-pub line_adds : (t : RuleTable) (limit : ℕ) (line : List ℕ) (s s' : Moment) (n n' : ℕ) (old new : List ℕ) → LineDoes t limit line (at_line s n old) (at_line s' n' new) → Adds (LineDoes t limit line) s s' n n' old new
-line_adds t limit [] s s' n n' old new same = stays_adds s s' n n' old new same
-line_adds t limit (b ∷ line) s s' n n' old new (command, says, does) =
-    let a = command_adds t limit command s s' n n' old new does in record { more = a.more; grown = a.grown; leads = λ text. (command, says, a.leads text) }
+pub line_adds : (t : RuleTable) (limit : ℕ) (line : List ℕ) (r r' : RuleSet) (s s' : Moment) (n n' : ℕ) (old new : List ℕ) → LineDoes t limit line (at_line r s n old) (at_line r' s' n' new) → Adds (LineDoes t limit line) r r' s s' n n' old new
+line_adds t limit [] r r' s s' n n' old new same = stays_adds r r' s s' n n' old new same
+line_adds t limit (b ∷ line) r r' s s' n n' old new (command, says, does) =
+    let a = command_adds t limit command r r' s s' n n' old new does in record { more = a.more; grown = a.grown; leads = λ text. (command, says, a.leads text) }
 
 -- a line that meets a full log
-pub meeting_adds : (t : RuleTable) (limit : ℕ) (line : List ℕ) (s s' : Moment) (n n' : ℕ) (old new : List ℕ) → MeetsFullLog t limit line (at_line s n old) (at_line s' n' new) → Adds (MeetsFullLog t limit line) s s' n n' old new
-meeting_adds t limit line s s' n n' old new (command, says, fills) =
-    let a = command_fills_add t limit command s s' n n' old new fills in record { more = a.more; grown = a.grown; leads = λ text. (command, says, a.leads text) }
+pub meeting_adds : (t : RuleTable) (limit : ℕ) (line : List ℕ) (r r' : RuleSet) (s s' : Moment) (n n' : ℕ) (old new : List ℕ) → MeetsFullLog t limit line (at_line r s n old) (at_line r' s' n' new) → Adds (MeetsFullLog t limit line) r r' s s' n n' old new
+meeting_adds t limit line r r' s s' n n' old new (command, says, fills) =
+    let a = command_fills_add t limit command r r' s s' n n' old new fills in record { more = a.more; grown = a.grown; leads = λ text. (command, says, a.leads text) }

@@ -2,6 +2,7 @@
 use Rattle.std.specs.Prelude.{◌≡◌, ℕ, Bool, true, false, List, ◌++◌, Option, None, Some, Result, Ok, Err}
 use Rattle.rand_core.specs.Stream.{Stream}
 use Rattle.rule_machine.specs.declared.event.Event.{Event}
+use Rattle.rule_machine.specs.declared.rules.RuleSet.{RuleSet}
 use Rattle.rule_machine.specs.RuleTable.{RuleTable}
 use Rattle.rule_machine.specs.Run.{Moment}
 use Rattle.step_log.specs.Recording.{Recording}
@@ -15,9 +16,9 @@ use Rattle.script_run.specs.declared.stop.Stop.TheVariants.{BadLine, LogFull}
 abbrev pub moment_of : Recording → Moment
 moment_of r = record { state = r.state; spent = r.spent }
 
--- where a run stands: how far its recording has come, and a text
-abbrev pub progress : Recording → List ℕ → Progress
-progress r text = record { moment = moment_of r; count = r.len; text = text }
+-- where a run stands: its rule set, how far its recording has come, and a text
+abbrev pub progress : RuleSet → Recording → List ℕ → Progress
+progress rules r text = record { rules = rules; moment = moment_of r; count = r.len; text = text }
 
 -- a text has grown
 abbrev pub Grows : List ℕ → List ℕ → Type 0

@@ -14,7 +14,7 @@ use Rattle.script_run.specs.declared.fault.RunFault.TheVariants.{BadLine, LogFul
 -- where every run begins: the opening state with so many names, the first of them present, nothing spent, no entry, and the header
 abbrev pub beginning : RuleSet → ℕ → ℕ → Progress
 beginning rules nodes present =
-    record { moment = run.beginning_with nodes present; count = 0; text = header_line rules nodes present }
+    record { rules = rules; moment = run.beginning_with nodes present; count = 0; text = header_line rules nodes present }
 
 -- the lines before the one with this number lead to the end, and it comes next
 pub record StopsAt (t : RuleTable) (limit : ℕ) (lines : List (List ℕ)) (start : Progress) (n : ℕ) (line : List ℕ) (end : Progress) : Type 0 where
@@ -53,8 +53,8 @@ Ends t limit lines start (Err Write) P Q = (end : Progress) × Reaches t limit l
 Ends t limit lines start (Err Memory) P Q = (end : Progress) × Reaches t limit lines start end × Q end.text
 Ends t limit lines start (Err (Pool why)) P Q = ⊥
 
--- the script was run, and the writer has got the header and the entries that the machine makes, and nothing else; at a fault of the
--- reader those of some first lines, and at one of the writer or of memory a beginning of them
+-- the script was run, and the writer has got the header, the entries that the machine makes and the bases of its checkpoints, and
+-- nothing else; at a fault of the reader those of some first lines, and at one of the writer or of memory a beginning of them
 abbrev pub IsOutcome : RuleSet → ℕ → ℕ → ℕ → List ℕ → Option (List ℕ) → Option (List ℕ) → Result Unit RunFault → Type 0
 IsOutcome rules nodes present limit script old new result =
     Ends (table_of rules) limit (lines_of script) (beginning rules nodes present) result (Appends old new) (AppendsBeginning old new)

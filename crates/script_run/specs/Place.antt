@@ -16,7 +16,7 @@ pub record Stands (t : RuleTable) (limit : ℕ) (start : Progress) (old : Option
   pub splits : (more : List ℕ) → lines_of (read ++ more) ≡ before ++ lines_of (begun ++ (rest ++ more))
   pub unended : IsLine begun
   pub number : n ≡ length before
-  pub does : LinesDo t limit before start (record { moment = now.moment; count = now.count; text = text })
+  pub does : LinesDo t limit before start (record { rules = now.rules; moment = now.moment; count = now.count; text = text })
   pub handed : Hands old known text now.text
 
 -- a piece was carried out up to the line that it begins; or the run ends in it, or the writer failed, whatever follows the bytes

@@ -10,7 +10,7 @@ pub enum RunFault {
     /// The line with this number, from 1, is neither empty nor a command.
     #[error("line {line}: not a command")]
     BadLine { line: u64 },
-    /// A command came when there were as many entries as there may be.
+    /// A command that wants an entry came when there were as many as there may be.
     #[error("log full")]
     LogFull,
     /// A read of the script failed, or there were 4,294,967,295 of them.

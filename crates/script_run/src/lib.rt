@@ -1,6 +1,7 @@
 //! The run of a script: bytes in, transcript out.
 #![tactic(auto)]
 
+mod checkpoint;
 mod fault;
 mod options;
 mod piece;

@@ -30,7 +30,7 @@ impl<R: Rules + Sync> Run<R> {
         end: &[u8],
     ) -> Result<Option<Stop>, Want>
         requires { place.old.lines + 1 < 2 ^ 64 }
-        ensures ends { LineEnds R.table self.old.recorder.limit (place.old.lines + 1) (place.old.begun.items ++ end.now) (progress self.old.recorder self.old.text.items) (progress self.new.recorder self.new.text.items) result }
+        ensures ends { LineEnds R.table self.old.recorder.limit (place.old.lines + 1) (place.old.begun.items ++ end.now) (progress self.old.rules self.old.recorder self.old.text.items) (progress self.new.rules self.new.recorder self.new.text.items) result }
         ensures limit { self.new.recorder.limit ≡ self.old.recorder.limit }
         ensures lines { OnOk result (place.new.lines ≡ place.old.lines + 1) }
         ensures begun { OnOk result (place.new.begun.items ≡ []) }
@@ -58,8 +58,8 @@ impl<R: Rules + Sync> Run<R> {
     ) -> Result<Option<End>, OutputFault>
         requires { place.old.lines + length place.old.begun.items + length piece.now < 2 ^ 64 }
         ensures piece { (start : Progress) (old : Option (List ℕ)) (read : List ℕ)
-            → Stands R.table self.old.recorder.limit start old read place.old.begun.items piece.now place.old.lines (progress self.old.recorder self.old.text.items) (Out.contents writer.old)
-            → PieceEnds R.table self.old.recorder.limit start old read place.new.begun.items place.new.lines (progress self.new.recorder self.new.text.items) (Out.contents writer.new) result }
+            → Stands R.table self.old.recorder.limit start old read place.old.begun.items piece.now place.old.lines (progress self.old.rules self.old.recorder self.old.text.items) (Out.contents writer.old)
+            → PieceEnds R.table self.old.recorder.limit start old read place.new.begun.items place.new.lines (progress self.new.rules self.new.recorder self.new.text.items) (Out.contents writer.new) result }
         ensures stops { IfOk result (λ end. IfSome end (λ how. how ≡ Whole → ⊥)) }
         ensures reads { IfOk result (λ end. IfSome end (λ how. how ≡ Unread → ⊥)) }
         ensures room { IfOk result (λ end. IsNone end → place.new.lines + length place.new.begun.items ≤ place.old.lines + length place.old.begun.items + length piece.now) }
@@ -95,7 +95,7 @@ impl<R: Rules + Sync> Run<R> {
         requires { place.now.lines + 1 < 2 ^ 64 }
         ensures reads { result ≡ Unread → ⊥ }
         ensures last { (start : Progress) (old known : Option (List ℕ)) (read : List ℕ)
-            → Stands R.table self.old.recorder.limit start old read place.now.begun.items [] place.now.lines (progress self.old.recorder self.old.text.items) known
+            → Stands R.table self.old.recorder.limit start old read place.now.begun.items [] place.now.lines (progress self.old.rules self.old.recorder self.old.text.items) known
             → Halts R.table self.old.recorder.limit (lines_of read) start result (λ text. Hands old known text self.new.text.items) }
         ensures limit { self.new.recorder.limit ≡ self.old.recorder.limit }
     {

@@ -16,7 +16,7 @@ use crate::stop::{End, Stop};
 use crate::writing::hand_over_all;
 use byte_streams::{OutputFault, finish};
 use line_text::{put_entry, put_header};
-use rule_machine::{Event, Want};
+use rule_machine::{Event, RuleSet, Want};
 use rule_set::Rules;
 use script_text::{Command, read_line};
 use seeded_turns::{DaemonTurns, EventSource, FaultTurns};
@@ -26,9 +26,11 @@ use std::sync::Wait;
 use std::thread::Threads;
 use step_log::{RecordFault, Recorder};
 
-/// A network whose entries are numbered, the text that is not written yet, and how many workers judge a step.
+/// The rule set by its name, a network whose entries are numbered, the text that is not written yet, and how many workers judge a
+/// step.
 #[derive(Drop)]
 pub struct Run<R: Rules> {
+    pub rules: RuleSet,
     pub recorder: Recorder<R>,
     pub text: Vec<u8>,
     pub workers: u32,
@@ -36,7 +38,7 @@ pub struct Run<R: Rules> {
 
 impl<R: Rules> Run<R> {
     fn new(alloc: Global, options: &Options) -> Result<Run<R>, Want>
-        ensures begins { IfOk result (λ run. progress run.recorder run.text.items ≡ beginning options.now.rules options.now.nodes options.now.present) }
+        ensures begins { IfOk result (λ run. progress run.rules run.recorder run.text.items ≡ beginning options.now.rules options.now.nodes options.now.present) }
         ensures limit { IfOk result (λ run. run.recorder.limit ≡ options.now.limit) }
     {
         let (nodes, present) = (options.nodes(), options.present());
@@ -44,9 +46,11 @@ impl<R: Rules> Run<R> {
             return Err(AllocError);
         };
         let mut text = Vec::new(alloc);
-        put_header(&mut text, options.rules(), nodes, present)?;
+        let rules = options.rules();
+        put_header(&mut text, rules, nodes, present)?;
         let workers = options.workers();
         Ok(Run {
+            rules,
             recorder,
             text,
             workers,
@@ -57,7 +61,7 @@ impl<R: Rules> Run<R> {
     // event, as all that lies between does: so no event is copied from call to call.
     #[inline(always)]
     fn log(&mut self, event: &Event) -> Result<bool, Want>
-        ensures ends { EventEnds R.table self.old.recorder.limit event.now (progress self.old.recorder self.old.text.items) (progress self.new.recorder self.new.text.items) result }
+        ensures ends { EventEnds R.table self.old.recorder.limit event.now (progress self.old.rules self.old.recorder self.old.text.items) (progress self.new.rules self.new.recorder self.new.text.items) result }
         ensures limit { self.new.recorder.limit ≡ self.old.recorder.limit }
     {
         match self.recorder.log(event) {
@@ -73,7 +77,7 @@ impl<R: Rules> Run<R> {
     // Carries out the events of so many turns, or of those up to one that has none; false where a turn meets a full log, before
     // it is asked for.
     fn take_turns<S: EventSource>(&mut self, source: &mut S, count: u32) -> Result<bool, Want>
-        ensures ends { TurnsEnd S.draws R.table self.old.recorder.limit count (S.stream source.old) (progress self.old.recorder self.old.text.items) (progress self.new.recorder self.new.text.items) result }
+        ensures ends { TurnsEnd S.draws R.table self.old.recorder.limit count (S.stream source.old) (progress self.old.rules self.old.recorder self.old.text.items) (progress self.new.rules self.new.recorder self.new.text.items) result }
         ensures unasked { self.old.recorder.len ≡ self.old.recorder.limit → S.stream source.new ≡ S.stream source.old }
         ensures limit { self.new.recorder.limit ≡ self.old.recorder.limit }
     {
@@ -101,7 +105,7 @@ impl<R: Rules + Sync> Run<R> {
         alloc: Global,
         command: &Command,
     ) -> Result<bool, Want>
-        ensures ends { CommandEnds R.table self.old.recorder.limit command.now (progress self.old.recorder self.old.text.items) (progress self.new.recorder self.new.text.items) result }
+        ensures ends { CommandEnds R.table self.old.recorder.limit command.now (progress self.old.rules self.old.recorder self.old.text.items) (progress self.new.rules self.new.recorder self.new.text.items) result }
         ensures limit { self.new.recorder.limit ≡ self.old.recorder.limit }
     {
         match command {
@@ -117,6 +121,10 @@ impl<R: Rules + Sync> Run<R> {
                 let mut injector = FaultTurns::new(turns.seed);
                 self.take_turns(&mut injector, turns.count)
             }
+            Command::Checkpoint => {
+                self.checkpoint()?;
+                Ok(true)
+            }
         }
     }
 
@@ -129,7 +137,7 @@ impl<R: Rules + Sync> Run<R> {
         number: u64,
         line: &[u8],
     ) -> Result<Option<Stop>, Want>
-        ensures ends { LineEnds R.table self.old.recorder.limit number line.now (progress self.old.recorder self.old.text.items) (progress self.new.recorder self.new.text.items) result }
+        ensures ends { LineEnds R.table self.old.recorder.limit number line.now (progress self.old.rules self.old.recorder self.old.text.items) (progress self.new.rules self.new.recorder self.new.text.items) result }
         ensures limit { self.new.recorder.limit ≡ self.old.recorder.limit }
     {
         if line.is_empty() {
@@ -158,10 +166,10 @@ impl<R: Rules + Sync> Run<R> {
         writer: &mut Out,
     ) -> Result<End, OutputFault>
         ensures ok { IfOk result (λ end. IfSome (In.remaining reader.old) (λ script.
-            Halts R.table self.old.recorder.limit (lines_of script) (progress self.old.recorder self.old.text.items) end
+            Halts R.table self.old.recorder.limit (lines_of script) (progress self.old.rules self.old.recorder self.old.text.items) end
             (λ text. Hands (Out.contents writer.old) (Out.contents writer.new) text self.new.text.items))) }
         ensures fault { OnErr result (IfSome (In.remaining reader.old) (λ script. (end : Progress)
-            × LeadsTo R.table self.old.recorder.limit (lines_of script) (progress self.old.recorder self.old.text.items) end
+            × LeadsTo R.table self.old.recorder.limit (lines_of script) (progress self.old.rules self.old.recorder self.old.text.items) end
             × AppendsBeginning (Out.contents writer.old) (Out.contents writer.new) end.text)) }
         ensures read { IfOk result (λ end. end ≡ Whole → IsAtEnd (In.remaining reader.new)) }
     {

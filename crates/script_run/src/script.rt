@@ -14,16 +14,16 @@ use std::io::{Read, Write};
 use std::sync::Wait;
 use std::thread::Threads;
 
-/// Carries out the lines of a script in turn, and writes the transcript: a header, and an entry for each command. Before each
-/// read, the entries of all lines that were read whole are written and flushed, so that whoever writes the script can wait for
-/// an answer. `Ok` once the script was read to its end.
+/// Carries out the lines of a script in turn, and writes the transcript: a header, and an entry for each command; a checkpoint is
+/// none, and writes the lines of the base that the network is there. Before each read, the text of all lines that were read whole is
+/// written and flushed, so that whoever writes the script can wait for an answer. `Ok` once the script was read to its end.
 ///
 /// `BadLine` at the first line that is neither empty nor a command, also where it has more than 1,048,576 bytes and its end was
-/// not read; `LogFull` at a command beyond the limit; `Read` at the first error of the reader, which is not tried again, or after
-/// 4,294,967,295 reads: each after all entries of the lines before were written. `Write` at the first error of the writer, and
-/// `Memory` if memory runs out, after a beginning of the transcript was written. No entry is kept: what is held beside the
-/// network is 65,536 bytes of the script and its last line as far as it was read, and of the text what is not written yet, 65,536
-/// bytes and that of one line.
+/// not read; `LogFull` at a command whose entry is beyond the limit; `Read` at the first error of the reader, which is not tried
+/// again, or after 4,294,967,295 reads: each after all text of the lines before was written. `Write` at the first error of the
+/// writer, and `Memory` if memory runs out, after a beginning of the transcript was written. No entry is kept: what is held beside
+/// the network is 65,536 bytes of the script and its last line as far as it was read, and of the text what is not written yet, 65,536
+/// bytes and that of one line; at a checkpoint its base too, which is let go with the line.
 ///
 /// The workers of the options evaluate each step, and the transcript is the same for every number of them.
 pub fn run<In: Read, Out: Write, T: Threads + Wait + Sync>(

@@ -25,7 +25,7 @@ impl<R: Rules + Sync> Run<R> {
         choice: &Choice,
     ) -> Result<bool, Want>
         requires { event.now ≡ Step choice.now }
-        ensures ends { EventEnds R.table self.old.recorder.limit event.now (progress self.old.recorder self.old.text.items) (progress self.new.recorder self.new.text.items) result }
+        ensures ends { EventEnds R.table self.old.recorder.limit event.now (progress self.old.rules self.old.recorder self.old.text.items) (progress self.new.rules self.new.recorder self.new.text.items) result }
         ensures full { self.old.recorder.len ≡ self.old.recorder.limit → IsOk result }
         ensures limit { self.new.recorder.limit ≡ self.old.recorder.limit }
     {

@@ -21,7 +21,7 @@ returns-in_err-end-clause-outcome g c =
     let run = c.in-Ok.run' in
     let old = g.Out.Write.contents c.args.writer.now in
     let new = g.Out.Write.contents c.carry_out_all.new.writer in
-    let begun = progress run.recorder run.text.items in
+    let begun = progress run.rules run.recorder run.text.items in
     let first = beginning options.rules options.nodes options.present in
     for_known (g.In.Read.remaining c.args.reader.now)
     (λ script. (end : Progress) × LeadsTo g.R.Rules.table run.recorder.limit (lines_of script) begun end × AppendsBeginning old new end.text)
@@ -38,7 +38,7 @@ returns-in_err-finish-clause-outcome g c =
     let known = g.Out.Write.contents c.carry_out_all.new.writer in
     let new = g.Out.Write.contents c.finish.new.writer in
     let held = c.carry_out_all.new.self.text.items in
-    let begun = progress run.recorder run.text.items in
+    let begun = progress run.rules run.recorder run.text.items in
     let first = beginning options.rules options.nodes options.present in
     let part = subst (AppendsBeginning known new) c.deref.ensures.value c.in_err-finish.ensures.fault in
     for_known (g.In.Read.remaining c.args.reader.now)
@@ -56,7 +56,7 @@ returns-clause-outcome g c =
     let known = g.Out.Write.contents c.carry_out_all.new.writer in
     let new = g.Out.Write.contents c.finish.new.writer in
     let held = c.carry_out_all.new.self.text.items in
-    let begun = progress run.recorder run.text.items in
+    let begun = progress run.rules run.recorder run.text.items in
     let first = beginning options.rules options.nodes options.present in
     for_known (g.In.Read.remaining c.args.reader.now)
     (λ script. Halts g.R.Rules.table run.recorder.limit (lines_of script) begun c.in_ok-end.end (λ text. Hands old known text held))

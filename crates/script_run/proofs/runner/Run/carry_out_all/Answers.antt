@@ -16,7 +16,7 @@ use Rattle.script_run.proofs.runner.Run.carry_out_all.Goals as goal
 pub returns-in_default-clause-ok : goal.returns-in_default-clause-ok
 returns-in_default-clause-ok g c =
     let run = c.args.self.now in
-    let start = progress run.recorder run.text.items in
+    let start = progress run.rules run.recorder run.text.items in
     let old = g.Out.Write.contents c.args.writer.now in
     let left = g.In.Read.remaining c.args.reader.now in
     known_read left left [] (λ script. Halts g.R.Rules.table run.recorder.limit (lines_of script) start Memory (λ text. Hands old old text run.text.items)) (Consumes-nil left)
@@ -26,7 +26,7 @@ pub loop-init : goal.loop-init
 loop-init g c =
     let run = c.args.self.now in
     let place = c.new-place.result in
-    let start = progress run.recorder run.text.items in
+    let start = progress run.rules run.recorder run.text.items in
     let old = g.Out.Write.contents c.args.writer.now in
     record {
       limit = refl;
@@ -39,28 +39,28 @@ pub returns-in_err-hand_over_all-clause-fault : goal.returns-in_err-hand_over_al
 returns-in_err-hand_over_all-clause-fault g c =
     let begun = c.args.self.now in
     let run = c.loop.self in
-    let start = progress begun.recorder begun.text.items in
+    let start = progress begun.rules begun.recorder begun.text.items in
     let old = g.Out.Write.contents c.args.writer.now in
     let known = g.Out.Write.contents c.hand_over_all.new.writer in
     let stood = c.loop.invariant.stands in
     OnErr-holds c.from_residual.result
     (known_read (g.In.Read.remaining c.args.reader.now) (g.In.Read.remaining c.loop.reader) stood.0
     (λ script. (end : Progress) × LeadsTo g.R.Rules.table begun.recorder.limit (lines_of script) start end × AppendsBeginning old known end.text) stood.1
-    (Stands-began g.R.Rules.table begun.recorder.limit start old stood.0 c.loop.place.begun.items [] c.loop.place.lines (progress run.recorder run.text.items) (g.Out.Write.contents c.loop.writer) known stood.2 c.in_err-hand_over_all.ensures.fault))
+    (Stands-began g.R.Rules.table begun.recorder.limit start old stood.0 c.loop.place.begun.items [] c.loop.place.lines (progress run.rules run.recorder run.text.items) (g.Out.Write.contents c.loop.writer) known stood.2 c.in_err-hand_over_all.ensures.fault))
 
 pub returns-in_default-read_on-clause-ok : goal.returns-in_default-read_on-clause-ok
 returns-in_default-read_on-clause-ok g c =
     let begun = c.args.self.now in
     let run = c.loop.self in
-    let start = progress begun.recorder begun.text.items in
+    let start = progress begun.rules begun.recorder begun.text.items in
     let old = g.Out.Write.contents c.args.writer.now in
     let known = g.Out.Write.contents c.hand_over_all.new.writer in
     let left = c.hand_over_all.new.text.items in
     let stood = c.loop.invariant.stands in
-    let handed = Stands-handed g.R.Rules.table begun.recorder.limit start old stood.0 c.loop.place.begun.items [] c.loop.place.lines (progress run.recorder run.text.items) (progress run.recorder left) (g.Out.Write.contents c.loop.writer) known stood.2 refl refl c.in_ok-hand_over_all.ensures.ok in
+    let handed = Stands-handed g.R.Rules.table begun.recorder.limit start old stood.0 c.loop.place.begun.items [] c.loop.place.lines (progress run.rules run.recorder run.text.items) (progress run.rules run.recorder left) (g.Out.Write.contents c.loop.writer) known stood.2 refl refl refl c.in_ok-hand_over_all.ensures.ok in
     known_read (g.In.Read.remaining c.args.reader.now) (g.In.Read.remaining c.loop.reader) stood.0
     (λ script. Halts g.R.Rules.table begun.recorder.limit (lines_of script) start Unread (λ text. Hands old known text left)) stood.1
-    (Stands-unread g.R.Rules.table begun.recorder.limit start old stood.0 c.loop.place.begun.items [] c.loop.place.lines (progress run.recorder left) known handed)
+    (Stands-unread g.R.Rules.table begun.recorder.limit start old stood.0 c.loop.place.begun.items [] c.loop.place.lines (progress run.rules run.recorder left) known handed)
 
 pub returns-then-len-eq0-clause-ok : goal.returns-then-len-eq0-clause-ok
 returns-then-len-eq0-clause-ok g c =
@@ -69,17 +69,17 @@ returns-then-len-eq0-clause-ok g c =
     let place = c.loop.place in
     let after = c.carry_out_last.new.self in
     let end = c.carry_out_last.result in
-    let start = progress begun.recorder begun.text.items in
+    let start = progress begun.rules begun.recorder begun.text.items in
     let old = g.Out.Write.contents c.args.writer.now in
     let known = g.Out.Write.contents c.hand_over_all.new.writer in
     let held = c.hand_over_all.new.text.items in
     let left = g.In.Read.remaining in
     let stood = c.loop.invariant.stands in
-    let handed = Stands-handed g.R.Rules.table begun.recorder.limit start old stood.0 place.begun.items [] place.lines (progress run.recorder run.text.items) (progress run.recorder held) (g.Out.Write.contents c.loop.writer) known stood.2 refl refl c.in_ok-hand_over_all.ensures.ok in
+    let handed = Stands-handed g.R.Rules.table begun.recorder.limit start old stood.0 place.begun.items [] place.lines (progress run.rules run.recorder run.text.items) (progress run.rules run.recorder held) (g.Out.Write.contents c.loop.writer) known stood.2 refl refl refl c.in_ok-hand_over_all.ensures.ok in
     let none : Consumes (left c.loop.reader) (left c.read_on.new.reader) [] = subst (λ (n : ℕ). Consumes (left c.loop.reader) (left c.read_on.new.reader) (take n c.read_on.new.chunk)) c.if-len-eq0.true c.in-Ok-read_on.ensures.bytes in
     let used : Consumes (left c.args.reader.now) (left c.read_on.new.reader) stood.0 = subst (Consumes (left c.args.reader.now) (left c.read_on.new.reader)) (append-nil stood.0) (Consumes-trans (left c.args.reader.now) (left c.loop.reader) (left c.read_on.new.reader) stood.0 [] stood.1 none) in
     Consumes-whole (left c.args.reader.now) (left c.read_on.new.reader) stood.0 (λ script. Halts g.R.Rules.table begun.recorder.limit (lines_of script) start end (λ text. Hands old known text after.text.items)) used (c.in-Ok-read_on.ensures.end c.if-len-eq0.true)
-    (last_at g.R.Rules.table begun.recorder.limit start old run.recorder.limit stood.0 place.begun.items place.lines (progress run.recorder held) known after.text.items end c.loop.invariant.limit c.carry_out_last.ensures.last handed)
+    (last_at g.R.Rules.table begun.recorder.limit start old run.recorder.limit stood.0 place.begun.items place.lines (progress run.rules run.recorder held) known after.text.items end c.loop.invariant.limit c.carry_out_last.ensures.last handed)
 
 pub returns-in_err-end-clause-fault : goal.returns-in_err-end-clause-fault
 returns-in_err-end-clause-fault g c =
@@ -88,7 +88,7 @@ returns-in_err-end-clause-fault g c =
     let place = c.loop.place in
     let after = c.carry_out_piece.new.self in
     let later = c.carry_out_piece.new.place in
-    let start = progress begun.recorder begun.text.items in
+    let start = progress begun.rules begun.recorder begun.text.items in
     let old = g.Out.Write.contents c.args.writer.now in
     let known' = g.Out.Write.contents c.carry_out_piece.new.writer in
     let left = g.In.Read.remaining in
@@ -96,12 +96,12 @@ returns-in_err-end-clause-fault g c =
     let piece = take c.in-Ok-read_on.len c.deref-in-loop.result.now in
     let same : c.read_on.new.chunk ≡ c.deref-in-loop.result.now = sym (refilled c.loop.chunk.len c.read_on.new.chunk c.loop.chunk.items (c.read_on.ensures.room ∙ c.deref_mut.ensures.len)) ∙ sym c.deref-in-loop.ensures.value in
     let done = piece_read g.R.Rules.table begun.recorder.limit start old run.recorder.limit (left c.args.reader.now) (left c.loop.reader) (left c.read_on.new.reader) stood.0 c.read_on.new.chunk c.deref-in-loop.result.now c.in-Ok-read_on.len place.begun.items later.begun.items place.lines later.lines
-    (progress run.recorder run.text.items) (progress run.recorder c.hand_over_all.new.text.items) (progress after.recorder after.text.items) (g.Out.Write.contents c.loop.writer) (g.Out.Write.contents c.hand_over_all.new.writer) known' c.carry_out_piece.result
-    stood.1 stood.2 refl refl c.in_ok-hand_over_all.ensures.ok same c.in-Ok-read_on.ensures.bytes c.loop.invariant.limit c.carry_out_piece.ensures.piece in
+    (progress run.rules run.recorder run.text.items) (progress run.rules run.recorder c.hand_over_all.new.text.items) (progress after.rules after.recorder after.text.items) (g.Out.Write.contents c.loop.writer) (g.Out.Write.contents c.hand_over_all.new.writer) known' c.carry_out_piece.result
+    stood.1 stood.2 refl refl refl c.in_ok-hand_over_all.ensures.ok same c.in-Ok-read_on.ensures.bytes c.loop.invariant.limit c.carry_out_piece.ensures.piece in
     OnErr-holds c.from_residual-in_err-end.result
     (known_read (left c.args.reader.now) (left c.read_on.new.reader) (stood.0 ++ piece)
     (λ script. (end : Progress) × LeadsTo g.R.Rules.table begun.recorder.limit (lines_of script) start end × AppendsBeginning old known' end.text) done.0
-    (piece_fails g.R.Rules.table begun.recorder.limit start old (stood.0 ++ piece) later.begun.items later.lines (progress after.recorder after.text.items) known' c.carry_out_piece.result c.in_err-end.field-0.0 done.1 c.in_err-end.was))
+    (piece_fails g.R.Rules.table begun.recorder.limit start old (stood.0 ++ piece) later.begun.items later.lines (progress after.rules after.recorder after.text.items) known' c.carry_out_piece.result c.in_err-end.field-0.0 done.1 c.in_err-end.was))
 
 pub returns-in-Some-clause-ok : goal.returns-in-Some-clause-ok
 returns-in-Some-clause-ok g c =
@@ -110,7 +110,7 @@ returns-in-Some-clause-ok g c =
     let place = c.loop.place in
     let after = c.carry_out_piece.new.self in
     let later = c.carry_out_piece.new.place in
-    let start = progress begun.recorder begun.text.items in
+    let start = progress begun.rules begun.recorder begun.text.items in
     let old = g.Out.Write.contents c.args.writer.now in
     let known' = g.Out.Write.contents c.carry_out_piece.new.writer in
     let left = g.In.Read.remaining in
@@ -118,11 +118,11 @@ returns-in-Some-clause-ok g c =
     let piece = take c.in-Ok-read_on.len c.deref-in-loop.result.now in
     let same : c.read_on.new.chunk ≡ c.deref-in-loop.result.now = sym (refilled c.loop.chunk.len c.read_on.new.chunk c.loop.chunk.items (c.read_on.ensures.room ∙ c.deref_mut.ensures.len)) ∙ sym c.deref-in-loop.ensures.value in
     let done = piece_read g.R.Rules.table begun.recorder.limit start old run.recorder.limit (left c.args.reader.now) (left c.loop.reader) (left c.read_on.new.reader) stood.0 c.read_on.new.chunk c.deref-in-loop.result.now c.in-Ok-read_on.len place.begun.items later.begun.items place.lines later.lines
-    (progress run.recorder run.text.items) (progress run.recorder c.hand_over_all.new.text.items) (progress after.recorder after.text.items) (g.Out.Write.contents c.loop.writer) (g.Out.Write.contents c.hand_over_all.new.writer) known' c.carry_out_piece.result
-    stood.1 stood.2 refl refl c.in_ok-hand_over_all.ensures.ok same c.in-Ok-read_on.ensures.bytes c.loop.invariant.limit c.carry_out_piece.ensures.piece in
+    (progress run.rules run.recorder run.text.items) (progress run.rules run.recorder c.hand_over_all.new.text.items) (progress after.rules after.recorder after.text.items) (g.Out.Write.contents c.loop.writer) (g.Out.Write.contents c.hand_over_all.new.writer) known' c.carry_out_piece.result
+    stood.1 stood.2 refl refl refl c.in_ok-hand_over_all.ensures.ok same c.in-Ok-read_on.ensures.bytes c.loop.invariant.limit c.carry_out_piece.ensures.piece in
     known_read (left c.args.reader.now) (left c.read_on.new.reader) (stood.0 ++ piece)
     (λ script. Halts g.R.Rules.table begun.recorder.limit (lines_of script) start c.in-Some.end (λ text. Hands old known' text after.text.items)) done.0
-    (piece_stops g.R.Rules.table begun.recorder.limit start old (stood.0 ++ piece) later.begun.items later.lines (progress after.recorder after.text.items) known' c.carry_out_piece.result c.in-Some.end done.1 (c.in_ok-end.was ∙ ap (λ (o : Option End). Ok o) c.in-Some.is))
+    (piece_stops g.R.Rules.table begun.recorder.limit start old (stood.0 ++ piece) later.begun.items later.lines (progress after.rules after.recorder after.text.items) known' c.carry_out_piece.result c.in-Some.end done.1 (c.in_ok-end.was ∙ ap (λ (o : Option End). Ok o) c.in-Some.is))
 
 pub loop-preserved : goal.loop-preserved
 loop-preserved g c =
@@ -131,7 +131,7 @@ loop-preserved g c =
     let place = c.loop.place in
     let after = c.carry_out_piece.new.self in
     let later = c.carry_out_piece.new.place in
-    let start = progress begun.recorder begun.text.items in
+    let start = progress begun.rules begun.recorder begun.text.items in
     let old = g.Out.Write.contents c.args.writer.now in
     let known' = g.Out.Write.contents c.carry_out_piece.new.writer in
     let left = g.In.Read.remaining in
@@ -139,11 +139,11 @@ loop-preserved g c =
     let piece = take c.in-Ok-read_on.len c.deref-in-loop.result.now in
     let same : c.read_on.new.chunk ≡ c.deref-in-loop.result.now = sym (refilled c.loop.chunk.len c.read_on.new.chunk c.loop.chunk.items (c.read_on.ensures.room ∙ c.deref_mut.ensures.len)) ∙ sym c.deref-in-loop.ensures.value in
     let done = piece_read g.R.Rules.table begun.recorder.limit start old run.recorder.limit (left c.args.reader.now) (left c.loop.reader) (left c.read_on.new.reader) stood.0 c.read_on.new.chunk c.deref-in-loop.result.now c.in-Ok-read_on.len place.begun.items later.begun.items place.lines later.lines
-    (progress run.recorder run.text.items) (progress run.recorder c.hand_over_all.new.text.items) (progress after.recorder after.text.items) (g.Out.Write.contents c.loop.writer) (g.Out.Write.contents c.hand_over_all.new.writer) known' c.carry_out_piece.result
-    stood.1 stood.2 refl refl c.in_ok-hand_over_all.ensures.ok same c.in-Ok-read_on.ensures.bytes c.loop.invariant.limit c.carry_out_piece.ensures.piece in
+    (progress run.rules run.recorder run.text.items) (progress run.rules run.recorder c.hand_over_all.new.text.items) (progress after.rules after.recorder after.text.items) (g.Out.Write.contents c.loop.writer) (g.Out.Write.contents c.hand_over_all.new.writer) known' c.carry_out_piece.result
+    stood.1 stood.2 refl refl refl c.in_ok-hand_over_all.ensures.ok same c.in-Ok-read_on.ensures.bytes c.loop.invariant.limit c.carry_out_piece.ensures.piece in
     record {
       limit = c.carry_out_piece.ensures.limit ∙ c.loop.invariant.limit;
-      stands = (stood.0 ++ piece, done.0, piece_goes_on g.R.Rules.table begun.recorder.limit start old (stood.0 ++ piece) later.begun.items later.lines (progress after.recorder after.text.items) known' c.carry_out_piece.result done.1 (c.in_ok-end.was ∙ ap (λ (o : Option End). Ok o) c.in_default-2.is));
+      stands = (stood.0 ++ piece, done.0, piece_goes_on g.R.Rules.table begun.recorder.limit start old (stood.0 ++ piece) later.begun.items later.lines (progress after.rules after.recorder after.text.items) known' c.carry_out_piece.result done.1 (c.in_ok-end.was ∙ ap (λ (o : Option End). Ok o) c.in_default-2.is));
       room =
           let full : length c.read_on.new.chunk ≡ 65536 = grind arith in
           let bound = c.in_ok-end.ensures.room (subst (λ (o : Option End). IsNone o) (sym c.in_default-2.is) refl) in
@@ -155,10 +155,10 @@ pub returns-clause-ok : goal.returns-clause-ok
 returns-clause-ok g c =
     let begun = c.args.self.now in
     let run = c.loop.self in
-    let start = progress begun.recorder begun.text.items in
+    let start = progress begun.rules begun.recorder begun.text.items in
     let old = g.Out.Write.contents c.args.writer.now in
     let known = g.Out.Write.contents c.loop.writer in
     let stood = c.loop.invariant.stands in
     known_read (g.In.Read.remaining c.args.reader.now) (g.In.Read.remaining c.loop.reader) stood.0
     (λ script. Halts g.R.Rules.table begun.recorder.limit (lines_of script) start Unread (λ text. Hands old known text run.text.items)) stood.1
-    (Stands-unread g.R.Rules.table begun.recorder.limit start old stood.0 c.loop.place.begun.items [] c.loop.place.lines (progress run.recorder run.text.items) known stood.2)
+    (Stands-unread g.R.Rules.table begun.recorder.limit start old stood.0 c.loop.place.begun.items [] c.loop.place.lines (progress run.rules run.recorder run.text.items) known stood.2)

@@ -11,7 +11,7 @@ invariant-loop g l =
     let left = g.In.Read.remaining in record {
       limit : run.recorder.limit ≡ begun.recorder.limit;
       stands : (read : List ℕ) × Consumes (left l.fn.reader) (left l.reader) read
-          × Stands g.R.Rules.table begun.recorder.limit (progress begun.recorder begun.text.items) (g.Out.Write.contents l.fn.writer) read l.place.begun.items [] l.place.lines (progress run.recorder run.text.items) (g.Out.Write.contents l.writer);
+          × Stands g.R.Rules.table begun.recorder.limit (progress begun.rules begun.recorder begun.text.items) (g.Out.Write.contents l.fn.writer) read l.place.begun.items [] l.place.lines (progress run.rules run.recorder run.text.items) (g.Out.Write.contents l.writer);
       room : l.place.lines + length l.place.begun.items ≤ l.counter * 65536;
       chunk : length l.chunk.items ≡ 65536;
     }

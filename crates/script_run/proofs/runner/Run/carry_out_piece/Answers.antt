@@ -10,8 +10,8 @@ returns-in-Ok-Some-clause-piece g c start old read h =
     let place = c.loop-end.place in
     let after = c.carry_out_ended.new.self in
     let line = place.begun.items ++ c.in-Some.end.now in
-    let ends = subst (λ (k : ℕ). LineEnds g.R.Rules.table k (place.lines + 1) line (progress run.recorder run.text.items) (progress after.recorder after.text.items) c.carry_out_ended.result) c.loop-end.invariant.limit c.carry_out_ended.ensures.ends in
-    Stands-stopped g.R.Rules.table limit start old read place.begun.items c.in-Some.end.now c.in-Some.behind.now c.loop-end.rest.now place.lines (progress run.recorder run.text.items) (progress after.recorder after.text.items) (g.Out.Write.contents c.loop-end.writer) c.in-Ok-Some.stop c.carry_out_ended.result
+    let ends = subst (λ (k : ℕ). LineEnds g.R.Rules.table k (place.lines + 1) line (progress run.rules run.recorder run.text.items) (progress after.rules after.recorder after.text.items) c.carry_out_ended.result) c.loop-end.invariant.limit c.carry_out_ended.ensures.ends in
+    Stands-stopped g.R.Rules.table limit start old read place.begun.items c.in-Some.end.now c.in-Some.behind.now c.loop-end.rest.now place.lines (progress run.rules run.recorder run.text.items) (progress after.rules after.recorder after.text.items) (g.Out.Write.contents c.loop-end.writer) c.in-Ok-Some.stop c.carry_out_ended.result
     (c.loop-end.invariant.stands start old read h) c.in-Some.ensures.line.0 c.in-Some.ensures.line.1 ends (cc)
 
 pub returns-in-Err-clause-piece : goal.returns-in-Err-clause-piece
@@ -21,8 +21,8 @@ returns-in-Err-clause-piece g c start old read h =
     let place = c.loop-end.place in
     let after = c.carry_out_ended.new.self in
     let line = place.begun.items ++ c.in-Some.end.now in
-    let kept = subst (LineEnds g.R.Rules.table run.recorder.limit (place.lines + 1) line (progress run.recorder run.text.items) (progress after.recorder after.text.items)) c.in-Err.is c.carry_out_ended.ensures.ends in
-    Stands-memory g.R.Rules.table limit start old read place.begun.items c.loop-end.rest.now place.lines (progress run.recorder run.text.items) (g.Out.Write.contents c.loop-end.writer) after.text.items (c.loop-end.invariant.stands start old read h) kept
+    let kept = subst (LineEnds g.R.Rules.table run.recorder.limit (place.lines + 1) line (progress run.rules run.recorder run.text.items) (progress after.rules after.recorder after.text.items)) c.in-Err.is c.carry_out_ended.ensures.ends in
+    Stands-memory g.R.Rules.table limit start old read place.begun.items c.loop-end.rest.now place.lines (progress run.rules run.recorder run.text.items) (g.Out.Write.contents c.loop-end.writer) after.text.items (c.loop-end.invariant.stands start old read h) kept
 
 pub returns-in_err-hand_over-clause-piece : goal.returns-in_err-hand_over-clause-piece
 returns-in_err-hand_over-clause-piece g c start old read h =
@@ -31,11 +31,11 @@ returns-in_err-hand_over-clause-piece g c start old read h =
     let place = c.loop-end.place in
     let later = c.carry_out_ended.new.place in
     let after = c.carry_out_ended.new.self in
-    let before = progress run.recorder run.text.items in
-    let carried = progress after.recorder after.text.items in
+    let before = progress run.rules run.recorder run.text.items in
+    let carried = progress after.rules after.recorder after.text.items in
     let known = g.Out.Write.contents c.loop-end.writer in
     let stands = Stands-line g.R.Rules.table limit start old run.recorder.limit read place.begun.items c.in-Some.end.now c.in-Some.behind.now c.loop-end.rest.now place.lines before carried known c.carry_out_ended.result (c.loop-end.invariant.stands start old read h) c.in-Some.ensures.line.0 c.in-Some.ensures.line.1 c.loop-end.invariant.limit c.carry_out_ended.ensures.ends (cc) in
-    PieceEnds-failed g.R.Rules.table limit start old read later.begun.items later.lines (progress after.recorder c.hand_over.new.text.items) (g.Out.Write.contents c.hand_over.new.writer) c.from_residual.result c.from_residual.ensures.0
+    PieceEnds-failed g.R.Rules.table limit start old read later.begun.items later.lines (progress after.rules after.recorder c.hand_over.new.text.items) (g.Out.Write.contents c.hand_over.new.writer) c.from_residual.result c.from_residual.ensures.0
     (Stands-failed g.R.Rules.table limit start old read _ c.in-Some.behind.now (place.lines + 1) carried known (g.Out.Write.contents c.hand_over.new.writer) stands c.in_err-hand_over.ensures.fault)
 
 pub loop-end-preserved : goal.loop-end-preserved
@@ -45,8 +45,8 @@ loop-end-preserved g c =
     let place = c.loop-end.place in
     let later = c.carry_out_ended.new.place in
     let after = c.carry_out_ended.new.self in
-    let before = progress run.recorder run.text.items in
-    let carried = progress after.recorder after.text.items in
+    let before = progress run.rules run.recorder run.text.items in
+    let carried = progress after.rules after.recorder after.text.items in
     let known = g.Out.Write.contents c.loop-end.writer in
     let none : later.begun.items ≡ [] = grind arith in
     let lines : later.lines ≡ place.lines + 1 = grind arith in
@@ -54,8 +54,8 @@ loop-end-preserved g c =
       limit = c.carry_out_ended.ensures.limit ∙ c.loop-end.invariant.limit;
       stands = λ start old read h.
           let stands = Stands-line g.R.Rules.table limit start old run.recorder.limit read place.begun.items c.in-Some.end.now c.in-Some.behind.now c.loop-end.rest.now place.lines before carried known c.carry_out_ended.result (c.loop-end.invariant.stands start old read h) c.in-Some.ensures.line.0 c.in-Some.ensures.line.1 c.loop-end.invariant.limit c.carry_out_ended.ensures.ends (cc) in
-          let handed = Stands-handed g.R.Rules.table limit start old read [] c.in-Some.behind.now (place.lines + 1) carried (progress after.recorder c.hand_over.new.text.items) known (g.Out.Write.contents c.hand_over.new.writer) stands refl refl c.in_ok-hand_over.ensures.ok in
-          moved_on g.R.Rules.table limit start old read later.begun.items c.in-Some.behind.now (place.lines + 1) later.lines (progress after.recorder c.hand_over.new.text.items) (g.Out.Write.contents c.hand_over.new.writer) none lines handed;
+          let handed = Stands-handed g.R.Rules.table limit start old read [] c.in-Some.behind.now (place.lines + 1) carried (progress after.rules after.recorder c.hand_over.new.text.items) known (g.Out.Write.contents c.hand_over.new.writer) stands refl refl refl c.in_ok-hand_over.ensures.ok in
+          moved_on g.R.Rules.table limit start old read later.begun.items c.in-Some.behind.now (place.lines + 1) later.lines (progress after.rules after.recorder c.hand_over.new.text.items) (g.Out.Write.contents c.hand_over.new.writer) none lines handed;
       room = omega (arith, c.loop-end.invariant.room, c.in-Some.ensures.shorter, lines, ap length none);
     }
 
@@ -63,12 +63,12 @@ pub returns-then-len-rest-gt-MAX_LINE-clause-piece : goal.returns-then-len-rest-
 returns-then-len-rest-gt-MAX_LINE-clause-piece g c start old read h =
     let run = c.loop-end.self in
     let place = c.loop-end.place in
-    Stands-long g.R.Rules.table c.args.self.now.recorder.limit start old read place.begun.items c.loop-end.rest.now place.lines (progress run.recorder run.text.items) (g.Out.Write.contents c.loop-end.writer)
+    Stands-long g.R.Rules.table c.args.self.now.recorder.limit start old read place.begun.items c.loop-end.rest.now place.lines (progress run.rules run.recorder run.text.items) (g.Out.Write.contents c.loop-end.writer)
     (c.loop-end.invariant.stands start old read h) c.in_default.ensures.line (grind arith)
 
 pub returns-in-Err-extend_from_slice-clause-piece : goal.returns-in-Err-extend_from_slice-clause-piece
 returns-in-Err-extend_from_slice-clause-piece g c start old read h =
     let run = c.loop-end.self in
     let place = c.loop-end.place in
-    Stands-memory g.R.Rules.table c.args.self.now.recorder.limit start old read place.begun.items c.loop-end.rest.now place.lines (progress run.recorder run.text.items) (g.Out.Write.contents c.loop-end.writer) run.text.items
+    Stands-memory g.R.Rules.table c.args.self.now.recorder.limit start old read place.begun.items c.loop-end.rest.now place.lines (progress run.rules run.recorder run.text.items) (g.Out.Write.contents c.loop-end.writer) run.text.items
     (c.loop-end.invariant.stands start old read h) refl

@@ -12,8 +12,8 @@ invariant-loop-end g l =
     let run = l.self in record {
       limit : run.recorder.limit ≡ begun.recorder.limit;
       stands : (start : Progress) (old : Option (List ℕ)) (read : List ℕ)
-          → Stands g.R.Rules.table begun.recorder.limit start old read from.begun.items l.piece from.lines (progress begun.recorder begun.text.items) (known l.fn.writer)
-          → Stands g.R.Rules.table begun.recorder.limit start old read l.place.begun.items l.rest l.place.lines (progress run.recorder run.text.items) (known l.writer);
+          → Stands g.R.Rules.table begun.recorder.limit start old read from.begun.items l.piece from.lines (progress begun.rules begun.recorder begun.text.items) (known l.fn.writer)
+          → Stands g.R.Rules.table begun.recorder.limit start old read l.place.begun.items l.rest l.place.lines (progress run.rules run.recorder run.text.items) (known l.writer);
       room : l.place.lines + length l.place.begun.items + length l.rest ≤ from.lines + length from.begun.items + length l.piece;
     }
 

@@ -24,7 +24,7 @@ returns-in_default-clause-ends g c =
 pub loop-preserved : goal.loop-preserved
 loop-preserved g c =
     let run = c.loop.self in
-    let done = logged g.R.Rules.table run.recorder.limit c.in-Some.event (progress run.recorder run.text.items) (progress c.log.new.self.recorder c.log.new.self.text.items) c.log.result c.in_ok-log.field-0 c.log.ensures.ends c.in_ok-log.was c.if-not-branch.false in
+    let done = logged g.R.Rules.table run.recorder.limit c.in-Some.event (progress run.rules run.recorder run.text.items) (progress c.log.new.self.rules c.log.new.self.recorder c.log.new.self.text.items) c.log.result c.in_ok-log.field-0 c.log.ensures.ends c.in_ok-log.was c.if-not-branch.false in
     let below : run.recorder.len < c.args.self.now.recorder.limit = omega (arith, done.0, c.loop.invariant.limit) in
     let drawn : g.S.EventSource.draws g.R.Rules.table run.recorder.state (g.S.EventSource.stream c.loop.source) ≡ (Some c.in-Some.event, g.S.EventSource.stream c.next_event.new.self) =
     ap (λ (s : State). g.S.EventSource.draws g.R.Rules.table s (g.S.EventSource.stream c.loop.source)) (sym c.net.ensures.state) ∙ sym c.in_ok-event.ensures.event
