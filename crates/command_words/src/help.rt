@@ -48,7 +48,7 @@ Commands of a script, one a line, where A and B are names of nodes:
   matching      the pairs               status        the counts, the charge and what is spent
   drive S K     takes up to K steps, until no node is enabled, of a daemon with the seed S
   scramble S K  changes up to K registers, drawn with the seed S
-  checkpoint    writes the state as a base, a line a node and an edge; a transcript may begin at one
+  checkpoint    writes the state as a base, at which a transcript may begin
 
 Examples:
   console run --rules manne --nodes 4 < script.txt > transcript.txt
