@@ -64,4 +64,4 @@ on_one_log setting scripts clerks fault stop = record { each = λ log begin. go 
     go (script ∷ scripts) [] fault log stop begin = absurd stop
     go (script ∷ scripts) (clerk ∷ clerks) fault log (own, others, is, stops, rest) begin =
         let Begins = λ (c : ClerkView). IsPrefix (noted c.note) log in
-        (own, others, is, stop_lasts setting (noted clerk.note) log (All-head Begins clerk clerks begin) script clerk.receipts own stops, go scripts clerks others log rest (All-tail Begins clerk clerks begin))
+        (own, others, is, stop_lasts setting (noted clerk.note) log (All-head Begins clerk clerks begin) script clerk own stops, go scripts clerks others log rest (All-tail Begins clerk clerks begin))

@@ -6,10 +6,11 @@ use Rattle.rule_machine.specs.Run.{Entry}
 use Rattle.board.proofs.Fronts.{prefix_trans}
 use Rattle.seeded_turns.specs.Drawn.{Draws, seeded_stream, drawn_step, drawn_fault}
 use Rattle.step_log.specs.declared.receipt.Receipt.{Receipt}
+use Rattle.locked_net.specs.Receipts.{ClerkView}
 use Rattle.locked_net.specs.Settings.{Setting}
 use Rattle.locked_net.specs.declared.call_fault.CallFault.{CallFault}
 use Rattle.script_text.specs.declared.command.Command.{Command}
-use Rattle.script_text.specs.declared.command.Command.TheVariants.{Tell, Drive, Scramble}
+use Rattle.script_text.specs.declared.command.Command.TheVariants.{Tell, Drive, Scramble, Checkpoint}
 use Rattle.script_text.specs.declared.script.ScriptLine.{ScriptLine}
 use Rattle.storm_call.specs.Turns.{Scene, IsTurn, AreTurns, DrawnFrom}
 use Rattle.storm_call.specs.Storm.{IsOfStep, IsOfFault, IsFor, IsPartOf, Stands, StandsInPart, MayStop}
@@ -42,18 +43,20 @@ module _ (setting : Setting) (some all : List Entry) (p : IsPrefix some all) whe
   for_lasts (Tell event) own is = is
   for_lasts (Drive turns) own (few, drawn, quiet) = (few, drawn_lasts drawn_step (seeded_stream turns.seed) IsOfStep own drawn, quiet)
   for_lasts (Scramble turns) own (few, drawn, empty) = (few, drawn_lasts drawn_fault (seeded_stream turns.seed) IsOfFault own drawn, empty)
+  for_lasts Checkpoint own none = none
 
   part_lasts : (command : Command) (own : List Receipt) → IsPartOf short command own → IsPartOf long command own
   part_lasts (Tell event) own is = is
   part_lasts (Drive turns) own (few, drawn) = (few, drawn_lasts drawn_step (seeded_stream turns.seed) IsOfStep own drawn)
   part_lasts (Scramble turns) own (few, drawn) = (few, drawn_lasts drawn_fault (seeded_stream turns.seed) IsOfFault own drawn)
+  part_lasts Checkpoint own none = none
 
   pub stands_last : (lines : List ScriptLine) (receipts : List Receipt) → Stands short lines receipts → Stands long lines receipts
   stands_last [] receipts none = none
   stands_last (line ∷ lines) receipts (own, rest, is, for, others) = (own, rest, is, for_lasts line.command own for, stands_last lines rest others)
 
-  in_part_lasts : (lines : List ScriptLine) (receipts : List Receipt) → StandsInPart short lines receipts → StandsInPart long lines receipts
-  in_part_lasts lines receipts part = record {
+  in_part_lasts : (lines : List ScriptLine) (clerk : ClerkView) → StandsInPart short lines clerk → StandsInPart long lines clerk
+  in_part_lasts lines clerk part = record {
     before = part.before;
     line = part.line;
     behind = part.behind;
@@ -63,8 +66,9 @@ module _ (setting : Setting) (some all : List Entry) (p : IsPrefix some all) whe
     told = part.told;
     whole = stands_last part.before part.done part.whole;
     broken = part_lasts part.line.command part.part part.broken;
+    based = part.based;
   }
 
-  pub stop_lasts : (lines : List ScriptLine) (receipts : List Receipt) (fault : Option CallFault) → MayStop short lines receipts fault → MayStop long lines receipts fault
-  stop_lasts lines receipts None stands = stands_last lines receipts stands
-  stop_lasts lines receipts (Some fault) part = in_part_lasts lines receipts part
+  pub stop_lasts : (lines : List ScriptLine) (clerk : ClerkView) (fault : Option CallFault) → MayStop short lines clerk fault → MayStop long lines clerk fault
+  stop_lasts lines clerk None (stands, based) = (stands_last lines clerk.receipts stands, based)
+  stop_lasts lines clerk (Some fault) part = in_part_lasts lines clerk part

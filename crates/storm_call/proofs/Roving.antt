@@ -63,11 +63,21 @@ all_took setting turns old new (Ok done) few same fresh took =
 no_receipts : (clerks : List ClerkView) → All (λ clerk. clerk ≡ fresh) clerks → All (λ clerk. clerk.receipts ≡ []) clerks
 no_receipts clerks all = All-weaker (λ clerk. clerk ≡ fresh) (λ clerk. clerk.receipts ≡ []) (λ clerk is. ap (λ (c : ClerkView). c.receipts) is) clerks all
 
-pub roamed_afresh : (setting : Setting) (turns : ℕ) (old new : List ClerkView) (ended : Result Unit RoamFault) → length old ≤ 64 → All (λ clerk. clerk ≡ fresh) old
-    → Roamed turns old new → OnOk ended (AllTakeTurns setting turns (take 64 old) (take 64 new)) → (IsErrOf ended ZeroWorkers ↔ (old ≡ [])) → IfErr ended (λ fault. MayStop new fault) → RoamedAfresh setting turns old new ended
-roamed_afresh setting turns old new ended few new_clerks roamed took none may_stop =
+-- and no base, since they keep it
+all_unbased : (book : Book) (old new : List ClerkView) → All (λ clerk. clerk ≡ fresh) old → AllKeepNotes book old new → All (λ clerk. clerk.base ≡ None) new
+all_unbased book [] [] none keep = All-nil (λ clerk. clerk.base ≡ None)
+all_unbased book [] (new ∷ news) none keep = absurd keep
+all_unbased book (old ∷ olds) [] none keep = absurd keep
+all_unbased book (old ∷ olds) (new ∷ news) none (own, keep) =
+    let Fresh = λ (clerk : ClerkView). clerk ≡ fresh in
+    All-cons (λ clerk. clerk.base ≡ None) new news (own.base ∙ ap (λ (c : ClerkView). c.base) (All-head Fresh old olds none)) (all_unbased book olds news (All-tail Fresh old olds none) keep)
+
+pub roamed_afresh : (setting : Setting) (book : Book) (turns : ℕ) (old new : List ClerkView) (ended : Result Unit RoamFault) → length old ≤ 64 → All (λ clerk. clerk ≡ fresh) old
+    → Roamed turns old new → OnOk ended (AllTakeTurns setting turns (take 64 old) (take 64 new)) → (IsErrOf ended ZeroWorkers ↔ (old ≡ [])) → IfErr ended (λ fault. MayStop new fault) → AllKeepNotes book old new
+    → RoamedAfresh setting turns old new ended
+roamed_afresh setting book turns old new ended few new_clerks roamed took none may_stop keep =
     let all = all_turns turns old new (all_workers turns old new few roamed) (no_receipts old new_clerks) in
-    record { as_many = all.0; steps = all.1; whole = all_took setting turns old new ended few all.0 (no_receipts old new_clerks) took; nobody = none; thread = no_thread new ended may_stop }
+    record { as_many = all.0; steps = all.1; whole = all_took setting turns old new ended few all.0 (no_receipts old new_clerks) took; unbased = all_unbased book old new new_clerks keep; nobody = none; thread = no_thread new ended may_stop }
 
 -- so their notes are of the network in which they roamed
 one_noted : (book : Book) (old new : ClerkView) → old ≡ fresh → KeepsNote book old new → IsOfBook book new
@@ -121,6 +131,7 @@ told_beside setting scripts roamers turns own before roaming met fault ended pla
     played = played.each log (all_left (λ clerk. IsPrefix (noted clerk.note) log) own roaming begin);
     as_many = roamed.as_many ∙ size;
     roamed = roamed.steps;
+    unbased = roamed.unbased;
     first = first;
     nobody = λ none. nobody_met ended (roamed.nobody.1 (no_clerk before (size ∙ none)));
     whole = whole_turns setting turns before roaming ended roamed;

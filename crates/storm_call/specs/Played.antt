@@ -1,14 +1,16 @@
 -- What the play of one command adds to a clerk's receipts, and what is played by whom.
-use Rattle.std.specs.Prelude.{◌≡◌, ℕ, List, [], ◌∷◌, ◌++◌, Option, None, Result, Ok, Err}
+use Rattle.std.specs.Prelude.{◌≡◌, ℕ, List, [], ◌∷◌, ◌++◌, Option, None, Some, Result, Ok, Err}
 use Rattle.std.specs.List.{All}
 use Rattle.std.specs.Option.{option_or}
 use mathlib.Core.List.{IsPrefix}
 use Rattle.rule_machine.specs.Run.{Entry}
 use Rattle.step_log.specs.declared.receipt.Receipt.{Receipt}
-use Rattle.locked_net.specs.Receipts.{ClerkView, noted}
+use Rattle.locked_net.specs.Choosing.{HoldsAll}
+use Rattle.locked_net.specs.Receipts.{ClerkView, front_of, greater_base, noted}
 use Rattle.locked_net.specs.Settings.{Setting}
 use Rattle.locked_net.specs.declared.call_fault.CallFault.{CallFault}
 use Rattle.script_text.specs.declared.command.Command.{Command}
+use Rattle.script_text.specs.declared.command.Command.TheVariants.{Tell, Drive, Scramble, Checkpoint}
 use Rattle.script_text.specs.declared.script.ScriptLine.{ScriptLine}
 use Rattle.storm_call.specs.Turns.{Scene}
 use Rattle.storm_call.specs.Storm.{IsFor, IsPartOf, MayStop, AllPlayed, AllTold}
@@ -28,11 +30,20 @@ abbrev pub Plays : {A E : Type 0} → Setting → Command → ClerkView → Cler
 Plays setting command old new (Ok done) = Adds (IsFor (scene_of setting new) command) old.receipts new.receipts
 Plays setting command old new (Err fault) = Adds (IsPartOf (scene_of setting new) command) old.receipts new.receipts
 
+-- What the clerk's base is, where a command was carried out: a checkpoint's answer joins it, the length of a log that holds all that the clerk
+-- has seen, and any other command leaves it as it was.
+abbrev pub IsBased : Setting → Command → ClerkView → ClerkView → Type 0
+IsBased setting (Tell event) old new = new.base ≡ old.base
+IsBased setting (Drive turns) old new = new.base ≡ old.base
+IsBased setting (Scramble turns) old new = new.base ≡ old.base
+IsBased setting Checkpoint old new =
+    (number : ℕ) × HoldsAll setting (front_of old.receipts) number × (new.base ≡ greater_base old.base (Some number))
+
 -- each script was played by the clerk at its place, on the log as this one's note tells it
 abbrev pub AllStop : Setting → List (List ScriptLine) → List ClerkView → Option CallFault → Type 0
 AllStop setting [] [] fault = fault ≡ None
 AllStop setting (script ∷ scripts) (clerk ∷ clerks) fault =
-    (own : Option CallFault) × (others : Option CallFault) × (fault ≡ option_or own others) × MayStop (scene_of setting clerk) script clerk.receipts own × AllStop setting scripts clerks others
+    (own : Option CallFault) × (others : Option CallFault) × (fault ≡ option_or own others) × MayStop (scene_of setting clerk) script clerk own × AllStop setting scripts clerks others
 AllStop setting scripts clerks fault = ⊥
 
 -- What each of these clerks was told is of one log, whichever it is, that begins with what their notes tell: each script was played by the clerk at its

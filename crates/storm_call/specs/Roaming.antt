@@ -10,12 +10,13 @@ use Rattle.locked_net.specs.declared.roam_fault.RoamFault.{RoamFault}
 use Rattle.locked_net.specs.declared.roam_fault.RoamFault.TheVariants as roam
 use Rattle.storm_call.specs.Storm.{IsRoaming}
 
--- Clerks who had called nobody have roamed for so many turns, and it ended so: each took them all where it ended well, nobody was
--- there exactly where there are no clerks, and no thread was wanted.
+-- Clerks who had called nobody have roamed for so many turns, and it ended so: each took them all where it ended well, none made a base,
+-- nobody was there exactly where there are no clerks, and no thread was wanted.
 pub record RoamedAfresh (setting : Setting) (turns : ℕ) (old new : List ClerkView) (ended : Result Unit RoamFault) : Type 0 where
   pub as_many : length new ≡ length old
   pub steps : All (λ clerk. IsRoaming turns clerk.receipts) new
   pub whole : OnOk ended (All (λ clerk. TakesTurns setting turns [] clerk.receipts) new)
+  pub unbased : All (λ clerk. clerk.base ≡ None) new
   pub nobody : IsErrOf ended roam.ZeroWorkers ↔ (old ≡ [])
   pub thread : IfErr ended (λ fault. fault ≢ roam.Thread)
 

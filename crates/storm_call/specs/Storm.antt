@@ -4,10 +4,11 @@
 -- lines. Beside them workers may roam, each with a clerk of its own too. A storm is over where the log and the clerks are settled
 -- (so each entry of the log was told to one clerk alone, and what each clerk was told is the log's), and where each clerk was told
 -- what it is there for: that of a script what the script asks for, line after line, the whole of it, or a beginning where the
--- script met a fault; that of a worker steps of one node alone, so many at most.
-use Rattle.std.specs.Prelude.{◌≡◌, ℕ, ◌<◌, ◌≤◌, List, [], ◌∷◌, ◌++◌, IsTrue, length, map, Option, None, Some}
-use Rattle.std.specs.List.{All}
-use Rattle.std.specs.Option.{option_or}
+-- script met a fault; that of a worker steps of one node alone, so many at most. The clerk of a script has made a base exactly where
+-- a checkpoint of the script was carried out, and a worker's never.
+use Rattle.std.specs.Prelude.{◌≡◌, ℕ, ◌<◌, ◌≤◌, List, [], ◌∷◌, ◌++◌, Bool, true, false, IsTrue, length, map, Option, None, Some}
+use Rattle.std.specs.List.{All, list_any}
+use Rattle.std.specs.Option.{is_some, option_or}
 use Rattle.rule_machine.specs.declared.choice.Item.{Item}
 use Rattle.rule_machine.specs.declared.moved.Moved.{Moved}
 use Rattle.rule_machine.specs.declared.event.Event.TheVariants.{Step}
@@ -17,7 +18,7 @@ use Rattle.step_log.specs.declared.receipt.Receipt.{Receipt}
 use Rattle.step_log.specs.Kept.{Kept}
 use Rattle.seeded_turns.specs.Drawn.{seeded_stream, drawn_step, drawn_fault}
 use Rattle.script_text.specs.declared.command.Command.{Command}
-use Rattle.script_text.specs.declared.command.Command.TheVariants.{Tell, Drive, Scramble}
+use Rattle.script_text.specs.declared.command.Command.TheVariants.{Tell, Drive, Scramble, Checkpoint}
 use Rattle.locked_net.specs.Above.{IsPart}
 use Rattle.locked_net.specs.Receipts.{ClerkView}
 use Rattle.locked_net.specs.Settings.{Setting}
@@ -39,23 +40,25 @@ pub record IsOfFault (receipt : Receipt) : Type 0 where
   pub register : IsTrue (is_register_fault receipt.event)
   pub accepted : receipt.reply ≡ Accepted
 
--- What a command is told when it was carried out: one receipt of its event; or the receipts of its turns, by the words of the generator
--- that it seeds. There are fewer turns than it asks for only where a daemon found no node enabled, or an injector no
--- node to break, behind the last of them.
+-- What a command is told when it was carried out: one receipt of its event; none of a checkpoint; or the receipts of its turns, by the
+-- words of the generator that it seeds. There are fewer turns than it asks for only where a daemon found no node enabled, or an
+-- injector no node to break, behind the last of them.
 abbrev pub IsFor : Scene → Command → List Receipt → Type 0
 IsFor scene (Tell event) own = map (λ r. r.event) own ≡ event ∷ []
 IsFor scene (Drive turns) own =
     (length own ≤ turns.count) × DrawnFrom scene drawn_step (seeded_stream turns.seed) IsOfStep own × (length own < turns.count → IsQuietBehind scene.setting own)
 IsFor scene (Scramble turns) own =
     (length own ≤ turns.count) × DrawnFrom scene drawn_fault (seeded_stream turns.seed) IsOfFault own × (length own < turns.count → IsEmptyBehind scene.setting own)
+IsFor scene Checkpoint own = own ≡ []
 
--- what it is told when a fault broke it off: nothing of its event; or fewer turns than it asks for
+-- what it is told when a fault broke it off: nothing of its event, or of its checkpoint; or fewer turns than it asks for
 abbrev pub IsPartOf : Scene → Command → List Receipt → Type 0
 IsPartOf scene (Tell event) own = own ≡ []
 IsPartOf scene (Drive turns) own =
     (length own < turns.count) × DrawnFrom scene drawn_step (seeded_stream turns.seed) IsOfStep own
 IsPartOf scene (Scramble turns) own =
     (length own < turns.count) × DrawnFrom scene drawn_fault (seeded_stream turns.seed) IsOfFault own
+IsPartOf scene Checkpoint own = own ≡ []
 
 -- the receipts are those of these lines, each line's behind those of the line before it
 abbrev pub Stands : Scene → List ScriptLine → List Receipt → Type 0
@@ -63,29 +66,42 @@ Stands scene [] receipts = receipts ≡ []
 Stands scene (line ∷ lines) receipts =
     (own : List Receipt) × (rest : List Receipt) × (receipts ≡ own ++ rest) × IsFor scene line.command own × Stands scene lines rest
 
--- the receipts are those of the lines before one that was broken off, and then of a part of it
-pub record StandsInPart (scene : Scene) (lines : List ScriptLine) (receipts : List Receipt) : Type 0 where
+-- a checkpoint is among the lines
+abbrev pub is_checkpoint : Command → Bool
+is_checkpoint (Tell event) = false
+is_checkpoint (Drive turns) = false
+is_checkpoint (Scramble turns) = false
+is_checkpoint Checkpoint = true
+
+abbrev pub has_checkpoint : List ScriptLine → Bool
+has_checkpoint lines = list_any (λ line. is_checkpoint line.command) lines
+
+-- the receipts are those of the lines before one that was broken off, and then of a part of it; and the clerk has a base exactly where
+-- a checkpoint is among the lines before it
+pub record StandsInPart (scene : Scene) (lines : List ScriptLine) (clerk : ClerkView) : Type 0 where
   pub before : List ScriptLine
   pub line : ScriptLine
   pub behind : List ScriptLine
   pub done : List Receipt
   pub part : List Receipt
   pub splits : lines ≡ before ++ line ∷ behind
-  pub told : receipts ≡ done ++ part
+  pub told : clerk.receipts ≡ done ++ part
   pub whole : Stands scene before done
   pub broken : IsPartOf scene line.command part
+  pub based : is_some clerk.base ≡ has_checkpoint before
 
--- a script was played to its end, or up to a fault
-abbrev pub MayStop : Scene → List ScriptLine → List Receipt → Option CallFault → Type 0
-MayStop scene lines receipts None = Stands scene lines receipts
-MayStop scene lines receipts (Some fault) = StandsInPart scene lines receipts
+-- A script was played to its end, and its clerk has a base exactly where a checkpoint is among its lines; or it was played up to a
+-- fault.
+abbrev pub MayStop : Scene → List ScriptLine → ClerkView → Option CallFault → Type 0
+MayStop scene lines clerk None = Stands scene lines clerk.receipts × (is_some clerk.base ≡ has_checkpoint lines)
+MayStop scene lines clerk (Some fault) = StandsInPart scene lines clerk
 
 -- Each script was played by the clerk at its place; the fault is the first that a script met, in the order of the scripts, and
 -- there is none where all were played to their ends.
 abbrev pub AllPlayed : Scene → List (List ScriptLine) → List ClerkView → Option CallFault → Type 0
 AllPlayed scene [] [] fault = fault ≡ None
 AllPlayed scene (script ∷ scripts) (clerk ∷ clerks) fault =
-    (own : Option CallFault) × (others : Option CallFault) × (fault ≡ option_or own others) × MayStop scene script clerk.receipts own × AllPlayed scene scripts clerks others
+    (own : Option CallFault) × (others : Option CallFault) × (fault ≡ option_or own others) × MayStop scene script clerk own × AllPlayed scene scripts clerks others
 AllPlayed scene scripts clerks fault = ⊥
 
 -- what a worker is told who roams for so many turns: steps of one node alone, one a turn at most
@@ -104,6 +120,7 @@ pub record AllTold (scene : Scene) (scripts : List (List ScriptLine)) (roamers t
   pub played : AllPlayed scene scripts own met
   pub as_many : length roaming ≡ roamers
   pub roamed : All (λ clerk. IsRoaming turns clerk.receipts) roaming
+  pub unbased : All (λ clerk. clerk.base ≡ None) roaming
   pub first : fault ≡ option_or met other
   pub nobody : roamers ≡ 0 → other ≡ None
   pub whole : other ≡ None → All (λ clerk. TakesTurns scene.setting turns [] clerk.receipts) roaming

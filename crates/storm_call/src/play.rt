@@ -1,15 +1,16 @@
 //! How a command is carried out.
 
+ghost use Rattle.std.specs.Prelude.{◌≡◌, OnOk, OnErr};
 ghost use mathlib.Core.List.{IsPrefix};
 ghost use Rattle.rule_machine.specs.declared.event.Event.TheVariants.{Step};
 ghost use Rattle.locked_net.specs.Nets.{book_of, setting_of};
 ghost use Rattle.locked_net.specs.Receipts.{IsOfBook, noted};
-ghost use Rattle.script_text.specs.declared.command.Command.TheVariants.{Tell};
-ghost use Rattle.storm_call.specs.Played.{Plays};
+ghost use Rattle.script_text.specs.declared.command.Command.TheVariants.{Tell, Checkpoint};
+ghost use Rattle.storm_call.specs.Played.{Plays, IsBased};
 
 use crate::stage::Stage;
 use crate::turns::{drive, scramble};
-use locked_net::{CallFault, Clerk, StepFault};
+use locked_net::{CallFault, Clerk, LockedNet, StepFault};
 use rule_machine::{Choice, Event};
 use rule_set::Rules;
 use script_text::Command;
@@ -27,6 +28,7 @@ fn step<R: Rules + Sync, G: Gate, T: Threads + Wait + Sync>(
     requires { IsOfBook (book_of stage.now.net.now) clerk.old }
     ensures plays { Plays (setting_of R.table stage.now.net.now) (Tell (Step choice)) clerk.old clerk.new result }
     ensures note { IsOfBook (book_of stage.now.net.now) clerk.new }
+    ensures base { clerk.new.base ≡ clerk.old.base }
     ensures grows { IsPrefix (noted clerk.old.note) (noted clerk.new.note) }
 {
     let before = clerk.noted();
@@ -49,6 +51,7 @@ fn tell<R: Rules + Sync, G: Gate, T: Threads + Wait + Sync>(
     requires { IsOfBook (book_of stage.now.net.now) clerk.old }
     ensures plays { Plays (setting_of R.table stage.now.net.now) (Tell event.now) clerk.old clerk.new result }
     ensures note { IsOfBook (book_of stage.now.net.now) clerk.new }
+    ensures base { clerk.new.base ≡ clerk.old.base }
     ensures grows { IsPrefix (noted clerk.old.note) (noted clerk.new.note) }
 {
     match event.clone()? {
@@ -62,6 +65,23 @@ fn tell<R: Rules + Sync, G: Gate, T: Threads + Wait + Sync>(
     }
 }
 
+/// Makes the state of the network the base of its log, which gives no receipt.
+fn checkpoint<R: Rules, W: Wait>(
+    rt: &W,
+    net: &LockedNet<R>,
+    clerk: &mut Clerk,
+) -> Result<(), CallFault>
+    requires { IsOfBook (book_of net.now) clerk.old }
+    ensures plays { Plays (setting_of R.table net.now) Checkpoint clerk.old clerk.new result }
+    ensures base { OnOk result (IsBased (setting_of R.table net.now) Checkpoint clerk.old clerk.new) }
+    ensures kept { OnErr result (clerk.new.base ≡ clerk.old.base) }
+    ensures note { IsOfBook (book_of net.now) clerk.new }
+    ensures grows { IsPrefix (noted clerk.old.note) (noted clerk.new.note) }
+{
+    clerk.checkpoint(rt, net)?;
+    Ok(())
+}
+
 /// Calls the network for a command: once, or turn by turn up to the first that finds nothing to do.
 pub(crate) fn play<R: Rules + Sync, G: Gate, T: Threads + Wait + Sync>(
     rt: &T,
@@ -72,11 +92,14 @@ pub(crate) fn play<R: Rules + Sync, G: Gate, T: Threads + Wait + Sync>(
     requires { IsOfBook (book_of stage.now.net.now) clerk.old }
     ensures plays { Plays (setting_of R.table stage.now.net.now) command.now clerk.old clerk.new result }
     ensures note { IsOfBook (book_of stage.now.net.now) clerk.new }
+    ensures base { OnOk result (IsBased (setting_of R.table stage.now.net.now) command.now clerk.old clerk.new) }
+    ensures kept { OnErr result (clerk.new.base ≡ clerk.old.base) }
     ensures grows { IsPrefix (noted clerk.old.note) (noted clerk.new.note) }
 {
     match command {
         Command::Tell(event) => tell(rt, stage, clerk, event),
         Command::Drive(turns) => drive(rt, stage.alloc, stage.net, clerk, *turns),
         Command::Scramble(turns) => scramble(rt, stage.net, clerk, *turns),
+        Command::Checkpoint => checkpoint(rt, stage.net, clerk),
     }
 }

@@ -37,7 +37,7 @@ fn play_script<R: Rules + Sync, G: Gate, T: Threads + Wait + Sync>(
     clerk: &mut Clerk,
 ) -> Result<(), CallFault>
     requires { clerk.old ≡ fresh }
-    ensures played { MayStop (scene_of (setting_of R.table stage.now.net.now) clerk.new) script.now clerk.new.receipts (result_err result) }
+    ensures played { MayStop (scene_of (setting_of R.table stage.now.net.now) clerk.new) script.now clerk.new (result_err result) }
     ensures note { IsOfBook (book_of stage.now.net.now) clerk.new }
 {
     for line in script.lines() {

@@ -78,8 +78,9 @@ fn storm_on<
 
 /// Reads a script from each reader, plays them at once on one new network, each by a clerk of its own, with as many workers
 /// roaming beside them as the options say, settles all clerks against the log, and writes its text: a header, and an entry for
-/// each command of a script that was answered and for each node that a worker moved. With no reader the header is
-/// written alone. A `step` line is evaluated by the workers of the options.
+/// each command of a script that was answered and for each node that a worker moved; or, where a script made a checkpoint, the
+/// lines of the last one's base, and the entries behind it. With no reader the header is written alone. A `step` line is evaluated
+/// by the workers of the options.
 ///
 /// `TooManyScripts` above 64; then, script by script, `Read` at the first error of its reader, and `BadLine` at the first line
 /// that is neither empty nor a command: nothing was played or written. Then the first of these that is so: `Unsettled` where

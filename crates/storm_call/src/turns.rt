@@ -1,5 +1,6 @@
 //! How the turns of one line are taken.
 
+ghost use Rattle.std.specs.Prelude.{◌≡◌};
 ghost use mathlib.Core.List.{IsPrefix};
 ghost use Rattle.locked_net.specs.Nets.{book_of, setting_of};
 ghost use Rattle.locked_net.specs.Receipts.{IsOfBook, noted};
@@ -27,6 +28,7 @@ pub(crate) fn drive<R: Rules, W: Wait>(
     requires { IsOfBook (book_of net.now) clerk.old }
     ensures plays { Plays (setting_of R.table net.now) (Drive turns) clerk.old clerk.new result }
     ensures note { IsOfBook (book_of net.now) clerk.new }
+    ensures base { clerk.new.base ≡ clerk.old.base }
     ensures grows { IsPrefix (noted clerk.old.note) (noted clerk.new.note) }
 {
     let mut daemon = Seeded::new(alloc, Pcg32::seed_from_u64(turns.seed));
@@ -50,6 +52,7 @@ pub(crate) fn scramble<R: Rules, W: Wait>(
     requires { IsOfBook (book_of net.now) clerk.old }
     ensures plays { Plays (setting_of R.table net.now) (Scramble turns) clerk.old clerk.new result }
     ensures note { IsOfBook (book_of net.now) clerk.new }
+    ensures base { clerk.new.base ≡ clerk.old.base }
     ensures grows { IsPrefix (noted clerk.old.note) (noted clerk.new.note) }
 {
     let mut injector = Injector::new(Pcg32::seed_from_u64(turns.seed));

@@ -1,3 +1,4 @@
+use Rattle.std.proofs.Common.{◌∙◌}
 use Rattle.locked_net.specs.Nets.{book_of, setting_of}
 use Rattle.locked_net.specs.Receipts.{noted}
 use Rattle.seeded_turns.specs.Drawn.{pcg32_stream, seeded_stream, drawn_fault}
@@ -38,4 +39,5 @@ loop-preserved g c =
       took = one_more setting drawn_fault IsOfFault (seeded_stream c.args.turns.seed) left next c.loop.counter c.args.clerk.now.receipts mid new _ _ grows c.loop.invariant.took gains told.drawn c.is_none.ensures c.if-is_none.false;
       note = of_book (book_of c.args.net.now) new has;
       grows = prefix_trans (noted c.args.clerk.now.note) (noted mid.note) (noted new.note) c.loop.invariant.grows grows;
+      base = c.fault_with.ensures.base ∙ c.loop.invariant.base;
     }

@@ -1,3 +1,4 @@
+use Rattle.std.proofs.Common.{◌≡◌}
 use mathlib.Core.List.{IsPrefix}
 use Rattle.locked_net.specs.Nets.{book_of, setting_of}
 use Rattle.locked_net.specs.Receipts.{IsOfBook, noted}
@@ -12,4 +13,5 @@ invariant-loop g l =
       took : Took (setting_of g.R.Rules.table l.fn.net) drawn_fault IsOfFault (seeded_stream l.fn.turns.seed) l.counter l.fn.clerk.receipts l.clerk (pcg32_stream l.injector);
       note : IsOfBook (book_of l.fn.net) l.clerk;
       grows : IsPrefix (noted l.fn.clerk.note) (noted l.clerk.note);
+      base : l.clerk.base ≡ l.fn.clerk.base;
     }
