@@ -3,7 +3,7 @@ use Rattle.std.proofs.Common.{◌≡◌, ◌≢◌, ◌∙◌, ℕ, List, refl, 
 use Rattle.auditor.specs.declared.damage.Damage.{Damage}
 use Rattle.auditor.specs.declared.damage.Damage.TheVariants as damage
 use Rattle.auditor.specs.declared.fault.AuditFault.{AuditFault}
-use Rattle.auditor.specs.declared.fault.AuditFault.TheVariants.{BadHeader, NotALine, OutOfOrder, NotTheMachines, Read, Memory}
+use Rattle.auditor.specs.declared.fault.AuditFault.TheVariants.{BadHeader, NotALine, OutOfOrder, NotTheMachines, BadBase, Read, Memory}
 use Rattle.auditor.specs.declared.summary.Summary.{Summary}
 use Rattle.auditor.specs.Damage.{IsDamage}
 use Rattle.auditor.specs.Verdict.{IsFault, of_damage}
@@ -23,6 +23,7 @@ refused bytes BadHeader is read memory = record { damage = damage.BadHeader; is 
 refused bytes (NotALine line) is read memory = record { damage = damage.NotALine line; is = refl; damaged = is }
 refused bytes (OutOfOrder line) is read memory = record { damage = damage.OutOfOrder line; is = refl; damaged = is }
 refused bytes (NotTheMachines line) is read memory = record { damage = damage.NotTheMachines line; is = refl; damaged = is }
+refused bytes (BadBase line) is read memory = record { damage = damage.BadBase line; is = refl; damaged = is }
 refused bytes Read is read memory = absurd (read refl)
 refused bytes Memory is read memory = absurd (memory refl)
 

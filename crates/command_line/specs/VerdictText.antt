@@ -2,7 +2,7 @@
 use Rattle.std.specs.Prelude.{ℕ, List, [], ◌∷◌, ◌++◌, codes}
 use Rattle.line_text.specs.Words.{number_text}
 use Rattle.auditor.specs.declared.fault.AuditFault.{AuditFault}
-use Rattle.auditor.specs.declared.fault.AuditFault.TheVariants.{BadHeader, NotALine, OutOfOrder, NotTheMachines, Read, Memory}
+use Rattle.auditor.specs.declared.fault.AuditFault.TheVariants.{BadHeader, NotALine, OutOfOrder, NotTheMachines, BadBase, Read, Memory}
 use Rattle.auditor.specs.declared.summary.Summary.{Summary}
 use Rattle.command_line.specs.declared.verdict.CheckEnd.{CheckEnd}
 use Rattle.command_line.specs.declared.verdict.CheckEnd.TheVariants.{Accepted, Refused}
@@ -21,6 +21,7 @@ fault_text BadHeader = codes "line 1: bad header"
 fault_text (NotALine line) = place_text line (codes ": not a transcript line")
 fault_text (OutOfOrder line) = place_text line (codes ": out of order")
 fault_text (NotTheMachines line) = place_text line (codes ": not the machine's reply")
+fault_text (BadBase line) = place_text line (codes ": bad base")
 fault_text Read = codes "read failed"
 fault_text Memory = codes "out of memory"
 

@@ -9,7 +9,7 @@ use Rattle.auditor.specs.Verdict.{of_damage}
 use Rattle.script_run.specs.declared.fault.RunFault.{RunFault}
 use Rattle.script_run.specs.declared.fault.RunFault.TheVariants as run
 use Rattle.transcript_view.specs.declared.view.View.{View}
-use Rattle.transcript_view.specs.declared.view.View.TheVariants.{Text, Refused, TooFew}
+use Rattle.transcript_view.specs.declared.view.View.TheVariants.{Text, Refused, TooFew, Forgotten}
 use Rattle.command_line.specs.declared.verdict.CheckEnd.TheVariants as verdict
 use Rattle.command_line.specs.FaultText.{fault_line}
 use Rattle.command_line.specs.Status.{status_of}
@@ -23,6 +23,11 @@ Known = Option (List ℕ)
 abbrev pub too_few_line : ℕ → ℕ → List ℕ
 too_few_line asked entries =
     codes "! no entry " ++ (number_text asked ++ codes ": the transcript has ") ++ (number_text entries ++ codes " entries\n")
+
+-- that the transcript begins behind it, with the LF that ends the line
+abbrev pub forgotten_line : ℕ → ℕ → List ℕ
+forgotten_line asked base =
+    codes "! no entry " ++ (number_text asked ++ codes ": the transcript begins behind entry ") ++ (number_text base ++ codes "\n")
 
 -- a fault is told, and nothing is written
 abbrev pub TellsEarly : RunFault → Known → Known → Known → Known → ℕ → Type 0
@@ -38,6 +43,10 @@ ShowsText text good old new before after status =
 abbrev pub TellsTooFew : ℕ → ℕ → Known → Known → Known → Known → ℕ → Type 0
 TellsTooFew asked entries old new before after status = (status ≡ 2) × Keeps old new × AppendsBeginning before after (too_few_line asked entries)
 
+-- it is told that the transcript begins behind the entry, and nothing is written
+abbrev pub TellsForgotten : ℕ → ℕ → Known → Known → Known → Known → ℕ → Type 0
+TellsForgotten asked base old new before after status = (status ≡ 2) × Keeps old new × AppendsBeginning before after (forgotten_line asked base)
+
 -- what is done with a view: the text is written, or the verdict that an audit gives, which is a text that may want memory
 abbrev pub TellsView : Result View InputFault → Known → Known → Known → Known → ℕ → Type 0
 TellsView (Ok (Text text)) old new before after status = ShowsText text.items 0 old new before after status
@@ -46,6 +55,8 @@ TellsView (Ok (Refused damage)) old new before after status =
     ⊎ TellsEarly run.Memory old new before after status
 TellsView (Ok (TooFew asked entries)) old new before after status =
     TellsTooFew asked entries old new before after status ⊎ TellsEarly run.Memory old new before after status
+TellsView (Ok (Forgotten asked base)) old new before after status =
+    TellsForgotten asked base old new before after status ⊎ TellsEarly run.Memory old new before after status
 TellsView (Err input.Read) old new before after status = TellsEarly run.Read old new before after status
 TellsView (Err input.Memory) old new before after status = TellsEarly run.Memory old new before after status
 

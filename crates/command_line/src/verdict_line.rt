@@ -44,6 +44,7 @@ fn put_fault(line: &mut Vec<u8>, fault: AuditFault) -> Result<(), AllocError>
         AuditFault::NotTheMachines { line: at } => {
             put_place(line, at, b": not the machine's reply")
         }
+        AuditFault::BadBase { line: at } => put_place(line, at, b": bad base"),
         AuditFault::Read => line.extend_from_slice(b"read failed"),
         AuditFault::Memory => line.extend_from_slice(b"out of memory"),
     }

@@ -7,7 +7,7 @@ ghost use Rattle.transcript_view.specs.Views.{IsPicture, IsTable};
 ghost use Rattle.command_line.specs.FaultText.{fault_line};
 ghost use Rattle.command_line.specs.Status.{IsStatus};
 ghost use Rattle.command_line.specs.VerdictText as text;
-ghost use Rattle.command_line.specs.Viewed.{ShowsText, TellsEarly, TellsView, Views, too_few_line};
+ghost use Rattle.command_line.specs.Viewed.{ShowsText, TellsEarly, TellsView, Views, forgotten_line, too_few_line};
 
 use crate::program::tell;
 use crate::verdict::CheckEnd;
@@ -27,6 +27,21 @@ fn too_few_line(alloc: Global, asked: u32, entries: u32) -> Result<Vec<u8>, Allo
     line.extend_from_slice(b"! no entry ")?;
     put_number(&mut line, u64::from(asked), b": the transcript has ")?;
     put_number(&mut line, u64::from(entries), b" entries\n")?;
+    Ok(line)
+}
+
+// The line that tells that the transcript begins behind the entry, with its LF.
+fn forgotten_line(alloc: Global, asked: u32, base: u32) -> Result<Vec<u8>, AllocError>
+    ensures { IfOk result (λ line. line.items ≡ forgotten_line asked base) }
+{
+    let mut line = Vec::new(alloc);
+    line.extend_from_slice(b"! no entry ")?;
+    put_number(
+        &mut line,
+        u64::from(asked),
+        b": the transcript begins behind entry ",
+    )?;
+    put_number(&mut line, u64::from(base), b"\n")?;
     Ok(line)
 }
 
@@ -79,6 +94,21 @@ fn tell_too_few<Faults: Write>(alloc: Global, asked: u32, entries: u32, faults: 
     }
 }
 
+// Tells that the transcript begins behind the entry, and gives the exit status.
+fn tell_forgotten<Faults: Write>(alloc: Global, asked: u32, base: u32, faults: &mut Faults) -> u8
+    ensures told { ((result ≡ 2) × AppendsBeginning (Faults.contents faults.old) (Faults.contents faults.new) (forgotten_line asked base))
+        ⊎ ((result ≡ 4) × AppendsBeginning (Faults.contents faults.old) (Faults.contents faults.new) (fault_line RunFault.Memory)) }
+    ensures status { IsStatus result }
+{
+    match forgotten_line(alloc, asked, base) {
+        Ok(line) => {
+            let _ = finish(faults, &line);
+            2
+        }
+        Err(_) => tell(RunFault::Memory, faults),
+    }
+}
+
 // Writes what is shown, or tells why nothing is, and gives the exit status.
 fn tell_view<Out: Write, Faults: Write>(
     alloc: Global,
@@ -93,6 +123,7 @@ fn tell_view<Out: Write, Faults: Write>(
         Ok(View::Text(text)) => show_text(&text, 0, writer, faults),
         Ok(View::Refused(damage)) => show_refusal(alloc, damage, writer, faults),
         Ok(View::TooFew { asked, entries }) => tell_too_few(alloc, asked, entries, faults),
+        Ok(View::Forgotten { asked, base }) => tell_forgotten(alloc, asked, base, faults),
         Err(InputFault::Read) => tell(RunFault::Read, faults),
         Err(InputFault::Memory) => tell(RunFault::Memory, faults),
     }
@@ -131,8 +162,8 @@ fn view_epochs_of(alloc: Global, read: Result<Vec<u8>, InputFault>) -> Result<Vi
 }
 
 /// Writes the picture of the state after an entry of the transcript, or after its last one, and gives the exit status: 0
-/// where it was written, 1 where a line up to that entry is refused, in an audit's words; 2 where there is no such entry, 3
-/// where a read or a write failed, 4 for want of memory.
+/// where it was written, 1 where a line up to that entry is refused, in an audit's words; 2 where there is no such entry, or
+/// the transcript begins behind it; 3 where a read or a write failed, 4 for want of memory.
 pub fn draw<In: Read, Out: Write, Faults: Write>(
     alloc: Global,
     entry: Option<u32>,

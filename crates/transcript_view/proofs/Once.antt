@@ -1,5 +1,5 @@
 -- A text is shown in one way.
-use Rattle.std.proofs.Common.{◌≡◌, ◌∙◌, ℕ, List, Option, map, sym, ap₂}
+use Rattle.std.proofs.Common.{◌≡◌, ◌∙◌, ℕ, List, Option, sym, ap₂}
 use Rattle.rule_machine.specs.declared.rules.RuleSet.{RuleSet}
 use Rattle.rule_machine.specs.State.{State}
 use Rattle.rule_machine.specs.Run.{Epoch}
@@ -7,11 +7,11 @@ use Rattle.transcript_view.specs.Picture.{picture_of}
 use Rattle.transcript_view.specs.Table.{epoch_table}
 use Rattle.transcript_view.specs.Views.{IsPicture, IsPictureOf, IsTable, IsTableOf, SameView}
 use Rattle.transcript_view.specs.declared.view.View.{View}
-use Rattle.transcript_view.specs.declared.view.View.TheVariants.{Text, Refused, TooFew}
+use Rattle.transcript_view.specs.declared.view.View.TheVariants.{Text, Refused, TooFew, Forgotten}
 use Rattle.auditor.specs.declared.damage.Damage.{Damage}
 use Rattle.auditor.specs.Damage.{IsDamage}
 use Rattle.auditor.proofs.Ending.{damage_once, no_damage}
-use Rattle.auditor.proofs.Apart.{good_no_damage, good_not_few, few_once, few_no_damage}
+use Rattle.auditor.proofs.Apart.{good_no_damage, good_not_few, good_not_forgotten, few_once, few_no_damage, few_not_forgotten, forgotten_once, forgotten_no_damage}
 use Rattle.auditor.proofs.Level.{state_once, epochs_once}
 
 text_once : (bytes : List ℕ) (last : Option ℕ) (text also : List ℕ) → IsPictureOf bytes last text → IsPictureOf bytes last also → text ≡ also
@@ -27,18 +27,25 @@ rows_once bytes text also x y =
 no_table : (bytes text : List ℕ) (d : Damage) → IsTableOf bytes text → IsDamage bytes d → ⊥
 no_table bytes text d x damage =
     let run = x.are.run in
-    no_damage bytes x.rules x.are.size x.are.count (map (λ step. step.0) x.are.path) run.end d run.transcript damage
+    no_damage bytes x.rules x.are.opening run.log run.end d run.transcript damage
 
 pub picture_once : (bytes : List ℕ) (last : Option ℕ) (view also : View) → IsPicture bytes last view → IsPicture bytes last also → SameView view also
 picture_once bytes last (Text a) (Text b) x y = text_once bytes last a.items b.items x y
-picture_once bytes last (Text a) (Refused d) x y = good_no_damage bytes last x.rules x.state d x.reached y.0 y.1
+picture_once bytes last (Text a) (Refused d) x y = good_no_damage bytes last x.rules x.state d x.reached y
 picture_once bytes last (Text a) (TooFew n m) x y = good_not_few bytes last x.rules x.state n m x.reached y
-picture_once bytes last (Refused d) (Text b) x y = good_no_damage bytes last y.rules y.state d y.reached x.0 x.1
-picture_once bytes last (Refused d) (Refused e) x y = damage_once bytes d e x.0 y.0
-picture_once bytes last (Refused d) (TooFew n m) x y = few_no_damage bytes last n m d y x.0
+picture_once bytes last (Text a) (Forgotten n m) x y = good_not_forgotten bytes last x.rules x.state n m x.reached y
+picture_once bytes last (Refused d) (Text b) x y = good_no_damage bytes last y.rules y.state d y.reached x
+picture_once bytes last (Refused d) (Refused e) x y = damage_once bytes d e x.is y.is
+picture_once bytes last (Refused d) (TooFew n m) x y = few_no_damage bytes last n m d y x.is
+picture_once bytes last (Refused d) (Forgotten n m) x y = forgotten_no_damage bytes last n m d y x
 picture_once bytes last (TooFew n m) (Text b) x y = good_not_few bytes last y.rules y.state n m y.reached x
-picture_once bytes last (TooFew n m) (Refused e) x y = few_no_damage bytes last n m e x y.0
+picture_once bytes last (TooFew n m) (Refused e) x y = few_no_damage bytes last n m e x y.is
 picture_once bytes last (TooFew n m) (TooFew k l) x y = few_once bytes last n k m l x y
+picture_once bytes last (TooFew n m) (Forgotten k l) x y = few_not_forgotten bytes last n m k l x y
+picture_once bytes last (Forgotten n m) (Text b) x y = good_not_forgotten bytes last y.rules y.state n m y.reached x
+picture_once bytes last (Forgotten n m) (Refused e) x y = forgotten_no_damage bytes last n m e x y
+picture_once bytes last (Forgotten n m) (TooFew k l) x y = few_not_forgotten bytes last k l n m y x
+picture_once bytes last (Forgotten n m) (Forgotten k l) x y = forgotten_once bytes last n k m l x y
 
 pub table_once : (bytes : List ℕ) (view also : View) → IsTable bytes view → IsTable bytes also → SameView view also
 table_once bytes (Text a) (Text b) x y = rows_once bytes a.items b.items x y
@@ -48,3 +55,6 @@ table_once bytes (Refused d) (Refused e) x y = damage_once bytes d e x y
 table_once bytes (TooFew n m) also x y = absurd x
 table_once bytes (Text a) (TooFew n m) x y = absurd y
 table_once bytes (Refused d) (TooFew n m) x y = absurd y
+table_once bytes (Forgotten n m) also x y = absurd x
+table_once bytes (Text a) (Forgotten n m) x y = absurd y
+table_once bytes (Refused d) (Forgotten n m) x y = absurd y

@@ -5,10 +5,10 @@ use Rattle.rule_machine.specs.State.{State}
 use Rattle.rule_machine.specs.Run.{Epoch}
 use Rattle.auditor.specs.Damage.{IsDamage}
 use Rattle.auditor.specs.Epochs.{AreEpochs, IsWithinItsBound}
-use Rattle.auditor.specs.Reached.{HasTooFew, IsLookedAt, IsStateAfter, line_of}
+use Rattle.auditor.specs.Reached.{HasForgotten, HasTooFew, IsMetDamage, IsStateAfter}
 use Rattle.transcript_view.specs.Picture.{picture_of}
 use Rattle.transcript_view.specs.declared.view.View.{View}
-use Rattle.transcript_view.specs.declared.view.View.TheVariants.{Text, Refused, TooFew}
+use Rattle.transcript_view.specs.declared.view.View.TheVariants.{Text, Refused, TooFew, Forgotten}
 use Rattle.transcript_view.specs.Table.{epoch_table}
 
 -- the text is the picture of the state that the run has reached
@@ -26,21 +26,25 @@ pub record IsTableOf (bytes : List ℕ) (text : List ℕ) : Type 0 where
   pub bounded : All (IsWithinItsBound rules) epochs
   pub text_is : text ≡ epoch_table rules epochs
 
--- the state after this entry, or after all, is drawn; or a line up to it has the damage; or there is no such entry
+-- The state after this entry, or after all, is drawn; or a line up to it has the damage; or there is no such entry, since the
+-- transcript ends before it or begins behind it.
 abbrev pub IsPicture : List ℕ → Option ℕ → View → Type 0
 IsPicture bytes last (Text text) = IsPictureOf bytes last text.items
-IsPicture bytes last (Refused damage) = IsDamage bytes damage × IsLookedAt last (line_of damage)
+IsPicture bytes last (Refused damage) = IsMetDamage bytes last damage
 IsPicture bytes last (TooFew asked entries) = HasTooFew bytes last asked entries
+IsPicture bytes last (Forgotten asked base) = HasForgotten bytes last asked base
 
 -- the epochs are listed, or the bytes have the damage
 abbrev pub IsTable : List ℕ → View → Type 0
 IsTable bytes (Text text) = IsTableOf bytes text.items
 IsTable bytes (Refused damage) = IsDamage bytes damage
 IsTable bytes (TooFew asked entries) = ⊥
+IsTable bytes (Forgotten asked base) = ⊥
 
 -- two views are one: the texts are, or the damages, or the numbers
 abbrev pub SameView : View → View → Type 0
 SameView (Text text) (Text also) = text.items ≡ also.items
 SameView (Refused damage) (Refused other) = damage ≡ other
 SameView (TooFew asked entries) (TooFew wanted count) = (asked ≡ wanted) × (entries ≡ count)
+SameView (Forgotten asked base) (Forgotten wanted other) = (asked ≡ wanted) × (base ≡ other)
 SameView view other = ⊥

@@ -18,9 +18,12 @@ pub enum View {
     Refused(Damage),
     /// The transcript has fewer entries than were asked for.
     TooFew { asked: u32, entries: u32 },
+    /// The transcript begins with a base behind the entry that was asked for.
+    Forgotten { asked: u32, base: u32 },
 }
 
-/// The picture of the state after the entry with the number `last`, 0 for the opening state, or after all entries. The line
+/// The picture of the state after the entry with the number `last`, 0 for the opening state and the number of the base that the
+/// transcript begins with for that of the base, or after all entries. The line
 /// of that entry is the last one that is looked at. Fails for want of memory alone. Costs the audit of these lines, and a
 /// look at each node and its neighbours.
 pub fn view_picture(alloc: Global, bytes: &[u8], last: Option<u32>) -> Result<View, Want>
@@ -34,6 +37,7 @@ pub fn view_picture(alloc: Global, bytes: &[u8], last: Option<u32>) -> Result<Vi
         Err(ReplayFault::Judged(JudgeFault::Damaged(damage))) => Ok(View::Refused(damage)),
         Err(ReplayFault::Judged(JudgeFault::Memory)) => Err(AllocError),
         Err(ReplayFault::TooFew { asked, entries }) => Ok(View::TooFew { asked, entries }),
+        Err(ReplayFault::Forgotten { asked, base }) => Ok(View::Forgotten { asked, base }),
     }
 }
 
