@@ -9,7 +9,8 @@
 Each call writes a line to `console run` and waits for its entry; inside `with net.batch() as batch:` those of `batch` do not
 wait. A command that the network refuses raises `Refused`, and where the program ends, `Ended` has its status and last line.
 `drive` and `scramble` write an entry a turn, and how many is not known beforehand. So the client asks for the `status`
-behind them, and that entry ends them: it stands in the transcript like any other, and in the reply.
+behind them, and that entry ends them: it stands in the transcript like any other, and in the reply. `checkpoint` writes
+the lines of a base, which are no entry.
 
 The program is the argument `program`, else the environment's RUDEKPI_CONSOLE, else the `console` of the repository in which
 this module lies. A network is for one thread. A transcript is kept in memory as long as its network.
@@ -18,6 +19,7 @@ this module lies. A network is for one thread. A transcript is kept in memory as
 from __future__ import annotations
 
 import functools
+import itertools
 import os
 import re
 import select
@@ -30,9 +32,9 @@ from types import MappingProxyType
 from typing import Any, Callable, Generic, Iterable, Iterator, Mapping, NoReturn, Optional, TypeVar, Union
 
 __all__ = [
-    "Accepted", "Batch", "Damaged", "Enabled", "Ended", "Epoch", "Fault", "Garbled", "Matching", "Move", "Moves", "Network",
-    "PastBound", "Pending", "Refused", "RudekpiError", "Settled", "Shown", "Status", "Summary", "Turns", "Wish", "WrongChoice",
-    "audit", "epochs", "replay",
+    "Accepted", "Base", "Batch", "Damaged", "Enabled", "Ended", "Epoch", "Fault", "Garbled", "Matching", "Move", "Moves",
+    "Network", "PastBound", "Pending", "Refused", "Registers", "RudekpiError", "Settled", "Shown", "Status", "Summary", "Turns",
+    "Wish", "WrongChoice", "audit", "epochs", "replay",
 ]
 
 # A node's name: a number from 1 in a network of so many nodes, else what the caller named it; anything hashable but None.
@@ -46,6 +48,11 @@ UNSENT, READ = 1 << 16, 1 << 20
 MOVE = re.compile(r"([0-9]+):(?:(update|abandon)|(marry|seduce)>([0-9]+))")
 FAULT = re.compile(r"(?:point ([0-9]+) ([0-9]+|-)|flag ([0-9]+) ([01]))")
 STATUS = re.compile(r"nodes=([0-9]+) edges=([0-9]+) pairs=([0-9]+) enabled=([0-9]+) charge=([0-9]+) spent=([0-9]+)")
+# the word that is answered by a base, and the lines of one; its numbers are below 2^32
+CHECKPOINT = "checkpoint"
+BASE = re.compile(r"base ([0-9]{1,10}) spent=([0-9]{1,10}) nodes=([0-9]{1,10}) edges=([0-9]{1,10})")
+PLACE = re.compile(r"node ([0-9]+) ([0-9]+|-) ([01])")
+EDGE = re.compile(r"edge ([0-9]+) ([0-9]+)")
 
 
 class RudekpiError(Exception):
@@ -197,6 +204,23 @@ class Turns(_Items[Reply]):
 
 
 @dataclass(frozen=True)
+class Registers:
+    """What a node holds: its pointer, at a neighbour or None, and its flag."""
+    pointer: Optional[Name]
+    flag: bool
+
+
+@dataclass(frozen=True)
+class Base:
+    """Where the network stands behind so many entries: the moves since the last disturbance, the nodes that are present,
+    ascending by their numbers, and the edges. It is no entry: the next entry has the number behind this one."""
+    number: int
+    spent: int
+    nodes: Mapping[Name, Registers] = field(hash=False)
+    edges: tuple[tuple[Name, Name], ...]
+
+
+@dataclass(frozen=True)
 class Settled:
     """How a daemon settled a network: its steps, their moves, and the charge at the beginning, which bounds the moves."""
     steps: int
@@ -214,8 +238,9 @@ class Summary:
 
 @dataclass(frozen=True)
 class Epoch:
-    """The part of a run behind an accepted disturbance: the entry of that (0: the start), its moves, and their bound."""
-    start: int
+    """The part of a run behind an accepted disturbance: the entry of that, its moves, and their bound. The entry is 0 where
+    it is the start, and None where a transcript begins with a base, which does not tell it."""
+    start: Optional[int]
     moves: int
     edges: int
     nodes: int
@@ -327,14 +352,40 @@ class _Talk:
         self.end()
 
 
+class _BaseLines:
+    """The lines of a base, as they come: each is looked at as far as it takes to know where the base ends."""
+
+    __slots__ = ("lines", "nodes", "edges")
+    def __init__(self) -> None:
+        self.lines: list[bytes] = []
+        self.nodes = self.edges = 0
+
+    def take(self, line: bytes, head: bytes, number: int) -> bool:
+        """Whether this may be the next line of a base with this head, behind so many entries."""
+        place = len(self.lines)
+        self.lines.append(line)
+        if place == 0:
+            return line == head
+        if place == 1:
+            found = BASE.fullmatch(_text(line))
+            self.nodes, self.edges = (int(found[3]), int(found[4])) if found else (0, 0)
+            return found is not None and int(found[1]) == number
+        return line.startswith(b"node " if place < 2 + self.nodes else b"edge ")
+
+    def is_whole(self) -> bool:
+        return len(self.lines) > 1 and len(self.lines) == 2 + self.nodes + self.edges
+
+
 class Pending(Generic[Reply]):
     """The answer to a command of a batch, which may still be under way."""
 
-    __slots__ = ("_net", "_event", "_read", "_entry", "_text", "_turns", "_refusals")
+    __slots__ = ("_net", "_event", "_read", "_entry", "_text", "_turns", "_base", "_refusals")
     def __init__(self, net: Network, event: str, read: Reader, refusals: Optional[list[Refused]], has_turns: bool = False):
         self._net, self._event, self._read, self._refusals = net, event.encode(), read, refusals
-        self._entry, self._text = 0, b""
+        # no entry yet; a base's is 0 where it is made in front of all entries
+        self._entry, self._text = -1, b""
         self._turns: Optional[list[bytes]] = [] if has_turns else None
+        self._base: Optional[_BaseLines] = _BaseLines() if event == CHECKPOINT else None
 
     def result(self) -> Reply:
         """The reply, waited for; raises `Refused` where the event was refused."""
@@ -402,6 +453,8 @@ class Batch:
         return self._turns(_moves, "drive", seed, turns)
     def scramble(self, seed: int, faults: int) -> Pending[Turns[Fault]]:
         return self._turns(_fault, "scramble", seed, faults)
+    def checkpoint(self) -> Pending[Base]:
+        return self._ask(_base, CHECKPOINT)
 
 
 class Network:
@@ -421,11 +474,12 @@ class Network:
         self._count = _number(nodes if self._name_of is None else len(self._name_of), MOST_NODES, "a number of nodes")
         self._present = self._count if present is None else _number(present, self._count, "a number of nodes that are present")
         self._waiting: deque[Pending[Any]] = deque()
-        self._entries = -1
+        self._lines, self._entries = 0, -1
         self._wrong: Optional[RudekpiError] = None
         self._is_closed = False
         first = [] if self._present == self._count else [str(self._present)]
         self._header = " ".join(["matching", rules, str(self._count), *first]).encode()
+        self._base_head = f"matching2 {rules} {self._count}".encode()
         words = ["run", "--rules", rules, "--nodes", str(self._count), *(["--present", *first] if first else [])]
         self._talk = _Talk([_console(program), *words], self._take)
         self._single = Batch(self, keeps=False)
@@ -529,6 +583,9 @@ class Network:
     def scramble(self, seed: int, faults: int) -> Turns[Fault]:
         """So many faults of registers, drawn from a seed; and the status then, an entry too."""
         return self._single.scramble(seed, faults).result()
+    def checkpoint(self) -> Base:
+        """Where the network stands, as a base whose lines stand in the transcript then; they are no entry."""
+        return self._single.checkpoint().result()
 
     def settle(self, daemon: Daemon) -> Settled:
         """Lets a daemon choose who moves until nobody is enabled.
@@ -591,7 +648,7 @@ class Network:
         return self.transcript()
 
     def _wait(self, pending: Pending[Any]) -> None:
-        while not pending._entry:
+        while pending._entry < 0:
             self._exchange()
 
     def _exchange(self) -> None:
@@ -607,8 +664,11 @@ class Network:
         """Gives a line of the transcript to the command that it answers."""
         if self._wrong:
             return
-        self._entries += 1
+        self._lines += 1
         pending = self._waiting[0] if self._waiting else None
+        if pending and pending._base:
+            return self._take_of_base(pending, pending._base, line)
+        self._entries += 1
         head = b"%d " % self._entries
         if not self._entries and line == self._header:
             return
@@ -621,9 +681,20 @@ class Network:
         elif pending and pending._turns is not None and line.startswith(head):
             pending._turns.append(line[len(head) :])
         else:
-            wanted = pending._event.decode()[:200] if pending else "nothing"
-            self._wrong = Garbled(f"line {self._entries + 1} is {_text(line[:200])!r}; asked was {wanted!r}")
-            self._talk.kill()
+            self._end_garbled(pending, line)
+
+    def _take_of_base(self, pending: Pending[Any], base: _BaseLines, line: bytes) -> None:
+        """Gives a line of a base to the checkpoint that it answers, whose answer is all of them."""
+        if not base.take(line, self._base_head, self._entries):
+            self._end_garbled(pending, line)
+        elif base.is_whole():
+            self._waiting.popleft()
+            pending._text, pending._entry, pending._base = b"\n".join(base.lines), self._entries, None
+
+    def _end_garbled(self, pending: Optional[Pending[Any]], line: bytes) -> None:
+        wanted = pending._event.decode()[:200] if pending else "nothing"
+        self._wrong = Garbled(f"line {self._lines} is {_text(line[:200])!r}; asked was {wanted!r}")
+        self._talk.kill()
 
     def _refusal(self, pending: Pending[Any]) -> Refused:
         """A refusal, with the caller's own names in the event."""
@@ -743,6 +814,41 @@ def _fault(net: Network, entry: int, event: str, text: str) -> Fault:
     return Fault(entry, net.name_of(int(found[1])), "pointer", None if found[2] == "-" else net.name_of(int(found[2])))
 
 
+def _numbers(found: re.Match[str]) -> tuple[Any, ...]:
+    """The numbers that a pattern found; None where a `-` stands."""
+    return tuple(None if text == "-" else int(text) for text in found.groups())
+
+
+def _numbers_of(pattern: re.Pattern[str], line: str) -> tuple[Any, ...]:
+    """The numbers in a line that has to be of this pattern."""
+    found = pattern.fullmatch(line)
+    if not found:
+        raise ValueError
+    return _numbers(found)
+
+
+def _rises(items: list[Any]) -> bool:
+    return all(one < other for one, other in zip(items, items[1:]))
+
+
+def _numbers_of_base(lines: list[str]) -> tuple[int, list[Any], list[Any]]:
+    """What is spent at a base, the numbers of its nodes with pointers and flags, and of its edges."""
+    _, spent, count, _ = _numbers_of(BASE, lines[1])
+    places = [_numbers_of(PLACE, line) for line in lines[2 : 2 + count]]
+    edges = [_numbers_of(EDGE, line) for line in lines[2 + count :]]
+    if not _rises([node for node, _, _ in places]) or not _rises(edges) or any(a >= b for a, b in edges):
+        raise ValueError
+    return spent, places, edges
+
+
+def _base(net: Network, entry: int, event: str, text: str) -> Base:
+    spent, places, edges = _numbers_of_base(text.split("\n"))
+    nodes = {}
+    for node, pointer, flag in places:
+        nodes[net.name_of(node)] = Registers(None if pointer is None else net.name_of(pointer), flag == 1)
+    return Base(entry, spent, MappingProxyType(nodes), tuple((net.name_of(a), net.name_of(b)) for a, b in edges))
+
+
 def audit(transcript: str, *, program: Program = None) -> Summary:
     """Judges a transcript: what it has where it is that of a run of the rules; else raises `Damaged`, or `Ended`."""
     return Summary(*_judged("audit", transcript, program, r"accepted: ([0-9]+) entries, ([0-9]+) epochs, ([0-9]+) moves\n")[0])
@@ -750,12 +856,12 @@ def audit(transcript: str, *, program: Program = None) -> Summary:
 
 def epochs(transcript: str, *, program: Program = None) -> list[Epoch]:
     """The epochs of a transcript, each with its bound. Raises `Damaged` where `audit` refuses it, or `Ended`."""
-    row = ",".join(["([0-9]+)"] * 5) + "\n"
+    row = ",".join(["([0-9]+|-)", *["([0-9]+)"] * 4]) + "\n"
     return [Epoch(*numbers) for numbers in _judged("epochs", transcript, program, row, "start,moves,edges,nodes,bound\n")]
 
 
-def _judged(word: str, transcript: str, program: Program, line: str, head: str = "") -> list[tuple[int, ...]]:
-    """The numbers in each line that the program says of a transcript, below a head."""
+def _judged(word: str, transcript: str, program: Program, line: str, head: str = "") -> list[tuple[Any, ...]]:
+    """The numbers in each line that the program says of a transcript, below a head; None where a `-` stands."""
     done = subprocess.run([_console(program), word], input=transcript.encode(), stdout=subprocess.PIPE, stderr=subprocess.PIPE)
     said = _text(done.stdout)
     found = re.fullmatch(r"line ([0-9]+): (.*)\n", said)
@@ -765,29 +871,56 @@ def _judged(word: str, transcript: str, program: Program, line: str, head: str =
         raise Ended(done.returncode, done.stderr)
     if not re.fullmatch(f"{head}(?:{line})+", said):
         raise Garbled(f"{said[:200]!r} is no answer to {word}")
-    return [tuple(map(int, found.groups())) for found in re.finditer(line, said)]
+    return [_numbers(found) for found in re.finditer(line, said)]
 
 
 def replay(transcript: str, *, names: Optional[Iterable[Name]] = None, program: Program = None) -> Network:
     """A network that stands where a transcript ends, so that it can go on; raises `Damaged` where `audit` refuses it.
 
     Its own transcript is the one that was given. Where that took other targets than the least, its steps have them as
-    wishes. `names` are the caller's, in the order of the numbers.
+    wishes. Where that begins with a base, at which no run can begin, edits and faults lead there: so the numbers are other
+    ones, and what was spent before is not counted. `names` are the caller's, in the order of the numbers.
     """
     audit(transcript, program=program)
-    head, *lines = transcript.splitlines()
-    _, rules, count, *rest = head.split(" ")
-    present = int((rest or [count])[0])
+    head, *parts = _parts_of(transcript)
+    _, rules, count, *rest = head[0].split(" ")
+    present, edits = _edits_to(head) if len(head) > 1 else (int((rest or [count])[0]), [])
     nodes: Any = int(count) if names is None else _own_names(names)
     if names is not None and len(nodes) != int(count):
         raise ValueError(f"{len(nodes)} names for {count} nodes")
-    entries = [tuple(line.split(" ", 1)[1].split(" = ")) for line in lines]
+    entries = [(CHECKPOINT, "") if len(part) > 1 else tuple(part[0].split(" ", 1)[1].split(" = ")) for part in parts]
     net = Network(rules, nodes, present=present, program=program)
-    if net._played(event for event, _ in entries) != transcript:
+    if len(head) == 1:
+        if net._played(event for event, _ in entries) == transcript:
+            return net
         net.close()
         net = Network(rules, nodes, present=present, program=program)
-        net._played(_wished(event, reply) for event, reply in entries)
+    net._played([*edits, *(_wished(event, reply) for event, reply in entries)])
     return net
+
+
+def _parts_of(transcript: str) -> Iterator[list[str]]:
+    """The lines of each part of an accepted transcript: its header, an entry, or a base."""
+    lines = iter(transcript.splitlines())
+    for line in lines:
+        part = [line]
+        if line.startswith("matching2 "):
+            part.append(next(lines))
+            _, _, nodes, edges = _numbers_of(BASE, part[1])
+            part.extend(itertools.islice(lines, nodes + edges))
+        yield part
+
+
+def _edits_to(base: list[str]) -> tuple[int, list[str]]:
+    """How many nodes are present at the start of a run that leads to a base, and the edits and faults of that run."""
+    _, places, edges = _numbers_of_base(base)
+    # numbers rise, so those that are as great as their places are the first
+    present = sum(number == place for place, (number, _, _) in enumerate(places, 1))
+    joins = [f"join {number}" for number, _, _ in places[present:]]
+    links = [f"link {a} {b}" for a, b in edges]
+    points = [f"point {number} {pointer}" for number, pointer, _ in places if pointer is not None]
+    flags = [f"flag {number} 1" for number, _, flag in places if flag]
+    return present, [*joins, *links, *points, *flags]
 
 
 def _wished(event: str, reply: str) -> str:

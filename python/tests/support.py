@@ -7,7 +7,7 @@ import sys
 import tempfile
 import unittest
 
-from rudekpi import Accepted, Enabled, Fault, Matching, Moves, Refused, Shown, Status, Wish
+from rudekpi import Accepted, Base, Enabled, Fault, Matching, Moves, Refused, Shown, Status, Wish
 
 TOP = os.path.dirname(os.path.dirname(os.path.dirname(os.path.abspath(__file__))))
 
@@ -58,7 +58,8 @@ def play(player, line, name=int):
         return getattr(player, word)(name(rest[0]))
     if word in ("drive", "scramble"):
         return getattr(player, word)(int(rest[0]), int(rest[1]))
-    return {"enabled": player.enabled, "matching": player.matching, "status": player.status}[word]()
+    calls = {"enabled": player.enabled, "matching": player.matching, "status": player.status, "checkpoint": player.checkpoint}
+    return calls[word]()
 
 
 def told(call):
@@ -70,7 +71,7 @@ def told(call):
 
 
 def spelled(reply, number=str):
-    """The text of a reply in a transcript, with a function from a name to its number's text."""
+    """The text of a reply in a transcript, of a base that below its head, with a function from a name to its number's text."""
     if isinstance(reply, Accepted):
         return "ok"
     if isinstance(reply, Refused):
@@ -87,6 +88,11 @@ def spelled(reply, number=str):
     if isinstance(reply, Status):
         names = ("nodes", "edges", "pairs", "enabled", "charge", "spent")
         return " ".join(f"{name}={getattr(reply, name)}" for name in names)
+    if isinstance(reply, Base):
+        lines = [f"base {reply.number} spent={reply.spent} nodes={len(reply.nodes)} edges={len(reply.edges)}"]
+        for node, held in reply.nodes.items():
+            lines.append(f"node {number(node)} {'-' if held.pointer is None else number(held.pointer)} {int(held.flag)}")
+        return "\n".join([*lines, *(f"edge {number(a)} {number(b)}" for a, b in reply.edges)])
     if isinstance(reply, Fault) and reply.register == "pointer":
         return f"point {number(reply.node)} {'-' if reply.value is None else number(reply.value)}"
     if isinstance(reply, Fault):

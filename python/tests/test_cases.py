@@ -31,8 +31,16 @@ def text_of(blocks):
 
 
 def entries_of(transcript):
-    """The events and replies below the header of a transcript."""
-    return [tuple(line.split(" ", 1)[1].split(" = ")) for line in transcript.splitlines()[1:]]
+    """The events and replies below the header of a transcript; a base answers `checkpoint`, by the lines below its head."""
+    entries = []
+    for line in transcript.splitlines()[1:]:
+        if line.startswith("base "):
+            entries.append(("checkpoint", line))
+        elif line.startswith(("node ", "edge ")):
+            entries[-1] = ("checkpoint", entries[-1][1] + "\n" + line)
+        elif not line.startswith("matching2 "):
+            entries.append(tuple(line.split(" ", 1)[1].split(" = ")))
+    return entries
 
 
 class Rows(Timed):
@@ -132,7 +140,8 @@ class Judged(Timed):
             kinds.add(wanted[:5])
             with self.subTest(case.name):
                 try:
-                    rows = [(it.start, it.moves, it.edges, it.nodes, it.bound) for it in epochs(text_of(case.blocks))]
+                    found = epochs(text_of(case.blocks))
+                    rows = [("-" if it.start is None else it.start, it.moves, it.edges, it.nodes, it.bound) for it in found]
                     said = "start,moves,edges,nodes,bound\n" + "".join(",".join(map(str, row)) + "\n" for row in rows)
                 except Damaged as damaged:
                     said = f"line {damaged.line}: {damaged.why}\n"

@@ -64,6 +64,7 @@ class Graphs(Timed):
             net.link(1, 2)
             net.link(2, 3)
             net.leave(2)
+            net.checkpoint()
             net.join(4)
             net.link(4, 1)
             graph = net.to_networkx()
