@@ -38,23 +38,26 @@ function drawingOf(replay, actions) {
 }
 
 function plotsOf(replay, goTo) {
-  const { charge, spent, pairs, enabled } = replay.series;
+  const series = (name) => (number) => replay.valueAt(name, number);
+  const [charge, spent] = [series("charge"), series("spent")];
   const budget = [
-    { name: "charge", valueAt: (k) => charge[k] },
-    { name: "sum", valueAt: (k) => spent[k] + charge[k] },
-    { name: "bound", valueAt: (k) => replay.bound(k) },
+    { name: "charge", valueAt: charge },
+    { name: "sum", valueAt: (number) => spent(number) + charge(number) },
+    { name: "bound", valueAt: (number) => replay.bound(number) },
   ];
-  const counts = [
-    { name: "pairs", valueAt: (k) => pairs[k] },
-    { name: "enabled", valueAt: (k) => enabled[k] },
-  ];
+  const counts = ["pairs", "enabled"].map((name) => ({ name, valueAt: series(name) }));
   return [new Plot(byId("budget"), replay, budget, goTo), new Plot(byId("counts"), replay, counts, goTo)];
+}
+
+function titleOf({ nodes, length, rules, first, state }) {
+  const base = state ? `, from a base at entry ${spaced(first)}` : "";
+  return `${spaced(nodes)} nodes, ${spaced(length)} entries, rules of ${RULE_SET_NAMES[rules]}${base}`;
 }
 
 function start() {
   const replay = new Replay(new Transcript(byId("transcript").textContent));
   const { transcript } = replay;
-  byId("title").textContent = `${spaced(transcript.nodes)} nodes, ${spaced(transcript.length)} entries, rules of ${RULE_SET_NAMES[transcript.rules]}`;
+  byId("title").textContent = titleOf(transcript);
   byId("weight").textContent = transcript.rules === "hh" ? "2m+n" : "2m+3n";
   byId("graph").classList.toggle("flags", transcript.rules === "manne");
   document.body.classList.add(transcript.rules);
@@ -64,7 +67,7 @@ function start() {
   const plots = plotsOf(replay, (number) => player.goTo(number));
   const player = new Player(replay, (number) => {
     const machine = replay.goTo(number);
-    const entry = number === 0 ? null : transcript.entry(number);
+    const entry = number === transcript.first ? null : transcript.entry(number);
     drawing?.show(machine, entry, entry ? nodesOf(entry) : []);
     panel.show(machine, number, entry);
     plots.forEach((plot) => plot.point(number));

@@ -11,10 +11,10 @@ function cut(text) {
 function item(transcript, number, current) {
   const made = document.createElement("li");
   const button = document.createElement("button");
-  const entry = number === 0 ? null : transcript.entry(number);
+  const entry = number === transcript.first ? null : transcript.entry(number);
   button.type = "button";
   button.dataset.entry = number;
-  button.textContent = entry ? cut(`${entry.number} ${entry.event} = ${entry.reply}`) : "0 the opening state";
+  button.textContent = entry ? cut(`${entry.number} ${entry.event} = ${entry.reply}`) : `${number} the opening state`;
   button.tabIndex = -1;
   made.classList.toggle("refused", Boolean(entry?.refused));
   made.classList.toggle("disturbs", Boolean(entry?.disturbs));
@@ -22,6 +22,14 @@ function item(transcript, number, current) {
     button.setAttribute("aria-current", "true");
   }
   made.append(button);
+  return made;
+}
+
+/** A base further down, which is no entry and is not gone to. */
+function baseItem(line) {
+  const made = document.createElement("li");
+  made.className = "base";
+  made.textContent = line;
   return made;
 }
 
@@ -39,8 +47,7 @@ export class Panel {
   show(machine, number, entry) {
     this.showEntry(number, entry);
     this.showNear(number);
-    const { series } = this.replay;
-    const spent = series.spent[number];
+    const spent = this.replay.valueAt("spent", number);
     const epoch = this.replay.epochAt(number);
     const figures = {
       nodes: machine.present,
@@ -51,7 +58,7 @@ export class Panel {
       spent,
       sum: spent + machine.charge,
       bound: machine.bound,
-      epoch: epoch.start,
+      epoch: epoch.start ?? `≤ ${this.replay.transcript.first}`,
     };
     for (const [name, value] of Object.entries(figures)) {
       const place = byId(name);
@@ -73,11 +80,14 @@ export class Panel {
 
   showNear(number) {
     const { transcript } = this.replay;
-    const first = Math.max(0, Math.min(number - NEAR, transcript.length - 2 * NEAR));
-    const last = Math.min(transcript.length, first + 2 * NEAR);
+    const first = Math.max(transcript.first, Math.min(number - NEAR, transcript.last - 2 * NEAR));
+    const last = Math.min(transcript.last, first + 2 * NEAR);
     const items = [];
     for (let k = first; k <= last; k += 1) {
       items.push(item(transcript, k, number));
+      if (transcript.bases.has(k)) {
+        items.push(baseItem(transcript.bases.get(k)));
+      }
     }
     byId("near").replaceChildren(...items);
   }

@@ -6,18 +6,20 @@ const FAR = 10;
 export class Player {
   /** `show` draws an entry; `replay` knows where disturbances are. */
   constructor(replay, show) {
-    Object.assign(this, { replay, show, last: replay.transcript.length, at: 0, since: null });
-    byId("slider").max = byId("go").max = this.last;
+    const { first, last } = replay.transcript;
+    Object.assign(this, { replay, show, first, last, at: first, since: null });
+    byId("slider").max = byId("go").max = last;
+    byId("slider").min = byId("go").min = first;
     byId("slider").addEventListener("input", () => this.goTo(Number(byId("slider").value)));
     byId("go").addEventListener("change", () => this.goTo(Number(byId("go").value)));
     this.actions = {
-      first: () => this.goTo(0),
+      first: () => this.goTo(first),
       back: () => this.goTo(this.at - 1),
       play: () => this.toggle(),
       forward: () => this.goTo(this.at + 1),
-      last: () => this.goTo(this.last),
-      previous: () => this.goTo(replay.previousDisturbance(this.at) ?? 0),
-      next: () => this.goTo(replay.nextDisturbance(this.at) ?? this.last),
+      last: () => this.goTo(last),
+      previous: () => this.goTo(replay.previousDisturbance(this.at) ?? first),
+      next: () => this.goTo(replay.nextDisturbance(this.at) ?? last),
       "far-back": () => this.goTo(this.at - FAR),
       "far-forward": () => this.goTo(this.at + FAR),
     };
@@ -33,10 +35,10 @@ export class Player {
   }
 
   move(number) {
-    this.at = Math.min(this.last, Math.max(0, Math.round(number) || 0));
+    this.at = Math.min(this.last, Math.max(this.first, Math.round(number) || 0));
     byId("slider").value = byId("go").value = this.at;
     byId("slider").setAttribute("aria-valuetext", `entry ${this.at} of ${this.last}`);
-    byId("first").disabled = byId("back").disabled = byId("previous").disabled = this.at === 0;
+    byId("first").disabled = byId("back").disabled = byId("previous").disabled = this.at === this.first;
     byId("last").disabled = byId("forward").disabled = byId("next").disabled = this.at === this.last;
     this.show(this.at);
   }
@@ -51,7 +53,7 @@ export class Player {
       return;
     }
     if (this.at === this.last) {
-      this.move(0);
+      this.move(this.first);
     }
     this.since = performance.now();
     this.owed = 0;

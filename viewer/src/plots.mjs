@@ -35,10 +35,11 @@ export class Plot {
   /** `lines` are name, class and value of each line, lowest first; the greatest value is that of `top`. */
   constructor(svg, replay, lines, goTo) {
     Object.assign(this, { svg, replay, lines, goTo });
-    this.last = replay.transcript.length;
+    this.first = replay.transcript.first;
+    this.last = replay.transcript.last;
     this.top = 1;
     for (const line of lines) {
-      for (let k = 0; k <= this.last; k += 1) {
+      for (let k = this.first; k <= this.last; k += 1) {
         this.top = Math.max(this.top, line.valueAt(k));
       }
     }
@@ -52,11 +53,15 @@ export class Plot {
   seek(event) {
     const x = event.clientX - this.svg.getBoundingClientRect().left;
     const share = (x - MARGIN.left) / (this.width - MARGIN.left - MARGIN.right);
-    this.goTo(Math.round(Math.min(1, Math.max(0, share)) * this.last));
+    this.goTo(this.first + Math.round(Math.min(1, Math.max(0, share)) * this.length));
+  }
+
+  get length() {
+    return this.last - this.first;
   }
 
   xOf(number) {
-    return MARGIN.left + (this.last === 0 ? 0 : number / this.last) * (this.width - MARGIN.left - MARGIN.right);
+    return MARGIN.left + ((number - this.first) / (this.length || 1)) * (this.width - MARGIN.left - MARGIN.right);
   }
 
   yOf(value) {
@@ -71,16 +76,17 @@ export class Plot {
     this.drawBands();
     this.drawAxes();
     for (const line of this.lines) {
-      const d = linePath(line.valueAt, this.last, (k) => this.xOf(k), (n) => this.yOf(n), this.width);
+      const valueAt = (place) => line.valueAt(this.first + place);
+      const d = linePath(valueAt, this.length, (place) => this.xOf(this.first + place), (n) => this.yOf(n), this.width);
       add(this.svg, "path", { class: `line ${line.name}`, d });
     }
     this.cursor = add(this.svg, "line", { class: "cursor", y1: MARGIN.top - 4, y2: this.height - MARGIN.bottom });
-    this.point(this.at ?? 0);
+    this.point(this.at ?? this.first);
   }
 
   /** Every second epoch has a band; those narrower than a pixel are left to their neighbours. */
   drawBands() {
-    const starts = [0, ...this.replay.disturbances, this.last];
+    const starts = [this.first, ...this.replay.disturbances, this.last];
     const [top, height] = [MARGIN.top, this.height - MARGIN.top - MARGIN.bottom];
     let drawnTo = -1;
     for (let at = 1; at < starts.length - 1; at += 2) {
@@ -100,8 +106,8 @@ export class Plot {
       add(this.svg, "line", { class: "grid", x1: MARGIN.left, x2: this.width - MARGIN.right, y1: y, y2: y });
       add(this.svg, "text", { class: "tick", x: MARGIN.left - 6, y, dy: "0.35em", "text-anchor": "end" }, spaced(value));
     }
-    const along = stepOf(Math.max(1, this.last), (this.width - MARGIN.left - MARGIN.right) / 80);
-    for (let number = 0; number <= this.last; number += along) {
+    const along = stepOf(Math.max(1, this.length), (this.width - MARGIN.left - MARGIN.right) / 80);
+    for (let number = Math.ceil(this.first / along) * along; number <= this.last; number += along) {
       const x = this.xOf(number);
       const anchor = x > this.width - 30 ? "end" : "middle";
       add(this.svg, "text", { class: "tick", x: anchor === "end" ? this.width - 4 : x, y: this.height - 4, "text-anchor": anchor }, spaced(number));

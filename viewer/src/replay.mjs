@@ -36,7 +36,10 @@ export class Replay {
   constructor(transcript) {
     this.transcript = transcript;
     this.machine = new Machine(transcript.rules, transcript.nodes, transcript.present);
-    this.at = 0;
+    if (transcript.state) {
+      this.machine.load(transcript.state);
+    }
+    this.at = transcript.first;
     this.weight = RULE_SETS[transcript.rules].weight;
     const places = transcript.length + 1;
     this.series = Object.fromEntries(["charge", "spent", "nodes", "edges", "pairs", "enabled"].map((name) => [name, new Int32Array(places)]));
@@ -48,10 +51,12 @@ export class Replay {
 
   /** The first walk over all entries. */
   playOnce() {
-    let next = 0;
-    let spent = 0;
-    this.note(0, spent);
-    for (let number = 1; number <= this.transcript.length; number += 1) {
+    const { first, last } = this.transcript;
+    let next = first;
+    let { spent } = this.transcript;
+    this.machine.edges().forEach((edge) => this.meet(edge));
+    this.note(first, spent);
+    for (let number = first + 1; number <= last; number += 1) {
       if (number - 1 === next) {
         this.snapshots.push({ number: next, state: this.machine.snapshot() });
         next += this.spacing();
@@ -63,11 +68,13 @@ export class Replay {
       }
       if (entry.disturbs) {
         this.disturbances.push(number);
-        this.meet(entry);
+      }
+      if (entry.disturbs && entry.kind === "link") {
+        this.meet(wordsOf(entry).map(Number));
       }
       this.note(number, spent);
     }
-    this.at = this.transcript.length;
+    this.at = last;
   }
 
   /** So many entries lie between two snapshots that all of them fit in memory, and take less time than the entries. */
@@ -79,20 +86,24 @@ export class Replay {
 
   note(number, spent) {
     const { machine, series } = this;
-    series.charge[number] = machine.charge;
-    series.spent[number] = spent;
-    series.nodes[number] = machine.present;
-    series.edges[number] = machine.edgeCount;
-    series.pairs[number] = machine.pairCount;
-    series.enabled[number] = machine.enabledCount;
+    const place = number - this.transcript.first;
+    series.charge[place] = machine.charge;
+    series.spent[place] = spent;
+    series.nodes[place] = machine.present;
+    series.edges[place] = machine.edgeCount;
+    series.pairs[place] = machine.pairCount;
+    series.enabled[place] = machine.enabledCount;
+  }
+
+  /** What one of the series has after so many entries. */
+  valueAt(name, number) {
+    return this.series[name][number - this.transcript.first];
   }
 
   /** Remembers each edge that ever is, for the layout. */
-  meet(entry) {
-    if (entry.kind === "link") {
-      const [v, w] = wordsOf(entry).map(Number).sort((a, b) => a - b);
-      this.union.set(v * 65536 + w, [v, w]);
-    }
+  meet(ends) {
+    const [v, w] = ends.sort((a, b) => a - b);
+    this.union.set(v * 65536 + w, [v, w]);
   }
 
   get edgesEver() {
@@ -100,17 +111,19 @@ export class Replay {
   }
 
   bound(number) {
-    return 2 * this.series.edges[number] + this.weight * this.series.nodes[number];
+    return 2 * this.valueAt("edges", number) + this.weight * this.valueAt("nodes", number);
   }
 
-  /** The number of the disturbance that began the epoch of an entry, and which epoch it is, counted from 1. */
+  /** The number of the disturbance that began the epoch of an entry, null where the transcript begins at a base behind it; and
+   * which epoch it is, counted from 1. */
   epochAt(number) {
     let [low, high] = [0, this.disturbances.length];
     while (low < high) {
       const middle = (low + high) >> 1;
       [low, high] = this.disturbances[middle] <= number ? [middle + 1, high] : [low, middle];
     }
-    return { start: low === 0 ? 0 : this.disturbances[low - 1], place: low + 1 };
+    const opening = this.transcript.first === 0 ? 0 : null;
+    return { start: low === 0 ? opening : this.disturbances[low - 1], place: low + 1 };
   }
 
   nextDisturbance(number) {
@@ -119,8 +132,7 @@ export class Replay {
 
   /** The last disturbance before an entry. */
   previousDisturbance(number) {
-    const { start } = this.epochAt(number - 1);
-    return number > 0 && start > 0 ? start : null;
+    return this.disturbances[this.epochAt(number - 1).place - 2] ?? null;
   }
 
   /** The machine after so many entries. */

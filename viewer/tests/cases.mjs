@@ -19,7 +19,7 @@ export function* transcriptsOfCases() {
   for (const file of readdirSync(TESTS).filter((name) => name.endsWith(".cases"))) {
     for (const text of readFileSync(new URL(file, TESTS), "ascii").split(/^case /m).slice(1)) {
       const parts = text.split(/^(?=(?:words|in|out|err|status|audited|each)\b)/m);
-      const out = parts.find((part) => part.startsWith("out\n  matching "));
+      const out = parts.find((part) => /^out\n  matching2? /.test(part));
       if (out && parts.some((part) => part.startsWith("audited accepted: "))) {
         yield { name: `${file}: ${text.slice(0, text.indexOf("\n"))}`, text: linesBelow(out), audited: /audited (accepted: .*)/.exec(text)[1] };
       }

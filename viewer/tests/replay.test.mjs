@@ -22,7 +22,7 @@ function answer(replay, entry) {
   const machine = replay.goTo(entry.number);
   switch (entry.kind) {
     case "status":
-      return machine.status(replay.series.spent[entry.number]);
+      return machine.status(replay.valueAt("spent", entry.number));
     case "enabled":
       return enabledOf(machine);
     case "matching":
@@ -33,11 +33,24 @@ function answer(replay, entry) {
   return null;
 }
 
+/** The lines of the base at which a replay stands after so many entries. */
+function baseAt(replay, number) {
+  const machine = replay.goTo(number);
+  const present = Array.from({ length: machine.nodes }, (_, at) => at + 1).filter((v) => machine.here[v]);
+  const edges = machine.edges().sort((a, b) => a[0] - b[0] || a[1] - b[1]);
+  return [
+    `matching2 ${machine.rules} ${machine.nodes}`,
+    `base ${number} spent=${replay.valueAt("spent", number)} nodes=${present.length} edges=${edges.length}`,
+    ...present.map((v) => `node ${v} ${machine.pointer[v] || "-"} ${machine.flag[v]}`),
+    ...edges.map((edge) => `edge ${edge.join(" ")}`),
+  ];
+}
+
 const replays = [...transcriptsOfCases(), ...transcriptsOfExamples()].map((found) => ({ ...found, replay: new Replay(new Transcript(found.text)) }));
 
 test("there are enough transcripts to compare with", () => {
   assert.ok(replays.length > 60, `${replays.length} transcripts`);
-  const questions = replays.flatMap(({ replay }) => Array.from({ length: replay.transcript.length }, (_, at) => replay.transcript.entry(at + 1)));
+  const questions = replays.flatMap(({ replay: { transcript } }) => Array.from({ length: transcript.length }, (_, at) => transcript.entry(transcript.first + at + 1)));
   const asked = (kind) => questions.filter((entry) => entry.kind === kind && !entry.refused).length;
   assert.ok(asked("status") > 50 && asked("enabled") > 50 && asked("matching") > 20 && asked("show") > 20);
 });
@@ -45,25 +58,49 @@ test("there are enough transcripts to compare with", () => {
 for (const { name, text, audited, replay } of replays) {
   test(`questions of ${name}`, () => {
     const { transcript } = replay;
-    for (let number = transcript.length; number > 0; number -= 1) {
+    for (let number = transcript.last; number > transcript.first; number -= 1) {
       const entry = transcript.entry(number);
       const told = entry.refused ? null : answer(replay, entry);
       if (told !== null) {
         assert.equal(told, entry.reply, `entry ${number}`);
       }
     }
-    assert.equal(transcript.length, text.split("\n").length - 2);
+    assert.equal(transcript.length, text.match(/^\d/gm)?.length ?? 0);
   });
 
   test(`the budget of ${name}`, () => {
     const { charge, spent } = replay.series;
     let moves = 0;
-    charge.forEach((value, number) => {
-      assert.ok(value + spent[number] <= replay.bound(number), `entry ${number}`);
-      moves += number > 0 && spent[number] > spent[number - 1] ? spent[number] - spent[number - 1] : 0;
+    charge.forEach((value, place) => {
+      assert.ok(value + spent[place] <= replay.bound(replay.transcript.first + place), `place ${place}`);
+      moves += place > 0 && spent[place] > spent[place - 1] ? spent[place] - spent[place - 1] : 0;
     });
     if (audited) {
       assert.equal(`accepted: ${replay.transcript.length} entries, ${replay.disturbances.length + 1} epochs, ${moves} moves`, audited);
+    }
+  });
+}
+
+for (const { name, text, replay } of replays.filter((found) => found.replay.transcript.first === 0)) {
+  test(`bases in ${name}, and at its beginning`, () => {
+    const { length } = replay.transcript;
+    const lines = text.trimEnd().split("\n").filter((line) => !/^(matching2|base|node|edge) /.test(line));
+    for (const number of new Set([0, length >> 1, length])) {
+      const [before, base, behind] = [lines.slice(0, number + 1), baseAt(replay, number), lines.slice(number + 1)];
+      const whole = new Replay(new Transcript(`${[...before, ...base, ...base, ...behind].join("\n")}\n`));
+      const rest = new Replay(new Transcript(`${[...base, ...behind].join("\n")}\n`));
+      assert.deepEqual([whole.transcript.length, rest.transcript.length], [length, length - number]);
+      for (const name of Object.keys(replay.series)) {
+        assert.deepEqual(whole.series[name], replay.series[name], name);
+        assert.deepEqual(rest.series[name], replay.series[name].slice(number), name);
+      }
+      assert.deepEqual(whole.edgesEver, replay.edgesEver);
+      assert.deepEqual(rest.disturbances, replay.disturbances.filter((each) => each > number));
+      for (const at of [length, number, (number + length) >> 1]) {
+        const [one, other] = [replay.goTo(at), rest.goTo(at)];
+        assert.equal(enabledOf(one), enabledOf(other), `entry ${at}`);
+        assert.deepEqual([one.here, one.pointer, one.flag], [other.here, other.pointer, other.flag], `entry ${at}`);
+      }
     }
   });
 }
@@ -176,4 +213,37 @@ test("a long transcript is entered anywhere: the counts are those of a walk from
     reached.recount();
     assert.equal(reached.status(0), statuses[number], `entry ${number}, counted anew`);
   }
+});
+
+const BASE = ["matching2 hh 2", "base 2 spent=1 nodes=2 edges=1", "node 1 2 0", "node 2 - 0", "edge 1 2"];
+
+test("a base among the entries changes nothing", () => {
+  const text = ["matching hh 2", "1 link 1 2 = ok", "2 step 1 = 1:seduce>2", ...BASE, "3 step 2 = 2:marry>1", ""].join("\n");
+  const { series, disturbances } = new Replay(new Transcript(text));
+  assert.deepEqual([...series.charge], [0, 2, 1, 0]);
+  assert.deepEqual([...series.spent], [0, 0, 1, 2]);
+  assert.deepEqual(disturbances, [1]);
+});
+
+test("a transcript that begins with a base: its state, charge and spent, and the numbers of its entries", () => {
+  const replay = new Replay(new Transcript([...BASE, "3 step 2 = 2:marry>1", "4 unlink 1 2 = ok", ""].join("\n")));
+  assert.deepEqual([2, 3, 4].map((number) => replay.valueAt("charge", number)), [1, 0, 0]);
+  assert.deepEqual([2, 3, 4].map((number) => replay.valueAt("spent", number)), [1, 2, 0]);
+  assert.deepEqual([2, 3, 4].map((number) => replay.bound(number)), [4, 4, 2]);
+  assert.deepEqual([2, 3, 4].map((number) => replay.nextDisturbance(number)), [4, 4, null]);
+  assert.deepEqual([2, 3, 4].map((number) => replay.previousDisturbance(number)), [null, null, null]);
+  assert.deepEqual([2, 3, 4].map((number) => replay.epochAt(number)), [{ start: null, place: 1 }, { start: null, place: 1 }, { start: 4, place: 2 }]);
+  assert.deepEqual(replay.edgesEver, [[1, 2]]);
+  assert.equal(replay.goTo(2).status(1), "nodes=2 edges=1 pairs=0 enabled=1 charge=1 spent=1");
+  assert.equal(pairsOf(replay.goTo(3)), "1-2");
+});
+
+test("a base with an absent name and a flag: 1 updates, 3 abandons", () => {
+  const lines = ["matching2 manne 4", "base 9 spent=2 nodes=2 edges=1", "node 1 - 1", "node 3 1 0", "edge 1 3", ""];
+  const replay = new Replay(new Transcript(lines.join("\n")));
+  // the edge counts 2, the flag of 1 that has no partner 2, the pointer of 3 and its flag that may come 1 each
+  assert.equal(replay.goTo(9).status(2), "nodes=2 edges=1 pairs=0 enabled=2 charge=6 spent=2");
+  assert.equal(enabledOf(replay.machine), "1:update 3:abandon");
+  assert.deepEqual([...replay.machine.here], [0, 1, 0, 1, 0]);
+  assert.deepEqual([replay.bound(9), replay.valueAt("spent", 9)], [8, 2]);
 });

@@ -54,3 +54,32 @@ test("a transcript's lines by number", () => {
   const some = new Transcript("matching hh 3 2\n1 join 3 = ok\n");
   assert.deepEqual([some.nodes, some.present, some.length, nodesOf(some.entry(1))], [3, 2, 1, [3]]);
 });
+
+const BASE = ["matching2 manne 4", "base 2 spent=1 nodes=3 edges=2", "node 1 2 0", "node 2 - 1", "node 4 1 0", "edge 1 2", "edge 1 4"];
+
+test("bases among the entries are none of them", () => {
+  const entries = ["1 link 1 2 = ok", "2 show 1 = -", "3 show 2 = 1", "4 enabled = none"];
+  const empty = ["matching2 manne 4", "base 4 spent=0 nodes=0 edges=0"];
+  const transcript = new Transcript(["matching manne 4 3", ...entries.slice(0, 2), ...BASE, ...BASE, ...entries.slice(2), ...empty, ""].join("\n"));
+  assert.deepEqual([transcript.first, transcript.last, transcript.length, transcript.state], [0, 4, 4, null]);
+  assert.deepEqual([1, 2, 3, 4].map((number) => transcript.entry(number)), entries.map(readEntry));
+  assert.deepEqual([...transcript.bases], [[2, BASE[1]], [4, empty[1]]]);
+});
+
+test("a transcript that begins with a base", () => {
+  const transcript = new Transcript([...BASE, "3 show 2 = 1", ""].join("\n"));
+  assert.deepEqual([transcript.rules, transcript.nodes, transcript.first, transcript.last, transcript.length, transcript.spent], ["manne", 4, 2, 3, 1, 1]);
+  assert.equal(transcript.entry(3).event, "show 2");
+  const { here, pointers, flags, ends } = transcript.state;
+  assert.deepEqual([[...here], [...pointers], [...flags], [...ends]], [[0, 1, 1, 0, 1], [0, 2, 0, 0, 1], [0, 0, 1, 0, 0], [1, 2, 1, 4]]);
+  assert.equal(transcript.bases.size, 0);
+  assert.deepEqual([new Transcript(`${BASE.join("\n")}\n`).length, new Transcript("matching2 hh 0\nbase 7 spent=0 nodes=0 edges=0\n").last], [0, 7]);
+});
+
+test("what no audit accepts is refused by the same error at a header and at a base", () => {
+  const bases = BASE.map((line, at) => [...BASE.slice(0, at), `${line} 1 1`, ...BASE.slice(at + 1), ""].join("\n"));
+  const cut = BASE.map((_, at) => `${BASE.slice(0, at).join("\n")}\n`);
+  for (const text of ["", "matching hh\n", "matching hh 2", "1 show 1 = -\n", ...bases, ...cut, `matching hh 2\n${BASE[0]}\n1 show 1 = -\n`]) {
+    assert.throws(() => new Transcript(text), TypeError, JSON.stringify(text));
+  }
+});
