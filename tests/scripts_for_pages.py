@@ -8,7 +8,8 @@ TOP = pathlib.Path(__file__).resolve().parent.parent
 
 @dataclasses.dataclass
 class Page:
-    """A script with its rules, its names, and how many of these are present at the start; or a storm of several scripts."""
+    """A script with its rules, its names, and how many of these are present at the start; or a storm of several scripts. Its page
+    plays the whole transcript, or what begins with the first base in it."""
 
     name: str
     rules: str
@@ -16,6 +17,7 @@ class Page:
     script: str = ""
     storm: tuple = ()
     present: int | None = None
+    from_base: bool = False
 
     def words(self):
         """The words of the command line for it."""
@@ -105,12 +107,16 @@ def scripts():
     storm = ("link 1 2\ndrive 7 100\nscramble 3 9\n", "link 3 4\nlink 2 3\nscramble 5 20\ndrive 2 9\n")
     joined = [f"join {v}" for v in range(7, 13)]
     grown = "".join(f"{line}\n" for line in [*grid(3, 2), "drive 3 40", *joined, *grid(3, 4), *mended(9), "leave 5", *mended(3)])
+    kept = "".join(f"{line}\n" for line in ["checkpoint", *grid(3, 3), "checkpoint", *mended(5), "checkpoint", "checkpoint", "leave 5", *mended(8)])
+    begun = "".join(f"{line}\n" for line in [*grid(3, 3), "drive 3 5", "scramble 4 6", "leave 8", "drive 2 3", "checkpoint", *mended(8), "join 8", "link 7 8"])
     many = [f"link {v} {v + 7}" for v in range(1, 2_600)] + ["drive 3 60", "status"]
     return [
         *examples(), *of_both(),
         Page("a storm under manne", "manne", 4, storm=storm),
         Page("no entries under hh", "hh", 5),
         *[Page(f"a grid of which half is there under {rules}", rules, 12, grown, present=6) for rules in ("hh", "manne")],
+        *[Page(f"checkpoints under {rules}", rules, 9, kept) for rules in ("hh", "manne")],
+        *[Page(f"a grid from a base on under {rules}", rules, 10, begun, from_base=True) for rules in ("hh", "manne")],
         Page("more nodes than are drawn", "manne", 2_607, "".join(f"{line}\n" for line in many)),
     ]
 
