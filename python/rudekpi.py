@@ -373,7 +373,7 @@ class _BaseLines:
         return line.startswith(b"node " if place < 2 + self.nodes else b"edge ")
 
     def is_whole(self) -> bool:
-        return len(self.lines) > 1 and len(self.lines) == 2 + self.nodes + self.edges
+        return len(self.lines) == 2 + self.nodes + self.edges
 
 
 class Pending(Generic[Reply]):

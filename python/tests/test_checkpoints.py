@@ -173,11 +173,11 @@ sys.stdin.read()
             3: ["node 3 - 0", "node 2 - - 0", "node 1 - 0", "edge 1 2", "node 2  0", "1 link 1 2 = ok"],
             4: ["edge 1 3", "edge 2 1", "edge 1 1", "edge 1", "edge 1 -", "node 3 - 0", "1 link 1 2 = ok", "edge 0 1"],
         }
-        for place, lines in wrong.items():
-            for line in lines:
-                text = "\n".join([*right[:place], line, *right[place + 1 :], ""])
-                with self.subTest(text), self.assertRaises(Garbled), Network("hh", 2, program=self.writes(text)) as net:
-                    net.checkpoint()
+        texts = [[*right[:place], line, *right[place + 1 :]] for place, lines in wrong.items() for line in lines]
+        twice = [right[0], right[1].replace("edges=1", "edges=2"), *right[2:], right[4]]
+        for text in ["\n".join([*lines, ""]) for lines in [*texts, twice]]:
+            with self.subTest(text), self.assertRaises(Garbled), Network("hh", 2, program=self.writes(text)) as net:
+                net.checkpoint()
         with Network("hh", 2, program=self.writes("\n".join([*right, ""]))) as net:
             self.assertEqual(net.checkpoint(), Base(0, 1, {1: Registers(2, False), 2: NOWHERE}, ((1, 2),)))
 
