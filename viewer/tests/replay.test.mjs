@@ -108,7 +108,7 @@ for (const { name, text, replay } of replays.filter((found) => found.replay.tran
 for (const { name, entry, text, picture } of picturesOfCases()) {
   test(`the picture of ${name}`, () => {
     const replay = new Replay(new Transcript(text));
-    const machine = replay.goTo(Number(entry ?? replay.transcript.length));
+    const machine = replay.goTo(Number(entry ?? replay.transcript.last));
     const lines = ["graph matching {"];
     for (let v = 1; v <= machine.nodes; v += 1) {
       if (!machine.here[v]) {
