@@ -4,6 +4,7 @@
 mod checkpoint;
 mod fault;
 mod options;
+mod paying;
 mod piece;
 mod place;
 mod reading;
@@ -15,6 +16,7 @@ mod writing;
 
 pub use fault::RunFault;
 pub use options::Options;
+pub use paying::paying_workers;
 pub use rule_machine::RuleSet;
 pub use script::run;
 pub use step_log::MAX_ENTRIES;

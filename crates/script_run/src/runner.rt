@@ -110,7 +110,7 @@ impl<R: Rules + Sync> Run<R> {
     {
         match command {
             Command::Tell(event) => match event {
-                Event::Step(choice) if self.workers > 1 => self.log_step(rt, alloc, event, choice),
+                Event::Step(choice) if self.pays(choice) => self.log_step(rt, alloc, event, choice),
                 _ => self.log(event),
             },
             Command::Drive(turns) => {

@@ -25,7 +25,8 @@ use std::thread::Threads;
 /// the network is 65,536 bytes of the script and its last line as far as it was read, and of the text what is not written yet, 65,536
 /// bytes and that of one line; at a checkpoint its base too, which is let go with the line.
 ///
-/// The workers of the options evaluate each step, and the transcript is the same for every number of them.
+/// As many of the workers of the options as pay for it evaluate a step, one for each 16,384 of its items; the transcript is the same
+/// for every number of them.
 pub fn run<In: Read, Out: Write, T: Threads + Wait + Sync>(
     rt: &T,
     alloc: Global,

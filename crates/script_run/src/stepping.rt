@@ -1,9 +1,10 @@
 //! A step whose items workers judge.
 
-ghost use Rattle.std.specs.Prelude.{◌≡◌, IsOk};
+ghost use Rattle.std.specs.Prelude.{◌≡◌, ◌<◌, IsOk, IsTrue};
 ghost use Rattle.rule_machine.specs.declared.event.Event.TheVariants.{Step};
 ghost use Rattle.script_run.specs.Line.{progress, EventEnds};
 
+use crate::paying_workers;
 use crate::runner::Run;
 use line_text::put_entry;
 use rule_machine::{Choice, Event, Want};
@@ -14,8 +15,17 @@ use std::thread::Threads;
 use steal_pool::{NoGate, evaluate};
 use step_log::RecordFault;
 
+impl<R: Rules> Run<R> {
+    // Whether more than one worker pays for a step.
+    pub fn pays(&self, choice: &Choice) -> bool
+        ensures { IsTrue result → 1 < self.now.workers }
+    {
+        paying_workers(self.workers, choice.items().len()) > 1
+    }
+}
+
 impl<R: Rules + Sync> Run<R> {
-    // Carries out a step, whose items the workers judge, and adds the text of its entry; false where the log is full, before
+    // Carries out a step, whose items as many of the workers judge as pay for it, and adds the text of its entry; false where the log is full, before
     // anything is judged.
     pub fn log_step<T: Threads + Wait + Sync>(
         &mut self,
@@ -33,7 +43,8 @@ impl<R: Rules + Sync> Run<R> {
             return Ok(false);
         }
         let net = self.recorder.net();
-        let Ok(verdicts) = evaluate(rt, alloc, net, choice, self.workers, &NoGate) else {
+        let workers = paying_workers(self.workers, choice.items().len());
+        let Ok(verdicts) = evaluate(rt, alloc, net, choice, workers, &NoGate) else {
             return Err(AllocError);
         };
         match self.recorder.log_step(choice, &verdicts) {

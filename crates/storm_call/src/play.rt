@@ -13,12 +13,13 @@ use crate::turns::{drive, scramble};
 use locked_net::{CallFault, Clerk, LockedNet, StepFault};
 use rule_machine::{Choice, Event};
 use rule_set::Rules;
+use script_run::paying_workers;
 use script_text::Command;
 use std::sync::Wait;
 use std::thread::Threads;
 use steal_pool::{Gate, NoGate};
 
-/// Calls the network for a step, which is evaluated by the crew's workers.
+/// Calls the network for a step, which is evaluated by as many of the crew's workers as pay for it.
 fn step<R: Rules + Sync, G: Gate, T: Threads + Wait + Sync>(
     rt: &T,
     stage: &Stage<R, G>,
@@ -32,7 +33,8 @@ fn step<R: Rules + Sync, G: Gate, T: Threads + Wait + Sync>(
     ensures grows { IsPrefix (noted clerk.old.note) (noted clerk.new.note) }
 {
     let before = clerk.noted();
-    match clerk.step_with(rt, stage.net, choice, stage.crew.workers, &NoGate) {
+    let workers = paying_workers(stage.crew.workers, choice.items().len());
+    match clerk.step_with(rt, stage.net, choice, workers, &NoGate) {
         Ok(_) => {
             clerk.follows(&before);
             Ok(())

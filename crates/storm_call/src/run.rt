@@ -39,7 +39,7 @@ fn clerks_of<R: Rules>(alloc: Global, net: &LockedNet<R>, count: usize) -> Resul
 /// what the journal keeps of that log, with the first fault that a script met, in the order of the scripts, and where none did, with
 /// the first of the workers': `Behind`, `LogFull`, or `Memory` in a call. Who meets a fault ends there, and the others go on.
 ///
-/// A `step` line is evaluated by as many workers as the crew has for it. Before each command the gate is passed with the number
+/// A `step` line is evaluated by as many of the workers that the crew has for it as pay for its items. Before each command the gate is passed with the number
 /// of the script, from 0, and that of the line; workers pass none. Where no thread can be had, scripts are played one after
 /// another, and then workers roam: a gate that holds one script until another has come holds it for ever then.
 ///
