@@ -88,7 +88,8 @@ pub(crate) const PICTURE_NOTES: &str = "\
 The graph has a line for each node and for each edge, ascending. A married node is filled, and an enabled node has its
 rule below its name. A mutual pair is a bold edge, and a pointer that is not answered is an arrow along its edge. The
 line of entry K, the last of which the graph tells, is the last one that is read: where audit refuses a line up to it,
-what audit says stands in place of the graph.
+what audit says stands in place of the graph. Of a transcript that begins with a base, the base's number draws the base,
+and there is no smaller one.
 
 Examples:
   console picture < transcript.txt | dot -Tsvg > matching.svg
@@ -111,8 +112,8 @@ pub(crate) const EPOCHS_ABOUT: &str =
 
 pub(crate) const EPOCHS_NOTES: &str = "\
 An epoch begins at the start and at each accepted disturbance. Its line has the number of the entry that began it, 0 for
-the start; its moves; how many edges and nodes there are in it; and the most moves that it can have. A transcript that
-audit refuses is refused in the same words.
+the start, and - where it began before the base that the transcript begins with; its moves; how many edges and nodes there
+are in it; and the most moves that it can have. A transcript that audit refuses is refused in the same words.
 
 Examples:
   console epochs < transcript.txt > epochs.csv
