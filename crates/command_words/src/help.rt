@@ -13,7 +13,7 @@ pub(crate) const PRESENT_HELP: &str =
     "How many of them there are at the start, 1 to P; at most N, and all N where no number is named";
 
 pub(crate) const WORKERS_HELP: &str =
-    "How many workers judge the nodes of a step; 1 to 64, with the same transcript for each number";
+    "How many workers judge the nodes of a step, at most; 1 to 64, with the same transcript for each number";
 
 pub(crate) const ROAM_HELP: &str =
     "How many workers move nodes of their own beside the scripts; at most 64";
@@ -43,6 +43,7 @@ Commands of a script, one a line, where A and B are names of nodes:
   link A B      adds an edge            unlink A B    removes it
   point A B     A's pointer becomes B   point A -     A's pointer becomes null
   flag A 1      A's married flag is set flag A 0      A's married flag is cleared
+  join A        makes A a node          leave A       A goes, with its edges
   step A B>A    moves the chosen nodes at once, B with a wish for its target
   show A        where A points          enabled       the nodes with an enabled rule
   matching      the pairs               status        the counts, the charge and what is spent
