@@ -1,5 +1,5 @@
 -- A text without a damage cannot fail to be a transcript.
-use Rattle.std.proofs.Common.{◌≡◌, ◌≢◌, ℕ, zero, suc, ◌+◌, ◌≤◌, ◌==◌, Bool, true, false, ◌⊎◌, inl, inr, List, [], ◌∷◌, ◌++◌, Option, None, Some, length, refl, sym, ap, subst, ◌∙◌, append_assoc, arith, eqb-true}
+use Rattle.std.proofs.Common.{◌≡◌, ◌≢◌, ℕ, zero, suc, ◌+◌, ◌≤◌, ◌==◌, Bool, true, false, ◌⊎◌, inl, inr, List, [], ◌∷◌, ◌++◌, Option, None, Some, length, refl, sym, ap, subst, ◌∙◌, arith, eqb-true}
 use Rattle.std.proofs.lemmas.List.{append-nil, length-append, nil_from_length}
 use Rattle.rule_machine.specs.declared.rules.RuleSet.{RuleSet}
 use Rattle.rule_machine.specs.State.{State}
@@ -7,24 +7,23 @@ use Rattle.rule_machine.specs.Base.{Part, Told, Kept, Stand, base_of, entries_in
 use Rattle.rule_machine.specs.Run.{Entry, beginning_with}
 use Rattle.rule_machine.specs.Answer.{Answers, spent_after}
 use Rattle.rule_machine.specs.Tables.{table_of}
-use Rattle.line_text.specs.EntryText.{header_text}
 use Rattle.line_text.specs.BaseText.{base_head, base_text}
 use Rattle.entry_grammar.specs.Lines.{first_line}
 use Rattle.entry_grammar.specs.Spelling.{SpellsEntry, SpellsHeader}
-use Rattle.entry_grammar.specs.BaseLines.{base_lines}
 use Rattle.entry_grammar.proofs.Cutting.{first_line-splits}
-use Rattle.entry_grammar.proofs.BaseOnce.{base_text_is}
 use Rattle.entry_grammar.proofs.Free.{cons_parts}
 use Rattle.auditor.specs.declared.damage.Damage.{Damage}
 use Rattle.auditor.specs.declared.damage.Damage.TheVariants.{BadHeader, NotALine, OutOfOrder, NotTheMachines, BadBase}
 use Rattle.auditor.specs.declared.summary.Summary.{Summary}
-use Rattle.auditor.specs.Parts.{Opening, Named, Based, Opens, opening_text, size_of}
+use Rattle.auditor.specs.Parts.{Named, Based, Opens, size_of}
 use Rattle.auditor.specs.Transcript.{Comes, IsTranscript, epoch_count, move_count}
 use Rattle.auditor.specs.Damage.{BeginsBase, Follows, HasBadHeader, HasNoEntry, IsDamage, Parting, SpellsNoHead, SpellsNoHeader, line_feeds}
 use Rattle.auditor.specs.Accepted.{IsAccepted}
 use Rattle.auditor.proofs.Steps.{follows_more}
 use Rattle.auditor.proofs.Chains.{entry_line_is, part_some}
 use Rattle.auditor.proofs.Bases.{base_or_breaks}
+use Rattle.auditor.proofs.Reaching.{opened_follows, header_splits, base_splits}
+use Rattle.auditor.proofs.Opened.{broken, nowhere}
 
 -- ---- a text goes on with another, or parts from it
 
@@ -197,31 +196,13 @@ walk (suc fuel) bytes rules log end rest few neither follows =
 
 -- ---- how it begins
 
--- behind an opening
-opened : (bytes rest : List ℕ) (rules : RuleSet) (opening : Opening) (start : Stand) → start.count ≤ 16777216 → Opens rules opening start → bytes ≡ opening_text rules opening ++ rest → Follows bytes rules [] start rest
-opened bytes rest rules opening start few opens is = record {
-  opening = opening;
-  good = opening_text rules opening;
-  transcript = record {
-    start = start;
-    opens = opens;
-    text = sym (append-nil (opening_text rules opening));
-    parts = tt;
-    not_too_many = few;
-    passes = refl;
-  };
-  splits = is;
-}
-
 -- a header does not begin it
 no_header : (bytes line rest : List ℕ) (rules : RuleSet) (size count : ℕ) → Neither bytes → first_line bytes ≡ Some (line, rest) → SpellsHeader line rules size count → ⊥
 no_header bytes line rest rules size count neither cut spells =
     let start : Stand = record { moment = beginning_with size count; count = 0 } in
-    let header = header_text rules size count in
-    let is : bytes ≡ opening_text rules (Named size count) ++ rest =
-    first_line-splits bytes line rest cut ∙ ap (λ (l : List ℕ). l ++ 10 ∷ rest) spells.is ∙ sym (append_assoc header (10 ∷ []) rest) in
+    let opens : Opens rules (Named size count) start = record { fits = record { few = spells.few; within = spells.within }; begins = refl; count = refl } in
     walk (length rest) bytes rules [] start rest (omega arith) neither
-    (opened bytes rest rules (Named size count) start (omega arith) (record { fits = record { few = spells.few; within = spells.within }; begins = refl; count = refl }) is)
+    (opened_follows bytes rest rules (Named size count) start opens (omega arith) (header_splits bytes line rest rules size count cut spells))
 
 -- nor does a base
 no_head : (bytes line rest : List ℕ) (rules : RuleSet) (size : ℕ) → Neither bytes → first_line bytes ≡ Some (line, rest) → size ≤ 65535 → line ≡ base_head rules size → ⊥
@@ -229,38 +210,10 @@ no_head bytes line rest rules size neither cut few head =
     let first : first_line bytes ≡ Some (base_head rules size, rest) = cut ∙ ap (λ (l : List ℕ). Some (l, rest)) head in
     base_or_breaks rest
     (λ base more shaped is.
-    let whole : bytes ≡ opening_text rules (Based size base) ++ more =
-    first_line-splits bytes (base_head rules size) rest first
-    ∙ ap (λ (z : List ℕ). base_head rules size ++ 10 ∷ z) is
-    ∙ sym (append_assoc (base_head rules size) (10 ∷ []) (base_lines base ++ more))
-    ∙ sym (append_assoc (base_head rules size ++ 10 ∷ []) (base_lines base) more)
-    ∙ ap (λ (z : List ℕ). z ++ more) (sym (base_text_is rules size base)) in
-    neither.undamaged (BadBase 2) (inl (record {
-      rules = rules;
-      size = size;
-      rest = rest;
-      few = few;
-      first = first;
-      bad = inr (record {
-        base = base;
-        more = more;
-        shaped = shaped;
-        is = is;
-        nowhere = λ start opens.
-            walk (length more) bytes rules [] start more (omega arith) neither
-            (opened bytes more rules (Based size base) start (omega (arith, opens.count, opens.fits.number)) opens whole);
-        line_is = refl;
-      });
-    })))
-    (λ k breaks.
-    neither.undamaged (BadBase (k + 1)) (inl (record {
-      rules = rules;
-      size = size;
-      rest = rest;
-      few = few;
-      first = first;
-      bad = inl (record { number = k; breaks = breaks; line_is = refl });
-    })))
+    neither.undamaged (BadBase 2) (nowhere bytes rest more rules size base few first shaped is (λ start opens.
+    walk (length more) bytes rules [] start more (omega arith) neither
+    (opened_follows bytes more rules (Based size base) start opens (omega (arith, opens.count, opens.fits.number)) (base_splits bytes rest more rules size base first is))) None).is)
+    (λ k breaks. neither.undamaged (BadBase (k + 1)) (broken bytes rest rules size k few first breaks None).is)
 
 begins : (bytes : List ℕ) → Neither bytes → (found : Option (List ℕ × List ℕ)) → first_line bytes ≡ found → ⊥
 begins bytes neither None cut = neither.undamaged BadHeader (subst HasBadHeader (sym cut) tt)
