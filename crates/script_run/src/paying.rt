@@ -1,15 +1,15 @@
 //! How many workers a step is worth.
 
-ghost use Rattle.std.specs.Prelude.{◌≡◌, ◌≤◌, ◌<◌, min};
+ghost use Rattle.std.specs.Prelude.{◌≡◌, ◌≤◌, ◌/◌, max, min};
 
 /// For so many items a worker saves as much time as it takes to start it and to take its verdicts over.
 const ITEMS_A_WORKER: usize = 16_384;
 
 /// As many of these workers as pay for a step of so many items: one for each 16,384 of them, one at the least, and 64 at the most.
 pub fn paying_workers(workers: u32, items: usize) -> u32
+    ensures value { result ≡ min workers (min (max (items / 16384) 1) 64) }
     ensures some { 1 ≤ workers → 1 ≤ result }
     ensures few { result ≤ workers }
-    ensures alone { items < 32768 → result ≡ min workers 1 }
 {
     let paying = (items / ITEMS_A_WORKER).max(1).min(64);
     workers.min(paying as u32)
