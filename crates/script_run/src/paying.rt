@@ -2,7 +2,7 @@
 
 ghost use Rattle.std.specs.Prelude.{◌≡◌, ◌≤◌, ◌/◌, max, min};
 
-/// For so many items a worker saves as much time as it takes to start it and to take its verdicts over.
+/// With fewer items than this, starting a worker and taking its verdicts over costs more time than it saves.
 const ITEMS_A_WORKER: usize = 16_384;
 
 /// As many of these workers as pay for a step of so many items: one for each 16,384 of them, one at the least, and 64 at the most.
