@@ -1,3 +1,4 @@
 pub mod Near
+pub mod Glance
 pub mod Target
 pub mod Standing

@@ -11,6 +11,7 @@ ghost use Rattle.rule_machine.specs.RuleTable.{RuleTable, rule_at, enabled_names
 ghost use Rattle.rule_machine.specs.Network.{names, linked, edge_list, node_count, edge_count};
 ghost use Rattle.rule_machine.specs.Step.{IsStep};
 ghost use Rattle.rule_machine.specs.Stable.{IsStable};
+ghost use Rattle.rule_set.specs.Glance.{SameGlance};
 ghost use Rattle.rule_set.specs.Near.{SameAt};
 ghost use Rattle.rule_set.specs.Standing.{IsStanding};
 ghost use Rattle.rule_set.specs.Target.{target_at, takes_target};
@@ -33,6 +34,8 @@ pub trait Rules {
 
     ghost FLAGS: { Bool };
 
+    ghost ABOVE: { Bool };
+
     ghost NODE_WEIGHT: { ℕ };
 
     /// Which edges add nothing to the charge.
@@ -46,6 +49,9 @@ pub trait Rules {
 
     /// Whether it uses the married flags.
     const FLAGS: bool;
+
+    /// Whether its guards ask for open neighbours above a node alone, and not for any.
+    const ABOVE: bool;
 
     /// What each node adds to the bound of the charge.
     const NODE_WEIGHT: u64;
@@ -95,6 +101,10 @@ pub trait Rules {
 
     /// A guard depends on nothing but what is shown at its node.
     ghost is_local: { (s u : State) (v : ℕ) (act : Act) → IsState s → IsState u → SameAt s u v → table.guard s v act ≡ table.guard u v act };
+
+    /// A guard asks no more than a glance: of its node's neighbours together only whether one suits and whether one is open,
+    /// and registers of none but whom the node points at.
+    ghost is_glance: { (s u : State) (v : ℕ) (act : Act) → IsState s → IsState u → SameGlance ABOVE table.opens s u v → table.guard s v act ≡ table.guard u v act };
 
     /// At most one rule is enabled at a node.
     ghost one_rule: { (s : State) (v : ℕ) (a b : Act) → IsTrue (table.guard s v a) → IsTrue (table.guard s v b) → a ≡ b };

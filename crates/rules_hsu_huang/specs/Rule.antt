@@ -6,6 +6,7 @@ use Rattle.rule_machine.specs.State.{State, IsState, pointer, points, is_at, hol
 use Rattle.rule_machine.specs.RuleTable.{rule_at, is_open, first_open}
 use Rattle.rule_machine.specs.HsuHuang.{hsu_huang, hsu_huang_opens}
 use Rattle.rule_set.specs.Near.{SameAt}
+use Rattle.rule_set.specs.Glance.{SameGlance}
 use Rattle.machine_laws.specs.Shown.{same_find, same_pointer, same_suitor}
 use Rattle.machine_laws.specs.Pointers.{pointer_linked}
 
@@ -84,3 +85,17 @@ guard_is_local s u v Seduce is_state other same =
     ap₂ (λ (b c : Bool). b && c) (ap₂ (λ o b. is_none o && not b) (same_pointer s u v same) (same_suitor s u v same)) (same_open s u v same)
 guard_is_local s u v Abandon is_state other same =
     same_taken s u v (pointer s v) is_state same refl ∙ ap (holds_at (is_taken u v)) (same_pointer s u v same)
+
+-- whom a node leaves asks the pointer of whom it points at
+glance_taken : (s u : State) (v : ℕ) (o : Option ℕ) → SameGlance false hsu_huang_opens s u v → pointer s v ≡ o → holds_at (is_taken s v) o ≡ holds_at (is_taken u v) o
+glance_taken s u v None same e = refl
+glance_taken s u v (Some w) same e = ap (λ o. is_some o && not (is_at o v)) (same.target_pointer w e)
+
+-- and no guard asks more than a glance
+pub guard_is_glance : (s u : State) (v : ℕ) (act : Act) → IsState s → IsState u → SameGlance false hsu_huang_opens s u v → hsu_huang.guard s v act ≡ hsu_huang.guard u v act
+guard_is_glance s u v Update is_state other same = refl
+guard_is_glance s u v Marry is_state other same = ap₂ (λ o b. is_none o && b) same.own_pointer same.suitor
+guard_is_glance s u v Seduce is_state other same =
+    ap₂ (λ (b c : Bool). b && c) (ap₂ (λ o b. is_none o && not b) same.own_pointer same.suitor) same.reach
+guard_is_glance s u v Abandon is_state other same =
+    glance_taken s u v (pointer s v) same refl ∙ ap (holds_at (is_taken u v)) same.own_pointer

@@ -14,7 +14,7 @@ impl Rules for HsuHuang {
     ghost use Rattle.rule_machine.specs.HsuHuang.{hsu_huang};
     ghost use Rattle.rule_machine.specs.Charge.{hsu_huang_closed};
     ghost use Rattle.rules_hsu_huang.specs.Charge.{nothing, charge_without_nodes, light};
-    ghost use Rattle.rules_hsu_huang.specs.Rule.{guard_is_local, one_rule_at};
+    ghost use Rattle.rules_hsu_huang.specs.Rule.{guard_is_glance, guard_is_local, one_rule_at};
     ghost use Rattle.rules_hsu_huang.specs.Target.{allowed_near, allowed_takes, target_from_guard};
     ghost use Rattle.rules_hsu_huang.specs.Quiet.{stable_from_quiet, quiet_from_stable};
 
@@ -23,6 +23,8 @@ impl Rules for HsuHuang {
     ghost CENTRAL = { true };
 
     ghost FLAGS = { false };
+
+    ghost ABOVE = { false };
 
     ghost NODE_WEIGHT = { 1 };
 
@@ -33,6 +35,8 @@ impl Rules for HsuHuang {
     const CENTRAL: bool = true;
 
     const FLAGS: bool = false;
+
+    const ABOVE: bool = false;
 
     const NODE_WEIGHT: u64 = 1;
 
@@ -97,6 +101,8 @@ impl Rules for HsuHuang {
     ghost has_target = { target_from_guard };
 
     ghost is_local = { guard_is_local };
+
+    ghost is_glance = { guard_is_glance };
 
     ghost one_rule = { one_rule_at };
 

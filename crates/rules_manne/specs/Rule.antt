@@ -1,5 +1,5 @@
 -- The rule of a node by cases, and what follows at once.
-use Rattle.std.proofs.Common.{◌≡◌, ℕ, Bool, true, false, cond, not, ◌&&◌, ◌||◌, Option, None, Some, is_some, is_none, nat_lt, nat_le, find, IsTrue, refl, ap, ap₂, ◌∙◌, inl, inr}
+use Rattle.std.proofs.Common.{◌≡◌, ℕ, Bool, true, false, cond, not, ◌&&◌, ◌||◌, Option, None, Some, is_some, is_none, nat_lt, nat_le, find, IsTrue, refl, sym, ap, ap₂, ◌∙◌, inl, inr}
 use Rattle.std.specs.Bool.{beq}
 use Rattle.rule_machine.specs.declared.act.Act.{Act}
 use Rattle.rule_machine.specs.declared.act.Act.TheVariants.{Update, Marry, Seduce, Abandon}
@@ -8,6 +8,7 @@ use Rattle.rule_machine.specs.State.{State, IsState, pointer, flag, points, is_a
 use Rattle.rule_machine.specs.RuleTable.{rule_at}
 use Rattle.rule_machine.specs.Manne.{manne, manne_opens, may_court}
 use Rattle.rule_set.specs.Near.{SameAt}
+use Rattle.rule_set.specs.Glance.{SameGlance}
 use Rattle.machine_laws.specs.Shown.{same_find, same_pointer, same_suitor, same_married}
 use Rattle.machine_laws.specs.Pointers.{pointer_linked}
 use Rattle.rules_manne.specs.Greatest.{greatest, greatest_reaches}
@@ -133,3 +134,28 @@ guard_is_local s u v Seduce is_state other same =
     (same_courts s u v same)
 guard_is_local s u v Abandon is_state other same =
     ap₂ (λ (b c : Bool). b && c) (same_settled s u v same) (same_lost s u v (pointer s v) is_state same refl ∙ ap (holds_at (is_lost u v)) (same_pointer s u v same))
+
+-- what each part of a guard asks, a glance tells
+glance_settled : (s u : State) (v : ℕ) → SameGlance true manne_opens s u v → is_settled s v ≡ is_settled u v
+glance_settled s u v same = ap₂ (λ (m f : Bool). cond m f (not f)) same.marriage same.own_flag
+
+glance_courts : (s u : State) (v : ℕ) → IsState s → IsState u → SameGlance true manne_opens s u v → courts s v ≡ courts u v
+glance_courts s u v is_state other same =
+    greatest_reaches s v is_state.is_network ∙ same.reach ∙ sym (greatest_reaches u v other.is_network)
+
+glance_lost : (s u : State) (v : ℕ) (o : Option ℕ) → SameGlance true manne_opens s u v → pointer s v ≡ o → holds_at (is_lost s v) o ≡ holds_at (is_lost u v) o
+glance_lost s u v None same e = refl
+glance_lost s u v (Some w) same e =
+    ap₂ (λ o f. not (is_at o v) && (f || nat_le w v)) (same.target_pointer w e) (same.target_flag w e)
+
+-- and no guard asks more than a glance
+pub guard_is_glance : (s u : State) (v : ℕ) (act : Act) → IsState s → IsState u → SameGlance true manne_opens s u v → manne.guard s v act ≡ manne.guard u v act
+guard_is_glance s u v Update is_state other same = ap not (glance_settled s u v same)
+guard_is_glance s u v Marry is_state other same =
+    ap₂ (λ (b c : Bool). b && c) (ap₂ (λ b o. b && is_none o) (glance_settled s u v same) same.own_pointer) same.suitor
+guard_is_glance s u v Seduce is_state other same =
+    ap₂ (λ (b c : Bool). b && c)
+    (ap₂ (λ b c. b && not c) (ap₂ (λ b o. b && is_none o) (glance_settled s u v same) same.own_pointer) same.suitor)
+    (glance_courts s u v is_state other same)
+guard_is_glance s u v Abandon is_state other same =
+    ap₂ (λ (b c : Bool). b && c) (glance_settled s u v same) (glance_lost s u v (pointer s v) same refl ∙ ap (holds_at (is_lost u v)) same.own_pointer)

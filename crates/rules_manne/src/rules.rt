@@ -21,7 +21,7 @@ impl Rules for Manne {
     ghost use Rattle.charge_laws.specs.Tables.{manne_flagless};
     ghost use Rattle.rule_machine.specs.Manne.{manne};
     ghost use Rattle.rule_machine.specs.Charge.{manne_closed, manne_node_charge};
-    ghost use Rattle.rules_manne.specs.Rule.{guard_is_local, one_rule_at};
+    ghost use Rattle.rules_manne.specs.Rule.{guard_is_glance, guard_is_local, one_rule_at};
     ghost use Rattle.rules_manne.specs.Target.{allowed_near, allowed_takes, target_from_guard};
     ghost use Rattle.rules_manne.specs.Quiet.{stable_from_quiet, quiet_from_stable};
     ghost use Rattle.rules_manne.specs.Charge.{counted, light};
@@ -32,6 +32,8 @@ impl Rules for Manne {
 
     ghost FLAGS = { true };
 
+    ghost ABOVE = { true };
+
     ghost NODE_WEIGHT = { 3 };
 
     ghost closed = { manne_closed };
@@ -41,6 +43,8 @@ impl Rules for Manne {
     const CENTRAL: bool = false;
 
     const FLAGS: bool = true;
+
+    const ABOVE: bool = true;
 
     const NODE_WEIGHT: u64 = 3;
 
@@ -104,6 +108,8 @@ impl Rules for Manne {
     ghost has_target = { target_from_guard };
 
     ghost is_local = { guard_is_local };
+
+    ghost is_glance = { guard_is_glance };
 
     ghost one_rule = { one_rule_at };
 
