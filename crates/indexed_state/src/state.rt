@@ -1,11 +1,13 @@
 //! A state with its index.
 
-ghost use Rattle.std.specs.Prelude.{◌≡◌, ◌≤◌, false, [], slice_set, IfOk, IfErr, IfSome, OnOk, OnErr, MatchOption, IsTrue, None, Some};
+ghost use Rattle.std.specs.Prelude.{◌≡◌, ◌≤◌, false, [], slice_set, IfOk, IfErr, IfSome, OnOk, OnErr, MatchOption, IsTrue, None, Some, not};
 ghost use Rattle.graph_store.specs.Fault.{nodes_fault, link_fault, unlink_fault, Explains};
 ghost use Rattle.graph_store.specs.Graph.{HasRoomFor};
 ghost use Rattle.rule_machine.specs.Network.{present, linked, neighbours, without_edge};
 ghost use Rattle.rule_machine.specs.State.{IsState, opening, opening_with, flag, points};
 ghost use Rattle.rule_machine.specs.Disturbance.{after_link, after_unlink, after_point, after_flag, after_join, after_leave, without_pointer};
+ghost use Rattle.rule_machine.specs.RuleTable as RuleTable;
+ghost use Rattle.rule_set.specs.Glance.{reaches_beside};
 ghost use Rattle.machine_laws.specs.Leaves.{after_parting};
 
 use crate::NodeView;
@@ -101,6 +103,26 @@ impl<R: Rules> IndexedState<R> {
         ensures node { result.node ≡ node }
     {
         NodeView::new(self, node)
+    }
+
+    /// Whether a node's pointer and flag make it open to a seduction.
+    pub fn is_open(&self, v: Node) -> bool
+        requires { IsTrue (present self.now.state.network v) }
+        ensures { result ≡ RuleTable.is_open R.table.opens self.now.state v }
+    {
+        R::opens(self.registers.pointer(v), self.registers.flag(v))
+    }
+
+    /// Whether no neighbour that a node's guard asks for is open but v, which is a neighbour, and open or not as is said here. One
+    /// look.
+    pub fn relies_on(&self, w: Node, v: Node, is_open: bool) -> bool
+        requires present { IsTrue (present self.now.state.network w) }
+        requires linked { IsTrue (linked self.now.state.network w v) }
+        requires open { is_open ≡ RuleTable.is_open R.table.opens self.now.state v }
+        ensures { result ≡ not (reaches_beside R.ABOVE R.table.opens self.now.state w v) }
+    {
+        self.index
+            .relies_on(w, v, is_open, &self.store, &self.registers)
     }
 
     /// Makes room for the edge between two nodes, so that `link_reserved` of them takes no memory: a look-up by halves, and the

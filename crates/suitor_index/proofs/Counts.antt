@@ -1,12 +1,15 @@
 -- What is counted at a node says what a search among its neighbours finds.
-use Rattle.std.proofs.Common.{◌≡◌, ℕ, ◌≤◌, Bool, List, length, reverse, Option, Some, None, SomeIff, is_some, nat_lt, IsTrue, sym, ap, ◌∙◌, arith}
-use Rattle.std.specs.List.{sum_by}
-use Rattle.rule_machine.specs.Network.{present, neighbours}
+use Rattle.std.proofs.Common.{◌≡◌, ℕ, zero, suc, ◌+◌, ◌≤◌, Bool, true, false, cond, not, ◌&&◌, List, length, reverse, find, Option, Some, None, SomeIff, is_some, nat_eq, nat_lt, nat_le, IsTrue, refl, sym, ap, ◌∙◌, arith}
+use Rattle.std.specs.List.{count_by, sum_by}
+use Rattle.std.proofs.lemmas.Bool.{eq-eqb, le-leb, lt-leb, lt-ltb, ne_eqb}
+use Rattle.rule_machine.specs.Network.{Network, IsNetwork, linked, present, neighbours}
 use Rattle.rule_machine.specs.State.{State, IsState, suits, has_suitor, first_suitor}
 use Rattle.rule_machine.specs.RuleTable.{is_open, first_open, last_open_above}
 use Rattle.machine_laws.specs.Neighbours.{near_some, linked_back, linked_present, present_range}
 use Rattle.suitor_index.specs.declared.tally.Tally.{Tally}
 use Rattle.suitor_index.specs.Tallies.{tally_of, is_open_above, name_if, IsIndexOf}
+use Rattle.suitor_index.specs.Told.{one_if}
+use Rattle.suitor_index.proofs.Near.{near_turn}
 use Rattle.suitor_index.proofs.Sums.{count_some, count_none, count_one, count_reverse}
 
 pub suitors_counted : (opens : Option ℕ → Bool → Bool) (s : State) (ts : List Tally) (v : ℕ) (t : Tally) → IsIndexOf opens s ts → IsTrue (present s.network v) → t ≡ tally_of ts v → nat_lt 0 t.suitors ≡ has_suitor s v
@@ -40,3 +43,24 @@ one_suitor_counted opens s ts v t o is_state index here is few one named =
     named_some : (o : Option ℕ) (P : Type 0) (x : ℕ) → SomeIff o P x → P → o ≡ Some x
     named_some None P x h p = absurd (h p)
     named_some (Some y) P x h p = ap Some h.1
+
+-- one count is another and a part, so it is no more than the part where the other is none
+at_most_part : (a b : ℕ) (part : Bool) → a ≡ b + one_if part → nat_le a (one_if part) ≡ not (nat_lt 0 b)
+at_most_part a zero part is = le-leb a (one_if part) (omega (arith, is))
+at_most_part a (suc b) part is = lt-leb a (one_if part) (omega (arith, is)) ∙ ap not (sym (lt-ltb 0 (suc b) (omega arith)))
+
+-- v is no more than one of the neighbours that pass
+pub others_counted : (net : Network) (p : ℕ → Bool) (w v : ℕ) → IsNetwork net → IsTrue (linked net w v) → nat_le (count_by p (neighbours net w)) (one_if (p v)) ≡ not (is_some (find (λ x. not (nat_eq x v) && p x) (neighbours net w)))
+others_counted net p w v is_network h =
+    let here = linked_present net v w is_network (linked_back net v w ∙ h) in
+    let turn = near_turn net net w v (λ x. one_if (p x)) (λ x. one_if (not (nat_eq x v) && p x)) refl (λ x. refl) here (
+      λ x apart. ap (λ b. cond (linked net w x) (one_if (not b && p x)) 0) (sym (ne_eqb x v apart))
+    ) in
+    let mine = ap (λ b. cond b (one_if (p v)) 0) h in
+    let gone : cond (linked net w v) (one_if (not (nat_eq v v) && p v)) 0 ≡ 0 = ap (λ b. cond (linked net w v) (one_if (not b && p v)) 0) (eq-eqb v v refl) ∙ nothing (linked net w v) 0 in
+    at_most_part (count_by p (neighbours net w)) (count_by (λ x. not (nat_eq x v) && p x) (neighbours net w)) (p v) (omega (arith, turn, mine, gone))
+    ∙ ap not (count_some (λ x. not (nat_eq x v) && p x) (neighbours net w))
+  where
+    nothing : (b : Bool) (x : ℕ) → cond b x x ≡ x
+    nothing true x = refl
+    nothing false x = refl

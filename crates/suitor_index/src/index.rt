@@ -1,9 +1,11 @@
 //! The index of suitors and open neighbours.
 
-ghost use Rattle.std.specs.Prelude.{◌≡◌, ◌<◌, ◌≤◌, ◌&&◌, IfOk, IsTrue, is_some, length};
+ghost use Rattle.std.specs.Prelude.{◌≡◌, ◌<◌, ◌≤◌, ◌&&◌, IfOk, IsTrue, is_some, length, not};
 ghost use Rattle.rule_machine.specs.Network.{present, linked};
 ghost use Rattle.rule_machine.specs.State.{IsState, suits, has_suitor, first_suitor};
+ghost use Rattle.rule_machine.specs.RuleTable as RuleTable;
 ghost use Rattle.rule_machine.specs.RuleTable.{is_open, first_open, last_open_above};
+ghost use Rattle.rule_set.specs.Glance.{reaches_beside};
 ghost use Rattle.suitor_index.specs.Tallies.{state_of, tally_of, tally_at, IsIndexOf};
 
 use crate::tally::NOTHING;
@@ -93,6 +95,31 @@ impl<R: Rules> SuitorIndex<R> {
         ensures { result ≡ is_some (last_open_above R.table.opens (state_of store.now.network registers.now) v) }
     {
         self.tally(v).open_above > 0
+    }
+
+    /// Whether no neighbour that the node's guard asks for is open but v, which is a neighbour, and open or not as is said here. One
+    /// look.
+    pub fn relies_on(
+        &self,
+        w: Node,
+        v: Node,
+        is_open: bool,
+        store: &EdgeStore,
+        registers: &Registers,
+    ) -> bool
+        requires state { IsState (state_of store.now.network registers.now) }
+        requires index { IsIndexOf R.table.opens (state_of store.now.network registers.now) self.now }
+        requires present { IsTrue (present store.now.network w) }
+        requires linked { IsTrue (linked store.now.network w v) }
+        requires open { is_open ≡ RuleTable.is_open R.table.opens (state_of store.now.network registers.now) v }
+        ensures { result ≡ not (reaches_beside R.ABOVE R.table.opens (state_of store.now.network registers.now) w v) }
+    {
+        let tally = self.tally(w);
+        if R::ABOVE {
+            tally.has_none_above_but(w, v, is_open)
+        } else {
+            tally.has_none_but(is_open)
+        }
     }
 
     /// The first neighbour that points at the node. One look where there is none or one; else a scan of the neighbours, which

@@ -1,6 +1,6 @@
 //! What is counted at a node.
 
-ghost use Rattle.std.specs.Prelude.{◌≡◌, ◌+◌, ◌≤◌, ◌&&◌, cond, nat_lt};
+ghost use Rattle.std.specs.Prelude.{◌≡◌, ◌+◌, ◌≤◌, ◌&&◌, cond, nat_le, nat_lt};
 ghost use Rattle.suitor_index.specs.Told.{one_if, HasRoomForAll};
 
 use rule_machine::Node;
@@ -39,5 +39,19 @@ impl Tally {
             open_above: self.open_above + u16::from(is_open && v < w),
             sum: self.sum + if is_suitor { w.name() } else { 0 },
         }
+    }
+
+    /// Whether no neighbour is open but one, which is open or not as is said here.
+    pub(crate) fn has_none_but(self, is_open: bool) -> bool
+        ensures { result ≡ nat_le self.open_near (one_if is_open) }
+    {
+        self.open_near <= u16::from(is_open)
+    }
+
+    /// Whether no neighbour above v is open but w, which is open or not as is said here.
+    pub(crate) fn has_none_above_but(self, v: Node, w: Node, is_open: bool) -> bool
+        ensures { result ≡ nat_le self.open_above (one_if (is_open && nat_lt v w)) }
+    {
+        self.open_above <= u16::from(is_open && v < w)
     }
 }
