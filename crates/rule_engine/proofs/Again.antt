@@ -5,21 +5,19 @@ use Rattle.std.proofs.lemmas.Bool.{cases_Bool, cond-true, cond-false, eqb-true, 
 use Rattle.std.proofs.lemmas.List.{length-replicate, nil_from_length}
 use Rattle.std.proofs.lemmas.List.Elements.{filter_agree}
 use Rattle.rule_machine.specs.declared.act.Act.{Act}
-use Rattle.rule_machine.specs.declared.moved.Moved.{Moved}
-use Rattle.rule_machine.specs.Network.{present}
+use Rattle.rule_machine.specs.Network.{present, without_edge}
 use Rattle.rule_machine.specs.State.{State, IsState}
 use Rattle.rule_machine.specs.RuleTable.{RuleTable, acts, rule_at, enabled_names}
-use Rattle.rule_machine.specs.Disturbance.{after_link, after_unlink, after_point, after_flag}
-use Rattle.rule_machine.specs.Step.{after_moves}
+use Rattle.rule_machine.specs.Disturbance.{after_link}
 use Rattle.rule_set.specs.Near.{SameAt}
 use Rattle.machine_laws.specs.Enabled.{quiet_at, act_none}
 use Rattle.enabled_set.specs.Members.{is_in, members}
 use Rattle.rule_engine.specs.Kept.{is_on, AreOn, IsKept}
-use Rattle.rule_engine.specs.Looked.{is_near, is_near_mover, IsLookedAt}
+use Rattle.rule_engine.specs.Looked.{IsLookedAt}
 use Rattle.rule_engine.proofs.Looked.{looked_both}
 use Rattle.rule_engine.proofs.Named.{kept_twice}
 use Rattle.rule_engine.proofs.Opening.{blank_at}
-use Rattle.rule_engine.proofs.Far.{link_far, unlink_far, point_far, flag_far, moves_far}
+use Rattle.rule_engine.proofs.Far.{cut_far, link_far}
 
 -- a guard depends on nothing but what is shown at its node
 abbrev pub IsLocal : RuleTable → Type 0
@@ -54,28 +52,12 @@ kept_linked t local s u a b bits one two kept good is first next =
     (λ v far. subst (λ q. SameAt s q v) (sym is) (link_far s a b v far))
     (looked_both t u (λ w. nat_eq w a) (λ w. nat_eq w b) bits one two first next)
 
--- after an unlink, looks round both ends
-pub kept_unlinked : (t : RuleTable) → IsLocal t → (s u : State) (a b : ℕ) (bits one two : List Bool) {marks : List Bool} → IsKept t s bits marks → IsState u → u ≡ after_unlink s a b → IsLookedAt t u (is_near u.network a) bits one → IsLookedAt t u (is_near u.network b) one two → IsKept t u two marks
-kept_unlinked t local s u a b bits one two kept good is first next =
-    kept_again t local s u (λ w. is_near u.network a w || is_near u.network b w) bits two kept good (ap (λ q. q.network.size) is) (λ x _. ap (λ q. present q.network x) is)
-    (λ v far. subst (λ q. SameAt s q v) (sym is) (unlink_far s a b v (ap (λ q. is_near q.network a v || is_near q.network b v) (sym is) ∙ far)))
-    (looked_both t u (is_near u.network a) (is_near u.network b) bits one two first next)
-
--- after a write of a register, and after the moves of a step, looks round the nodes that were written
-pub kept_pointed : (t : RuleTable) → IsLocal t → (s u : State) (v : ℕ) (target : Option ℕ) (bits bits' : List Bool) {marks : List Bool} → IsKept t s bits marks → IsState u → u ≡ after_point s v target → IsLookedAt t u (is_near u.network v) bits bits' → IsKept t u bits' marks
-kept_pointed t local s u v target bits bits' kept good is done =
-    kept_again t local s u (is_near u.network v) bits bits' kept good (ap (λ q. q.network.size) is) (λ x _. ap (λ q. present q.network x) is)
-    (λ w far. subst (λ q. SameAt s q w) (sym is) (point_far s v target w (ap (λ q. is_near q.network v w) (sym is) ∙ far))) done
-
-pub kept_flagged : (t : RuleTable) → IsLocal t → (s u : State) (v : ℕ) (value : Bool) (bits bits' : List Bool) {marks : List Bool} → IsKept t s bits marks → IsState u → u ≡ after_flag s v value → IsLookedAt t u (is_near u.network v) bits bits' → IsKept t u bits' marks
-kept_flagged t local s u v value bits bits' kept good is done =
-    kept_again t local s u (is_near u.network v) bits bits' kept good (ap (λ q. q.network.size) is) (λ x _. ap (λ q. present q.network x) is)
-    (λ w far. subst (λ q. SameAt s q w) (sym is) (flag_far s v value w (ap (λ q. is_near q.network v w) (sym is) ∙ far))) done
-
-pub kept_moved : (t : RuleTable) → IsLocal t → (s u : State) (moves : List Moved) (bits bits' : List Bool) {marks : List Bool} → IsKept t s bits marks → IsState u → u ≡ after_moves s moves → IsLookedAt t u (is_near_mover u.network moves) bits bits' → IsKept t u bits' marks
-kept_moved t local s u moves bits bits' kept good is done =
-    kept_again t local s u (is_near_mover u.network moves) bits bits' kept good (ap (λ q. q.network.size) is) (λ x _. ap (λ q. present q.network x) is)
-    (λ w far. subst (λ q. SameAt s q w) (sym is) (moves_far s moves w (ap (λ q. is_near_mover q.network moves w) (sym is) ∙ far))) done
+-- after an edge went that no pointer crossed, a look at the two ends
+pub kept_cut : (t : RuleTable) → IsLocal t → (s u : State) (a b : ℕ) (bits one two : List Bool) {marks : List Bool} → IsKept t s bits marks → IsState u → u ≡ record s { network = without_edge s.network a b } → IsLookedAt t u (λ w. nat_eq w a) bits one → IsLookedAt t u (λ w. nat_eq w b) one two → IsKept t u two marks
+kept_cut t local s u a b bits one two kept good is first next =
+    kept_again t local s u (λ w. nat_eq w a || nat_eq w b) bits two kept good (ap (λ q. q.network.size) is) (λ x _. ap (λ q. present q.network x) is)
+    (λ v far. subst (λ q. SameAt s q v) (sym is) (cut_far s a b v far))
+    (looked_both t u (λ w. nat_eq w a) (λ w. nat_eq w b) bits one two first next)
 
 -- a rule that only present nodes have
 by_presence : {X : Type 0} (here : Bool) (o : Option X) → is_some (cond here o None) ≡ (here && is_some o)

@@ -21,7 +21,3 @@ pub carried : (s u : State) → IsState s → (moves : List Moved) → u.network
 carried s u good moves network wrote =
     let registers : u.registers ≡ registers_after s moves = wrote ∙ written_in_two s good moves in
     λ i. record { network = network i; registers = registers i }
-
--- is one
-pub carried_state : (s u : State) → IsState s → (moves : List Moved) → All (IsMoveIn s.network) moves → u ≡ after_moves s moves → IsState u
-carried_state s u good moves all after = subst IsState (sym after) (moves_keep s moves good (recursion_from_All (IsMoveIn s.network) moves all))

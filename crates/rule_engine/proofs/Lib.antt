@@ -7,6 +7,8 @@ pub mod Preparing
 pub mod Committing
 pub mod Looked
 pub mod Far
+pub mod Glances
+pub mod Written
 pub mod Again
 pub mod Coming
 pub mod Leaving

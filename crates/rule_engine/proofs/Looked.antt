@@ -1,15 +1,15 @@
 -- Looks again at nodes, one after another.
-use Rattle.std.proofs.Common.{◌≡◌, ℕ, zero, suc, ◌+◌, ◌<◌, ◌≤◌, Bool, true, false, cond, ◌||◌, List, [], ◌∷◌, length, take, set, get_or, filter, nat_eq, refl, sym, ap, ◌∙◌, ⊎_elim, arith}
+use Rattle.std.proofs.Common.{◌≡◌, ℕ, zero, suc, ◌+◌, ◌<◌, ◌≤◌, Bool, true, false, cond, ◌&&◌, ◌||◌, List, [], ◌∷◌, length, take, set, get_or, filter, find, Some, is_some, nat_eq, refl, sym, ap, ap₂, ◌∙◌, ⊎_elim, arith}
 use Rattle.std.specs.List.{list_any, range_with_len}
-use Rattle.std.proofs.lemmas.Bool.{cases_Bool, cases_eq, eq-eqb, ne_eqb, or_right, true≢false, cond-true, cond-false}
+use Rattle.std.proofs.lemmas.Bool.{cases_Bool, cases_eq, eq-eqb, eqb-true, ne_eqb, or_parts, or_right, true≢false, cond-true, cond-false}
 use Rattle.std.proofs.lemmas.List.{length-set, get_or-set_same, get_or-set_other}
 use Rattle.std.proofs.lemmas.List.Folds.{list_any_more}
 use Rattle.rule_machine.specs.Network.{Network, IsNetwork, linked, neighbours}
-use Rattle.rule_machine.specs.State.{State}
+use Rattle.rule_machine.specs.State.{State, suits, has_suitor}
 use Rattle.rule_machine.specs.RuleTable.{RuleTable}
 use Rattle.machine_laws.specs.Neighbours.{present_range, linked_present, linked_back, neighbours_range}
 use Rattle.rule_engine.specs.Kept.{is_on}
-use Rattle.rule_engine.specs.Looked.{IsLookedAt}
+use Rattle.rule_engine.specs.Looked.{is_suitor, IsLookedAt}
 
 -- a look at one node
 pub looked_one : (t : RuleTable) (s : State) (v : ℕ) (bits : List Bool) (b : Bool) → v < length bits → b ≡ is_on t s v → IsLookedAt t s (λ w. nat_eq w v) bits (set bits v b)
@@ -92,10 +92,51 @@ looked_more t s p q xs i x a b c within is first next =
     regroup true b c = refl
     regroup false b c = refl
 
--- none of a list's nodes yet
-pub looked_first : (t : RuleTable) (s : State) (p : ℕ → Bool) (a b : List Bool) → IsLookedAt t s p a b → IsLookedAt t s (λ w. p w || false) a b
-looked_first t s p a b looked = looked_alike t s p (λ w. p w || false) a b (λ w. alone (p w)) looked
+-- a test of a name beside one of which item it is
+any_at : (c : ℕ → Bool) (w : ℕ) (xs : List ℕ) → list_any (λ y. nat_eq w y && c y) xs ≡ (list_any (nat_eq w) xs && c w)
+any_at c w [] = refl
+any_at c w (y ∷ ys) =
+    ap (λ b. (nat_eq w y && c y) || b) (any_at c w ys) ∙ shared (nat_eq w y) (list_any (nat_eq w) ys) (c y) (c w) (λ same. ap c (sym (eqb-true w y same)))
   where
-    alone : (b : Bool) → b ≡ (b || false)
-    alone true = refl
-    alone false = refl
+    absorbed : (b x y : Bool) → x ≡ y → (x || (b && y)) ≡ y
+    absorbed b true true e = refl
+    absorbed b true false e = absurd (true≢false e)
+    absorbed b false true e = absurd (true≢false (sym e))
+    absorbed true false false e = refl
+    absorbed false false false e = refl
+    shared : (e b x y : Bool) → (e ≡ true → x ≡ y) → ((e && x) || (b && y)) ≡ ((e || b) && y)
+    shared true b x y h = absorbed b x y (h refl)
+    shared false b x y h = refl
+
+-- a search finds one just where one passes
+pub found_any : (p : ℕ → Bool) (xs : List ℕ) → is_some (find p xs) ≡ list_any p xs
+found_any p [] = refl
+found_any p (x ∷ xs) = by (p x) (found_any p xs)
+  where
+    by : (b : Bool) → is_some (find p xs) ≡ list_any p xs → is_some (cond b (Some x) (find p xs)) ≡ (b || list_any p xs)
+    by true e = refl
+    by false e = e
+
+-- where none passes no item does
+none_at : (c : ℕ → Bool) (w : ℕ) (xs : List ℕ) → list_any c xs ≡ false → list_any (λ y. nat_eq w y && c y) xs ≡ false
+none_at c w [] e = refl
+none_at c w (y ∷ ys) e =
+    let parts = or_parts (c y) (list_any c ys) e in
+    ap (λ b. (nat_eq w y && b) || list_any (λ z. nat_eq w z && c z) ys) parts.0 ∙ ap₂ (λ (a b : Bool). a || b) (none (nat_eq w y)) (none_at c w ys parts.1)
+  where
+    none : (b : Bool) → (b && false) ≡ false
+    none true = refl
+    none false = refl
+
+-- where nobody points at a node there is none to look at
+pub looked_unsuited : (t : RuleTable) (s : State) (v : ℕ) (bits : List Bool) → IsNetwork s.network → has_suitor s v ≡ false → IsLookedAt t s (is_suitor s v) bits bits
+looked_unsuited t s v bits good none =
+    looked_alike t s (λ w. false) (is_suitor s v) bits bits
+    (λ w. sym (sym (ap (λ b. b && suits s v w) (listed_neighbours s.network v w good)) ∙ sym (any_at (suits s v) w (neighbours s.network v)) ∙ none_at (suits s v) w (neighbours s.network v) (sym (found_any (suits s v) (neighbours s.network v)) ∙ none)))
+    (looked_none t s bits)
+
+-- looks at those neighbours that pass, one after another
+pub looked_neighbours : (t : RuleTable) (s : State) (v : ℕ) (c : ℕ → Bool) (list : List ℕ) (a b : List Bool) → IsNetwork s.network → list ≡ neighbours s.network v → IsLookedAt t s (λ w. list_any (λ y. nat_eq w y && c y) list) a b → IsLookedAt t s (λ w. linked s.network v w && c w) a b
+looked_neighbours t s v c list a b good is looked =
+    looked_alike t s (λ w. list_any (λ y. nat_eq w y && c y) list) (λ w. linked s.network v w && c w) a b
+    (λ w. ap (list_any (λ y. nat_eq w y && c y)) is ∙ any_at c w (neighbours s.network v) ∙ ap (λ b. b && c w) (listed_neighbours s.network v w good)) looked

@@ -25,11 +25,6 @@ pub record AreOn (t : RuleTable) (s : State) (bits : List Bool) : Type 0 where
   pub places : length bits ≡ s.network.size + 1
   pub each : (v : ℕ) → is_in bits v ≡ is_on t s v
 
--- the same, but at the names that a test names
-pub record AreOnBut (t : RuleTable) (s : State) (but : ℕ → Bool) (bits : List Bool) : Type 0 where
-  pub places : length bits ≡ s.network.size + 1
-  pub each : (v : ℕ) → but v ≡ false → is_in bits v ≡ is_on t s v
-
 -- the state is one, the first set is that of its enabled nodes, and the second is empty
 pub record IsKept (t : RuleTable) (s : State) (bits marks : List Bool) : Type 0 where
   pub is_state : IsState s

@@ -1,17 +1,18 @@
 //! A state under a rule set, and what carries out events on it.
 
-ghost use Rattle.std.specs.Prelude.{All, ◌≡◌, ◌<◌, ◌≤◌, ◌↔◌, ℕ, [], IfOk, IfErr, IfSome, OnOk, IsTrue, None, false, length, slice_get};
+ghost use Rattle.std.specs.Prelude.{All, ◌≡◌, ◌<◌, ◌≤◌, ◌↔◌, ℕ, [], IfOk, IfErr, IfSome, OnOk, IsTrue, None, false, fold, length, slice_get};
 ghost use Rattle.enabled_set.specs.Members.{members};
 ghost use Rattle.graph_store.specs.Fault.{nodes_fault, Explains};
 ghost use Rattle.graph_store.specs.Graph.{HasRoomFor};
-ghost use Rattle.rule_machine.specs.Network.{present};
+ghost use Rattle.rule_machine.specs.Network.{present, linked, neighbours};
 ghost use Rattle.rule_machine.specs.State.{opening_with, IsState};
 ghost use Rattle.rule_machine.specs.RuleTable.{enabled_names};
-ghost use Rattle.rule_machine.specs.Disturbance.{after_link, after_unlink, after_point, after_flag, after_join, after_leave};
-ghost use Rattle.rule_machine.specs.Refuse.{refusal_of, link_refusal, unlink_refusal, point_refusal};
+ghost use Rattle.rule_machine.specs.Disturbance.{after_link, after_unlink, after_point, after_flag, after_join, after_leave, without_pointer};
+ghost use Rattle.rule_machine.specs.Refuse.{refusal_of, link_refusal, unlink_refusal};
 ghost use Rattle.rule_machine.specs.Least.{reply_of, state_after};
 ghost use Rattle.rule_machine.specs.Step.{after_moves};
 ghost use Rattle.machine_laws.specs.Keeps.{IsMoveIn};
+ghost use Rattle.machine_laws.specs.Passes.{flag_read, pointer_written};
 ghost use Rattle.rule_machine.specs.Stable.{IsStable, IsMaximalMatching, mutual_pairs};
 ghost use Rattle.rule_machine.specs.declared.event.Event.TheVariants.{Link, Step, Show, Enabled, Matching, Status, Join, Leave};
 ghost use Rattle.rule_machine.specs.declared.reply.Reply.TheVariants.{Accepted};
@@ -28,9 +29,9 @@ use crate::edits::{
 use crate::guard::{outcome, refused_step, rule_enabled, verdicts};
 use crate::judge::refused_verdicts;
 use crate::listing::{count_pairs, enabled_rules, mutual_edges};
-use crate::look::{look_at, look_round, look_round_movers};
-use crate::moves::{ascending_moves, write_moves};
-use crate::parting::unlink_all;
+use crate::look::{look_after_write, look_at, look_at_target};
+use crate::moves::ascending_moves;
+use crate::parting::last_neighbour;
 use enabled_set::EnabledSet;
 use graph_store::{EdgeStore, GraphFault};
 use indexed_state::IndexedState;
@@ -310,27 +311,49 @@ impl<R: Rules> Engine<R> {
         requires { unlink_refusal self.old.state.network a b ≡ None }
         ensures { self.new.state ≡ after_unlink self.old.state a b }
     {
+        self.clear_pointer(a, b);
+        self.clear_pointer(b, a);
         let Ok(()) = self.state.unlink(a, b) else {
             unreachable!();
         };
-        look_round(&self.state, &mut self.enabled, a);
-        look_round(&self.state, &mut self.enabled, b);
+        look_at(&self.state, &mut self.enabled, a);
+        look_at(&self.state, &mut self.enabled, b);
+    }
+
+    // Sets a node's pointer to null where it is at the other node.
+    fn clear_pointer(&mut self, v: Node, w: Node)
+        requires { IsTrue (present self.old.state.network v) }
+        ensures registers { self.new.state.registers ≡ without_pointer self.old.state.registers v w }
+        ensures network { self.new.state.network ≡ self.old.state.network }
+    {
+        if self.state.registers().points_at(v, w) {
+            self.point(v, None);
+        }
     }
 
     fn point(&mut self, v: Node, target: Option<Node>)
-        requires { point_refusal self.old.state.network v target ≡ None }
+        requires present { IsTrue (present self.old.state.network v) }
+        requires near { IfSome target (λ w. IsTrue (linked self.old.state.network v w)) }
         ensures { self.new.state ≡ after_point self.old.state v target }
     {
+        let left = self.state.registers().pointer(v);
+        let was_open = self.state.is_open(v);
         self.state.set_pointer(v, target);
-        look_round(&self.state, &mut self.enabled, v);
+        let turned = self.state.is_open(v) != was_open;
+        let courted = self.state.registers().pointer(v);
+        look_at_target(&self.state, &mut self.enabled, left);
+        look_at_target(&self.state, &mut self.enabled, courted);
+        look_after_write(&self.state, &mut self.enabled, v, turned);
     }
 
     fn flag(&mut self, v: Node, value: bool)
         requires { IsTrue (present self.old.state.network v) }
         ensures { self.new.state ≡ after_flag self.old.state v value }
     {
+        let was_open = self.state.is_open(v);
         self.state.set_flag(v, value);
-        look_round(&self.state, &mut self.enabled, v);
+        let turned = self.state.is_open(v) != was_open;
+        look_after_write(&self.state, &mut self.enabled, v, turned);
     }
 
     /// Makes a name a node, with no edge, a null pointer and its flag false. Looks at no other node, and takes no memory.
@@ -344,22 +367,65 @@ impl<R: Rules> Engine<R> {
         look_at(&self.state, &mut self.enabled, v);
     }
 
-    /// Makes a node absent, with its edges: what `unlink` costs at its other end, for each neighbour. Takes no memory.
+    // Takes out the edges of a node, one by one, and sets to null the pointers that crossed them.
+    fn unlink_all(&mut self, v: Node)
+        requires { IsTrue (present self.old.state.network v) }
+        ensures left { after_leave self.new.state v ≡ after_leave self.old.state v }
+        ensures present { IsTrue (present self.new.state.network v) }
+        ensures alone { neighbours self.new.state.network v ≡ [] }
+    {
+        // From the end, so that the node's own neighbour list never shifts.
+        while let Some(w) = last_neighbour(&self.state, v) {
+            self.unlink(v, w);
+        }
+    }
+
+    /// Makes a node absent, with its edges: what `unlink` costs, for each neighbour. Takes no memory.
     pub(crate) fn leave(&mut self, v: Node)
         requires { IsTrue (present self.old.state.network v) }
         ensures { self.new.state ≡ after_leave self.old.state v }
     {
-        unlink_all(&mut self.state, &mut self.enabled, v);
+        self.unlink_all(v);
         self.state.part(v);
         self.enabled.remove(v);
     }
 
-    /// Carries out the moves of one step.
+    // Writes the flags of moves that update, from the pointers as they are.
+    fn write_flags(&mut self, moves: &[Moved])
+        requires { All (IsMoveIn self.old.state.network) moves.now }
+        ensures registers { self.new.state.registers ≡ fold flag_read self.old.state.registers moves.now }
+        ensures network { self.new.state.network ≡ self.old.state.network }
+    {
+        for moved in moves {
+            if moved.act == Act::Update {
+                let married = self.state.registers().married(moved.node);
+                self.flag(moved.node, married);
+            }
+        }
+    }
+
+    // Writes the pointers of moves.
+    fn write_pointers(&mut self, moves: &[Moved])
+        requires { All (IsMoveIn self.old.state.network) moves.now }
+        ensures registers { self.new.state.registers ≡ fold pointer_written self.old.state.registers moves.now }
+        ensures network { self.new.state.network ≡ self.old.state.network }
+    {
+        for moved in moves {
+            match moved.act {
+                Act::Update => {}
+                Act::Marry | Act::Seduce => self.point(moved.node, moved.target),
+                Act::Abandon => self.point(moved.node, None),
+            }
+        }
+    }
+
+    /// Carries out the moves of one step: flags first, since they are read from the pointers of before.
     fn make_moves(&mut self, moves: &[Moved])
         requires { All (IsMoveIn self.old.state.network) moves.now }
         ensures { self.new.state ≡ after_moves self.old.state moves.now }
     {
-        write_moves(&mut self.state, moves);
-        look_round_movers(&self.state, &mut self.enabled, moves);
+        let _ = &self.state;
+        self.write_flags(moves);
+        self.write_pointers(moves);
     }
 }

@@ -1,14 +1,15 @@
 //! Looks again at nodes where something may have changed.
 
-ghost use Rattle.std.specs.Prelude.{◌≡◌, ◌+◌, All, IsTrue, length, nat_eq};
+ghost use Rattle.std.specs.Prelude.{◌≡◌, ◌+◌, ◌&&◌, IfSome, IsTrue, length, nat_eq};
 ghost use Rattle.rule_machine.specs.Network.{present};
-ghost use Rattle.rule_engine.specs.Looked.{is_near, is_near_mover, IsLookedAt};
+ghost use Rattle.rule_machine.specs.State.{is_at};
+ghost use Rattle.rule_engine.specs.Looked.{is_suitor, is_touched, may_ask, may_turn, IsLookedAt};
 
 use crate::guard::rule_at;
 use enabled_set::EnabledSet;
 use indexed_state::IndexedState;
-use rule_machine::{Moved, Node};
-use rule_set::Rules;
+use rule_machine::Node;
+use rule_set::{Local, Rules};
 
 /// Looks again at a node.
 pub(crate) fn look_at<R: Rules>(state: &IndexedState<R>, enabled: &mut EnabledSet, v: Node)
@@ -23,29 +24,82 @@ pub(crate) fn look_at<R: Rules>(state: &IndexedState<R>, enabled: &mut EnabledSe
     }
 }
 
-/// Looks again at a node and at its neighbours.
-pub(crate) fn look_round<R: Rules>(state: &IndexedState<R>, enabled: &mut EnabledSet, v: Node)
+/// Looks again at a node where that is asked for.
+fn look_if<R: Rules>(state: &IndexedState<R>, enabled: &mut EnabledSet, v: Node, asked: bool)
     requires has { IsTrue (present state.now.state.network v) }
     requires places { length enabled.old ≡ state.now.state.network.size + 1 }
-    ensures { IsLookedAt R.table state.now.state (is_near state.now.state.network v) enabled.old enabled.new }
+    ensures { IsLookedAt R.table state.now.state (λ w. nat_eq w v && asked) enabled.old enabled.new }
 {
-    look_at(state, enabled, v);
-    for &w in state.store().neighbours(v) {
+    if asked {
+        look_at(state, enabled, v);
+    }
+}
+
+/// Looks again at the node that a pointer is or was at.
+pub(crate) fn look_at_target<R: Rules>(
+    state: &IndexedState<R>,
+    enabled: &mut EnabledSet,
+    target: Option<Node>,
+)
+    requires has { IfSome target (λ w. IsTrue (present state.now.state.network w)) }
+    requires places { length enabled.old ≡ state.now.state.network.size + 1 }
+    ensures { IsLookedAt R.table state.now.state (is_at target) enabled.old enabled.new }
+{
+    if let Some(w) = target {
         look_at(state, enabled, w);
     }
 }
 
-/// Looks again at each node that moved and at its neighbours.
-pub(crate) fn look_round_movers<R: Rules>(
+/// Looks again at those who point at a node. One look where nobody does.
+fn look_at_suitors<R: Rules>(state: &IndexedState<R>, enabled: &mut EnabledSet, v: Node)
+    requires has { IsTrue (present state.now.state.network v) }
+    requires places { length enabled.old ≡ state.now.state.network.size + 1 }
+    ensures { IsLookedAt R.table state.now.state (is_suitor state.now.state v) enabled.old enabled.new }
+{
+    let neighbours = state.store().neighbours(v);
+    if !state.at(v).has_suitor() {
+        return;
+    }
+    for &w in neighbours {
+        look_if(state, enabled, w, state.registers().points_at(w, v));
+    }
+}
+
+/// Whether the guard of w asks for open nodes of which v may be one.
+fn asks_for<R: Rules>(w: Node, v: Node) -> bool
+    ensures { result ≡ may_ask R.ABOVE v w }
+{
+    !R::ABOVE || w < v
+}
+
+/// Looks again at each neighbour that sees an open node where this one is open, and none where it is not.
+fn look_where_turned<R: Rules>(state: &IndexedState<R>, enabled: &mut EnabledSet, v: Node)
+    requires has { IsTrue (present state.now.state.network v) }
+    requires places { length enabled.old ≡ state.now.state.network.size + 1 }
+    ensures { IsLookedAt R.table state.now.state (may_turn R.ABOVE R.table.opens state.now.state v) enabled.old enabled.new }
+{
+    let is_open = state.is_open(v);
+    for &w in state.store().neighbours(v) {
+        let asked = asks_for::<R>(w, v) && state.relies_on(w, v, is_open);
+        look_if(state, enabled, w, asked);
+    }
+}
+
+/// Looks again wherever a write of a node's registers may have changed a guard, but at a pointer's old and new target: at the node,
+/// at those who point at it, and where it turned whether the node is open, at the neighbours that see no other open node.
+pub(crate) fn look_after_write<R: Rules>(
     state: &IndexedState<R>,
     enabled: &mut EnabledSet,
-    moves: &[Moved],
+    v: Node,
+    turned: bool,
 )
-    requires have { All (λ m. IsTrue (present state.now.state.network m.node)) moves.now }
+    requires has { IsTrue (present state.now.state.network v) }
     requires places { length enabled.old ≡ state.now.state.network.size + 1 }
-    ensures { IsLookedAt R.table state.now.state (is_near_mover state.now.state.network moves.now) enabled.old enabled.new }
+    ensures { IsLookedAt R.table state.now.state (is_touched R.ABOVE R.table.opens state.now.state v turned) enabled.old enabled.new }
 {
-    for moved in moves {
-        look_round(state, enabled, moved.node);
+    look_at(state, enabled, v);
+    look_at_suitors(state, enabled, v);
+    if turned {
+        look_where_turned(state, enabled, v);
     }
 }

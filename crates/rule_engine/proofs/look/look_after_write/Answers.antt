@@ -1,0 +1,31 @@
+use Rattle.std.proofs.Common.{◌≡◌, ◌∙◌, ◌&&◌, ◌||◌, Bool, true, false, nat_eq, refl, ap, sym}
+use Rattle.rule_machine.specs.State.{State}
+use Rattle.rule_engine.specs.Looked.{is_suitor, is_touched, may_turn}
+use Rattle.rule_engine.proofs.Looked.{looked_alike, looked_both}
+use Rattle.rule_engine.proofs.look.look_after_write.Goals as goal
+
+pub returns-then-turned : goal.returns-then-turned
+returns-then-turned g c =
+    let s : State = c.args.state.now.state in
+    let t = g.R.Rules.table in
+    let above = g.R.Rules.ABOVE in
+    let v = c.args.v in
+    looked_alike t s (λ w. (nat_eq w v || is_suitor s v w) || may_turn above t.opens s v w) (is_touched above t.opens s v c.args.turned) _ _
+    (λ w. ap (λ b. (nat_eq w v || is_suitor s v w) || (b && may_turn above t.opens s v w)) (sym c.if-turned.true))
+    (looked_both t s (λ w. nat_eq w v || is_suitor s v w) (may_turn above t.opens s v) _ _ _
+    (looked_both t s (λ w. nat_eq w v) (is_suitor s v) _ _ _ c.look_at.ensures c.look_at_suitors.ensures)
+    c.look_where_turned.ensures)
+
+pub returns-else-turned : goal.returns-else-turned
+returns-else-turned g c =
+    let s : State = c.args.state.now.state in
+    let t = g.R.Rules.table in
+    let above = g.R.Rules.ABOVE in
+    let v = c.args.v in
+    looked_alike t s (λ w. nat_eq w v || is_suitor s v w) (is_touched above t.opens s v c.args.turned) _ _
+    (λ w. unturned (nat_eq w v || is_suitor s v w) ∙ ap (λ b. (nat_eq w v || is_suitor s v w) || (b && may_turn above t.opens s v w)) (sym c.if-turned.false))
+    (looked_both t s (λ w. nat_eq w v) (is_suitor s v) _ _ _ c.look_at.ensures c.look_at_suitors.ensures)
+  where
+    unturned : (b : Bool) → b ≡ (b || false)
+    unturned true = refl
+    unturned false = refl
