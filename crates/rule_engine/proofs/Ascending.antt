@@ -14,7 +14,6 @@ use Rattle.std.proofs.lemmas.Option.{option_and_then_some}
 use Rattle.rule_machine.specs.declared.act.Act.TheVariants.{Abandon}
 use Rattle.rule_machine.specs.declared.choice.Item.{Item}
 use Rattle.rule_machine.specs.declared.moved.Moved.{Moved}
-use Rattle.rule_machine.specs.declared.verdict.Verdict.{Verdict}
 use Rattle.rule_machine.specs.Network.{names, present}
 use Rattle.rule_machine.specs.State.{State}
 use Rattle.rule_machine.specs.RuleTable.{RuleTable}
@@ -24,7 +23,7 @@ use Rattle.machine_laws.specs.Pairs.{contains_first, contains_rest, contains_emp
 use Rattle.machine_laws.specs.LeastMoves.{makes_from_outcome, move_at, find_passes}
 use Rattle.machine_laws.specs.LeastAnswers.{find_contains, filter_map_contains, filter_map_nodes, names_increasing, names_contains}
 use Rattle.machine_laws.specs.Accepted.{taken_from_none, taken_at, choice_from_none}
-use Rattle.rule_engine.specs.Choosing.{verdicts_from, moves_of, AreLeast}
+use Rattle.rule_engine.specs.Choosing.{verdicts_from, verdicts_of, moves_of, moves_by, AreLeast}
 
 node_of : Moved → ℕ
 node_of m = m.node
@@ -96,12 +95,15 @@ rises_from ms up distinct = IsStrictlyIncreasing-from_distinct (map node_of ms) 
 
 -- the moves that items make alone, in their order
 made_by : RuleTable → State → List Item → List Moved
-made_by t s items = filter_map (λ i. move_in (outcome_of t s i)) items
+made_by t s items = moves_by t s items
 
-moves_of-verdicts_from : (t : RuleTable) (s : State) (place : ℕ) (items : List Item) → moves_of (verdicts_from t s place items) ≡ made_by t s items
-unfolding made_by
+-- those of verdicts are those of the items that they are of
+moves_of-verdicts_from : (t : RuleTable) (s : State) (place : ℕ) (items : List Item) → moves_of (verdicts_from t s place items) ≡ moves_by t s items
 moves_of-verdicts_from t s place [] = refl
 moves_of-verdicts_from t s place (item ∷ items) = ap (cons_option (move_in (outcome_of t s item))) (moves_of-verdicts_from t s (place + 1) items)
+
+pub moves_of-verdicts_of : (t : RuleTable) (s : State) (items : List Item) → moves_of (verdicts_of t s items) ≡ moves_by t s items
+moves_of-verdicts_of t s items = moves_of-verdicts_from t s 0 items
 
 -- no item names the move's node
 abbrev pub IsFresh : List Item → Moved → Type 0
@@ -180,13 +182,12 @@ least_rises t s items =
         option_and_then_some (λ item. move_in (outcome_of t s item)) (item_of items v) m e
         (λ item found move. (makes_from_outcome t s item m move).node ∙ eqb-true item.node v (find_passes (λ i. nat_eq i.node v) items item found))
 
--- The moves of verdicts that stand in the order of their nodes are the least ones.
-pub least_from_sorted : (verdicts : List Verdict) (moves : List Moved) → IsPermutation (moves_of verdicts) moves → IsNonDecreasingBy (λ m. m.node) moves → AreLeast verdicts moves
-unfolding node_of
-least_from_sorted verdicts moves same up = λ t s items is none.
+-- The moves of a choice that stand in the order of their nodes are the least ones.
+pub least_from_sorted : (made moves : List Moved) → IsPermutation made moves → IsNonDecreasingBy (λ m. m.node) moves → AreLeast made moves
+unfolding node_of made_by
+least_from_sorted made moves same up = λ t s items is none.
     let accepted = (choice_from_none t s items none).taken in
-    let made : moves_of verdicts ≡ made_by t s items = ap moves_of is ∙ moves_of-verdicts_from t s 0 items in
-    let moved : IsPermutation (made_by t s items) moves = subst (λ ms. IsPermutation ms moves) made same in
+    let moved : IsPermutation (made_by t s items) moves = subst (λ ms. IsPermutation ms moves) is same in
     let distinct : IsDistinct nat_eq (map node_of moves) = IsDistinct-IsPermutation nat_eq nat_eq_equiv.symm (map node_of (made_by t s items)) (map node_of moves) (IsPermutation-map node_of (made_by t s items) moves moved) (made_apart t s [] items accepted).1 in
     same_rising moves (least_moves t s items) (rises_from moves up distinct) (least_rises t s items)
     (λ m at. made_is_least t s items accepted m (Contains-permutation moves (made_by t s items) m (IsPermutation-sym (made_by t s items) moves moved) at))

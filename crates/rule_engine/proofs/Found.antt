@@ -1,5 +1,5 @@
 -- Lists that grow by one at their end.
-use Rattle.std.proofs.Common.{◌≡◌, ℕ, ◌+◌, ◌-◌, ◌<◌, ◌≤◌, false, List, [], ◌∷◌, ◌++◌, length, get_or, take, drop, filter_map, Option, None, Some, is_some, option_to_list, nat_eq, refl, sym, ap, ◌∙◌, arith}
+use Rattle.std.proofs.Common.{◌≡◌, ℕ, ◌+◌, ◌-◌, ◌<◌, ◌≤◌, List, [], ◌∷◌, ◌++◌, length, get_or, take, drop, filter_map, Option, None, Some, option_to_list, nat_eq, refl, sym, ap, ◌∙◌, arith}
 use Rattle.std.specs.List.{list_any, range_with_len, cons_option}
 use Rattle.std.specs.Option.{option_or}
 use Rattle.std.proofs.lemmas.List.{map-id, drop_more, take_more}
@@ -21,10 +21,6 @@ one_found (Some x) = refl
 pub filter_map_range_more : {X : Type 0} (f : ℕ → Option X) (a n : ℕ) → filter_map f (range_with_len a (n + 1)) ≡ filter_map f (range_with_len a n) ++ option_to_list (f (a + n))
 filter_map_range_more f a n =
     ap (filter_map f) (range_more a n) ∙ filter_map-append f (range_with_len a n) ((a + n) ∷ []) ∙ ap (λ l. filter_map f (range_with_len a n) ++ l) (one_found (f (a + n)))
-
-pub none_from_is_some : {X : Type 0} (o : Option X) → is_some o ≡ false → o ≡ None
-none_from_is_some None h = refl
-none_from_is_some (Some x) h = absurd cc
 
 -- one more verdict that is not refused
 pub verdicts_refusal_more : (ds : List Verdict) (k : ℕ) (d : Verdict) → k < length ds → d ≡ get_or ds k d → refused_by d.outcome (list_any (λ e. nat_eq e.node d.node) (take k ds)) ≡ None → verdicts_refusal (take (k + 1) ds) (drop (k + 1) ds) ≡ verdicts_refusal (take k ds) (drop k ds)

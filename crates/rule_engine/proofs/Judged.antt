@@ -1,9 +1,10 @@
 -- What verdicts say of the items that they are of.
-use Rattle.std.proofs.Common.{◌≡◌, ℕ, suc, ◌+◌, Bool, true, false, cond, not, ◌&&◌, ◌||◌, List, [], ◌∷◌, ◌++◌, length, Option, None, Some, nat_eq, nat_lt, if◌then◌else◌, refl, sym, ap, ◌∙◌}
+use Rattle.std.proofs.Common.{◌≡◌, ℕ, suc, ◌+◌, Bool, true, false, cond, not, ◌&&◌, ◌||◌, List, [], ◌∷◌, ◌++◌, length, Option, None, Some, nat_eq, nat_lt, refl, sym, ap, ◌∙◌}
 use Rattle.std.specs.List.{list_any}
 use Rattle.std.specs.Option.{option_or}
 use Rattle.rule_machine.specs.declared.act.Act.{Act}
 use Rattle.rule_machine.specs.declared.choice.Item.{Item}
+use Rattle.rule_machine.specs.declared.refusal.Refusal.{Refusal}
 use Rattle.rule_machine.specs.declared.refusal.Refusal.TheVariants.{UnknownNode, ChosenTwice, BadTarget, EmptyChoice, NotCentral}
 use Rattle.rule_machine.specs.declared.verdict.Verdict.{Verdict}
 use Rattle.rule_machine.specs.declared.verdict.Outcome.TheVariants as outcome
@@ -12,7 +13,7 @@ use Rattle.rule_machine.specs.State.{State}
 use Rattle.rule_machine.specs.RuleTable.{RuleTable, rule_at}
 use Rattle.rule_machine.specs.Refuse.{item_refusal, items_refusal, step_refusal, rule_refusal, wish_refusal}
 use Rattle.rule_machine.specs.Least.{outcome_of, outcome_at, outcome_by}
-use Rattle.rule_engine.specs.Choosing.{verdict_of, verdicts_from, verdicts_of, refused_by, verdicts_refusal, refusal_of_verdicts}
+use Rattle.rule_engine.specs.Choosing.{verdict_of, verdicts_from, verdicts_of, refused_by, verdicts_refusal, size_refusal}
 
 by_wish : (t : RuleTable) (s : State) (v : ℕ) (act : Act) (wish : Option ℕ) → wish_refusal (t.allowed s v act) wish ≡ refused_by (outcome_by t s v act wish) false
 by_wish t s v act None = refl
@@ -44,7 +45,7 @@ item_refusal-outcome t s earlier item =
       | false ↦ refl
     ]
 
-pub length-verdicts_from : (t : RuleTable) (s : State) (place : ℕ) (items : List Item) → length (verdicts_from t s place items) ≡ length items
+length-verdicts_from : (t : RuleTable) (s : State) (place : ℕ) (items : List Item) → length (verdicts_from t s place items) ≡ length items
 length-verdicts_from t s place [] = refl
 length-verdicts_from t s place (item ∷ items) = ap suc (length-verdicts_from t s (place + 1) items)
 
@@ -62,7 +63,7 @@ any_push p (x ∷ xs) ys = ap (λ b. p x || b) (any_push p xs ys) ∙ or_regroup
     or_regroup false b c = refl
 
 -- two lists whose verdicts and items name the same nodes go on to the same refusal
-pub refusals_agree : (t : RuleTable) (s : State) (place : ℕ) (items earlier : List Item) (judged : List Verdict) → ((v : ℕ) → list_any (λ d. nat_eq d.node v) judged ≡ list_any (λ i. nat_eq i.node v) earlier) → verdicts_refusal judged (verdicts_from t s place items) ≡ items_refusal t s earlier items
+refusals_agree : (t : RuleTable) (s : State) (place : ℕ) (items earlier : List Item) (judged : List Verdict) → ((v : ℕ) → list_any (λ d. nat_eq d.node v) judged ≡ list_any (λ i. nat_eq i.node v) earlier) → verdicts_refusal judged (verdicts_from t s place items) ≡ items_refusal t s earlier items
 refusals_agree t s place [] earlier judged same = refl
 refusals_agree t s place (item ∷ items) earlier judged same =
     let first = item_refusal-outcome t s earlier item in
@@ -73,7 +74,18 @@ refusals_agree t s place (item ∷ items) earlier judged same =
     ∙ ap (λ o. option_or o (verdicts_refusal (judged ++ verdict_of t s place item ∷ []) (verdicts_from t s (place + 1) items))) (sym first)
     ∙ ap (option_or (item_refusal t s earlier item)) (refusals_agree t s (place + 1) items (earlier ++ item ∷ []) (judged ++ verdict_of t s place item ∷ []) next)
 
--- a step is refused by its verdicts as by its items
-pub refusal-verdicts_of : (t : RuleTable) (s : State) (items : List Item) → refusal_of_verdicts t.central (verdicts_of t s items) ≡ step_refusal t s items
-refusal-verdicts_of t s items =
-    (λ i. if nat_eq (length-verdicts_from t s 0 items i) 0 then Some EmptyChoice else (if t.central && nat_lt 1 (length-verdicts_from t s 0 items i) then Some NotCentral else refusals_agree t s 0 items [] [] (λ v. refl) i))
+-- a step is refused for its size, or else for its first item that is
+pub step_refusal-parts : (t : RuleTable) (s : State) (items : List Item) → step_refusal t s items ≡ option_or (size_refusal t.central (length items)) (items_refusal t s [] items)
+step_refusal-parts t s items = parts (nat_eq (length items) 0) (t.central && nat_lt 1 (length items)) (items_refusal t s [] items)
+  where
+    parts : (empty wide : Bool) (o : Option Refusal) → cond empty (Some EmptyChoice) (cond wide (Some NotCentral) o) ≡ option_or (cond empty (Some EmptyChoice) (cond wide (Some NotCentral) None)) o
+    parts true wide o = refl
+    parts false true o = refl
+    parts false false o = refl
+
+-- by the verdicts of its items as by these
+pub refusal-verdicts_of : (t : RuleTable) (s : State) (items : List Item) → verdicts_refusal [] (verdicts_of t s items) ≡ items_refusal t s [] items
+refusal-verdicts_of t s items = refusals_agree t s 0 items [] [] (λ v. refl)
+
+pub length-verdicts_of : (t : RuleTable) (s : State) (items : List Item) → length (verdicts_of t s items) ≡ length items
+length-verdicts_of t s items = length-verdicts_from t s 0 items

@@ -1,5 +1,5 @@
 -- Marks that are made and cleared one by one.
-use Rattle.std.proofs.Common.{◌≡◌, ℕ, zero, suc, ◌+◌, ◌<◌, ◌≤◌, Bool, true, false, cond, ◌||◌, List, [], ◌∷◌, ◌++◌, length, get_or, replicate, take, drop, set, All, Option, None, Some, is_some, IsSome, nat_eq, refl, sym, ap, ◌∙◌, subst, ⊎_elim, arith, eq-eqb}
+use Rattle.std.proofs.Common.{◌≡◌, ℕ, zero, suc, ◌+◌, ◌<◌, ◌≤◌, Bool, true, false, cond, ◌||◌, List, [], ◌∷◌, ◌++◌, length, get_or, replicate, take, drop, set, All, None, Some, is_some, IsSome, nat_eq, refl, sym, ap, ◌∙◌, subst, ⊎_elim, arith, eq-eqb}
 use Rattle.std.specs.List.{list_any}
 use Rattle.std.specs.Option.{option_or}
 use Rattle.std.proofs.lemmas.Bool.{cases_Bool, cases_eq, cases_lt, ne_eqb, true≢false}
@@ -20,7 +20,7 @@ use Rattle.enabled_set.specs.Members.{is_in}
 use Rattle.rule_engine.specs.Choosing.{refused_by, verdicts_refusal, verdicts_from, verdicts_of}
 use Rattle.rule_engine.specs.Marks.{AreClear, AreMarks, HasPlace, is_named, is_judged}
 use Rattle.rule_engine.proofs.Opening.{blank_at}
-use Rattle.rule_engine.proofs.Found.{none_from_is_some, push_is_take}
+use Rattle.rule_engine.proofs.Found.{push_is_take}
 use Rattle.rule_engine.proofs.Judged.{item_refusal-outcome}
 
 -- an outcome that is not refused is a move
@@ -76,34 +76,26 @@ pub record Passes {X : Type 0} (node : X → ℕ) (xs : List X) (i : ℕ) (x : X
   pub marks : AreMarks (is_among node (take (i + 1) xs)) after
   pub len : length after ≡ length before
 
-pub passes : {X : Type 0} (node : X → ℕ) (xs : List X) (i : ℕ) (x : X) (o : Outcome) (refusal : Option Refusal) (marks marks' : List Bool) → i < length xs → x ≡ get_or xs i x → HasPlace (length marks) (node x) o → refusal ≡ refused_by o (is_in marks (node x)) → is_some refusal ≡ false → marks' ≡ cond (is_some refusal) marks (set marks (node x) true) → AreMarks (is_among node (take i xs)) marks → Passes node xs i x o marks marks'
-passes node xs i x o refusal marks marks' within is placed judged none made so_far =
-    let accepted : refused_by o (is_in marks (node x)) ≡ None = sym judged ∙ none_from_is_some refusal none in
+pub passes : {X : Type 0} (node : X → ℕ) (xs : List X) (i : ℕ) (x : X) (o : Outcome) (marks marks' : List Bool) → i < length xs → x ≡ get_or xs i x → HasPlace (length marks) (node x) o → refused_by o (is_in marks (node x)) ≡ None → marks' ≡ set marks (node x) true → AreMarks (is_among node (take i xs)) marks → Passes node xs i x o marks marks'
+passes node xs i x o marks marks' within is placed accepted made so_far =
     let here : node x < length marks = placed (move_from_accepted o (is_in marks (node x)) accepted) in
-    let marked : marks' ≡ set marks (node x) true = made ∙ ap (λ b. cond b marks (set marks (node x) true)) none in
     record {
       accepted = ap (refused_by o) (sym (so_far (node x))) ∙ accepted;
-      marks = marks_more node xs i x marks marks' within is here marked so_far;
-      len = ap length marked ∙ length-set marks (node x) true;
+      marks = marks_more node xs i x marks marks' within is here made so_far;
+      len = ap length made ∙ length-set marks (node x) true;
     }
 
-some_or : {X : Type 0} (o p : Option X) → is_some o ≡ true → o ≡ option_or o p
-some_or None p some = absurd cc
-some_or (Some x) p some = refl
-
 -- a verdict behind those that are not refused is the one that counts, if it is refused
-pub verdict_refused : (ds : List Verdict) (k : ℕ) (d : Verdict) (marks : List Bool) (refusal : Option Refusal) → k < length ds → d ≡ get_or ds k d → refusal ≡ refused_by d.outcome (is_in marks d.node) → is_some refusal ≡ true → AreMarks (is_judged (take k ds)) marks → refusal ≡ verdicts_refusal (take k ds) (drop k ds)
-verdict_refused ds k d marks refusal within is judged some so_far =
-    some_or refusal (verdicts_refusal (take k ds ++ d ∷ []) (drop (k + 1) ds)) some
-    ∙ ap (λ o. option_or o (verdicts_refusal (take k ds ++ d ∷ []) (drop (k + 1) ds))) (judged ∙ ap (refused_by d.outcome) (so_far d.node))
+pub verdict_refused : (ds : List Verdict) (k : ℕ) (d : Verdict) (marks : List Bool) (refusal : Refusal) → k < length ds → d ≡ get_or ds k d → refused_by d.outcome (is_in marks d.node) ≡ Some refusal → AreMarks (is_judged (take k ds)) marks → Some refusal ≡ verdicts_refusal (take k ds) (drop k ds)
+verdict_refused ds k d marks refusal within is judged so_far =
+    ap (λ o. option_or o (verdicts_refusal (take k ds ++ d ∷ []) (drop (k + 1) ds))) (sym judged ∙ ap (refused_by d.outcome) (so_far d.node))
     ∙ ap (λ e. verdicts_refusal (take k ds) (e ∷ drop (k + 1) ds)) is
     ∙ ap (verdicts_refusal (take k ds)) (sym (drop_more ds k d within))
 
 -- and so is an item
-pub item_refused : (t : RuleTable) (s : State) (items : List Item) (k : ℕ) (item : Item) (marks : List Bool) (refusal : Option Refusal) → k < length items → item ≡ get_or items k item → refusal ≡ refused_by (outcome_of t s item) (is_in marks item.node) → is_some refusal ≡ true → AreMarks (is_named (take k items)) marks → refusal ≡ items_refusal t s (take k items) (drop k items)
-item_refused t s items k item marks refusal within is judged some so_far =
-    some_or refusal (items_refusal t s (take k items ++ item ∷ []) (drop (k + 1) items)) some
-    ∙ ap (λ o. option_or o (items_refusal t s (take k items ++ item ∷ []) (drop (k + 1) items))) (judged ∙ ap (refused_by (outcome_of t s item)) (so_far item.node) ∙ sym (item_refusal-outcome t s (take k items) item))
+pub item_refused : (t : RuleTable) (s : State) (items : List Item) (k : ℕ) (item : Item) (marks : List Bool) (refusal : Refusal) → k < length items → item ≡ get_or items k item → refused_by (outcome_of t s item) (is_in marks item.node) ≡ Some refusal → AreMarks (is_named (take k items)) marks → Some refusal ≡ items_refusal t s (take k items) (drop k items)
+item_refused t s items k item marks refusal within is judged so_far =
+    ap (λ o. option_or o (items_refusal t s (take k items ++ item ∷ []) (drop (k + 1) items))) (sym judged ∙ ap (refused_by (outcome_of t s item)) (so_far item.node) ∙ sym (item_refusal-outcome t s (take k items) item))
     ∙ ap (λ i. items_refusal t s (take k items) (i ∷ drop (k + 1) items)) is
     ∙ ap (items_refusal t s (take k items)) (sym (drop_more items k item within))
 

@@ -1,6 +1,6 @@
 -- Replies that are prepared.
-use Rattle.std.proofs.Common.{◌≡◌, ℕ, Bool, true, false, cond, not, nat_eq, nat_le, List, Option, None, Some, Result, Ok, Err, IfOk, OnErr, IsTrue, refl, sym, ap, subst, ◌∙◌}
-use Rattle.std.specs.Result.{IsErr}
+use Rattle.std.proofs.Common.{◌≡◌, ℕ, Bool, true, false, cond, not, nat_eq, nat_le, List, [], length, Option, None, Some, Result, Ok, Err, IfOk, OnOk, OnErr, IsTrue, refl, sym, ap, subst, ◌∙◌}
+use Rattle.std.specs.Option.{option_or}
 use Rattle.std.proofs.lemmas.Bool.{and_parts}
 use Rattle.graph_store.specs.declared.fault.GraphFault.{GraphFault}
 use Rattle.graph_store.specs.declared.fault.GraphFault.TheVariants as store
@@ -16,17 +16,15 @@ use Rattle.rule_machine.specs.declared.reply.Reply.TheVariants.{Accepted, Refuse
 use Rattle.rule_machine.specs.declared.refusal.Refusal.{Refusal}
 use Rattle.rule_machine.specs.declared.refusal.Refusal.TheVariants.{UnknownNode, SelfLoop, AlreadyLinked, TooManyEdges}
 use Rattle.rule_machine.specs.Network.{Network, present, linked, edge_count}
+use Rattle.rule_machine.specs.State.{State}
 use Rattle.rule_machine.specs.RuleTable.{RuleTable}
-use Rattle.rule_machine.specs.Refuse.{refusal_of, both_present, max_edges, link_refusal, step_refusal}
+use Rattle.rule_machine.specs.Refuse.{refusal_of, both_present, max_edges, items_refusal, link_refusal, step_refusal}
 use Rattle.rule_machine.specs.Least.{reply_by, reply_of, least_moves}
 use Rattle.rule_engine.specs.Applied.{Prepares, takes_memory}
+use Rattle.rule_engine.specs.Choosing.{size_refusal, moves_by, IsToldOf}
 use Rattle.rule_engine.specs.Refused.{refused_as}
 use Rattle.rule_engine.specs.Prepared.{IsPrepared, HasRoomTo}
-
--- want of memory
-pub wanting_prepares : {E : Type 0} (t : RuleTable) (n n' : Indexed) (spent : ℕ) (event : Event) (result : Result Reply E) → IsErr result → refusal_of t n.state event ≡ None → IsTrue (takes_memory event) → n'.state ≡ n.state → Prepares t n spent event result n'
-wanting_prepares t n n' spent event (Err e) err allowed may kept = record { reply = tt; room = tt; kept = kept; want = (allowed, may) }
-wanting_prepares t n n' spent event (Ok reply) err allowed may kept = absurd cc
+use Rattle.rule_engine.proofs.Judged.{step_refusal-parts}
 
 -- the moves of a choice that is not refused
 pub chosen_prepares : {E : Type 0} (t : RuleTable) (n n' : Indexed) (spent : ℕ) (items : List Item) (moves : List Moved) → step_refusal t n.state items ≡ None → moves ≡ least_moves t n.state items → n'.state ≡ n.state → Prepares {E = E} t n spent (Step items) (Ok (Moves moves)) n'
@@ -36,6 +34,32 @@ chosen_prepares t n n' spent items moves none is kept = record {
   kept = kept;
   want = tt;
 }
+
+-- a step that is refused for its size
+pub sized_prepares : {E : Type 0} (t : RuleTable) (n n' : Indexed) (spent : ℕ) (items : List Item) (refusal : Refusal) → size_refusal t.central (length items) ≡ Some refusal → n'.state ≡ n.state → Prepares {E = E} t n spent (Step items) (Ok (Refused refusal)) n'
+sized_prepares t n n' spent items refusal sized kept = record {
+  reply = ap (reply_by t n.state spent (Step items)) (sym (step_refusal-parts t n.state items ∙ ap (λ o. option_or o (items_refusal t n.state [] items)) sized));
+  room = tt;
+  kept = kept;
+  want = tt;
+}
+
+-- what was found of the items of a step that is not refused for its size: why it is refused, or else its moves, where there
+-- was memory for the whole of them
+pub record IsTaken (t : RuleTable) (s : State) (items : List Item) (refused : Option Refusal) (whole : Bool) (made : List Moved) : Type 0 where
+  pub size : size_refusal t.central (length items) ≡ None
+  pub refusal : items_refusal t s [] items ≡ refused
+  pub moves : refused ≡ None → IsTrue whole → made ≡ moves_by t s items
+
+pub taken_prepares : {E : Type 0} (t : RuleTable) (n n' : Indexed) (spent : ℕ) (items : List Item) (refused : Option Refusal) (whole : Bool) (made : List Moved) (result : Result Reply E) → IsTaken t n.state items refused whole made → IfOk result (IsToldOf refused made) → OnOk result (refused ≡ None → IsTrue whole) → OnErr result (refused ≡ None) → n'.state ≡ n.state → Prepares t n spent (Step items) result n'
+taken_prepares {E = E} t n n' spent items refused whole made result taken told all want kept =
+    by_reply refused result (step_refusal-parts t n.state items ∙ ap (λ o. option_or o (items_refusal t n.state [] items)) taken.size ∙ taken.refusal) taken.moves told all want
+  where
+    by_reply : (q : Option Refusal) (r : Result Reply E) → step_refusal t n.state items ≡ q → (q ≡ None → IsTrue whole → made ≡ moves_by t n.state items) → IfOk r (IsToldOf q made) → OnOk r (q ≡ None → IsTrue whole) → OnErr r (q ≡ None) → Prepares t n spent (Step items) r n'
+    by_reply (Some refusal) (Ok reply) is moves told all want = record { reply = told ∙ ap (reply_by t n.state spent (Step items)) (sym is); room = tt; kept = kept; want = tt }
+    by_reply None (Ok reply) is moves told all want =
+        subst (λ r. Prepares {E = E} t n spent (Step items) (Ok r) n') (sym told.2) (chosen_prepares t n n' spent items told.0 is (told.1 t n.state items (moves refl (all refl)) is) kept)
+    by_reply q (Err e) is moves told all want = record { reply = tt; room = tt; kept = kept; want = (is ∙ want, refl) }
 
 -- a question whose answer may take memory
 pub asked_prepares : {E : Type 0} (t : RuleTable) (n : Indexed) (spent : ℕ) (event : Event) (result : Result Reply E) → refusal_of t n.state event ≡ None → IsTrue (takes_memory event) → ((reply : Reply) → HasRoomTo event reply n.room) → IfOk result (λ r. r ≡ reply_of t n.state spent event) → Prepares t n spent event result n

@@ -43,6 +43,11 @@ pub filter_map_take_more : {X Y : Type 0} (f : X → Option Y) (xs : List X) (i 
 filter_map_take_more f xs i x within is =
     ap (filter_map f) (sym (push_is_take xs i x within is)) ∙ filter_map-append f (take i xs) (x ∷ []) ∙ ap (λ l. filter_map f (take i xs) ++ l) (one_found (f x))
 
+-- what is found so far goes on by what is found in the next item
+pub found_next : {X Y : Type 0} (f : X → Option Y) (before after : List Y) (xs : List X) (i : ℕ) (x : X) → i < length xs → x ≡ get_or xs i x → before ≡ filter_map f (take i xs) → after ≡ before ++ option_to_list (f x) → after ≡ filter_map f (take (i + 1) xs)
+found_next f before after xs i x within is so_far added =
+    added ∙ ap (λ l. l ++ option_to_list (f x)) so_far ∙ sym (filter_map_take_more f xs i x within is)
+
 -- the value of a call that answers exactly where a fact holds
 pub some_iff_at : {X : Type 0} (o : Option X) (P : Type 0) (v x : X) → SomeIff o P v → o ≡ Some x → x ≡ v
 some_iff_at o P v x h e = (let k : P × (x ≡ v) = subst (λ q. SomeIff q P v) e h in k).1

@@ -1,5 +1,5 @@
 -- The moves of a choice: the verdict of each item.
-use Rattle.std.specs.Prelude.{◌≡◌, ℕ, ◌+◌, Bool, true, false, ◌&&◌, List, [], ◌∷◌, ◌++◌, length, Option, Some, None, if◌then◌else◌, nat_eq, nat_lt}
+use Rattle.std.specs.Prelude.{◌≡◌, ℕ, ◌+◌, Bool, true, false, ◌&&◌, List, [], ◌∷◌, ◌++◌, Option, Some, None, if◌then◌else◌, nat_eq, nat_lt}
 use Rattle.std.specs.List.{list_any, filter_map}
 use Rattle.std.specs.Option.{option_or}
 use Rattle.rule_machine.specs.declared.choice.Item.{Item}
@@ -8,6 +8,8 @@ use Rattle.rule_machine.specs.declared.verdict.Verdict.{Verdict}
 use Rattle.rule_machine.specs.declared.verdict.Outcome.{Outcome}
 use Rattle.rule_machine.specs.declared.verdict.Outcome.TheVariants as outcome
 use Rattle.rule_machine.specs.declared.refusal.Refusal.{Refusal}
+use Rattle.rule_machine.specs.declared.reply.Reply.{Reply}
+use Rattle.rule_machine.specs.declared.reply.Reply.TheVariants.{Refused, Moves}
 use Rattle.rule_machine.specs.declared.refusal.Refusal.TheVariants.{UnknownNode, EmptyChoice, NotCentral, ChosenTwice, NotEnabled, BadTarget}
 use Rattle.rule_machine.specs.State.{State}
 use Rattle.rule_machine.specs.RuleTable.{RuleTable}
@@ -43,17 +45,25 @@ verdicts_refusal earlier [] = None
 verdicts_refusal earlier (verdict ∷ verdicts) =
     option_or (refused_by verdict.outcome (list_any (λ d. nat_eq d.node verdict.node) earlier)) (verdicts_refusal (earlier ++ verdict ∷ []) verdicts)
 
--- why a step with these verdicts is refused
-abbrev pub refusal_of_verdicts : Bool → List Verdict → Option Refusal
-refusal_of_verdicts central verdicts =
-    if nat_eq (length verdicts) 0 then Some EmptyChoice
-    else (if central && nat_lt 1 (length verdicts) then Some NotCentral else verdicts_refusal [] verdicts)
+-- why a choice of so many items is refused, whatever they are
+abbrev pub size_refusal : Bool → ℕ → Option Refusal
+size_refusal central count =
+    if nat_eq count 0 then Some EmptyChoice else (if central && nat_lt 1 count then Some NotCentral else None)
+
+-- the moves that items make alone, in their order
+abbrev pub moves_by : RuleTable → State → List Item → List Moved
+moves_by t s items = filter_map (λ i. move_in (outcome_of t s i)) items
 
 -- the moves among verdicts, in their order
 abbrev pub moves_of : List Verdict → List Moved
 moves_of verdicts = filter_map (λ d. move_in d.outcome) verdicts
 
--- where these are the verdicts of a choice that is not refused, those are its moves, ascending
-abbrev pub AreLeast : List Verdict → List Moved → Type 0
-AreLeast verdicts moves =
-    (t : RuleTable) (s : State) (items : List Item) → verdicts ≡ verdicts_of t s items → step_refusal t s items ≡ None → moves ≡ least_moves t s items
+-- where the first are made by the items of a choice that is not refused, the second are its moves, ascending
+abbrev pub AreLeast : List Moved → List Moved → Type 0
+AreLeast made moves =
+    (t : RuleTable) (s : State) (items : List Item) → made ≡ moves_by t s items → step_refusal t s items ≡ None → moves ≡ least_moves t s items
+
+-- the reply to a step that is refused for this reason, or else makes these moves
+abbrev pub IsToldOf : Option Refusal → List Moved → Reply → Type 0
+IsToldOf (Some refusal) made reply = reply ≡ Refused refusal
+IsToldOf None made reply = (moves : List Moved) × AreLeast made moves × (reply ≡ Moves moves)

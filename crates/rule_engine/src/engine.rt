@@ -26,11 +26,11 @@ use crate::edits::{
     edit_reply, refusal_of, refused_flag, refused_join, refused_leave, refused_point,
     refused_unlink,
 };
-use crate::guard::{outcome, refused_step, rule_enabled, verdicts};
-use crate::judge::refused_verdicts;
+use crate::guard::{outcome, rule_enabled, take_items};
+use crate::judge::{refused_size, take_verdicts};
 use crate::listing::{count_pairs, enabled_rules, mutual_edges};
 use crate::look::{look_after_write, look_at, look_at_target};
-use crate::moves::ascending_moves;
+use crate::moves::{Gathered, step_reply};
 use crate::parting::last_neighbour;
 use enabled_set::EnabledSet;
 use graph_store::{EdgeStore, GraphFault};
@@ -194,13 +194,12 @@ impl<R: Rules> Engine<R> {
         ensures { (spent : ℕ) → Prepares R.table self.old spent (Step choice.now) result self.new }
     {
         let items = choice.items();
-        let refused = refused_step(&self.state, &mut self.chosen, items);
-        if let Some(refusal) = refused {
+        if let Some(refusal) = refused_size(R::CENTRAL, items.len()) {
             return Ok(Reply::Refused(refusal));
         }
-        let verdicts = verdicts(self.alloc, &self.state, items)?;
-        let moves = ascending_moves(self.alloc, &verdicts)?;
-        Ok(Reply::Moves(moves))
+        let mut gathered = Gathered::with_room(self.alloc, items.len());
+        let refused = take_items(&self.state, &mut self.chosen, &mut gathered, items);
+        step_reply(refused, gathered)
     }
 
     /// The reply to a step, from the verdicts of its items, without a second look at a guard.
@@ -212,11 +211,12 @@ impl<R: Rules> Engine<R> {
         requires { verdicts.now ≡ verdicts_of R.table self.old.state choice.now }
         ensures { (spent : ℕ) → Prepares R.table self.old spent (Step choice.now) result self.new }
     {
-        if let Some(refusal) = refused_verdicts(R::CENTRAL, &mut self.chosen, verdicts) {
+        if let Some(refusal) = refused_size(R::CENTRAL, verdicts.len()) {
             return Ok(Reply::Refused(refusal));
         }
-        let moves = ascending_moves(self.alloc, verdicts)?;
-        Ok(Reply::Moves(moves))
+        let mut gathered = Gathered::with_room(self.alloc, verdicts.len());
+        let refused = take_verdicts(&mut self.chosen, &mut gathered, verdicts);
+        step_reply(refused, gathered)
     }
 
     fn show(&self, v: Node) -> Reply

@@ -1,19 +1,19 @@
 //! Guards, outcomes and refusals at the nodes of a network.
 
-ghost use Rattle.std.specs.Prelude.{◌≡◌, ◌+◌, ◌≤◌, [], length, take, IfOk, IsTrue};
+ghost use Rattle.std.specs.Prelude.{◌≡◌, ◌+◌, ◌≤◌, [], None, length, take, IsTrue};
 ghost use Rattle.rule_machine.specs.Network.{present};
-ghost use Rattle.rule_machine.specs.Refuse.{items_refusal, step_refusal};
+ghost use Rattle.rule_machine.specs.Refuse.{items_refusal};
 ghost use Rattle.rule_machine.specs.Least.{outcome_of};
 ghost use Rattle.rule_engine.specs.Kept.{guard_at};
-ghost use Rattle.rule_engine.specs.Choosing.{verdicts_of};
+ghost use Rattle.rule_engine.specs.Choosing.{moves_by};
 ghost use Rattle.rule_engine.specs.Marks.{AreClear, AreMarks, is_named};
 
-use crate::judge::{Marked, mark};
+use crate::judge::{Taken, take_outcome};
+use crate::moves::Gathered;
 use enabled_set::EnabledSet;
 use indexed_state::IndexedState;
-use rule_machine::{Act, Item, Moved, Node, Outcome, Refusal, Verdict, Want};
+use rule_machine::{Act, Item, Moved, Node, Outcome, Refusal};
 use rule_set::Rules;
-use std::alloc::Global;
 
 /// The rule that is enabled at a node that is present, if any is.
 pub(crate) fn rule_at<R: Rules>(state: &IndexedState<R>, v: Node) -> Option<Act>
@@ -55,25 +55,32 @@ pub(crate) fn outcome<R: Rules>(state: &IndexedState<R>, item: Item) -> Outcome
     }
 }
 
-/// Marks the nodes of items up to the first that is refused.
-fn mark_items<R: Rules>(state: &IndexedState<R>, chosen: &mut EnabledSet, items: &[Item]) -> Marked
+/// Takes items, in order, up to the first that is refused.
+fn take_up_to_refusal<R: Rules>(
+    state: &IndexedState<R>,
+    chosen: &mut EnabledSet,
+    gathered: &mut Gathered,
+    items: &[Item],
+) -> Taken
     requires places { length chosen.old ≡ state.now.state.network.size + 1 }
     requires clear { AreClear chosen.old }
+    requires none { gathered.old.moves.items ≡ [] }
     ensures count { result.count ≤ length items.now }
     ensures refusal { result.refusal ≡ items_refusal R.table state.now.state [] items.now }
+    ensures moves { result.refusal ≡ None → IsTrue gathered.new.whole → gathered.new.moves.items ≡ moves_by R.table state.now.state items.now }
     ensures marks { AreMarks (is_named (take result.count items.now)) chosen.new }
     ensures len { length chosen.new ≡ length chosen.old }
 {
     for (place, item) in items.iter().enumerate() {
-        let refusal = mark(chosen, item.node, outcome(state, *item));
-        if refusal.is_some() {
-            return Marked {
+        let outcome = outcome(state, *item);
+        if let Some(refusal) = take_outcome(chosen, gathered, item.node, outcome) {
+            return Taken {
                 count: place,
-                refusal,
+                refusal: Some(refusal),
             };
         }
     }
-    Marked {
+    Taken {
         count: items.len(),
         refusal: None,
     }
@@ -90,46 +97,22 @@ fn unmark_items(chosen: &mut EnabledSet, items: &[Item])
     }
 }
 
-/// Why a step of these items is refused, if it is: the first reason, item by item, without memory. A look at each item
-/// up to the refused one, and a search of its node's neighbours where its target is free. The marks are clear again at
-/// the end.
-pub(crate) fn refused_step<R: Rules>(
+/// Gathers the moves of items where none is refused, else says why the first is that is. A look at each item up to that
+/// one, and a search of its node's neighbours where its target is free. The marks are clear again at the end.
+pub(crate) fn take_items<R: Rules>(
     state: &IndexedState<R>,
     chosen: &mut EnabledSet,
+    gathered: &mut Gathered,
     items: &[Item],
 ) -> Option<Refusal>
     requires places { length chosen.old ≡ state.now.state.network.size + 1 }
     requires clear { AreClear chosen.old }
-    ensures refusal { result ≡ step_refusal R.table state.now.state items.now }
+    requires none { gathered.old.moves.items ≡ [] }
+    ensures refusal { result ≡ items_refusal R.table state.now.state [] items.now }
+    ensures moves { result ≡ None → IsTrue gathered.new.whole → gathered.new.moves.items ≡ moves_by R.table state.now.state items.now }
     ensures kept { chosen.new ≡ chosen.old }
 {
-    if items.is_empty() {
-        return Some(Refusal::EmptyChoice);
-    }
-    if R::CENTRAL && items.len() > 1 {
-        return Some(Refusal::NotCentral);
-    }
-    let marked = mark_items(state, chosen, items);
-    unmark_items(chosen, &items[..marked.count]);
-    marked.refusal
-}
-
-/// The verdict of each item, in order.
-pub(crate) fn verdicts<R: Rules>(
-    alloc: Global,
-    state: &IndexedState<R>,
-    items: &[Item],
-) -> Result<Vec<Verdict>, Want>
-    requires few { length items.now ≤ 65535 }
-    ensures { IfOk result (λ v. v.items ≡ verdicts_of R.table state.now.state items.now) }
-{
-    let mut verdicts = Vec::with_capacity(alloc, items.len())?;
-    for (place, item) in items.iter().enumerate() {
-        verdicts.push(Verdict {
-            place: place as u32,
-            node: item.node,
-            outcome: outcome(state, *item),
-        })?;
-    }
-    Ok(verdicts)
+    let taken = take_up_to_refusal(state, chosen, gathered, items);
+    unmark_items(chosen, &items[..taken.count]);
+    taken.refusal
 }

@@ -1,66 +1,97 @@
-//! Refusals that verdicts bring. A set of marks tells which nodes a choice has named so far.
+//! Refusals that outcomes bring, and the moves of a choice that has none. A set of marks tells which nodes the choice has
+//! named so far.
 
-ghost use Rattle.std.specs.Prelude.{◌≡◌, ◌≤◌, [], All, if◌then◌else◌, is_some, length, slice_set, take, true};
+ghost use Rattle.std.specs.Prelude.{◌≡◌, ◌≤◌, ◌++◌, [], All, None, Some, MatchResult, IsTrue, if◌then◌else◌, is_some, length, option_to_list, slice_set, take, true};
 ghost use Rattle.enabled_set.specs.Members.{is_in};
-ghost use Rattle.rule_engine.specs.Choosing.{refused_by, verdicts_refusal, refusal_of_verdicts};
+ghost use Rattle.rule_machine.specs.Least.{move_in};
+ghost use Rattle.rule_engine.specs.Choosing.{moves_of, refused_by, size_refusal, verdicts_refusal};
 ghost use Rattle.rule_engine.specs.Marks.{AreClear, AreMarks, HasPlace, is_judged};
 
+use crate::moves::Gathered;
 use enabled_set::EnabledSet;
-use rule_machine::{Node, Outcome, Refusal, Verdict};
+use rule_machine::{Moved, Node, Outcome, Refusal, Verdict};
 
-/// How many items were marked, which are those before the first that is refused, and why that one is.
+/// How many items were taken, which are those before the first that is refused, and why that one is.
 #[derive(Clone, Copy)]
-pub(crate) struct Marked {
+pub(crate) struct Taken {
     pub(crate) count: usize,
     pub(crate) refusal: Option<Refusal>,
 }
 
-/// Why an item with this outcome is refused, where it may stand in the choice before.
-fn refused(outcome: Outcome, twice: bool) -> Option<Refusal>
-    ensures { result ≡ refused_by outcome twice }
+/// Why a choice of so many items is refused, whatever they are.
+pub(crate) fn refused_size(central: bool, count: usize) -> Option<Refusal>
+    ensures { result ≡ size_refusal central count }
+{
+    if count == 0 {
+        return Some(Refusal::EmptyChoice);
+    }
+    if central && count > 1 {
+        return Some(Refusal::NotCentral);
+    }
+    None
+}
+
+/// The move that an outcome is, or why its item is refused, where it may stand in the choice before.
+fn accepted(outcome: Outcome, twice: bool) -> Result<Moved, Refusal>
+    ensures { MatchResult result (λ moved. (refused_by outcome twice ≡ None) × (move_in outcome ≡ Some moved)) (λ refusal. refused_by outcome twice ≡ Some refusal) }
 {
     match outcome {
-        Outcome::Absent => Some(Refusal::UnknownNode),
-        _ if twice => Some(Refusal::ChosenTwice),
-        Outcome::Idle => Some(Refusal::NotEnabled),
-        Outcome::Wrong => Some(Refusal::BadTarget),
-        Outcome::Moves(_) => None,
+        Outcome::Absent => Err(Refusal::UnknownNode),
+        _ if twice => Err(Refusal::ChosenTwice),
+        Outcome::Idle => Err(Refusal::NotEnabled),
+        Outcome::Wrong => Err(Refusal::BadTarget),
+        Outcome::Moves(moved) => Ok(moved),
     }
 }
 
-/// Why an item with this outcome is refused behind those whose nodes are marked. Its node is marked if it is not
-/// refused.
-pub(crate) fn mark(chosen: &mut EnabledSet, node: Node, outcome: Outcome) -> Option<Refusal>
+/// Takes an item with this outcome behind those whose nodes are marked: marks its node and adds its move, where there was
+/// memory so far; or says why it is refused.
+pub(crate) fn take_outcome(
+    chosen: &mut EnabledSet,
+    gathered: &mut Gathered,
+    node: Node,
+    outcome: Outcome,
+) -> Option<Refusal>
     requires { HasPlace (length chosen.old) node outcome }
     ensures refusal { result ≡ refused_by outcome (is_in chosen.old node) }
     ensures marks { chosen.new ≡ (if is_some result then chosen.old else slice_set chosen.old node true) }
+    ensures whole { result ≡ None → IsTrue gathered.new.whole → IsTrue gathered.old.whole }
+    ensures moves { result ≡ None → IsTrue gathered.new.whole → gathered.new.moves.items ≡ gathered.old.moves.items ++ option_to_list (move_in outcome) }
 {
-    let refusal = refused(outcome, chosen.contains(node));
-    if refusal.is_none() {
-        chosen.insert(node);
+    match accepted(outcome, chosen.contains(node)) {
+        Ok(moved) => {
+            chosen.insert(node);
+            gathered.whole = gathered.whole && gathered.moves.push(moved).is_ok();
+            None
+        }
+        Err(refusal) => Some(refusal),
     }
-    refusal
 }
 
-/// Marks the nodes of verdicts up to the first that is refused.
-fn mark_verdicts(chosen: &mut EnabledSet, verdicts: &[Verdict]) -> Marked
+/// Takes the items that verdicts are of, in order, up to the first that is refused.
+fn take_up_to_refusal(
+    chosen: &mut EnabledSet,
+    gathered: &mut Gathered,
+    verdicts: &[Verdict],
+) -> Taken
     requires clear { AreClear chosen.old }
     requires placed { All (λ d. HasPlace (length chosen.old) d.node d.outcome) verdicts.now }
+    requires none { gathered.old.moves.items ≡ [] }
     ensures count { result.count ≤ length verdicts.now }
     ensures refusal { result.refusal ≡ verdicts_refusal [] verdicts.now }
+    ensures moves { result.refusal ≡ None → IsTrue gathered.new.whole → gathered.new.moves.items ≡ moves_of verdicts.now }
     ensures marks { AreMarks (is_judged (take result.count verdicts.now)) chosen.new }
     ensures len { length chosen.new ≡ length chosen.old }
 {
     for (place, verdict) in verdicts.iter().enumerate() {
-        let refusal = mark(chosen, verdict.node, verdict.outcome);
-        if refusal.is_some() {
-            return Marked {
+        if let Some(refusal) = take_outcome(chosen, gathered, verdict.node, verdict.outcome) {
+            return Taken {
                 count: place,
-                refusal,
+                refusal: Some(refusal),
             };
         }
     }
-    Marked {
+    Taken {
         count: verdicts.len(),
         refusal: None,
     }
@@ -77,25 +108,21 @@ fn unmark_verdicts(chosen: &mut EnabledSet, verdicts: &[Verdict])
     }
 }
 
-/// Why a step with these verdicts is refused, if it is: one look at each verdict. The marks are clear again at the
-/// end.
-pub(crate) fn refused_verdicts(
-    central: bool,
+/// Gathers the moves of verdicts where none is refused, else says why the first is that is: one look at each up to that
+/// one. The marks are clear again at the end.
+pub(crate) fn take_verdicts(
     chosen: &mut EnabledSet,
+    gathered: &mut Gathered,
     verdicts: &[Verdict],
 ) -> Option<Refusal>
     requires clear { AreClear chosen.old }
     requires placed { All (λ d. HasPlace (length chosen.old) d.node d.outcome) verdicts.now }
-    ensures refusal { result ≡ refusal_of_verdicts central verdicts.now }
+    requires none { gathered.old.moves.items ≡ [] }
+    ensures refusal { result ≡ verdicts_refusal [] verdicts.now }
+    ensures moves { result ≡ None → IsTrue gathered.new.whole → gathered.new.moves.items ≡ moves_of verdicts.now }
     ensures kept { chosen.new ≡ chosen.old }
 {
-    if verdicts.is_empty() {
-        return Some(Refusal::EmptyChoice);
-    }
-    if central && verdicts.len() > 1 {
-        return Some(Refusal::NotCentral);
-    }
-    let marked = mark_verdicts(chosen, verdicts);
-    unmark_verdicts(chosen, &verdicts[..marked.count]);
-    marked.refusal
+    let taken = take_up_to_refusal(chosen, gathered, verdicts);
+    unmark_verdicts(chosen, &verdicts[..taken.count]);
+    taken.refusal
 }

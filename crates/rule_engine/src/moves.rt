@@ -1,40 +1,54 @@
 //! The moves of a step.
 
-ghost use Rattle.std.specs.Prelude.{◌≡◌, IfOk};
-ghost use Rattle.rule_machine.specs.Least.{move_in as move_of_outcome};
-ghost use Rattle.rule_engine.specs.Choosing.{AreLeast, moves_of};
+ghost use Rattle.std.specs.Prelude.{◌≡◌, [], IfOk, IsTrue, None, OnErr, OnOk};
+ghost use Rattle.rule_engine.specs.Choosing.{AreLeast, IsToldOf};
 
-use rule_machine::{Listing, Moved, Outcome, Verdict, Want};
-use std::alloc::Global;
+use rule_machine::{Listing, Moved, Refusal, Reply, Want};
+use std::alloc::{AllocError, Global};
 
-/// The move that an outcome is, if it is one.
-fn move_in(outcome: Outcome) -> Option<Moved>
-    ensures { result ≡ move_of_outcome outcome }
-{
-    match outcome {
-        Outcome::Moves(moved) => Some(moved),
-        _ => None,
-    }
+/// The moves of a choice so far, in its order, and whether there was memory for each.
+#[derive(Drop)]
+pub(crate) struct Gathered {
+    pub(crate) moves: Vec<Moved>,
+    pub(crate) whole: bool,
 }
 
-/// The moves of verdicts, in their order.
-fn moves_in_order(alloc: Global, verdicts: &[Verdict]) -> Result<Vec<Moved>, Want>
-    ensures { IfOk result (λ moves. moves.items ≡ moves_of verdicts.now) }
-{
-    let mut moves = Vec::with_capacity(alloc, verdicts.len())?;
-    for verdict in verdicts {
-        if let Some(moved) = move_in(verdict.outcome) {
-            moves.push(moved)?;
+impl Gathered {
+    /// None yet, with room for so many, which are the only memory that they take.
+    pub(crate) fn with_room(alloc: Global, count: usize) -> Gathered
+        ensures { result.moves.items ≡ [] }
+    {
+        match Vec::with_capacity(alloc, count) {
+            Ok(moves) => Gathered { moves, whole: true },
+            Err(_) => Gathered {
+                moves: Vec::new(alloc),
+                whole: false,
+            },
         }
     }
-    Ok(moves)
+
+    /// The moves, ascending by node, or want of memory; takes none. Moves that ascend already cost one look each.
+    pub(crate) fn into_ascending(self) -> Result<Listing<Moved>, Want>
+        ensures { IfOk result (λ moves. IsTrue self.whole × AreLeast self.moves.items moves) }
+    {
+        let Gathered { mut moves, whole } = self;
+        if !whole {
+            return Err(AllocError);
+        }
+        moves.sort_unstable_by_key(|moved| moved.node.place());
+        Ok(Listing::from_vec(moves))
+    }
 }
 
-/// The moves of verdicts, ascending by node; no memory but theirs. Moves that ascend already cost one look each.
-pub(crate) fn ascending_moves(alloc: Global, verdicts: &[Verdict]) -> Result<Listing<Moved>, Want>
-    ensures { IfOk result (λ moves. AreLeast verdicts.now moves) }
+/// The reply to a step that is refused for this reason, or else makes the moves that were gathered; takes no memory.
+pub(crate) fn step_reply(refused: Option<Refusal>, gathered: Gathered) -> Result<Reply, Want>
+    ensures told { IfOk result (λ reply. IsToldOf refused gathered.moves.items reply) }
+    ensures whole { OnOk result (refused ≡ None → IsTrue gathered.whole) }
+    ensures want { OnErr result (refused ≡ None) }
 {
-    let mut moves = moves_in_order(alloc, verdicts)?;
-    moves.sort_unstable_by_key(|moved| moved.node.place());
-    Ok(Listing::from_vec(moves))
+    if let Some(refusal) = refused {
+        return Ok(Reply::Refused(refusal));
+    }
+    let moves = gathered.into_ascending()?;
+    Ok(Reply::Moves(moves))
 }

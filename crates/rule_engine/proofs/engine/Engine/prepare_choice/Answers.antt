@@ -1,6 +1,33 @@
-use Rattle.std.proofs.Common.{◌+◌}
+use Rattle.std.proofs.Common.{◌≡◌, ◌+◌, List, [], refl, ap, sym, ◌∙◌, length}
+use Rattle.indexed_state.specs.Indexed.{Indexed}
+use Rattle.rule_machine.specs.declared.choice.Item.{Item}
+use Rattle.rule_machine.specs.Refuse.{items_refusal}
+use Rattle.rule_engine.specs.Choosing.{moves_by, size_refusal}
 use Rattle.rule_engine.proofs.Marked.{blank_clear}
+use Rattle.rule_engine.proofs.Preparing.{IsTaken, sized_prepares, taken_prepares}
 use Rattle.rule_engine.proofs.engine.Engine.prepare_choice.Goals as goal
 
-pub refused_step-refused-requires-clause-clear : goal.refused_step-refused-requires-clause-clear
-refused_step-refused-requires-clause-clear g c = blank_clear (c.self.inside.state.state.network.size + 1) c.self.inside.chosen c.self.invariant.unmarked
+pub take_items-refused-requires-clause-clear : goal.take_items-refused-requires-clause-clear
+take_items-refused-requires-clause-clear g c = blank_clear (c.self.inside.state.state.network.size + 1) c.self.inside.chosen c.self.invariant.unmarked
+
+pub returns-in-Some : goal.returns-in-Some
+returns-in-Some g c n =
+    let t = g.R.Rules.table in
+    let items = c.args.choice.now in
+    let size : c.refused_size.result ≡ size_refusal t.central (length items) = c.refused_size.ensures ∙ ap (λ b. size_refusal b (length c.items-items.result.now)) (c.CENTRAL.ensures ∙ sym g.met.R.Rules.is_central) ∙ ap (λ (l : List Item). size_refusal t.central (length l)) c.items-items.ensures.items in
+    sized_prepares t c.args.self.now c.args.self.now n items c.in-Some.refusal (sym size ∙ c.in-Some.is) refl
+
+pub returns : goal.returns
+returns g c n =
+    let t = g.R.Rules.table in
+    let s = c.args.self.now.state in
+    let items = c.args.choice.now in
+    let size : c.refused_size.result ≡ size_refusal t.central (length items) = c.refused_size.ensures ∙ ap (λ b. size_refusal b (length c.items-items.result.now)) (c.CENTRAL.ensures ∙ sym g.met.R.Rules.is_central) ∙ ap (λ (l : List Item). size_refusal t.central (length l)) c.items-items.ensures.items in
+    let taken : IsTaken t s items c.take_items-refused.result c.take_items-refused.new.gathered.whole c.take_items-refused.new.gathered.moves.items =
+    record {
+      size = sym size ∙ c.in_default.is;
+      refusal = sym (c.take_items-refused.ensures.refusal ∙ ap (items_refusal t c.self.inside.state.state []) c.items-items.ensures.items ∙ ap (λ (m : Indexed). items_refusal t m.state [] items) c.self.view_is);
+      moves = λ none whole. c.take_items-refused.ensures.moves none whole ∙ ap (moves_by t c.self.inside.state.state) c.items-items.ensures.items ∙ ap (λ (m : Indexed). moves_by t m.state items) c.self.view_is;
+    }
+    in
+    taken_prepares t c.args.self.now c.self.inside.state n items c.take_items-refused.result c.take_items-refused.new.gathered.whole c.take_items-refused.new.gathered.moves.items c.step_reply.result taken c.step_reply.ensures.told c.step_reply.ensures.whole c.step_reply.ensures.want (ap (λ (m : Indexed). m.state) c.self.view_is)

@@ -1,20 +1,18 @@
-use Rattle.std.proofs.Common.{◌≡◌, ◌+◌, None, refl, ap, sym, ◌∙◌, false, length}
+use Rattle.std.proofs.Common.{◌≡◌, ◌+◌, refl, ap, sym, ◌∙◌, [], false, length}
 use Rattle.std.proofs.lemmas.List.{length-replicate}
 use Rattle.indexed_state.specs.Indexed.{Indexed}
-use Rattle.rule_machine.specs.declared.event.Event.TheVariants.{Step}
-use Rattle.rule_machine.specs.Refuse.{step_refusal}
-use Rattle.rule_machine.specs.Least.{reply_by}
-use Rattle.rule_engine.specs.Choosing.{verdicts_of, refusal_of_verdicts}
-use Rattle.rule_engine.proofs.Judged.{refusal-verdicts_of}
+use Rattle.rule_engine.specs.Choosing.{moves_of, size_refusal, verdicts_of, verdicts_refusal}
+use Rattle.rule_engine.proofs.Ascending.{moves_of-verdicts_of}
+use Rattle.rule_engine.proofs.Judged.{length-verdicts_of, refusal-verdicts_of}
 use Rattle.rule_engine.proofs.Marked.{blank_clear, verdicts_placed}
-use Rattle.rule_engine.proofs.Preparing.{chosen_prepares, wanting_prepares}
+use Rattle.rule_engine.proofs.Preparing.{IsTaken, sized_prepares, taken_prepares}
 use Rattle.rule_engine.proofs.engine.Engine.prepare_step.Goals as goal
 
-pub refused_verdicts-requires-clause-clear : goal.refused_verdicts-requires-clause-clear
-refused_verdicts-requires-clause-clear g c = blank_clear (c.self.inside.state.state.network.size + 1) c.self.inside.chosen c.self.invariant.unmarked
+pub take_verdicts-refused-requires-clause-clear : goal.take_verdicts-refused-requires-clause-clear
+take_verdicts-refused-requires-clause-clear g c = blank_clear (c.self.inside.state.state.network.size + 1) c.self.inside.chosen c.self.invariant.unmarked
 
-pub refused_verdicts-requires-clause-placed : goal.refused_verdicts-requires-clause-placed
-refused_verdicts-requires-clause-placed g c =
+pub take_verdicts-refused-requires-clause-placed : goal.take_verdicts-refused-requires-clause-placed
+take_verdicts-refused-requires-clause-placed g c =
     let t = g.R.Rules.table in
     let s = c.self.inside.state.state in
     let items = c.args.choice.now in
@@ -25,30 +23,21 @@ refused_verdicts-requires-clause-placed g c =
 pub returns-in-Some : goal.returns-in-Some
 returns-in-Some g c n =
     let t = g.R.Rules.table in
-    let s = c.args.self.now.state in
     let items = c.args.choice.now in
-    let refusal : c.refused_verdicts.result ≡ step_refusal t s items = c.refused_verdicts.ensures.refusal ∙ ap (λ b. refusal_of_verdicts b c.args.verdicts.now) (c.CENTRAL.ensures ∙ sym g.met.R.Rules.is_central) ∙ ap (refusal_of_verdicts t.central) c.requires ∙ refusal-verdicts_of t s items in
-    record {
-      reply = ap (reply_by t s n (Step items)) (sym c.in-Some.is ∙ refusal);
-      room = tt;
-      kept = ap (λ (m : Indexed). m.state) c.self.view_is;
-      want = tt;
-    }
-
-pub returns-in_err-moves : goal.returns-in_err-moves
-returns-in_err-moves g c n =
-    let t = g.R.Rules.table in
-    let s = c.args.self.now.state in
-    let items = c.args.choice.now in
-    let refusal : c.refused_verdicts.result ≡ step_refusal t s items = c.refused_verdicts.ensures.refusal ∙ ap (λ b. refusal_of_verdicts b c.args.verdicts.now) (c.CENTRAL.ensures ∙ sym g.met.R.Rules.is_central) ∙ ap (refusal_of_verdicts t.central) c.requires ∙ refusal-verdicts_of t s items in
-    let none : step_refusal t s items ≡ None = sym refusal ∙ c.in_default.is in
-    wanting_prepares t c.args.self.now c.self.inside.state n (Step items) c.from_residual.result c.from_residual.ensures.0 none refl (ap (λ (m : Indexed). m.state) c.self.view_is)
+    let size : c.refused_size.result ≡ size_refusal t.central (length items) = c.refused_size.ensures ∙ ap (λ b. size_refusal b (length c.args.verdicts.now)) (c.CENTRAL.ensures ∙ sym g.met.R.Rules.is_central) ∙ ap (size_refusal t.central) (ap length c.requires ∙ length-verdicts_of t c.args.self.now.state items) in
+    sized_prepares t c.args.self.now c.args.self.now n items c.in-Some.refusal (sym size ∙ c.in-Some.is) refl
 
 pub returns : goal.returns
 returns g c n =
     let t = g.R.Rules.table in
     let s = c.args.self.now.state in
     let items = c.args.choice.now in
-    let refusal : c.refused_verdicts.result ≡ step_refusal t s items = c.refused_verdicts.ensures.refusal ∙ ap (λ b. refusal_of_verdicts b c.args.verdicts.now) (c.CENTRAL.ensures ∙ sym g.met.R.Rules.is_central) ∙ ap (refusal_of_verdicts t.central) c.requires ∙ refusal-verdicts_of t s items in
-    let none : step_refusal t s items ≡ None = sym refusal ∙ c.in_default.is in
-    chosen_prepares t c.args.self.now c.self.inside.state n items c.in_ok-moves.moves none (c.in_ok-moves.ensures t s items c.requires none) (ap (λ (m : Indexed). m.state) c.self.view_is)
+    let size : c.refused_size.result ≡ size_refusal t.central (length items) = c.refused_size.ensures ∙ ap (λ b. size_refusal b (length c.args.verdicts.now)) (c.CENTRAL.ensures ∙ sym g.met.R.Rules.is_central) ∙ ap (size_refusal t.central) (ap length c.requires ∙ length-verdicts_of t s items) in
+    let taken : IsTaken t s items c.take_verdicts-refused.result c.take_verdicts-refused.new.gathered.whole c.take_verdicts-refused.new.gathered.moves.items =
+    record {
+      size = sym size ∙ c.in_default.is;
+      refusal = sym (c.take_verdicts-refused.ensures.refusal ∙ ap (verdicts_refusal []) c.requires ∙ refusal-verdicts_of t s items);
+      moves = λ none whole. c.take_verdicts-refused.ensures.moves none whole ∙ ap moves_of c.requires ∙ moves_of-verdicts_of t s items;
+    }
+    in
+    taken_prepares t c.args.self.now c.self.inside.state n items c.take_verdicts-refused.result c.take_verdicts-refused.new.gathered.whole c.take_verdicts-refused.new.gathered.moves.items c.step_reply.result taken c.step_reply.ensures.told c.step_reply.ensures.whole c.step_reply.ensures.want (ap (λ (m : Indexed). m.state) c.self.view_is)

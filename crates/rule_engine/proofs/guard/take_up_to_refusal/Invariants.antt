@@ -1,7 +1,8 @@
-use Rattle.std.proofs.Common.{◌≡◌, [], take, drop, length}
+use Rattle.std.proofs.Common.{◌≡◌, [], IsTrue, take, drop, length}
 use Rattle.rule_machine.specs.Refuse.{items_refusal}
+use Rattle.rule_engine.specs.Choosing.{moves_by}
 use Rattle.rule_engine.specs.Marks.{AreMarks, is_named}
-use Rattle.rule_engine.proofs.guard.mark_items.Given as goal
+use Rattle.rule_engine.proofs.guard.take_up_to_refusal.Given as goal
 
 abbrev pub invariant-loop-place : goal.invariant-loop-place
 invariant-loop-place g l =
@@ -9,6 +10,7 @@ invariant-loop-place g l =
     let s = l.state.state in
     record {
       rest : items_refusal t s (take l.place l.items) (drop l.place l.items) ≡ items_refusal t s [] l.items;
+      moves : IsTrue l.gathered.whole → l.gathered.moves.items ≡ moves_by t s (take l.place l.items);
       marks : AreMarks (is_named (take l.place l.items)) l.chosen;
       len : length l.chosen ≡ length l.fn.chosen;
     }

@@ -1,0 +1,48 @@
+use Rattle.std.proofs.Common.{◌≡◌, ◌+◌, ◌++◌, option_to_list, cond, is_some, None, Bool, List, Option, set, sym, ap, ◌∙◌, length, true}
+use Rattle.rule_machine.specs.declared.choice.Item.{Item}
+use Rattle.rule_machine.specs.declared.refusal.Refusal.{Refusal}
+use Rattle.rule_machine.specs.declared.verdict.Outcome.{Outcome}
+use Rattle.rule_machine.specs.State.{State}
+use Rattle.rule_machine.specs.RuleTable.{RuleTable}
+use Rattle.rule_machine.specs.Least.{move_in, outcome_of}
+use Rattle.enabled_set.specs.Members.{is_in}
+use Rattle.rule_engine.specs.Choosing.{refused_by}
+use Rattle.rule_engine.proofs.Marked.{passes, item_refused, items_refusal_more, item_placed}
+use Rattle.rule_engine.proofs.Scanned.{found_next}
+use Rattle.rule_engine.proofs.guard.take_up_to_refusal.Goals as goal
+
+judged_by : (t : RuleTable) (s : State) (item : Item) (o : Outcome) (marks : List Bool) (refusal : Option Refusal) → refusal ≡ refused_by o (is_in marks item.node) → o ≡ outcome_of t s item → refused_by (outcome_of t s item) (is_in marks item.node) ≡ refusal
+judged_by t s item o marks refusal judged is = ap (λ (q : Outcome). refused_by q (is_in marks item.node)) (sym is) ∙ sym judged
+
+pub returns-in-Some-clause-refusal : goal.returns-in-Some-clause-refusal
+returns-in-Some-clause-refusal g c =
+    let t = g.R.Rules.table in
+    let s = c.args.state.now.state in
+    let item = c.index-items-place.result in
+    let marks = c.loop-place.chosen in
+    item_refused t s c.args.items.now c.loop-place.place item marks c.in-Some.refusal c.loop-place-test.true c.index-items-place.is
+    (judged_by t s item c.outcome-outcome.result marks c.take_outcome.result c.take_outcome.ensures.refusal c.outcome-outcome.ensures ∙ c.in-Some.is) c.loop-place.invariant.marks
+    ∙ c.loop-place.invariant.rest
+
+pub loop-place-preserved : goal.loop-place-preserved
+loop-place-preserved g c =
+    let t = g.R.Rules.table in
+    let s = c.args.state.now.state in
+    let items = c.args.items.now in
+    let k = c.loop-place.place in
+    let item = c.index-items-place.result in
+    let marks = c.loop-place.chosen in
+    let none : c.take_outcome.result ≡ None = c.in_default.is in
+    let accepted : refused_by (outcome_of t s item) (is_in marks item.node) ≡ None = judged_by t s item c.outcome-outcome.result marks c.take_outcome.result c.take_outcome.ensures.refusal c.outcome-outcome.ensures ∙ none in
+    let made : c.take_outcome.new.chosen ≡ set marks item.node true = c.take_outcome.ensures.marks ∙ ap (λ o. cond (is_some o) marks (set marks item.node true)) none in
+    let places : length marks ≡ s.network.size + 1 = c.loop-place.invariant.len ∙ c.requires.places in
+    let next = passes (λ (i : Item). i.node) items k item (outcome_of t s item) marks c.take_outcome.new.chosen c.loop-place-test.true c.index-items-place.is (item_placed t s item (length marks) places) accepted made c.loop-place.invariant.marks in
+    record {
+      rest = items_refusal_more t s items k item c.loop-place-test.true c.index-items-place.is next.accepted ∙ c.loop-place.invariant.rest;
+      moves = λ whole.
+          found_next (λ (i : Item). move_in (outcome_of t s i)) c.loop-place.gathered.moves.items c.take_outcome.new.gathered.moves.items items k item c.loop-place-test.true c.index-items-place.is
+          (c.loop-place.invariant.moves (c.take_outcome.ensures.whole none whole))
+          (c.take_outcome.ensures.moves none whole ∙ ap (λ (o : Outcome). c.loop-place.gathered.moves.items ++ option_to_list (move_in o)) c.outcome-outcome.ensures);
+      marks = next.marks;
+      len = next.len ∙ c.loop-place.invariant.len;
+    }
