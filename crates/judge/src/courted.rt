@@ -9,8 +9,8 @@ use rule_machine::{Node, Want};
 use std::alloc::Global;
 use std::marker::Model;
 
-/// Which nodes have a suitor, found anew for each status; seen in contracts as a list with a place for each name, of which
-/// place 0 is nobody's.
+/// Which nodes have a suitor, found anew for each question about rules; seen in contracts as a list with a place for each name,
+/// of which place 0 is nobody's.
 #[derive(Drop)]
 pub(crate) struct Courted {
     marks: Vec<bool>,

@@ -119,7 +119,7 @@ impl NetState {
             | Event::Leave(_) => is_accepted(reply),
             Event::Step(choice) => self.may_move(rules, choice.items(), reply, chosen),
             Event::Show(v) => is_shown(self.pointer(*v), reply),
-            Event::Enabled => self.are_enabled(rules, reply),
+            Event::Enabled => self.are_enabled(rules, reply, courted),
             Event::Matching => self.are_mutual(reply),
             Event::Status => self.has_counts(rules, spent, reply, courted),
         }

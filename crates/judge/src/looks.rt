@@ -68,6 +68,6 @@ impl Judge {
         requires { IsTrue (network.present self.now.network v) }
         ensures { result ≡ table.rule_at (table_of rules) self.now v }
     {
-        self.net.rule_at(rules, v)
+        self.net.rule_at(rules, v, None)
     }
 }

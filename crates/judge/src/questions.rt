@@ -6,19 +6,26 @@ ghost use Rattle.rule_machine.specs.RuleTable.{enabled, rule_at};
 ghost use Rattle.rule_machine.specs.State as state;
 ghost use Rattle.rule_machine.specs.Stable.{mutual_pairs, pair_above};
 ghost use Rattle.rule_machine.specs.Tables.{table_of};
+ghost use Rattle.judge.specs.Courting.{IsCourting};
 
-use crate::NetState;
+use crate::{Courted, NetState};
 use rule_machine::{Act, Edge, Node, RuleSet};
 
 impl NetState {
-    /// Whether these are the enabled nodes, each with its rule. Looks at every name, and at each node's neighbours.
-    pub(crate) fn lists_enabled(&self, rules: RuleSet, given: &[(Node, Act)]) -> bool
+    /// Whether these are the enabled nodes, each with its rule. Looks at every name, and at the neighbours of a node that may seduce.
+    pub(crate) fn lists_enabled(
+        &self,
+        rules: RuleSet,
+        given: &[(Node, Act)],
+        courted: &Courted,
+    ) -> bool
+        requires { IsCourting self.now courted.now }
         ensures { IsTrue result ↔ (given.now ≡ enabled (table_of rules) self.now) }
     {
         let mut place = 0;
         for name in 1..self.capacity() + 1 {
             let v = Node::new(name).unwrap();
-            if let Some(act) = self.rule_of(rules, v) {
+            if let Some(act) = self.rule_of(rules, v, courted) {
                 if !has_rule(given, place, v, act) {
                     return false;
                 }
@@ -46,11 +53,12 @@ impl NetState {
     }
 
     /// The rule that is enabled at the node of a name, if there is one and any is.
-    pub(crate) fn rule_of(&self, rules: RuleSet, v: Node) -> Option<Act>
+    pub(crate) fn rule_of(&self, rules: RuleSet, v: Node, courted: &Courted) -> Option<Act>
+        requires { IsCourting self.now courted.now }
         ensures { result ≡ cond (present self.now.network v) (rule_at (table_of rules) self.now v) None }
     {
         if self.has(v) {
-            self.rule_at(rules, v)
+            self.rule_at(rules, v, Some(courted))
         } else {
             None
         }

@@ -13,7 +13,7 @@ use std::marker::Model;
 
 /// A network that judges replies, seen in contracts as a state. Guards, targets and numbers are found anew at each event
 /// from the neighbour lists and the registers; beside them there are only the places of a choice's items, which are clear
-/// between two calls, and those of the marks that a status makes anew.
+/// between two calls, and those of the marks that `Enabled` and `Status` make anew.
 #[derive(Drop)]
 pub struct Judge {
     pub(crate) net: NetState,

@@ -1,20 +1,25 @@
 //! Whether a reply is the one that an event has.
 
-ghost use Rattle.std.specs.Prelude.{◌≡◌, ◌↔◌, IsTrue};
+ghost use Rattle.std.specs.Prelude.{◌≡◌, ◌+◌, ◌↔◌, IsTrue, length};
 ghost use Rattle.rule_machine.specs.RuleTable.{enabled};
 ghost use Rattle.rule_machine.specs.Stable.{mutual_pairs};
 ghost use Rattle.rule_machine.specs.Tables.{table_of};
 
-use crate::NetState;
+use crate::{Courted, NetState};
 use rule_machine::{Node, Refusal, Reply, RuleSet};
 
 impl NetState {
     /// Whether a reply has the enabled nodes.
-    pub(crate) fn are_enabled(&self, rules: RuleSet, reply: &Reply) -> bool
-        ensures { IsTrue result ↔ (reply.now ≡ Reply.EnabledAre (enabled (table_of rules) self.now)) }
+    pub(crate) fn are_enabled(&self, rules: RuleSet, reply: &Reply, courted: &mut Courted) -> bool
+        requires { length courted.old ≡ self.now.network.size + 1 }
+        ensures value { IsTrue result ↔ (reply.now ≡ Reply.EnabledAre (enabled (table_of rules) self.now)) }
+        ensures len { length courted.new ≡ length courted.old }
     {
         match reply {
-            Reply::EnabledAre(given) => self.lists_enabled(rules, given.as_slice()),
+            Reply::EnabledAre(given) => {
+                courted.find(self);
+                self.lists_enabled(rules, given.as_slice(), courted)
+            }
             _ => false,
         }
     }

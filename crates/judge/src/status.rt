@@ -5,6 +5,7 @@ ghost use Rattle.rule_machine.specs.Answer.{counts_of};
 ghost use Rattle.rule_machine.specs.RuleTable.{enabled_names};
 ghost use Rattle.rule_machine.specs.Stable.{mutual_pairs};
 ghost use Rattle.rule_machine.specs.Tables.{table_of};
+ghost use Rattle.judge.specs.Courting.{IsCourting};
 ghost use Rattle.judge.specs.Judging.{same_counts};
 
 use crate::{Courted, NetState};
@@ -40,7 +41,7 @@ impl NetState {
             && given.edges == self.edges()
             && u64::from(given.spent) == spent
             && given.pairs == self.pair_count()
-            && given.enabled == self.enabled_count(rules)
+            && given.enabled == self.enabled_count(rules, courted)
             && u64::from(given.charge) == self.charge(rules, courted)
     }
 
@@ -57,13 +58,14 @@ impl NetState {
     }
 
     /// How many nodes are enabled.
-    fn enabled_count(&self, rules: RuleSet) -> u32
+    fn enabled_count(&self, rules: RuleSet, courted: &Courted) -> u32
+        requires { IsCourting self.now courted.now }
         ensures { result ≡ length (enabled_names (table_of rules) self.now) }
     {
         let mut enabled = 0;
         for below in 0..self.capacity() {
             let v = Node::new(below + 1).unwrap();
-            enabled += u32::from(self.rule_of(rules, v).is_some());
+            enabled += u32::from(self.rule_of(rules, v, courted).is_some());
         }
         enabled
     }

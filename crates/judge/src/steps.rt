@@ -76,7 +76,7 @@ impl NetState {
         requires { IsTrue (present self.now.network item.node) }
         ensures { result ≡ refuse.rule_refusal (table_of rules) self.now item (rule_at (table_of rules) self.now item.node) }
     {
-        match self.rule_at(rules, item.node) {
+        match self.rule_at(rules, item.node, None) {
             Some(act) => self.wish_refusal(rules, act, item),
             None => Some(Refusal::NotEnabled),
         }
@@ -162,7 +162,7 @@ impl NetState {
         ensures { result ≡ judged.is_move_of (table_of rules) self.now item made }
     {
         made.node == item.node
-            && is_rule(self.rule_at(rules, item.node), made.act)
+            && is_rule(self.rule_at(rules, item.node, None), made.act)
             && self.is_target(rules, made.act, item, made.target)
     }
 }
