@@ -1,5 +1,5 @@
 -- What is counted at the nodes in turn, and the charge as such a sum.
-use Rattle.std.proofs.Common.{◌≡◌, ℕ, ◌+◌, ◌*◌, ◌≤◌, suc, zero, Bool, true, false, cond, not, List, [], ◌∷◌, ◌++◌, length, filter, filter_map, count_by, sum_by, Option, None, Some, is_some, refl, sym, ap, ◌∙◌, arith, add-one}
+use Rattle.std.proofs.Common.{◌≡◌, ℕ, ◌+◌, ◌*◌, ◌≤◌, suc, zero, Bool, true, false, cond, not, ◌&&◌, ◌||◌, nat_lt, List, [], ◌∷◌, ◌++◌, length, filter, filter_map, count_by, sum_by, Option, None, Some, is_some, refl, sym, ap, ◌∙◌, arith, add-one}
 use Rattle.std.specs.List.{range_with_len, cons_option}
 use Rattle.std.specs.Int.{from_bool}
 use Rattle.std.proofs.lemmas.List.FromFn.{length-range_with_len}
@@ -7,12 +7,12 @@ use Rattle.std.proofs.lemmas.List.Sums.{sum_by-cons, sum_by_push, length-filter,
 use Rattle.rule_machine.specs.declared.rules.RuleSet.{RuleSet}
 use Rattle.rule_machine.specs.declared.rules.RuleSet.TheVariants.{Hh, Manne}
 use Rattle.rule_machine.specs.Network.{Network, present, names, linked, neighbours}
-use Rattle.rule_machine.specs.State.{State, IsState, is_unanswered}
-use Rattle.rule_machine.specs.Charge.{hsu_huang_closed, manne_closed}
+use Rattle.rule_machine.specs.State.{State, IsState, flag, is_unanswered, married, points}
+use Rattle.rule_machine.specs.Charge.{awaits, hsu_huang_closed, is_courted, manne_closed}
 use Rattle.rule_machine.specs.Tables.{table_of}
 use Rattle.charge_laws.specs.Counting.{sum_add, sum_agree, sum_twice}
 use Rattle.charge_laws.specs.EdgesByNodes.{edges_by_nodes}
-use Rattle.judge.specs.Charging.{open_above, flag_charge, charge_at}
+use Rattle.judge.specs.Charging.{is_closed, open_above, flag_charge, charge_at}
 
 pub bool_number : (b : Bool) → from_bool b ≡ cond b 1 0
 bool_number true = refl
@@ -115,3 +115,24 @@ charge_is_sum Manne s good =
     let edges = edges_by_nodes s.network good.is_network (λ e. not (manne_closed s e)) in
     let whole = parts Manne s (names s.network) in
     omega (arith, edges, whole)
+
+-- ---- married nodes
+
+-- an edge of a married node is closed
+closed_of_married : (rules : RuleSet) (s : State) (v w : ℕ) → married s v ≡ true → is_closed rules s (v, w) ≡ true
+closed_of_married Hh s v w is =
+    ap (λ b. b || married s w || awaits s v w || awaits s w v || (is_courted s v && is_courted s w)) is
+closed_of_married Manne s v w is = ap (λ b. b || married s w || (points s.registers v w && not (flag s w))) is
+
+-- so none of its edges is open
+pub none_open : (rules : RuleSet) (s : State) (v : ℕ) → married s v ≡ true → (ws : List ℕ) → count_by (λ w. nat_lt v w && not (is_closed rules s (v, w))) ws ≡ 0
+none_open rules s v is [] = refl
+none_open rules s v is (w ∷ ws) =
+    let whole = sum_by-cons (λ x. cond (nat_lt v x && not (is_closed rules s (v, x))) 1 0) w ws in
+    let here : cond {A = ℕ} (nat_lt v w && not (is_closed rules s (v, w))) 1 0 ≡ 0 = ap (λ b. cond {A = ℕ} (nat_lt v w && not b) 1 0) (closed_of_married rules s v w is) ∙ shut (nat_lt v w) in
+    let rest = none_open rules s v is ws in
+    omega (arith, whole, here, rest)
+  where
+    shut : (b : Bool) → cond {A = ℕ} (b && false) 1 0 ≡ 0
+    shut true = refl
+    shut false = refl

@@ -8,6 +8,7 @@ ghost use Rattle.rule_machine.specs.Tables.{table_of};
 ghost use Rattle.judge.specs.Courting.{IsCourting};
 ghost use Rattle.judge.specs.Charging as charging;
 
+use crate::net_state::node_above;
 use crate::{Courted, NetState};
 use rule_machine::{Node, RuleSet};
 
@@ -18,8 +19,8 @@ impl NetState {
         ensures { result ≡ (table_of rules).charge self.now }
     {
         let mut total = 0;
-        for below in 0..self.capacity() {
-            total += self.charge_of(rules, Node::new(below + 1).unwrap(), courted);
+        for below in 0..self.last_name() {
+            total += self.charge_of(rules, node_above(below), courted);
         }
         total
     }
@@ -51,7 +52,7 @@ impl NetState {
             + self.flag_charge(rules, v)
     }
 
-    /// How many edges between a node and its higher neighbours are open.
+    /// How many edges between a node and its higher neighbours are open. Looks at none where it is married: they are closed.
     fn open_above(&self, rules: RuleSet, v: Node, courted: &Courted) -> u64
         requires present { IsTrue (present self.now.network v) }
         requires few { self.now.network.size ≤ 65535 }
@@ -59,6 +60,9 @@ impl NetState {
         ensures value { result ≡ charging.open_above rules self.now v }
         ensures few { result ≤ 65535 }
     {
+        if self.married(v) {
+            return 0;
+        }
         let mut open = 0;
         for &w in self.neighbours(v) {
             if v < w && !self.is_closed(rules, v, w, courted) {
@@ -105,9 +109,10 @@ impl NetState {
 
     /// Whether a node points at one that does not point back.
     fn is_unanswered(&self, v: Node) -> bool
+        requires { IsTrue (present self.now.network v) }
         ensures { result ≡ state.is_unanswered self.now v }
     {
-        match self.pointer(v) {
+        match self.pointer_at(v) {
             Some(w) => !self.points(w, v),
             None => false,
         }

@@ -5,6 +5,7 @@ ghost use Rattle.rule_machine.specs.State.{has_suitor};
 ghost use Rattle.judge.specs.Courting.{mark_at};
 
 use crate::NetState;
+use crate::net_state::node_above;
 use rule_machine::{Node, Want};
 use std::alloc::Global;
 use std::marker::Model;
@@ -42,14 +43,15 @@ impl Courted {
     }
 
     /// Marks the nodes that have a suitor, and no other. Looks at every name's pointer.
+    #[inline(never)]
     pub(crate) fn find(&mut self, net: &NetState)
         requires { length self.old ≡ net.now.network.size + 1 }
         ensures len { length self.new ≡ length self.old }
         ensures marked { (v : ℕ) → mark_at self.new v ≡ has_suitor net.now v }
     {
         self.clear();
-        for below in 0..net.capacity() {
-            let v = Node::new(below + 1).unwrap();
+        for below in 0..net.last_name() {
+            let v = node_above(below);
             if let Some(target) = net.pointer(v) {
                 self.put(target);
             }
@@ -71,8 +73,6 @@ impl Courted {
         ensures len { length self.new ≡ length self.old }
         ensures clear { (v : ℕ) → mark_at self.new v ≡ false }
     {
-        for place in 0..self.marks.len() {
-            self.marks[place] = false;
-        }
+        self.marks.fill(false);
     }
 }

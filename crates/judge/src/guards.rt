@@ -15,6 +15,7 @@ use rule_machine::{Act, Node, RuleSet};
 impl NetState {
     /// The rule that is enabled at a node, if any is. Looks at its neighbours, and where there are marks only at those of a node
     /// that points nowhere and has no suitor.
+    #[inline(always)]
     pub(crate) fn rule_at(&self, rules: RuleSet, v: Node, marks: Option<&Courted>) -> Option<Act>
         requires present { IsTrue (present self.now.network v) }
         requires marked { IfSome marks (λ courted. mark_at courted.now v ≡ has_suitor self.now v) }
@@ -26,13 +27,14 @@ impl NetState {
         }
     }
 
+    #[inline(always)]
     fn hsu_huang_rule(&self, v: Node, marks: Option<&Courted>) -> Option<Act>
         requires present { IsTrue (present self.now.network v) }
         requires marked { IfSome marks (λ courted. mark_at courted.now v ≡ has_suitor self.now v) }
         ensures { result ≡ table.rule_at hsu_huang self.now v }
     {
-        match self.pointer(v) {
-            Some(w) if self.pointer(w).is_some() && !self.points(w, v) => Some(Act::Abandon),
+        match self.pointer_at(v) {
+            Some(w) if !self.points(w, v) && self.pointer(w).is_some() => Some(Act::Abandon),
             Some(_) => None,
             None if self.has_suitor(v, marks) => Some(Act::Marry),
             None if self.first_null(v).is_some() => Some(Act::Seduce),
@@ -40,6 +42,7 @@ impl NetState {
         }
     }
 
+    #[inline(always)]
     fn manne_rule(&self, v: Node, marks: Option<&Courted>) -> Option<Act>
         requires present { IsTrue (present self.now.network v) }
         requires marked { IfSome marks (λ courted. mark_at courted.now v ≡ has_suitor self.now v) }
@@ -48,7 +51,7 @@ impl NetState {
         if self.flag(v) != self.married(v) {
             return Some(Act::Update);
         }
-        match self.pointer(v) {
+        match self.pointer_at(v) {
             Some(w) if !self.points(w, v) && (self.flag(w) || w <= v) => Some(Act::Abandon),
             Some(_) => None,
             None if self.has_suitor(v, marks) => Some(Act::Marry),

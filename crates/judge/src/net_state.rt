@@ -1,6 +1,6 @@
 //! A network with its registers.
 
-ghost use Rattle.std.specs.Prelude.{◌≡◌, ◌≤◌, ◌&&◌, [], All, IfOk, IsTrue, MatchOption, None, OnOk, OnErr, false, length, nat_le};
+ghost use Rattle.std.specs.Prelude.{◌≡◌, ◌+◌, ◌<◌, ◌≤◌, ◌&&◌, [], All, IfOk, IsTrue, MatchOption, None, OnOk, OnErr, false, length, nat_le};
 ghost use Rattle.std.specs.List.{AllByRecursion};
 ghost use Rattle.rule_machine.specs.Network as network;
 ghost use Rattle.rule_machine.specs.State as state;
@@ -37,6 +37,15 @@ impl Model for NetState {
     ghost invariant = { λ n. IsState (state_of n.store.network n.registers) };
 }
 
+/// The node whose name is the next one.
+#[inline(always)]
+pub(crate) fn node_above(name: u16) -> Node
+    requires { name < 65535 }
+    ensures { result ≡ name + 1 }
+{
+    Node::new(u32::from(name) + 1).unwrap()
+}
+
 impl NetState {
     /// The nodes 1 to `present`, for names up to `nodes`, without an edge, all pointers null and all flags false.
     pub(crate) fn with_present(alloc: Global, nodes: u32, present: u32) -> Result<NetState, Want>
@@ -66,6 +75,15 @@ impl NetState {
         ensures sound { state.IsState self.now }
     {
         self.store.capacity()
+    }
+
+    /// The greatest name that a node may have, in sixteen bits: what counts up to it needs no test whether it counts names.
+    #[inline(always)]
+    pub(crate) fn last_name(&self) -> u16
+        ensures size { result ≡ self.now.network.size }
+        ensures sound { state.IsState self.now }
+    {
+        self.capacity() as u16
     }
 
     /// How many edges there are, at most 1,048,576.
@@ -124,6 +142,15 @@ impl NetState {
         } else {
             None
         }
+    }
+
+    /// Where a node points, if anywhere: a look at its register alone.
+    #[inline(always)]
+    pub(crate) fn pointer_at(&self, v: Node) -> Option<Node>
+        requires { IsTrue (network.present self.now.network v) }
+        ensures { result ≡ state.pointer self.now v }
+    {
+        self.registers.pointer(v)
     }
 
     /// A node's flag.

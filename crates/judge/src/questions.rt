@@ -8,11 +8,13 @@ ghost use Rattle.rule_machine.specs.Stable.{mutual_pairs, pair_above};
 ghost use Rattle.rule_machine.specs.Tables.{table_of};
 ghost use Rattle.judge.specs.Courting.{IsCourting};
 
+use crate::net_state::node_above;
 use crate::{Courted, NetState};
 use rule_machine::{Act, Edge, Node, RuleSet};
 
 impl NetState {
     /// Whether these are the enabled nodes, each with its rule. Looks at every name, and at the neighbours of a node that may seduce.
+    #[inline(never)]
     pub(crate) fn lists_enabled(
         &self,
         rules: RuleSet,
@@ -23,8 +25,8 @@ impl NetState {
         ensures { IsTrue result ↔ (given.now ≡ enabled (table_of rules) self.now) }
     {
         let mut place = 0;
-        for name in 1..self.capacity() + 1 {
-            let v = Node::new(name).unwrap();
+        for below in 0..self.last_name() {
+            let v = node_above(below);
             if let Some(act) = self.rule_of(rules, v, courted) {
                 if !has_rule(given, place, v, act) {
                     return false;
@@ -36,12 +38,13 @@ impl NetState {
     }
 
     /// Whether these are the mutual pairs. Looks at every name.
+    #[inline(never)]
     pub(crate) fn lists_pairs(&self, given: &[Edge]) -> bool
         ensures { IsTrue result ↔ (given.now ≡ mutual_pairs self.now) }
     {
         let mut place = 0;
-        for name in 1..self.capacity() + 1 {
-            let v = Node::new(name).unwrap();
+        for below in 0..self.last_name() {
+            let v = node_above(below);
             if let Some(pair) = self.pair_of(v) {
                 if !has_pair(given, place, pair) {
                     return false;
@@ -53,6 +56,7 @@ impl NetState {
     }
 
     /// The rule that is enabled at the node of a name, if there is one and any is.
+    #[inline(always)]
     pub(crate) fn rule_of(&self, rules: RuleSet, v: Node, courted: &Courted) -> Option<Act>
         requires { IsCourting self.now courted.now }
         ensures { result ≡ cond (present self.now.network v) (rule_at (table_of rules) self.now v) None }

@@ -30,7 +30,7 @@ impl NetState {
         ensures { result ≡ first_open hsu_huang_opens self.now v }
     {
         for &w in self.neighbours(v) {
-            if self.pointer(w).is_none() {
+            if self.pointer_at(w).is_none() {
                 return Some(w);
             }
         }

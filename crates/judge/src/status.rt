@@ -8,8 +8,9 @@ ghost use Rattle.rule_machine.specs.Tables.{table_of};
 ghost use Rattle.judge.specs.Courting.{IsCourting};
 ghost use Rattle.judge.specs.Judging.{same_counts};
 
+use crate::net_state::node_above;
 use crate::{Courted, NetState};
-use rule_machine::{Counts, Node, Reply, RuleSet};
+use rule_machine::{Counts, Reply, RuleSet};
 
 impl NetState {
     /// Whether a reply has the numbers of the network, where these moves are spent.
@@ -46,25 +47,27 @@ impl NetState {
     }
 
     /// How many mutual pairs there are.
+    #[inline(never)]
     fn pair_count(&self) -> u32
         ensures { result ≡ length (mutual_pairs self.now) }
     {
         let mut pairs = 0;
-        for below in 0..self.capacity() {
-            let v = Node::new(below + 1).unwrap();
+        for below in 0..self.last_name() {
+            let v = node_above(below);
             pairs += u32::from(self.pair_of(v).is_some());
         }
         pairs
     }
 
     /// How many nodes are enabled.
+    #[inline(never)]
     fn enabled_count(&self, rules: RuleSet, courted: &Courted) -> u32
         requires { IsCourting self.now courted.now }
         ensures { result ≡ length (enabled_names (table_of rules) self.now) }
     {
         let mut enabled = 0;
-        for below in 0..self.capacity() {
-            let v = Node::new(below + 1).unwrap();
+        for below in 0..self.last_name() {
+            let v = node_above(below);
             enabled += u32::from(self.rule_of(rules, v, courted).is_some());
         }
         enabled

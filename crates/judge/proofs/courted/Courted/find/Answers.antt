@@ -2,18 +2,17 @@ use Rattle.std.proofs.Common.{◌≡◌, ◌+◌, ◌∙◌, ℕ, ◌≤◌, tru
 use Rattle.rule_machine.specs.State.{pointer, has_suitor}
 use Rattle.judge.specs.Courting.{mark_at}
 use Rattle.judge.proofs.Courting.{right_more, all_more, all_same, marked_all}
-use Rattle.judge.proofs.Listed.{some_iff_at}
 use Rattle.judge.proofs.courted.Courted.find.Goals as goal
 use Rattle.judge.proofs.courted.Courted.find.Goals.{in-Some, in_default}
 
 pub loop-below-preserved : goal.loop-below-preserved
 loop-below-preserved c =
     let s = c.args.net.now in
-    let v = c.unwrap-v.result in
+    let v = c.node_above-v.result in
     let n = c.loop-below.below in
     let marks = c.loop-below.self in
     let inv = c.loop-below.invariant in
-    let named : v ≡ n + 1 = some_iff_at _ _ _ _ c.new.ensures c.unwrap-v.ensures in
+    let named : v ≡ n + 1 = c.node_above-v.ensures in
     elim c.match-pointer.branch [
       | in-Some w ↦
           let at : pointer s v ≡ Some w.in-Some.target = sym c.pointer.ensures ∙ w.in-Some.is in
@@ -21,7 +20,7 @@ loop-below-preserved c =
           let len : length more ≡ length c.args.self.now = w.put.ensures.len ∙ inv.len in
           record {
             len = ap length w.self-is ∙ len;
-            right = subst (λ (m : List Bool). (x : ℕ) → mark_at m x ≡ true → has_suitor s x ≡ true) (sym w.self-is) (right_more s marks more v w.in-Some.target c.capacity-below-end.ensures.sound at w.put.ensures.marked inv.right);
+            right = subst (λ (m : List Bool). (x : ℕ) → mark_at m x ≡ true → has_suitor s x ≡ true) (sym w.self-is) (right_more s marks more v w.in-Some.target c.last_name-below-end.ensures.sound at w.put.ensures.marked inv.right);
             all = subst (λ (m : List Bool). (u x : ℕ) → u ≤ n + 1 → pointer s u ≡ Some x → mark_at m x ≡ true) (sym w.self-is) (all_more s marks more n v w.in-Some.target named at w.put.ensures.marked inv.all);
           }
       | in_default w ↦
@@ -36,5 +35,5 @@ loop-below-preserved c =
 pub returns-clause-marked : goal.returns-clause-marked
 returns-clause-marked c =
     let s = c.args.net.now in
-    marked_all s c.loop-below.self c.capacity-below-end.ensures.sound c.loop-below.invariant.right
-    (λ v x low at. c.loop-below.invariant.all v x (omega (arith, c.capacity-below-end.ensures.size)) at)
+    marked_all s c.loop-below.self c.last_name-below-end.ensures.sound c.loop-below.invariant.right
+    (λ v x low at. c.loop-below.invariant.all v x (omega (arith, c.last_name-below-end.ensures.size)) at)
