@@ -59,6 +59,12 @@ pub record IsGapFor (row : List ℕ) (w i : ℕ) : Type 0 where
   pub below : (k : ℕ) → k < i → slice_index row k < w
   pub above : (k : ℕ) → i ≤ k → k < length row → w < slice_index row k
 
+-- so many names of the row are below w: those before that place, and no other
+pub record IsRankOf (row : List ℕ) (w i : ℕ) : Type 0 where
+  pub inside : i ≤ length row
+  pub below : (k : ℕ) → k < i → slice_index row k < w
+  pub above : (k : ℕ) → i ≤ k → k < length row → w ≤ slice_index row k
+
 -- the row at place v has room for one more name
 abbrev pub HasRoom : List (Vec ℕ Global) → ℕ → Type 0
 HasRoom rows v = (d : Vec ℕ Global) → vec_len (slice_index_or rows v d) < vec_capacity (slice_index_or rows v d)

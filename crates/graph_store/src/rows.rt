@@ -3,7 +3,7 @@
 ghost use Rattle.std.specs.Prelude.{◌≡◌, ◌++◌, filter, map, nat_lt, ◌≢◌, ℕ, ◌+◌, ◌<◌, ◌≤◌, [], length, replicate, slice_set, IfOk, OnOk, MatchResult, IsTrue, slice_index, ◌-◌, true, false};
 ghost use Rattle.std.specs.List.{insert, remove};
 ghost use Rattle.std.specs.List.Sorted.{IsStrictlyIncreasing};
-ghost use Rattle.graph_store.specs.Rows.{contents, pairs_from, row_at, has, IsPlaceOf, IsGapFor, HasRoom};
+ghost use Rattle.graph_store.specs.Rows.{contents, pairs_from, row_at, has, IsPlaceOf, IsGapFor, IsRankOf, HasRoom};
 
 use rule_machine::{Edge, Node, Want};
 use std::alloc::Global;
@@ -19,12 +19,34 @@ pub fn empty_rows(alloc: Global, count: usize) -> Result<Vec<Vec<Node>>, Want>
     Ok(rows)
 }
 
-/// The place of a name in a row, or the one where it belongs; a look-up by halves.
+/// How many names of a short row are below one. Goes through the row without a branch, which costs less than halving it.
+fn count_below(row: &[Node], name: Node) -> u16
+    requires rising { IsStrictlyIncreasing row.now }
+    requires short { length row.now ≤ 64 }
+    ensures { IsRankOf row.now name result }
+{
+    let mut below = 0;
+    for &next in row {
+        below += u16::from(next < name);
+    }
+    below
+}
+
+/// The place of a name in a row, or the one where it belongs; a look at each place of a short row, and a look-up by halves in
+/// another.
 pub fn find_place(row: &[Node], name: Node) -> Result<usize, usize>
     requires { IsStrictlyIncreasing row.now }
     ensures { MatchResult result (IsPlaceOf row.now name) (IsGapFor row.now name) }
 {
-    row.binary_search(&name)
+    if row.len() > 64 {
+        return row.binary_search(&name);
+    }
+    let place = usize::from(count_below(row, name));
+    if place < row.len() && row[place] == name {
+        Ok(place)
+    } else {
+        Err(place)
+    }
 }
 
 /// Whether a name is above the one before a place of a row, where there is one.

@@ -1,6 +1,6 @@
 //! A state with its index.
 
-ghost use Rattle.std.specs.Prelude.{◌≡◌, ◌≤◌, false, [], slice_set, IfOk, IfErr, IfSome, OnOk, OnErr, MatchOption, IsTrue, None, Some, not};
+ghost use Rattle.std.specs.Prelude.{◌≡◌, ◌≢◌, ◌≤◌, false, [], slice_set, IfOk, IfErr, IfSome, OnOk, OnErr, MatchOption, IsTrue, None, Some, not};
 ghost use Rattle.graph_store.specs.Fault.{nodes_fault, link_fault, unlink_fault, Explains};
 ghost use Rattle.graph_store.specs.Graph.{HasRoomFor};
 ghost use Rattle.rule_machine.specs.Network.{present, linked, neighbours, without_edge};
@@ -9,6 +9,7 @@ ghost use Rattle.rule_machine.specs.Disturbance.{after_link, after_unlink, after
 ghost use Rattle.rule_machine.specs.RuleTable as RuleTable;
 ghost use Rattle.rule_set.specs.Glance.{reaches_beside};
 ghost use Rattle.machine_laws.specs.Leaves.{after_parting};
+ghost use Rattle.suitor_index.specs.Tallies.{suitor_count, IsLoneSuitor};
 
 use crate::NodeView;
 use graph_store::{EdgeStore, GraphFault};
@@ -123,6 +124,14 @@ impl<R: Rules> IndexedState<R> {
     {
         self.index
             .relies_on(w, v, is_open, &self.store, &self.registers)
+    }
+
+    /// The neighbour that points at a node, where it is the only one; `None` where none does, or several do. One look.
+    pub fn lone_suitor(&self, v: Node) -> Option<Node>
+        requires { IsTrue (present self.now.state.network v) }
+        ensures { MatchOption result (suitor_count self.now.state v ≢ 1) (IsLoneSuitor self.now.state v) }
+    {
+        self.index.lone_suitor(v, &self.store, &self.registers)
     }
 
     /// Makes room for the edge between two nodes, so that `link_reserved` of them takes no memory: a look-up by halves, and the

@@ -50,12 +50,15 @@ pub(crate) fn look_at_target<R: Rules>(
     }
 }
 
-/// Looks again at those who point at a node. One look where nobody does.
+/// Looks again at those who point at a node. No search for them where none does, or one.
 fn look_at_suitors<R: Rules>(state: &IndexedState<R>, enabled: &mut EnabledSet, v: Node)
     requires has { IsTrue (present state.now.state.network v) }
     requires places { length enabled.old ≡ state.now.state.network.size + 1 }
     ensures { IsLookedAt R.table state.now.state (is_suitor state.now.state v) enabled.old enabled.new }
 {
+    if let Some(w) = state.lone_suitor(v) {
+        return look_at(state, enabled, w);
+    }
     let neighbours = state.store().neighbours(v);
     if !state.at(v).has_suitor() {
         return;

@@ -1,13 +1,13 @@
 -- What is counted at a node says what a search among its neighbours finds.
-use Rattle.std.proofs.Common.{◌≡◌, ℕ, zero, suc, ◌+◌, ◌≤◌, Bool, true, false, cond, not, ◌&&◌, List, length, reverse, find, Option, Some, None, SomeIff, is_some, nat_eq, nat_lt, nat_le, IsTrue, refl, sym, ap, ◌∙◌, arith}
+use Rattle.std.proofs.Common.{◌≡◌, ◌≢◌, ℕ, zero, suc, ◌+◌, ◌≤◌, Bool, true, false, cond, not, ◌&&◌, List, length, reverse, find, Option, Some, None, SomeIff, is_some, nat_eq, nat_lt, nat_le, IsTrue, MatchOption, refl, sym, ap, ap₂, ◌∙◌, subst, ⊎_elim, arith}
 use Rattle.std.specs.List.{count_by, sum_by}
-use Rattle.std.proofs.lemmas.Bool.{eq-eqb, le-leb, lt-leb, lt-ltb, ne_eqb}
+use Rattle.std.proofs.lemmas.Bool.{and_parts, cases_eq, eq-eqb, false_from_ne_true, le-leb, lt-leb, lt-ltb, ne_eqb, true≢false}
 use Rattle.rule_machine.specs.Network.{Network, IsNetwork, linked, present, neighbours}
 use Rattle.rule_machine.specs.State.{State, IsState, suits, has_suitor, first_suitor}
 use Rattle.rule_machine.specs.RuleTable.{is_open, first_open, last_open_above}
-use Rattle.machine_laws.specs.Neighbours.{near_some, linked_back, linked_present, present_range}
+use Rattle.machine_laws.specs.Neighbours.{near_found, near_some, linked_back, linked_present, present_range}
 use Rattle.suitor_index.specs.declared.tally.Tally.{Tally}
-use Rattle.suitor_index.specs.Tallies.{tally_of, is_open_above, name_if, IsIndexOf}
+use Rattle.suitor_index.specs.Tallies.{suitor_count, tally_of, is_open_above, name_if, IsIndexOf, IsLoneSuitor}
 use Rattle.suitor_index.specs.Told.{one_if}
 use Rattle.suitor_index.proofs.Near.{near_turn}
 use Rattle.suitor_index.proofs.Sums.{count_some, count_none, count_one, count_reverse}
@@ -64,3 +64,37 @@ others_counted net p w v is_network h =
     nothing : (b : Bool) (x : ℕ) → cond b x x ≡ x
     nothing true x = refl
     nothing false x = refl
+
+-- where one neighbour points at a node, it is the first that does, and no other does
+pub lone : (s : State) (v w : ℕ) → IsState s → suitor_count s v ≡ 1 → first_suitor s v ≡ Some w → IsLoneSuitor s v w
+lone s v w is_state one first = record {
+  here = linked_present net w v good (linked_back net w v ∙ near.0);
+  alone = λ x. ⊎_elim
+      (λ (same : x ≡ w). ap (λ y. linked net v y && suits s v y) same ∙ ap₂ (λ (b c : Bool). b && c) near.0 near.1 ∙ sym (eq-eqb x w same))
+      (λ (apart : x ≡ w → ⊥). false_from_ne_true _ (λ both. let parts = and_parts (linked net v x) (suits s v x) both in another x apart parts.0 parts.1) ∙ sym (ne_eqb x w apart))
+      (cases_eq x w);
+}
+  where
+    net : Network
+    net = s.network
+    good : IsNetwork net
+    good = is_state.is_network
+    near : IsTrue (linked net v w) × IsTrue (suits s v w)
+    near = near_some net (suits s v) v w first
+    not_true : (b : Bool) → true ≡ not b → b ≡ false
+    not_true true e = e
+    not_true false e = refl
+    none : is_some (find (λ x. not (nat_eq x w) && suits s v x) (neighbours net v)) ≡ false
+    none = not_true _ (sym (le-leb 1 1 (omega arith)) ∙ sym (ap₂ (λ (n : ℕ) (b : Bool). nat_le n (one_if b)) one near.1) ∙ others_counted net (suits s v) v w good near.0)
+    another : (x : ℕ) → (x ≡ w → ⊥) → IsTrue (linked net v x) → IsTrue (suits s v x) → ⊥
+    another x apart there points =
+        let found = near_found net (λ y. not (nat_eq y w) && suits s v y) v x good there (ap₂ (λ (b c : Bool). not b && c) (ne_eqb x w apart) points) in
+        true≢false (sym (ap is_some found.1) ∙ none)
+
+-- so it is where the count is 1 and the sum its name
+pub lone_counted : (opens : Option ℕ → Bool → Bool) (s : State) (ts : List Tally) (v : ℕ) (t : Tally) (o : Option ℕ) → IsState s → IsIndexOf opens s ts → IsTrue (present s.network v) → t ≡ tally_of ts v → length ts ≤ 65536 → t.suitors ≡ 1 → SomeIff o ((1 ≤ t.sum) × (t.sum ≤ 65535)) t.sum → MatchOption o (suitor_count s v ≢ 1) (IsLoneSuitor s v)
+lone_counted opens s ts v t o is_state index here is few one named =
+    let count : suitor_count s v ≡ 1 = sym (ap (λ (u : Tally). u.suitors) (is ∙ index.counted v here)) ∙ one in
+    let w = sum_by (name_if (suits s v)) (neighbours s.network v) in
+    let first : first_suitor s v ≡ Some w = count_one (suits s v) (neighbours s.network v) count in
+    subst (λ q. MatchOption q (suitor_count s v ≢ 1) (IsLoneSuitor s v)) (sym (one_suitor_counted opens s ts v t o is_state index here is few one named ∙ first)) (lone s v w is_state count first)

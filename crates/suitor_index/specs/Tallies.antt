@@ -1,7 +1,7 @@
 -- What is counted at a node, and a table of it with a place for each name; place 0 is nobody's.
-use Rattle.std.specs.Prelude.{◌≡◌, ℕ, ◌+◌, Bool, cond, ◌&&◌, List, length, Option, IsTrue, nat_lt, slice_index_or}
+use Rattle.std.specs.Prelude.{◌≡◌, ℕ, ◌+◌, Bool, cond, ◌&&◌, List, length, Option, IsTrue, nat_eq, nat_lt, slice_index_or}
 use Rattle.std.specs.List.{count_by, sum_by}
-use Rattle.rule_machine.specs.Network.{Network, present, neighbours}
+use Rattle.rule_machine.specs.Network.{Network, linked, present, neighbours}
 use Rattle.rule_machine.specs.State.{State, Registers, suits}
 use Rattle.rule_machine.specs.RuleTable.{is_open}
 use Rattle.suitor_index.specs.declared.tally.Tally.{Tally}
@@ -32,6 +32,15 @@ tally_at opens s v = record {
   open_above = count_by (is_open_above opens s v) (neighbours s.network v);
   sum = sum_by (name_if (suits s v)) (neighbours s.network v);
 }
+
+-- how many neighbours point at v
+abbrev pub suitor_count : State → ℕ → ℕ
+suitor_count s v = count_by (suits s v) (neighbours s.network v)
+
+-- of v's neighbours w points at it, and no other
+pub record IsLoneSuitor (s : State) (v w : ℕ) : Type 0 where
+  pub here : IsTrue (present s.network w)
+  pub alone : (x : ℕ) → (linked s.network v x && suits s v x) ≡ nat_eq x w
 
 -- each node's place holds what a scan of its neighbours counts
 pub record IsIndexOf (opens : Option ℕ → Bool → Bool) (s : State) (tallies : List Tally) : Type 0 where

@@ -1,12 +1,12 @@
 //! The index of suitors and open neighbours.
 
-ghost use Rattle.std.specs.Prelude.{◌≡◌, ◌<◌, ◌≤◌, ◌&&◌, IfOk, IsTrue, is_some, length, not};
+ghost use Rattle.std.specs.Prelude.{◌≡◌, ◌≢◌, ◌<◌, ◌≤◌, ◌&&◌, IfOk, IsTrue, MatchOption, is_some, length, not};
 ghost use Rattle.rule_machine.specs.Network.{present, linked};
 ghost use Rattle.rule_machine.specs.State.{IsState, suits, has_suitor, first_suitor};
 ghost use Rattle.rule_machine.specs.RuleTable as RuleTable;
 ghost use Rattle.rule_machine.specs.RuleTable.{is_open, first_open, last_open_above};
 ghost use Rattle.rule_set.specs.Glance.{reaches_beside};
-ghost use Rattle.suitor_index.specs.Tallies.{state_of, tally_of, tally_at, IsIndexOf};
+ghost use Rattle.suitor_index.specs.Tallies.{state_of, suitor_count, tally_of, tally_at, IsIndexOf, IsLoneSuitor};
 
 use crate::tally::NOTHING;
 use crate::{Tally, scan};
@@ -135,6 +135,21 @@ impl<R: Rules> SuitorIndex<R> {
             0 => None,
             1 => Node::new(tally.sum),
             _ => scan::first_pointing_at(store.neighbours(v), registers, v),
+        }
+    }
+
+    /// The neighbour that points at the node, where it is the only one; `None` where none does, or several do. One look.
+    pub fn lone_suitor(&self, v: Node, store: &EdgeStore, registers: &Registers) -> Option<Node>
+        requires state { IsState (state_of store.now.network registers.now) }
+        requires index { IsIndexOf R.table.opens (state_of store.now.network registers.now) self.now }
+        requires present { IsTrue (present store.now.network v) }
+        ensures { MatchOption result (suitor_count (state_of store.now.network registers.now) v ≢ 1) (IsLoneSuitor (state_of store.now.network registers.now) v) }
+    {
+        let tally = self.tally(v);
+        if tally.suitors == 1 {
+            Node::new(tally.sum)
+        } else {
+            None
         }
     }
 

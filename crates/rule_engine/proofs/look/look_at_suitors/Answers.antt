@@ -3,6 +3,7 @@ use Rattle.std.proofs.lemmas.List.{take_all}
 use Rattle.indexed_state.specs.Indexed.{Indexed}
 use Rattle.rule_machine.specs.Network.{neighbours}
 use Rattle.rule_machine.specs.State.{State, has_suitor, points, suits}
+use Rattle.rule_engine.specs.Looked.{is_suitor}
 use Rattle.rule_engine.proofs.Looked.{looked_alike, looked_more, looked_neighbours, looked_none, looked_unsuited}
 use Rattle.rule_engine.proofs.look.look_at_suitors.Goals as goal
 
@@ -12,6 +13,11 @@ returns-then-not-has_suitor g c =
     let seen : c.has_suitor.result ≡ has_suitor s c.args.v = c.has_suitor.ensures ∙ ap₂ (λ (n : Indexed) (x : ℕ). has_suitor n.state x) c.at.ensures.state c.at.ensures.node in
     let none : has_suitor s c.args.v ≡ false = sym seen ∙ c.if-not-has_suitor.true in
     looked_unsuited g.R.Rules.table s c.args.v _ c.store.ensures.state.is_network none
+
+pub returns-in-Some : goal.returns-in-Some
+returns-in-Some g c =
+    let s : State = c.args.state.now.state in
+    looked_alike g.R.Rules.table s (λ x. nat_eq x c.in-Some.w) (is_suitor s c.args.v) _ _ (λ x. sym (c.in-Some.ensures.alone x)) c.look_at.ensures
 
 pub loop-w-init : goal.loop-w-init
 loop-w-init g c = looked_none g.R.Rules.table c.args.state.now.state _
