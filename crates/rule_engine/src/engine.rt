@@ -197,7 +197,7 @@ impl<R: Rules> Engine<R> {
         if let Some(refusal) = refused_size(R::CENTRAL, items.len()) {
             return Ok(Reply::Refused(refusal));
         }
-        let mut gathered = Gathered::with_room(self.alloc, items.len());
+        let mut gathered = Gathered::new(self.alloc, items.len());
         let refused = take_items(&self.state, &mut self.chosen, &mut gathered, items);
         step_reply(refused, gathered)
     }
@@ -214,7 +214,7 @@ impl<R: Rules> Engine<R> {
         if let Some(refusal) = refused_size(R::CENTRAL, verdicts.len()) {
             return Ok(Reply::Refused(refusal));
         }
-        let mut gathered = Gathered::with_room(self.alloc, verdicts.len());
+        let mut gathered = Gathered::new(self.alloc, verdicts.len());
         let refused = take_verdicts(&mut self.chosen, &mut gathered, verdicts);
         step_reply(refused, gathered)
     }

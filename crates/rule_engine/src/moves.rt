@@ -1,29 +1,28 @@
 //! The moves of a step.
 
-ghost use Rattle.std.specs.Prelude.{◌≡◌, [], IfOk, IsTrue, None, OnErr, OnOk};
+ghost use Rattle.std.specs.Prelude.{◌≡◌, ◌++◌, ◌∷◌, [], IfOk, IsTrue, None, OnErr, OnOk};
 ghost use Rattle.rule_engine.specs.Choosing.{AreLeast, IsToldOf};
 
 use rule_machine::{Listing, Moved, Refusal, Reply, Want};
 use std::alloc::{AllocError, Global};
 
-/// The moves of a choice so far, in its order, and whether there was memory for each.
+/// The moves of a choice of so many items so far, in its order, and whether there was memory for each.
 #[derive(Drop)]
 pub(crate) struct Gathered {
     pub(crate) moves: Vec<Moved>,
+    pub(crate) items: usize,
     pub(crate) whole: bool,
 }
 
 impl Gathered {
-    /// None yet, with room for so many, which are the only memory that they take.
-    pub(crate) fn with_room(alloc: Global, count: usize) -> Gathered
+    /// None yet of so many items.
+    pub(crate) fn new(alloc: Global, items: usize) -> Gathered
         ensures { result.moves.items ≡ [] }
     {
-        match Vec::with_capacity(alloc, count) {
-            Ok(moves) => Gathered { moves, whole: true },
-            Err(_) => Gathered {
-                moves: Vec::new(alloc),
-                whole: false,
-            },
+        Gathered {
+            moves: Vec::new(alloc),
+            items,
+            whole: true,
         }
     }
 
@@ -31,13 +30,28 @@ impl Gathered {
     pub(crate) fn into_ascending(self) -> Result<Listing<Moved>, Want>
         ensures { IfOk result (λ moves. IsTrue self.whole × AreLeast self.moves.items moves) }
     {
-        let Gathered { mut moves, whole } = self;
+        let Gathered {
+            mut moves,
+            whole,
+            ..
+        } = self;
         if !whole {
             return Err(AllocError);
         }
         moves.sort_unstable_by_key(|moved| moved.node.place());
         Ok(Listing::from_vec(moves))
     }
+}
+
+/// Adds an item to a list that is to have no more than so many: the first takes the room for all of them. False where there
+/// is no memory for it.
+pub(crate) fn add_one<T: Copy>(list: &mut Vec<T>, most: usize, item: T) -> bool
+    ensures { IsTrue result → list.new.items ≡ list.old.items ++ item ∷ [] }
+{
+    if list.is_empty() && list.reserve_exact(most).is_err() {
+        return false;
+    }
+    list.push(item).is_ok()
 }
 
 /// The reply to a step that is refused for this reason, or else makes the moves that were gathered; takes no memory.
