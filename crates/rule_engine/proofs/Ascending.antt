@@ -7,7 +7,7 @@ use Rattle.std.proofs.lemmas.Bool.{or_parts}
 use Rattle.std.proofs.lemmas.List.{get_or-map, length-map}
 use Rattle.std.proofs.lemmas.List.Folds.{list_any-append}
 use Rattle.std.proofs.lemmas.List.Kept.{AllPairs-from_increasing, IsStrictlyIncreasing-filter}
-use Rattle.std.proofs.lemmas.List.Sorted.{IsPermutation-map, IsPermutation-sym, Contains-permutation}
+use Rattle.std.proofs.lemmas.List.Sorted.{IsPermutation-refl, IsPermutation-map, IsPermutation-sym, Contains-permutation}
 use Rattle.std.proofs.lemmas.Map.Keys.{IsDistinct-IsPermutation, IsStrictlyIncreasing-from_distinct}
 use Rattle.std.proofs.lemmas.Cmp.{nat_eq_equiv}
 use Rattle.std.proofs.lemmas.Option.{option_and_then_some}
@@ -192,3 +192,14 @@ least_from_sorted made moves same up = λ t s items is none.
     same_rising moves (least_moves t s items) (rises_from moves up distinct) (least_rises t s items)
     (λ m at. made_is_least t s items accepted m (Contains-permutation moves (made_by t s items) m (IsPermutation-sym (made_by t s items) moves moved) at))
     (λ m at. Contains-permutation (made_by t s items) moves m moved (least_is_made t s items m at))
+
+-- the one move of a choice of one item is its least one
+pub one_least : (t : RuleTable) (s : State) (item : Item) (m : Moved) → move_in (outcome_of t s item) ≡ Some m → AreLeast (moves_by t s (item ∷ [])) (m ∷ [])
+one_least t s item m e =
+    subst (λ made. AreLeast made (m ∷ [])) (sym (ap (λ o. cons_option o []) e)) (least_from_sorted (m ∷ []) (m ∷ []) (IsPermutation-refl (m ∷ [])) up)
+  where
+    up : IsNonDecreasingBy (λ x. x.node) (m ∷ [])
+    up i j d le below =
+        let same : i ≡ j = omega arith in
+        let nodes : (get_or (m ∷ []) i d).node ≡ (get_or (m ∷ []) j d).node = ap (λ k. (get_or (m ∷ []) k d).node) same in
+        omega arith

@@ -43,3 +43,9 @@ found_more f p before low is =
     ∙ ap (λ q. filter_map f (range_with_len 1 (p - 1)) ++ option_to_list (f q)) (sym next)
     ∙ sym (filter_map_range_more f 1 (p - 1))
     ∙ ap (λ n. filter_map f (range_with_len 1 n)) count
+
+-- a list of one
+pub one_alone : {X : Type 0} (xs : List X) (x : X) → length xs ≡ 1 → x ≡ get_or xs 0 x → xs ≡ x ∷ []
+one_alone [] x one is = absurd (omega arith)
+one_alone (y ∷ []) x one is = ap (λ z. z ∷ []) (sym is)
+one_alone (y ∷ z ∷ zs) x one is = absurd (omega arith)

@@ -89,3 +89,11 @@ refusal-verdicts_of t s items = refusals_agree t s 0 items [] [] (λ v. refl)
 
 pub length-verdicts_of : (t : RuleTable) (s : State) (items : List Item) → length (verdicts_of t s items) ≡ length items
 length-verdicts_of t s items = length-verdicts_from t s 0 items
+
+-- of one item
+pub one_refusal : (t : RuleTable) (s : State) (item : Item) → items_refusal t s [] (item ∷ []) ≡ refused_by (outcome_of t s item) false
+one_refusal t s item = or_nothing (item_refusal t s [] item) ∙ item_refusal-outcome t s [] item
+  where
+    or_nothing : (o : Option Refusal) → option_or o None ≡ o
+    or_nothing None = refl
+    or_nothing (Some refusal) = refl

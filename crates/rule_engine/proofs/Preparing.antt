@@ -1,5 +1,5 @@
 -- Replies that are prepared.
-use Rattle.std.proofs.Common.{◌≡◌, ℕ, Bool, true, false, cond, not, nat_eq, nat_le, List, [], length, Option, None, Some, Result, Ok, Err, IfOk, OnOk, OnErr, IsTrue, refl, sym, ap, subst, ◌∙◌}
+use Rattle.std.proofs.Common.{◌≡◌, ℕ, Bool, true, false, cond, not, nat_eq, nat_le, List, [], ◌∷◌, length, Option, None, Some, Result, Ok, Err, IfOk, OnOk, OnErr, IsTrue, refl, sym, ap, subst, ◌∙◌}
 use Rattle.std.specs.Option.{option_or}
 use Rattle.std.proofs.lemmas.Bool.{and_parts}
 use Rattle.graph_store.specs.declared.fault.GraphFault.{GraphFault}
@@ -60,6 +60,20 @@ taken_prepares {E = E} t n n' spent items refused whole made result taken told a
     by_reply None (Ok reply) is moves told all want =
         subst (λ r. Prepares {E = E} t n spent (Step items) (Ok r) n') (sym told.2) (chosen_prepares t n n' spent items told.0 is (told.1 t n.state items (moves refl (all refl)) is) kept)
     by_reply q (Err e) is moves told all want = record { reply = tt; room = tt; kept = kept; want = (is ∙ want, refl) }
+
+-- a step of one item, which has one look
+pub one_prepares : {E : Type 0} (t : RuleTable) (n : Indexed) (spent : ℕ) (item : Item) (result : Result Reply E) → IfOk result (IsToldOf (items_refusal t n.state [] (item ∷ [])) (moves_by t n.state (item ∷ []))) → OnErr result (items_refusal t n.state [] (item ∷ []) ≡ None) → Prepares t n spent (Step (item ∷ [])) result n
+one_prepares {E = E} t n spent item result told want =
+    let taken : IsTaken t n.state (item ∷ []) (items_refusal t n.state [] (item ∷ [])) true (moves_by t n.state (item ∷ [])) = record { size = sized t.central; refusal = refl; moves = λ none whole. refl } in
+    taken_prepares t n n spent (item ∷ []) (items_refusal t n.state [] (item ∷ [])) true (moves_by t n.state (item ∷ [])) result taken told (whole result) want refl
+  where
+    sized : (central : Bool) → size_refusal central 1 ≡ None
+    sized true = refl
+    sized false = refl
+
+    whole : (r : Result Reply E) → OnOk r (items_refusal t n.state [] (item ∷ []) ≡ None → IsTrue true)
+    whole (Ok reply) = λ none. refl
+    whole (Err e) = tt
 
 -- a question whose answer may take memory
 pub asked_prepares : {E : Type 0} (t : RuleTable) (n : Indexed) (spent : ℕ) (event : Event) (result : Result Reply E) → refusal_of t n.state event ≡ None → IsTrue (takes_memory event) → ((reply : Reply) → HasRoomTo event reply n.room) → IfOk result (λ r. r ≡ reply_of t n.state spent event) → Prepares t n spent event result n

@@ -26,7 +26,7 @@ use crate::edits::{
     edit_reply, refusal_of, refused_flag, refused_join, refused_leave, refused_point,
     refused_unlink,
 };
-use crate::guard::{outcome, rule_enabled, take_items};
+use crate::guard::{outcome, reply_to_one, rule_enabled, take_items};
 use crate::judge::{refused_size, take_verdicts};
 use crate::listing::{count_pairs, enabled_rules, mutual_edges};
 use crate::look::{look_after_write, look_at, look_at_target};
@@ -194,6 +194,9 @@ impl<R: Rules> Engine<R> {
         ensures { (spent : ℕ) → Prepares R.table self.old spent (Step choice.now) result self.new }
     {
         let items = choice.items();
+        if items.len() == 1 {
+            return reply_to_one(self.alloc, &self.state, items[0]);
+        }
         if let Some(refusal) = refused_size(R::CENTRAL, items.len()) {
             return Ok(Reply::Refused(refusal));
         }

@@ -1,19 +1,20 @@
 //! Guards, outcomes and refusals at the nodes of a network.
 
-ghost use Rattle.std.specs.Prelude.{◌≡◌, ◌+◌, ◌≤◌, [], None, length, take, IsTrue};
+ghost use Rattle.std.specs.Prelude.{◌≡◌, ◌+◌, ◌≤◌, [], ◌∷◌, IfOk, None, OnErr, length, take, IsTrue};
 ghost use Rattle.rule_machine.specs.Network.{present};
 ghost use Rattle.rule_machine.specs.Refuse.{items_refusal};
 ghost use Rattle.rule_machine.specs.Least.{outcome_of};
 ghost use Rattle.rule_engine.specs.Kept.{guard_at};
-ghost use Rattle.rule_engine.specs.Choosing.{moves_by};
+ghost use Rattle.rule_engine.specs.Choosing.{IsToldOf, moves_by};
 ghost use Rattle.rule_engine.specs.Marks.{AreClear, AreMarks, is_named};
 
-use crate::judge::{Taken, take_outcome};
+use crate::judge::{Taken, accepted, take_outcome};
 use crate::moves::Gathered;
 use enabled_set::EnabledSet;
 use indexed_state::IndexedState;
-use rule_machine::{Act, Item, Moved, Node, Outcome, Refusal};
+use rule_machine::{Act, Item, Listing, Moved, Node, Outcome, Refusal, Reply, Want};
 use rule_set::Rules;
+use std::alloc::Global;
 
 /// The rule that is enabled at a node that is present, if any is.
 pub(crate) fn rule_at<R: Rules>(state: &IndexedState<R>, v: Node) -> Option<Act>
@@ -115,4 +116,22 @@ pub(crate) fn take_items<R: Rules>(
     let taken = take_up_to_refusal(state, chosen, gathered, items);
     unmark_items(chosen, &items[..taken.count]);
     taken.refusal
+}
+
+/// The reply to a step of one item, which needs no mark: a look at it, and memory for its move alone.
+pub(crate) fn reply_to_one<R: Rules>(
+    alloc: Global,
+    state: &IndexedState<R>,
+    item: Item,
+) -> Result<Reply, Want>
+    ensures told { IfOk result (λ reply. IsToldOf (items_refusal R.table state.now.state [] (item ∷ [])) (moves_by R.table state.now.state (item ∷ [])) reply) }
+    ensures want { OnErr result (items_refusal R.table state.now.state [] (item ∷ []) ≡ None) }
+{
+    let moved = match accepted(outcome(state, item), false) {
+        Ok(moved) => moved,
+        Err(refusal) => return Ok(Reply::Refused(refusal)),
+    };
+    let mut moves = Vec::with_capacity(alloc, 1)?;
+    moves.push(moved)?;
+    Ok(Reply::Moves(Listing::from_vec(moves)))
 }

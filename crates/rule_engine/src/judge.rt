@@ -32,7 +32,7 @@ pub(crate) fn refused_size(central: bool, count: usize) -> Option<Refusal>
 }
 
 /// The move that an outcome is, or why its item is refused, where it may stand in the choice before.
-fn accepted(outcome: Outcome, twice: bool) -> Result<Moved, Refusal>
+pub(crate) fn accepted(outcome: Outcome, twice: bool) -> Result<Moved, Refusal>
     ensures { MatchResult result (λ moved. (refused_by outcome twice ≡ None) × (move_in outcome ≡ Some moved)) (λ refusal. refused_by outcome twice ≡ Some refusal) }
 {
     match outcome {

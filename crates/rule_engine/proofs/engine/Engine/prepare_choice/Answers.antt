@@ -1,14 +1,27 @@
-use Rattle.std.proofs.Common.{◌≡◌, ◌+◌, List, [], refl, ap, sym, ◌∙◌, length}
+use Rattle.std.proofs.Common.{◌≡◌, ◌+◌, List, [], ◌∷◌, refl, subst, ap, sym, ◌∙◌, length}
+use Rattle.std.specs.declared.alloc.AllocError.{AllocError}
 use Rattle.indexed_state.specs.Indexed.{Indexed}
 use Rattle.rule_machine.specs.declared.choice.Item.{Item}
+use Rattle.rule_machine.specs.declared.event.Event.TheVariants.{Step}
 use Rattle.rule_machine.specs.Refuse.{items_refusal}
+use Rattle.rule_engine.specs.Applied.{Prepares}
 use Rattle.rule_engine.specs.Choosing.{moves_by, size_refusal}
+use Rattle.rule_engine.proofs.Found.{one_alone}
 use Rattle.rule_engine.proofs.Marked.{blank_clear}
-use Rattle.rule_engine.proofs.Preparing.{IsTaken, sized_prepares, taken_prepares}
+use Rattle.rule_engine.proofs.Preparing.{IsTaken, one_prepares, sized_prepares, taken_prepares}
 use Rattle.rule_engine.proofs.engine.Engine.prepare_choice.Goals as goal
 
 pub take_items-refused-requires-clause-clear : goal.take_items-refused-requires-clause-clear
 take_items-refused-requires-clause-clear g c = blank_clear (c.self.inside.state.state.network.size + 1) c.self.inside.chosen c.self.invariant.unmarked
+
+pub returns-then-items-eq1 : goal.returns-then-items-eq1
+returns-then-items-eq1 g c n =
+    let t = g.R.Rules.table in
+    let item = c.index-items-0.result in
+    let alone : item ∷ [] ≡ c.args.choice.now = sym (one_alone c.items-items.result.now item c.if-items-eq1.true c.index-items-0.is) ∙ c.items-items.ensures.items in
+    subst (λ (items : List Item). Prepares {E = AllocError} t c.args.self.now n (Step items) c.reply_to_one.result c.args.self.now) alone
+    (subst (λ (m : Indexed). Prepares {E = AllocError} t m n (Step (item ∷ [])) c.reply_to_one.result m) c.self.view_is
+    (one_prepares t c.self.inside.state n item c.reply_to_one.result c.reply_to_one.ensures.told c.reply_to_one.ensures.want))
 
 pub returns-in-Some : goal.returns-in-Some
 returns-in-Some g c n =
