@@ -2,6 +2,7 @@ pub mod Cutting
 pub mod Free
 pub mod Numbers
 pub mod Headers
+pub mod InFront
 pub mod Joined
 pub mod Marked
 pub mod RefusalsOnce

@@ -101,13 +101,13 @@ joined_step {X} text fits free once x (u ∷ xs) y (v ∷ ys) f g e =
     ap (λ (z : X). z ∷ (u ∷ xs)) (once x y f.0 g.0 r.0) ∙ ap (λ (z : List X). y ∷ z) (joined_step text fits free once u xs v ys f.1 g.1 r.1)
 
 -- a word and what follows it begin with a name
-whole_move : (m : Moved) (rest : List ℕ) → move_text m ++ rest ≡ number_text m.node ++ 58 ∷ (deed_text m.act m.target ++ rest)
+pub whole_move : (m : Moved) (rest : List ℕ) → move_text m ++ rest ≡ number_text m.node ++ 58 ∷ (deed_text m.act m.target ++ rest)
 whole_move m rest = ap (λ (z : List ℕ). z ++ rest) (move_is m) ∙ append_assoc (number_text m.node) (58 ∷ deed_text m.act m.target) rest
 
-whole_enabled : (x : ℕ × Act) (rest : List ℕ) → enabled_text x ++ rest ≡ number_text x.0 ++ 58 ∷ (act_word x.1 ++ rest)
+pub whole_enabled : (x : ℕ × Act) (rest : List ℕ) → enabled_text x ++ rest ≡ number_text x.0 ++ 58 ∷ (act_word x.1 ++ rest)
 whole_enabled x rest = ap (λ (z : List ℕ). z ++ rest) (enabled_is x) ∙ append_assoc (number_text x.0) (58 ∷ act_word x.1) rest
 
-whole_pair : (p : ℕ × ℕ) (rest : List ℕ) → mutual_text p ++ rest ≡ number_text p.0 ++ 45 ∷ (number_text p.1 ++ rest)
+pub whole_pair : (p : ℕ × ℕ) (rest : List ℕ) → mutual_text p ++ rest ≡ number_text p.0 ++ 45 ∷ (number_text p.1 ++ rest)
 whole_pair p rest = ap (λ (z : List ℕ). z ++ rest) (mutual_is p) ∙ append_assoc (number_text p.0) (45 ∷ number_text p.1) rest
 
 -- moves have a text of their own

@@ -1,5 +1,5 @@
 -- What the readers of an entry's parts say of the bytes that they are given.
-use Rattle.std.specs.Prelude.{◌≡◌, ◌≢◌, ℕ, Bool, true, false, List, ◌∷◌, ◌++◌, Option, IfSome, IsTrue, codes}
+use Rattle.std.specs.Prelude.{◌≡◌, ◌≢◌, ℕ, Bool, true, false, List, ◌∷◌, ◌++◌, Option, IfSome, IsTrue, codes, slice_index_or}
 use Rattle.std.specs.List.{AllByRecursion}
 use Rattle.rule_machine.specs.declared.act.Act.{Act}
 use Rattle.rule_machine.specs.declared.event.Event.{Event}
@@ -11,8 +11,8 @@ use Rattle.rule_machine.specs.Tables.{rules_word}
 use Rattle.line_text.specs.Words.{IsName, marked_text, number_text}
 use Rattle.line_text.specs.EventText.{bool_text, target_text}
 use Rattle.line_text.specs.ReplyText.{IsCount, act_word, field_text, reply_text}
-use Rattle.line_text.specs.Reading.{Reads}
-use Rattle.entry_grammar.specs.Spelling.{IsReply}
+use Rattle.line_text.specs.Reading.{Reads, NoDigit}
+use Rattle.entry_grammar.specs.Spelling.{IsReply, IsPair}
 
 -- no byte of the text is the mark
 abbrev pub IsFree : ℕ → List ℕ → Type 0
@@ -22,6 +22,32 @@ IsFree mark bytes = AllByRecursion (λ b. b ≢ mark) bytes
 pub record CutAt (mark : ℕ) (bytes front back : List ℕ) : Type 0 where
   pub free : IsFree mark front
   pub is : bytes ≡ front ++ mark ∷ back
+
+-- nothing stands there, or a space in front
+abbrev pub Ends : List ℕ → Type 0
+Ends bytes = slice_index_or bytes 0 32 ≡ 32
+
+-- the bytes are the text of this value and, behind it, nothing or what begins with a space
+pub record WordThen {X : Type 0} (Fits : X → Type 0) (text : X → List ℕ) (bytes : List ℕ) (value : X) (rest : List ℕ) : Type 0 where
+  pub fits : Fits value
+  pub ends : Ends rest
+  pub is : bytes ≡ text value ++ rest
+
+-- the bytes are two names with a mark between them, the lower one in front, and after the last digit the rest
+pub record PairThen (mark : ℕ) (bytes : List ℕ) (pair : ℕ × ℕ) (rest : List ℕ) : Type 0 where
+  pub fits : IsPair pair
+  pub ends : NoDigit rest
+  pub is : bytes ≡ number_text pair.0 ++ mark ∷ (number_text pair.1 ++ rest)
+
+-- a rule, and a target behind a `>`
+abbrev pub deed_text : Act → Option ℕ → List ℕ
+deed_text act target = act_word act ++ marked_text (codes ">") target
+
+-- the bytes are a rule, a target behind a `>` where there is one, and then nothing or what begins with a space
+pub record DeedThen (bytes : List ℕ) (act : Act) (target : Option ℕ) (rest : List ℕ) : Type 0 where
+  pub fits : IfSome target IsName
+  pub ends : Ends rest
+  pub is : bytes ≡ deed_text act target ++ rest
 
 -- the line is three texts with what stands between those of an entry: the first without a space, the second without a `=`
 pub record PartsOf (line number event reply : List ℕ) : Type 0 where
@@ -33,10 +59,6 @@ pub record PartsOf (line number event reply : List ℕ) : Type 0 where
 pub record FieldThen (bytes name : List ℕ) (number : ℕ) (rest : List ℕ) : Type 0 where
   pub fits : IsCount number
   pub is : bytes ≡ field_text (name, number) ++ 32 ∷ rest
-
--- a rule, and a target behind a `>`
-abbrev pub deed_text : Act → Option ℕ → List ℕ
-deed_text act target = act_word act ++ marked_text (codes ">") target
 
 -- replies to a change of the network
 abbrev pub is_done : Reply → Bool

@@ -7,6 +7,7 @@ mod counts;
 mod cut;
 mod entry;
 mod fault;
+mod front;
 mod header;
 mod law;
 mod lines;

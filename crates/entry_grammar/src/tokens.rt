@@ -1,71 +1,100 @@
 //! The words of replies.
 
-ghost use Rattle.std.specs.Prelude.{◌≡◌, ℕ, List, ◌∷◌, ◌++◌, ⊤, IfSome, MatchOption};
+ghost use Rattle.std.specs.Prelude.{◌≡◌, ℕ, List, ◌∷◌, ◌++◌, MatchOption, Option};
 ghost use Rattle.std.specs.Int.{IsInRange};
 ghost use Rattle.rule_machine.specs.declared.act.Act.{Act};
 ghost use Rattle.line_text.specs.Words.{number_text, IsName};
 ghost use Rattle.line_text.specs.ReplyText.{act_word, enabled_text, move_text, mutual_text};
-ghost use Rattle.line_text.specs.Reading.{Reads, ReadsTwo};
+ghost use Rattle.line_text.specs.Reading.{Reads};
 ghost use Rattle.entry_grammar.specs.Spelling.{IsMoved, IsEnabled, IsPair};
-ghost use Rattle.entry_grammar.specs.Reading.{deed_text};
+ghost use Rattle.entry_grammar.specs.Reading.{DeedThen, PairThen};
 
-use crate::cut::cut;
+use crate::front::{behind, ends, read_name};
 use crate::words::Token;
-use line_text::read_last;
+use line_text::after;
 use rule_machine::{Act, Edge, Moved, Node};
 
-/// Reads the name that stands before the first byte that is the mark, and gives what stands behind the mark.
+/// Reads the name that stands before the mark, and gives what stands behind the mark.
 pub(crate) fn read_marked(bytes: &[u8], mark: u8) -> Option<(Node, &[u8])>
     requires { IsInRange 48 57 mark → ⊥ }
     ensures { MatchOption result
         ((name : ℕ) (rest : List ℕ) → IsName name → bytes.now ≡ number_text name ++ mark ∷ rest → ⊥)
         (λ found. IsName found.0 × (bytes.now ≡ number_text found.0 ++ mark ∷ found.1.now)) }
 {
-    let Some((name, rest)) = cut(bytes, mark) else {
+    let Some((node, marked)) = read_name(bytes) else {
         return None;
     };
-    let Some(node) = read_last(name) else {
+    let Some(rest) = behind(marked, mark) else {
         return None;
     };
     Some((node, rest))
 }
 
-// Reads the word for a rule.
-fn read_act(bytes: &[u8]) -> Option<Act>
-    ensures { Reads (λ (act : Act). ⊤) act_word bytes.now result }
+// Reads the word for a rule in front, and gives what follows it.
+fn read_act(bytes: &[u8]) -> Option<(Act, &[u8])>
+    ensures { MatchOption result
+        ((act : Act) (rest : List ℕ) → bytes.now ≡ act_word act ++ rest → ⊥)
+        (λ found. bytes.now ≡ act_word found.0 ++ found.1.now) }
 {
-    if bytes == b"update".as_slice() {
-        return Some(Act::Update);
+    if let Some(rest) = after(bytes, b"update") {
+        return Some((Act::Update, rest));
     }
-    if bytes == b"marry".as_slice() {
-        return Some(Act::Marry);
+    if let Some(rest) = after(bytes, b"marry") {
+        return Some((Act::Marry, rest));
     }
-    if bytes == b"seduce".as_slice() {
-        return Some(Act::Seduce);
+    if let Some(rest) = after(bytes, b"seduce") {
+        return Some((Act::Seduce, rest));
     }
-    if bytes == b"abandon".as_slice() {
-        return Some(Act::Abandon);
+    if let Some(rest) = after(bytes, b"abandon") {
+        return Some((Act::Abandon, rest));
     }
     None
 }
 
-// Reads a rule, and a target behind a `>`.
-fn read_deed(bytes: &[u8]) -> Option<(Act, Option<Node>)>
-    ensures { ReadsTwo (λ act target. IfSome target IsName) deed_text bytes.now result }
+// Reads a rule in front, a target where one stands behind a `>`, and gives what follows them.
+fn read_deed(bytes: &[u8]) -> Option<(Act, Option<Node>, &[u8])>
+    ensures { MatchOption result
+        ((act : Act) (target : Option ℕ) (rest : List ℕ) → DeedThen bytes.now act target rest → ⊥)
+        (λ found. DeedThen bytes.now found.0 found.1 found.2.now) }
 {
-    let Some((word, name)) = cut(bytes, b'>') else {
-        let Some(act) = read_act(bytes) else {
+    let Some((act, marked)) = read_act(bytes) else {
+        return None;
+    };
+    let Some(name) = behind(marked, b'>') else {
+        if !ends(marked) {
             return None;
-        };
-        return Some((act, None));
+        }
+        return Some((act, None, marked));
     };
-    let Some(act) = read_act(word) else {
+    let Some((target, rest)) = read_name(name) else {
         return None;
     };
-    let Some(target) = read_last(name) else {
+    if !ends(rest) {
+        return None;
+    }
+    Some((act, Some(target), rest))
+}
+
+// Reads the two ends of an edge in front with the mark between them, the lower one first, and gives what follows them.
+fn read_pair(bytes: &[u8], mark: u8) -> Option<(Edge, &[u8])>
+    requires { IsInRange 48 57 mark → ⊥ }
+    ensures { MatchOption result
+        ((pair : ℕ × ℕ) (rest : List ℕ) → PairThen mark bytes.now pair rest → ⊥)
+        (λ found. PairThen mark bytes.now found.0 found.1.now) }
+{
+    let Some((low, name)) = read_marked(bytes, mark) else {
         return None;
     };
-    Some((act, Some(target)))
+    let Some((high, rest)) = read_name(name) else {
+        return None;
+    };
+    if low.name() >= high.name() {
+        return None;
+    }
+    let Some(pair) = Edge::new(low, high) else {
+        return None;
+    };
+    Some((pair, rest))
 }
 
 /// Reads the two ends of an edge with the mark between them, the lower one first.
@@ -73,16 +102,13 @@ pub(crate) fn read_ends(bytes: &[u8], mark: u8) -> Option<Edge>
     requires { IsInRange 48 57 mark → ⊥ }
     ensures { Reads IsPair (λ e. number_text e.0 ++ mark ∷ number_text e.1) bytes.now result }
 {
-    let Some((low, name)) = read_marked(bytes, mark) else {
+    let Some((pair, rest)) = read_pair(bytes, mark) else {
         return None;
     };
-    let Some(high) = read_last(name) else {
-        return None;
-    };
-    if low.name() >= high.name() {
+    if !rest.is_empty() {
         return None;
     }
-    Edge::new(low, high)
+    Some(pair)
 }
 
 impl Token for Moved {
@@ -90,14 +116,14 @@ impl Token for Moved {
 
     ghost fits = { IsMoved };
 
-    fn read(bytes: &[u8]) -> Option<Moved> {
+    fn read(bytes: &[u8]) -> Option<(Moved, &[u8])> {
         let Some((node, deed)) = read_marked(bytes, b':') else {
             return None;
         };
-        let Some((act, target)) = read_deed(deed) else {
+        let Some((act, target, rest)) = read_deed(deed) else {
             return None;
         };
-        Some(Moved { node, act, target })
+        Some((Moved { node, act, target }, rest))
     }
 }
 
@@ -106,14 +132,17 @@ impl Token for (Node, Act) {
 
     ghost fits = { IsEnabled };
 
-    fn read(bytes: &[u8]) -> Option<(Node, Act)> {
+    fn read(bytes: &[u8]) -> Option<((Node, Act), &[u8])> {
         let Some((node, word)) = read_marked(bytes, b':') else {
             return None;
         };
-        let Some(act) = read_act(word) else {
+        let Some((act, rest)) = read_act(word) else {
             return None;
         };
-        Some((node, act))
+        if !ends(rest) {
+            return None;
+        }
+        Some(((node, act), rest))
     }
 }
 
@@ -122,7 +151,13 @@ impl Token for Edge {
 
     ghost fits = { IsPair };
 
-    fn read(bytes: &[u8]) -> Option<Edge> {
-        read_ends(bytes, b'-')
+    fn read(bytes: &[u8]) -> Option<(Edge, &[u8])> {
+        let Some((pair, rest)) = read_pair(bytes, b'-') else {
+            return None;
+        };
+        if !ends(rest) {
+            return None;
+        }
+        Some((pair, rest))
     }
 }

@@ -1,12 +1,12 @@
 //! Lists of words that are joined by one space.
 
-ghost use Rattle.std.specs.Prelude.{◌≡◌, ◌≢◌, ℕ, List, [], IfOk, codes};
+ghost use Rattle.std.specs.Prelude.{◌≡◌, ◌≢◌, ℕ, List, [], IfOk, MatchOption, codes};
 ghost use Rattle.std.specs.List.{AllByRecursion};
 ghost use Rattle.line_text.specs.Words.{joined, joined_or};
 ghost use Rattle.line_text.specs.Reading.{Reads};
-ghost use Rattle.entry_grammar.specs.Reading.{IsFree};
+ghost use Rattle.entry_grammar.specs.Reading.{IsFree, WordThen};
 
-use crate::cut::cut;
+use crate::front::behind;
 use rule_machine::{Listing, Want};
 use std::alloc::Global;
 
@@ -18,9 +18,11 @@ pub trait Token {
     // What each value of the type meets.
     ghost fits: { Self → Type 0 };
 
-    /// Reads the word; `None` where the bytes are none.
-    fn read(bytes: &[u8]) -> Option<Self>
-        ensures { Reads fits text bytes.now result };
+    /// Reads the word in front, which nothing or a space follows, and gives what follows; `None` where there is none.
+    fn read(bytes: &[u8]) -> Option<(Self, &[u8])>
+        ensures { MatchOption result
+            ((word : Self) (rest : List ℕ) → WordThen fits text bytes.now word rest → ⊥)
+            (λ found. WordThen fits text bytes.now found.0 found.1.now) };
 }
 
 /// Reads words that are joined by one space, none at all from an empty text; `None` where anything else stands there.
@@ -33,18 +35,14 @@ pub fn read_words<W: Token + Copy>(alloc: Global, bytes: &[u8]) -> Result<Option
         return Ok(Some(Listing::from_vec(words)));
     }
     let mut rest = bytes;
-    while let Some((front, back)) = cut(rest, b' ') {
-        let Some(word) = W::read(front) else {
-            return Ok(None);
-        };
+    while let Some((word, behind_word)) = W::read(rest) {
         words.push(word)?;
-        rest = back;
+        let Some(next) = behind(behind_word, b' ') else {
+            return Ok(Some(Listing::from_vec(words)));
+        };
+        rest = next;
     }
-    let Some(word) = W::read(rest) else {
-        return Ok(None);
-    };
-    words.push(word)?;
-    Ok(Some(Listing::from_vec(words)))
+    Ok(None)
 }
 
 /// Reads words that are joined by one space, or `none` for no words; `None` where anything else stands there.

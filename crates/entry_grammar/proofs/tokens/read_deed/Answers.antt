@@ -1,6 +1,14 @@
-use Rattle.entry_grammar.proofs.Marked.{deed_cut}
+use Rattle.std.proofs.Common.{◌≡◌, ◌∷◌, sym, ◌∙◌, arith}
+use Rattle.std.proofs.lemmas.Bool.{true≢false}
+use Rattle.line_text.proofs.Digits.{name_once}
+use Rattle.entry_grammar.proofs.InFront.{deed_marked, deed_name}
 use Rattle.entry_grammar.proofs.tokens.read_deed.Goals as goal
 
-pub returns-in_default-read_act-2 : goal.returns-in_default-read_act-2
-returns-in_default-read_act-2 c act target f e =
-    c.in_default-read_act-2.ensures act tt (deed_cut c.args.bytes.now c.in-Some.word.now c.in-Some.name.now act target c.in-Some.ensures e)
+pub returns-then-not-ends-2 : goal.returns-then-not-ends-2
+returns-then-not-ends-2 c act target rest h =
+    let marked = deed_marked c.args.bytes.now c.in-Some.act c.in-Some.marked.now act target rest c.in-Some.ensures h in
+    let at : c.in-Some.marked.now ≡ 62 ∷ c.in-Some-behind.name.now = grind arith in
+    let name = deed_name c.in-Some.marked.now c.in-Some-behind.name.now target rest at h.fits h.ends marked in
+    let same = name_once c.in-Some-behind.name.now c.in-Some-read_name.target name.0 c.in-Some-read_name.rest.now rest c.in-Some-read_name.ensures name.1 in
+    let end = h.ends in
+    true≢false (sym (c.ends-2.ensures.1 (grind arith)) ∙ c.if-not-ends-2.true)

@@ -1,14 +1,10 @@
-use Rattle.entry_grammar.proofs.Joined.{SoFar-more, SoFar-stuck, SoFar-end}
+use Rattle.std.proofs.Common.{◌≡◌, List, [], ◌∷◌, ◌++◌, refl, sym, subst, arith}
+use Rattle.entry_grammar.proofs.Joined.{SoFar, SoFar-more, word_cut}
 use Rattle.entry_grammar.proofs.words.read_words.Goals as goal
 
-pub returns-in_default-read : goal.returns-in_default-read
-returns-in_default-read g c =
-    SoFar-stuck g.W.Token.text g.W.Token.fits c.requires.no_space c.args.bytes.now c.loop-front.words.items c.loop-front.rest.now c.in-Some.front.now c.in-Some.back.now c.loop-front.invariant c.in-Some.ensures c.in_default-read.ensures
-
-pub loop-front-preserved : goal.loop-front-preserved
-loop-front-preserved g c =
-    rw c.in_ok-push.ensures.items (SoFar-more g.W.Token.text g.W.Token.fits c.requires.no_space c.args.bytes.now c.loop-front.words.items c.loop-front.rest.now c.in-Some.front.now c.in-Some.back.now c.in-Some-read.word c.loop-front.invariant c.in-Some.ensures c.in-Some-read.ensures.0 c.in-Some-read.ensures.1)
-
-pub returns-in_default-read-2 : goal.returns-in_default-read-2
-returns-in_default-read-2 g c =
-    SoFar-end g.W.Token.text g.W.Token.fits c.args.bytes.now c.loop-front.words.items c.loop-front.rest.now c.loop-front.invariant c.in_default.ensures c.in_default-read-2.ensures
+pub loop-word-preserved : goal.loop-word-preserved
+loop-word-preserved g c =
+    let next : c.in-Some.behind_word.now ≡ 32 ∷ c.in-Some-behind.next.now = grind arith in
+    let items : c.push.new.self.items ≡ c.loop-word.words.items ++ c.in-Some.word ∷ [] = grind (arith, c.in_ok-push.ensures.items) in
+    let cut = word_cut g.W.Token.text g.W.Token.fits c.requires.no_space c.loop-word.rest.now c.in-Some.behind_word.now c.in-Some-behind.next.now c.in-Some.word c.in-Some.ensures next in
+    subst (λ (ws : List g.row.W.Denot). SoFar g.W.Token.text g.W.Token.fits c.args.bytes.now ws c.in-Some-behind.next.now) (sym items) (SoFar-more g.W.Token.text g.W.Token.fits c.requires.no_space c.args.bytes.now c.loop-word.words.items c.loop-word.rest.now (g.W.Token.text c.in-Some.word) c.in-Some-behind.next.now c.in-Some.word c.loop-word.invariant cut c.in-Some.ensures.fits refl)

@@ -2,8 +2,8 @@ use Rattle.std.proofs.Common.{length}
 use Rattle.entry_grammar.proofs.Joined.{SoFar}
 use Rattle.entry_grammar.proofs.words.read_words.Given as goal
 
-abbrev pub invariant-loop-front : goal.invariant-loop-front
-invariant-loop-front g l = SoFar g.W.Token.text g.W.Token.fits l.bytes l.words.items l.rest
+abbrev pub invariant-loop-word : goal.invariant-loop-word
+invariant-loop-word g l = SoFar g.W.Token.text g.W.Token.fits l.bytes l.words.items l.rest
 
-abbrev pub decreases-loop-front : goal.decreases-loop-front
-decreases-loop-front g l = length l.rest
+abbrev pub decreases-loop-word : goal.decreases-loop-word
+decreases-loop-word g l = length l.rest

@@ -1,9 +1,20 @@
-use Rattle.std.proofs.Common.{sym, ◌∙◌, arith}
+use Rattle.std.proofs.Common.{◌≡◌, ◌++◌, sym, ◌∙◌, arith}
+use Rattle.std.proofs.lemmas.Bool.{true≢false}
 use Rattle.line_text.specs.ReplyText.{act_word}
-use Rattle.entry_grammar.proofs.Marked.{marked_once, enabled_is}
+use Rattle.entry_grammar.proofs.Marked.{marked_once}
+use Rattle.entry_grammar.proofs.TokensOnce.{whole_enabled}
+use Rattle.entry_grammar.proofs.InFront.{act_first}
 use Rattle.entry_grammar.proofs.tokens.Tuple2NodeActToken.read.Goals as goal
 
 pub returns-in_default-read_act : goal.returns-in_default-read_act
-returns-in_default-read_act c x f e =
-    let r = marked_once 58 c.in-Some.node x.0 c.in-Some.word.now (act_word x.1) (λ h. omega (arith, h.1)) c.in-Some.ensures.0 f (sym c.in-Some.ensures.1 ∙ e ∙ enabled_is x) in
-    c.in_default-read_act.ensures x.1 tt (grind arith)
+returns-in_default-read_act c x rest h =
+    let r = marked_once 58 c.in-Some.node x.0 c.in-Some.word.now (act_word x.1 ++ rest) (λ h. omega (arith, h.1)) c.in-Some.ensures.0 h.fits (sym c.in-Some.ensures.1 ∙ h.is ∙ whole_enabled x rest) in
+    c.in_default-read_act.ensures x.1 rest (grind arith)
+
+pub returns-then-not-ends : goal.returns-then-not-ends
+returns-then-not-ends c x rest h =
+    let r = marked_once 58 c.in-Some.node x.0 c.in-Some.word.now (act_word x.1 ++ rest) (λ h. omega (arith, h.1)) c.in-Some.ensures.0 h.fits (sym c.in-Some.ensures.1 ∙ h.is ∙ whole_enabled x rest) in
+    let word : act_word c.in-Some-read_act.act ++ c.in-Some-read_act.rest.now ≡ act_word x.1 ++ rest = grind arith in
+    let s = act_first c.in-Some-read_act.act x.1 c.in-Some-read_act.rest.now rest word in
+    let end = h.ends in
+    true≢false (sym (c.ends.ensures.1 (grind arith)) ∙ c.if-not-ends.true)

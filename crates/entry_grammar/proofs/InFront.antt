@@ -1,0 +1,78 @@
+-- What stands at the front of a text is determined.
+use Rattle.std.proofs.Common.{◌≡◌, ◌↔◌, ℕ, Bool, true, false, List, [], ◌∷◌, ◌++◌, Option, None, Some, get_or, refl, sym, ap, subst, ◌∙◌, append_assoc, arith}
+use Rattle.std.specs.Prelude.{IfSome, IsTrue}
+use Rattle.std.specs.Int.{IsInRange}
+use Rattle.std.proofs.lemmas.Bool.{true≢false}
+use Rattle.std.proofs.lemmas.List.{append-nil, append_cancel_left}
+use Rattle.rule_machine.specs.declared.act.Act.{Act}
+use Rattle.rule_machine.specs.declared.act.Act.TheVariants.{Update, Marry, Seduce, Abandon}
+use Rattle.line_text.specs.Words.{number_text, marked_text, IsName}
+use Rattle.line_text.specs.ReplyText.{act_word, enabled_text, mutual_text}
+use Rattle.line_text.specs.Reading.{NoDigit, NameThen}
+use Rattle.line_text.proofs.Digits.{name_once}
+use Rattle.entry_grammar.specs.Spelling.{IsEnabled, IsPair}
+use Rattle.entry_grammar.specs.Reading.{Ends, WordThen, PairThen, DeedThen, deed_text}
+use Rattle.entry_grammar.proofs.Marked.{marked_once}
+use Rattle.entry_grammar.proofs.TokensOnce.{whole_enabled, whole_move, whole_pair}
+
+-- no digit stands at an end
+pub ends_digit : (rest : List ℕ) → Ends rest → NoDigit rest
+ends_digit [] e = λ h. omega (arith, h.0)
+ends_digit (b ∷ rest) e = λ (h : IsInRange 48 57 b). omega (arith, h.0, h.1, e)
+
+-- no mark but a space stands there
+pub ends_mark : (mark : ℕ) (rest : List ℕ) → (mark ≡ 32 → ⊥) → Ends (mark ∷ rest) → ⊥
+ends_mark mark rest other e = other e
+
+-- a name that a mark follows
+pub marked_name : (mark : ℕ) (bytes : List ℕ) (n : ℕ) (rest : List ℕ) → (IsInRange 48 57 mark → ⊥) → IsName n → bytes ≡ number_text n ++ mark ∷ rest → NameThen bytes n (mark ∷ rest)
+marked_name mark bytes n rest o f e = record { fits = f; ends = o; is = e }
+
+-- a rule's word in front is one
+pub act_first : (a b : Act) (x y : List ℕ) → act_word a ++ x ≡ act_word b ++ y → (a ≡ b) × (x ≡ y)
+act_first Update Update x y e = (refl, append_cancel_left (act_word Update) x y e)
+act_first Marry Marry x y e = (refl, append_cancel_left (act_word Marry) x y e)
+act_first Seduce Seduce x y e = (refl, append_cancel_left (act_word Seduce) x y e)
+act_first Abandon Abandon x y e = (refl, append_cancel_left (act_word Abandon) x y e)
+act_first a b x y e = absurd (omega (arith, ap (λ (z : List ℕ). get_or z 0 0) e))
+
+-- what follows two names and the mark between them is determined
+pub pair_rest : (mark : ℕ) (bytes : List ℕ) (p q : ℕ × ℕ) (x y : List ℕ) → (IsInRange 48 57 mark → ⊥) → PairThen mark bytes p x → PairThen mark bytes q y → x ≡ y
+pair_rest mark bytes p q x y o a b =
+    let r = marked_once mark p.0 q.0 (number_text p.1 ++ x) (number_text q.1 ++ y) o a.fits.0 b.fits.0 (sym a.is ∙ b.is) in
+    (name_once (number_text p.1 ++ x) p.1 q.1 x y (record { fits = a.fits.1; ends = a.ends; is = refl }) (record { fits = b.fits.1; ends = b.ends; is = r.1 })).1
+
+-- a mutual pair
+pub pair_of_word : (bytes : List ℕ) (p : ℕ × ℕ) (rest : List ℕ) → WordThen IsPair mutual_text bytes p rest → PairThen 45 bytes p rest
+pair_of_word bytes p rest h = record { fits = h.fits; ends = ends_digit rest h.ends; is = h.is ∙ whole_pair p rest }
+
+-- two names and the mark between them, and no more
+pub pair_alone : (mark : ℕ) (bytes : List ℕ) (p : ℕ × ℕ) → IsPair p → bytes ≡ number_text p.0 ++ mark ∷ number_text p.1 → PairThen mark bytes p []
+pair_alone mark bytes p f e = record {
+  fits = f;
+  ends = λ h. omega (arith, h.0);
+  is = e ∙ ap (λ (z : List ℕ). number_text p.0 ++ mark ∷ z) (sym (append-nil (number_text p.1)));
+}
+
+-- a deed is a rule's word, and what goes with it
+pub deed_is : (act : Act) (target : Option ℕ) (rest : List ℕ) → deed_text act target ++ rest ≡ act_word act ++ (marked_text (62 ∷ []) target ++ rest)
+deed_is act target rest = append_assoc (act_word act) (marked_text (62 ∷ []) target) rest
+
+-- what stands behind a rule's word in front
+pub deed_marked : (bytes : List ℕ) (a : Act) (marked : List ℕ) (act : Act) (target : Option ℕ) (rest : List ℕ) → bytes ≡ act_word a ++ marked → DeedThen bytes act target rest → marked ≡ marked_text (62 ∷ []) target ++ rest
+deed_marked bytes a marked act target rest e h =
+    (act_first a act marked (marked_text (62 ∷ []) target ++ rest) (sym e ∙ h.is ∙ deed_is act target rest)).1
+
+-- without a `>` there is no target
+pub deed_bare : (marked : List ℕ) (target : Option ℕ) (rest : List ℕ) → ((name : List ℕ) → marked ≡ 62 ∷ name → ⊥) → marked ≡ marked_text (62 ∷ []) target ++ rest → marked ≡ rest
+deed_bare marked None rest none e = e
+deed_bare marked (Some w) rest none e = absurd (none (number_text w ++ rest) e)
+
+-- behind a `>` stands a name
+pub deed_name : (marked name : List ℕ) (target : Option ℕ) (rest : List ℕ) → marked ≡ 62 ∷ name → IfSome target IsName → Ends rest → marked ≡ marked_text (62 ∷ []) target ++ rest → (w : ℕ) × NameThen name w rest
+deed_name marked name None rest at f ends e = absurd (ends_mark 62 name (λ h. omega (arith, h)) (subst Ends (sym e ∙ at) ends))
+deed_name marked name (Some w) rest at f ends e =
+    (w, record { fits = f; ends = ends_digit rest ends; is = tail 62 62 name (number_text w ++ rest) (sym at ∙ e) })
+  where
+    tail : (c d : ℕ) (xs ys : List ℕ) → c ∷ xs ≡ d ∷ ys → xs ≡ ys
+    tail c d xs ys e = cc

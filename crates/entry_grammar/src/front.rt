@@ -1,0 +1,69 @@
+//! What stands at the front of a text.
+
+ghost use Rattle.std.specs.Prelude.{◌≡◌, ℕ, ◌≤◌, ◌↔◌, List, ◌∷◌, length, take, drop, IsTrue, MatchOption};
+ghost use Rattle.std.specs.Str.Parse.{AllDigits, digits_value};
+ghost use Rattle.line_text.specs.Words.{IsName};
+ghost use Rattle.line_text.specs.Reading.{NoDigit, NameThen};
+ghost use Rattle.entry_grammar.specs.Reading.{Ends};
+
+use rule_machine::Node;
+
+/// The most digits that a name has.
+const MAX_DIGITS: usize = 5;
+
+/// Whether nothing stands there, or a space in front.
+#[inline(always)]
+pub(crate) fn ends(bytes: &[u8]) -> bool
+    ensures { IsTrue result ↔ Ends bytes.now }
+{
+    bytes.get(0).copied().unwrap_or(b' ') == b' '
+}
+
+/// What stands behind the mark in front; `None` where another byte or none stands there.
+#[inline(always)]
+pub(crate) fn behind(bytes: &[u8], mark: u8) -> Option<&[u8]>
+    ensures { MatchOption result
+        ((rest : List ℕ) → bytes.now ≡ mark ∷ rest → ⊥)
+        (λ rest. bytes.now ≡ mark ∷ rest.now) }
+{
+    match bytes.split_first() {
+        Some((byte, rest)) if *byte == mark => Some(rest),
+        _ => None,
+    }
+}
+
+// The length of the run of digits in front, and their number where they are no more than a name has.
+#[inline(always)]
+fn digits_in_front(bytes: &[u8]) -> (usize, u32)
+    ensures within { result.0 ≤ length bytes.now }
+    ensures digits { AllDigits 10 (take result.0 bytes.now) }
+    ensures ends { NoDigit (drop result.0 bytes.now) }
+    ensures value { result.0 ≤ 5 → result.1 ≡ digits_value 10 (take result.0 bytes.now) }
+{
+    let mut number = 0u32;
+    for (i, byte) in bytes.iter().enumerate() {
+        if !byte.is_ascii_digit() {
+            return (i, number);
+        }
+        number = number
+            .wrapping_mul(10)
+            .wrapping_add(u32::from(*byte - b'0'));
+    }
+    (bytes.len(), number)
+}
+
+/// Reads the name in front in one pass over its digits, and gives what follows them; `None` where there is no name.
+pub(crate) fn read_name(bytes: &[u8]) -> Option<(Node, &[u8])>
+    ensures { MatchOption result
+        ((name : ℕ) (rest : List ℕ) → NameThen bytes.now name rest → ⊥)
+        (λ found. NameThen bytes.now found.0 found.1.now) }
+{
+    let (len, number) = digits_in_front(bytes);
+    if len == 0 || len > MAX_DIGITS || bytes[0] == b'0' {
+        return None;
+    }
+    let Some(node) = Node::new(number) else {
+        return None;
+    };
+    Some((node, &bytes[len..]))
+}
