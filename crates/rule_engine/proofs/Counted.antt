@@ -1,5 +1,5 @@
 -- Counts and sums that grow by one item, and what they come to.
-use Rattle.std.proofs.Common.{◌≡◌, ℕ, ◌+◌, ◌-◌, ◌*◌, ◌<◌, ◌≤◌, Bool, cond, not, List, [], ◌∷◌, ◌++◌, length, get_or, take, filter_map, count_by, sum_by, Option, Some, None, is_some, option_to_list, refl, sym, ap, ◌∙◌, arith}
+use Rattle.std.proofs.Common.{◌≡◌, ℕ, ◌+◌, ◌-◌, ◌*◌, ◌<◌, ◌≤◌, Bool, true, false, cond, not, ◌&&◌, nat_lt, List, [], ◌∷◌, ◌++◌, length, get_or, take, filter_map, count_by, sum_by, Option, Some, None, is_some, option_to_list, refl, sym, ap, ◌∙◌, arith}
 use Rattle.std.specs.List.{range_with_len}
 use Rattle.std.proofs.lemmas.List.{append-nil, length-append}
 use Rattle.std.proofs.lemmas.List.Sums.{sum_by_more, sum_by_push, sum_by-cons, count_by-le-length, length-filter}
@@ -77,3 +77,16 @@ parts_are_charge closed adds s good =
 -- what is within the bound fits 32 bits
 pub bound_fits : (weight : ℕ) (net : Network) → weight ≤ 3 → node_count net ≤ 65535 → edge_count net ≤ 1048576 → charge_bound weight net ≤ 2293757
 bound_fits weight net light nodes edges = let most = mul-le weight (node_count net) 3 65535 light nodes in omega (arith, most)
+
+-- no edge is open of a node whose edges are closed
+pub none_open : (closed : ℕ × ℕ → Bool) (v : ℕ) → ((w : ℕ) → closed (v, w) ≡ true) → (ws : List ℕ) → count_by (λ w. nat_lt v w && not (closed (v, w))) ws ≡ 0
+none_open closed v all [] = refl
+none_open closed v all (w ∷ ws) =
+    let whole = sum_by-cons (λ x. cond (nat_lt v x && not (closed (v, x))) 1 0) w ws in
+    let here : cond {A = ℕ} (nat_lt v w && not (closed (v, w))) 1 0 ≡ 0 = ap (λ b. cond {A = ℕ} (nat_lt v w && not b) 1 0) (all w) ∙ shut (nat_lt v w) in
+    let rest = none_open closed v all ws in
+    omega (arith, whole, here, rest)
+  where
+    shut : (b : Bool) → cond {A = ℕ} (b && false) 1 0 ≡ 0
+    shut true = refl
+    shut false = refl

@@ -40,13 +40,16 @@ fn is_open_above<R: Rules>(state: &IndexedState<R>, low: &Standing, w: Node) -> 
     low.node < w && !R::is_closed(low, &standing(state, w))
 }
 
-/// How many edges of which this node is the lower end are not closed.
+/// How many edges of which this node is the lower end are not closed. Looks at none of a married one: they are closed.
 fn open_edges<R: Rules>(state: &IndexedState<R>, low: &Standing) -> u32
     requires has { IsTrue (present state.now.state.network low.now.node) }
     requires standing { IsStanding state.now.state low.now }
     ensures count { result ≡ open_above (R.closed state.now.state) state.now.state.network low.now.node }
     ensures few { result ≤ 65535 }
 {
+    if low.is_married {
+        return 0;
+    }
     let mut open = 0;
     for &w in state.store().neighbours(low.node) {
         if is_open_above(state, low, w) {

@@ -6,7 +6,7 @@ ghost use Rattle.rule_machine.specs.declared.act.Act.{Act};
 ghost use Rattle.rule_machine.specs.declared.act.Act.TheVariants.{Update};
 ghost use Rattle.rule_machine.specs.declared.choice.Item.{Item};
 ghost use Rattle.rule_machine.specs.declared.moved.Moved.{Moved};
-ghost use Rattle.rule_machine.specs.State.{State, IsState, is_unanswered};
+ghost use Rattle.rule_machine.specs.State.{State, IsState, is_unanswered, married};
 ghost use Rattle.rule_machine.specs.RuleTable.{RuleTable, rule_at, enabled_names, least_target};
 ghost use Rattle.rule_machine.specs.Network.{names, linked, edge_list, node_count, edge_count};
 ghost use Rattle.rule_machine.specs.Step.{IsStep};
@@ -120,6 +120,9 @@ pub trait Rules {
 
     /// The charge is twice the edges that are not closed, one for each pointer that is not answered, and what the nodes add.
     ghost charge_counts: { (s : State) → table.charge s ≡ 2 * count_by (λ e. not (closed s e)) (edge_list s.network) + count_by (is_unanswered s) (names s.network) + sum_by (adds s) (names s.network) };
+
+    /// An edge of which the lower end is married adds nothing to the charge.
+    ghost married_closes: { (s : State) (v w : ℕ) → IsTrue (married s v) → IsTrue (closed s (v, w)) };
 
     /// A node adds little to the bound, so that what is counted fits 32 bits.
     ghost is_light: { NODE_WEIGHT ≤ 3 };

@@ -13,7 +13,7 @@ impl Rules for HsuHuang {
     ghost use Rattle.charge_laws.specs.Tables.{hsu_huang_flagless};
     ghost use Rattle.rule_machine.specs.HsuHuang.{hsu_huang};
     ghost use Rattle.rule_machine.specs.Charge.{hsu_huang_closed};
-    ghost use Rattle.rules_hsu_huang.specs.Charge.{nothing, charge_without_nodes, light};
+    ghost use Rattle.rules_hsu_huang.specs.Charge.{nothing, charge_without_nodes, light, married_closes};
     ghost use Rattle.rules_hsu_huang.specs.Rule.{guard_is_glance, guard_is_local, one_rule_at};
     ghost use Rattle.rules_hsu_huang.specs.Target.{allowed_near, allowed_takes, target_from_guard};
     ghost use Rattle.rules_hsu_huang.specs.Quiet.{stable_from_quiet, quiet_from_stable};
@@ -113,6 +113,8 @@ impl Rules for HsuHuang {
     ghost stable_is_quiet = { quiet_from_stable };
 
     ghost charge_counts = { charge_without_nodes };
+
+    ghost married_closes = { married_closes };
 
     ghost is_light = { light };
 

@@ -24,7 +24,7 @@ impl Rules for Manne {
     ghost use Rattle.rules_manne.specs.Rule.{guard_is_glance, guard_is_local, one_rule_at};
     ghost use Rattle.rules_manne.specs.Target.{allowed_near, allowed_takes, target_from_guard};
     ghost use Rattle.rules_manne.specs.Quiet.{stable_from_quiet, quiet_from_stable};
-    ghost use Rattle.rules_manne.specs.Charge.{counted, light};
+    ghost use Rattle.rules_manne.specs.Charge.{counted, light, married_closes};
 
     ghost table = { manne };
 
@@ -120,6 +120,8 @@ impl Rules for Manne {
     ghost stable_is_quiet = { quiet_from_stable };
 
     ghost charge_counts = { counted };
+
+    ghost married_closes = { married_closes };
 
     ghost is_light = { light };
 

@@ -1,6 +1,6 @@
 use Rattle.std.proofs.Common.{◌≡◌, ◌∙◌, ◌+◌, ◌&&◌, ℕ, Bool, cond, ap, sym, length, nat_lt, not, arith}
 use Rattle.rule_machine.specs.Network.{neighbours}
-use Rattle.rule_engine.proofs.Counted.{counted_more, few_neighbours}
+use Rattle.rule_engine.proofs.Counted.{counted_more, few_neighbours, none_open}
 use Rattle.rule_engine.proofs.charge.open_edges.Goals as goal
 use Rattle.rule_engine.proofs.charge.open_edges.Goals.{then-is_open_above, else-is_open_above}
 
@@ -14,6 +14,10 @@ overflow_add-open g c =
     let so_far = c.loop-w.invariant.few in
     let here = c.loop-w-test.true in
     omega (arith, every, few, nodes, so_far, here)
+
+pub returns-then-low-clause-count : goal.returns-then-low-clause-count
+returns-then-low-clause-count g c =
+    sym (none_open (g.R.Rules.closed c.args.state.now.state) c.args.low.now.node (λ w. g.met.R.Rules.married_closes c.args.state.now.state c.args.low.now.node w (sym c.requires.standing.paired ∙ c.if-low.true)) (neighbours c.args.state.now.state.network c.args.low.now.node))
 
 pub loop-w-preserved : goal.loop-w-preserved
 loop-w-preserved g c =
