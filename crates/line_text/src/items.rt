@@ -9,7 +9,7 @@ ghost use Rattle.line_text.specs.Reading.{Reads, ItemThen, SpellsChoice, HasItem
 use crate::front::after;
 use crate::names::read_name;
 use rule_machine::{Choice, Item, MAX_ITEMS, Want};
-use std::alloc::Global;
+use std::alloc::{AllocError, Global};
 
 // Reads the space and the item at the front, and gives what follows the item.
 fn read_item(bytes: &[u8]) -> Option<(Item, &[u8])>
@@ -59,22 +59,35 @@ fn count_items(bytes: &[u8]) -> Option<usize>
     Some(count)
 }
 
+// What is read where there is no memory for items: want of it, or `None` where they are no choice.
+fn read_none(bytes: &[u8]) -> Result<Option<Choice>, Want>
+    ensures items { IfOk result (Reads IsChoice (spaced item_text) bytes.now) }
+    ensures memory { OnErr result (SpellsChoice bytes.now) }
+{
+    match count_items(bytes) {
+        Some(_) => Err(AllocError),
+        None => Ok(None),
+    }
+}
+
 /// Reads items, each behind one space; `None` where anything else stands there, or more items than a choice holds.
-/// Memory is for the items alone, once it is sure that they are a choice.
+/// Memory is for the items alone, and a line that is no choice wants none. An item is read once, and takes two bytes at least: so
+/// the room that is taken first is enough.
 pub(crate) fn read_items(alloc: Global, bytes: &[u8]) -> Result<Option<Choice>, Want>
     ensures items { IfOk result (Reads IsChoice (spaced item_text) bytes.now) }
     ensures memory { OnErr result (SpellsChoice bytes.now) }
 {
-    let Some(count) = count_items(bytes) else {
-        return Ok(None);
+    let Ok(mut items) = Vec::with_capacity(alloc, MAX_ITEMS.min(bytes.len() / 2)) else {
+        return read_none(bytes);
     };
-    let mut items = Vec::with_capacity(alloc, count)?;
     let mut rest = bytes;
     while !rest.is_empty() {
         let Some((item, behind)) = read_item(rest) else {
             return Ok(None);
         };
-        items.push(item)?;
+        let Ok(()) = items.push(item) else {
+            return read_none(bytes);
+        };
         rest = behind;
     }
     Ok(Choice::new(items))

@@ -44,7 +44,10 @@ fn put_short(out: &mut Vec<u8>, number: u32, behind: u8) -> Result<(), Want>
     out.extend_from_slice(&[first, second, tens, ones, behind])
 }
 
-// Writes a number of more than six digits, and the byte behind it.
+// Writes a number of more than six digits, and the byte behind it. It stands apart, as what is rare: so shorter numbers save no
+// registers for it.
+#[cold]
+#[inline(never)]
 fn put_longest(out: &mut Vec<u8>, number: u32, behind: u8) -> Result<(), Want>
     ensures ok { OnOk result (out.new.items ≡ out.old.items ++ (number_text number ++ behind ∷ [])) }
     ensures err { OnErr result (out.new.items ≡ out.old.items) }
@@ -58,6 +61,7 @@ fn put_longest(out: &mut Vec<u8>, number: u32, behind: u8) -> Result<(), Want>
 }
 
 // Writes a number of more than four digits, and the byte behind it.
+#[inline(never)]
 fn put_long(out: &mut Vec<u8>, number: u32, behind: u8) -> Result<(), Want>
     requires { 10000 ≤ number }
     ensures ok { OnOk result (out.new.items ≡ out.old.items ++ (number_text number ++ behind ∷ [])) }
