@@ -76,8 +76,8 @@ fn read_flag(bytes: &[u8]) -> Option<(Node, bool)>
     Some((node, value))
 }
 
-/// Reads the command that a line is; `None` where it is none. Memory is for the items of a step alone: every other line,
-/// a bad one too, is read without.
+/// Reads the command that a line is; `None` where it is none. Memory is for the items of a step alone, and a line that is
+/// no command wants none.
 #[inline(always)]
 pub fn read_command(alloc: Global, line: &[u8]) -> Result<Option<Event>, Want>
     ensures command { IfOk result

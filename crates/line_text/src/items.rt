@@ -11,6 +11,9 @@ use crate::names::read_name;
 use rule_machine::{Choice, Item, MAX_ITEMS, Want};
 use std::alloc::{AllocError, Global};
 
+/// How many bytes an item has at most where it has no wish: room is taken for items of that many, and grows for shorter ones.
+const WIDTH: usize = 6;
+
 // Reads the space and the item at the front, and gives what follows the item.
 fn read_item(bytes: &[u8]) -> Option<(Item, &[u8])>
     ensures { MatchOption result
@@ -71,13 +74,12 @@ fn read_none(bytes: &[u8]) -> Result<Option<Choice>, Want>
 }
 
 /// Reads items, each behind one space; `None` where anything else stands there, or more items than a choice holds.
-/// Memory is for the items alone, and a line that is no choice wants none. An item is read once, and takes two bytes at least: so
-/// the room that is taken first is enough.
+/// Memory is for the items alone, and a line that is no choice wants none. Each item is read once.
 pub(crate) fn read_items(alloc: Global, bytes: &[u8]) -> Result<Option<Choice>, Want>
     ensures items { IfOk result (Reads IsChoice (spaced item_text) bytes.now) }
     ensures memory { OnErr result (SpellsChoice bytes.now) }
 {
-    let Ok(mut items) = Vec::with_capacity(alloc, MAX_ITEMS.min(bytes.len() / 2)) else {
+    let Ok(mut items) = Vec::with_capacity(alloc, bytes.len().div_ceil(WIDTH)) else {
         return read_none(bytes);
     };
     let mut rest = bytes;
