@@ -1,19 +1,18 @@
 -- What stands at the front of a text is determined.
-use Rattle.std.proofs.Common.{◌≡◌, ◌↔◌, ℕ, Bool, true, false, List, [], ◌∷◌, ◌++◌, Option, None, Some, get_or, refl, sym, ap, subst, ◌∙◌, append_assoc, arith}
-use Rattle.std.specs.Prelude.{IfSome, IsTrue}
+use Rattle.std.proofs.Common.{◌≡◌, ℕ, List, [], ◌∷◌, ◌++◌, Option, None, Some, get_or, refl, sym, ap, subst, ◌∙◌, append_assoc, arith}
+use Rattle.std.specs.Prelude.{IfSome}
 use Rattle.std.specs.Int.{IsInRange}
-use Rattle.std.proofs.lemmas.Bool.{true≢false}
 use Rattle.std.proofs.lemmas.List.{append-nil, append_cancel_left}
 use Rattle.rule_machine.specs.declared.act.Act.{Act}
 use Rattle.rule_machine.specs.declared.act.Act.TheVariants.{Update, Marry, Seduce, Abandon}
 use Rattle.line_text.specs.Words.{number_text, marked_text, IsName}
-use Rattle.line_text.specs.ReplyText.{act_word, enabled_text, mutual_text}
+use Rattle.line_text.specs.ReplyText.{act_word, mutual_text}
 use Rattle.line_text.specs.Reading.{NoDigit, NameThen}
 use Rattle.line_text.proofs.Digits.{name_once}
-use Rattle.entry_grammar.specs.Spelling.{IsEnabled, IsPair}
+use Rattle.entry_grammar.specs.Spelling.{IsPair}
 use Rattle.entry_grammar.specs.Reading.{Ends, WordThen, PairThen, DeedThen, deed_text}
 use Rattle.entry_grammar.proofs.Marked.{marked_once}
-use Rattle.entry_grammar.proofs.TokensOnce.{whole_enabled, whole_move, whole_pair}
+use Rattle.entry_grammar.proofs.TokensOnce.{whole_pair}
 
 -- no digit stands at an end
 pub ends_digit : (rest : List ℕ) → Ends rest → NoDigit rest

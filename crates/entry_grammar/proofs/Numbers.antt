@@ -1,21 +1,15 @@
 -- Numbers of at most eight digits.
-use Rattle.std.proofs.Common.{◌≡◌, ℕ, zero, suc, Bool, true, List, [], ◌∷◌, ◌&&◌, ◌<◌, ◌≤◌, length, get_or, refl, sym, ap, subst, ◌∙◌, arith}
+use Rattle.std.proofs.Common.{◌≡◌, ℕ, zero, suc, List, [], ◌∷◌, ◌++◌, ◌<◌, ◌≤◌, length, get_or, take, drop, sym, ap, ◌∙◌, arith}
+use Rattle.std.specs.Int.{IsInRange}
 use Rattle.std.specs.Str.Parse.{AllDigits, digits_value}
-use Rattle.std.proofs.lemmas.Fmt.{digits_decimal, decimal-digits_value, decimal_nonempty, length-decimal-le, first_decimal, decimal_digit}
-use Rattle.std.specs.Char.{is_ascii_digit}
-use Rattle.std.specs.List.{list_all}
-use Rattle.std.specs.Str.{all_ascii_digits}
-use Rattle.std.proofs.lemmas.Str.Parse.{IsNumeralModel, numerals_by_value, tells_all_ascii_digits, digits_value_short}
+use Rattle.std.proofs.lemmas.Fmt.{digits_decimal, decimal-digits_value, decimal_injective, decimal_nonempty, length-decimal-le, first_decimal, decimal_digit}
+use Rattle.std.proofs.lemmas.List.{append-nil, take-append-drop, length-take-le, get_or-take}
+use Rattle.std.proofs.lemmas.Str.Parse.{digits_value_short}
 use Rattle.line_text.specs.Words.{number_text}
-use Rattle.line_text.proofs.Digits.{own}
-
-told : IsNumeralModel (λ ds. all_ascii_digits ds ≡ true) (digits_value 10)
-told = numerals_by_value (λ ds. all_ascii_digits ds ≡ true) tells_all_ascii_digits
-
--- two tests for digits are one
-same_test : (bytes : List ℕ) → list_all is_ascii_digit bytes ≡ all_ascii_digits bytes
-same_test [] = refl
-same_test (b ∷ bytes) = ap (λ (z : Bool). is_ascii_digit b && z) (same_test bytes)
+use Rattle.line_text.specs.Reading.{NoDigit}
+use Rattle.line_text.proofs.Digits.{own, run_once}
+use Rattle.entry_grammar.specs.Reading.{CutAt, NumberThen}
+use Rattle.entry_grammar.proofs.Free.{free_number}
 
 -- a number with a leading zero has one digit
 lead : (n : ℕ) → n < 100000000 → get_or (number_text n) 0 0 ≡ 48 → length (number_text n) ≤ 1
@@ -37,9 +31,6 @@ number_facts n h = record {
   lead = lead n h;
 }
 
-pub number_facts_of : (bytes : List ℕ) (n : ℕ) → n < 100000000 → bytes ≡ number_text n → IsNumber bytes
-number_facts_of bytes n h e = subst IsNumber (sym e) (number_facts n h)
-
 -- the number that digits say
 pub number_said : (bytes : List ℕ) (n : ℕ) → IsNumber bytes → n ≡ digits_value 10 bytes → (n < 100000000) × (bytes ≡ number_text n)
 number_said bytes n h e =
@@ -47,10 +38,43 @@ number_said bytes n h e =
     let back : number_text (digits_value 10 bytes) ≡ bytes = decimal-digits_value own bytes h.digits h.some (λ z. omega (arith, h.lead z, h.some)) (omega (arith, short)) in
     (omega (arith, short, e), sym back ∙ ap number_text (sym e))
 
--- bytes that are digits by the test are digits
-pub digits_told : (bytes : List ℕ) → list_all is_ascii_digit bytes ≡ true → AllDigits 10 bytes
-digits_told bytes e = told.to bytes (sym (same_test bytes) ∙ e)
+-- a number that no digit follows is one
+pub number_once : (bytes : List ℕ) (m n : ℕ) (x y : List ℕ) → NumberThen bytes m x → NumberThen bytes n y → (m ≡ n) × (x ≡ y)
+number_once bytes m n x y a b =
+    let f = a.fits in
+    let g = b.fits in
+    let r = run_once (number_text m) (number_text n) x y (digits_decimal own m (omega arith)) (digits_decimal own n (omega arith)) a.ends b.ends (sym a.is ∙ b.is) in
+    (decimal_injective m n (omega arith) (omega arith) r.0, r.1)
 
--- and the other way round
-pub digits_tell : (bytes : List ℕ) → AllDigits 10 bytes → list_all is_ascii_digit bytes ≡ true
-digits_tell bytes d = same_test bytes ∙ told.from bytes d
+-- what a number in front says of the run of digits there
+pub number_facts_in : (bytes : List ℕ) (len n : ℕ) (rest : List ℕ) → len ≤ length bytes → AllDigits 10 (take len bytes) → NoDigit (drop len bytes) → NumberThen bytes n rest → (0 < len) × (len ≤ 8) × (get_or bytes 0 0 ≡ 48 → len ≤ 1)
+number_facts_in bytes len n rest le d e h =
+    let small = h.fits in
+    let r = run_once (take len bytes) (number_text n) (drop len bytes) rest d (digits_decimal own n (omega arith)) e h.ends (take-append-drop len bytes ∙ h.is) in
+    let f = number_facts n small in
+    let k : length (take len bytes) ≡ len = length-take-le len bytes le in
+    let same : len ≡ length (number_text n) = sym k ∙ ap length r.0 in
+    let some : 0 < len = omega (arith, f.some) in
+    let first : get_or bytes 0 0 ≡ get_or (number_text n) 0 0 = sym (get_or-take len bytes 0 0 some) ∙ ap (λ (z : List ℕ). get_or z 0 0) r.0 in
+    (some, omega (arith, f.few), λ z. omega (arith, f.lead (sym first ∙ z)))
+
+-- a short run of digits is a number, if it begins with no 0 or is one
+pub number_found : (bytes : List ℕ) (len n : ℕ) → len ≤ length bytes → 0 < len → len ≤ 8 → AllDigits 10 (take len bytes) → NoDigit (drop len bytes) → (get_or bytes 0 0 ≡ 48 → len ≤ 1) → n ≡ digits_value 10 (take len bytes) → NumberThen bytes n (drop len bytes)
+number_found bytes len n le some few d e lead v =
+    let k : length (take len bytes) ≡ len = length-take-le len bytes le in
+    let first : get_or (take len bytes) 0 0 ≡ get_or bytes 0 0 = get_or-take len bytes 0 0 some in
+    let said = number_said (take len bytes) n (record { some = omega arith; few = omega arith; digits = d; lead = λ z. omega (arith, lead (sym first ∙ z)) }) v in
+    record { fits = said.0; ends = e; is = sym (take-append-drop len bytes) ∙ ap (λ (z : List ℕ). z ++ drop len bytes) said.1 }
+
+-- a number and no more
+pub number_alone : (bytes : List ℕ) (n : ℕ) → n < 100000000 → bytes ≡ number_text n → NumberThen bytes n []
+number_alone bytes n f e = record { fits = f; ends = λ h. omega (arith, h.0); is = e ∙ sym (append-nil (number_text n)) }
+
+-- a number that a space follows is cut off there
+pub number_cut : (bytes : List ℕ) (n : ℕ) (numbered rest : List ℕ) → NumberThen bytes n numbered → numbered ≡ 32 ∷ rest → CutAt 32 bytes (number_text n) rest
+number_cut bytes n numbered rest h e =
+    let small = h.fits in
+    record { free = free_number 32 n (λ p. omega (arith, p.0)) (omega arith); is = h.is ∙ ap (λ (z : List ℕ). number_text n ++ z) e }
+
+pub number_of_cut : (bytes : List ℕ) (n : ℕ) (rest : List ℕ) → n < 100000000 → CutAt 32 bytes (number_text n) rest → NumberThen bytes n (32 ∷ rest)
+number_of_cut bytes n rest f h = record { fits = f; ends = λ (p : IsInRange 48 57 32). omega (arith, p.0, p.1); is = h.is }

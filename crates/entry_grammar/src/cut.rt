@@ -3,6 +3,8 @@
 ghost use Rattle.std.specs.Prelude.{◌≡◌, ℕ, List, ◌++◌, MatchOption};
 ghost use Rattle.entry_grammar.specs.Reading.{IsFree, CutAt};
 
+use memchr::memchr;
+
 /// What stands before the first byte that is the mark, and what stands behind it; `None` where no byte is.
 pub fn cut(bytes: &[u8], mark: u8) -> Option<(&[u8], &[u8])>
     ensures { MatchOption result
@@ -15,6 +17,18 @@ pub fn cut(bytes: &[u8], mark: u8) -> Option<(&[u8], &[u8])>
         }
     }
     None
+}
+
+/// The same where the mark may be far: many bytes are looked at at once.
+pub fn cut_far(bytes: &[u8], mark: u8) -> Option<(&[u8], &[u8])>
+    ensures { MatchOption result
+        (IsFree mark bytes.now)
+        (λ found. CutAt mark bytes.now found.0.now found.1.now) }
+{
+    match memchr(mark, bytes) {
+        Some(len) => Some((&bytes[..len], &bytes[len + 1..])),
+        None => None,
+    }
 }
 
 /// What stands before the given text at the end; `None` where another text stands there.

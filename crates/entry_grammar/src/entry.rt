@@ -3,16 +3,18 @@
 ghost use Rattle.std.specs.Prelude.{◌≡◌, ℕ, ◌<◌, ◌≤◌, List, IfOk, IfErr, MatchOption};
 ghost use Rattle.rule_machine.specs.declared.event.Event.{Event};
 ghost use Rattle.rule_machine.specs.declared.reply.Reply.{Reply};
+ghost use Rattle.line_text.specs.Words.{number_text};
 ghost use Rattle.line_text.specs.EntryText.{entry_text};
 ghost use Rattle.entry_grammar.specs.Spelling.{max_entries, AsksForList, SpellsEntry};
 ghost use Rattle.entry_grammar.specs.Reading.{PartsOf};
 ghost use Rattle.entry_grammar.specs.declared.fault.EntryFault.TheVariants.{Memory, NotALine};
 
-use crate::cut::{before, cut};
+use crate::cut::{before, cut_far};
 use crate::fault::EntryFault;
-use crate::number::read_number;
+use crate::front::behind;
+use crate::number::number_in_front;
 use crate::reply::read_reply;
-use line_text::{after, put_entry, read_command};
+use line_text::{put_entry, read_command};
 use log_entry::Entry;
 use rule_machine::Want;
 use std::alloc::Global;
@@ -20,22 +22,25 @@ use std::alloc::Global;
 /// The most entries that a log holds.
 const MAX_ENTRIES: u32 = 16_777_216;
 
-// The texts of a line's number, event and reply.
-fn parts(line: &[u8]) -> Option<(&[u8], &[u8], &[u8])>
+// A line's number, and the texts of its event and its reply.
+fn parts(line: &[u8]) -> Option<(u32, &[u8], &[u8])>
     ensures { MatchOption result
-        ((number : List ℕ) (event : List ℕ) (reply : List ℕ) → PartsOf line.now number event reply → ⊥)
-        (λ found. PartsOf line.now found.0.now found.1.now found.2.now) }
+        ((number : ℕ) (event : List ℕ) (reply : List ℕ) → number < 100000000 → PartsOf line.now (number_text number) event reply → ⊥)
+        (λ found. (found.0 < 100000000) × PartsOf line.now (number_text found.0) found.1.now found.2.now) }
 {
-    let Some((number, rest)) = cut(line, b' ') else {
+    let Some((number, numbered)) = number_in_front(line) else {
         return None;
     };
-    let Some((asked, answered)) = cut(rest, b'=') else {
+    let Some(rest) = behind(numbered, b' ') else {
+        return None;
+    };
+    let Some((asked, answered)) = cut_far(rest, b'=') else {
         return None;
     };
     let Some(event) = before(asked, b" ") else {
         return None;
     };
-    let Some(reply) = after(answered, b" ") else {
+    let Some(reply) = behind(answered, b' ') else {
         return None;
     };
     Some((number, event, reply))
@@ -62,9 +67,6 @@ pub fn read_entry(alloc: Global, line: &[u8]) -> Result<(u32, Entry), EntryFault
     ensures memory { IfErr result (λ fault. fault ≡ Memory → AsksForList line.now) }
 {
     let Some((number, event, reply)) = parts(line) else {
-        return Err(EntryFault::NotALine);
-    };
-    let Some(number) = read_number(number) else {
         return Err(EntryFault::NotALine);
     };
     if number == 0 || number > MAX_ENTRIES {

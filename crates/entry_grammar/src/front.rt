@@ -32,13 +32,13 @@ pub(crate) fn behind(bytes: &[u8], mark: u8) -> Option<&[u8]>
     }
 }
 
-// The length of the run of digits in front, and their number where they are no more than a name has.
+/// The length of the run of digits in front, and their number where they are at most eight.
 #[inline(always)]
-fn digits_in_front(bytes: &[u8]) -> (usize, u32)
+pub(crate) fn digits_in_front(bytes: &[u8]) -> (usize, u32)
     ensures within { result.0 ≤ length bytes.now }
     ensures digits { AllDigits 10 (take result.0 bytes.now) }
     ensures ends { NoDigit (drop result.0 bytes.now) }
-    ensures value { result.0 ≤ 5 → result.1 ≡ digits_value 10 (take result.0 bytes.now) }
+    ensures value { result.0 ≤ 8 → result.1 ≡ digits_value 10 (take result.0 bytes.now) }
 {
     let mut number = 0u32;
     for (i, byte) in bytes.iter().enumerate() {

@@ -1,27 +1,47 @@
-use Rattle.std.proofs.Common.{◌∷◌, ◌++◌, []}
+use Rattle.std.proofs.Common.{◌≡◌, ◌∷◌, ◌++◌, [], arith}
 use Rattle.std.specs.Prelude.{codes}
+use Rattle.line_text.specs.Words.{number_text}
 use Rattle.entry_grammar.proofs.Free.{free_no_cut}
+use Rattle.entry_grammar.proofs.Numbers.{number_cut, number_of_cut, number_once}
 use Rattle.entry_grammar.proofs.Parts.{parts_rest, parts_rest_cut, parts_cut, parts_made}
 use Rattle.entry_grammar.proofs.entry.parts.Goals as goal
 
 pub returns-in_default : goal.returns-in_default
-returns-in_default c n e r p =
-    free_no_cut 32 c.args.line.now n (e ++ codes " = " ++ r) c.in_default.ensures (parts_rest c.args.line.now n e r p)
+returns-in_default c n e r f p =
+    c.in_default.ensures n (32 ∷ (e ++ codes " = " ++ r)) (number_of_cut c.args.line.now n (e ++ codes " = " ++ r) f (parts_rest c.args.line.now (number_text n) e r p))
 
-pub returns-in_default-cut : goal.returns-in_default-cut
-returns-in_default-cut c n e r p =
-    free_no_cut 61 c.in-Some.rest.now (e ++ 32 ∷ []) (32 ∷ r) c.in_default-cut.ensures (parts_rest_cut c.args.line.now c.in-Some.number.now c.in-Some.rest.now n e r c.in-Some.ensures p)
+pub returns-in_default-behind : goal.returns-in_default-behind
+returns-in_default-behind c n e r f p =
+    let whole = number_of_cut c.args.line.now n (e ++ codes " = " ++ r) f (parts_rest c.args.line.now (number_text n) e r p) in
+    let same = number_once c.args.line.now c.in-Some.number n c.in-Some.numbered.now (32 ∷ (e ++ codes " = " ++ r)) c.in-Some.ensures whole in
+    c.in_default-behind.ensures (e ++ codes " = " ++ r) (grind (arith, same.1))
+
+pub returns-in_default-cut_far : goal.returns-in_default-cut_far
+returns-in_default-cut_far c n e r f p =
+    let at : c.in-Some.numbered.now ≡ 32 ∷ c.in-Some-behind.rest.now = grind arith in
+    let cut = number_cut c.args.line.now c.in-Some.number c.in-Some.numbered.now c.in-Some-behind.rest.now c.in-Some.ensures at in
+    free_no_cut 61 c.in-Some-behind.rest.now (e ++ 32 ∷ []) (32 ∷ r) c.in_default-cut_far.ensures (parts_rest_cut c.args.line.now (number_text c.in-Some.number) c.in-Some-behind.rest.now (number_text n) e r cut p)
 
 pub returns-in_default-before : goal.returns-in_default-before
-returns-in_default-before c n e r p =
-    let q = parts_cut c.args.line.now c.in-Some.number.now c.in-Some.rest.now c.in-Some-cut.asked.now c.in-Some-cut.answered.now n e r c.in-Some.ensures c.in-Some-cut.ensures p in
-    c.in_default-before.ensures e q.1
+returns-in_default-before c n e r f p =
+    let at : c.in-Some.numbered.now ≡ 32 ∷ c.in-Some-behind.rest.now = grind arith in
+    let cut = number_cut c.args.line.now c.in-Some.number c.in-Some.numbered.now c.in-Some-behind.rest.now c.in-Some.ensures at in
+    let q = parts_cut c.args.line.now (number_text c.in-Some.number) c.in-Some-behind.rest.now c.in-Some-cut_far.asked.now c.in-Some-cut_far.answered.now (number_text n) e r cut c.in-Some-cut_far.ensures p in
+    c.in_default-before.ensures e (grind (arith, q.1))
 
-pub returns-in_default-after : goal.returns-in_default-after
-returns-in_default-after c n e r p =
-    let q = parts_cut c.args.line.now c.in-Some.number.now c.in-Some.rest.now c.in-Some-cut.asked.now c.in-Some-cut.answered.now n e r c.in-Some.ensures c.in-Some-cut.ensures p in
-    c.in_default-after.ensures r q.2
+pub returns-in_default-behind-2 : goal.returns-in_default-behind-2
+returns-in_default-behind-2 c n e r f p =
+    let at : c.in-Some.numbered.now ≡ 32 ∷ c.in-Some-behind.rest.now = grind arith in
+    let cut = number_cut c.args.line.now c.in-Some.number c.in-Some.numbered.now c.in-Some-behind.rest.now c.in-Some.ensures at in
+    let q = parts_cut c.args.line.now (number_text c.in-Some.number) c.in-Some-behind.rest.now c.in-Some-cut_far.asked.now c.in-Some-cut_far.answered.now (number_text n) e r cut c.in-Some-cut_far.ensures p in
+    c.in_default-behind-2.ensures r (grind (arith, q.2))
 
 pub returns : goal.returns
 returns c =
-    parts_made c.args.line.now c.in-Some.number.now c.in-Some.rest.now c.in-Some-cut.asked.now c.in-Some-cut.answered.now c.in-Some-before.event.now c.in-Some-after.reply.now c.in-Some.ensures c.in-Some-cut.ensures c.in-Some-before.ensures c.in-Some-after.ensures
+    let at : c.in-Some.numbered.now ≡ 32 ∷ c.in-Some-behind.rest.now = grind arith in
+    let cut = number_cut c.args.line.now c.in-Some.number c.in-Some.numbered.now c.in-Some-behind.rest.now c.in-Some.ensures at in
+    let far : c.in-Some-cut_far.answered.now ≡ 32 ∷ c.in-Some-behind-2.reply.now = grind arith in
+    let near : c.in-Some-cut_far.asked.now ≡ c.in-Some-before.event.now ++ 32 ∷ [] = grind arith in (
+      c.in-Some.ensures.fits,
+      parts_made c.args.line.now (number_text c.in-Some.number) c.in-Some-behind.rest.now c.in-Some-cut_far.asked.now c.in-Some-cut_far.answered.now c.in-Some-before.event.now c.in-Some-behind-2.reply.now cut c.in-Some-cut_far.ensures near far,
+    )
