@@ -1,6 +1,6 @@
 -- What stands at the front of a text is determined.
 use Rattle.std.proofs.Common.{◌≡◌, ℕ, List, [], ◌∷◌, ◌++◌, Option, None, Some, get_or, refl, sym, ap, subst, ◌∙◌, append_assoc, arith}
-use Rattle.std.specs.Prelude.{IfSome}
+use Rattle.std.specs.Prelude.{IfSome, slice_index_or}
 use Rattle.std.specs.Int.{IsInRange}
 use Rattle.std.proofs.lemmas.List.{append-nil, append_cancel_left}
 use Rattle.rule_machine.specs.declared.act.Act.{Act}
@@ -10,7 +10,7 @@ use Rattle.line_text.specs.ReplyText.{act_word, mutual_text}
 use Rattle.line_text.specs.Reading.{NoDigit, NameThen}
 use Rattle.line_text.proofs.Digits.{name_once}
 use Rattle.entry_grammar.specs.Spelling.{IsPair}
-use Rattle.entry_grammar.specs.Reading.{Ends, WordThen, PairThen, DeedThen, deed_text}
+use Rattle.entry_grammar.specs.Reading.{first_byte, Ends, WordThen, PairThen, DeedThen, deed_text}
 use Rattle.entry_grammar.proofs.Marked.{marked_once}
 use Rattle.entry_grammar.proofs.TokensOnce.{whole_pair}
 
@@ -34,6 +34,21 @@ act_first Marry Marry x y e = (refl, append_cancel_left (act_word Marry) x y e)
 act_first Seduce Seduce x y e = (refl, append_cancel_left (act_word Seduce) x y e)
 act_first Abandon Abandon x y e = (refl, append_cancel_left (act_word Abandon) x y e)
 act_first a b x y e = absurd (omega (arith, ap (λ (z : List ℕ). get_or z 0 0) e))
+
+-- the first byte of a text with a rule's word in front
+pub act_begins : (act : Act) (bytes rest : List ℕ) → bytes ≡ act_word act ++ rest → first_byte act ≡ slice_index_or bytes 0 0
+act_begins Update bytes rest e = sym (ap (λ (z : List ℕ). slice_index_or z 0 0) e)
+act_begins Marry bytes rest e = sym (ap (λ (z : List ℕ). slice_index_or z 0 0) e)
+act_begins Seduce bytes rest e = sym (ap (λ (z : List ℕ). slice_index_or z 0 0) e)
+act_begins Abandon bytes rest e = sym (ap (λ (z : List ℕ). slice_index_or z 0 0) e)
+
+-- a rule's word is told by its first byte
+pub act_by_first : (a b : Act) → first_byte a ≡ first_byte b → a ≡ b
+act_by_first Update Update e = refl
+act_by_first Marry Marry e = refl
+act_by_first Seduce Seduce e = refl
+act_by_first Abandon Abandon e = refl
+act_by_first a b e = absurd (omega (arith, e))
 
 -- what follows two names and the mark between them is determined
 pub pair_rest : (mark : ℕ) (bytes : List ℕ) (p q : ℕ × ℕ) (x y : List ℕ) → (IsInRange 48 57 mark → ⊥) → PairThen mark bytes p x → PairThen mark bytes q y → x ≡ y

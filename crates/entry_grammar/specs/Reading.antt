@@ -45,6 +45,10 @@ pub record PairThen (mark : ℕ) (bytes : List ℕ) (pair : ℕ × ℕ) (rest : 
   pub ends : NoDigit rest
   pub is : bytes ≡ number_text pair.0 ++ mark ∷ (number_text pair.1 ++ rest)
 
+-- the byte with which a rule's word begins
+abbrev pub first_byte : Act → ℕ
+first_byte act = slice_index_or (act_word act) 0 0
+
 -- a rule, and a target behind a `>`
 abbrev pub deed_text : Act → Option ℕ → List ℕ
 deed_text act target = act_word act ++ marked_text (codes ">") target

@@ -15,13 +15,13 @@ use std::alloc::Global;
 fn read_done(bytes: &[u8]) -> Option<Reply>
     ensures { ReadsReply is_done bytes.now result }
 {
-    if let Some(words) = after(bytes, b"refused ") {
-        return read_refusal(words).map(|refusal| Reply::Refused(refusal));
+    if bytes == b"ok".as_slice() {
+        return Some(Reply::Accepted);
     }
-    if bytes != b"ok".as_slice() {
+    let Some(words) = after(bytes, b"refused ") else {
         return None;
-    }
-    Some(Reply::Accepted)
+    };
+    read_refusal(words).map(|refusal| Reply::Refused(refusal))
 }
 
 // Reads the moves of a step, or why it was refused.

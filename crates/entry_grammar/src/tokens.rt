@@ -7,7 +7,7 @@ ghost use Rattle.line_text.specs.Words.{number_text, IsName};
 ghost use Rattle.line_text.specs.ReplyText.{act_word, enabled_text, move_text, mutual_text};
 ghost use Rattle.line_text.specs.Reading.{Reads};
 ghost use Rattle.entry_grammar.specs.Spelling.{IsMoved, IsEnabled, IsPair};
-ghost use Rattle.entry_grammar.specs.Reading.{DeedThen, PairThen};
+ghost use Rattle.entry_grammar.specs.Reading.{DeedThen, PairThen, first_byte};
 
 use crate::front::{behind, ends, read_name};
 use crate::words::Token;
@@ -30,25 +30,50 @@ pub(crate) fn read_marked(bytes: &[u8], mark: u8) -> Option<(Node, &[u8])>
     Some((node, rest))
 }
 
-// Reads the word for a rule in front, and gives what follows it.
+// The rule whose word begins with this byte.
+#[inline(always)]
+fn act_with(first: u8) -> Option<Act>
+    ensures { MatchOption result
+        ((act : Act) → first_byte act ≡ first → ⊥)
+        (λ act. first_byte act ≡ first) }
+{
+    match first {
+        b'u' => Some(Act::Update),
+        b'm' => Some(Act::Marry),
+        b's' => Some(Act::Seduce),
+        b'a' => Some(Act::Abandon),
+        _ => None,
+    }
+}
+
+// What follows a rule's word in front; `None` where another text stands there.
+#[inline(always)]
+fn after_act(bytes: &[u8], act: Act) -> Option<&[u8]>
+    ensures { MatchOption result
+        ((rest : List ℕ) → bytes.now ≡ act_word act ++ rest → ⊥)
+        (λ rest. bytes.now ≡ act_word act ++ rest.now) }
+{
+    match act {
+        Act::Update => after(bytes, b"update"),
+        Act::Marry => after(bytes, b"marry"),
+        Act::Seduce => after(bytes, b"seduce"),
+        Act::Abandon => after(bytes, b"abandon"),
+    }
+}
+
+// Reads the word for a rule in front, which its first byte tells, and gives what follows it.
 fn read_act(bytes: &[u8]) -> Option<(Act, &[u8])>
     ensures { MatchOption result
         ((act : Act) (rest : List ℕ) → bytes.now ≡ act_word act ++ rest → ⊥)
         (λ found. bytes.now ≡ act_word found.0 ++ found.1.now) }
 {
-    if let Some(rest) = after(bytes, b"update") {
-        return Some((Act::Update, rest));
-    }
-    if let Some(rest) = after(bytes, b"marry") {
-        return Some((Act::Marry, rest));
-    }
-    if let Some(rest) = after(bytes, b"seduce") {
-        return Some((Act::Seduce, rest));
-    }
-    if let Some(rest) = after(bytes, b"abandon") {
-        return Some((Act::Abandon, rest));
-    }
-    None
+    let Some(act) = act_with(bytes.get(0).copied().unwrap_or(0)) else {
+        return None;
+    };
+    let Some(rest) = after_act(bytes, act) else {
+        return None;
+    };
+    Some((act, rest))
 }
 
 // Reads a rule in front, a target where one stands behind a `>`, and gives what follows them.

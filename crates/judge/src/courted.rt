@@ -52,7 +52,7 @@ impl Courted {
         self.clear();
         for below in 0..net.last_name() {
             let v = node_above(below);
-            if let Some(target) = net.pointer(v) {
+            if let Some(target) = net.pointer_at(v) {
                 self.put(target);
             }
         }

@@ -144,10 +144,10 @@ impl NetState {
         }
     }
 
-    /// Where a node points, if anywhere: a look at its register alone.
+    /// Where the node of a name points, if there is one and it points anywhere: a look at its register alone.
     #[inline(always)]
     pub(crate) fn pointer_at(&self, v: Node) -> Option<Node>
-        requires { IsTrue (network.present self.now.network v) }
+        requires { v ≤ self.now.network.size }
         ensures { result ≡ state.pointer self.now v }
     {
         self.registers.pointer(v)

@@ -13,9 +13,9 @@ loop-below-preserved c =
     let marks = c.loop-below.self in
     let inv = c.loop-below.invariant in
     let named : v ≡ n + 1 = c.node_above-v.ensures in
-    elim c.match-pointer.branch [
+    elim c.match-pointer_at.branch [
       | in-Some w ↦
-          let at : pointer s v ≡ Some w.in-Some.target = sym c.pointer.ensures ∙ w.in-Some.is in
+          let at : pointer s v ≡ Some w.in-Some.target = sym c.pointer_at.ensures ∙ w.in-Some.is in
           let more = w.put.new.self in
           let len : length more ≡ length c.args.self.now = w.put.ensures.len ∙ inv.len in
           record {
@@ -24,7 +24,7 @@ loop-below-preserved c =
             all = subst (λ (m : List Bool). (u x : ℕ) → u ≤ n + 1 → pointer s u ≡ Some x → mark_at m x ≡ true) (sym w.self-is) (all_more s marks more n v w.in-Some.target named at w.put.ensures.marked inv.all);
           }
       | in_default w ↦
-          let none : pointer s v ≡ None = sym c.pointer.ensures ∙ w.in_default.is in
+          let none : pointer s v ≡ None = sym c.pointer_at.ensures ∙ w.in_default.is in
           record {
             len = ap length w.self-is ∙ inv.len;
             right = subst (λ (m : List Bool). (x : ℕ) → mark_at m x ≡ true → has_suitor s x ≡ true) (sym w.self-is) inv.right;
