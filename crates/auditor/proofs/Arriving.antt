@@ -14,12 +14,11 @@ use Rattle.auditor.specs.declared.reach.ReplayFault.TheVariants.{Judged, TooFew,
 use Rattle.auditor.specs.declared.replay.Replay.{Replay}
 use Rattle.auditor.specs.Parts.{count_after}
 use Rattle.auditor.specs.Transcript.{IsTranscript}
-use Rattle.auditor.specs.Position.{Position, IsFurther, stand_of}
-use Rattle.auditor.specs.Parted.{IsSameText}
+use Rattle.auditor.specs.Position.{Position, stand_of}
 use Rattle.auditor.specs.Accepted.{IsReached}
 use Rattle.auditor.specs.Reached.{EndsAt, IsStateAfter, HasTooFew, IsReplayFault, IsBefore, IsMetBehind, IsMetFirst, IsOpened, IsWithin, IsLongEnough, falls_short}
+use Rattle.auditor.specs.Replays.{IsPassed}
 use Rattle.auditor.proofs.Steps.{step_count}
-use Rattle.auditor.proofs.Going.{IsAt, went_on}
 
 -- ---- one part further
 
@@ -31,11 +30,11 @@ within_more : (last : Option ℕ) (entries next : ℕ) → next ≤ entries + 1 
 within_more None entries next more short = tt
 within_more (Some n) entries next more short = let below : entries < n = search rules in omega (arith, below, more)
 
-pub further_within : (bytes : List ℕ) (old new : Replay) (last : Option ℕ) → IsAt bytes old → falls_short last old.audit.number ≡ true → IsSameText old new → IsFurther old.rules old.size old.audit old.rest.now new.audit new.rest.now → IsAt bytes new × IsWithin last new.audit.number
-further_within bytes old new last at short same further =
-    let count : new.audit.number ≡ count_after old.audit.number further.part = step_count (table_of old.rules) (stand_of old.audit) (stand_of new.audit) further.part further.comes.steps in
-    let more = count_more old.audit.number further.part in
-    (went_on bytes old new at same further, within_more last old.audit.number new.audit.number (omega (arith, count, more)) short)
+pub further_within : (old new : Replay) (rest behind : List ℕ) (last : Option ℕ) → falls_short last old.audit.number ≡ true → IsPassed old new rest behind → IsWithin last new.audit.number
+further_within old new rest behind last short p =
+    let count : new.audit.number ≡ count_after old.audit.number p.further.part = step_count (table_of old.rules) (stand_of old.audit) (stand_of new.audit) p.further.part p.further.comes.steps in
+    let more = count_more old.audit.number p.further.part in
+    within_more last old.audit.number new.audit.number (omega (arith, count, more)) short
 
 -- ---- faults
 
@@ -47,10 +46,9 @@ comes_before : (last : Option ℕ) (entries : ℕ) → falls_short last entries 
 comes_before None entries short = tt
 comes_before (Some n) entries short = let below : entries < n = search rules in below
 
-pub part_fault : (bytes : List ℕ) (replay : Replay) (last : Option ℕ) (fault : JudgeFault) → IsAt bytes replay → falls_short last replay.audit.number ≡ true → IsMetBehind replay.text.now replay.audit.number fault → IsReplayFault bytes last (Judged fault)
-part_fault bytes replay last (Damaged damage) at short met =
-    (subst (λ (b : List ℕ). IsMetBehind b replay.audit.number (Damaged damage)) at.1 met) last (comes_before last replay.audit.number short)
-part_fault bytes replay last Memory at short met = tt
+pub part_fault : (bytes : List ℕ) (count : ℕ) (last : Option ℕ) (fault : JudgeFault) → falls_short last count ≡ true → IsMetBehind bytes count fault → IsReplayFault bytes last (Judged fault)
+part_fault bytes count last (Damaged damage) short met = met last (comes_before last count short)
+part_fault bytes count last Memory short met = tt
 
 pub forgotten_fault : (bytes : List ℕ) (rules : RuleSet) (size : ℕ) (begun : Start) (p : Position) (rest : List ℕ) (last : Option ℕ) (asked : ℕ) → IsOpened bytes rules size begun p rest → last ≡ Some asked → asked < p.number → IsReplayFault bytes last (Forgotten asked p.number)
 forgotten_fault bytes rules size begun p rest last asked o is fewer = record {

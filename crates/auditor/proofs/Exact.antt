@@ -1,7 +1,5 @@
 -- What was judged is the one verdict of the text.
-use Rattle.std.proofs.Common.{◌≡◌, ℕ, ◌⊎◌, inl, inr, List, Option, None, Some, IfSome, Result, Ok, Err, IfOk, IfErr, OnOk, refl, sym, ap, subst}
-use Rattle.std.specs.Io.KnownBytes.{Consumes, IsAtEnd}
-use Rattle.std.proofs.KnownBytes.{Consumes-whole}
+use Rattle.std.proofs.Common.{◌≡◌, ℕ, ◌⊎◌, inl, inr, List, Option, None, Some, IfSome, Result, Ok, Err, IfOk, IfErr, refl, sym, ap, subst}
 use Rattle.byte_streams.specs.declared.input_fault.InputFault.{InputFault}
 use Rattle.byte_streams.specs.declared.input_fault.InputFault.TheVariants as input
 use Rattle.auditor.specs.declared.damage.Damage.{Damage}
@@ -12,7 +10,7 @@ use Rattle.auditor.specs.declared.fault.AuditFault.{AuditFault}
 use Rattle.auditor.specs.declared.summary.Summary.{Summary}
 use Rattle.auditor.specs.Accepted.{IsAccepted}
 use Rattle.auditor.specs.Damage.{IsDamage}
-use Rattle.auditor.specs.Verdict.{IsJudged, IsAudited, IsFault, AcceptsRuns, NamesDamage, told, of_damage, of_input}
+use Rattle.auditor.specs.Verdict.{IsJudged, IsAudited, IsFault, IsHeard, AcceptsRuns, NamesDamage, told, of_damage, of_input}
 use Rattle.auditor.proofs.Ending.{damage_once, count_once, accepted_no_damage}
 
 pub judged_accepts : (bytes : List ℕ) (result : Result Summary JudgeFault) → IsJudged bytes result → (counted : Summary) → IsAccepted bytes counted → (result ≡ Ok counted) ⊎ (result ≡ Err Memory)
@@ -64,29 +62,37 @@ audited_accepts bytes result (judged, is, e) = subst (λ (r : Result Summary Aud
 pub audited_names : (bytes : List ℕ) (result : Result Summary AuditFault) → IsAudited bytes result → NamesDamage bytes result
 audited_names bytes result (judged, is, e) = subst (λ (r : Result Summary AuditFault). NamesDamage bytes r) (sym e) (told_names bytes judged is)
 
--- a text that was not read has neither verdict
-pub unread_accepts : (bytes : List ℕ) (fault : InputFault) → AcceptsRuns bytes (Err (of_input fault))
-unread_accepts bytes input.Read counted is = inr (inl refl)
-unread_accepts bytes input.Memory counted is = inr (inr refl)
+-- ---- and of one whose text may not have been read
 
-pub unread_names : (bytes : List ℕ) (fault : InputFault) → NamesDamage bytes (Err (of_input fault))
-unread_names bytes input.Read damage is = inr (inl refl)
-unread_names bytes input.Memory damage is = inr (inr refl)
+heard_by : (bytes : List ℕ) (result : Result Summary AuditFault) (Q : Result Summary AuditFault → Type 0) → IsHeard bytes result → (IsAudited bytes result → Q result) → ((fault : InputFault) → Q (Err (of_input fault))) → Q result
+heard_by bytes result Q (inl audited) judged unread = judged audited
+heard_by bytes result Q (inr (fault, e)) judged unread = subst Q (sym e) (unread fault)
 
-abbrev pub unread : InputFault → Result Summary AuditFault
-unread fault = Err (of_input fault)
+pub heard_accepted : (bytes : List ℕ) (result : Result Summary AuditFault) → IsHeard bytes result → IfOk result (IsAccepted bytes)
+heard_accepted bytes result heard = heard_by bytes result (λ r. IfOk r (IsAccepted bytes)) heard (audited_accepted bytes result) (λ fault. tt)
 
-pub unread_damage : (bytes : List ℕ) (fault : InputFault) → IfErr (unread fault) (IsFault bytes)
+unread_damage : (bytes : List ℕ) (fault : InputFault) → IsFault bytes (of_input fault)
 unread_damage bytes input.Read = tt
 unread_damage bytes input.Memory = tt
 
--- what holds of every text that was read to its end and judged, and of any text where the reading failed, holds of what
--- the reader had
-pub from_reading : {V : Type 0} (items : V → List ℕ) (old new : Option (List ℕ)) (read : Result V InputFault) (result : Result Summary AuditFault) (Q : List ℕ → Result Summary AuditFault → Type 0)
-    → IfOk read (λ v. Consumes old new (items v)) → OnOk read (IsAtEnd new) → IfOk read (λ v. IsAudited (items v) result) → IfErr read (λ f. result ≡ Err (of_input f))
-    → ((bytes : List ℕ) → IsAudited bytes result → Q bytes result) → ((bytes : List ℕ) (fault : InputFault) → Q bytes (Err (of_input fault))) → IfSome old (λ bytes. Q bytes result)
-from_reading items None new read result Q consumes end audited unread whole none = tt
-from_reading items (Some xs) new (Ok v) result Q consumes end audited unread whole none =
-    Consumes-whole (Some xs) new (items v) (λ (bytes : List ℕ). Q bytes result) consumes end (whole (items v) audited)
-from_reading items (Some xs) new (Err fault) result Q consumes end audited unread whole none =
-    subst (λ (r : Result Summary AuditFault). Q xs r) (sym unread) (none xs fault)
+pub heard_damage : (bytes : List ℕ) (result : Result Summary AuditFault) → IsHeard bytes result → IfErr result (IsFault bytes)
+heard_damage bytes result heard = heard_by bytes result (λ r. IfErr r (IsFault bytes)) heard (audited_damage bytes result) (unread_damage bytes)
+
+unread_accepts : (bytes : List ℕ) (fault : InputFault) → AcceptsRuns bytes (Err (of_input fault))
+unread_accepts bytes input.Read counted is = inr (inl refl)
+unread_accepts bytes input.Memory counted is = inr (inr refl)
+
+pub heard_accepts : (bytes : List ℕ) (result : Result Summary AuditFault) → IsHeard bytes result → AcceptsRuns bytes result
+heard_accepts bytes result heard = heard_by bytes result (AcceptsRuns bytes) heard (audited_accepts bytes result) (unread_accepts bytes)
+
+unread_names : (bytes : List ℕ) (fault : InputFault) → NamesDamage bytes (Err (of_input fault))
+unread_names bytes input.Read damage is = inr (inl refl)
+unread_names bytes input.Memory damage is = inr (inr refl)
+
+pub heard_names : (bytes : List ℕ) (result : Result Summary AuditFault) → IsHeard bytes result → NamesDamage bytes result
+heard_names bytes result heard = heard_by bytes result (NamesDamage bytes) heard (audited_names bytes result) (unread_names bytes)
+
+-- what follows for bytes that are known
+pub for_known : (a : Option (List ℕ)) (P Q : List ℕ → Type 0) → IfSome a P → ((bytes : List ℕ) → P bytes → Q bytes) → IfSome a Q
+for_known None P Q p more = tt
+for_known (Some bytes) P Q p more = more bytes p

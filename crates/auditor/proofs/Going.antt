@@ -1,6 +1,6 @@
 -- A transcript that is gone through from its beginning to its end.
-use Rattle.std.proofs.Common.{◌≡◌, ℕ, ◌+◌, ◌<◌, List, [], ◌∷◌, None, Err, length, sym, ap, subst, ◌∙◌, arith}
-use Rattle.std.proofs.lemmas.List.{length-append}
+use Rattle.std.proofs.Common.{◌≡◌, ℕ, ◌+◌, ◌<◌, ◌≤◌, ◌^◌, inl, List, [], ◌∷◌, ◌++◌, None, Err, length, sym, ap, subst, ◌∙◌, append_assoc, arith}
+use Rattle.std.proofs.lemmas.List.{append_cancel_right, length-append}
 use Rattle.rule_machine.specs.declared.rules.RuleSet.{RuleSet}
 use Rattle.rule_machine.specs.Base.{Part, Told, Kept}
 use Rattle.auditor.specs.declared.damage.JudgeFault.{JudgeFault}
@@ -9,11 +9,14 @@ use Rattle.auditor.specs.declared.replay.Replay.{Replay}
 use Rattle.line_text.specs.EntryText.{entry_text}
 use Rattle.auditor.specs.Parts.{part_text}
 use Rattle.auditor.specs.Position.{Position, IsFurther}
-use Rattle.auditor.specs.Parted.{IsSameText}
 use Rattle.auditor.specs.Accepted.{IsReached}
-use Rattle.auditor.specs.Reached.{IsMetBehind, IsMetFirst, IsOpened}
+use Rattle.auditor.specs.Damage.{line_feeds}
+use Rattle.auditor.specs.Reached.{IsMetBehind, IsMetFirst}
+use Rattle.auditor.specs.Replays.{Begins, IsAt, IsCompared, IsPassed, IsSomewhere, Waits}
 use Rattle.auditor.specs.Verdict.{IsJudged}
+use Rattle.auditor.proofs.Counted.{feeds_few}
 use Rattle.auditor.proofs.Reaching.{opened_reached, reached_more}
+use Rattle.auditor.proofs.Windows.{feeds_append, same_none}
 
 -- what is met is what is judged
 pub first_judged : (bytes : List ℕ) (fault : JudgeFault) → IsMetFirst bytes fault → IsJudged bytes (Err fault)
@@ -24,21 +27,70 @@ pub behind_judged : (bytes : List ℕ) (count : ℕ) (fault : JudgeFault) → Is
 behind_judged bytes count (Damaged damage) met = (met None tt).is
 behind_judged bytes count Memory met = tt
 
--- how far it is
-abbrev pub IsAt : List ℕ → Replay → Type 0
-IsAt bytes replay = IsReached bytes replay.rules replay.size replay.audit replay.rest.now × (replay.text.now ≡ bytes)
+-- ---- where a replay is
 
-pub opened_at : (bytes : List ℕ) (replay : Replay) → IsOpened bytes replay.rules replay.size replay.begun replay.audit replay.rest.now → replay.text.now ≡ bytes → IsAt bytes replay
-opened_at bytes replay o text = (opened_reached bytes replay.rules replay.size replay.audit replay.rest.now o.start o.follows o.size_is o.opening, text)
+-- all that it has counted stands in the bytes
+pub at_few : (bytes : List ℕ) (replay : Replay) (rest : List ℕ) → IsAt bytes replay rest → replay.lines + length rest ≤ length bytes
+at_few bytes replay rest at =
+    let follows = at.reached.follows in
+    let lines = at.counted follows.good follows.splits in
+    let few = feeds_few follows.good in
+    let whole = ap length follows.splits ∙ length-append follows.good rest in
+    omega (arith, lines, few, whole)
 
-pub went_on : (bytes : List ℕ) (old new : Replay) → IsAt bytes old → IsSameText old new → IsFurther old.rules old.size old.audit old.rest.now new.audit new.rest.now → IsAt bytes new
-went_on bytes old new at same further =
-    let more = reached_more bytes old.rules old.size old.audit new.audit old.rest.now new.rest.now at.0 further in
-    let ruled = subst (λ (r : RuleSet). IsReached bytes r old.size new.audit new.rest.now) (sym same.rules) more in
-    (subst (λ (n : ℕ). IsReached bytes new.rules n new.audit new.rest.now) (sym same.size) ruled, same.text ∙ at.1)
+pub somewhere_few : (replay : Replay) (rest : List ℕ) → IsSomewhere replay rest → replay.lines + length rest < 2 ^ 63
+somewhere_few replay rest at =
+    let few = at_few at.bytes replay rest at.at in
+    let all = at.few in
+    omega (arith, few, all)
 
-pub met_judged : (bytes : List ℕ) (replay : Replay) (fault : JudgeFault) → IsAt bytes replay → IsMetBehind replay.text.now replay.audit.number fault → IsJudged bytes (Err fault)
-met_judged bytes replay fault at met = behind_judged bytes replay.audit.number fault (subst (λ (b : List ℕ). IsMetBehind b replay.audit.number fault) at.1 met)
+-- another replay is at the same place
+pub at_same : (bytes : List ℕ) (old new : Replay) (rest : List ℕ) → new.rules ≡ old.rules → new.size ≡ old.size → new.audit ≡ old.audit → new.lines ≡ old.lines → IsAt bytes old rest → IsAt bytes new rest
+at_same bytes old new rest rules size audit lines at = record {
+  reached =
+      subst (λ (r : RuleSet). IsReached bytes r new.size new.audit rest) (sym rules)
+      (subst (λ (n : ℕ). IsReached bytes old.rules n new.audit rest) (sym size)
+      (subst (λ (p : Position). IsReached bytes old.rules old.size p rest) (sym audit) at.reached));
+  counted = λ good e. lines ∙ at.counted good e;
+}
+
+pub waited : (bytes : List ℕ) (old new : Replay) (rest all : List ℕ) → Waits old new rest → IsAt bytes old all → IsAt bytes new all
+waited bytes old new rest all w at = at_same bytes old new all w.rules w.size w.audit w.lines at
+
+-- ---- behind the beginning
+
+pub begun_at : (text : List ℕ) (replay : Replay) (rest : List ℕ) → Begins text replay rest → IsAt text replay rest
+begun_at text replay rest b =
+    let o = b.opened in
+    record { reached = opened_reached text replay.rules replay.size replay.audit rest o.start o.follows o.size_is o.opening; counted = b.counted }
+
+-- nothing is wanted yet
+pub compared_none : (replay : Replay) (rest : List ℕ) → replay.wanted.items ≡ [] → replay.same ≡ 0 → IsCompared replay rest
+compared_none replay rest unwanted none = record { text = inl unwanted; alike = same_none replay.wanted.items rest replay.same none }
+
+-- ---- one part further
+
+-- the part, cut out of the text
+pub passed_at : (bytes : List ℕ) (old new : Replay) (rest behind : List ℕ) → IsAt bytes old rest → IsPassed old new rest behind → IsAt bytes new behind
+passed_at bytes old new rest behind at p =
+    let more = reached_more bytes old.rules old.size old.audit new.audit rest behind at.reached p.further in
+    let ruled = subst (λ (r : RuleSet). IsReached bytes r old.size new.audit behind) (sym p.rules) more in
+    record { reached = subst (λ (n : ℕ). IsReached bytes new.rules n new.audit behind) (sym p.size) ruled; counted = counted }
+  where
+    counted : (good : List ℕ) → bytes ≡ good ++ behind → new.lines ≡ line_feeds good
+    counted good e =
+        let further = p.further in
+        let text = part_text old.rules old.size old.audit.number further.part in
+        let before = at.reached.follows.good in
+        let splits : bytes ≡ (before ++ text) ++ behind = at.reached.follows.splits ∙ ap (λ (z : List ℕ). before ++ z) further.comes.is ∙ sym (append_assoc before text behind) in
+        let same : good ≡ before ++ text = append_cancel_right good (before ++ text) behind (sym e ∙ splits) in
+        p.lines text further.comes.is ∙ ap (λ (n : ℕ). n + line_feeds text) (at.counted before at.reached.follows.splits) ∙ sym (feeds_append before text) ∙ sym (ap line_feeds same)
+
+pub passed_somewhere : (old new : Replay) (rest behind : List ℕ) → IsSomewhere old rest → IsPassed old new rest behind → IsSomewhere new behind
+passed_somewhere old new rest behind at p = record { bytes = at.bytes; few = at.few; at = passed_at at.bytes old new rest behind at.at p }
+
+pub passed_compared : (old new : Replay) (rest behind : List ℕ) → IsPassed old new rest behind → IsCompared new behind
+passed_compared old new rest behind p = compared_none new behind p.unwanted p.none_same
 
 -- each part has a text
 part_some : (rules : RuleSet) (size count : ℕ) (part : Part) → 0 < length (part_text rules size count part)
@@ -46,9 +98,12 @@ part_some rules size count (Told entry) =
     let l = length-append (entry_text (count + 1) entry.0 entry.1) (10 ∷ []) in omega (arith, l)
 part_some rules size count (Kept base) = omega arith
 
-pub further_shorter : (rules : RuleSet) (size : ℕ) (p q : Position) (rest behind : List ℕ) → IsFurther rules size p rest q behind → length behind < length rest
+further_shorter : (rules : RuleSet) (size : ℕ) (p q : Position) (rest behind : List ℕ) → IsFurther rules size p rest q behind → length behind < length rest
 further_shorter rules size p q rest behind f =
     let own = part_text rules size p.number f.part in
     let l = ap length f.comes.is ∙ length-append own behind in
     let some = part_some rules size p.number f.part in
     omega (arith, l, some)
+
+pub passed_shorter : (old new : Replay) (rest behind : List ℕ) → IsPassed old new rest behind → length behind < length rest
+passed_shorter old new rest behind p = further_shorter old.rules old.size old.audit new.audit rest behind p.further

@@ -9,10 +9,13 @@ pub mod Apart
 pub mod Bases
 pub mod Undamaged
 pub mod Counted
+pub mod Windows
 pub mod Reaching
 pub mod Opened
 pub mod Spent
 mod Refusing
 pub mod Going
+pub mod Passing
+pub mod Reading
 pub mod Arriving
 pub mod Turning

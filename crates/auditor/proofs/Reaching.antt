@@ -1,5 +1,5 @@
 -- How far an audit is, part by part.
-use Rattle.std.proofs.Common.{◌≡◌, ℕ, ◌+◌, ◌≤◌, inr, List, [], ◌∷◌, ◌++◌, Option, Some, Err, take, length, sum_by, refl, sym, ap, subst, ◌∙◌, append_assoc, append-nil, arith}
+use Rattle.std.proofs.Common.{◌≡◌, ℕ, ◌+◌, ◌≤◌, inr, List, [], ◌∷◌, ◌++◌, Option, Some, Err, take, sum_by, refl, sym, ap, subst, ◌∙◌, append_assoc, append-nil, arith}
 use Rattle.std.proofs.lemmas.List.{length-append}
 use Rattle.std.proofs.lemmas.List.Sums.{sum_by-append}
 use Rattle.rule_machine.specs.declared.base.Base.{Base}
@@ -24,9 +24,10 @@ use Rattle.auditor.specs.Parts.{Opening, Opens, opening_text, size_of}
 use Rattle.auditor.specs.Transcript.{IsTranscript, Comes, disturbances_in, moves_in}
 use Rattle.auditor.specs.Damage.{Follows, BeginsBase, IsLineBehind, HasNoEntry}
 use Rattle.auditor.specs.Position.{Position, stand_of, position_at, counted_more, counted_part, GoodLine, BadNumber, BadReply, LineJudged, IsFurther}
-use Rattle.auditor.specs.Parted.{PartAt, flaw_at}
+use Rattle.auditor.specs.Parted.{flaw_at}
 use Rattle.auditor.specs.Accepted.{Counts, IsAccepted, IsReached}
 use Rattle.auditor.specs.Reached.{IsMetBehind}
+use Rattle.auditor.proofs.Counted.{PartAt}
 use Rattle.auditor.proofs.Steps.{follows_more}
 
 -- ---- counts
@@ -156,16 +157,7 @@ reached_end bytes rules size p rest r none =
       counts = r.counts;
     }
 
-pub not_longer : (bytes : List ℕ) (rules : RuleSet) (size : ℕ) (p : Position) (rest : List ℕ) → IsReached bytes rules size p rest → length rest ≤ length bytes
-not_longer bytes rules size p rest r =
-    let l = ap length r.follows.splits ∙ length-append r.follows.good rest in
-    omega (arith, l)
-
--- the number of the line that follows
-behind_good : (good : List ℕ) (line : ℕ) → IsLineBehind line (good ++ []) → IsLineBehind line good
-behind_good good line is = subst (IsLineBehind line) (append-nil good) is
-
-pub damaged_line : (bytes : List ℕ) (rules : RuleSet) (size : ℕ) (p : Position) (rest : List ℕ) (line : ℕ) → IsReached bytes rules size p rest → ((good : List ℕ) → bytes ≡ good ++ rest → IsLineBehind line (good ++ [])) → (BeginsBase rest → ⊥) → HasNoEntry rest (first_line rest) → IsMetBehind bytes p.number (Damaged (NotALine line))
+pub damaged_line : (bytes : List ℕ) (rules : RuleSet) (size : ℕ) (p : Position) (rest : List ℕ) (line : ℕ) → IsReached bytes rules size p rest → ((good : List ℕ) → bytes ≡ good ++ rest → IsLineBehind line good) → (BeginsBase rest → ⊥) → HasNoEntry rest (first_line rest) → IsMetBehind bytes p.number (Damaged (NotALine line))
 damaged_line bytes rules size p rest line r number other damage last before =
     record {
       is = record {
@@ -174,14 +166,14 @@ damaged_line bytes rules size p rest line r number other damage last before =
         end = stand_of p;
         rest = rest;
         follows = r.follows;
-        number = behind_good r.follows.good line (number r.follows.good r.follows.splits);
+        number = number r.follows.good r.follows.splits;
         other = other;
         damage = damage;
       };
       looked_at = before;
     }
 
-damaged_number : (bytes text behind : List ℕ) (rules : RuleSet) (size : ℕ) (p : Position) (rest : List ℕ) (line : ℕ) → IsReached bytes rules size p rest → ((good : List ℕ) → bytes ≡ good ++ rest → IsLineBehind line (good ++ [])) → first_line rest ≡ Some (text, behind) → BadNumber text p → IsMetBehind bytes p.number (Damaged (OutOfOrder line))
+damaged_number : (bytes text behind : List ℕ) (rules : RuleSet) (size : ℕ) (p : Position) (rest : List ℕ) (line : ℕ) → IsReached bytes rules size p rest → ((good : List ℕ) → bytes ≡ good ++ rest → IsLineBehind line good) → first_line rest ≡ Some (text, behind) → BadNumber text p → IsMetBehind bytes p.number (Damaged (OutOfOrder line))
 damaged_number bytes text behind rules size p rest line r number cut bad last before =
     record {
       is = record {
@@ -190,7 +182,7 @@ damaged_number bytes text behind rules size p rest line r number cut bad last be
         end = stand_of p;
         rest = rest;
         follows = r.follows;
-        number = behind_good r.follows.good line (number r.follows.good r.follows.splits);
+        number = number r.follows.good r.follows.splits;
         seq = bad.seq;
         entry = bad.entry;
         comes = record { line = text; more = behind; is = cut; spells = bad.spells };
@@ -199,7 +191,7 @@ damaged_number bytes text behind rules size p rest line r number cut bad last be
       looked_at = before;
     }
 
-damaged_reply : (bytes text behind : List ℕ) (rules : RuleSet) (size : ℕ) (p : Position) (rest : List ℕ) (line : ℕ) → IsReached bytes rules size p rest → ((good : List ℕ) → bytes ≡ good ++ rest → IsLineBehind line (good ++ [])) → first_line rest ≡ Some (text, behind) → BadReply (table_of rules) text p → IsMetBehind bytes p.number (Damaged (NotTheMachines line))
+damaged_reply : (bytes text behind : List ℕ) (rules : RuleSet) (size : ℕ) (p : Position) (rest : List ℕ) (line : ℕ) → IsReached bytes rules size p rest → ((good : List ℕ) → bytes ≡ good ++ rest → IsLineBehind line good) → first_line rest ≡ Some (text, behind) → BadReply (table_of rules) text p → IsMetBehind bytes p.number (Damaged (NotTheMachines line))
 damaged_reply bytes text behind rules size p rest line r number cut bad last before =
     record {
       is = record {
@@ -208,7 +200,7 @@ damaged_reply bytes text behind rules size p rest line r number cut bad last bef
         end = stand_of p;
         rest = rest;
         follows = r.follows;
-        number = behind_good r.follows.good line (number r.follows.good r.follows.splits);
+        number = number r.follows.good r.follows.splits;
         entry = bad.entry;
         comes = record { line = text; more = behind; is = cut; spells = bad.spells };
         damage = bad.never;
@@ -217,7 +209,7 @@ damaged_reply bytes text behind rules size p rest line r number cut bad last bef
     }
 
 -- what the check of a line finds is the damage of the bytes
-pub damaged : (bytes text behind : List ℕ) (rules : RuleSet) (size : ℕ) (p q : Position) (rest : List ℕ) (found : Flaw) (line : ℕ) → IsReached bytes rules size p rest → ((good : List ℕ) → bytes ≡ good ++ rest → IsLineBehind line (good ++ [])) → (BeginsBase rest → ⊥) → first_line rest ≡ Some (text, behind) → LineJudged (table_of rules) text p q (Err found) → IsMetBehind bytes p.number (flaw_at found line)
+pub damaged : (bytes text behind : List ℕ) (rules : RuleSet) (size : ℕ) (p q : Position) (rest : List ℕ) (found : Flaw) (line : ℕ) → IsReached bytes rules size p rest → ((good : List ℕ) → bytes ≡ good ++ rest → IsLineBehind line good) → (BeginsBase rest → ⊥) → first_line rest ≡ Some (text, behind) → LineJudged (table_of rules) text p q (Err found) → IsMetBehind bytes p.number (flaw_at found line)
 damaged bytes text behind rules size p q rest flaw.NotALine line r number other cut judged =
     damaged_line bytes rules size p rest line r number other (subst (λ (found : Option (List ℕ × List ℕ)). HasNoEntry rest found) (sym cut) judged)
 damaged bytes text behind rules size p q rest flaw.OutOfOrder line r number other cut judged =

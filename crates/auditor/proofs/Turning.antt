@@ -16,9 +16,9 @@ use Rattle.judge.specs.Bases.{weight_of}
 use Rattle.auditor.specs.declared.replay.Replay.{Replay}
 use Rattle.auditor.specs.Transcript.{Comes}
 use Rattle.auditor.specs.Position.{Position, IsFurther, counted_part, position_at, stand_of}
-use Rattle.auditor.specs.Parted.{IsSameText}
 use Rattle.auditor.specs.Accepted.{IsReached}
 use Rattle.auditor.specs.Reached.{IsOpened}
+use Rattle.auditor.specs.Replays.{IsPassed}
 use Rattle.auditor.specs.Epochs.{AreEpochs, IsWithinItsBound, epochs_at, first_epoch}
 use Rattle.auditor.proofs.Reaching.{entries_add, reached_more}
 use Rattle.auditor.proofs.Spent.{is_table, is_charged, opens_in_state, opens_within}
@@ -197,13 +197,10 @@ listed_bounded bytes rules all a =
 
 -- ---- of a replay
 
-pub listed_at : (bytes : List ℕ) (replay : Replay) (past : List Epoch) (epoch : Epoch) → IsListed bytes replay.rules replay.size replay.audit replay.rest.now past epoch → IsReached bytes replay.rules replay.size replay.audit replay.rest.now
-listed_at bytes replay past epoch l = l.reached
-
-pub listed_on : (bytes : List ℕ) (old new : Replay) (past next : List Epoch) (epoch after : Epoch) → IsListed bytes old.rules old.size old.audit old.rest.now past epoch → IsSameText old new → IsFurther old.rules old.size old.audit old.rest.now new.audit new.rest.now
+pub listed_on : (bytes : List ℕ) (old new : Replay) (rest behind : List ℕ) (past next : List Epoch) (epoch after : Epoch) → IsListed bytes old.rules old.size old.audit rest past epoch → IsPassed old new rest behind
     → ((part : Part) → new.audit.counted ≡ counted_part old.audit.counted part → (next ≡ past ++ (epochs_at part new.audit.number new.audit.state epoch).0) × (after ≡ (epochs_at part new.audit.number new.audit.state epoch).1))
-    → IsListed bytes new.rules new.size new.audit new.rest.now next after
-listed_on bytes old new past next epoch after l same further turn =
-    let more = listed_more bytes old.rules old.size old.audit new.audit old.rest.now new.rest.now past next epoch after l further turn in
-    let ruled = subst (λ (r : RuleSet). IsListed bytes r old.size new.audit new.rest.now next after) (sym same.rules) more in
-    subst (λ (n : ℕ). IsListed bytes new.rules n new.audit new.rest.now next after) (sym same.size) ruled
+    → IsListed bytes new.rules new.size new.audit behind next after
+listed_on bytes old new rest behind past next epoch after l p turn =
+    let more = listed_more bytes old.rules old.size old.audit new.audit rest behind past next epoch after l p.further turn in
+    let ruled = subst (λ (r : RuleSet). IsListed bytes r old.size new.audit behind next after) (sym p.rules) more in
+    subst (λ (n : ℕ). IsListed bytes new.rules n new.audit behind next after) (sym p.size) ruled

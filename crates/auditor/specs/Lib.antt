@@ -7,4 +7,5 @@ pub mod Accepted
 pub mod Verdict
 pub mod Once
 pub mod Reached
+pub mod Replays
 pub mod Epochs

@@ -43,6 +43,10 @@ told (Err fault) = Err (of_judge fault)
 abbrev pub IsAudited : List ℕ → Result Summary AuditFault → Type 0
 IsAudited bytes result = (judged : Result Summary JudgeFault) × IsJudged bytes judged × (result ≡ told judged)
 
+-- they were judged, or reading them failed
+abbrev pub IsHeard : List ℕ → Result Summary AuditFault → Type 0
+IsHeard bytes result = IsAudited bytes result ⊎ ((fault : InputFault) × (result ≡ Err (of_input fault)))
+
 -- the bytes have the damage that the fault names; of a failed read and want of memory nothing is said
 abbrev pub IsFault : List ℕ → AuditFault → Type 0
 IsFault bytes BadHeader = IsDamage bytes damage.BadHeader

@@ -73,18 +73,19 @@ pub fn epochs_of(alloc: Global, bytes: &[u8]) -> Result<Epochs, JudgeFault>
     ensures bounded { IfOk result (λ epochs. All (IsWithinItsBound epochs.rules) epochs.list.items) }
     ensures fault { IfErr result (λ fault. IsJudged bytes.now (Err fault)) }
 {
-    let mut replay = match Replay::open(alloc, bytes) {
-        Ok(replay) => replay,
+    let (mut replay, mut rest) = match Replay::open_whole(alloc, bytes) {
+        Ok(begun) => begun,
         Err(fault) => return Err(fault),
     };
     let mut list = Vec::new(alloc);
     let mut epoch = replay.audit.open_epoch(replay.begun);
-    while !replay.rest.is_empty() {
+    while !rest.is_empty() {
         let before = replay.audit.counted();
-        match replay.advance(alloc) {
-            Ok(()) => epoch = turn(&mut list, epoch, before, &replay.audit)?,
+        match replay.advance_whole(alloc, rest) {
+            Ok(behind) => rest = behind,
             Err(fault) => return Err(fault),
         }
+        epoch = turn(&mut list, epoch, before, &replay.audit)?;
     }
     push(&mut list, epoch)?;
     Ok(Epochs {

@@ -6,6 +6,7 @@ mod damage;
 mod epoch;
 mod epoch_list;
 mod fault;
+mod judging;
 mod laws;
 mod lines;
 mod reach;

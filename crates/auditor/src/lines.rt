@@ -1,40 +1,41 @@
-//! Where in a text something stands.
+//! Lines of a text, by their line feeds; and how far two texts are the same.
 
 ghost use Rattle.std.specs.Prelude.{◌≡◌, ◌≤◌, ℕ, List, ◌++◌, length, take};
-ghost use Rattle.auditor.specs.Damage.{IsLineBehind};
-ghost use Rattle.auditor.specs.Parted.{PartAt};
+ghost use Rattle.auditor.specs.Damage.{line_feeds};
+ghost use Rattle.auditor.specs.Parted.{AreSameUpTo, ArePartedAt};
 
-// The number of the line that begins behind these bytes, or goes on there. One look at each byte.
-fn line_behind(bytes: &[u8]) -> u64
-    ensures { IsLineBehind result bytes.now }
+/// How many lines end in the bytes. One look at each byte.
+pub(crate) fn line_feeds(bytes: &[u8]) -> u64
+    ensures { result ≡ line_feeds bytes.now }
 {
-    let mut line = 1;
+    let mut lines = 0;
     for &b in bytes {
         if b == b'\n' {
-            line += 1;
+            lines += 1;
         }
     }
-    line
+    lines
 }
 
-/// The number of the line that goes on so many bytes behind the beginning of the rest with which a text ends.
-pub(crate) fn line_at(text: &[u8], rest: &[u8], ahead: usize) -> u64
-    requires shorter { length rest.now ≤ length text.now }
-    requires within { ahead ≤ length rest.now }
-    ensures { (good : List ℕ) → text.now ≡ good ++ rest.now → IsLineBehind result (good ++ take ahead rest.now) }
+/// How many lines end before the rest with which a text ends.
+pub(crate) fn lines_before(text: &[u8], rest: &[u8]) -> u64
+    requires { length rest.now ≤ length text.now }
+    ensures { (good : List ℕ) → text.now ≡ good ++ rest.now → result ≡ line_feeds good }
 {
-    line_behind(&text[..text.len() - rest.len() + ahead])
+    line_feeds(&text[..text.len() - rest.len()])
 }
 
-/// With how many bytes of the text these bytes begin, which do not begin with all of it.
-pub(crate) fn common_len(text: &[u8], bytes: &[u8]) -> usize
-    requires { (rest : List ℕ) → bytes.now ≡ text.now ++ rest → ⊥ }
-    ensures { PartAt text.now bytes.now result }
+/// With how many bytes of the text these bytes begin, where so many are known to be the same.
+pub(crate) fn common_len(text: &[u8], bytes: &[u8], known: usize) -> usize
+    requires known { AreSameUpTo text.now bytes.now known }
+    ensures same { AreSameUpTo text.now bytes.now result }
+    ensures apart { ArePartedAt text.now bytes.now result }
 {
-    for i in 0..text.len().min(bytes.len()) {
+    let end = text.len().min(bytes.len());
+    for i in known..end {
         if text[i] != bytes[i] {
             return i;
         }
     }
-    bytes.len()
+    end
 }

@@ -51,9 +51,9 @@ fn forgotten(entries: u32, last: Option<u32>) -> Option<u32>
 }
 
 // The state that was reached, or how many entries there are, where there should be more.
-fn finish(replay: Replay<'_>, last: Option<u32>) -> Result<Reached, ReplayFault>
-    ensures reached { IfOk result (λ reached. (reached.rules ≡ replay.entry.rules) × (reached.judge ≡ replay.entry.audit.state) × IsLongEnough last replay.entry.audit.number) }
-    ensures few { IfErr result (λ fault. (asked : ℕ) × (fault ≡ TooFew asked replay.entry.audit.number) × (last ≡ Some asked) × (replay.entry.audit.number < asked)) }
+fn finish(replay: Replay, last: Option<u32>) -> Result<Reached, ReplayFault>
+    ensures reached { IfOk result (λ reached. (reached.rules ≡ replay.rules) × (reached.judge ≡ replay.audit.state) × IsLongEnough last replay.audit.number) }
+    ensures few { IfErr result (λ fault. (asked : ℕ) × (fault ≡ TooFew asked replay.audit.number) × (last ≡ Some asked) × (replay.audit.number < asked)) }
 {
     let entries = replay.number();
     match last {
@@ -74,17 +74,17 @@ pub fn state_after(alloc: Global, bytes: &[u8], last: Option<u32>) -> Result<Rea
     ensures reached { IfOk result (λ reached. IsStateAfter bytes.now last reached.rules reached.judge) }
     ensures fault { IfErr result (IsReplayFault bytes.now last) }
 {
-    let mut replay = match Replay::open(alloc, bytes) {
-        Ok(replay) => replay,
+    let (mut replay, mut rest) = match Replay::open_whole(alloc, bytes) {
+        Ok(begun) => begun,
         Err(fault) => return Err(ReplayFault::Judged(fault)),
     };
     let base = replay.number();
     if let Some(asked) = forgotten(base, last) {
         return Err(ReplayFault::Forgotten { asked, base });
     }
-    while !replay.rest.is_empty() && falls_short(replay.number(), last) {
-        match replay.advance(alloc) {
-            Ok(()) => {}
+    while !rest.is_empty() && falls_short(replay.number(), last) {
+        match replay.advance_whole(alloc, rest) {
+            Ok(behind) => rest = behind,
             Err(fault) => return Err(ReplayFault::Judged(fault)),
         }
     }

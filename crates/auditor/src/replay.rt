@@ -1,39 +1,42 @@
 //! A transcript that is gone through part by part.
 
-ghost use Rattle.std.specs.Prelude.{◌≡◌, ◌≢◌, ◌≤◌, ℕ, List, [], Some, IfErr, IfOk, MatchOption, OnOk};
+ghost use Rattle.std.specs.Prelude.{◌≡◌, ◌≢◌, ◌≤◌, ◌++◌, ℕ, List, [], None, Some, IfErr, IfOk, IfSome, MatchOption, OnOk};
 ghost use Rattle.rule_machine.specs.declared.rules.RuleSet.{RuleSet as Rules};
+ghost use Rattle.rule_machine.specs.Base.{base_of};
 ghost use Rattle.entry_grammar.specs.declared.base_line.BaseLine.TheVariants.{Head};
 ghost use Rattle.line_text.specs.BaseText.{base_head};
 ghost use Rattle.entry_grammar.specs.Lines.{first_line};
 ghost use Rattle.entry_grammar.specs.Spelling.{SpellsHeader};
-ghost use Rattle.auditor.specs.Accepted.{IsReached};
+ghost use Rattle.auditor.specs.declared.damage.JudgeFault.TheVariants.{Damaged};
 ghost use Rattle.auditor.specs.Damage.{BeginsBase, SpellsNoHead};
-ghost use Rattle.auditor.specs.Position.{IsFurther};
-ghost use Rattle.auditor.specs.Reached.{IsMetBehind, IsMetFirst, IsOpened};
-ghost use Rattle.auditor.specs.Parted.{IsSameText};
+ghost use Rattle.auditor.specs.Position.{stand_of};
+ghost use Rattle.auditor.specs.Reached.{IsMetBehind, IsMetFirst};
+ghost use Rattle.auditor.specs.Replays.{Begins, HasCutStart, IsAt, IsCompared, IsMetAt, IsPassed, IsSomewhere, IsUnended, Waits, Wants};
+ghost use Rattle.auditor.specs.Verdict.{IsJudged};
 
 use crate::check::Audit;
-use crate::lines::{common_len, line_at};
-use crate::{Damage, JudgeFault};
+use crate::lines::{common_len, line_feeds, lines_before};
+use crate::{Damage, JudgeFault, Summary};
 use entry_grammar::{BaseFault, BaseLine, read_base, read_base_line, read_header, split_line};
 use judge::Judge;
 use line_text::{after, put_base};
-use rule_machine::{RuleSet, Start};
+use rule_machine::{RuleSet, Start, Want};
 use std::alloc::Global;
 
 /// The most entries that a log has.
 const MAX_ENTRIES: u32 = 16_777_216;
 
-/// The rules of a transcript and how many names there are, where its first epoch began, how far its audit has come, the whole
-/// text, and what of it follows.
+/// The rules of a transcript and how many names there are, where its first epoch began, how far its audit has come, and how many
+/// lines that is. While a base comes in pieces: the text that it has to have, and how many bytes of that have come.
 #[derive(Drop)]
-pub(crate) struct Replay<'a> {
+pub(crate) struct Replay {
     pub(crate) rules: RuleSet,
     pub(crate) size: u32,
     pub(crate) begun: Start,
     pub(crate) audit: Audit,
-    pub(crate) text: &'a [u8],
-    pub(crate) rest: &'a [u8],
+    pub(crate) lines: u64,
+    pub(crate) wanted: Vec<u8>,
+    pub(crate) same: usize,
 }
 
 // The rules and how many names there are, where the line is the first of a base.
@@ -56,6 +59,19 @@ fn read_head(line: &[u8]) -> Option<(RuleSet, u32)>
     head_of(found)
 }
 
+// What is wrong with a text that ends before what it begins with does.
+fn cut_start(text: &[u8]) -> Damage
+    requires { HasCutStart text.now }
+    ensures { IsMetFirst text.now (Damaged result) }
+{
+    let line = line_feeds(text) + 1;
+    if line == 1 {
+        Damage::BadHeader
+    } else {
+        Damage::BadBase { line }
+    }
+}
+
 impl Audit {
     /// The judge in the state that was reached.
     pub(crate) fn into_judge(self) -> Judge
@@ -65,19 +81,19 @@ impl Audit {
     }
 }
 
-impl<'a> Replay<'a> {
+impl Replay {
     /// Begins behind a header, at the opening state.
     fn at_header(
         alloc: Global,
-        text: &'a [u8],
-        rest: &'a [u8],
+        text: &[u8],
+        rest: &[u8],
         header: (RuleSet, u32, u32),
-    ) -> Result<Replay<'a>, JudgeFault>
+    ) -> Result<Replay, JudgeFault>
         requires few { header.1 ≤ 65535 }
         requires within { header.2 ≤ header.1 }
-        ensures opened { IfOk result (λ replay. (line : List ℕ) → first_line text.now ≡ Some (line, rest.now) → SpellsHeader line header.0 header.1 header.2 → IsOpened text.now replay.rules replay.size replay.begun replay.audit replay.rest.now) }
-        ensures text { IfOk result (λ replay. replay.text.now ≡ text.now) }
-        ensures fault { IfErr result (IsMetFirst text.now) }
+        requires line { (line : List ℕ) × (first_line text.now ≡ Some (line, rest.now)) × SpellsHeader line header.0 header.1 header.2 }
+        ensures begins { IfOk result (λ replay. Begins text.now replay rest.now) }
+        ensures fault { IfErr result (λ fault. (more : List ℕ) → IsMetFirst (text.now ++ more) fault) }
     {
         let (rules, size, count) = header;
         let judge = Judge::with_present(alloc, size, count)?;
@@ -86,28 +102,31 @@ impl<'a> Replay<'a> {
             size,
             begun: Start::At(0),
             audit: Audit::new(judge, 0, 0),
-            text,
-            rest,
+            lines: lines_before(text, rest),
+            wanted: Vec::new(alloc),
+            same: 0,
         })
     }
 
-    /// Begins at the base whose first line stands before the rest.
-    fn at_base(
+    /// Begins behind the base whose first line stands before the rest, if it is whole.
+    fn at_base<'a>(
         alloc: Global,
-        text: &'a [u8],
+        text: &[u8],
         rest: &'a [u8],
         rules: RuleSet,
         size: u32,
-    ) -> Result<Replay<'a>, JudgeFault>
+    ) -> Result<Option<(Replay, &'a [u8])>, JudgeFault>
         requires few { size ≤ 65535 }
         requires first { first_line text.now ≡ Some (base_head rules size, rest.now) }
-        ensures opened { IfOk result (λ replay. IsOpened text.now replay.rules replay.size replay.begun replay.audit replay.rest.now) }
-        ensures text { IfOk result (λ replay. replay.text.now ≡ text.now) }
-        ensures fault { IfErr result (IsMetFirst text.now) }
+        ensures begins { IfOk result (λ found. MatchOption found (HasCutStart text.now) (λ begun. Begins text.now begun.0 begun.1.now)) }
+        ensures fault { IfErr result (λ fault. (more : List ℕ) → IsMetFirst (text.now ++ more) fault) }
     {
         let (base, behind) = match read_base(alloc, rest) {
             Ok(found) => found,
             Err(BaseFault::BadLine(number)) => {
+                if line_feeds(rest) < number {
+                    return Ok(None);
+                }
                 return Err(JudgeFault::Damaged(Damage::BadBase { line: number + 1 }));
             }
             Err(BaseFault::Memory) => return Err(JudgeFault::Memory),
@@ -118,31 +137,46 @@ impl<'a> Replay<'a> {
         let Some(judge) = Judge::at_base(alloc, rules, size, &base)? else {
             return Err(JudgeFault::Damaged(Damage::BadBase { line: 2 }));
         };
-        Ok(Replay {
+        let replay = Replay {
             rules,
             size,
             begun: Start::Forgotten,
             audit: Audit::new(judge, base.spent, base.number),
-            text,
-            rest: behind,
-        })
+            lines: lines_before(text, behind),
+            wanted: Vec::new(alloc),
+            same: 0,
+        };
+        Ok(Some((replay, behind)))
     }
 
-    /// Reads what the text begins with: a header, or a base.
-    pub(crate) fn open(alloc: Global, text: &'a [u8]) -> Result<Replay<'a>, JudgeFault>
-        ensures opened { IfOk result (λ replay. IsOpened text.now replay.rules replay.size replay.begun replay.audit replay.rest.now) }
-        ensures text { IfOk result (λ replay. replay.text.now ≡ text.now) }
-        ensures fault { IfErr result (IsMetFirst text.now) }
+    /// Reads what the text begins with, a header or a base, and gives what follows it; none where it is not whole. What is
+    /// wrong is so whatever comes behind the text.
+    pub(crate) fn open(alloc: Global, text: &[u8]) -> Result<Option<(Replay, &[u8])>, JudgeFault>
+        ensures begins { IfOk result (λ found. MatchOption found (HasCutStart text.now) (λ begun. Begins text.now begun.0 begun.1.now)) }
+        ensures fault { IfErr result (λ fault. (more : List ℕ) → IsMetFirst (text.now ++ more) fault) }
     {
         let Some((line, rest)) = split_line(text) else {
-            return Err(JudgeFault::Damaged(Damage::BadHeader));
+            return Ok(None);
         };
         if let Ok(header) = read_header(line) {
-            return Replay::at_header(alloc, text, rest, header);
+            let replay = Replay::at_header(alloc, text, rest, header)?;
+            return Ok(Some((replay, rest)));
         }
         match read_head(line) {
             Some((rules, size)) => Replay::at_base(alloc, text, rest, rules, size),
             None => Err(JudgeFault::Damaged(Damage::BadHeader)),
+        }
+    }
+
+    /// Reads what the text begins with, where nothing comes behind the text.
+    pub(crate) fn open_whole(alloc: Global, text: &[u8]) -> Result<(Replay, &[u8]), JudgeFault>
+        ensures begins { IfOk result (λ begun. Begins text.now begun.0 begun.1.now) }
+        ensures fault { IfErr result (IsMetFirst text.now) }
+    {
+        match Replay::open(alloc, text) {
+            Ok(Some(begun)) => Ok(begun),
+            Ok(None) => Err(JudgeFault::Damaged(cut_start(text))),
+            Err(fault) => Err(fault),
         }
     }
 
@@ -153,57 +187,120 @@ impl<'a> Replay<'a> {
         self.audit.number()
     }
 
-    // Goes past the entry that comes next.
-    fn pass_entry(&mut self, alloc: Global) -> Result<(), JudgeFault>
-        requires reached { IsReached self.old.text.now self.old.rules self.old.size self.old.audit self.old.rest.now }
-        requires some { self.old.rest.now ≢ [] }
-        requires other { BeginsBase self.old.rest.now → ⊥ }
-        ensures further { OnOk result (IsFurther self.old.rules self.old.size self.old.audit self.old.rest.now self.new.audit self.new.rest.now) }
-        ensures same { IsSameText self.old self.new }
-        ensures fault { IfErr result (IsMetBehind self.old.text.now self.old.audit.number) }
+    // Goes past the entry that comes next, and gives what follows it; none where its line is not whole.
+    fn pass_entry<'a>(
+        &mut self,
+        alloc: Global,
+        rest: &'a [u8],
+    ) -> Result<Option<&'a [u8]>, JudgeFault>
+        requires at { IsSomewhere self.old rest.now }
+        requires other { BeginsBase rest.now → ⊥ }
+        requires compared { IsCompared self.old rest.now }
+        ensures ahead { IfOk result (λ found. MatchOption found (Waits self.old self.new rest.now) (λ behind. IsPassed self.old self.new rest.now behind.now)) }
+        ensures fault { IfErr result (IsMetAt self.old rest.now) }
     {
-        let (text, rest) = (self.text, self.rest);
         let Some((line, behind)) = split_line(rest) else {
-            let line = line_at(text, rest, 0);
-            return Err(JudgeFault::Damaged(Damage::NotALine { line }));
+            return Ok(None);
         };
+        self.lines += 1;
         match self.audit.check_line(alloc, self.rules, line) {
-            Ok(()) => self.rest = behind,
-            Err(flaw) => return Err(flaw.told_at(line_at(text, rest, 0))),
+            Ok(()) => Ok(Some(behind)),
+            Err(flaw) => Err(flaw.told_at(self.lines)),
         }
+    }
+
+    // Makes the text of the base of where the run stands, where there is none yet.
+    fn want_base(&mut self, alloc: Global) -> Result<(), Want>
+        requires at { (rest : List ℕ) × IsSomewhere self.old rest }
+        requires compared { (rest : List ℕ) × IsCompared self.old rest }
+        ensures { OnOk result (Wants self.old self.new) }
+    {
+        if !self.wanted.is_empty() {
+            return Ok(());
+        }
+        let base = self.audit.base(alloc)?;
+        put_base(&mut self.wanted, self.rules, self.size, &base)?;
         Ok(())
     }
 
-    // Goes past the base that comes next, which has to be that of where the run stands.
-    fn pass_base(&mut self, alloc: Global) -> Result<(), JudgeFault>
-        requires reached { IsReached self.old.text.now self.old.rules self.old.size self.old.audit self.old.rest.now }
-        requires begins { BeginsBase self.old.rest.now }
-        ensures further { OnOk result (IsFurther self.old.rules self.old.size self.old.audit self.old.rest.now self.new.audit self.new.rest.now) }
-        ensures same { IsSameText self.old self.new }
-        ensures fault { IfErr result (IsMetBehind self.old.text.now self.old.audit.number) }
+    // Goes past the base that comes next, which has to be that of where the run stands, and gives what follows it; none where
+    // the rest is the beginning of that one.
+    fn pass_base<'a>(
+        &mut self,
+        alloc: Global,
+        rest: &'a [u8],
+    ) -> Result<Option<&'a [u8]>, JudgeFault>
+        requires at { IsSomewhere self.old rest.now }
+        requires begins { BeginsBase rest.now }
+        requires compared { IsCompared self.old rest.now }
+        ensures ahead { IfOk result (λ found. MatchOption found (Waits self.old self.new rest.now) (λ behind. IsPassed self.old self.new rest.now behind.now)) }
+        ensures fault { IfErr result (IsMetAt self.old rest.now) }
     {
-        let base = self.audit.base(alloc)?;
-        let mut wanted = Vec::new(alloc);
-        put_base(&mut wanted, self.rules, self.size, &base)?;
-        if let Some(behind) = after(self.rest, &wanted) {
-            self.rest = behind;
-            return Ok(());
+        self.want_base(alloc)?;
+        let same = common_len(&self.wanted, rest, self.same);
+        if same == self.wanted.len() {
+            self.lines += line_feeds(&self.wanted);
+            self.wanted.clear();
+            self.same = 0;
+            return Ok(Some(&rest[same..]));
         }
-        let line = line_at(self.text, self.rest, common_len(&wanted, self.rest));
+        if same == rest.len() {
+            self.same = same;
+            return Ok(None);
+        }
+        let line = self.lines + line_feeds(&rest[..same]) + 1;
         Err(JudgeFault::Damaged(Damage::BadBase { line }))
     }
 
-    /// Judges what comes next, an entry or a base.
-    pub(crate) fn advance(&mut self, alloc: Global) -> Result<(), JudgeFault>
-        requires reached { IsReached self.old.text.now self.old.rules self.old.size self.old.audit self.old.rest.now }
-        requires some { self.old.rest.now ≢ [] }
-        ensures further { OnOk result (IsFurther self.old.rules self.old.size self.old.audit self.old.rest.now self.new.audit self.new.rest.now) }
-        ensures same { IsSameText self.old self.new }
-        ensures fault { IfErr result (IsMetBehind self.old.text.now self.old.audit.number) }
+    /// Goes past what comes next, an entry or a base, and gives what follows it; none where it is not whole. What is wrong is so
+    /// whatever comes behind the rest.
+    pub(crate) fn advance<'a>(
+        &mut self,
+        alloc: Global,
+        rest: &'a [u8],
+    ) -> Result<Option<&'a [u8]>, JudgeFault>
+        requires at { IsSomewhere self.old rest.now }
+        requires compared { IsCompared self.old rest.now }
+        ensures ahead { IfOk result (λ found. MatchOption found (Waits self.old self.new rest.now) (λ behind. IsPassed self.old self.new rest.now behind.now)) }
+        ensures fault { IfErr result (IsMetAt self.old rest.now) }
     {
-        if after(self.rest, b"matching2").is_some() {
-            return self.pass_base(alloc);
+        if after(rest, b"matching2").is_some() {
+            return self.pass_base(alloc, rest);
         }
-        self.pass_entry(alloc)
+        self.pass_entry(alloc, rest)
+    }
+
+    // What is wrong with a rest that ends before what comes next does.
+    fn cut_off(&self, rest: &[u8]) -> Damage
+        requires at { IsSomewhere self.now rest.now }
+        requires some { rest.now ≢ [] }
+        requires unended { IsUnended self.now rest.now }
+        ensures { (bytes : List ℕ) → IsAt bytes self.now rest.now → IsMetBehind bytes self.now.audit.number (Damaged result) }
+    {
+        let line = self.lines + line_feeds(rest) + 1;
+        if after(rest, b"matching2").is_some() {
+            Damage::BadBase { line }
+        } else {
+            Damage::NotALine { line }
+        }
+    }
+
+    /// Goes past what comes next, where nothing comes behind the rest, and gives what follows it.
+    pub(crate) fn advance_whole<'a>(
+        &mut self,
+        alloc: Global,
+        rest: &'a [u8],
+    ) -> Result<&'a [u8], JudgeFault>
+        requires at { IsSomewhere self.old rest.now }
+        requires some { rest.now ≢ [] }
+        requires compared { IsCompared self.old rest.now }
+        ensures passed { IfOk result (λ behind. IsPassed self.old self.new rest.now behind.now) }
+        ensures fault { IfErr result (λ fault. (bytes : List ℕ) → IsAt bytes self.old rest.now → IsMetBehind bytes self.old.audit.number fault) }
+    {
+        match self.advance(alloc, rest) {
+            Ok(Some(behind)) => Ok(behind),
+            Ok(None) => Err(JudgeFault::Damaged(self.cut_off(rest))),
+            Err(fault) => Err(fault),
+        }
     }
 }

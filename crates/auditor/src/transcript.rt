@@ -1,21 +1,25 @@
 //! The audit of a transcript.
 
-ghost use Rattle.std.specs.Prelude.{◌≡◌, ◌⊎◌, Ok, Err, IfOk, IfErr, IfSome, OnOk, ◌++◌};
+ghost use Rattle.std.specs.Prelude.{◌≡◌, ◌⊎◌, Ok, Err, IfOk, IfErr, IfSome, OnOk, length};
 ghost use Rattle.std.specs.Io.KnownBytes.{IsAtEnd};
 ghost use Rattle.auditor.specs.declared.damage.Damage.{Damage};
 ghost use Rattle.auditor.specs.declared.damage.JudgeFault.TheVariants.{Damaged, Memory};
 ghost use Rattle.auditor.specs.declared.summary.Summary.{Summary};
 ghost use Rattle.auditor.specs.Accepted.{IsAccepted};
 ghost use Rattle.auditor.specs.Damage.{IsDamage};
-ghost use Rattle.auditor.specs.Verdict.{IsJudged, IsAudited, IsFault, AcceptsRuns, NamesDamage, of_input};
+ghost use Rattle.auditor.specs.Verdict.{IsHeard, IsJudged, IsFault, AcceptsRuns, NamesDamage, told};
 
-use crate::replay::Replay;
+use crate::judging::{Trial, judge_text};
 use crate::{AuditFault, JudgeFault, Summary};
-use byte_streams::{InputFault, read_whole};
-use std::alloc::Global;
+use std::alloc::{AllocError, Global};
 use std::io::Read;
 
-/// Reads a transcript to its end and judges it, as `audit_bytes` does. `Read` at the first error of the reader.
+/// How many bytes a read asks for.
+const CHUNK: usize = 65_536;
+
+/// Reads a transcript to its end and judges it, as `audit_bytes` does, line by line as they come: it keeps no more of the text than
+/// a line, or a base, that is not whole yet, and what one read gives. A refusal comes at once, and the reader is not read further.
+/// `Read` at the first error of the reader, and after 4,294,967,295 reads.
 pub fn audit<In: Read>(alloc: Global, reader: &mut In) -> Result<Summary, AuditFault>
     ensures accepted { IfSome (In.remaining reader.old) (λ bytes. IfOk result (IsAccepted bytes)) }
     ensures damage { IfSome (In.remaining reader.old) (λ bytes. IfErr result (IsFault bytes)) }
@@ -23,22 +27,48 @@ pub fn audit<In: Read>(alloc: Global, reader: &mut In) -> Result<Summary, AuditF
     ensures names_damage { IfSome (In.remaining reader.old) (λ bytes. NamesDamage bytes result) }
     ensures end { OnOk result (IsAtEnd (In.remaining reader.new)) }
 {
-    judge_read(alloc, read_whole(alloc, reader))
+    judge_read(alloc, reader)
 }
 
-// Judges the bytes that were read, or tells why they were not: `Read` comes from the reading alone.
-fn judge_read(alloc: Global, read: Result<Vec<u8>, InputFault>) -> Result<Summary, AuditFault>
-    ensures read { IfOk read (λ bytes. IsAudited bytes.items result) }
-    ensures unread { IfErr read (λ fault. result ≡ Err (of_input fault)) }
+// Room for what one read gives.
+fn chunk_of(alloc: Global) -> Result<Vec<u8>, AllocError>
+    ensures { IfOk result (λ chunk. length chunk.items ≡ 65536) }
 {
-    let bytes = match read {
-        Ok(bytes) => bytes,
-        Err(fault) => return Err(AuditFault::from(fault)),
-    };
-    match audit_bytes(alloc, &bytes) {
+    Vec::from_elem(alloc, 0, CHUNK)
+}
+
+// What was judged, as an audit tells it.
+fn tell(judged: Result<Summary, JudgeFault>) -> Result<Summary, AuditFault>
+    ensures { result ≡ told judged }
+{
+    match judged {
         Ok(counted) => Ok(counted),
         Err(fault) => Err(AuditFault::from(fault)),
     }
+}
+
+// Reads to the end, and judges the lines as they come.
+fn judge_read<In: Read>(alloc: Global, reader: &mut In) -> Result<Summary, AuditFault>
+    ensures heard { IfSome (In.remaining reader.old) (λ bytes. IsHeard bytes result) }
+    ensures end { OnOk result (IsAtEnd (In.remaining reader.new)) }
+{
+    let Ok(mut chunk) = chunk_of(alloc) else {
+        return Err(AuditFault::Memory);
+    };
+    let mut trial = Trial::new(alloc);
+    for _ in 0..u32::MAX {
+        let Ok(len) = reader.read(&mut chunk) else {
+            return Err(AuditFault::Read);
+        };
+        if len == 0 {
+            return tell(trial.finish(alloc));
+        }
+        trial = match trial.take(alloc, &chunk[..len]) {
+            Ok(trial) => trial,
+            Err(fault) => return tell(Err(fault)),
+        };
+    }
+    Err(AuditFault::Read)
 }
 
 /// Judges the bytes of a transcript: accepts exactly those that are the text of a run of the rule machine, whatever
@@ -52,22 +82,5 @@ pub fn audit_bytes(alloc: Global, bytes: &[u8]) -> Result<Summary, JudgeFault>
     ensures accepts_runs { (counted : Summary) → IsAccepted bytes.now counted → (result ≡ Ok counted) ⊎ (result ≡ Err Memory) }
     ensures names_damage { (damage : Damage) → IsDamage bytes.now damage → (result ≡ Err (Damaged damage)) ⊎ (result ≡ Err Memory) }
 {
-    judge_lines(alloc, bytes)
-}
-
-// Judges one part after another.
-fn judge_lines(alloc: Global, bytes: &[u8]) -> Result<Summary, JudgeFault>
-    ensures { IsJudged bytes.now result }
-{
-    let mut replay = match Replay::open(alloc, bytes) {
-        Ok(replay) => replay,
-        Err(fault) => return Err(fault),
-    };
-    while !replay.rest.is_empty() {
-        match replay.advance(alloc) {
-            Ok(()) => {}
-            Err(fault) => return Err(fault),
-        }
-    }
-    Ok(replay.audit.counted())
+    judge_text(alloc, bytes)
 }

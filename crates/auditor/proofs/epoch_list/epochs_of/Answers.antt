@@ -3,45 +3,63 @@ use Rattle.std.proofs.lemmas.List.{nil_from_length}
 use Rattle.rule_machine.specs.Run.{Epoch}
 use Rattle.auditor.specs.declared.summary.Summary.{Summary}
 use Rattle.auditor.specs.Position.{counted_part}
-use Rattle.auditor.proofs.Going.{first_judged, met_judged}
-use Rattle.auditor.proofs.Turning.{IsListed, listed_at, listed_start, listed_on, listed_all, listed_bounded}
+use Rattle.auditor.proofs.Going.{begun_at, behind_judged, compared_none, first_judged, passed_at, passed_compared, passed_shorter}
+use Rattle.auditor.proofs.Turning.{IsListed, listed_start, listed_on, listed_all, listed_bounded}
 use Rattle.auditor.proofs.epoch_list.epochs_of.Goals as goal
 
 pub returns-in-Err-clause-fault : goal.returns-in-Err-clause-fault
 returns-in-Err-clause-fault c = first_judged c.args.bytes.now c.in-Err.fault c.in-Err.ensures.fault
 
-pub loop-alloc-init : goal.loop-alloc-init
-loop-alloc-init c =
-    let replay = c.in-Ok.replay in
+pub loop-rest-init : goal.loop-rest-init
+loop-rest-init c =
+    let replay = c.in-Ok.begun.0 in
+    let rest = c.in-Ok.begun.1.now in
+    let begins = c.in-Ok.ensures.begins in
     let epoch = c.open_epoch-epoch.result in
-    let start = listed_start c.args.bytes.now replay.rules replay.size replay.begun replay.audit replay.rest.now epoch c.in-Ok.ensures.opened c.open_epoch-epoch.ensures.epoch in
-    (subst (λ (past : List Epoch). IsListed c.args.bytes.now replay.rules replay.size replay.audit replay.rest.now past epoch) (sym c.new-list.ensures.items) start, c.in-Ok.ensures.text, c.open_epoch-epoch.ensures.few)
+    let start = listed_start c.args.bytes.now replay.rules replay.size replay.begun replay.audit rest epoch begins.opened c.open_epoch-epoch.ensures.epoch in
+    record {
+      at = begun_at c.args.bytes.now replay rest begins;
+      compared = compared_none replay rest begins.unwanted begins.none_same;
+      listed = subst (λ (past : List Epoch). IsListed c.args.bytes.now replay.rules replay.size replay.audit rest past epoch) (sym c.new-list.ensures.items) start;
+      few = c.open_epoch-epoch.ensures.few;
+    }
 
-pub loop-alloc-preserved : goal.loop-alloc-preserved
-loop-alloc-preserved c =
-    let old = c.loop-alloc.replay in
-    let new = c.advance.new.self in
-    let same = c.advance.ensures.same in (
-      listed_on c.args.bytes.now old new c.loop-alloc.list.items c.turn.new.past.items c.loop-alloc.epoch c.in_ok-epoch-in-Ok-advance.epoch c.loop-alloc.invariant.0 same c.in-Ok-advance.ensures.further
-          (λ part e. c.in_ok-epoch-in-Ok-advance.ensures.turn part (e ∙ ap (λ (s : Summary). counted_part s part) (sym c.counted-before.ensures.counted))),
-      same.text ∙ c.loop-alloc.invariant.1,
-      c.in_ok-epoch-in-Ok-advance.ensures.counted,
-    )
+pub returns-in-Err-advance_whole-clause-fault : goal.returns-in-Err-advance_whole-clause-fault
+returns-in-Err-advance_whole-clause-fault c =
+    behind_judged c.args.bytes.now c.loop-rest.replay.audit.number c.in-Err-advance_whole.fault (c.in-Err-advance_whole.ensures.fault c.args.bytes.now c.loop-rest.invariant.at)
 
-pub returns-in-Err-advance-clause-fault : goal.returns-in-Err-advance-clause-fault
-returns-in-Err-advance-clause-fault c =
-    let replay = c.loop-alloc.replay in
-    met_judged c.args.bytes.now replay c.in-Err-advance.fault (listed_at c.args.bytes.now replay c.loop-alloc.list.items c.loop-alloc.epoch c.loop-alloc.invariant.0, c.loop-alloc.invariant.1) c.in-Err-advance.ensures.fault
+pub loop-rest-smaller : goal.loop-rest-smaller
+loop-rest-smaller c =
+    passed_shorter c.loop-rest.replay c.advance_whole.new.self c.loop-rest.rest.now c.in-Ok-advance_whole.behind.now c.in-Ok-advance_whole.ensures.passed
+
+pub loop-rest-preserved : goal.loop-rest-preserved
+loop-rest-preserved c =
+    let old = c.loop-rest.replay in
+    let new = c.advance_whole.new.self in
+    let rest = c.loop-rest.rest.now in
+    let behind = c.in-Ok-advance_whole.behind.now in
+    let passed = c.in-Ok-advance_whole.ensures.passed in
+    let i = c.loop-rest.invariant in
+    record {
+      at = passed_at c.args.bytes.now old new rest behind i.at passed;
+      compared = passed_compared old new rest behind passed;
+      listed =
+          listed_on c.args.bytes.now old new rest behind c.loop-rest.list.items c.turn.new.past.items c.loop-rest.epoch c.in_ok-epoch.epoch i.listed passed
+          (λ part e. c.in_ok-epoch.ensures.turn part (e ∙ ap (λ (s : Summary). counted_part s part) (sym c.counted-before.ensures.counted)));
+      few = c.in_ok-epoch.ensures.counted;
+    }
 
 pub returns-clause-epochs : goal.returns-clause-epochs
 returns-clause-epochs c =
-    let replay = c.loop-alloc.replay in
-    let none : replay.rest.now ≡ [] = nil_from_length replay.rest.now (eqb-true (length replay.rest.now) 0 (sym c.is_empty.ensures ∙ c.loop-alloc-test.false)) in
-    listed_all c.args.bytes.now replay.rules replay.size replay.audit replay.rest.now c.loop-alloc.list.items c.push.new.list.items c.loop-alloc.epoch c.loop-alloc.invariant.0 none c.in_ok-push.ensures
+    let replay = c.loop-rest.replay in
+    let rest = c.loop-rest.rest.now in
+    let none : rest ≡ [] = nil_from_length rest (eqb-true (length rest) 0 (sym c.is_empty.ensures ∙ c.loop-rest-test.false)) in
+    listed_all c.args.bytes.now replay.rules replay.size replay.audit rest c.loop-rest.list.items c.push.new.list.items c.loop-rest.epoch c.loop-rest.invariant.listed none c.in_ok-push.ensures
 
 pub returns-clause-bounded : goal.returns-clause-bounded
 returns-clause-bounded c =
-    let replay = c.loop-alloc.replay in
-    let none : replay.rest.now ≡ [] = nil_from_length replay.rest.now (eqb-true (length replay.rest.now) 0 (sym c.is_empty.ensures ∙ c.loop-alloc-test.false)) in
+    let replay = c.loop-rest.replay in
+    let rest = c.loop-rest.rest.now in
+    let none : rest ≡ [] = nil_from_length rest (eqb-true (length rest) 0 (sym c.is_empty.ensures ∙ c.loop-rest-test.false)) in
     listed_bounded c.args.bytes.now replay.rules c.push.new.list.items
-    (listed_all c.args.bytes.now replay.rules replay.size replay.audit replay.rest.now c.loop-alloc.list.items c.push.new.list.items c.loop-alloc.epoch c.loop-alloc.invariant.0 none c.in_ok-push.ensures)
+    (listed_all c.args.bytes.now replay.rules replay.size replay.audit rest c.loop-rest.list.items c.push.new.list.items c.loop-rest.epoch c.loop-rest.invariant.listed none c.in_ok-push.ensures)

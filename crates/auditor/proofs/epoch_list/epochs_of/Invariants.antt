@@ -1,10 +1,15 @@
-use Rattle.std.proofs.Common.{◌≡◌, ◌+◌, ◌≤◌, length}
+use Rattle.std.proofs.Common.{◌+◌, ◌≤◌, length}
+use Rattle.auditor.specs.Replays.{IsAt, IsCompared}
 use Rattle.auditor.proofs.Turning.{IsListed}
 use Rattle.auditor.proofs.epoch_list.epochs_of.Given as goal
 
-abbrev pub invariant-loop-alloc : goal.invariant-loop-alloc
-invariant-loop-alloc l =
-    IsListed l.bytes l.replay.rules l.replay.size l.replay.audit l.replay.rest.now l.list.items l.epoch × (l.replay.text.now ≡ l.bytes) × (l.epoch.moves ≤ l.replay.audit.counted.moves + 4294967295)
+abbrev pub invariant-loop-rest : goal.invariant-loop-rest
+invariant-loop-rest l = record {
+  at : IsAt l.bytes l.replay l.rest;
+  compared : IsCompared l.replay l.rest;
+  listed : IsListed l.bytes l.replay.rules l.replay.size l.replay.audit l.rest l.list.items l.epoch;
+  few : l.epoch.moves ≤ l.replay.audit.counted.moves + 4294967295;
+}
 
-abbrev pub decreases-loop-alloc : goal.decreases-loop-alloc
-decreases-loop-alloc l = length l.replay.rest.now
+abbrev pub decreases-loop-rest : goal.decreases-loop-rest
+decreases-loop-rest l = length l.rest

@@ -1,5 +1,5 @@
-use Rattle.std.proofs.Common.{◌≡◌, take}
+use Rattle.auditor.specs.Parted.{AreSameUpTo}
 use Rattle.auditor.proofs.lines.common_len.Given as goal
 
 abbrev pub invariant-loop-i : goal.invariant-loop-i
-invariant-loop-i l = take l.i l.text ≡ take l.i l.bytes
+invariant-loop-i l = AreSameUpTo l.text l.bytes l.i

@@ -1,0 +1,127 @@
+-- A transcript that is read piece by piece.
+use Rattle.std.proofs.Common.{◌≡◌, ℕ, ◌+◌, ◌-◌, ◌*◌, ◌≤◌, ◌⊎◌, inl, inr, List, [], ◌++◌, Option, None, Some, IfSome, Result, Ok, Err, IfOk, IfErr, length, take, drop, refl, sym, ap, subst, ◌∙◌, append_assoc, append-nil, arith}
+use Rattle.std.specs.Prelude.{MatchOption}
+use Rattle.std.specs.Io.KnownBytes.{Consumes}
+use Rattle.std.proofs.lemmas.List.{append_cancel_right, length-append, take-append-drop}
+use Rattle.std.proofs.Math.Seq.{drop-append_seam, take-append_seam}
+use Rattle.std.proofs.KnownBytes.{Consumes-trans}
+use Rattle.auditor.specs.declared.damage.JudgeFault.{JudgeFault}
+use Rattle.auditor.specs.declared.replay.Replay.{Replay}
+use Rattle.auditor.specs.Damage.{BeginsBase}
+use Rattle.auditor.specs.Parts.{part_text}
+use Rattle.auditor.specs.Replays.{Begins, EndsIn, HasCutStart, IsAt, IsCompared, IsMetAt, IsPassed, IsReadOf, Waits, base_wanted}
+use Rattle.auditor.specs.Verdict.{IsJudged}
+use Rattle.auditor.proofs.Going.{begun_at, behind_judged}
+use Rattle.auditor.proofs.Windows.{begins_more, same_more}
+
+-- ---- more bytes come
+
+pub at_more : (bytes more : List ℕ) (replay : Replay) (rest : List ℕ) → IsAt bytes replay rest → IsAt (bytes ++ more) replay (rest ++ more)
+at_more bytes more replay rest at =
+    let r = at.reached in
+    let f = r.follows in
+    record {
+      reached = record {
+        log = r.log;
+        follows = record {
+          opening = f.opening;
+          good = f.good;
+          transcript = f.transcript;
+          splits = ap (λ (l : List ℕ). l ++ more) f.splits ∙ append_assoc f.good rest more;
+        };
+        size_is = r.size_is;
+        counts = r.counts;
+      };
+      counted = λ good e. at.counted good (append_cancel_right bytes (good ++ rest) more (e ∙ sym (append_assoc good rest more)));
+    }
+
+pub compared_more : (replay : Replay) (rest more : List ℕ) → IsCompared replay rest → IsCompared replay (rest ++ more)
+compared_more replay rest more c = record { text = by c.text; alike = same_more replay.wanted.items rest more replay.same c.alike }
+  where
+    by : (replay.wanted.items ≡ []) ⊎ (BeginsBase rest × (replay.wanted.items ≡ base_wanted replay)) → (replay.wanted.items ≡ []) ⊎ (BeginsBase (rest ++ more) × (replay.wanted.items ≡ base_wanted replay))
+    by (inl none) = inl none
+    by (inr base) = inr (begins_more rest more base.0, base.1)
+
+pub read_more : (read piece : List ℕ) (run : Option Replay) (held : List ℕ) → IsReadOf read run held → IsReadOf (read ++ piece) run (held ++ piece)
+read_more read piece None held is = ap (λ (l : List ℕ). l ++ piece) is
+read_more read piece (Some run) held is = (at_more read piece run held is.0, compared_more run held piece is.1)
+
+-- where something was judged
+pub held_some : (read piece : List ℕ) (found : Option Replay) (run : Replay) (held new : List ℕ) → found ≡ Some run → new ≡ held ++ piece → IsReadOf read found held → IsAt (read ++ piece) run new × IsCompared run new
+held_some read piece found run held new is grown at =
+    let more = read_more read piece (Some run) held (subst (λ (o : Option Replay). IsReadOf read o held) is at) in
+    subst (λ (l : List ℕ). IsAt (read ++ piece) run l × IsCompared run l) (sym grown) more
+
+-- ---- the parts in what is held
+
+pub passed_by : {X : Type 0} (now : X → List ℕ) (found : Option X) (old new : Replay) (rest : List ℕ) (behind : X) → MatchOption found (Waits old new rest) (λ b. IsPassed old new rest (now b)) → found ≡ Some behind → IsPassed old new rest (now behind)
+passed_by {X} now found old new rest behind ahead is = subst (λ (o : Option X). MatchOption o (Waits old new rest) (λ b. IsPassed old new rest (now b))) is ahead
+
+pub waits_by : {X : Type 0} (now : X → List ℕ) (found : Option X) (old new : Replay) (rest : List ℕ) → MatchOption found (Waits old new rest) (λ b. IsPassed old new rest (now b)) → ((x : X) → found ≡ Some x → ⊥) → Waits old new rest
+waits_by now None old new rest ahead none = ahead
+waits_by now (Some b) old new rest ahead none = absurd (none b refl)
+
+pub ends_further : (old new : Replay) (held rest behind : List ℕ) → EndsIn held rest → IsPassed old new rest behind → EndsIn held behind
+ends_further old new held rest behind (front, is) p =
+    let text = part_text old.rules old.size old.audit.number p.further.part in
+    (front ++ text, is ∙ ap (λ (l : List ℕ). front ++ l) p.further.comes.is ∙ sym (append_assoc front text behind))
+
+pub parts_fault : (bytes more : List ℕ) (replay : Replay) (rest : List ℕ) (fault : JudgeFault) → IsMetAt replay rest fault → IsAt bytes replay rest → IsJudged (bytes ++ more) (Err fault)
+parts_fault bytes more replay rest fault met at = behind_judged (bytes ++ more) replay.audit.number fault (met (bytes ++ more) more (at_more bytes more replay rest at))
+
+-- ---- what is dropped
+
+pub begins_by : {X : Type 0} (run : X → Replay) (now : X → List ℕ) (found : Option X) (text : List ℕ) (x : X) → MatchOption found (HasCutStart text) (λ b. Begins text (run b) (now b)) → found ≡ Some x → Begins text (run x) (now x)
+begins_by {X} run now found text x begins is = subst (λ (o : Option X). MatchOption o (HasCutStart text) (λ b. Begins text (run b) (now b))) is begins
+
+pub dropped : (all held rest new : List ℕ) (n : ℕ) → held ≡ all → EndsIn held rest → n ≡ length held - length rest → new ≡ drop n all → new ≡ rest
+dropped all held rest new n same (front, is) count e =
+    let l = ap length is ∙ length-append front rest in
+    let at : n ≡ length front = omega (arith, count, l) in
+    e ∙ ap (drop n) (sym same ∙ is) ∙ ap (λ (k : ℕ). drop k (front ++ rest)) at ∙ drop-append_seam front rest
+
+pub begins_ends : (text : List ℕ) (replay : Replay) (rest : List ℕ) → Begins text replay rest → EndsIn text rest
+begins_ends text replay rest b = (b.opened.follows.good, b.opened.follows.splits)
+
+pub begins_held : (all held rest new : List ℕ) (replay : Replay) (n : ℕ) → held ≡ all → Begins held replay rest → n ≡ length held - length rest → new ≡ drop n all → IsAt all replay new
+begins_held all held rest new replay n same b count e =
+    let left = dropped all held rest new n same (begins_ends held replay rest b) count e in
+    subst (IsAt all replay) (sym left) (subst (λ (l : List ℕ). IsAt l replay rest) same (begun_at held replay rest b))
+
+-- ---- results
+
+pub for_ok : {T E : Type 0} (r : Result T E) (P Q : T → Type 0) → IfOk r P → ((x : T) → P x → Q x) → IfOk r Q
+for_ok (Ok x) P Q h f = f x h
+for_ok (Err e) P Q h f = tt
+
+pub for_err : {T E : Type 0} (r : Result T E) (P Q : E → Type 0) → IfErr r P → ((e : E) → P e → Q e) → IfErr r Q
+for_err (Ok x) P Q h f = tt
+for_err (Err e) P Q h f = f e h
+
+-- what holds of all texts that begin so, holds of what the reader had
+pub of_consumed : (old new : Option (List ℕ)) (read : List ℕ) (P : List ℕ → Type 0) → Consumes old new read → ((more : List ℕ) → P (read ++ more)) → IfSome old P
+of_consumed None new read P consumes all = tt
+of_consumed (Some xs) None read P consumes all = absurd consumes
+of_consumed (Some xs) (Some ys) read P consumes all = subst P (sym consumes) (all ys)
+
+-- ---- what a read gave
+
+pub refilled : (k : ℕ) (new old : List ℕ) → length new ≡ k → take k (new ++ drop (length new) old) ≡ new
+refilled k new old same = ap (λ (n : ℕ). take n (new ++ drop (length new) old)) (sym same) ∙ take-append_seam new (drop (length new) old)
+
+pub consumed_more : (a b c : Option (List ℕ)) (read given piece : List ℕ) (n : ℕ) → Consumes a b read → given ≡ piece → Consumes b c (take n given) → Consumes a c (read ++ take n piece)
+consumed_more a b c read given piece n before same now =
+    Consumes-trans a b c read (take n piece) before (subst (λ (l : List ℕ). Consumes b c (take n l)) same now)
+
+-- a read that gave nothing
+pub consumed_none : (a b c : Option (List ℕ)) (read given : List ℕ) (n : ℕ) → Consumes a b read → n ≡ 0 → Consumes b c (take n given) → Consumes a c read
+consumed_none a b c read given n before none now =
+    let nothing : Consumes b c [] = subst (λ (k : ℕ). Consumes b c (take k given)) none now in
+    subst (Consumes a c) (append-nil read) (Consumes-trans a b c read [] before nothing)
+
+pub piece_few : (read piece : List ℕ) (n counter : ℕ) → length read ≤ 65536 * counter → length piece ≡ 65536 → length (read ++ take n piece) ≤ 65536 * (counter + 1)
+piece_few read piece n counter few full =
+    let all = ap length (take-append-drop n piece) in
+    let parts = length-append (take n piece) (drop n piece) in
+    let both = length-append read (take n piece) in
+    omega (arith, few, full, all, parts, both)

@@ -1,0 +1,235 @@
+-- What stays so whatever comes behind a text: its first line, the lines of a base in it, and how far it is the same as another.
+use Rattle.std.proofs.Common.{◌≡◌, ℕ, ◌+◌, ◌<◌, ◌≤◌, ◌==◌, Bool, true, false, if◌then◌else◌, List, [], ◌∷◌, ◌++◌, Option, None, Some, length, take, drop, refl, sym, ap, subst, ◌∙◌, append_assoc, arith, eqb-true}
+use Rattle.std.specs.Prelude.{codes}
+use Rattle.std.specs.List.{AllByRecursion}
+use Rattle.std.proofs.lemmas.List.{append_cancel_right, get_or_append_left, length-append, take-append-drop, take-append-le, take_all}
+use Rattle.std.proofs.lemmas.Option.{none-some, same_Some}
+use Rattle.line_text.specs.Words.{ended}
+use Rattle.entry_grammar.specs.declared.base_line.BaseLine.{BaseLine}
+use Rattle.entry_grammar.specs.Lines.{first_line, onto_line}
+use Rattle.entry_grammar.specs.Reading.{IsFree}
+use Rattle.entry_grammar.specs.Spelling.{IsBaseLine, base_line_text}
+use Rattle.entry_grammar.specs.BaseLines.{BreaksAt, MayFollow}
+use Rattle.entry_grammar.proofs.Cutting.{first_line-splits}
+use Rattle.entry_grammar.proofs.FirstLines.{line_free}
+use Rattle.entry_grammar.proofs.Free.{cons_parts, free_by}
+use Rattle.auditor.specs.Damage.{BeginsBase, line_feeds}
+use Rattle.auditor.specs.Parted.{AreSameUpTo, ArePartedAt}
+use Rattle.auditor.proofs.Counted.{PartAt, feeds_few, feeds_first, part_inside}
+use Rattle.auditor.proofs.Openings.{first_line-free}
+
+-- ---- line feeds
+
+pub feeds_append : (a b : List ℕ) → line_feeds (a ++ b) ≡ line_feeds a + line_feeds b
+feeds_append [] b = omega arith
+feeds_append (x ∷ a) b =
+    let whole : line_feeds ((x ∷ a) ++ b) ≡ _ = feeds_first x (a ++ b) in
+    let own = feeds_first x a in
+    let rest = feeds_append a b in
+    omega (arith, whole, own, rest)
+
+feed_other : (b : ℕ) (bytes : List ℕ) → (b == 10) ≡ false → line_feeds (b ∷ bytes) ≡ line_feeds bytes
+feed_other b bytes other = ap (λ (v : Bool). if v then line_feeds bytes + 1 else line_feeds bytes) other
+
+pub free_feeds : (bytes : List ℕ) → IsFree 10 bytes → line_feeds bytes ≡ 0
+free_feeds [] free = refl
+free_feeds (b ∷ bytes) free =
+    let P : Bool → Type 0 = λ v. (((b == 10) ≡ v) → (if v then line_feeds bytes + 1 else line_feeds bytes) ≡ 0) in
+    (elim (b == 10) as P [ true ↦ (λ lf. absurd (free.0 (eqb-true b 10 lf))) | false ↦ (λ lf. free_feeds bytes free.1) ]) refl
+
+-- ---- the first line
+
+onto_more : (b : ℕ) (bs more : List ℕ) (found : Option (List ℕ × List ℕ)) (line rest : List ℕ) → ((l r : List ℕ) → found ≡ Some (l, r) → first_line (bs ++ more) ≡ Some (l, r ++ more)) → onto_line b found ≡ Some (line, rest) → onto_line b (first_line (bs ++ more)) ≡ Some (line, rest ++ more)
+onto_more b bs more None line rest longer e = absurd (none-some (line, rest) e)
+onto_more b bs more (Some (l, r)) line rest longer e =
+    ap (onto_line b) (longer l r refl) ∙ ap (λ (p : List ℕ × List ℕ). Some (p.0, p.1 ++ more)) (same_Some (b ∷ l, r) (line, rest) e)
+
+-- it is the first line of a longer text too
+pub first_line-more : (bs more line rest : List ℕ) → first_line bs ≡ Some (line, rest) → first_line (bs ++ more) ≡ Some (line, rest ++ more)
+first_line-more [] more line rest e = absurd (none-some (line, rest) e)
+first_line-more (b ∷ bs) more line rest e =
+    let P : Bool → Type 0 = λ v. ((if v then Some ([], bs) else onto_line b (first_line bs)) ≡ Some (line, rest) → (if v then Some ([], bs ++ more) else onto_line b (first_line (bs ++ more))) ≡ Some (line, rest ++ more)) in
+    (elim (b == 10) as P [
+      | true ↦ (λ same. ap (λ (p : List ℕ × List ℕ). Some (p.0, p.1 ++ more)) (same_Some ([], bs) (line, rest) same))
+      | false ↦ (λ same. onto_more b bs more (first_line bs) line rest (λ l r found. first_line-more bs more l r found) same)
+    ]) e
+
+onto_none : (b : ℕ) (found : Option (List ℕ × List ℕ)) → onto_line b found ≡ None → found ≡ None
+onto_none b None e = refl
+onto_none b (Some p) e = absurd (none-some (b ∷ p.0, p.1) (sym e))
+
+-- without a first line no line ends
+pub no_line_no_feed : (bs : List ℕ) → first_line bs ≡ None → line_feeds bs ≡ 0
+no_line_no_feed [] e = refl
+no_line_no_feed (b ∷ bs) e =
+    let P : Bool → Type 0 = λ v. ((if v then Some ([], bs) else onto_line b (first_line bs)) ≡ None → (if v then line_feeds bs + 1 else line_feeds bs) ≡ 0) in
+    (elim (b == 10) as P [
+      | true ↦ (λ same. absurd (none-some ([], bs) (sym same)))
+      | false ↦ (λ same. no_line_no_feed bs (onto_none b (first_line bs) same))
+    ]) e
+
+onto_feedless : (b : ℕ) (found : Option (List ℕ × List ℕ)) (line rest : List ℕ) → (b == 10) ≡ false → ((l r : List ℕ) → found ≡ Some (l, r) → line_feeds l ≡ 0) → onto_line b found ≡ Some (line, rest) → line_feeds line ≡ 0
+onto_feedless b None line rest other none e = absurd (none-some (line, rest) e)
+onto_feedless b (Some (l, r)) line rest other none e =
+    ap (λ (p : List ℕ × List ℕ). line_feeds p.0) (sym (same_Some (b ∷ l, r) (line, rest) e)) ∙ feed_other b l other ∙ none l r refl
+
+-- and a first line has no line feed
+pub line_no_feed : (bs line rest : List ℕ) → first_line bs ≡ Some (line, rest) → line_feeds line ≡ 0
+line_no_feed [] line rest e = absurd (none-some (line, rest) e)
+line_no_feed (b ∷ bs) line rest e =
+    let P : Bool → Type 0 = λ v. (((b == 10) ≡ v) → (if v then Some ([], bs) else onto_line b (first_line bs)) ≡ Some (line, rest) → line_feeds line ≡ 0) in
+    (elim (b == 10) as P [
+      | true ↦ (λ lf same. ap (λ (p : List ℕ × List ℕ). line_feeds p.0) (sym (same_Some ([], bs) (line, rest) same)))
+      | false ↦ (λ lf same. onto_feedless b (first_line bs) line rest lf (λ l r found. line_no_feed bs l r found) same)
+    ]) refl e
+
+-- one line ends before what follows the first
+pub one_feed : (rest line behind text : List ℕ) → first_line rest ≡ Some (line, behind) → rest ≡ text ++ behind → line_feeds text ≡ 1
+one_feed rest line behind text cut splits =
+    let is : text ≡ line ++ 10 ∷ [] = append_cancel_right text (line ++ 10 ∷ []) behind (sym splits ∙ first_line-splits rest line behind cut ∙ sym (append_assoc line (10 ∷ []) behind)) in
+    let both = ap line_feeds is ∙ feeds_append line (10 ∷ []) in
+    let own = line_no_feed rest line behind cut in
+    omega (arith, both, own)
+
+pub feeds_behind : (rest line behind : List ℕ) → first_line rest ≡ Some (line, behind) → line_feeds rest ≡ 1 + line_feeds behind
+feeds_behind rest line behind cut =
+    let splits : rest ≡ (line ++ 10 ∷ []) ++ behind = first_line-splits rest line behind cut ∙ sym (append_assoc line (10 ∷ []) behind) in
+    let both = ap line_feeds splits ∙ feeds_append (line ++ 10 ∷ []) behind in
+    let own = one_feed rest line behind (line ++ 10 ∷ []) cut splits in
+    omega (arith, both, own)
+
+-- ---- whether a base begins there
+
+front_in_line : (front line x m : List ℕ) → IsFree 10 front → front ++ m ≡ line ++ 10 ∷ x → (k : List ℕ) × (line ≡ front ++ k)
+front_in_line [] line x m free e = (line, refl)
+front_in_line (b ∷ front) [] x m free e = absurd (free.0 (cons_parts b 10 (front ++ m) x e).0)
+front_in_line (b ∷ front) (c ∷ line) x m free e =
+    let parts = cons_parts b c (front ++ m) (line ++ 10 ∷ x) e in
+    let inside = front_in_line front line x m free.1 parts.1 in
+    (inside.0, ap (λ (z : ℕ). z ∷ line) (sym parts.0) ∙ ap (λ (l : List ℕ). b ∷ l) inside.1)
+
+abbrev word : List ℕ
+word = codes "matching2"
+
+pub begins_more : (rest more : List ℕ) → BeginsBase rest → BeginsBase (rest ++ more)
+begins_more rest more (m, is) = (m ++ more, ap (λ (l : List ℕ). l ++ more) is ∙ append_assoc word m more)
+
+-- the first line tells it
+pub begins_less : (rest more line behind : List ℕ) → first_line rest ≡ Some (line, behind) → BeginsBase (rest ++ more) → BeginsBase rest
+begins_less rest more line behind cut (m, is) =
+    let splits = first_line-splits rest line behind cut in
+    let whole : word ++ m ≡ line ++ 10 ∷ (behind ++ more) = sym is ∙ ap (λ (l : List ℕ). l ++ more) splits ∙ append_assoc line (10 ∷ behind) more in
+    let inside = front_in_line word line (behind ++ more) m (free_by 10 word refl) whole in
+    (inside.0 ++ 10 ∷ behind, splits ∙ ap (λ (l : List ℕ). l ++ 10 ∷ behind) inside.1 ∙ append_assoc word inside.0 (10 ∷ behind))
+
+-- ---- the lines of a base that break off
+
+feeds_ended : (lines : List BaseLine) → AllByRecursion IsBaseLine lines → line_feeds (ended base_line_text lines) ≡ length lines
+feeds_ended [] fit = refl
+feeds_ended (line ∷ lines) fit =
+    let text = base_line_text line in
+    let both = feeds_append (text ++ 10 ∷ []) (ended base_line_text lines) in
+    let own = feeds_append text (10 ∷ []) in
+    let none = free_feeds text (line_free line fit.0) in
+    let rest = feeds_ended lines fit.1 in
+    omega (arith, both, own, none, rest)
+
+-- as many lines end as stand before the break, and those behind it
+pub feeds_broken : (bytes : List ℕ) (k : ℕ) (b : BreaksAt bytes k) → line_feeds bytes + 1 ≡ k + line_feeds b.rest
+feeds_broken bytes k b =
+    let both = ap line_feeds b.is ∙ feeds_append (ended base_line_text b.lines) b.rest in
+    let own = feeds_ended b.lines b.fit in
+    omega (arith, both, own, b.number)
+
+broken_more : (bytes more line behind : List ℕ) (k : ℕ) (b : BreaksAt bytes k) → first_line b.rest ≡ Some (line, behind) → BreaksAt (bytes ++ more) k
+broken_more bytes more line behind k b cut = record {
+  lines = b.lines;
+  rest = b.rest ++ more;
+  is = ap (λ (l : List ℕ). l ++ more) b.is ∙ append_assoc (ended base_line_text b.lines) b.rest more;
+  fit = b.fit;
+  follow = b.follow;
+  short = b.short;
+  number = b.number;
+  stops = stops;
+}
+  where
+    stops : (found : BaseLine) (m : List ℕ) → IsBaseLine found → MayFollow (b.lines ++ found ∷ []) → b.rest ++ more ≡ base_line_text found ++ 10 ∷ m → ⊥
+    stops found m fits follows e =
+        let text = base_line_text found in
+        let same : (line, behind ++ more) ≡ (text, m) = same_Some (line, behind ++ more) (text, m) (sym (first_line-more b.rest more line behind cut) ∙ ap first_line e ∙ first_line-free text m (line_free found fits)) in
+        b.stops found behind fits follows (first_line-splits b.rest line behind cut ∙ ap (λ (p : List ℕ × List ℕ). p.0 ++ 10 ∷ behind) same)
+
+-- where the line is whole, they do so in a longer text too
+pub breaks_more : (bytes more : List ℕ) (k : ℕ) → BreaksAt bytes k → k ≤ line_feeds bytes → BreaksAt (bytes ++ more) k
+breaks_more bytes more k b whole = by (first_line b.rest) refl
+  where
+    by : (found : Option (List ℕ × List ℕ)) → first_line b.rest ≡ found → BreaksAt (bytes ++ more) k
+    by None cut =
+        let none = no_line_no_feed b.rest cut in
+        let all = feeds_broken bytes k b in
+        absurd (omega (arith, none, all, whole))
+    by (Some (line, behind)) cut = broken_more bytes more line behind k b cut
+
+-- and where it is not, it is the last
+pub breaks_last : (bytes : List ℕ) (k : ℕ) → BreaksAt bytes k → line_feeds bytes < k → BreaksAt bytes (line_feeds bytes + 1)
+breaks_last bytes k b cut =
+    let all = feeds_broken bytes k b in
+    subst (BreaksAt bytes) (omega (arith, all, cut)) b
+
+-- ---- how far two texts are the same
+
+pub same_none : (text bytes : List ℕ) (n : ℕ) → n ≡ 0 → AreSameUpTo text bytes n
+same_none text bytes n none = record {
+  within = omega (arith, none);
+  inside = omega (arith, none);
+  alike = ap (λ (k : ℕ). take k text) none ∙ sym (ap (λ (k : ℕ). take k bytes) none);
+}
+
+pub same_more : (text bytes more : List ℕ) (n : ℕ) → AreSameUpTo text bytes n → AreSameUpTo text (bytes ++ more) n
+same_more text bytes more n same =
+    let inside = same.inside in
+    record {
+      within = same.within;
+      inside = omega (arith, inside, length-append bytes more);
+      alike = same.alike ∙ sym (take-append-le n bytes more inside);
+    }
+
+-- the bytes begin with all of the text
+pub same_whole : (text bytes : List ℕ) (n : ℕ) → AreSameUpTo text bytes n → n ≡ length text → bytes ≡ text ++ drop n bytes
+same_whole text bytes n same all =
+    sym (take-append-drop n bytes) ∙ ap (λ (z : List ℕ). z ++ drop n bytes) (sym same.alike ∙ take_all n text (omega (arith, all)))
+
+-- all the bytes are a beginning of it
+pub same_end : (text bytes : List ℕ) (n : ℕ) → AreSameUpTo text bytes n → n ≡ length bytes → text ≡ bytes ++ drop n text
+same_end text bytes n same all =
+    sym (take-append-drop n text) ∙ ap (λ (z : List ℕ). z ++ drop n text) (same.alike ∙ take_all n bytes (omega (arith, all)))
+
+-- another byte comes in both
+pub part_more : (text bytes more : List ℕ) (n : ℕ) → AreSameUpTo text bytes n → ArePartedAt text bytes n → n < length text → n < length bytes → PartAt text (bytes ++ more) n
+part_more text bytes more n same apart less few =
+    let longer = same_more text bytes more n same in
+    let other = apart less few in
+    part_inside text (bytes ++ more) n less (omega (arith, few, length-append bytes more)) longer.alike
+    (λ e. other (e ∙ get_or_append_left bytes more 0 n few))
+
+-- ---- what follows is no longer than all
+
+pub behind_few : (text front rest : List ℕ) → text ≡ front ++ rest → length rest ≤ length text
+behind_few text front rest splits = let l = ap length splits ∙ length-append front rest in omega (arith, l)
+
+pub rest_few : (text line rest : List ℕ) → first_line text ≡ Some (line, rest) → length rest ≤ length text
+rest_few text line rest cut =
+    behind_few text (line ++ 10 ∷ []) rest (first_line-splits text line rest cut ∙ sym (append_assoc line (10 ∷ []) rest))
+
+pub base_few : (text head rest lines behind : List ℕ) → first_line text ≡ Some (head, rest) → rest ≡ lines ++ behind → length behind ≤ length text
+base_few text head rest lines behind cut splits =
+    let first = rest_few text head rest cut in
+    let second = behind_few rest lines behind splits in
+    omega (arith, first, second)
+
+pub feeds_take : (rest : List ℕ) (n : ℕ) → line_feeds (take n rest) ≤ length rest
+feeds_take rest n =
+    let all = ap line_feeds (take-append-drop n rest) in
+    let both = feeds_append (take n rest) (drop n rest) in
+    let few = feeds_few rest in
+    omega (arith, all, both, few)

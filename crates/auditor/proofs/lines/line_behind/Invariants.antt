@@ -1,6 +1,0 @@
-use Rattle.std.proofs.Common.{◌≡◌, ◌+◌, ◌≤◌, drop}
-use Rattle.auditor.specs.Damage.{line_feeds}
-use Rattle.auditor.proofs.lines.line_behind.Given as goal
-
-abbrev pub invariant-loop-b : goal.invariant-loop-b
-invariant-loop-b l = (l.line + line_feeds (drop l.b-index l.bytes) ≡ line_feeds l.bytes + 1) × (l.line ≤ l.b-index + 1)

@@ -1,0 +1,116 @@
+-- How far the code is that goes through a transcript, of which it keeps no more than what follows.
+use Rattle.std.specs.Prelude.{◌≡◌, ◌≢◌, ℕ, ◌+◌, ◌<◌, ◌≤◌, ◌^◌, ◌⊎◌, List, [], ◌++◌, length, Option, None, Some}
+use Rattle.rule_machine.specs.declared.rules.RuleSet.{RuleSet}
+use Rattle.rule_machine.specs.Base.{base_of}
+use Rattle.line_text.specs.BaseText.{base_head, base_text}
+use Rattle.entry_grammar.specs.Lines.{first_line}
+use Rattle.entry_grammar.specs.BaseLines.{BreaksAt}
+use Rattle.auditor.specs.declared.damage.JudgeFault.{JudgeFault}
+use Rattle.auditor.specs.declared.judging.Trial.{Trial}
+use Rattle.auditor.specs.declared.replay.Replay.{Replay}
+use Rattle.auditor.specs.Accepted.{IsReached}
+use Rattle.auditor.specs.Damage.{BeginsBase, line_feeds}
+use Rattle.auditor.specs.Parted.{AreSameUpTo}
+use Rattle.auditor.specs.Position.{IsFurther, stand_of}
+use Rattle.auditor.specs.Reached.{IsMetBehind, IsOpened}
+
+-- The bytes begin with the transcript of a run that has led to where the replay is, its lines were counted, and the rest follows.
+pub record IsAt (bytes : List ℕ) (replay : Replay) (rest : List ℕ) : Type 0 where
+  pub reached : IsReached bytes replay.rules replay.size replay.audit rest
+  pub counted : (good : List ℕ) → bytes ≡ good ++ rest → replay.lines ≡ line_feeds good
+
+-- some bytes do, and they are few enough to be counted
+pub record IsSomewhere (replay : Replay) (rest : List ℕ) : Type 0 where
+  pub bytes : List ℕ
+  pub few : length bytes < 2 ^ 63
+  pub at : IsAt bytes replay rest
+
+-- the text of the base of where a replay is
+abbrev pub base_wanted : Replay → List ℕ
+base_wanted replay = base_text replay.rules replay.size (base_of replay.audit.number (stand_of replay.audit).moment)
+
+-- a text is wanted only where a base comes, and as far as was compared the rest begins with it
+pub record IsCompared (replay : Replay) (rest : List ℕ) : Type 0 where
+  pub text : (replay.wanted.items ≡ []) ⊎ (BeginsBase rest × (replay.wanted.items ≡ base_wanted replay))
+  pub alike : AreSameUpTo replay.wanted.items rest replay.same
+
+-- the text ends in these bytes
+abbrev pub EndsIn : List ℕ → List ℕ → Type 0
+EndsIn text rest = (front : List ℕ) × (text ≡ front ++ rest)
+
+-- ---- what the text begins with
+
+-- there is no whole line in it, or it begins with the lines of a base up to one that is not whole
+pub record HasCutBase (text : List ℕ) : Type 0 where
+  pub rules : RuleSet
+  pub size : ℕ
+  pub rest : List ℕ
+  pub few : size ≤ 65535
+  pub first : first_line text ≡ Some (base_head rules size, rest)
+  pub breaks : BreaksAt rest (line_feeds rest + 1)
+
+abbrev pub HasCutStart : List ℕ → Type 0
+HasCutStart text = (first_line text ≡ None) ⊎ HasCutBase text
+
+-- the replay stands behind what the text begins with
+pub record Begins (text : List ℕ) (replay : Replay) (rest : List ℕ) : Type 0 where
+  pub opened : IsOpened text replay.rules replay.size replay.begun replay.audit rest
+  pub counted : (good : List ℕ) → text ≡ good ++ rest → replay.lines ≡ line_feeds good
+  pub unwanted : replay.wanted.items ≡ []
+  pub none_same : replay.same ≡ 0
+
+-- ---- what comes next
+
+-- the text of the base of where the replay is was made
+pub record Wants (before after : Replay) : Type 0 where
+  pub rules : after.rules ≡ before.rules
+  pub size : after.size ≡ before.size
+  pub audit : after.audit ≡ before.audit
+  pub lines : after.lines ≡ before.lines
+  pub same : after.same ≡ before.same
+  pub text : after.wanted.items ≡ base_wanted before
+  pub before_it : (before.wanted.items ≡ []) ⊎ (before.wanted.items ≡ after.wanted.items)
+
+-- the rest is the beginning of the base of where the replay is
+pub record BeginsWanted (replay : Replay) (rest : List ℕ) : Type 0 where
+  pub begins : BeginsBase rest
+  pub missing : List ℕ
+  pub some : missing ≢ []
+  pub is : base_wanted replay ≡ rest ++ missing
+
+-- no whole part follows, and what does may become one
+abbrev pub IsUnended : Replay → List ℕ → Type 0
+IsUnended replay rest = ((first_line rest ≡ None) × (BeginsBase rest → ⊥)) ⊎ BeginsWanted replay rest
+
+-- the replay stays where it was
+pub record Waits (before after : Replay) (rest : List ℕ) : Type 0 where
+  pub rules : after.rules ≡ before.rules
+  pub size : after.size ≡ before.size
+  pub audit : after.audit ≡ before.audit
+  pub lines : after.lines ≡ before.lines
+  pub unended : IsUnended after rest
+  pub compared : IsCompared after rest
+
+-- a part follows, and the replay stands behind it
+pub record IsPassed (before after : Replay) (rest behind : List ℕ) : Type 0 where
+  pub rules : after.rules ≡ before.rules
+  pub size : after.size ≡ before.size
+  pub further : IsFurther before.rules before.size before.audit rest after.audit behind
+  pub lines : (text : List ℕ) → rest ≡ text ++ behind → after.lines ≡ before.lines + line_feeds text
+  pub unwanted : after.wanted.items ≡ []
+  pub none_same : after.same ≡ 0
+
+-- the fault is that of the part that follows, whatever comes behind the rest
+abbrev pub IsMetAt : Replay → List ℕ → JudgeFault → Type 0
+IsMetAt replay rest fault = (bytes more : List ℕ) → IsAt bytes replay (rest ++ more) → IsMetBehind bytes replay.audit.number fault
+
+-- ---- a transcript that is read
+
+-- nothing was judged, or what is held stands behind what was
+abbrev pub IsReadOf : List ℕ → Option Replay → List ℕ → Type 0
+IsReadOf read None held = read ≡ held
+IsReadOf read (Some run) held = IsAt read run held × IsCompared run held
+
+-- these bytes were read
+abbrev pub IsRead : List ℕ → Trial → Type 0
+IsRead read trial = IsReadOf read trial.run trial.held.items
