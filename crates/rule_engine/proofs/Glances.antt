@@ -63,6 +63,7 @@ any_beside p v (x ∷ xs) =
     at false true false = refl
     at false false true = refl
     at false false false = refl
+
     off : (a b c : Bool) → (a || (b || c)) ≡ ((a || b) || c)
     off true b c = refl
     off false b c = refl
@@ -153,6 +154,7 @@ module _ (above : Bool) (opens : Option ℕ → Bool → Bool) (s : State) (r : 
     where
       was : points s.registers w v ≡ false
       was = ap (λ o. is_at o v) (alike.pointers w other) ∙ off
+
       each : (x : ℕ) → (points s.registers w x && points s.registers x w) ≡ (points r w x && points r x w)
       each x =
           ⊎_elim

@@ -104,6 +104,7 @@ any_at c w (y ∷ ys) =
     absorbed b false true e = absurd (true≢false (sym e))
     absorbed true false false e = refl
     absorbed false false false e = refl
+
     shared : (e b x y : Bool) → (e ≡ true → x ≡ y) → ((e && x) || (b && y)) ≡ ((e || b) && y)
     shared true b x y h = absorbed b x y (h refl)
     shared false b x y h = refl

@@ -54,7 +54,7 @@ pub others_counted : (net : Network) (p : ℕ → Bool) (w v : ℕ) → IsNetwor
 others_counted net p w v is_network h =
     let here = linked_present net v w is_network (linked_back net v w ∙ h) in
     let turn = near_turn net net w v (λ x. one_if (p x)) (λ x. one_if (not (nat_eq x v) && p x)) refl (λ x. refl) here (
-      λ x apart. ap (λ b. cond (linked net w x) (one_if (not b && p x)) 0) (sym (ne_eqb x v apart))
+    λ x apart. ap (λ b. cond (linked net w x) (one_if (not b && p x)) 0) (sym (ne_eqb x v apart))
     ) in
     let mine = ap (λ b. cond b (one_if (p v)) 0) h in
     let gone : cond (linked net w v) (one_if (not (nat_eq v v) && p v)) 0 ≡ 0 = ap (λ b. cond (linked net w v) (one_if (not b && p v)) 0) (eq-eqb v v refl) ∙ nothing (linked net w v) 0 in
@@ -77,15 +77,20 @@ lone s v w is_state one first = record {
   where
     net : Network
     net = s.network
+
     good : IsNetwork net
     good = is_state.is_network
+
     near : IsTrue (linked net v w) × IsTrue (suits s v w)
     near = near_some net (suits s v) v w first
+
     not_true : (b : Bool) → true ≡ not b → b ≡ false
     not_true true e = e
     not_true false e = refl
+
     none : is_some (find (λ x. not (nat_eq x w) && suits s v x) (neighbours net v)) ≡ false
     none = not_true _ (sym (le-leb 1 1 (omega arith)) ∙ sym (ap₂ (λ (n : ℕ) (b : Bool). nat_le n (one_if b)) one near.1) ∙ others_counted net (suits s v) v w good near.0)
+
     another : (x : ℕ) → (x ≡ w → ⊥) → IsTrue (linked net v x) → IsTrue (suits s v x) → ⊥
     another x apart there points =
         let found = near_found net (λ y. not (nat_eq y w) && suits s v y) v x good there (ap₂ (λ (b c : Bool). not b && c) (ne_eqb x w apart) points) in

@@ -21,6 +21,6 @@ returns-else-place-row c =
     let rank : IsRankOf c.args.row.now c.args.name place = subst (IsRankOf c.args.row.now c.args.name) (sym c.from-place.ensures) c.count_below.ensures in
     gap_behind c.args.row.now c.args.name place c.requires rank (elim c.else-place-row.branch [
       | else-place-row-via-then-place-row+else-eq w ↦ λ lt same.
-        true≢false (sym (eq-eqb w.index-row-place.result c.args.name (w.index-row-place.is ∙ get_or_default_zero c.args.row.now place w.index-row-place.result lt ∙ same)) ∙ sym w.eq.ensures ∙ w.if-eq.false)
+          true≢false (sym (eq-eqb w.index-row-place.result c.args.name (w.index-row-place.is ∙ get_or_default_zero c.args.row.now place w.index-row-place.result lt ∙ same)) ∙ sym w.eq.ensures ∙ w.if-eq.false)
       | else-place-row-via-else-place-row w ↦ λ lt same. let past = w.if-place-row.false in omega (arith, lt, past)
     ])

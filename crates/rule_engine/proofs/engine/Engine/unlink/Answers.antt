@@ -11,7 +11,7 @@ pub invariant_of-self : goal.invariant_of-self
 invariant_of-self g c =
     let q : State = c.self.inside.state.state in
     let registers : q.registers ≡ without_pointer (without_pointer c.args.self.now.state.registers c.args.a c.args.b) c.args.b c.args.a =
-      ap (λ n. n.state.registers) c.self.view_is ∙ c.clear_pointer-2.ensures.registers ∙ ap (λ r. without_pointer r c.args.b c.args.a) c.clear_pointer.ensures.registers in
+    ap (λ n. n.state.registers) c.self.view_is ∙ c.clear_pointer-2.ensures.registers ∙ ap (λ r. without_pointer r c.args.b c.args.a) c.clear_pointer.ensures.registers in
     let is = c.in-Ok.ensures.ok.1 in
     let good : IsState c.unlink.new.self.state = subst IsState (sym is) (unlink_keeps q c.args.a c.args.b c.self.invariant.is_state) in
     kept_cut g.R.Rules.table g.met.R.Rules.is_local q c.unlink.new.self.state c.args.a c.args.b _ _ _ c.self.invariant good
@@ -22,7 +22,7 @@ pub returns : goal.returns
 returns g c =
     let q : State = c.self.inside.state.state in
     let registers : q.registers ≡ without_pointer (without_pointer c.args.self.now.state.registers c.args.a c.args.b) c.args.b c.args.a =
-      ap (λ n. n.state.registers) c.self.view_is ∙ c.clear_pointer-2.ensures.registers ∙ ap (λ r. without_pointer r c.args.b c.args.a) c.clear_pointer.ensures.registers in
+    ap (λ n. n.state.registers) c.self.view_is ∙ c.clear_pointer-2.ensures.registers ∙ ap (λ r. without_pointer r c.args.b c.args.a) c.clear_pointer.ensures.registers in
     let network : q.network ≡ c.args.self.now.state.network = ap (λ n. n.state.network) c.self.view_is ∙ c.clear_pointer-2.ensures.network ∙ c.clear_pointer.ensures.network in
     c.in-Ok.ensures.ok.1
     ∙ cut_alone q c.args.self.now.state.registers c.args.a c.args.b registers
