@@ -1,13 +1,13 @@
 -- What carrying out the verdicts of a choice that is not refused does.
 use Rattle.std.proofs.Common.{◌≡◌, List, fold, All, sym, ◌∙◌, subst}
-use Rattle.std.proofs.lemmas.List.Elements.{All-from_recursion, recursion_from_All}
+use Rattle.std.proofs.lemmas.List.Elements.{All-from_recursion}
 use Rattle.rule_machine.specs.declared.choice.Item.{Item}
 use Rattle.rule_machine.specs.declared.moved.Moved.{Moved}
 use Rattle.rule_machine.specs.State.{State, IsState}
 use Rattle.rule_machine.specs.RuleTable.{RuleTable}
 use Rattle.rule_machine.specs.Step.{after_moves, registers_after}
 use Rattle.rule_machine.specs.Least.{least_moves}
-use Rattle.machine_laws.specs.Keeps.{IsMoveIn, moves_keep}
+use Rattle.machine_laws.specs.Keeps.{IsMoveIn}
 use Rattle.machine_laws.specs.LeastMoves.{IsTable, least_moves_in}
 use Rattle.machine_laws.specs.Passes.{flag_read, pointer_written, written_in_two}
 

@@ -1,7 +1,7 @@
 -- A node that leaves, once its edges went one by one.
-use Rattle.std.proofs.Common.{◌≡◌, ℕ, ◌+◌, Bool, true, false, cond, not, ◌||◌, List, [], set, get_or, replicate, None, Some, nat_eq, refl, sym, ap, ◌∙◌, subst, ⊎_elim, arith}
+use Rattle.std.proofs.Common.{◌≡◌, ℕ, ◌+◌, Bool, true, false, cond, not, List, [], set, get_or, replicate, None, Some, nat_eq, refl, sym, ap, ◌∙◌, subst, ⊎_elim, arith}
 use Rattle.std.specs.Prelude.{IsTrue}
-use Rattle.std.proofs.lemmas.Bool.{cases_Bool, cases_eq, cond-true, cond-false, ne_eqb, or_parts, and_parts, true≢false}
+use Rattle.std.proofs.lemmas.Bool.{cases_eq, and_parts, true≢false}
 use Rattle.std.proofs.lemmas.Option.{none-some}
 use Rattle.graph_store.specs.Fault.{unlink_fault}
 use Rattle.graph_store.specs.declared.fault.GraphFault.{GraphFault}
@@ -18,9 +18,8 @@ use Rattle.machine_laws.specs.Edges.{present_other}
 use Rattle.machine_laws.specs.Keeps.{leave_keeps}
 use Rattle.machine_laws.specs.Leaves.{after_parting}
 use Rattle.machine_laws.specs.Neighbours.{present_range}
-use Rattle.enabled_set.specs.Members.{is_in}
 use Rattle.indexed_state.proofs.Edges.{crossing_cleared, pointer_cleared, stays}
-use Rattle.rule_engine.specs.Kept.{is_on, AreOn, IsKept}
+use Rattle.rule_engine.specs.Kept.{is_on, IsKept}
 use Rattle.rule_engine.proofs.Again.{IsLocal, same_on}
 use Rattle.rule_engine.proofs.Coming.{part_far, parted_absent, absent_off}
 

@@ -1,5 +1,5 @@
 -- After a write of one node's registers, looks at who is touched keep the set of the enabled nodes.
-use Rattle.std.proofs.Common.{◌≡◌, ℕ, ◌+◌, Bool, true, false, cond, not, ◌||◌, List, Option, None, is_some, find, IsTrue, refl, sym, ap, ◌∙◌, subst, ⊎_elim}
+use Rattle.std.proofs.Common.{◌≡◌, ℕ, Bool, true, false, cond, not, ◌||◌, List, Option, None, is_some, find, refl, sym, ap, ◌∙◌, subst, ⊎_elim}
 use Rattle.std.specs.Bool.{beq}
 use Rattle.std.proofs.lemmas.Bool.{cases_Bool, cond-true, cond-false, or_parts, true≢false}
 use Rattle.enabled_set.specs.Members.{is_in}

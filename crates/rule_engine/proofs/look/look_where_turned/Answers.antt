@@ -1,4 +1,4 @@
-use Rattle.std.proofs.Common.{◌≡◌, ◌∙◌, ◌&&◌, Bool, List, ℕ, true, false, not, nat_eq, take, ap, ap₂, sym, arith}
+use Rattle.std.proofs.Common.{◌≡◌, ◌∙◌, ◌&&◌, List, ℕ, false, not, nat_eq, take, ap, sym, arith}
 use Rattle.std.proofs.lemmas.List.{take_all}
 use Rattle.rule_machine.specs.Network.{neighbours}
 use Rattle.rule_machine.specs.State.{State}

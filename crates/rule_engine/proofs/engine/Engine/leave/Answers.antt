@@ -1,4 +1,4 @@
-use Rattle.std.proofs.Common.{◌≡◌, ◌∙◌, Bool, List, [], IsTrue, ap, sym, subst}
+use Rattle.std.proofs.Common.{◌≡◌, Bool, List, [], IsTrue, ap, sym, subst}
 use Rattle.rule_machine.specs.Network.{Network, present, neighbours}
 use Rattle.rule_machine.specs.State.{State}
 use Rattle.rule_engine.specs.Kept.{IsKept}

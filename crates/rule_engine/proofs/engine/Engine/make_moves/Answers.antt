@@ -1,4 +1,4 @@
-use Rattle.std.proofs.Common.{◌≡◌, ◌∙◌, fold, ap, subst}
+use Rattle.std.proofs.Common.{◌∙◌, fold, ap, subst}
 use Rattle.rule_machine.specs.State.{State, IsState}
 use Rattle.machine_laws.specs.Passes.{pointer_written}
 use Rattle.rule_engine.proofs.Carried.{carried}

@@ -1,6 +1,6 @@
 use Rattle.std.proofs.Common.{◌≡◌, ◌∙◌, ap, sym, subst}
-use Rattle.rule_machine.specs.Network.{Network, without_edge}
-use Rattle.rule_machine.specs.State.{State, Registers, IsState}
+use Rattle.rule_machine.specs.Network.{without_edge}
+use Rattle.rule_machine.specs.State.{State, IsState}
 use Rattle.rule_machine.specs.Disturbance.{without_pointer}
 use Rattle.machine_laws.specs.Keeps.{unlink_keeps}
 use Rattle.rule_engine.proofs.Again.{kept_cut}
