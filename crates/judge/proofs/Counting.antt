@@ -7,9 +7,10 @@ use Rattle.std.proofs.lemmas.List.Sums.{sum_by-cons, sum_by_push, length-filter,
 use Rattle.rule_machine.specs.declared.rules.RuleSet.{RuleSet}
 use Rattle.rule_machine.specs.declared.rules.RuleSet.TheVariants.{Hh, Manne}
 use Rattle.rule_machine.specs.Network.{Network, present, names, linked, neighbours}
-use Rattle.rule_machine.specs.State.{State, IsState, flag, is_unanswered, married, points}
+use Rattle.rule_machine.specs.State.{State, IsState, flag, holds_at, is_unanswered, married, points}
 use Rattle.rule_machine.specs.Charge.{awaits, hsu_huang_closed, is_courted, manne_closed}
 use Rattle.rule_machine.specs.Tables.{table_of}
+use Rattle.machine_laws.specs.Pointers.{married_some, points_from}
 use Rattle.charge_laws.specs.Counting.{sum_add, sum_agree, sum_twice}
 use Rattle.charge_laws.specs.EdgesByNodes.{edges_by_nodes}
 use Rattle.judge.specs.Charging.{is_closed, open_above, flag_charge, charge_at}
@@ -125,7 +126,7 @@ closed_of_married Hh s v w is =
 closed_of_married Manne s v w is = ap (λ b. b || married s w || (points s.registers v w && not (flag s w))) is
 
 -- so none of its edges is open
-pub none_open : (rules : RuleSet) (s : State) (v : ℕ) → married s v ≡ true → (ws : List ℕ) → count_by (λ w. nat_lt v w && not (is_closed rules s (v, w))) ws ≡ 0
+none_open : (rules : RuleSet) (s : State) (v : ℕ) → married s v ≡ true → (ws : List ℕ) → count_by (λ w. nat_lt v w && not (is_closed rules s (v, w))) ws ≡ 0
 none_open rules s v is [] = refl
 none_open rules s v is (w ∷ ws) =
     let whole = sum_by-cons (λ x. cond (nat_lt v x && not (is_closed rules s (v, x))) 1 0) w ws in
@@ -136,3 +137,16 @@ none_open rules s v is (w ∷ ws) =
     shut : (b : Bool) → cond {A = ℕ} (b && false) 1 0 ≡ 0
     shut true = refl
     shut false = refl
+
+-- and it is answered
+answered : (s : State) (v : ℕ) → married s v ≡ true → is_unanswered s v ≡ false
+answered s v is =
+    let pair = married_some s v is in
+    ap (holds_at (λ w. not (points s.registers w v))) pair.1 ∙ ap not (points_from s pair.0 v pair.2)
+
+-- so it adds what its flag adds
+pub charge_married : (rules : RuleSet) (s : State) (v : ℕ) → married s v ≡ true → flag_charge rules s v ≡ charge_at rules s v
+charge_married rules s v is =
+    let edges = none_open rules s v is (neighbours s.network v) in
+    let pointer : cond {A = ℕ} (is_unanswered s v) 1 0 ≡ 0 = ap (λ b. cond {A = ℕ} b 1 0) (answered s v is) in
+    omega (arith, edges, pointer)

@@ -39,7 +39,7 @@ impl NetState {
         }
     }
 
-    /// What a node adds, with the edges to its higher neighbours.
+    /// What a node adds, with the edges to its higher neighbours. Looks at no edge where it is married.
     fn charge_at(&self, rules: RuleSet, v: Node, courted: &Courted) -> u64
         requires present { IsTrue (present self.now.network v) }
         requires few { self.now.network.size ≤ 65535 }
@@ -47,12 +47,16 @@ impl NetState {
         ensures value { result ≡ charging.charge_at rules self.now v }
         ensures few { result ≤ 131073 }
     {
+        // A married node is answered, and its edges are closed.
+        if self.married(v) {
+            return self.flag_charge(rules, v);
+        }
         2 * self.open_above(rules, v, courted)
             + u64::from(self.is_unanswered(v))
             + self.flag_charge(rules, v)
     }
 
-    /// How many edges between a node and its higher neighbours are open. Looks at none where it is married: they are closed.
+    /// How many edges between a node and its higher neighbours are open.
     fn open_above(&self, rules: RuleSet, v: Node, courted: &Courted) -> u64
         requires present { IsTrue (present self.now.network v) }
         requires few { self.now.network.size ≤ 65535 }
@@ -60,9 +64,6 @@ impl NetState {
         ensures value { result ≡ charging.open_above rules self.now v }
         ensures few { result ≤ 65535 }
     {
-        if self.married(v) {
-            return 0;
-        }
         let mut open = 0;
         for &w in self.neighbours(v) {
             if v < w && !self.is_closed(rules, v, w, courted) {

@@ -1,6 +1,6 @@
 //! A network with its registers.
 
-ghost use Rattle.std.specs.Prelude.{◌≡◌, ◌+◌, ◌<◌, ◌≤◌, ◌&&◌, [], All, IfOk, IsTrue, MatchOption, None, OnOk, OnErr, false, length, nat_le};
+ghost use Rattle.std.specs.Prelude.{◌≡◌, ◌+◌, ◌<◌, ◌≤◌, ◌&&◌, [], All, IfOk, IfSome, IsTrue, MatchOption, None, OnOk, OnErr, false, length, nat_le};
 ghost use Rattle.std.specs.List.{AllByRecursion};
 ghost use Rattle.rule_machine.specs.Network as network;
 ghost use Rattle.rule_machine.specs.State as state;
@@ -167,10 +167,11 @@ impl NetState {
         self.registers.points_at(v, w)
     }
 
-    /// The neighbour with which a node is a mutual pair, if there is one.
+    /// The neighbour with which the node of a name, if there is one, is a mutual pair.
     pub(crate) fn partner(&self, v: Node) -> Option<Node>
-        requires { IsTrue (network.present self.now.network v) }
-        ensures { result ≡ state.partner self.now v }
+        requires { v ≤ self.now.network.size }
+        ensures value { result ≡ state.partner self.now v }
+        ensures present { IfSome result (λ w. IsTrue (network.present self.now.network v)) }
     {
         match self.registers.pointer(v) {
             Some(w) if self.registers.points_at(w, v) => Some(w),

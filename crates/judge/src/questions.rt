@@ -1,6 +1,6 @@
 //! Whether a reply lists what a question asks for.
 
-ghost use Rattle.std.specs.Prelude.{◌≡◌, ◌↔◌, IsTrue, None, Some, cond, slice_get};
+ghost use Rattle.std.specs.Prelude.{◌≡◌, ◌≤◌, ◌↔◌, IfSome, IsTrue, None, Some, cond, slice_get};
 ghost use Rattle.rule_machine.specs.Network.{present};
 ghost use Rattle.rule_machine.specs.RuleTable.{enabled, rule_at};
 ghost use Rattle.rule_machine.specs.State as state;
@@ -70,15 +70,17 @@ impl NetState {
 
     /// The mutual pair of which the node of a name, if there is one, is the lower end.
     pub(crate) fn pair_of(&self, v: Node) -> Option<Edge>
+        requires { v ≤ self.now.network.size }
         ensures { result ≡ cond (present self.now.network v) (pair_above v (state.partner self.now v)) None }
     {
-        if self.has(v) { self.pair_at(v) } else { None }
+        self.pair_at(v)
     }
 
-    /// The mutual pair of which a node is the lower end.
+    /// The mutual pair of which a name is the lower end, if it is one of a pair: such a name is present.
     fn pair_at(&self, v: Node) -> Option<Edge>
-        requires { IsTrue (present self.now.network v) }
-        ensures { result ≡ pair_above v (state.partner self.now v) }
+        requires { v ≤ self.now.network.size }
+        ensures value { result ≡ pair_above v (state.partner self.now v) }
+        ensures present { IfSome result (λ pair. IsTrue (present self.now.network v)) }
     {
         match self.partner(v) {
             Some(w) if v < w => Edge::new(v, w),
