@@ -77,11 +77,6 @@ pub deed_marked : (bytes : List ℕ) (a : Act) (marked : List ℕ) (act : Act) (
 deed_marked bytes a marked act target rest e h =
     (act_first a act marked (marked_text (62 ∷ []) target ++ rest) (sym e ∙ h.is ∙ deed_is act target rest)).1
 
--- without a `>` there is no target
-pub deed_bare : (marked : List ℕ) (target : Option ℕ) (rest : List ℕ) → ((name : List ℕ) → marked ≡ 62 ∷ name → ⊥) → marked ≡ marked_text (62 ∷ []) target ++ rest → marked ≡ rest
-deed_bare marked None rest none e = e
-deed_bare marked (Some w) rest none e = absurd (none (number_text w ++ rest) e)
-
 -- behind a `>` stands a name
 pub deed_name : (marked name : List ℕ) (target : Option ℕ) (rest : List ℕ) → marked ≡ 62 ∷ name → IfSome target IsName → Ends rest → marked ≡ marked_text (62 ∷ []) target ++ rest → (w : ℕ) × NameThen name w rest
 deed_name marked name None rest at f ends e = absurd (ends_mark 62 name (λ h. omega (arith, h)) (subst Ends (sym e ∙ at) ends))

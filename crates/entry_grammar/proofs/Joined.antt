@@ -40,12 +40,6 @@ cut_word text fits free rest front back w (v ∷ others) a f e =
     let r = mark_once 32 front (text w) back (joined text (v ∷ others)) a.free (free w f.0) (sym a.is ∙ e) in
     (r.0, (v, others, f.1, r.1))
 
--- where the rest has no space, it is one word
-last_word : {X : Type 0} (text : X → List ℕ) (fits : X → Type 0) (rest : List ℕ) (w : X) (more : List X) → IsFree 32 rest → AllByRecursion fits (w ∷ more) → rest ≡ joined text (w ∷ more) → rest ≡ text w
-last_word text fits rest w [] a f e = e ∙ append-nil (text w)
-last_word text fits rest w (v ∷ others) a f e =
-    absurd (not_free 32 (text w) (joined text (v ∷ others)) (subst (IsFree 32) e a))
-
 -- one more word was read
 pub SoFar-more : {X : Type 0} (text : X → List ℕ) (fits : X → Type 0) → ((x : X) → fits x → IsFree 32 (text x)) → (bytes : List ℕ) (words : List X) (rest front back : List ℕ) (x : X) → SoFar text fits bytes words rest → CutAt 32 rest front back → fits x → front ≡ text x → SoFar text fits bytes (words ++ x ∷ []) back
 SoFar-more {X} text fits free bytes words rest front back x s a f e = record {
@@ -58,22 +52,10 @@ SoFar-more {X} text fits free bytes words rest front back x s a f e = record {
       (cut_word text fits free rest front back l.0 l.1 a l.2 l.3).1;
 }
 
--- no words are spelled where none stands before the space
-pub SoFar-stuck : {X : Type 0} (text : X → List ℕ) (fits : X → Type 0) → ((x : X) → fits x → IsFree 32 (text x)) → (bytes : List ℕ) (words : List X) (rest front back : List ℕ) → SoFar text fits bytes words rest → CutAt 32 rest front back → ((x : X) → fits x → front ≡ text x → ⊥) → (all : List X) → AllByRecursion fits all → bytes ≡ joined text all → ⊥
-SoFar-stuck text fits free bytes words rest front back s a none all g h =
-    let l = s.left all g h in
-    none l.0 l.2.0 (cut_word text fits free rest front back l.0 l.1 a l.2 l.3).0
-
 -- the last word was read
 pub SoFar-last : {X : Type 0} (text : X → List ℕ) (fits : X → Type 0) (bytes : List ℕ) (words : List X) (rest : List ℕ) (x : X) → SoFar text fits bytes words rest → fits x → rest ≡ text x → AllByRecursion fits (words ++ x ∷ []) × (bytes ≡ joined text (words ++ x ∷ []))
 SoFar-last text fits bytes words rest x s f e =
     (fits_push fits words x s.read f, s.onto x [] (e ∙ sym (append-nil (text x))))
-
--- no words are spelled where the last is none
-pub SoFar-end : {X : Type 0} (text : X → List ℕ) (fits : X → Type 0) (bytes : List ℕ) (words : List X) (rest : List ℕ) → SoFar text fits bytes words rest → IsFree 32 rest → ((x : X) → fits x → rest ≡ text x → ⊥) → (all : List X) → AllByRecursion fits all → bytes ≡ joined text all → ⊥
-SoFar-end text fits bytes words rest s a none all g h =
-    let l = s.left all g h in
-    none l.0 l.2.0 (last_word text fits rest l.0 l.1 a l.2 l.3)
 
 -- no words are spelled where none stands in front
 pub SoFar-no_word : {X : Type 0} (text : X → List ℕ) (fits : X → Type 0) (bytes : List ℕ) (words : List X) (rest : List ℕ) → SoFar text fits bytes words rest → ((x : X) (back : List ℕ) → WordThen fits text rest x back → ⊥) → (all : List X) → AllByRecursion fits all → bytes ≡ joined text all → ⊥

@@ -1,14 +1,13 @@
 -- Names that a mark ends, and what stands behind it.
-use Rattle.std.proofs.Common.{◌≡◌, ℕ, List, [], ◌∷◌, ◌++◌, Option, None, Some, sym, subst, ◌∙◌, append_assoc, arith}
+use Rattle.std.proofs.Common.{◌≡◌, ℕ, List, [], ◌∷◌, ◌++◌, ◌∙◌, append_assoc, arith}
 use Rattle.std.specs.Int.{IsInRange}
-use Rattle.std.proofs.lemmas.List.{append-nil}
 use Rattle.std.proofs.lemmas.Fmt.{decimal_injective}
 use Rattle.rule_machine.specs.declared.act.Act.{Act}
 use Rattle.rule_machine.specs.declared.moved.Moved.{Moved}
 use Rattle.line_text.specs.Words.{number_text, marked_text, IsName}
 use Rattle.line_text.specs.ReplyText.{act_word, enabled_text, move_text, mutual_text}
-use Rattle.entry_grammar.specs.Reading.{IsFree, CutAt, deed_text}
-use Rattle.entry_grammar.proofs.Free.{mark_once, free_name, free_act_mark, not_free}
+use Rattle.entry_grammar.specs.Reading.{CutAt, deed_text}
+use Rattle.entry_grammar.proofs.Free.{mark_once, free_name}
 
 -- a name has one text
 pub name_once : (m n : ℕ) → IsName m → IsName n → number_text m ≡ number_text n → m ≡ n
@@ -37,10 +36,3 @@ enabled_is e = append_assoc (number_text e.0) (58 ∷ []) (act_word e.1)
 -- a pair is a name, a dash and a name
 pub mutual_is : (p : ℕ × ℕ) → mutual_text p ≡ number_text p.0 ++ 45 ∷ number_text p.1
 mutual_is p = append_assoc (number_text p.0) (45 ∷ []) (number_text p.1)
-
--- what stands before the `>` of a deed is the rule
-pub deed_cut : (bytes word name : List ℕ) (act : Act) (target : Option ℕ) → CutAt 62 bytes word name → bytes ≡ deed_text act target → word ≡ act_word act
-deed_cut bytes word name act None a e =
-    absurd (not_free 62 word name (subst (IsFree 62) (sym (append-nil (act_word act)) ∙ sym e ∙ a.is) (free_act_mark act)))
-deed_cut bytes word name act (Some w) a e =
-    (mark_once 62 word (act_word act) name (number_text w) a.free (free_act_mark act) (sym a.is ∙ e)).0
