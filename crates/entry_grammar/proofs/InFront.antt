@@ -10,7 +10,7 @@ use Rattle.line_text.specs.ReplyText.{act_word, mutual_text}
 use Rattle.line_text.specs.Reading.{NoDigit, NameThen}
 use Rattle.line_text.proofs.Digits.{name_once}
 use Rattle.entry_grammar.specs.Spelling.{IsPair}
-use Rattle.entry_grammar.specs.Reading.{first_byte, Ends, WordThen, PairThen, DeedThen, deed_text}
+use Rattle.entry_grammar.specs.Reading.{first_byte, Ends, TokenThen, PairThen, DeedThen, deed_text}
 use Rattle.entry_grammar.proofs.Marked.{marked_once}
 use Rattle.entry_grammar.proofs.TokensOnce.{whole_pair}
 
@@ -57,7 +57,7 @@ pair_rest mark bytes p q x y o a b =
     (name_once (number_text p.1 ++ x) p.1 q.1 x y (record { fits = a.fits.1; ends = a.ends; is = refl }) (record { fits = b.fits.1; ends = b.ends; is = r.1 })).1
 
 -- a mutual pair
-pub pair_of_word : (bytes : List ℕ) (p : ℕ × ℕ) (rest : List ℕ) → WordThen IsPair mutual_text bytes p rest → PairThen 45 bytes p rest
+pub pair_of_word : (bytes : List ℕ) (p : ℕ × ℕ) (rest : List ℕ) → TokenThen IsPair mutual_text bytes p rest → PairThen 45 bytes p rest
 pair_of_word bytes p rest h = record { fits = h.fits; ends = ends_digit rest h.ends; is = h.is ∙ whole_pair p rest }
 
 -- two names and the mark between them, and no more

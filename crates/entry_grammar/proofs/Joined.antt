@@ -4,7 +4,7 @@ use Rattle.std.specs.Prelude.{codes}
 use Rattle.std.specs.List.{AllByRecursion}
 use Rattle.std.proofs.lemmas.List.{append-nil}
 use Rattle.line_text.specs.Words.{spaced, joined, joined_or}
-use Rattle.entry_grammar.specs.Reading.{IsFree, CutAt, Ends, WordThen}
+use Rattle.entry_grammar.specs.Reading.{IsFree, CutAt, Ends, TokenThen}
 use Rattle.entry_grammar.proofs.Free.{mark_once, not_free}
 
 -- Some words were read, and a rest that is not empty is left: with the words of the rest they make the whole text, and
@@ -58,7 +58,7 @@ SoFar-last text fits bytes words rest x s f e =
     (fits_push fits words x s.read f, s.onto x [] (e ∙ sym (append-nil (text x))))
 
 -- no words are spelled where none stands in front
-pub SoFar-no_word : {X : Type 0} (text : X → List ℕ) (fits : X → Type 0) (bytes : List ℕ) (words : List X) (rest : List ℕ) → SoFar text fits bytes words rest → ((x : X) (back : List ℕ) → WordThen fits text rest x back → ⊥) → (all : List X) → AllByRecursion fits all → bytes ≡ joined text all → ⊥
+pub SoFar-no_word : {X : Type 0} (text : X → List ℕ) (fits : X → Type 0) (bytes : List ℕ) (words : List X) (rest : List ℕ) → SoFar text fits bytes words rest → ((x : X) (back : List ℕ) → TokenThen fits text rest x back → ⊥) → (all : List X) → AllByRecursion fits all → bytes ≡ joined text all → ⊥
 SoFar-no_word {X} text fits bytes words rest s none all g h =
     let l = s.left all g h in
     none l.0 (spaced text l.1) (record { fits = l.2.0; ends = spaced_ends l.1; is = l.3 })
@@ -68,11 +68,11 @@ SoFar-no_word {X} text fits bytes words rest s none all g h =
     spaced_ends (v ∷ more) = refl
 
 -- a word in front with a space behind it is cut there
-pub word_cut : {X : Type 0} (text : X → List ℕ) (fits : X → Type 0) → ((x : X) → fits x → IsFree 32 (text x)) → (rest behind next : List ℕ) (x : X) → WordThen fits text rest x behind → behind ≡ 32 ∷ next → CutAt 32 rest (text x) next
+pub word_cut : {X : Type 0} (text : X → List ℕ) (fits : X → Type 0) → ((x : X) → fits x → IsFree 32 (text x)) → (rest behind next : List ℕ) (x : X) → TokenThen fits text rest x behind → behind ≡ 32 ∷ next → CutAt 32 rest (text x) next
 word_cut text fits free rest behind next x h e = record { free = free x h.fits; is = h.is ∙ ap (λ (z : List ℕ). text x ++ z) e }
 
 -- a word in front with no space behind it is the last one
-pub word_alone : {X : Type 0} (text : X → List ℕ) (fits : X → Type 0) (rest behind : List ℕ) (x : X) → WordThen fits text rest x behind → ((next : List ℕ) → behind ≡ 32 ∷ next → ⊥) → rest ≡ text x
+pub word_alone : {X : Type 0} (text : X → List ℕ) (fits : X → Type 0) (rest behind : List ℕ) (x : X) → TokenThen fits text rest x behind → ((next : List ℕ) → behind ≡ 32 ∷ next → ⊥) → rest ≡ text x
 word_alone text fits rest [] x h none = h.is ∙ append-nil (text x)
 word_alone text fits rest (b ∷ behind) x h none = absurd (none behind (ap (λ (z : ℕ). z ∷ behind) h.ends))
 

@@ -28,7 +28,7 @@ abbrev pub Ends : List ℕ → Type 0
 Ends bytes = slice_index_or bytes 0 32 ≡ 32
 
 -- the bytes are the text of this value and, behind it, nothing or what begins with a space
-pub record WordThen {X : Type 0} (Fits : X → Type 0) (text : X → List ℕ) (bytes : List ℕ) (value : X) (rest : List ℕ) : Type 0 where
+pub record TokenThen {X : Type 0} (Fits : X → Type 0) (text : X → List ℕ) (bytes : List ℕ) (value : X) (rest : List ℕ) : Type 0 where
   pub fits : Fits value
   pub ends : Ends rest
   pub is : bytes ≡ text value ++ rest

@@ -4,7 +4,7 @@ ghost use Rattle.std.specs.Prelude.{◌≡◌, ◌≢◌, ℕ, List, [], IfOk, M
 ghost use Rattle.std.specs.List.{AllByRecursion};
 ghost use Rattle.line_text.specs.Words.{joined, joined_or};
 ghost use Rattle.line_text.specs.Reading.{Reads};
-ghost use Rattle.entry_grammar.specs.Reading.{IsFree, WordThen};
+ghost use Rattle.entry_grammar.specs.Reading.{IsFree, TokenThen};
 
 use crate::front::behind;
 use rule_machine::{Listing, Want};
@@ -21,8 +21,8 @@ pub trait Token {
     /// Reads the word in front, which nothing or a space follows, and gives what follows; `None` where there is none.
     fn read(bytes: &[u8]) -> Option<(Self, &[u8])>
         ensures { MatchOption result
-            ((word : Self) (rest : List ℕ) → WordThen fits text bytes.now word rest → ⊥)
-            (λ found. WordThen fits text bytes.now found.0 found.1.now) };
+            ((word : Self) (rest : List ℕ) → TokenThen fits text bytes.now word rest → ⊥)
+            (λ found. TokenThen fits text bytes.now found.0 found.1.now) };
 }
 
 /// Reads words that are joined by one space, none at all from an empty text; `None` where anything else stands there.
