@@ -17,5 +17,6 @@ pub mod Marked
 pub mod Ascending
 pub mod Moments
 pub mod Counted
+pub mod Settled
 pub mod NextVerdict
 pub mod Placed

@@ -4,6 +4,7 @@ ghost use Rattle.std.specs.Prelude.{◌≡◌, ◌<◌, ◌≤◌, ◌&&◌, IsT
 ghost use Rattle.charge_laws.specs.Charged.{charge_bound};
 ghost use Rattle.rule_machine.specs.Answer.{spent_after};
 ghost use Rattle.rule_machine.specs.Network.{names, present};
+ghost use Rattle.rule_machine.specs.Stable.{IsStable};
 ghost use Rattle.rule_machine.specs.State.{holds_at, points};
 ghost use Rattle.rule_set.specs.Standing.{IsStanding};
 ghost use Rattle.rule_engine.specs.Charges.{node_part, open_above};
@@ -69,47 +70,55 @@ fn is_unanswered(registers: &Registers, node: &Standing) -> bool
     }
 }
 
-/// What a node adds to the charge, with the edges of which it is the lower end.
-fn charge_at<R: Rules>(state: &IndexedState<R>, v: Node) -> u64
-    requires { IsTrue (present state.now.state.network v) }
+/// What a node adds to the charge, with the edges of which it is the lower end; what it adds by itself alone where the network is
+/// known to be stable, so that its pointers are answered and its edges closed.
+fn charge_at<R: Rules>(state: &IndexedState<R>, v: Node, is_stable: bool) -> u64
+    requires present { IsTrue (present state.now.state.network v) }
+    requires stable { IsTrue is_stable → IsStable R.table.flags state.now.state }
     ensures value { result ≡ node_part (R.closed state.now.state) (R.adds state.now.state) state.now.state v }
     ensures little { result < 8589934592 }
 {
+    let registers = state.registers();
     let here = standing(state, v);
-    let unanswered = is_unanswered(state.registers(), &here);
-    u64::from(unanswered)
-        + u64::from(R::node_charge(&here))
-        + 2 * u64::from(open_edges(state, &here))
+    let own = u64::from(R::node_charge(&here));
+    if is_stable {
+        return own;
+    }
+    let unanswered = is_unanswered(registers, &here);
+    u64::from(unanswered) + own + 2 * u64::from(open_edges(state, &here))
 }
 
 /// What a name adds to the charge: nothing where no node has it.
-fn charge_of_name<R: Rules>(state: &IndexedState<R>, v: Node) -> u64
+fn charge_of_name<R: Rules>(state: &IndexedState<R>, v: Node, is_stable: bool) -> u64
+    requires { IsTrue is_stable → IsStable R.table.flags state.now.state }
     ensures value { result ≡ (if present state.now.state.network v then node_part (R.closed state.now.state) (R.adds state.now.state) state.now.state v else 0) }
     ensures little { result < 8589934592 }
 {
     if !state.store().has(v) {
         return 0;
     }
-    charge_at(state, v)
+    charge_at(state, v, is_stable)
 }
 
 /// What all nodes add to the charge.
-fn charge_of_all<R: Rules>(state: &IndexedState<R>) -> u64
+fn charge_of_all<R: Rules>(state: &IndexedState<R>, is_stable: bool) -> u64
+    requires { IsTrue is_stable → IsStable R.table.flags state.now.state }
     ensures { result ≡ sum_by (node_part (R.closed state.now.state) (R.adds state.now.state) state.now.state) (names state.now.state.network) }
 {
     let mut charge = 0;
     for name in 1..state.store().capacity() + 1 {
-        charge += charge_of_name(state, Node::new(name).unwrap());
+        charge += charge_of_name(state, Node::new(name).unwrap(), is_stable);
     }
     charge
 }
 
-/// The charge of a state. A look at every name, and at every edge.
-pub(crate) fn charge_of<R: Rules>(state: &IndexedState<R>) -> u32
+/// The charge of a state. A look at every name, and at every edge of a network that is not known to be stable.
+pub(crate) fn charge_of<R: Rules>(state: &IndexedState<R>, is_stable: bool) -> u32
+    requires { IsTrue is_stable → IsStable R.table.flags state.now.state }
     ensures { result ≡ R.table.charge state.now.state }
 {
     prove!(state.store().edges() <= MAX_EDGES);
-    charge_of_all(state) as u32
+    charge_of_all(state, is_stable) as u32
 }
 
 /// The moves that are spent after a reply.

@@ -155,11 +155,12 @@ impl<R: Rules> Engine<R> {
     pub(crate) fn charge(&self) -> u32
         ensures { result ≡ R.table.charge self.now.state }
     {
-        charge_of(&self.state)
+        charge_of(&self.state, self.is_quiet())
     }
 
     /// The reply to an event where so many moves are spent, with all the memory had that carrying it out takes. The state
     /// stays.
+    #[inline(always)]
     pub(crate) fn prepare(&mut self, event: &Event, spent: u32) -> Result<Reply, Want>
         ensures { Prepares R.table self.old spent event.now result self.new }
     {
@@ -261,6 +262,7 @@ impl<R: Rules> Engine<R> {
     }
 
     /// Carries out an event with the reply that was prepared for it; takes no memory.
+    #[inline(always)]
     pub(crate) fn commit(&mut self, event: &Event, reply: &Reply)
         requires reply { (spent : ℕ) × (reply.now ≡ reply_of R.table self.old.state spent event.now) }
         requires room { HasRoomTo event.now reply.now self.old.room }

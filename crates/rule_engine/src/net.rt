@@ -133,7 +133,7 @@ impl<R: Rules> Net<R> {
     }
 
     /// The charge, at most 2,293,757: no more moves than this can come before the next accepted disturbance, and where it is zero
-    /// the network is stable. Takes no memory, and a look at every name and at every edge.
+    /// the network is stable. Takes no memory, and a look at every name and, where a rule is enabled, at every edge.
     pub fn charge(&self) -> u32
         ensures charge { result ≡ R.table.charge self.now.state }
         ensures settled { result ≡ 0 → IsStable R.table.flags self.now.state }
@@ -170,6 +170,7 @@ impl<R: Rules> Net<R> {
     /// The reply that `apply` would give to an event, with all the memory had that carrying it out takes: `commit` does that, and
     /// can't fail. The state stays. Want of memory comes after every refusal; `Unlink`, `Point`, `Flag`, `Show` and `Status` take
     /// none. It costs what `apply` costs but for the writes and the looks after them.
+    #[inline(always)]
     pub fn prepare(&mut self, event: &Event) -> Result<Reply, Want>
         ensures reply { IfOk result (λ reply. reply ≡ reply_of R.table self.old.state self.old.spent event.now) }
         ensures prepared { IfOk result (λ reply. IsPrepared R.table self.new event.now reply) }
@@ -192,6 +193,7 @@ impl<R: Rules> Net<R> {
 
     /// Carries out an event with the reply that was prepared for it, where nothing has changed since. It takes no memory, and
     /// looks again at guards near the change alone, as `apply` says.
+    #[inline(always)]
     pub fn commit(&mut self, event: &Event, reply: &Reply)
         requires { IsPrepared R.table self.old event.now reply.now }
         ensures state { moment_of self.new ≡ moment_after R.table (moment_of self.old) event.now }

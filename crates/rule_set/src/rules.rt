@@ -1,6 +1,6 @@
 //! A set of rules.
 
-ghost use Rattle.std.specs.Prelude.{◌≡◌, ℕ, ◌+◌, ◌*◌, ◌≤◌, Bool, false, not, List, [], length, count_by, sum_by, IsTrue, IsSome};
+ghost use Rattle.std.specs.Prelude.{◌≡◌, ℕ, ◌+◌, ◌*◌, ◌≤◌, ◌||◌, Bool, false, not, List, [], length, count_by, sum_by, IsTrue, IsSome};
 ghost use Rattle.std.specs.Result.{result_ok};
 ghost use Rattle.rule_machine.specs.declared.act.Act.{Act};
 ghost use Rattle.rule_machine.specs.declared.act.Act.TheVariants.{Update};
@@ -121,8 +121,8 @@ pub trait Rules {
     /// The charge is twice the edges that are not closed, one for each pointer that is not answered, and what the nodes add.
     ghost charge_counts: { (s : State) → table.charge s ≡ 2 * count_by (λ e. not (closed s e)) (edge_list s.network) + count_by (is_unanswered s) (names s.network) + sum_by (adds s) (names s.network) };
 
-    /// An edge of which the lower end is married adds nothing to the charge.
-    ghost married_closes: { (s : State) (v w : ℕ) → IsTrue (married s v) → IsTrue (closed s (v, w)) };
+    /// An edge of which an end is married adds nothing to the charge.
+    ghost married_closes: { (s : State) (v w : ℕ) → IsTrue (married s v || married s w) → IsTrue (closed s (v, w)) };
 
     /// A node adds little to the bound, so that what is counted fits 32 bits.
     ghost is_light: { NODE_WEIGHT ≤ 3 };

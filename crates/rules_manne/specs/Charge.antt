@@ -8,9 +8,9 @@ use Rattle.rule_machine.specs.Charge.{manne_closed, manne_node_charge, manne_cha
 pub counted : (s : State) → manne_charge s ≡ 2 * count_by (λ e. not (manne_closed s e)) (edge_list s.network) + count_by (is_unanswered s) (names s.network) + sum_by (manne_node_charge s) (names s.network)
 counted s = refl
 
--- an edge of a married node is closed
-pub married_closes : (s : State) (v w : ℕ) → married s v ≡ true → manne_closed s (v, w) ≡ true
-married_closes s v w is = ap (λ b. b || married s w || (points s.registers v w && not (flag s w))) is
+-- an edge with a married end is closed
+pub married_closes : (s : State) (v w : ℕ) → married s v || married s w ≡ true → manne_closed s (v, w) ≡ true
+married_closes s v w is = ap (λ b. b || (points s.registers v w && not (flag s w))) is
 
 pub light : 3 ≤ 3
 light = omega arith

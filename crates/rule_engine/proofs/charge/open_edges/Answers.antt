@@ -1,5 +1,6 @@
-use Rattle.std.proofs.Common.{◌≡◌, ◌∙◌, ◌+◌, ◌&&◌, ℕ, Bool, cond, ap, sym, length, nat_lt, not, arith}
+use Rattle.std.proofs.Common.{◌≡◌, ◌∙◌, ◌+◌, ◌&&◌, ◌||◌, ℕ, Bool, cond, ap, sym, length, nat_lt, not, arith}
 use Rattle.rule_machine.specs.Network.{neighbours}
+use Rattle.rule_machine.specs.State.{married}
 use Rattle.rule_engine.proofs.Counted.{counted_more, few_neighbours, none_open}
 use Rattle.rule_engine.proofs.charge.open_edges.Goals as goal
 use Rattle.rule_engine.proofs.charge.open_edges.Goals.{then-is_open_above, else-is_open_above}
@@ -17,7 +18,7 @@ overflow_add-open g c =
 
 pub returns-then-low-clause-count : goal.returns-then-low-clause-count
 returns-then-low-clause-count g c =
-    sym (none_open (g.R.Rules.closed c.args.state.now.state) c.args.low.now.node (λ w. g.met.R.Rules.married_closes c.args.state.now.state c.args.low.now.node w (sym c.requires.standing.paired ∙ c.if-low.true)) (neighbours c.args.state.now.state.network c.args.low.now.node))
+    sym (none_open (g.R.Rules.closed c.args.state.now.state) c.args.low.now.node (λ w. g.met.R.Rules.married_closes c.args.state.now.state c.args.low.now.node w (ap (λ b. b || married c.args.state.now.state w) (sym c.requires.standing.paired ∙ c.if-low.true))) (neighbours c.args.state.now.state.network c.args.low.now.node))
 
 pub loop-w-preserved : goal.loop-w-preserved
 loop-w-preserved g c =
