@@ -20,9 +20,13 @@ header_text rules size count = codes "matching " ++ rules_word rules ++ codes " 
 abbrev pub header_line : RuleSet → ℕ → ℕ → List ℕ
 header_line rules size count = header_text rules size count ++ 10 ∷ []
 
--- the entry with this number: its event, and the reply
+-- the entry with this number: the line of its event, and the reply
+abbrev pub numbered_text : ℕ → List ℕ → Reply → List ℕ
+numbered_text number line reply = number_text number ++ codes " " ++ line ++ codes " = " ++ reply_text reply
+
+-- the same for an event
 abbrev pub entry_text : ℕ → Event → Reply → List ℕ
-entry_text number event reply = number_text number ++ codes " " ++ event_text event ++ codes " = " ++ reply_text reply
+entry_text number event reply = numbered_text number (event_text event) reply
 
 -- the entry and the LF that ends its line
 abbrev pub entry_line : ℕ → Event → Reply → List ℕ

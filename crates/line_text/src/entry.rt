@@ -3,7 +3,7 @@
 ghost use Rattle.std.specs.Prelude.{◌≡◌, [], ◌∷◌, ◌++◌, codes, OnOk, OnErr};
 ghost use Rattle.line_text.specs.EventText.{IsEvent};
 ghost use Rattle.line_text.specs.ReplyText.{IsReply, reply_text};
-ghost use Rattle.line_text.specs.EntryText.{sizes_text, header_line, entry_line};
+ghost use Rattle.line_text.specs.EntryText.{sizes_text, header_line, entry_line, numbered_text};
 ghost use Rattle.line_text.specs.Growth.{Extends};
 
 use crate::events::put_event;
@@ -67,6 +67,16 @@ fn append_entry(out: &mut Vec<u8>, number: u32, event: &Event, reply: &Reply) ->
     append_answer(out, reply)
 }
 
+fn append_line(out: &mut Vec<u8>, number: u32, line: &[u8], reply: &Reply) -> Result<(), Want>
+    ensures ok { OnOk result (out.new.items ≡ out.old.items ++ (numbered_text number line.now reply.now ++ 10 ∷ [])) }
+    ensures err { OnErr result (Extends out.old.items out.new.items) }
+    ensures named { OnOk result (IsReply reply.now) }
+{
+    put_number_then(out, number, b' ')?;
+    out.extend_from_slice(line)?;
+    append_answer(out, reply)
+}
+
 /// Writes a transcript's header, with its LF: the rules, how many names there are and, where not all of them are present
 /// at the start, how many are. A `count` above `size` is written as `size` is.
 pub fn put_header(out: &mut Vec<u8>, rules: RuleSet, size: u32, count: u32) -> Result<(), Want>
@@ -90,6 +100,26 @@ pub fn put_entry(out: &mut Vec<u8>, number: u32, event: &Event, reply: &Reply) -
 {
     let len = out.len();
     let done = append_entry(out, number, event, reply);
+    if done.is_err() {
+        out.truncate(len);
+    }
+    done
+}
+
+/// Writes the entry with this number, with its LF, of an event whose script line is at hand: that line is copied, and the
+/// reply to it written.
+pub fn put_entry_of_line(
+    out: &mut Vec<u8>,
+    number: u32,
+    line: &[u8],
+    reply: &Reply,
+) -> Result<(), Want>
+    ensures ok { OnOk result (out.new.items ≡ out.old.items ++ (numbered_text number line.now reply.now ++ 10 ∷ [])) }
+    ensures err { OnErr result (out.new.items ≡ out.old.items) }
+    ensures named { OnOk result (IsReply reply.now) }
+{
+    let len = out.len();
+    let done = append_line(out, number, line, reply);
     if done.is_err() {
         out.truncate(len);
     }

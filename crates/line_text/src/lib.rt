@@ -16,7 +16,7 @@ mod word;
 
 pub use base::put_base;
 pub use command::{read_bool, read_command, read_target};
-pub use entry::{put_entry, put_header};
+pub use entry::{put_entry, put_entry_of_line, put_header};
 pub use front::after;
 pub use law::one_reading;
 pub use names::{read_last, value_of};

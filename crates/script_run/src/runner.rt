@@ -2,6 +2,8 @@
 
 ghost use Rattle.std.specs.Prelude.{◌≡◌, IfOk, IfSome, OnErr, length};
 ghost use Rattle.std.specs.Io.KnownBytes.{Appends, IsAtEnd};
+ghost use Rattle.line_text.specs.EventText.{event_text};
+ghost use Rattle.script_text.specs.Command.{Says};
 ghost use Rattle.script_text.specs.Script.{Progress, lines_of};
 ghost use Rattle.byte_streams.specs.Beginning.{AppendsBeginning};
 ghost use Rattle.script_run.specs.Halted.{Halts, Hands, answered};
@@ -15,7 +17,7 @@ use crate::reading::{chunk_of, read_on};
 use crate::stop::{End, Stop};
 use crate::writing::hand_over_all;
 use byte_streams::{OutputFault, finish};
-use line_text::{put_entry, put_header};
+use line_text::{put_entry, put_entry_of_line, put_header};
 use rule_machine::{Event, RuleSet, Want};
 use rule_set::Rules;
 use script_text::{Command, read_line};
@@ -57,8 +59,8 @@ impl<R: Rules> Run<R> {
         })
     }
 
-    // Carries out an event and adds the text of its entry; false where the log is full. It stands in line with what reads the
-    // event, as all that lies between does: so no event is copied from call to call.
+    // Carries out an event and adds the text of its entry; false where the log is full. It stands in line with what draws the
+    // event: so no event is copied from call to call.
     #[inline(always)]
     fn log(&mut self, event: &Event) -> Result<bool, Want>
         ensures ends { EventEnds R.table self.old.recorder.limit event.now (progress self.old.rules self.old.recorder self.old.text.items) (progress self.new.rules self.new.recorder self.new.text.items) result }
@@ -67,6 +69,24 @@ impl<R: Rules> Run<R> {
         match self.recorder.log(event) {
             Ok(answer) => {
                 put_entry(&mut self.text, answer.seq, event, &answer.reply)?;
+                Ok(true)
+            }
+            Err(RecordFault::LogFull) => Ok(false),
+            Err(RecordFault::Memory) => Err(AllocError),
+        }
+    }
+
+    // The same for an event that was read from a line, which is its text: so that text is copied. It stands in line with what reads
+    // the event, as all that lies between does.
+    #[inline(always)]
+    fn log_line(&mut self, event: &Event, line: &[u8]) -> Result<bool, Want>
+        requires { line.now ≡ event_text event.now }
+        ensures ends { EventEnds R.table self.old.recorder.limit event.now (progress self.old.rules self.old.recorder self.old.text.items) (progress self.new.rules self.new.recorder self.new.text.items) result }
+        ensures limit { self.new.recorder.limit ≡ self.old.recorder.limit }
+    {
+        match self.recorder.log(event) {
+            Ok(answer) => {
+                put_entry_of_line(&mut self.text, answer.seq, line, &answer.reply)?;
                 Ok(true)
             }
             Err(RecordFault::LogFull) => Ok(false),
@@ -97,21 +117,23 @@ impl<R: Rules> Run<R> {
 }
 
 impl<R: Rules + Sync> Run<R> {
-    // Follows a command; false where it meets a full log.
+    // Follows a command, which a line says; false where it meets a full log.
     #[inline(always)]
     fn follow<T: Threads + Wait + Sync>(
         &mut self,
         rt: &T,
         alloc: Global,
         command: &Command,
+        line: &[u8],
     ) -> Result<bool, Want>
+        requires { Says line.now command.now }
         ensures ends { CommandEnds R.table self.old.recorder.limit command.now (progress self.old.rules self.old.recorder self.old.text.items) (progress self.new.rules self.new.recorder self.new.text.items) result }
         ensures limit { self.new.recorder.limit ≡ self.old.recorder.limit }
     {
         match command {
             Command::Tell(event) => match event {
-                Event::Step(choice) if self.pays(choice) => self.log_step(rt, alloc, event, choice),
-                _ => self.log(event),
+                Event::Step(choice) if self.pays(choice) => self.log_step(rt, alloc, choice, line),
+                _ => self.log_line(event, line),
             },
             Command::Drive(turns) => {
                 let mut daemon = DaemonTurns::new(alloc, turns.seed);
@@ -147,7 +169,7 @@ impl<R: Rules + Sync> Run<R> {
             return Ok(Some(Stop::BadLine { line: number }));
         };
         let len = self.text.len();
-        match self.follow(rt, alloc, &command) {
+        match self.follow(rt, alloc, &command, line) {
             Ok(true) => Ok(None),
             Ok(false) => Ok(Some(Stop::LogFull)),
             Err(want) => {

@@ -2,12 +2,13 @@
 
 ghost use Rattle.std.specs.Prelude.{◌≡◌, ◌<◌, IsOk, IsTrue};
 ghost use Rattle.rule_machine.specs.declared.event.Event.TheVariants.{Step};
+ghost use Rattle.line_text.specs.EventText.{event_text};
 ghost use Rattle.script_run.specs.Line.{progress, EventEnds};
 
 use crate::paying_workers;
 use crate::runner::Run;
-use line_text::put_entry;
-use rule_machine::{Choice, Event, Want};
+use line_text::put_entry_of_line;
+use rule_machine::{Choice, Want};
 use rule_set::Rules;
 use std::alloc::{AllocError, Global};
 use std::sync::Wait;
@@ -25,17 +26,17 @@ impl<R: Rules> Run<R> {
 }
 
 impl<R: Rules + Sync> Run<R> {
-    // Carries out a step, whose items as many of the workers judge as pay for it, and adds the text of its entry; false where the log is full, before
-    // anything is judged.
+    // Carries out a step that was read from a line, which is its text; as many of the workers judge its items as pay for it. Adds the
+    // text of its entry; false where the log is full, before anything is judged.
     pub fn log_step<T: Threads + Wait + Sync>(
         &mut self,
         rt: &T,
         alloc: Global,
-        event: &Event,
         choice: &Choice,
+        line: &[u8],
     ) -> Result<bool, Want>
-        requires { event.now ≡ Step choice.now }
-        ensures ends { EventEnds R.table self.old.recorder.limit event.now (progress self.old.rules self.old.recorder self.old.text.items) (progress self.new.rules self.new.recorder self.new.text.items) result }
+        requires { line.now ≡ event_text (Step choice.now) }
+        ensures ends { EventEnds R.table self.old.recorder.limit (Step choice.now) (progress self.old.rules self.old.recorder self.old.text.items) (progress self.new.rules self.new.recorder self.new.text.items) result }
         ensures full { self.old.recorder.len ≡ self.old.recorder.limit → IsOk result }
         ensures limit { self.new.recorder.limit ≡ self.old.recorder.limit }
     {
@@ -49,7 +50,7 @@ impl<R: Rules + Sync> Run<R> {
         };
         match self.recorder.log_step(choice, &verdicts) {
             Ok(answer) => {
-                put_entry(&mut self.text, answer.seq, event, &answer.reply)?;
+                put_entry_of_line(&mut self.text, answer.seq, line, &answer.reply)?;
                 Ok(true)
             }
             Err(RecordFault::LogFull) => Ok(false),
