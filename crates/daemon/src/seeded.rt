@@ -22,16 +22,13 @@ fn next_member<G: Rng>(generator: &mut G, set: &EnabledSet) -> Node
     set.nth(word % set.count()).unwrap()
 }
 
-/// A choice of one member by one word; room is had before the word is drawn.
-fn choose_one<G: Rng>(alloc: Global, generator: &mut G, set: &EnabledSet) -> Result<Choice, Want>
+/// A choice of one member by one word. Takes no memory.
+fn choose_one<G: Rng>(generator: &mut G, set: &EnabledSet) -> Choice
     requires { 1 ≤ length (members set.now) }
-    ensures drawn { IfOk result (λ choice. (choice, G.stream generator.new) ≡ as_choice (draw_one (members set.now) (G.stream generator.old))) }
-    ensures kept { OnErr result (generator.new ≡ generator.old) }
+    ensures { (result, G.stream generator.new) ≡ as_choice (draw_one (members set.now) (G.stream generator.old)) }
 {
-    let mut items = Vec::with_capacity(alloc, 1)?;
     let node = next_member(generator, set);
-    items.push(Item { node, wish: None }).unwrap();
-    Ok(Choice::new(items).unwrap())
+    Choice::one(Item { node, wish: None })
 }
 
 /// Whether a word chooses its node.
@@ -126,8 +123,8 @@ impl<G: Rng> Daemon for Seeded<G> {
     ghost chooses = { λ names central old choice new. (choice, G.stream new) ≡ drawn central names (G.stream old) };
 
     /// The choice that the generator's next words make; `None` exactly where the set is empty. At want of memory no word has
-    /// been drawn. A central daemon takes one word, some 64 looks and room for one item; any other a word for each member,
-    /// and room for as many nodes and items as there are members, which are 65,535 at most.
+    /// been drawn. A central daemon takes one word, some 64 looks and no memory; any other a word for each member, and room
+    /// for as many nodes and items as there are members, which are 65,535 at most.
     fn choose(&mut self, set: &EnabledSet, central: bool) -> Result<Option<Choice>, Want>
         ensures lawful { IfOk result (λ choice. IfSome choice (IsLawful set.now central)) }
         ensures drawn { IfOk result (λ choice. (choice, G.stream self.new) ≡ drawn central (members set.now) (G.stream self.old)) }
@@ -138,7 +135,7 @@ impl<G: Rng> Daemon for Seeded<G> {
             return Ok(None);
         }
         let choice = if central {
-            choose_one(self.alloc, &mut self.generator, set)?
+            choose_one(&mut self.generator, set)
         } else {
             choose_some(self.alloc, &mut self.generator, set)?
         };

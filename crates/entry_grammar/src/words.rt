@@ -25,16 +25,23 @@ pub trait Token {
             (λ found. TokenThen fits text bytes.now found.0 found.1.now) };
 }
 
-/// Reads words that are joined by one space, none at all from an empty text; `None` where anything else stands there.
+/// Reads words that are joined by one space, none at all from an empty text; `None` where anything else stands there. Memory is for
+/// two words and more.
 pub fn read_words<W: Token + Copy>(alloc: Global, bytes: &[u8]) -> Result<Option<Listing<W>>, Want>
     requires no_space { (word : W) → W.fits word → IsFree 32 (W.text word) }
     ensures { IfOk result (Reads (AllByRecursion W.fits) (joined W.text) bytes.now) }
 {
-    let mut words = Vec::new(alloc);
     if bytes.is_empty() {
-        return Ok(Some(Listing::from_vec(words)));
+        return Ok(Some(Listing::from_vec(Vec::new(alloc))));
     }
-    let mut rest = bytes;
+    let Some((first, behind_first)) = W::read(bytes) else {
+        return Ok(None);
+    };
+    let Some(mut rest) = behind(behind_first, b' ') else {
+        return Ok(Some(Listing::one(first)));
+    };
+    let mut words = Vec::new(alloc);
+    words.push(first)?;
     while let Some((word, behind_word)) = W::read(rest) {
         words.push(word)?;
         let Some(next) = behind(behind_word, b' ') else {

@@ -1,6 +1,6 @@
 //! The items of a step.
 
-ghost use Rattle.std.specs.Prelude.{◌≡◌, ℕ, List, IfOk, OnErr, MatchOption};
+ghost use Rattle.std.specs.Prelude.{◌≡◌, ℕ, List, IfOk, IfSome, OnErr, MatchOption};
 ghost use Rattle.rule_machine.specs.declared.choice.Item.{Item};
 ghost use Rattle.line_text.specs.Words.{spaced};
 ghost use Rattle.line_text.specs.EventText.{IsChoice, item_text};
@@ -73,12 +73,25 @@ fn read_none(bytes: &[u8]) -> Result<Option<Choice>, Want>
     }
 }
 
+// Reads an item behind one space, which nothing follows.
+fn read_one(bytes: &[u8]) -> Option<Choice>
+    ensures { IfSome result (λ choice. IsChoice choice × (bytes.now ≡ spaced item_text choice)) }
+{
+    match read_item(bytes) {
+        Some((item, [])) => Some(Choice::one(item)),
+        _ => None,
+    }
+}
+
 /// Reads items, each behind one space; `None` where anything else stands there, or more items than a choice holds.
-/// Memory is for the items alone, and a line that is no choice wants none. Each item is read once.
+/// Memory is for two items and more, and a line that is no choice wants none. Each item but the first is read once.
 pub(crate) fn read_items(alloc: Global, bytes: &[u8]) -> Result<Option<Choice>, Want>
     ensures items { IfOk result (Reads IsChoice (spaced item_text) bytes.now) }
     ensures memory { OnErr result (SpellsChoice bytes.now) }
 {
+    if let Some(choice) = read_one(bytes) {
+        return Ok(Some(choice));
+    }
     let Ok(mut items) = Vec::with_capacity(alloc, bytes.len().div_ceil(WIDTH)) else {
         return read_none(bytes);
     };

@@ -31,7 +31,7 @@ fn take_turn<R: Rules, W: Wait>(
     ensures kept { OnErr result (clerk.new ≡ clerk.old) }
 {
     let (mut desk, hold) = net.take(rt);
-    let answer = clerk.roam_on(rt, net.alloc(), &mut desk, turn);
+    let answer = clerk.roam_on(rt, &mut desk, turn);
     net.give(hold, desk);
     answer
 }

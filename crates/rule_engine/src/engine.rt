@@ -196,7 +196,7 @@ impl<R: Rules> Engine<R> {
     {
         let items = choice.items();
         if items.len() == 1 {
-            return reply_to_one(self.alloc, &self.state, items[0]);
+            return Ok(reply_to_one(&self.state, items[0]));
         }
         if let Some(refusal) = refused_size(R::CENTRAL, items.len()) {
             return Ok(Reply::Refused(refusal));

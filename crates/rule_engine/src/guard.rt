@@ -1,6 +1,6 @@
 //! Guards, outcomes and refusals at the nodes of a network.
 
-ghost use Rattle.std.specs.Prelude.{◌≡◌, ◌+◌, ◌≤◌, [], ◌∷◌, IfOk, None, OnErr, length, take, IsTrue};
+ghost use Rattle.std.specs.Prelude.{◌≡◌, ◌+◌, ◌≤◌, [], ◌∷◌, None, length, take, IsTrue};
 ghost use Rattle.rule_machine.specs.Network.{present};
 ghost use Rattle.rule_machine.specs.Refuse.{items_refusal};
 ghost use Rattle.rule_machine.specs.Least.{outcome_of};
@@ -12,9 +12,8 @@ use crate::judge::{Taken, accepted, take_outcome};
 use crate::moves::Gathered;
 use enabled_set::EnabledSet;
 use indexed_state::IndexedState;
-use rule_machine::{Act, Item, Listing, Moved, Node, Outcome, Refusal, Reply, Want};
+use rule_machine::{Act, Item, Listing, Moved, Node, Outcome, Refusal, Reply};
 use rule_set::Rules;
-use std::alloc::Global;
 
 /// The rule that is enabled at a node that is present, if any is.
 pub(crate) fn rule_at<R: Rules>(state: &IndexedState<R>, v: Node) -> Option<Act>
@@ -118,20 +117,12 @@ pub(crate) fn take_items<R: Rules>(
     taken.refusal
 }
 
-/// The reply to a step of one item, which needs no mark: a look at it, and memory for its move alone.
-pub(crate) fn reply_to_one<R: Rules>(
-    alloc: Global,
-    state: &IndexedState<R>,
-    item: Item,
-) -> Result<Reply, Want>
-    ensures told { IfOk result (λ reply. IsToldOf (items_refusal R.table state.now.state [] (item ∷ [])) (moves_by R.table state.now.state (item ∷ [])) reply) }
-    ensures want { OnErr result (items_refusal R.table state.now.state [] (item ∷ []) ≡ None) }
+/// The reply to a step of one item, which needs no mark: a look at it, and no memory.
+pub(crate) fn reply_to_one<R: Rules>(state: &IndexedState<R>, item: Item) -> Reply
+    ensures { IsToldOf (items_refusal R.table state.now.state [] (item ∷ [])) (moves_by R.table state.now.state (item ∷ [])) result }
 {
-    let moved = match accepted(outcome(state, item), false) {
-        Ok(moved) => moved,
-        Err(refusal) => return Ok(Reply::Refused(refusal)),
-    };
-    let mut moves = Vec::with_capacity(alloc, 1)?;
-    moves.push(moved)?;
-    Ok(Reply::Moves(Listing::from_vec(moves)))
+    match accepted(outcome(state, item), false) {
+        Ok(moved) => Reply::Moves(Listing::one(moved)),
+        Err(refusal) => Reply::Refused(refusal),
+    }
 }

@@ -1,6 +1,6 @@
 //! What a daemon chooses for one step.
 
-ghost use Rattle.std.specs.Prelude.{◌≡◌, ◌≤◌, length, SomeIff};
+ghost use Rattle.std.specs.Prelude.{◌≡◌, ◌≤◌, [], ◌∷◌, length, SomeIff};
 
 use crate::{Listing, Node};
 use std::alloc::AllocError;
@@ -58,6 +58,16 @@ impl Choice {
         Some(Choice {
             items: Listing::from_vec(items),
         })
+    }
+
+    /// The choice of one item. Takes no memory.
+    pub fn one(item: Item) -> Choice
+        ensures { result ≡ item ∷ [] }
+    {
+        let Item { node, wish } = item;
+        Choice {
+            items: Listing::one(Item { node, wish }),
+        }
     }
 
     /// The items, in the order in which they were named.

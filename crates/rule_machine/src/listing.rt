@@ -1,49 +1,63 @@
 //! A list that contracts compare by its items.
 
-ghost use Rattle.std.specs.Prelude.{◌≡◌};
+ghost use Rattle.std.specs.Prelude.{◌≡◌, [], ◌∷◌, IfOk};
 ghost use Rattle.std.specs.Cmp.Lexicographic.{pointwise, lists_per, lists_equiv};
 
 use std::alloc::AllocError;
 use std::marker::Model;
 
-/// A `Vec` that contracts see as the list of its items, whatever its capacity.
+/// Where the items of a listing are: one takes no memory.
+#[derive(Debug, Drop)]
+enum Held<T> {
+    One([T; 1]),
+    Many(Vec<T>),
+}
+
+/// A list that contracts see as its items, however it holds them.
 #[derive(Debug, Drop)]
 pub struct Listing<T> {
-    items: Vec<T>,
+    held: Held<T>,
 }
 
 impl<T> Model for Listing<T> {
     ghost use Rattle.std.specs.Prelude.{List};
     ghost use Rattle.std.specs.Coded.{coded_list};
+    ghost use Rattle.rule_machine.specs.Listed.{listed};
 
     ghost Value = { List T };
 
     ghost coded = { coded_list T.code };
 
-    ghost view = { λ l. l.items.items };
+    ghost view = { λ l. listed l.held };
 }
 
 impl<T> Listing<T> {
+    /// The listing of one item. Takes no memory.
+    pub fn one(item: T) -> Listing<T>
+        ensures { result ≡ item ∷ [] }
+    {
+        Listing {
+            held: Held::One([item]),
+        }
+    }
+
     /// The listing of a vector's items, without memory.
     pub fn from_vec(items: Vec<T>) -> Listing<T>
         ensures { result ≡ items.items }
     {
-        Listing { items }
-    }
-
-    /// The items in a vector again, without memory.
-    pub fn into_vec(self) -> Vec<T>
-        ensures { result.items ≡ self }
-    {
-        let Listing { items } = self;
-        items
+        Listing {
+            held: Held::Many(items),
+        }
     }
 
     /// The items in their order.
     pub fn as_slice(&self) -> &[T]
         ensures { result.now ≡ self.now }
     {
-        &self.items
+        match &self.held {
+            Held::One(items) => items,
+            Held::Many(items) => items,
+        }
     }
 }
 
@@ -51,10 +65,20 @@ impl<T: Copy> Clone for Listing<T> {
     ghost is_clone = { λ a b. b ≡ a };
 
     fn clone(&self) -> Result<Listing<T>, AllocError> {
-        let mut items = Vec::with_capacity(self.items.allocator().clone()?, self.items.len())?;
-        items.extend_from_slice(&self.items)?;
-        Ok(Listing { items })
+        match &self.held {
+            Held::One([item]) => Ok(Listing::one(*item)),
+            Held::Many(items) => Ok(Listing::from_vec(copied(items)?)),
+        }
     }
+}
+
+/// A vector of the same items.
+fn copied<T: Copy>(items: &Vec<T>) -> Result<Vec<T>, AllocError>
+    ensures { IfOk result (λ copy. copy.items ≡ items.now.items) }
+{
+    let mut copy = Vec::with_capacity(items.allocator().clone()?, items.len())?;
+    copy.extend_from_slice(items)?;
+    Ok(copy)
 }
 
 impl<T: PartialEq> PartialEq for Listing<T> {
@@ -63,7 +87,7 @@ impl<T: PartialEq> PartialEq for Listing<T> {
     ghost laws = { lists_per T.laws };
 
     fn eq(&self, other: &Listing<T>) -> bool {
-        self.items == other.items
+        self.as_slice() == other.as_slice()
     }
 }
 

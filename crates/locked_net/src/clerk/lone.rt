@@ -6,14 +6,13 @@ ghost use Rattle.locked_net.specs.Receipts.{HasNoteOf, front_of};
 ghost use Rattle.locked_net.specs.Keys.{KeepsKey};
 ghost use Rattle.locked_net.specs.Calls.{call_fault, Explains};
 ghost use Rattle.locked_net.specs.Roamed.{KeepsNote};
-ghost use Rattle.locked_net.specs.Roaming.{mover, lone_items, lone_step, log_after_turn, receipts_of_turn, fault_of_turn, FaultInTurn};
+ghost use Rattle.locked_net.specs.Roaming.{mover, lone_step, log_after_turn, receipts_of_turn, fault_of_turn, FaultInTurn};
 
 use super::Clerk;
 use super::calls::admit;
 use crate::CallFault;
 use crate::desk::Desk;
-use rule_engine::{Choice, Event, Item, Node, Rules, Want};
-use std::alloc::Global;
+use rule_engine::{Choice, Event, Item, Node, Rules};
 use std::sync::Wait;
 
 impl Clerk {
@@ -21,7 +20,6 @@ impl Clerk {
     pub(crate) fn roam_on<R: Rules, W: Wait>(
         &mut self,
         rt: &W,
-        alloc: Global,
         desk: &mut Desk<R>,
         turn: u32,
     ) -> Result<(), CallFault>
@@ -35,7 +33,7 @@ impl Clerk {
         ensures kept { OnErr result ((self.new ≡ self.old) × (desk.new ≡ desk.old)) }
     {
         match next_mover(desk, turn) {
-            Some(node) => self.step_alone(rt, alloc, desk, node),
+            Some(node) => self.step_alone(rt, desk, node),
             None => Ok(()),
         }
     }
@@ -44,7 +42,6 @@ impl Clerk {
     fn step_alone<R: Rules, W: Wait>(
         &mut self,
         rt: &W,
-        alloc: Global,
         desk: &mut Desk<R>,
         node: Node,
     ) -> Result<(), CallFault>
@@ -58,7 +55,7 @@ impl Clerk {
         ensures kept { OnErr result ((self.new ≡ self.old) × (desk.new ≡ desk.old)) }
     {
         admit(desk, self.front())?;
-        let choice = choice_of_one(alloc, node)?;
+        let choice = Choice::one(Item { node, wish: None });
         self.record_on(rt, desk, Event::Step(choice))?;
         Ok(())
     }
@@ -74,13 +71,4 @@ fn next_mover<R: Rules>(desk: &Desk<R>, turn: u32) -> Option<Node>
         0 => None,
         count => enabled.nth(turn % count),
     }
-}
-
-/// The choice of this node alone, with no wish.
-fn choice_of_one(alloc: Global, node: Node) -> Result<Choice, Want>
-    ensures { IfOk result (λ choice. choice ≡ lone_items node) }
-{
-    let mut items = Vec::with_capacity(alloc, 1)?;
-    items.push(Item { node, wish: None }).unwrap();
-    Ok(Choice::new(items).unwrap())
 }

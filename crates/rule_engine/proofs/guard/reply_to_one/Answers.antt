@@ -1,5 +1,4 @@
-use Rattle.std.proofs.Common.{◌≡◌, ◌∙◌, ◌++◌, ◌∷◌, [], List, Option, false, None, Some, refl, sym, ap, subst}
-use Rattle.rule_machine.specs.declared.moved.Moved.{Moved}
+use Rattle.std.proofs.Common.{◌≡◌, ◌∙◌, ◌∷◌, [], Option, false, None, Some, refl, sym, ap, subst}
 use Rattle.rule_machine.specs.declared.refusal.Refusal.{Refusal}
 use Rattle.rule_machine.specs.declared.reply.Reply.TheVariants.{Moves}
 use Rattle.rule_machine.specs.declared.verdict.Outcome.{Outcome}
@@ -10,18 +9,13 @@ use Rattle.rule_engine.proofs.Ascending.{one_least}
 use Rattle.rule_engine.proofs.Judged.{one_refusal}
 use Rattle.rule_engine.proofs.guard.reply_to_one.Goals as goal
 
-pub returns : goal.returns
-returns g c =
+pub returns-in-Ok : goal.returns-in-Ok
+returns-in-Ok g c =
     let t = g.R.Rules.table in
     let s = c.args.state.now.state in
     let item = c.args.item in
     let m = c.in-Ok.moved in
     let none : items_refusal t s [] (item ∷ []) ≡ None = one_refusal t s item ∙ ap (λ (o : Outcome). refused_by o false) (sym c.outcome.ensures) ∙ c.in-Ok.ensures.0 in
     let move : move_in (outcome_of t s item) ≡ Some m = ap (λ (o : Outcome). move_in o) (sym c.outcome.ensures) ∙ c.in-Ok.ensures.1 in
-    let list : c.from_vec.result ≡ m ∷ [] = c.from_vec.ensures ∙ c.in_ok-push.ensures.items ∙ ap (λ (l : List Moved). l ++ m ∷ []) c.in_ok-moves.ensures.items in
-    record {
-      told =
-          subst (λ (q : Option Refusal). IsToldOf q (moves_by t s (item ∷ [])) (Moves c.from_vec.result)) (sym none)
-          (c.from_vec.result, subst (AreLeast (moves_by t s (item ∷ []))) (sym list) (one_least t s item m move), refl);
-      want = tt;
-    }
+    subst (λ (q : Option Refusal). IsToldOf q (moves_by t s (item ∷ [])) (Moves c.one.result)) (sym none)
+    (c.one.result, subst (AreLeast (moves_by t s (item ∷ []))) (sym c.one.ensures) (one_least t s item m move), refl)
