@@ -1,7 +1,8 @@
 -- An index that is told of one node's change.
-use Rattle.std.proofs.Common.{◌≡◌, ℕ, ◌<◌, ◌≤◌, ◌++◌, Bool, true, List, length, take, Option, IfSome, nat_eq, IsTrue, refl, sym, ap, ◌∙◌, subst, arith}
+use Rattle.std.proofs.Common.{◌≡◌, ℕ, ◌<◌, ◌≤◌, ◌++◌, Bool, true, ◌&&◌, List, length, take, Option, IfSome, nat_eq, IsTrue, refl, sym, ap, ◌∙◌, subst, arith}
 use Rattle.std.specs.List.{list_any}
 use Rattle.std.proofs.Math.Seq.{take-append_seam}
+use Rattle.std.proofs.lemmas.Bool.{and_parts}
 use Rattle.rule_machine.specs.Network.{Network, linked, neighbours, present}
 use Rattle.rule_machine.specs.State.{State, Registers, IsState, pointer_of, flag_of}
 use Rattle.rule_machine.specs.RuleTable.{is_open}
@@ -9,26 +10,26 @@ use Rattle.machine_laws.specs.Writes.{pointer-with_pointer_other, flag-with_flag
 use Rattle.machine_laws.specs.Neighbours.{linked_back, linked_present, present_range}
 use Rattle.machine_laws.specs.Pointers.{pointer_linked}
 use Rattle.suitor_index.specs.declared.tally.Tally.{Tally}
-use Rattle.suitor_index.specs.Tallies.{state_of, tally_of, IsIndexOf}
+use Rattle.suitor_index.specs.Tallies.{state_of, tally_of, asks_for, IsIndexOf}
 use Rattle.suitor_index.specs.Told.{IsCourted, IsRepointed, IsTurned, HasSuitor, HasRoomFor, CanTurn}
 use Rattle.suitor_index.specs.Before.{IsBeforePoint, IsBeforeFlag}
 use Rattle.suitor_index.proofs.Near.{listed_linked}
 use Rattle.suitor_index.proofs.Turned.{AreAlike, near, has_suitor, has_room, can_turn, index_turned}
 
 -- v's registers went from those of the first table to those of the second, and the tallies are of the first
-pub record IsChange (opens : Option ℕ → Bool → Bool) (net : Network) (r q : Registers) (v : ℕ) (start : List Tally) : Type 0 where
+pub record IsChange (above : Bool) (opens : Option ℕ → Bool → Bool) (net : Network) (r q : Registers) (v : ℕ) (start : List Tally) : Type 0 where
   pub before : IsState (state_of net r)
   pub now : IsState (state_of net q)
   pub alike : AreAlike v r q
   pub here : IsTrue (present net v)
   pub few : net.size ≤ 65535
-  pub index : IsIndexOf opens (state_of net r) start
+  pub index : IsIndexOf above opens (state_of net r) start
 
-pub few_nodes : (opens : Option ℕ → Bool → Bool) (s : State) (kept start : List Tally) → length kept ≤ 65536 → kept ≡ start → IsIndexOf opens s start → s.network.size ≤ 65535
-few_nodes opens s kept start few same index = let places = index.places in omega (arith, ap length same, few)
+pub few_nodes : (above : Bool) (opens : Option ℕ → Bool → Bool) (s : State) (kept start : List Tally) → length kept ≤ 65536 → kept ≡ start → IsIndexOf above opens s start → s.network.size ≤ 65535
+few_nodes above opens s kept start few same index = let places = index.places in omega (arith, ap length same, few)
 
-pub change_of_point : (opens : Option ℕ → Bool → Bool) (net : Network) (q : Registers) (v : ℕ) (old : Option ℕ) (kept start now : List Tally) (b : IsBeforePoint opens (state_of net q) v old now) → IsState (state_of net q) → IsTrue (present net v) → length kept ≤ 65536 → kept ≡ now → start ≡ kept → IsChange opens net b.registers q v start
-change_of_point opens net q v old kept start now b good here few same value = record {
+pub change_of_point : (above : Bool) (opens : Option ℕ → Bool → Bool) (net : Network) (q : Registers) (v : ℕ) (old : Option ℕ) (kept start now : List Tally) (b : IsBeforePoint above opens (state_of net q) v old now) → IsState (state_of net q) → IsTrue (present net v) → length kept ≤ 65536 → kept ≡ now → start ≡ kept → IsChange above opens net b.registers q v start
+change_of_point above opens net q v old kept start now b good here few same value = record {
   before = b.is_state;
   now = good;
   alike = record {
@@ -36,12 +37,12 @@ change_of_point opens net q v old kept start now b good here few same value = re
     flags = λ x apart. sym (ap (λ t. flag_of t x) b.change);
   };
   here = here;
-  few = few_nodes opens (state_of net b.registers) kept now few same b.index;
-  index = subst (IsIndexOf opens (state_of net b.registers)) (sym (value ∙ same)) b.index;
+  few = few_nodes above opens (state_of net b.registers) kept now few same b.index;
+  index = subst (IsIndexOf above opens (state_of net b.registers)) (sym (value ∙ same)) b.index;
 }
 
-pub change_of_flag : (opens : Option ℕ → Bool → Bool) (net : Network) (q : Registers) (v : ℕ) (kept start now : List Tally) (b : IsBeforeFlag opens (state_of net q) v now) → IsState (state_of net q) → IsTrue (present net v) → length kept ≤ 65536 → kept ≡ now → start ≡ kept → IsChange opens net b.registers q v start
-change_of_flag opens net q v kept start now b good here few same value = record {
+pub change_of_flag : (above : Bool) (opens : Option ℕ → Bool → Bool) (net : Network) (q : Registers) (v : ℕ) (kept start now : List Tally) (b : IsBeforeFlag above opens (state_of net q) v now) → IsState (state_of net q) → IsTrue (present net v) → length kept ≤ 65536 → kept ≡ now → start ≡ kept → IsChange above opens net b.registers q v start
+change_of_flag above opens net q v kept start now b good here few same value = record {
   before = b.is_state;
   now = good;
   alike = record {
@@ -49,23 +50,23 @@ change_of_flag opens net q v kept start now b good here few same value = record 
     flags = λ x apart. sym (ap (λ t. flag_of t x) b.change ∙ flag-with_flag_other b.registers v (flag_of q v) x apart);
   };
   here = here;
-  few = few_nodes opens (state_of net b.registers) kept now few same b.index;
-  index = subst (IsIndexOf opens (state_of net b.registers)) (sym (value ∙ same)) b.index;
+  few = few_nodes above opens (state_of net b.registers) kept now few same b.index;
+  index = subst (IsIndexOf above opens (state_of net b.registers)) (sym (value ∙ same)) b.index;
 }
 
 near_present : (net : Network) (r : Registers) (v w : ℕ) → IsState (state_of net r) → IsTrue (linked net v w) → IsTrue (present net w)
 near_present net r v w good h = linked_present net w v good.is_network (linked_back net w v ∙ h)
 
 -- the old target has v among its suitors
-pub old_counted : (opens : Option ℕ → Bool → Bool) (net : Network) (r q : Registers) (v : ℕ) (start : List Tally) (old : Option ℕ) → IsChange opens net r q v start → pointer_of r v ≡ old → IfSome old (λ w. HasSuitor v (tally_of start w))
-old_counted opens net r q v start old c was =
-    if_some_from old _ (λ w e. has_suitor opens net r v w start c.before c.index c.here (near_present net r v w c.before (pointer_linked (state_of net r) v w c.before (was ∙ e))) (was ∙ e))
+pub old_counted : (above : Bool) (opens : Option ℕ → Bool → Bool) (net : Network) (r q : Registers) (v : ℕ) (start : List Tally) (old : Option ℕ) → IsChange above opens net r q v start → pointer_of r v ≡ old → IfSome old (λ w. HasSuitor v (tally_of start w))
+old_counted above opens net r q v start old c was =
+    if_some_from old _ (λ w e. has_suitor above opens net r v w start c.before c.index c.here (near_present net r v w c.before (pointer_linked (state_of net r) v w c.before (was ∙ e))) (was ∙ e))
 
 -- the new target has room for it
-pub new_fits : (opens : Option ℕ → Bool → Bool) (net : Network) (r q : Registers) (v : ℕ) (start left : List Tally) (old new : Option ℕ) → IsChange opens net r q v start → pointer_of r v ≡ old → new ≡ pointer_of q v → IsCourted old v left start → IfSome new (λ w. HasRoomFor v (tally_of left w))
-new_fits opens net r q v start left old new c was is told =
+pub new_fits : (above : Bool) (opens : Option ℕ → Bool → Bool) (net : Network) (r q : Registers) (v : ℕ) (start left : List Tally) (old new : Option ℕ) → IsChange above opens net r q v start → pointer_of r v ≡ old → new ≡ pointer_of q v → IsCourted old v left start → IfSome new (λ w. HasRoomFor v (tally_of left w))
+new_fits above opens net r q v start left old new c was is told =
     if_some_from new _ (
-    λ w e. has_room opens net r q v w start left c.before c.now c.alike c.here (near_present net q v w c.now (pointer_linked (state_of net q) v w c.now (sym is ∙ e))) c.few c.index
+    λ w e. has_room above opens net r q v w start left c.before c.now c.alike c.here (near_present net q v w c.now (pointer_linked (state_of net q) v w c.now (sym is ∙ e))) c.few c.index
     (subst (λ o. IsCourted o v left start) (sym was) told)
     (sym is ∙ e)
     )
@@ -77,17 +78,16 @@ repointed v start left pointed old new p q was is out into =
       places = into.places ∙ sym out.places;
       suitors = λ k. let a = out.suitors k in let b = into.suitors k in omega arith;
       sum = λ k. let a = out.sum k in let b = into.sum k in omega arith;
-      open_near = λ k. into.open_near k ∙ sym (out.open_near k);
-      open_above = λ k. into.open_above k ∙ sym (out.open_above k);
+      reached = λ k. into.reached k ∙ sym (out.reached k);
     })
 
 -- a table that nothing was written to
 pub not_repointed : (v : ℕ) (start : List Tally) (p q : Option ℕ) → p ≡ q → IsRepointed p q v start start
-not_repointed v start p q same = subst (λ o. IsRepointed p o v start start) same record { places = refl; suitors = λ k. refl; sum = λ k. refl; open_near = λ k. refl; open_above = λ k. refl }
+not_repointed v start p q same = subst (λ o. IsRepointed p o v start start) same record { places = refl; suitors = λ k. refl; sum = λ k. refl; reached = λ k. refl }
 
 -- where v is told of it has a place
-pub told_within : (opens : Option ℕ → Bool → Bool) (net : Network) (r q : Registers) (v : ℕ) (start pointed : List Tally) (nodes : List ℕ) → IsChange opens net r q v start → length pointed ≡ length start → nodes ≡ neighbours net v → (k : ℕ) → list_any (nat_eq k) nodes ≡ true → k < length pointed
-told_within opens net r q v start pointed nodes c places all k listed =
+pub told_within : (above : Bool) (opens : Option ℕ → Bool → Bool) (net : Network) (r q : Registers) (v : ℕ) (start pointed : List Tally) (nodes : List ℕ) → IsChange above opens net r q v start → length pointed ≡ length start → nodes ≡ neighbours net v → (k : ℕ) → list_any (nat_eq k) nodes ≡ true → k < length pointed
+told_within above opens net r q v start pointed nodes c places all k listed =
     let near_k = listed_linked net v k (ap (list_any (nat_eq k)) (sym all) ∙ listed) in
     let bounds = present_range net k (near_present net r v k c.before near_k) in
     let all_places = c.index.places in
@@ -95,21 +95,21 @@ told_within opens net r q v start pointed nodes c places all k listed =
     omega arith
 
 -- and what it is told fits there
-pub told_fits : (opens : Option ℕ → Bool → Bool) (net : Network) (r q : Registers) (v : ℕ) (start pointed : List Tally) (nodes : List ℕ) (was is : Bool) → IsChange opens net r q v start → IsRepointed (pointer_of r v) (pointer_of q v) v start pointed → nodes ≡ neighbours net v → was ≡ is_open opens (state_of net r) v → is ≡ is_open opens (state_of net q) v → (k : ℕ) → list_any (nat_eq k) nodes ≡ true → CanTurn k v was is (tally_of pointed k)
-told_fits opens net r q v start pointed nodes was is c told all was_is is_is k listed =
-    let listed_k = ap (list_any (nat_eq k)) (sym all) ∙ listed in
-    let has = near_present net r v k c.before (listed_linked net v k listed_k) in
-    subst (λ b. CanTurn k v b is (tally_of pointed k)) (sym was_is)
-    (subst (λ b. CanTurn k v (is_open opens (state_of net r) v) b (tally_of pointed k)) (sym is_is) (can_turn opens net r q v k start pointed c.before c.now c.alike c.here has listed_k c.few c.index told))
+pub told_fits : (above : Bool) (opens : Option ℕ → Bool → Bool) (net : Network) (r q : Registers) (v : ℕ) (start pointed : List Tally) (nodes : List ℕ) (was is : Bool) → IsChange above opens net r q v start → IsRepointed (pointer_of r v) (pointer_of q v) v start pointed → nodes ≡ neighbours net v → was ≡ is_open opens (state_of net r) v → is ≡ is_open opens (state_of net q) v → (k : ℕ) → (list_any (nat_eq k) nodes && asks_for above k v) ≡ true → CanTurn was is (tally_of pointed k)
+told_fits above opens net r q v start pointed nodes was is c told all was_is is_is k listed =
+    let listed_k : near above net v k ≡ true = ap (λ (ns : List ℕ). list_any (nat_eq k) ns && asks_for above k v) (sym all) ∙ listed in
+    let has = near_present net r v k c.before (listed_linked net v k (and_parts (list_any (nat_eq k) (neighbours net v)) (asks_for above k v) listed_k).0) in
+    subst (λ b. CanTurn b is (tally_of pointed k)) (sym was_is)
+    (subst (λ b. CanTurn (is_open opens (state_of net r) v) b (tally_of pointed k)) (sym is_is) (can_turn above opens net r q v k start pointed c.before c.now c.alike c.here has listed_k c.few c.index told))
 
 -- a vector whose slice was written whole
 pub written_whole : (n : ℕ) (new rest : List Tally) → n ≡ length new → take n (new ++ rest) ≡ new
 written_whole n new rest e = ap (λ m. take m (new ++ rest)) e ∙ take-append_seam new rest
 
 -- then the tallies are those of the state now
-pub told_index : (opens : Option ℕ → Bool → Bool) (net : Network) (r q : Registers) (v : ℕ) (start pointed turned whole : List Tally) (nodes : List ℕ) (was is : Bool) → IsChange opens net r q v start → IsRepointed (pointer_of r v) (pointer_of q v) v start pointed → nodes ≡ neighbours net v → was ≡ is_open opens (state_of net r) v → is ≡ is_open opens (state_of net q) v → IsTurned (λ k. list_any (nat_eq k) nodes) v was is pointed turned → whole ≡ turned → IsIndexOf opens (state_of net q) whole
-told_index opens net r q v start pointed turned whole nodes was is c told all was_is is_is told_open same =
-    let one = subst (λ (ns : List ℕ). IsTurned (λ k. list_any (nat_eq k) ns) v was is pointed turned) all told_open in
-    let two = subst (λ b. IsTurned (near net v) v b is pointed turned) was_is one in
-    let three = subst (λ b. IsTurned (near net v) v (is_open opens (state_of net r) v) b pointed turned) is_is two in
-    subst (IsIndexOf opens (state_of net q)) (sym same) (index_turned opens net r q v start pointed turned c.before c.now c.alike c.here c.index told three)
+pub told_index : (above : Bool) (opens : Option ℕ → Bool → Bool) (net : Network) (r q : Registers) (v : ℕ) (start pointed turned whole : List Tally) (nodes : List ℕ) (was is : Bool) → IsChange above opens net r q v start → IsRepointed (pointer_of r v) (pointer_of q v) v start pointed → nodes ≡ neighbours net v → was ≡ is_open opens (state_of net r) v → is ≡ is_open opens (state_of net q) v → IsTurned (λ k. list_any (nat_eq k) nodes && asks_for above k v) was is pointed turned → whole ≡ turned → IsIndexOf above opens (state_of net q) whole
+told_index above opens net r q v start pointed turned whole nodes was is c told all was_is is_is told_open same =
+    let one = subst (λ (ns : List ℕ). IsTurned (λ k. list_any (nat_eq k) ns && asks_for above k v) was is pointed turned) all told_open in
+    let two = subst (λ b. IsTurned (near above net v) b is pointed turned) was_is one in
+    let three = subst (λ b. IsTurned (near above net v) (is_open opens (state_of net r) v) b pointed turned) is_is two in
+    subst (IsIndexOf above opens (state_of net q)) (sym same) (index_turned above opens net r q v start pointed turned c.before c.now c.alike c.here c.index told three)

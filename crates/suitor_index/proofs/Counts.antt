@@ -4,34 +4,38 @@ use Rattle.std.specs.List.{count_by, sum_by}
 use Rattle.std.proofs.lemmas.Bool.{and_parts, cases_eq, eq-eqb, false_from_ne_true, le-leb, lt-leb, lt-ltb, ne_eqb, true≢false}
 use Rattle.rule_machine.specs.Network.{Network, IsNetwork, linked, present, neighbours}
 use Rattle.rule_machine.specs.State.{State, IsState, suits, has_suitor, first_suitor}
-use Rattle.rule_machine.specs.RuleTable.{is_open, first_open, last_open_above}
+use Rattle.rule_machine.specs.RuleTable.{is_open}
+use Rattle.rule_set.specs.Glance.{is_reached}
 use Rattle.machine_laws.specs.Neighbours.{near_found, near_some, linked_back, linked_present, present_range}
 use Rattle.suitor_index.specs.declared.tally.Tally.{Tally}
-use Rattle.suitor_index.specs.Tallies.{suitor_count, tally_of, is_open_above, name_if, IsIndexOf, IsLoneSuitor}
+use Rattle.suitor_index.specs.Tallies.{suitor_count, tally_of, name_if, IsIndexOf, IsLoneSuitor}
 use Rattle.suitor_index.specs.Told.{one_if}
 use Rattle.suitor_index.proofs.Near.{near_turn}
 use Rattle.suitor_index.proofs.Sums.{count_some, count_none, count_one, count_reverse}
 
-pub suitors_counted : (opens : Option ℕ → Bool → Bool) (s : State) (ts : List Tally) (v : ℕ) (t : Tally) → IsIndexOf opens s ts → IsTrue (present s.network v) → t ≡ tally_of ts v → nat_lt 0 t.suitors ≡ has_suitor s v
-suitors_counted opens s ts v t index here is = ap (λ (u : Tally). nat_lt 0 u.suitors) (is ∙ index.counted v here) ∙ count_some (suits s v) (neighbours s.network v)
+pub suitors_counted : (above : Bool) (opens : Option ℕ → Bool → Bool) (s : State) (ts : List Tally) (v : ℕ) (t : Tally) → IsIndexOf above opens s ts → IsTrue (present s.network v) → t ≡ tally_of ts v → nat_lt 0 t.suitors ≡ has_suitor s v
+suitors_counted above opens s ts v t index here is = ap (λ (u : Tally). nat_lt 0 u.suitors) (is ∙ index.counted v here) ∙ count_some (suits s v) (neighbours s.network v)
 
-pub open_counted : (opens : Option ℕ → Bool → Bool) (s : State) (ts : List Tally) (v : ℕ) (t : Tally) → IsIndexOf opens s ts → IsTrue (present s.network v) → t ≡ tally_of ts v → nat_lt 0 t.open_near ≡ is_some (first_open opens s v)
-open_counted opens s ts v t index here is = ap (λ (u : Tally). nat_lt 0 u.open_near) (is ∙ index.counted v here) ∙ count_some (is_open opens s) (neighbours s.network v)
+-- the open neighbours, where the guards ask for any
+pub open_counted : (above : Bool) (opens : Option ℕ → Bool → Bool) (s : State) (ts : List Tally) (v : ℕ) (t : Tally) → above ≡ false → IsIndexOf above opens s ts → IsTrue (present s.network v) → t ≡ tally_of ts v → t.reached ≡ count_by (is_open opens s) (neighbours s.network v)
+open_counted above opens s ts v t any index here is =
+    ap (λ (u : Tally). u.reached) (is ∙ index.counted v here) ∙ ap (λ a. count_by (is_reached a opens s v) (neighbours s.network v)) any
 
-pub open_above_counted : (opens : Option ℕ → Bool → Bool) (s : State) (ts : List Tally) (v : ℕ) (t : Tally) → IsIndexOf opens s ts → IsTrue (present s.network v) → t ≡ tally_of ts v → nat_lt 0 t.open_above ≡ is_some (last_open_above opens s v)
-open_above_counted opens s ts v t index here is =
-    ap (λ (u : Tally). nat_lt 0 u.open_above) (is ∙ index.counted v here)
-    ∙ ap (nat_lt 0) (sym (count_reverse (is_open_above opens s v) (neighbours s.network v)))
-    ∙ count_some (is_open_above opens s v) (reverse (neighbours s.network v))
+-- and those above the node, where they ask for those alone
+pub open_above_counted : (above : Bool) (opens : Option ℕ → Bool → Bool) (s : State) (ts : List Tally) (v : ℕ) (t : Tally) → above ≡ true → IsIndexOf above opens s ts → IsTrue (present s.network v) → t ≡ tally_of ts v → t.reached ≡ count_by (λ w. is_open opens s w && nat_lt v w) (reverse (neighbours s.network v))
+open_above_counted above opens s ts v t higher index here is =
+    ap (λ (u : Tally). u.reached) (is ∙ index.counted v here)
+    ∙ ap (λ a. count_by (is_reached a opens s v) (neighbours s.network v)) higher
+    ∙ sym (count_reverse (λ w. is_open opens s w && nat_lt v w) (neighbours s.network v))
 
 -- no suitor
-pub no_suitor_counted : (opens : Option ℕ → Bool → Bool) (s : State) (ts : List Tally) (v : ℕ) (t : Tally) → IsIndexOf opens s ts → IsTrue (present s.network v) → t ≡ tally_of ts v → t.suitors ≡ 0 → None ≡ first_suitor s v
-no_suitor_counted opens s ts v t index here is none =
+pub no_suitor_counted : (above : Bool) (opens : Option ℕ → Bool → Bool) (s : State) (ts : List Tally) (v : ℕ) (t : Tally) → IsIndexOf above opens s ts → IsTrue (present s.network v) → t ≡ tally_of ts v → t.suitors ≡ 0 → None ≡ first_suitor s v
+no_suitor_counted above opens s ts v t index here is none =
     sym (count_none (suits s v) (neighbours s.network v) (sym (ap (λ (u : Tally). u.suitors) (is ∙ index.counted v here)) ∙ none))
 
 -- one suitor, whose name is the sum
-pub one_suitor_counted : (opens : Option ℕ → Bool → Bool) (s : State) (ts : List Tally) (v : ℕ) (t : Tally) (o : Option ℕ) → IsState s → IsIndexOf opens s ts → IsTrue (present s.network v) → t ≡ tally_of ts v → length ts ≤ 65536 → t.suitors ≡ 1 → SomeIff o ((1 ≤ t.sum) × (t.sum ≤ 65535)) t.sum → o ≡ first_suitor s v
-one_suitor_counted opens s ts v t o is_state index here is few one named =
+pub one_suitor_counted : (above : Bool) (opens : Option ℕ → Bool → Bool) (s : State) (ts : List Tally) (v : ℕ) (t : Tally) (o : Option ℕ) → IsState s → IsIndexOf above opens s ts → IsTrue (present s.network v) → t ≡ tally_of ts v → length ts ≤ 65536 → t.suitors ≡ 1 → SomeIff o ((1 ≤ t.sum) × (t.sum ≤ 65535)) t.sum → o ≡ first_suitor s v
+one_suitor_counted above opens s ts v t o is_state index here is few one named =
     let w = sum_by (name_if (suits s v)) (neighbours s.network v) in
     let sum : t.sum ≡ w = ap (λ (u : Tally). u.sum) (is ∙ index.counted v here) in
     let found : first_suitor s v ≡ Some w = count_one (suits s v) (neighbours s.network v) (sym (ap (λ (u : Tally). u.suitors) (is ∙ index.counted v here)) ∙ one) in
@@ -97,9 +101,9 @@ lone s v w is_state one first = record {
         true≢false (sym (ap is_some found.1) ∙ none)
 
 -- so it is where the count is 1 and the sum its name
-pub lone_counted : (opens : Option ℕ → Bool → Bool) (s : State) (ts : List Tally) (v : ℕ) (t : Tally) (o : Option ℕ) → IsState s → IsIndexOf opens s ts → IsTrue (present s.network v) → t ≡ tally_of ts v → length ts ≤ 65536 → t.suitors ≡ 1 → SomeIff o ((1 ≤ t.sum) × (t.sum ≤ 65535)) t.sum → MatchOption o (suitor_count s v ≢ 1) (IsLoneSuitor s v)
-lone_counted opens s ts v t o is_state index here is few one named =
+pub lone_counted : (above : Bool) (opens : Option ℕ → Bool → Bool) (s : State) (ts : List Tally) (v : ℕ) (t : Tally) (o : Option ℕ) → IsState s → IsIndexOf above opens s ts → IsTrue (present s.network v) → t ≡ tally_of ts v → length ts ≤ 65536 → t.suitors ≡ 1 → SomeIff o ((1 ≤ t.sum) × (t.sum ≤ 65535)) t.sum → MatchOption o (suitor_count s v ≢ 1) (IsLoneSuitor s v)
+lone_counted above opens s ts v t o is_state index here is few one named =
     let count : suitor_count s v ≡ 1 = sym (ap (λ (u : Tally). u.suitors) (is ∙ index.counted v here)) ∙ one in
     let w = sum_by (name_if (suits s v)) (neighbours s.network v) in
     let first : first_suitor s v ≡ Some w = count_one (suits s v) (neighbours s.network v) count in
-    subst (λ q. MatchOption q (suitor_count s v ≢ 1) (IsLoneSuitor s v)) (sym (one_suitor_counted opens s ts v t o is_state index here is few one named ∙ first)) (lone s v w is_state count first)
+    subst (λ q. MatchOption q (suitor_count s v ≢ 1) (IsLoneSuitor s v)) (sym (one_suitor_counted above opens s ts v t o is_state index here is few one named ∙ first)) (lone s v w is_state count first)

@@ -1,13 +1,14 @@
 -- What an edge changes in what is counted at its two ends.
-use Rattle.std.proofs.Common.{◌≡◌, ◌≢◌, ℕ, ◌+◌, Bool, true, false, cond, ◌&&◌, List, Option, nat_eq, nat_lt, IsTrue, refl, sym, ap, ◌∙◌, ⊎_elim, arith}
+use Rattle.std.proofs.Common.{◌≡◌, ◌≢◌, ℕ, ◌+◌, Bool, true, false, cond, ◌&&◌, List, Option, nat_eq, IsTrue, refl, sym, ap, ◌∙◌, ⊎_elim, arith}
 use Rattle.std.specs.List.{sum_by}
 use Rattle.std.proofs.lemmas.Bool.{cases_eq, eq-eqb, ne_eqb}
 use Rattle.rule_machine.specs.Network.{Network, linked, neighbours, present}
 use Rattle.rule_machine.specs.State.{Registers, points, pointer_of, flag_of}
 use Rattle.suitor_index.specs.declared.tally.Tally.{Tally}
-use Rattle.suitor_index.specs.Tallies.{state_of, tally_of, tally_at, IsIndexOf}
+use Rattle.suitor_index.specs.Tallies.{state_of, tally_of, tally_at, asks_for, IsIndexOf}
 use Rattle.suitor_index.specs.Told.{one_if, IsOpenTo}
 use Rattle.suitor_index.proofs.Near.{term, near_turn, near_same}
+use Rattle.suitor_index.proofs.Reached.{open_is}
 use Rattle.suitor_index.proofs.Turned.{tally_is}
 
 -- the second network is the first with the edge between a and b, which no pointer crosses
@@ -71,63 +72,61 @@ no_pointer r a b k n fails =
     (λ (apart : k ≢ a). at_false k a _ apart)
     (cases_eq k a)
 
-open_end : (e o : Bool) → cond e (one_if o) 0 ≡ one_if (o && e)
-open_end true true = refl
-open_end true false = refl
-open_end false true = refl
-open_end false false = refl
+-- whether b counts as open at a, where k is it
+open_end : (above o : Bool) (a b k : ℕ) → cond (nat_eq k a) (cond (asks_for above k b && o) 1 0) 0 ≡ one_if ((asks_for above a b && o) && nat_eq k a)
+open_end above o a b k =
+    ⊎_elim
+    (λ (same : k ≡ a). ap (λ n. cond (nat_eq k a) (one_if (asks_for above n b && o)) 0) same ∙ both_if (nat_eq k a) (asks_for above a b && o))
+    (λ (apart : k ≢ a). at_false k a _ apart ∙ sym (sym (both_if (nat_eq k a) (asks_for above a b && o)) ∙ at_false k a _ apart))
+    (cases_eq k a)
+  where
+    both_if : (e x : Bool) → cond e (one_if x) 0 ≡ one_if (x && e)
+    both_if true true = refl
+    both_if true false = refl
+    both_if false true = refl
+    both_if false false = refl
 
-above_end : (e o c : Bool) → cond e (one_if (o && c)) 0 ≡ one_if ((o && e) && c)
-above_end true true c = refl
-above_end true false c = refl
-above_end false true c = refl
-above_end false false c = refl
-
--- the places at which w counts as open to v, which is one of its neighbours over the edge
-abbrev pub end_of : (Option ℕ → Bool → Bool) → Registers → ℕ → ℕ → ℕ → Bool
-end_of opens r v w k = opens (pointer_of r v) (flag_of r v) && nat_eq k w
+-- w alone, where v, its neighbour over the edge, is open and asked for
+abbrev pub end_of : Bool → (Option ℕ → Bool → Bool) → Registers → ℕ → ℕ → ℕ → Bool
+end_of above opens r v w k = (asks_for above w v && opens (pointer_of r v) (flag_of r v)) && nat_eq k w
 
 -- how the tally at k in the two states is one but for the edge
-pub record IsTallyMore (opens : Option ℕ → Bool → Bool) (net more : Network) (r : Registers) (a b k : ℕ) : Type 0 where
-  pub suitors : (tally_at opens (state_of more r) k).suitors ≡ (tally_at opens (state_of net r) k).suitors
-  pub sum : (tally_at opens (state_of more r) k).sum ≡ (tally_at opens (state_of net r) k).sum
-  pub open_near : (tally_at opens (state_of more r) k).open_near ≡ (tally_at opens (state_of net r) k).open_near + one_if (end_of opens r b a k) + one_if (end_of opens r a b k)
-  pub open_above : (tally_at opens (state_of more r) k).open_above ≡ (tally_at opens (state_of net r) k).open_above + one_if (end_of opens r b a k && nat_lt k b) + one_if (end_of opens r a b k && nat_lt k a)
+pub record IsTallyMore (above : Bool) (opens : Option ℕ → Bool → Bool) (net more : Network) (r : Registers) (a b k : ℕ) : Type 0 where
+  pub suitors : (tally_at above opens (state_of more r) k).suitors ≡ (tally_at above opens (state_of net r) k).suitors
+  pub sum : (tally_at above opens (state_of more r) k).sum ≡ (tally_at above opens (state_of net r) k).sum
+  pub reached : (tally_at above opens (state_of more r) k).reached ≡ (tally_at above opens (state_of net r) k).reached + one_if (end_of above opens r b a k) + one_if (end_of above opens r a b k)
 
-pub tally_more : (opens : Option ℕ → Bool → Bool) (net more : Network) (r : Registers) (a b k : ℕ) → IsEdgeMore net more r a b → IsTallyMore opens net more r a b k
-tally_more opens net more r a b k e =
+pub tally_more : (above : Bool) (opens : Option ℕ → Bool → Bool) (net more : Network) (r : Registers) (a b k : ℕ) → IsEdgeMore net more r a b → IsTallyMore above opens net more r a b k
+tally_more above opens net more r a b k e =
     let open_at : ℕ → Bool = λ x. opens (pointer_of r x) (flag_of r x) in
     record {
       suitors = omega (arith, edge_sum net more r a b k (λ x. cond (points r x k) 1 0) e, no_pointer r a b k 1 e.not_back, no_pointer r b a k 1 e.not_there);
       sum = omega (arith, edge_sum net more r a b k (λ x. cond (points r x k) x 0) e, no_pointer r a b k b e.not_back, no_pointer r b a k a e.not_there);
-      open_near = omega (arith, edge_sum net more r a b k (λ x. cond (open_at x) 1 0) e, open_end (nat_eq k a) (open_at b), open_end (nat_eq k b) (open_at a));
-      open_above = omega (arith, edge_sum net more r a b k (λ x. cond (open_at x && nat_lt k x) 1 0) e, above_end (nat_eq k a) (open_at b) (nat_lt k b), above_end (nat_eq k b) (open_at a) (nat_lt k a));
+      reached = omega (arith, edge_sum net more r a b k (λ x. cond (asks_for above k x && open_at x) 1 0) e, open_is above opens (state_of net r) k, open_is above opens (state_of more r) k, open_end above (open_at b) a b k, open_end above (open_at a) b a k);
     }
 
 -- told of the edge at both ends, the tallies are those of the state with it
-pub index_more : (opens : Option ℕ → Bool → Bool) (net more : Network) (r : Registers) (a b : ℕ) (start half done : List Tally) → IsEdgeMore net more r a b → IsIndexOf opens (state_of net r) start → IsOpenTo (end_of opens r b a) b start half → IsOpenTo (end_of opens r a b) a half done → IsIndexOf opens (state_of more r) done
-index_more opens net more r a b start half done e index one two = record {
+pub index_more : (above : Bool) (opens : Option ℕ → Bool → Bool) (net more : Network) (r : Registers) (a b : ℕ) (start half done : List Tally) → IsEdgeMore net more r a b → IsIndexOf above opens (state_of net r) start → IsOpenTo (end_of above opens r b a) start half → IsOpenTo (end_of above opens r a b) half done → IsIndexOf above opens (state_of more r) done
+index_more above opens net more r a b start half done e index one two = record {
   places = two.places ∙ one.places ∙ index.places ∙ ap (λ n. n + 1) e.size;
   counted = λ k has.
-      let t = tally_more opens net more r a b k e in
+      let t = tally_more above opens net more r a b k e in
       let was = index.counted k (e.here k ∙ has) in
-      tally_is (tally_of done k) (tally_at opens (state_of more r) k)
+      tally_is (tally_of done k) (tally_at above opens (state_of more r) k)
       (two.suitors k ∙ one.suitors k ∙ ap (λ (x : Tally). x.suitors) was ∙ sym t.suitors)
-      (let p = two.open_near k in let q = one.open_near k in let x = ap (λ (x : Tally). x.open_near) was in let y = t.open_near in omega (arith, p, q, x, y))
-      (let p = two.open_above k in let q = one.open_above k in let x = ap (λ (x : Tally). x.open_above) was in let y = t.open_above in omega (arith, p, q, x, y))
+      (let p = two.reached k in let q = one.reached k in let x = ap (λ (x : Tally). x.reached) was in let y = t.reached in omega (arith, p, q, x, y))
       (two.sum k ∙ one.sum k ∙ ap (λ (x : Tally). x.sum) was ∙ sym t.sum);
 }
 
 -- and told that it went, those of the state without it
-pub index_less : (opens : Option ℕ → Bool → Bool) (net more : Network) (r : Registers) (a b : ℕ) (start half done : List Tally) → IsEdgeMore net more r a b → IsIndexOf opens (state_of more r) start → IsOpenTo (end_of opens r a b) a half start → IsOpenTo (end_of opens r b a) b done half → IsIndexOf opens (state_of net r) done
-index_less opens net more r a b start half done e index two one = record {
+pub index_less : (above : Bool) (opens : Option ℕ → Bool → Bool) (net more : Network) (r : Registers) (a b : ℕ) (start half done : List Tally) → IsEdgeMore net more r a b → IsIndexOf above opens (state_of more r) start → IsOpenTo (end_of above opens r a b) half start → IsOpenTo (end_of above opens r b a) done half → IsIndexOf above opens (state_of net r) done
+index_less above opens net more r a b start half done e index two one = record {
   places = sym one.places ∙ sym two.places ∙ index.places ∙ ap (λ n. n + 1) (sym e.size);
   counted = λ k has.
-      let t = tally_more opens net more r a b k e in
+      let t = tally_more above opens net more r a b k e in
       let was = index.counted k (sym (e.here k) ∙ has) in
-      tally_is (tally_of done k) (tally_at opens (state_of net r) k)
+      tally_is (tally_of done k) (tally_at above opens (state_of net r) k)
       (sym (one.suitors k) ∙ sym (two.suitors k) ∙ ap (λ (x : Tally). x.suitors) was ∙ t.suitors)
-      (let p = two.open_near k in let q = one.open_near k in let x = ap (λ (x : Tally). x.open_near) was in let y = t.open_near in omega (arith, p, q, x, y))
-      (let p = two.open_above k in let q = one.open_above k in let x = ap (λ (x : Tally). x.open_above) was in let y = t.open_above in omega (arith, p, q, x, y))
+      (let p = two.reached k in let q = one.reached k in let x = ap (λ (x : Tally). x.reached) was in let y = t.reached in omega (arith, p, q, x, y))
       (sym (one.sum k) ∙ sym (two.sum k) ∙ ap (λ (x : Tally). x.sum) was ∙ t.sum);
 }

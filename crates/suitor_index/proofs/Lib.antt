@@ -2,6 +2,7 @@ pub mod Loops
 pub mod Sums
 pub mod Counts
 pub mod Near
+pub mod Reached
 pub mod Turned
 pub mod Changed
 pub mod Ends

@@ -1,7 +1,7 @@
 -- An index that is told of an edge.
-use Rattle.std.proofs.Common.{◌≡◌, ◌≢◌, ℕ, ◌≤◌, Bool, true, false, not, ◌&&◌, ◌||◌, List, Option, None, nat_eq, nat_lt, IsTrue, refl, sym, ap, ◌∙◌, ⊎_elim, arith}
+use Rattle.std.proofs.Common.{◌≡◌, ◌≢◌, ℕ, ◌<◌, ◌≤◌, Bool, true, false, not, ◌&&◌, ◌||◌, List, Option, None, nat_eq, IsTrue, refl, sym, ap, ◌∙◌, ⊎_elim, arith}
 use Rattle.std.specs.Ordering.{eq_by_cmp}
-use Rattle.std.proofs.lemmas.Bool.{and_parts, eq-eqb, ne_eqb, false_from_ne_true, true≢false, lt-ltb, or_left, and_right}
+use Rattle.std.proofs.lemmas.Bool.{and_parts, eq-eqb, ne_eqb, false_from_ne_true, true≢false, or_left, and_right}
 use Rattle.std.proofs.lemmas.Cmp.{eq_by_cmp_equiv}
 use Rattle.std.proofs.lemmas.Map.Views.{tells_apart}
 use Rattle.rule_machine.specs.Network.{Network, pair_cmp, edge, linked, present, with_edge, without_edge}
@@ -12,9 +12,9 @@ use Rattle.machine_laws.specs.Search.{cond-none}
 use Rattle.machine_laws.specs.Neighbours.{linked_apart, linked_present, linked_back}
 use Rattle.machine_laws.specs.Pointers.{points_true, pointer_linked}
 use Rattle.suitor_index.specs.declared.tally.Tally.{Tally}
-use Rattle.suitor_index.specs.Tallies.{state_of, tally_of, IsIndexOf}
-use Rattle.suitor_index.specs.Told.{one_if, IsOpenTo, CanOpen, CountsOpen}
-use Rattle.suitor_index.proofs.Loops.{can_open_still, counts_open_still}
+use Rattle.suitor_index.specs.Tallies.{state_of, tally_of, asks_for, IsIndexOf}
+use Rattle.suitor_index.specs.Told.{one_if, IsOpenTo}
+use Rattle.suitor_index.proofs.Loops.{open_still}
 use Rattle.suitor_index.proofs.Turned.{tally_small}
 use Rattle.suitor_index.proofs.Ends.{IsEdgeMore, end_of, tally_more}
 
@@ -98,55 +98,41 @@ edge_swapped net more r a b e = record {
   not_back = e.not_there;
 }
 
-end_here : (opens : Option ℕ → Bool → Bool) (r : Registers) (a b : ℕ) → opens (pointer_of r b) (flag_of r b) ≡ true → end_of opens r b a a ≡ true
-end_here opens r a b open_b = ap (λ o. o && nat_eq a a) open_b ∙ eq-eqb a a refl
+end_here : (above : Bool) (opens : Option ℕ → Bool → Bool) (r : Registers) (a b : ℕ) → (asks_for above a b && opens (pointer_of r b) (flag_of r b)) ≡ true → one_if (end_of above opens r b a a) ≡ 1
+end_here above opens r a b counts = ap one_if (ap (λ o. o && nat_eq a a) counts ∙ eq-eqb a a refl)
 
-end_elsewhere : (opens : Option ℕ → Bool → Bool) (r : Registers) (a b k : ℕ) → k ≢ a → end_of opens r b a k ≡ false
-end_elsewhere opens r a b k apart = and_right (opens (pointer_of r b) (flag_of r b)) (nat_eq k a) (ne_eqb k a apart)
+end_elsewhere : (above : Bool) (opens : Option ℕ → Bool → Bool) (r : Registers) (a b k : ℕ) → k ≢ a → end_of above opens r b a k ≡ false
+end_elsewhere above opens r a b k apart = and_right (asks_for above a b && opens (pointer_of r b) (flag_of r b)) (nat_eq k a) (ne_eqb k a apart)
 
 -- at an end there is room to count the other
-pub end_room : (opens : Option ℕ → Bool → Bool) (net more : Network) (r : Registers) (a b : ℕ) (start : List Tally) → IsEdgeMore net more r a b → IsIndexOf opens (state_of net r) start → net.size ≤ 65535 → opens (pointer_of r b) (flag_of r b) ≡ true → CanOpen a b (tally_of start a)
-end_room opens net more r a b start e index few open_b =
-    let t = tally_more opens net more r a b a e in
+pub end_room : (above : Bool) (opens : Option ℕ → Bool → Bool) (net more : Network) (r : Registers) (a b : ℕ) (start : List Tally) → IsEdgeMore net more r a b → IsIndexOf above opens (state_of net r) start → net.size ≤ 65535 → (asks_for above a b && opens (pointer_of r b) (flag_of r b)) ≡ true → (tally_of start a).reached < 65535
+end_room above opens net more r a b start e index few counts =
+    let t = tally_more above opens net more r a b a e in
     let was = index.counted a e.has_a in
-    let small = tally_small opens (state_of more r) a (let s = e.size in omega arith) in
-    let near = t.open_near in
-    let above = t.open_above in
-    let most = small.open_near in
-    let most_above = small.open_above in
-    let one : one_if (end_of opens r b a a) ≡ 1 = ap one_if (end_here opens r a b open_b) in
-    let x = ap (λ (y : Tally). y.open_near) was in
-    let z = ap (λ (y : Tally). y.open_above) was in
-    record {
-      open_near = omega (arith, near, most, one, x);
-      open_above = λ below.
-          let two : one_if (end_of opens r b a a && nat_lt a b) ≡ 1 = ap (λ t. one_if (t && nat_lt a b)) (end_here opens r a b open_b) ∙ ap one_if (lt-ltb a b below) in
-          omega (arith, above, most_above, two, z);
-    }
+    let small = tally_small above opens (state_of more r) a (let s = e.size in omega arith) in
+    let now = t.reached in
+    let most = small.reached in
+    let x = ap (λ (y : Tally). y.reached) was in
+    omega (arith, now, most, end_here above opens r a b counts, x)
 
 -- and it is counted where the edge is
-pub end_counted : (opens : Option ℕ → Bool → Bool) (net more : Network) (r : Registers) (a b : ℕ) (start : List Tally) → IsEdgeMore net more r a b → IsIndexOf opens (state_of more r) start → opens (pointer_of r b) (flag_of r b) ≡ true → CountsOpen a b (tally_of start a)
-end_counted opens net more r a b start e index open_b =
-    let t = tally_more opens net more r a b a e in
+pub end_counted : (above : Bool) (opens : Option ℕ → Bool → Bool) (net more : Network) (r : Registers) (a b : ℕ) (start : List Tally) → IsEdgeMore net more r a b → IsIndexOf above opens (state_of more r) start → (asks_for above a b && opens (pointer_of r b) (flag_of r b)) ≡ true → 1 ≤ (tally_of start a).reached
+end_counted above opens net more r a b start e index counts =
+    let t = tally_more above opens net more r a b a e in
     let was = index.counted a (sym (e.here a) ∙ e.has_a) in
-    let near = t.open_near in
-    let above = t.open_above in
-    let one : one_if (end_of opens r b a a) ≡ 1 = ap one_if (end_here opens r a b open_b) in
-    let x = ap (λ (y : Tally). y.open_near) was in
-    let z = ap (λ (y : Tally). y.open_above) was in
-    record {
-      open_near = omega (arith, near, one, x);
-      open_above = λ below.
-          let two : one_if (end_of opens r b a a && nat_lt a b) ≡ 1 = ap (λ t. one_if (t && nat_lt a b)) (end_here opens r a b open_b) ∙ ap one_if (lt-ltb a b below) in
-          omega (arith, above, two, z);
-    }
+    let now = t.reached in
+    let x = ap (λ (y : Tally). y.reached) was in
+    omega (arith, now, end_here above opens r a b counts, x)
 
 -- once the first end is told, the other is as it was
-pub second_room : (opens : Option ℕ → Bool → Bool) (net more : Network) (r : Registers) (a b : ℕ) (start half : List Tally) → IsEdgeMore net more r a b → IsIndexOf opens (state_of net r) start → net.size ≤ 65535 → IsOpenTo (end_of opens r b a) b start half → opens (pointer_of r a) (flag_of r a) ≡ true → CanOpen b a (tally_of half b)
-second_room opens net more r a b start half e index few told open_a =
-    can_open_still (end_of opens r b a) b a start half b told (end_elsewhere opens r a b b (λ same. e.apart (sym same)))
-    (end_room opens net more r b a start (edge_swapped net more r a b e) index few open_a)
+pub second_room : (above : Bool) (opens : Option ℕ → Bool → Bool) (net more : Network) (r : Registers) (a b : ℕ) (start half : List Tally) → IsEdgeMore net more r a b → IsIndexOf above opens (state_of net r) start → net.size ≤ 65535 → IsOpenTo (end_of above opens r b a) start half → (asks_for above b a && opens (pointer_of r a) (flag_of r a)) ≡ true → (tally_of half b).reached < 65535
+second_room above opens net more r a b start half e index few told counts =
+    let same = open_still (end_of above opens r b a) start half b told (end_elsewhere above opens r a b b (λ same. e.apart (sym same))) in
+    let room = end_room above opens net more r b a start (edge_swapped net more r a b e) index few counts in
+    omega (arith, same, room)
 
-pub second_counted : (opens : Option ℕ → Bool → Bool) (net more : Network) (r : Registers) (a b : ℕ) (start half : List Tally) → IsEdgeMore net more r a b → IsIndexOf opens (state_of more r) start → IsOpenTo (end_of opens r a b) a half start → opens (pointer_of r b) (flag_of r b) ≡ true → CountsOpen a b (tally_of half a)
-second_counted opens net more r a b start half e index told open_b =
-    counts_open_still (end_of opens r a b) a b start half a told (end_elsewhere opens r b a a e.apart) (end_counted opens net more r a b start e index open_b)
+pub second_counted : (above : Bool) (opens : Option ℕ → Bool → Bool) (net more : Network) (r : Registers) (a b : ℕ) (start half : List Tally) → IsEdgeMore net more r a b → IsIndexOf above opens (state_of more r) start → IsOpenTo (end_of above opens r a b) half start → (asks_for above a b && opens (pointer_of r b) (flag_of r b)) ≡ true → 1 ≤ (tally_of half a).reached
+second_counted above opens net more r a b start half e index told counts =
+    let same = open_still (end_of above opens r a b) half start a told (end_elsewhere above opens r b a a e.apart) in
+    let counted = end_counted above opens net more r a b start e index counts in
+    omega (arith, same, counted)

@@ -1,14 +1,15 @@
 -- A node that is counted as open at one name after another.
-use Rattle.std.proofs.Common.{◌≡◌, ℕ, ◌+◌, ◌<◌, Bool, true, false, ◌&&◌, ◌||◌, List, length, get_or, take, nat_eq, nat_lt, refl, sym, ap, ◌∙◌, arith}
+use Rattle.std.proofs.Common.{◌≡◌, ◌≢◌, ℕ, ◌+◌, ◌<◌, ◌≤◌, Bool, true, false, ◌&&◌, ◌||◌, List, length, get_or, take, nat_eq, nat_lt, refl, sym, ap, ap₂, ◌∙◌, ⊎_elim, arith}
 use Rattle.std.specs.List.{list_any}
+use Rattle.std.specs.Cmp.{both_ways}
 use Rattle.std.specs.List.Sorted.{IsStrictlyIncreasing}
-use Rattle.std.proofs.lemmas.Bool.{ne_eqb, eqb-true, eq-eqb, false_from_ne_true, true≢false}
+use Rattle.std.proofs.lemmas.Bool.{and_parts, cases_eq, le-ltb, ltb-false, ltb-true, or_cases, ne_eqb, eqb-true, eq-eqb, false_from_ne_true, true≢false}
 use Rattle.std.proofs.lemmas.List.{get_or-take, get_or_default, length-take}
-use Rattle.std.proofs.lemmas.List.Folds.{list_any_none, list_any_more, list_any_at}
+use Rattle.std.proofs.lemmas.List.Folds.{Any-from_list_any, list_any_none, list_any_more, list_any_at}
 use Rattle.std.proofs.lemmas.List.Kept.{AllPairs-from_increasing}
 use Rattle.suitor_index.specs.declared.tally.Tally.{Tally}
-use Rattle.suitor_index.specs.Tallies.{tally_of}
-use Rattle.suitor_index.specs.Told.{IsOpenTo, CanOpen, CountsOpen, one_if}
+use Rattle.suitor_index.specs.Tallies.{tally_of, asks_for}
+use Rattle.suitor_index.specs.Told.{IsOpenTo, one_if}
 
 -- two tests that don't both pass are counted one after the other
 one_or : (a b : Bool) → (b ≡ true → a ≡ false) → one_if (a || b) ≡ one_if a + one_if b
@@ -16,20 +17,22 @@ one_or true true apart = absurd (let h = apart refl in cc)
 one_or true false apart = refl
 one_or false b apart = omega arith
 
-one_or_and : (a b c : Bool) → (b ≡ true → a ≡ false) → one_if ((a || b) && c) ≡ one_if (a && c) + one_if (b && c)
-one_or_and true true c apart = absurd (let h = apart refl in cc)
-one_or_and true false true apart = refl
-one_or_and true false false apart = refl
-one_or_and false b c apart = omega arith
-
 -- the places of two tests that don't both pass
-pub open_both : (p q r : ℕ → Bool) (v : ℕ) (a b c : List Tally) → ((k : ℕ) → q k ≡ true → p k ≡ false) → ((k : ℕ) → r k ≡ (p k || q k)) → IsOpenTo p v a b → IsOpenTo q v b c → IsOpenTo r v a c
-open_both p q r v a b c apart joined first second = record {
+pub open_both : (p q r : ℕ → Bool) (a b c : List Tally) → ((k : ℕ) → q k ≡ true → p k ≡ false) → ((k : ℕ) → r k ≡ (p k || q k)) → IsOpenTo p a b → IsOpenTo q b c → IsOpenTo r a c
+open_both p q r a b c apart joined first second = record {
   places = second.places ∙ first.places;
   suitors = λ k. second.suitors k ∙ first.suitors k;
   sum = λ k. second.sum k ∙ first.sum k;
-  open_near = λ k. let e = ap one_if (joined k) ∙ one_or (p k) (q k) (apart k) in let f = first.open_near k in let s = second.open_near k in omega arith;
-  open_above = λ k. let e = ap (λ t. one_if (t && nat_lt k v)) (joined k) ∙ one_or_and (p k) (q k) (nat_lt k v) (apart k) in let f = first.open_above k in let s = second.open_above k in omega arith;
+  reached = λ k. let e = ap one_if (joined k) ∙ one_or (p k) (q k) (apart k) in let f = first.reached k in let s = second.reached k in omega arith;
+}
+
+-- the same places by another test
+pub open_alike : (p q : ℕ → Bool) (a b : List Tally) → ((k : ℕ) → p k ≡ q k) → IsOpenTo p a b → IsOpenTo q a b
+open_alike p q a b same told = record {
+  places = told.places;
+  suitors = told.suitors;
+  sum = told.sum;
+  reached = λ k. told.reached k ∙ ap (λ t. (tally_of a k).reached + one_if t) (same k);
 }
 
 -- a name of a rising list stands nowhere before its place
@@ -54,23 +57,64 @@ pub near_there : (nodes : List ℕ) (i w : ℕ) → i < length nodes → w ≡ g
 near_there nodes i w inside is = list_any_at (nat_eq w) nodes i w inside (eq-eqb w (get_or nodes i w) is)
 
 -- a place that does not pass is as it was
-pub can_open_still : (p : ℕ → Bool) (v u : ℕ) (start so_far : List Tally) (w : ℕ) → IsOpenTo p v start so_far → p w ≡ false → CanOpen w u (tally_of start w) → CanOpen w u (tally_of so_far w)
-can_open_still p v u start so_far w told fails room =
-    let near = told.open_near w in
-    let above = told.open_above w in
+pub open_still : (p : ℕ → Bool) (a b : List Tally) (w : ℕ) → IsOpenTo p a b → p w ≡ false → (tally_of b w).reached ≡ (tally_of a w).reached
+open_still p a b w told fails =
+    let now = told.reached w in
     let none : one_if (p w) ≡ 0 = ap one_if fails in
-    let none_above : one_if (p w && nat_lt w v) ≡ 0 = ap (λ b. one_if (b && nat_lt w v)) fails in
-    let one = room.open_near in
-    record { open_near = omega arith; open_above = λ below. let two = room.open_above below in omega arith }
+    omega arith
 
-pub counts_open_still : (p : ℕ → Bool) (v u : ℕ) (start so_far : List Tally) (w : ℕ) → IsOpenTo p v so_far start → p w ≡ false → CountsOpen w u (tally_of start w) → CountsOpen w u (tally_of so_far w)
-counts_open_still p v u start so_far w told fails counted =
-    let near = told.open_near w in
-    let above = told.open_above w in
-    let none : one_if (p w) ≡ 0 = ap one_if fails in
-    let none_above : one_if (p w && nat_lt w v) ≡ 0 = ap (λ b. one_if (b && nat_lt w v)) fails in
-    let one = counted.open_near in
-    record { open_near = omega arith; open_above = λ below. let two = counted.open_above below in omega arith }
+-- v is asked for at each of the names so far
+abbrev pub AllAsk : Bool → ℕ → List ℕ → Type 0
+AllAsk above v nodes = (k : ℕ) → list_any (nat_eq k) nodes ≡ true → asks_for above k v ≡ true
+
+pub all_ask_more : (above : Bool) (v : ℕ) (nodes : List ℕ) (i w : ℕ) → i < length nodes → w ≡ get_or nodes i w → asks_for above w v ≡ true → AllAsk above v (take i nodes) → AllAsk above v (take (i + 1) nodes)
+all_ask_more above v nodes i w inside is asks so_far k listed =
+    ⊎_elim
+    (λ (before : list_any (nat_eq k) (take i nodes) ≡ true). so_far k before)
+    (λ (here : nat_eq k w ≡ true). ap (λ x. asks_for above x v) (eqb-true k w here) ∙ asks)
+    (or_cases (list_any (nat_eq k) (take i nodes)) (nat_eq k w) (sym (near_more nodes i w k inside is) ∙ listed))
+
+-- what is among the first is among all
+taken_any : (p : ℕ → Bool) (nodes : List ℕ) (i : ℕ) → list_any p (take i nodes) ≡ true → list_any p nodes ≡ true
+taken_any p nodes i found =
+    let (k, x, low, at, passes) = Any-from_list_any p (take i nodes) found in
+    list_any_at p nodes k x (omega (arith, low, length-take i nodes)) (ap p (sym (get_or-take i nodes k x (omega (arith, low, length-take i nodes))) ∙ at) ∙ passes)
+
+-- a name that is below the place's stands before it
+any_before : (nodes : List ℕ) (i w k : ℕ) → IsStrictlyIncreasing nodes → i < length nodes → w ≡ get_or nodes i w → list_any (nat_eq k) nodes ≡ true → (w ≤ k → ⊥) → list_any (nat_eq k) (take i nodes) ≡ true
+any_before nodes i w k rising inside is listed below =
+    let (j, x, low, at, passes) = Any-from_list_any (nat_eq k) nodes listed in
+    let same : k ≡ x = eqb-true k x passes in
+    let found : get_or nodes j w ≡ k = get_or_default nodes j w x low ∙ at ∙ sym same in
+    place j x low at passes found (nat_lt j i) refl
+  where
+    place : (j x : ℕ) → j < length nodes → get_or nodes j x ≡ x → nat_eq k x ≡ true → get_or nodes j w ≡ k → (b : Bool) → nat_lt j i ≡ b → list_any (nat_eq k) (take i nodes) ≡ true
+    place j x low at passes found true before =
+        let lt = ltb-true j i before in
+        list_any_at (nat_eq k) (take i nodes) j x (omega (arith, lt, low, length-take i nodes)) (ap (nat_eq k) (get_or-take i nodes j x lt ∙ at) ∙ passes)
+    place j x low at passes found false after =
+        let ge = ltb-false j i after in
+        absurd (below (⊎_elim
+        (λ (here : i ≡ j). let e = ap (λ n. get_or nodes n w) here in omega (arith, e, found, is))
+        (λ (apart : i ≢ j). let lt = AllPairs-from_increasing nodes rising i j w (omega arith) low in omega (arith, lt, found, is))
+        (cases_eq i j)))
+
+-- who does not ask is above v, and so is every later name
+later_ask_not : (above : Bool) (v w k : ℕ) → asks_for above w v ≡ false → w ≤ k → asks_for above k v ≡ false
+later_ask_not true v w k none later = let high = ltb-false w v none in le-ltb k v (omega arith)
+later_ask_not false v w k none later = absurd (let e : true ≡ false = none in cc)
+
+-- where one does not ask, those so far are all that do
+pub asked_so_far : (above : Bool) (v : ℕ) (nodes : List ℕ) (i w k : ℕ) → IsStrictlyIncreasing nodes → i < length nodes → w ≡ get_or nodes i w → asks_for above w v ≡ false → AllAsk above v (take i nodes) → list_any (nat_eq k) (take i nodes) ≡ (list_any (nat_eq k) nodes && asks_for above k v)
+asked_so_far above v nodes i w k rising inside is none so_far = both_ways _ _ there back
+  where
+    there : list_any (nat_eq k) (take i nodes) ≡ true → (list_any (nat_eq k) nodes && asks_for above k v) ≡ true
+    there listed = ap₂ (λ (a b : Bool). a && b) (taken_any (nat_eq k) nodes i listed) (so_far k listed)
+
+    back : (list_any (nat_eq k) nodes && asks_for above k v) ≡ true → list_any (nat_eq k) (take i nodes) ≡ true
+    back both =
+        let parts = and_parts (list_any (nat_eq k) nodes) (asks_for above k v) both in
+        any_before nodes i w k rising inside is parts.0 (λ later. true≢false (sym parts.1 ∙ later_ask_not above v w k none later))
 
 -- the same two of the next before those so far
 pub near_more_back : (nodes : List ℕ) (i w k : ℕ) → i < length nodes → w ≡ get_or nodes i w → list_any (nat_eq k) (take (i + 1) nodes) ≡ (nat_eq k w || list_any (nat_eq k) (take i nodes))

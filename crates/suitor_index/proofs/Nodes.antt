@@ -1,46 +1,53 @@
 -- Who is present changes nothing of what is counted, but where a node comes.
-use Rattle.std.proofs.Common.{◌≡◌, ◌≢◌, ℕ, ◌≤◌, Bool, true, false, cond, List, [], ◌∷◌, filter, set, Option, IsTrue, refl, sym, ap, ◌∙◌, ⊎_elim, arith}
+use Rattle.std.proofs.Common.{◌&&◌, ◌≡◌, ◌≢◌, ℕ, ◌≤◌, Bool, true, false, cond, List, [], ◌∷◌, filter, set, Option, IsTrue, refl, sym, ap, ◌∙◌, ⊎_elim, arith}
 use Rattle.std.specs.List.{count_by, sum_by, range_with_len}
 use Rattle.std.proofs.lemmas.Bool.{cases_eq, false_from_ne_true, true≢false}
 use Rattle.std.proofs.lemmas.List.{get_or-set_same, get_or-set_other, length-set}
-use Rattle.rule_machine.specs.Network.{Network, IsNetwork, present, linked, with_node}
+use Rattle.rule_machine.specs.Network.{Network, IsNetwork, present, linked, neighbours, with_node}
 use Rattle.rule_machine.specs.State.{Registers, IsState, suits}
 use Rattle.rule_machine.specs.RuleTable.{is_open}
 use Rattle.machine_laws.specs.Edges.{present_other, with_node_is_network}
 use Rattle.machine_laws.specs.Neighbours.{linked_present, neighbours_range}
 use Rattle.suitor_index.specs.declared.tally.Tally.{Tally}
-use Rattle.suitor_index.specs.Tallies.{state_of, nothing, tally_of, tally_at, name_if, is_open_above, IsIndexOf}
+use Rattle.suitor_index.specs.Tallies.{state_of, nothing, tally_of, tally_at, name_if, asks_for, IsIndexOf}
+use Rattle.suitor_index.proofs.Reached.{open_is}
 
 -- what a scan of these nodes counts
-abbrev tally_over : (Option ℕ → Bool → Bool) → Network → Registers → ℕ → List ℕ → Tally
-tally_over opens net r v nodes = record {
+abbrev tally_over : Bool → (Option ℕ → Bool → Bool) → Network → Registers → ℕ → List ℕ → Tally
+tally_over above opens net r v nodes = record {
   suitors = count_by (suits (state_of net r) v) nodes;
-  open_near = count_by (is_open opens (state_of net r)) nodes;
-  open_above = count_by (is_open_above opens (state_of net r) v) nodes;
+  reached = count_by (λ w. asks_for above v w && is_open opens (state_of net r) w) nodes;
   sum = sum_by (name_if (suits (state_of net r) v)) nodes;
 }
+
+over_all : (above : Bool) (opens : Option ℕ → Bool → Bool) (net : Network) (r : Registers) (v : ℕ) → tally_at above opens (state_of net r) v ≡ tally_over above opens net r v (neighbours net v)
+over_all above opens net r v =
+    let now = tally_at above opens (state_of net r) v in
+    λ i. record { suitors = now.suitors; reached = open_is above opens (state_of net r) v i; sum = now.sum }
 
 -- a network with another row of those who are present
 abbrev with_row : Network → List Bool → Network
 with_row net row = record net { here = row }
 
 -- a node's tally goes by its edges alone
-tally_stays : (opens : Option ℕ → Bool → Bool) (net : Network) (row : List Bool) (r : Registers) (k : ℕ) → IsNetwork net → IsNetwork (with_row net row) → tally_at opens (state_of net r) k ≡ tally_at opens (state_of (with_row net row) r) k
-tally_stays opens net row r k good now =
-    ap (tally_over opens net r k) (neighbours_range net k good ∙ sym (neighbours_range (with_row net row) k now))
+tally_stays : (above : Bool) (opens : Option ℕ → Bool → Bool) (net : Network) (row : List Bool) (r : Registers) (k : ℕ) → IsNetwork net → IsNetwork (with_row net row) → tally_at above opens (state_of net r) k ≡ tally_at above opens (state_of (with_row net row) r) k
+tally_stays above opens net row r k good now =
+    over_all above opens net r k
+    ∙ ap (tally_over above opens net r k) (neighbours_range net k good ∙ sym (neighbours_range (with_row net row) k now))
+    ∙ sym (over_all above opens (with_row net row) r k)
 
 none_pass : (p : ℕ → Bool) (xs : List ℕ) → ((x : ℕ) → p x ≡ false) → filter p xs ≡ []
 none_pass p [] h = refl
 none_pass p (x ∷ xs) h = ap (λ b. cond b (x ∷ filter p xs) (filter p xs)) (h x) ∙ none_pass p xs h
 
 -- at a node without an edge nothing is counted
-pub nothing_counted : (opens : Option ℕ → Bool → Bool) (net : Network) (r : Registers) (v : ℕ) → ((w : ℕ) → linked net v w ≡ false) → tally_at opens (state_of net r) v ≡ nothing
-nothing_counted opens net r v apart =
-    ap (tally_over opens net r v) (none_pass (linked net v) (filter (present net) (range_with_len 1 net.size)) apart)
+pub nothing_counted : (above : Bool) (opens : Option ℕ → Bool → Bool) (net : Network) (r : Registers) (v : ℕ) → ((w : ℕ) → linked net v w ≡ false) → tally_at above opens (state_of net r) v ≡ nothing
+nothing_counted above opens net r v apart =
+    over_all above opens net r v ∙ ap (tally_over above opens net r v) (none_pass (linked net v) (filter (present net) (range_with_len 1 net.size)) apart)
 
 -- the place of a name that becomes present is cleared
-pub index_joined : (opens : Option ℕ → Bool → Bool) (net : Network) (r : Registers) (v : ℕ) (tallies : List Tally) → IsState (state_of net r) → 1 ≤ v → v ≤ net.size → present net v ≡ false → IsIndexOf opens (state_of net r) tallies → IsIndexOf opens (state_of (with_node net v) r) (set tallies v nothing)
-index_joined opens net r v tallies good low high absent index =
+pub index_joined : (above : Bool) (opens : Option ℕ → Bool → Bool) (net : Network) (r : Registers) (v : ℕ) (tallies : List Tally) → IsState (state_of net r) → 1 ≤ v → v ≤ net.size → present net v ≡ false → IsIndexOf above opens (state_of net r) tallies → IsIndexOf above opens (state_of (with_node net v) r) (set tallies v nothing)
+index_joined above opens net r v tallies good low high absent index =
     let places = index.places in
     let is_network = with_node_is_network net v low good.is_network in
     let apart : (w : ℕ) → linked net v w ≡ false = λ w. false_from_ne_true (linked net v w) (λ h. true≢false (sym (linked_present net v w good.is_network h) ∙ absent)) in
@@ -51,19 +58,19 @@ index_joined opens net r v tallies good low high absent index =
           (λ (here : k ≡ v).
           ap (tally_of (set tallies v nothing)) here
           ∙ get_or-set_same tallies v nothing nothing (omega arith)
-          ∙ sym (ap (tally_at opens (state_of (with_node net v) r)) here ∙ nothing_counted opens (with_node net v) r v apart))
+          ∙ sym (ap (tally_at above opens (state_of (with_node net v) r)) here ∙ nothing_counted above opens (with_node net v) r v apart))
           (λ (other : k ≢ v).
           get_or-set_other tallies v k nothing nothing other
           ∙ index.counted k (sym (present_other net v true k other) ∙ has)
-          ∙ tally_stays opens net (set net.here v true) r k good.is_network is_network)
+          ∙ tally_stays above opens net (set net.here v true) r k good.is_network is_network)
           (cases_eq k v);
     }
 
 -- a name that goes without an edge leaves the others' places as they are
-pub index_parted : (opens : Option ℕ → Bool → Bool) (net : Network) (r : Registers) (v : ℕ) (tallies : List Tally) → IsNetwork net → IsNetwork (record net { here = set net.here v false }) → IsTrue (present net v) → IsIndexOf opens (state_of net r) tallies → IsIndexOf opens (state_of (record net { here = set net.here v false }) r) tallies
-index_parted opens net r v tallies good now was index = record {
+pub index_parted : (above : Bool) (opens : Option ℕ → Bool → Bool) (net : Network) (r : Registers) (v : ℕ) (tallies : List Tally) → IsNetwork net → IsNetwork (record net { here = set net.here v false }) → IsTrue (present net v) → IsIndexOf above opens (state_of net r) tallies → IsIndexOf above opens (state_of (record net { here = set net.here v false }) r) tallies
+index_parted above opens net r v tallies good now was index = record {
   places = index.places;
   counted = λ k has.
       index.counted k (⊎_elim (λ (here : k ≡ v). ap (present net) here ∙ was) (λ (other : k ≢ v). sym (present_other net v false k other) ∙ has) (cases_eq k v))
-      ∙ tally_stays opens net (set net.here v false) r k good now;
+      ∙ tally_stays above opens net (set net.here v false) r k good now;
 }

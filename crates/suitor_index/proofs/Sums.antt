@@ -1,5 +1,5 @@
 -- Sums and counts over a list.
-use Rattle.std.proofs.Common.{◌&&◌, ◌≡◌, ◌≢◌, ℕ, zero, suc, ◌+◌, ◌*◌, ◌<◌, ◌≤◌, Bool, true, false, cond, List, [], ◌∷◌, reverse, filter, find, length, get_or, take, Option, Some, None, is_some, nat_lt, refl, sym, ap, ◌∙◌, ⊎_elim, arith}
+use Rattle.std.proofs.Common.{◌≡◌, ◌≢◌, ℕ, zero, suc, ◌+◌, ◌*◌, ◌<◌, ◌≤◌, Bool, true, false, cond, List, [], ◌∷◌, reverse, filter, find, length, get_or, take, Option, Some, None, is_some, nat_lt, refl, sym, ap, ◌∙◌, ⊎_elim, arith}
 use Rattle.std.specs.List.{sum_by, count_by, range_with_len}
 use Rattle.std.proofs.lemmas.Bool.{cases_eq, lt-ltb}
 use Rattle.std.proofs.lemmas.List.Sums.{sum_by-cons, sum_by_more}
@@ -121,6 +121,3 @@ names_take_more p nodes i w after before b inside is so_far more passes =
 pub one_if_small : (b : Bool) → one_if b ≤ 1
 one_if_small true = omega arith
 one_if_small false = omega arith
-
-pub same_and : (a b c : Bool) → a ≡ b → (a && c) ≡ (b && c)
-same_and a b c same = ap (λ t. t && c) same

@@ -11,8 +11,8 @@ use Rattle.suitor_index.specs.Tallies.{IsIndexOf}
 use Rattle.suitor_index.specs.Before.{IsBeforeLink, IsBeforeUnlink, IsBeforePoint, IsBeforeFlag, IsBeforeJoin}
 
 -- an edge is put in
-pub before_link : (opens : Option ℕ → Bool → Bool) (s : State) (a b : ℕ) (tallies : List Tally) → IsState s → link_refusal s.network a b ≡ None → IsIndexOf opens s tallies → IsBeforeLink opens (after_link s a b) a b tallies
-before_link opens s a b tallies good accepted index = record {
+pub before_link : (above : Bool) (opens : Option ℕ → Bool → Bool) (s : State) (a b : ℕ) (tallies : List Tally) → IsState s → link_refusal s.network a b ≡ None → IsIndexOf above opens s tallies → IsBeforeLink above opens (after_link s a b) a b tallies
+before_link above opens s a b tallies good accepted index = record {
   network = s.network;
   is_state = good;
   accepted = accepted;
@@ -21,8 +21,8 @@ before_link opens s a b tallies good accepted index = record {
 }
 
 -- an edge that no pointer crosses is taken out
-pub before_unlink : (opens : Option ℕ → Bool → Bool) (s : State) (a b : ℕ) (tallies : List Tally) → IsState s → IsTrue (linked s.network a b) → points s.registers a b ≡ false → points s.registers b a ≡ false → IsIndexOf opens s tallies → IsBeforeUnlink opens (record s { network = without_edge s.network a b }) a b tallies
-before_unlink opens s a b tallies good there not_there not_back index = record {
+pub before_unlink : (above : Bool) (opens : Option ℕ → Bool → Bool) (s : State) (a b : ℕ) (tallies : List Tally) → IsState s → IsTrue (linked s.network a b) → points s.registers a b ≡ false → points s.registers b a ≡ false → IsIndexOf above opens s tallies → IsBeforeUnlink above opens (record s { network = without_edge s.network a b }) a b tallies
+before_unlink above opens s a b tallies good there not_there not_back index = record {
   network = s.network;
   is_state = good;
   was_linked = there;
@@ -33,8 +33,8 @@ before_unlink opens s a b tallies good there not_there not_back index = record {
 }
 
 -- a pointer is written, with whatever it held before
-pub before_point : (opens : Option ℕ → Bool → Bool) (s : State) (v : ℕ) (target : Option ℕ) (tallies : List Tally) → IsState s → IsTrue (present s.network v) → IsIndexOf opens s tallies → IsBeforePoint opens (after_point s v target) v (pointer s v) tallies
-before_point opens s v target tallies good here index =
+pub before_point : (above : Bool) (opens : Option ℕ → Bool → Bool) (s : State) (v : ℕ) (target : Option ℕ) (tallies : List Tally) → IsState s → IsTrue (present s.network v) → IsIndexOf above opens s tallies → IsBeforePoint above opens (after_point s v target) v (pointer s v) tallies
+before_point above opens s v target tallies good here index =
     let bounds = present_range s.network v here in
     let places = good.pointers_len in
     let high = bounds.1 in
@@ -48,8 +48,8 @@ before_point opens s v target tallies good here index =
     }
 
 -- a flag is turned
-pub before_flag : (opens : Option ℕ → Bool → Bool) (s : State) (v : ℕ) (tallies : List Tally) → IsState s → IsTrue (present s.network v) → IsIndexOf opens s tallies → IsBeforeFlag opens (after_flag s v (not (flag s v))) v tallies
-before_flag opens s v tallies good here index =
+pub before_flag : (above : Bool) (opens : Option ℕ → Bool → Bool) (s : State) (v : ℕ) (tallies : List Tally) → IsState s → IsTrue (present s.network v) → IsIndexOf above opens s tallies → IsBeforeFlag above opens (after_flag s v (not (flag s v))) v tallies
+before_flag above opens s v tallies good here index =
     let bounds = present_range s.network v here in
     let places = good.flags_len in
     let high = bounds.1 in
@@ -68,8 +68,8 @@ before_flag opens s v tallies good here index =
     not_not false = refl
 
 -- a name becomes present
-pub before_join : (opens : Option ℕ → Bool → Bool) (s : State) (v : ℕ) (tallies : List Tally) → IsState s → v ≤ s.network.size → present s.network v ≡ false → IsIndexOf opens s tallies → IsBeforeJoin opens (after_join s v) v tallies
-before_join opens s v tallies good within absent index = record {
+pub before_join : (above : Bool) (opens : Option ℕ → Bool → Bool) (s : State) (v : ℕ) (tallies : List Tally) → IsState s → v ≤ s.network.size → present s.network v ≡ false → IsIndexOf above opens s tallies → IsBeforeJoin above opens (after_join s v) v tallies
+before_join above opens s v tallies good within absent index = record {
   network = s.network;
   is_state = good;
   within = within;

@@ -1,9 +1,9 @@
 -- What is counted at a node, and a table of it with a place for each name; place 0 is nobody's.
-use Rattle.std.specs.Prelude.{◌≡◌, ℕ, ◌+◌, Bool, cond, ◌&&◌, List, length, Option, IsTrue, nat_eq, nat_lt, slice_index_or}
+use Rattle.std.specs.Prelude.{◌≡◌, ℕ, ◌+◌, Bool, true, false, cond, ◌&&◌, List, length, Option, IsTrue, nat_eq, nat_lt, slice_index_or}
 use Rattle.std.specs.List.{count_by, sum_by}
 use Rattle.rule_machine.specs.Network.{Network, linked, present, neighbours}
 use Rattle.rule_machine.specs.State.{State, Registers, suits}
-use Rattle.rule_machine.specs.RuleTable.{is_open}
+use Rattle.rule_set.specs.Glance.{is_reached}
 use Rattle.suitor_index.specs.declared.tally.Tally.{Tally}
 
 abbrev pub state_of : Network → Registers → State
@@ -11,7 +11,7 @@ state_of net registers = record { network = net; registers = registers }
 
 -- nothing is counted
 abbrev pub nothing : Tally
-nothing = record { suitors = 0; open_near = 0; open_above = 0; sum = 0 }
+nothing = record { suitors = 0; reached = 0; sum = 0 }
 
 abbrev pub tally_of : List Tally → ℕ → Tally
 tally_of tallies v = slice_index_or tallies v nothing
@@ -20,16 +20,16 @@ tally_of tallies v = slice_index_or tallies v nothing
 abbrev pub name_if : (ℕ → Bool) → ℕ → ℕ
 name_if test w = cond (test w) w 0
 
--- whether w is open to a seduction, and above v
-abbrev pub is_open_above : (Option ℕ → Bool → Bool) → State → ℕ → ℕ → Bool
-is_open_above opens s v w = is_open opens s w && nat_lt v w
+-- whether the guard of v asks for open neighbours of which w may be one: those above v, or any
+abbrev pub asks_for : Bool → ℕ → ℕ → Bool
+asks_for true v w = nat_lt v w
+asks_for false v w = true
 
--- what a scan of v's neighbours counts: its suitors, the open ones, those of them above v, and the suitors' names
-abbrev pub tally_at : (Option ℕ → Bool → Bool) → State → ℕ → Tally
-tally_at opens s v = record {
+-- what a scan of v's neighbours counts: its suitors, the open ones that its guard asks for, and the suitors' names
+abbrev pub tally_at : Bool → (Option ℕ → Bool → Bool) → State → ℕ → Tally
+tally_at above opens s v = record {
   suitors = count_by (suits s v) (neighbours s.network v);
-  open_near = count_by (is_open opens s) (neighbours s.network v);
-  open_above = count_by (is_open_above opens s v) (neighbours s.network v);
+  reached = count_by (is_reached above opens s v) (neighbours s.network v);
   sum = sum_by (name_if (suits s v)) (neighbours s.network v);
 }
 
@@ -43,6 +43,6 @@ pub record IsLoneSuitor (s : State) (v w : ℕ) : Type 0 where
   pub alone : (x : ℕ) → (linked s.network v x && suits s v x) ≡ nat_eq x w
 
 -- each node's place holds what a scan of its neighbours counts
-pub record IsIndexOf (opens : Option ℕ → Bool → Bool) (s : State) (tallies : List Tally) : Type 0 where
+pub record IsIndexOf (above : Bool) (opens : Option ℕ → Bool → Bool) (s : State) (tallies : List Tally) : Type 0 where
   pub places : length tallies ≡ s.network.size + 1
-  pub counted : (v : ℕ) → IsTrue (present s.network v) → tally_of tallies v ≡ tally_at opens s v
+  pub counted : (v : ℕ) → IsTrue (present s.network v) → tally_of tallies v ≡ tally_at above opens s v

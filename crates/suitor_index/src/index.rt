@@ -38,14 +38,14 @@ impl<R: Rules> Model for SuitorIndex<R> {
 }
 
 impl<R: Rules> SuitorIndex<R> {
-    /// The index of a network, by a look at each node's neighbours. Takes twelve bytes a node; `Err` if memory runs out.
+    /// The index of a network, by a look at each node's neighbours. Takes eight bytes a node; `Err` if memory runs out.
     pub fn build(
         alloc: Global,
         store: &EdgeStore,
         registers: &Registers,
     ) -> Result<SuitorIndex<R>, Want>
         requires { IsState (state_of store.now.network registers.now) }
-        ensures { IfOk result (λ index. IsIndexOf R.table.opens (state_of store.now.network registers.now) index) }
+        ensures { IfOk result (λ index. IsIndexOf R.ABOVE R.table.opens (state_of store.now.network registers.now) index) }
     {
         let mut tallies = vec![in alloc; NOTHING; store.capacity() as usize + 1]?;
         for name in 1..store.capacity() + 1 {
@@ -70,31 +70,41 @@ impl<R: Rules> SuitorIndex<R> {
     /// Whether a neighbour points at the node. One look.
     pub fn has_suitor(&self, v: Node, store: &EdgeStore, registers: &Registers) -> bool
         requires state { IsState (state_of store.now.network registers.now) }
-        requires index { IsIndexOf R.table.opens (state_of store.now.network registers.now) self.now }
+        requires index { IsIndexOf R.ABOVE R.table.opens (state_of store.now.network registers.now) self.now }
         requires present { IsTrue (present store.now.network v) }
         ensures { result ≡ has_suitor (state_of store.now.network registers.now) v }
     {
         self.tally(v).suitors > 0
     }
 
-    /// Whether a neighbour is open. One look.
+    /// Whether a neighbour is open. One look where the guards ask for any open neighbour; else a scan of the neighbours, which
+    /// stops at the first.
     pub fn has_open(&self, v: Node, store: &EdgeStore, registers: &Registers) -> bool
         requires state { IsState (state_of store.now.network registers.now) }
-        requires index { IsIndexOf R.table.opens (state_of store.now.network registers.now) self.now }
+        requires index { IsIndexOf R.ABOVE R.table.opens (state_of store.now.network registers.now) self.now }
         requires present { IsTrue (present store.now.network v) }
         ensures { result ≡ is_some (first_open R.table.opens (state_of store.now.network registers.now) v) }
     {
-        self.tally(v).open_near > 0
+        if R::ABOVE {
+            self.first_open(v, store, registers).is_some()
+        } else {
+            self.tally(v).reached > 0
+        }
     }
 
-    /// Whether an open neighbour has a higher name than the node. One look.
+    /// Whether an open neighbour has a higher name than the node. One look where the guards ask for those alone; else a scan of
+    /// the neighbours from the last, which stops at the first.
     pub fn has_open_above(&self, v: Node, store: &EdgeStore, registers: &Registers) -> bool
         requires state { IsState (state_of store.now.network registers.now) }
-        requires index { IsIndexOf R.table.opens (state_of store.now.network registers.now) self.now }
+        requires index { IsIndexOf R.ABOVE R.table.opens (state_of store.now.network registers.now) self.now }
         requires present { IsTrue (present store.now.network v) }
         ensures { result ≡ is_some (last_open_above R.table.opens (state_of store.now.network registers.now) v) }
     {
-        self.tally(v).open_above > 0
+        if R::ABOVE {
+            self.tally(v).reached > 0
+        } else {
+            self.last_open_above(v, store, registers).is_some()
+        }
     }
 
     /// Whether no neighbour that the node's guard asks for is open but v, which is a neighbour, and open or not as is said here. One
@@ -108,25 +118,21 @@ impl<R: Rules> SuitorIndex<R> {
         registers: &Registers,
     ) -> bool
         requires state { IsState (state_of store.now.network registers.now) }
-        requires index { IsIndexOf R.table.opens (state_of store.now.network registers.now) self.now }
+        requires index { IsIndexOf R.ABOVE R.table.opens (state_of store.now.network registers.now) self.now }
         requires present { IsTrue (present store.now.network w) }
         requires linked { IsTrue (linked store.now.network w v) }
         requires open { is_open ≡ RuleTable.is_open R.table.opens (state_of store.now.network registers.now) v }
         ensures { result ≡ not (reaches_beside R.ABOVE R.table.opens (state_of store.now.network registers.now) w v) }
     {
-        let tally = self.tally(w);
-        if R::ABOVE {
-            tally.has_none_above_but(w, v, is_open)
-        } else {
-            tally.has_none_but(is_open)
-        }
+        self.tally(w)
+            .has_none_but(scan::asks_for::<R>(w, v) && is_open)
     }
 
     /// The first neighbour that points at the node. One look where there is none or one; else a scan of the neighbours, which
     /// stops at the first.
     pub fn first_suitor(&self, v: Node, store: &EdgeStore, registers: &Registers) -> Option<Node>
         requires state { IsState (state_of store.now.network registers.now) }
-        requires index { IsIndexOf R.table.opens (state_of store.now.network registers.now) self.now }
+        requires index { IsIndexOf R.ABOVE R.table.opens (state_of store.now.network registers.now) self.now }
         requires present { IsTrue (present store.now.network v) }
         ensures { result ≡ first_suitor (state_of store.now.network registers.now) v }
     {
@@ -141,7 +147,7 @@ impl<R: Rules> SuitorIndex<R> {
     /// The neighbour that points at the node, where it is the only one; `None` where none does, or several do. One look.
     pub fn lone_suitor(&self, v: Node, store: &EdgeStore, registers: &Registers) -> Option<Node>
         requires state { IsState (state_of store.now.network registers.now) }
-        requires index { IsIndexOf R.table.opens (state_of store.now.network registers.now) self.now }
+        requires index { IsIndexOf R.ABOVE R.table.opens (state_of store.now.network registers.now) self.now }
         requires present { IsTrue (present store.now.network v) }
         ensures { MatchOption result (suitor_count (state_of store.now.network registers.now) v ≢ 1) (IsLoneSuitor (state_of store.now.network registers.now) v) }
     {
@@ -153,28 +159,29 @@ impl<R: Rules> SuitorIndex<R> {
         }
     }
 
-    /// The first open neighbour. One look where there is none; else a scan of the neighbours, which stops at the first.
+    /// The first open neighbour. One look where there is none and the guards ask for any; else a scan of the neighbours, which
+    /// stops at the first.
     pub fn first_open(&self, v: Node, store: &EdgeStore, registers: &Registers) -> Option<Node>
         requires state { IsState (state_of store.now.network registers.now) }
-        requires index { IsIndexOf R.table.opens (state_of store.now.network registers.now) self.now }
+        requires index { IsIndexOf R.ABOVE R.table.opens (state_of store.now.network registers.now) self.now }
         requires present { IsTrue (present store.now.network v) }
         ensures { result ≡ first_open R.table.opens (state_of store.now.network registers.now) v }
     {
-        if !self.has_open(v, store, registers) {
+        if !R::ABOVE && self.tally(v).reached == 0 {
             return None;
         }
         scan::first_open::<R>(store.neighbours(v), registers)
     }
 
-    /// The greatest open neighbour, where its name is above the node's. One look where there is none; else a scan of the
-    /// neighbours from the last, which stops at the first.
+    /// The greatest open neighbour, where its name is above the node's. One look where there is none and the guards ask for
+    /// those alone; else a scan of the neighbours from the last, which stops at the first.
     pub fn last_open_above(&self, v: Node, store: &EdgeStore, registers: &Registers) -> Option<Node>
         requires state { IsState (state_of store.now.network registers.now) }
-        requires index { IsIndexOf R.table.opens (state_of store.now.network registers.now) self.now }
+        requires index { IsIndexOf R.ABOVE R.table.opens (state_of store.now.network registers.now) self.now }
         requires present { IsTrue (present store.now.network v) }
         ensures { result ≡ last_open_above R.table.opens (state_of store.now.network registers.now) v }
     {
-        if !self.has_open_above(v, store, registers) {
+        if R::ABOVE && self.tally(v).reached == 0 {
             return None;
         }
         scan::last_open_above::<R>(store.neighbours(v), registers, v)
@@ -183,7 +190,7 @@ impl<R: Rules> SuitorIndex<R> {
     /// Whether a name is a neighbour that points at the node. One look.
     pub fn is_suitor(&self, v: Node, w: Node, store: &EdgeStore, registers: &Registers) -> bool
         requires state { IsState (state_of store.now.network registers.now) }
-        requires index { IsIndexOf R.table.opens (state_of store.now.network registers.now) self.now }
+        requires index { IsIndexOf R.ABOVE R.table.opens (state_of store.now.network registers.now) self.now }
         requires present { IsTrue (present store.now.network v) }
         ensures { result ≡ (linked store.now.network v w && suits (state_of store.now.network registers.now) v w) }
     {
@@ -193,7 +200,7 @@ impl<R: Rules> SuitorIndex<R> {
     /// Whether a name is an open neighbour. A look-up by halves among the neighbours of the node.
     pub fn is_open(&self, v: Node, w: Node, store: &EdgeStore, registers: &Registers) -> bool
         requires state { IsState (state_of store.now.network registers.now) }
-        requires index { IsIndexOf R.table.opens (state_of store.now.network registers.now) self.now }
+        requires index { IsIndexOf R.ABOVE R.table.opens (state_of store.now.network registers.now) self.now }
         requires present { IsTrue (present store.now.network v) }
         ensures { result ≡ (linked store.now.network v w && is_open R.table.opens (state_of store.now.network registers.now) w) }
     {
@@ -204,7 +211,7 @@ impl<R: Rules> SuitorIndex<R> {
 /// What is counted at a name; nothing where it is absent.
 fn count_at<R: Rules>(store: &EdgeStore, registers: &Registers, v: Node) -> Tally
     requires { IsState (state_of store.now.network registers.now) }
-    ensures { IsTrue (present store.now.network v) → result ≡ tally_at R.table.opens (state_of store.now.network registers.now) v }
+    ensures { IsTrue (present store.now.network v) → result ≡ tally_at R.ABOVE R.table.opens (state_of store.now.network registers.now) v }
 {
     if store.has(v) {
         prove!(store.capacity() <= 65_535);

@@ -2,7 +2,7 @@
 
 ghost use Rattle.std.specs.Prelude.{◌≡◌, ◌<◌, ◌≤◌, ◌&&◌, All, find, length, nat_lt, reverse};
 ghost use Rattle.std.specs.List.{count_by, sum_by};
-ghost use Rattle.suitor_index.specs.Tallies.{name_if};
+ghost use Rattle.suitor_index.specs.Tallies.{asks_for, name_if};
 ghost use Rattle.rule_machine.specs.State.{points, pointer_of, flag_of};
 
 use crate::Tally;
@@ -30,6 +30,22 @@ pub(crate) fn is_open<R: Rules>(registers: &Registers, w: Node) -> bool
     ensures { result ≡ R.table.opens (pointer_of registers.now w) (flag_of registers.now w) }
 {
     R::opens(registers.pointer(w), registers.flag(w))
+}
+
+/// Whether the guard of v asks for open neighbours of which w may be one.
+pub(crate) fn asks_for<R: Rules>(v: Node, w: Node) -> bool
+    ensures { result ≡ asks_for R.ABOVE v w }
+{
+    !R::ABOVE || v < w
+}
+
+/// Whether w is open, and one that the guard of v asks for.
+pub(crate) fn is_reached<R: Rules>(registers: &Registers, v: Node, w: Node) -> bool
+    requires pointer_in { w < length registers.now.pointers }
+    requires flag_in { w < length registers.now.flags }
+    ensures { result ≡ (asks_for R.ABOVE v w && R.table.opens (pointer_of registers.now w) (flag_of registers.now w)) }
+{
+    asks_for::<R>(v, w) && is_open::<R>(registers, w)
 }
 
 /// The first of these nodes that is open.
@@ -71,14 +87,13 @@ pub(crate) fn count<R: Rules>(nodes: &[Node], registers: &Registers, v: Node) ->
     requires pointers_in { All (λ w. w < length registers.now.pointers) nodes.now }
     requires flags_in { All (λ w. w < length registers.now.flags) nodes.now }
     ensures suitors { result.suitors ≡ count_by (λ w. points registers.now w v) nodes.now }
-    ensures open_near { result.open_near ≡ count_by (λ w. R.table.opens (pointer_of registers.now w) (flag_of registers.now w)) nodes.now }
-    ensures open_above { result.open_above ≡ count_by (λ w. R.table.opens (pointer_of registers.now w) (flag_of registers.now w) && nat_lt v w) nodes.now }
+    ensures reached { result.reached ≡ count_by (λ w. asks_for R.ABOVE v w && R.table.opens (pointer_of registers.now w) (flag_of registers.now w)) nodes.now }
     ensures sum { result.sum ≡ sum_by (name_if (λ w. points registers.now w v)) nodes.now }
 {
     let mut tally = NOTHING;
     for &w in nodes {
         let is_suitor = registers.points_at(w, v);
-        tally = tally.with_neighbour(v, w, is_suitor, is_open::<R>(registers, w));
+        tally = tally.with_neighbour(w, is_suitor, is_reached::<R>(registers, v, w));
     }
     tally
 }

@@ -1,13 +1,15 @@
 //! A table of tallies, a place for each name, as one node changes.
 
-ghost use Rattle.std.specs.Prelude.{◌≡◌, ℕ, ◌<◌, true, IfSome, length, nat_eq};
+ghost use Rattle.std.specs.Prelude.{◌≡◌, ℕ, ◌<◌, ◌≤◌, ◌&&◌, true, IfSome, length, nat_eq};
 ghost use Rattle.std.specs.List.{list_any};
 ghost use Rattle.std.specs.List.Sorted.{IsStrictlyIncreasing};
-ghost use Rattle.suitor_index.specs.Tallies.{tally_of};
-ghost use Rattle.suitor_index.specs.Told.{IsCourted, IsOpenTo, HasSuitor, HasRoomFor, CountsOpen, CanOpen, CanTurn, IsTurned};
+ghost use Rattle.suitor_index.specs.Tallies.{asks_for, tally_of};
+ghost use Rattle.suitor_index.specs.Told.{IsCourted, IsOpenTo, HasSuitor, HasRoomFor, CanTurn, IsTurned};
 
 use crate::Tally;
+use crate::scan::asks_for;
 use rule_machine::Node;
+use rule_set::Rules;
 
 /// Takes v out of the suitors of the node at which its pointer was.
 pub(crate) fn leave(tallies: &mut [Tally], pointer: Option<Node>, v: Node)
@@ -33,64 +35,67 @@ pub(crate) fn court(tallies: &mut [Tally], pointer: Option<Node>, v: Node)
     }
 }
 
-/// Counts v as open at a node.
-pub(crate) fn open_at(tallies: &mut [Tally], w: Node, v: Node)
+/// Counts one more open node at a node.
+pub(crate) fn open_at(tallies: &mut [Tally], w: Node)
     requires within { w < length tallies.old }
-    requires room { CanOpen w v (tally_of tallies.old w) }
-    ensures { IsOpenTo (λ k. nat_eq k w) v tallies.old tallies.new }
+    requires room { (tally_of tallies.old w).reached < 65535 }
+    ensures { IsOpenTo (λ k. nat_eq k w) tallies.old tallies.new }
 {
-    tallies[w.place()].open_near += 1;
-    if w < v {
-        tallies[w.place()].open_above += 1;
-    }
+    tallies[w.place()].reached += 1;
 }
 
-/// Counts v as open no longer at a node.
-pub(crate) fn close_at(tallies: &mut [Tally], w: Node, v: Node)
+/// Counts one open node less at a node.
+pub(crate) fn close_at(tallies: &mut [Tally], w: Node)
     requires within { w < length tallies.old }
-    requires counted { CountsOpen w v (tally_of tallies.old w) }
-    ensures { IsOpenTo (λ k. nat_eq k w) v tallies.new tallies.old }
+    requires counted { 1 ≤ (tally_of tallies.old w).reached }
+    ensures { IsOpenTo (λ k. nat_eq k w) tallies.new tallies.old }
 {
-    tallies[w.place()].open_near -= 1;
-    if w < v {
-        tallies[w.place()].open_above -= 1;
-    }
+    tallies[w.place()].reached -= 1;
 }
 
-/// Counts v as open at each of these nodes, which are by rising names.
-pub(crate) fn open_at_all(tallies: &mut [Tally], nodes: &[Node], v: Node)
+/// Counts v as open at those of these nodes, which are by rising names, whose guard asks for it. Where guards ask for higher
+/// names alone, ends at the first that is not below v.
+pub(crate) fn open_at_all<R: Rules>(tallies: &mut [Tally], nodes: &[Node], v: Node)
     requires rising { IsStrictlyIncreasing nodes.now }
     requires within { (k : ℕ) → list_any (nat_eq k) nodes.now ≡ true → k < length tallies.old }
-    requires room { (k : ℕ) → list_any (nat_eq k) nodes.now ≡ true → CanOpen k v (tally_of tallies.old k) }
-    ensures { IsOpenTo (λ k. list_any (nat_eq k) nodes.now) v tallies.old tallies.new }
+    requires room { (k : ℕ) → (list_any (nat_eq k) nodes.now && asks_for R.ABOVE k v) ≡ true → (tally_of tallies.old k).reached < 65535 }
+    ensures { IsOpenTo (λ k. list_any (nat_eq k) nodes.now && asks_for R.ABOVE k v) tallies.old tallies.new }
 {
     for &w in nodes {
-        open_at(tallies, w, v);
+        if !asks_for::<R>(w, v) {
+            return;
+        }
+        open_at(tallies, w);
     }
 }
 
-/// Counts v as open no longer at each of these nodes, which are by rising names.
-pub(crate) fn close_at_all(tallies: &mut [Tally], nodes: &[Node], v: Node)
+/// Counts v as open no longer at those of these nodes, which are by rising names, whose guard asks for it. Where guards ask for
+/// higher names alone, ends at the first that is not below v.
+pub(crate) fn close_at_all<R: Rules>(tallies: &mut [Tally], nodes: &[Node], v: Node)
     requires rising { IsStrictlyIncreasing nodes.now }
     requires within { (k : ℕ) → list_any (nat_eq k) nodes.now ≡ true → k < length tallies.old }
-    requires counted { (k : ℕ) → list_any (nat_eq k) nodes.now ≡ true → CountsOpen k v (tally_of tallies.old k) }
-    ensures { IsOpenTo (λ k. list_any (nat_eq k) nodes.now) v tallies.new tallies.old }
+    requires counted { (k : ℕ) → (list_any (nat_eq k) nodes.now && asks_for R.ABOVE k v) ≡ true → 1 ≤ (tally_of tallies.old k).reached }
+    ensures { IsOpenTo (λ k. list_any (nat_eq k) nodes.now && asks_for R.ABOVE k v) tallies.new tallies.old }
 {
     for &w in nodes {
-        close_at(tallies, w, v);
+        if !asks_for::<R>(w, v) {
+            return;
+        }
+        close_at(tallies, w);
     }
 }
 
-/// Counts v at each of these nodes, which are by rising names, as open or not as it is now, where it was so before.
-pub(crate) fn turn(tallies: &mut [Tally], nodes: &[Node], v: Node, was: bool, is: bool)
+/// Counts v at those of these nodes, which are by rising names, whose guard asks for it, as open or not as it is now, where it
+/// was so before.
+pub(crate) fn turn<R: Rules>(tallies: &mut [Tally], nodes: &[Node], v: Node, was: bool, is: bool)
     requires rising { IsStrictlyIncreasing nodes.now }
     requires within { (k : ℕ) → list_any (nat_eq k) nodes.now ≡ true → k < length tallies.old }
-    requires turns { (k : ℕ) → list_any (nat_eq k) nodes.now ≡ true → CanTurn k v was is (tally_of tallies.old k) }
-    ensures { IsTurned (λ k. list_any (nat_eq k) nodes.now) v was is tallies.old tallies.new }
+    requires turns { (k : ℕ) → (list_any (nat_eq k) nodes.now && asks_for R.ABOVE k v) ≡ true → CanTurn was is (tally_of tallies.old k) }
+    ensures { IsTurned (λ k. list_any (nat_eq k) nodes.now && asks_for R.ABOVE k v) was is tallies.old tallies.new }
 {
     match (was, is) {
-        (false, true) => open_at_all(tallies, nodes, v),
-        (true, false) => close_at_all(tallies, nodes, v),
+        (false, true) => open_at_all::<R>(tallies, nodes, v),
+        (true, false) => close_at_all::<R>(tallies, nodes, v),
         _ => {}
     }
 }

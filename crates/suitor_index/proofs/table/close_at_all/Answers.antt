@@ -1,25 +1,36 @@
-use Rattle.std.proofs.Common.{ℕ, nat_eq, take, arith}
+use Rattle.std.proofs.Common.{◌≡◌, ◌∙◌, ◌&&◌, ℕ, Bool, true, nat_eq, take, sym, ap₂, arith}
 use Rattle.std.specs.List.{list_any}
-use Rattle.suitor_index.proofs.Loops.{open_both, not_before, near_more_back, near_apart_back, near_there, counts_open_still}
+use Rattle.suitor_index.specs.Tallies.{asks_for}
+use Rattle.suitor_index.proofs.Loops.{open_both, open_alike, open_still, not_before, near_more_back, near_apart_back, near_there, all_ask_more, asked_so_far}
 use Rattle.suitor_index.proofs.table.close_at_all.Goals as goal
 
-pub close_at-requires-clause-within : goal.close_at-requires-clause-within
-close_at-requires-clause-within c = omega (arith, c.requires.within _ (near_there c.args.nodes.now c.loop-w.w-index c.w-item.result c.loop-w-test.true c.w-item.is), c.loop-w.invariant.places)
-
 pub close_at-requires-clause-counted : goal.close_at-requires-clause-counted
-close_at-requires-clause-counted c =
+close_at-requires-clause-counted g c =
     let w = c.w-item.result in
     let nodes = c.args.nodes.now in
     let i = c.loop-w.w-index in
-    counts_open_still (λ (k : ℕ). list_any (nat_eq k) (take i nodes)) c.args.v c.args.v c.args.tallies.now c.loop-w.tallies w c.loop-w.invariant
-    (not_before nodes i w c.requires.rising c.loop-w-test.true c.w-item.is)
-    (c.requires.counted w (near_there nodes i w c.loop-w-test.true c.w-item.is))
+    let asks : asks_for g.R.Rules.ABOVE w c.args.v ≡ true = sym c.asks_for.ensures ∙ c.if-not-asks_for.false in
+    let same = open_still (λ (k : ℕ). list_any (nat_eq k) (take i nodes)) c.loop-w.tallies c.args.tallies.now w c.loop-w.invariant.told (not_before nodes i w c.requires.rising c.loop-w-test.true c.w-item.is) in
+    omega (arith, same, c.requires.counted w (ap₂ (λ (a b : Bool). a && b) (near_there nodes i w c.loop-w-test.true c.w-item.is) asks))
 
 pub loop-w-preserved : goal.loop-w-preserved
-loop-w-preserved c =
+loop-w-preserved g c =
+    let w = c.w-item.result in
     let nodes = c.args.nodes.now in
     let i = c.loop-w.w-index in
-    open_both (λ k. nat_eq k c.w-item.result) (λ k. list_any (nat_eq k) (take i nodes)) _ _ _ _ _
-    (λ k. near_apart_back nodes i c.w-item.result k c.requires.rising c.loop-w-test.true c.w-item.is)
-    (λ k. near_more_back nodes i c.w-item.result k c.loop-w-test.true c.w-item.is)
-    c.close_at.ensures c.loop-w.invariant
+    record {
+      ask = all_ask_more g.R.Rules.ABOVE c.args.v nodes i w c.loop-w-test.true c.w-item.is (sym c.asks_for.ensures ∙ c.if-not-asks_for.false) c.loop-w.invariant.ask;
+      told = open_both (λ k. nat_eq k w) (λ k. list_any (nat_eq k) (take i nodes)) _ _ _ _
+          (λ k. near_apart_back nodes i w k c.requires.rising c.loop-w-test.true c.w-item.is)
+          (λ k. near_more_back nodes i w k c.loop-w-test.true c.w-item.is)
+          c.close_at.ensures c.loop-w.invariant.told;
+    }
+
+pub returns-then-not-asks_for : goal.returns-then-not-asks_for
+returns-then-not-asks_for g c =
+    let w = c.w-item.result in
+    let nodes = c.args.nodes.now in
+    let i = c.loop-w.w-index in
+    open_alike (λ k. list_any (nat_eq k) (take i nodes)) (λ k. list_any (nat_eq k) nodes && asks_for g.R.Rules.ABOVE k c.args.v) c.loop-w.tallies c.args.tallies.now
+    (λ k. asked_so_far g.R.Rules.ABOVE c.args.v nodes i w k c.requires.rising c.loop-w-test.true c.w-item.is (sym c.asks_for.ensures ∙ c.if-not-asks_for.true) c.loop-w.invariant.ask)
+    c.loop-w.invariant.told

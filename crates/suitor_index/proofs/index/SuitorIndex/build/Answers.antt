@@ -15,5 +15,5 @@ loop-name-preserved g c =
     let inside : c.loop-name.name < length c.loop-name.tallies.items = omega (arith, places, c.capacity-name-end.ensures.size) in
     record {
       places = length-set c.loop-name.tallies.items c.place.result c.count_at.result ∙ places;
-      counted = λ k low high has. counted_more c.loop-name.tallies.items (tally_at opens s) (present c.args.store.now.network) c.loop-name.name v c.place.result k c.count_at.result named c.place.ensures.same inside c.count_at.ensures c.loop-name.invariant.counted low high has;
+      counted = λ k low high has. counted_more c.loop-name.tallies.items (tally_at g.R.Rules.ABOVE opens s) (present c.args.store.now.network) c.loop-name.name v c.place.result k c.count_at.result named c.place.ensures.same inside c.count_at.ensures c.loop-name.invariant.counted low high has;
     }

@@ -7,5 +7,5 @@ use Rattle.suitor_index.proofs.index.SuitorIndex.build.Given as goal
 abbrev pub invariant-loop-name : goal.invariant-loop-name
 invariant-loop-name g l = record {
   places : length l.tallies.items ≡ l.store.network.size + 1;
-  counted : (k : ℕ) → 1 ≤ k → k < l.name → IsTrue (present l.store.network k) → tally_of l.tallies.items k ≡ tally_at g.R.Rules.table.opens (state_of l.store.network l.registers) k;
+  counted : (k : ℕ) → 1 ≤ k → k < l.name → IsTrue (present l.store.network k) → tally_of l.tallies.items k ≡ tally_at g.R.Rules.ABOVE g.R.Rules.table.opens (state_of l.store.network l.registers) k;
 }

@@ -11,6 +11,6 @@ returns g c =
     let opens = g.R.Rules.table.opens in
     let r = c.args.registers.now in
     let named : 1 ≤ c.args.v = omega (arith, c.place.ensures.named.0, c.place.ensures.same) in
-    let index = index_joined opens b.network r c.args.v c.args.self.now b.is_state named b.within b.was_absent b.index in
-    let now = subst (λ (n : Network). IsIndexOf opens (state_of n r) (set c.args.self.now c.args.v nothing)) (sym b.change) index in
-    subst (IsIndexOf opens (state_of c.args.store.now.network r)) (ap₂ (λ (ts : List Tally) (v : ℕ). set ts v nothing) (sym c.self.view_is) (sym c.place.ensures.same)) now
+    let index = index_joined g.R.Rules.ABOVE opens b.network r c.args.v c.args.self.now b.is_state named b.within b.was_absent b.index in
+    let now = subst (λ (n : Network). IsIndexOf g.R.Rules.ABOVE opens (state_of n r) (set c.args.self.now c.args.v nothing)) (sym b.change) index in
+    subst (IsIndexOf g.R.Rules.ABOVE opens (state_of c.args.store.now.network r)) (ap₂ (λ (ts : List Tally) (v : ℕ). set ts v nothing) (sym c.self.view_is) (sym c.place.ensures.same)) now

@@ -12,9 +12,9 @@ count_end-requires-clause-room g c =
     let r = c.args.registers.now in
     let start = c.as_mut_slice-tallies.result.now in
     let edge = edge_linked b.network c.args.store.now.network r c.args.a c.args.b b.is_state b.accepted b.change in
-    let few = few_nodes opens (state_of b.network r) c.self.inside.tallies.items c.args.self.now c.self.invariant c.self.view_is b.index in
-    let index = subst (IsIndexOf opens (state_of b.network r)) (sym (c.as_mut_slice-tallies.ensures.value ∙ c.self.view_is)) b.index in
-    end_room opens b.network c.args.store.now.network r c.args.a c.args.b start edge index few
+    let few = few_nodes g.R.Rules.ABOVE opens (state_of b.network r) c.self.inside.tallies.items c.args.self.now c.self.invariant c.self.view_is b.index in
+    let index = subst (IsIndexOf g.R.Rules.ABOVE opens (state_of b.network r)) (sym (c.as_mut_slice-tallies.ensures.value ∙ c.self.view_is)) b.index in
+    end_room g.R.Rules.ABOVE opens b.network c.args.store.now.network r c.args.a c.args.b start edge index few
 
 pub count_end-requires-2-clause-room : goal.count_end-requires-2-clause-room
 count_end-requires-2-clause-room g c =
@@ -23,9 +23,9 @@ count_end-requires-2-clause-room g c =
     let r = c.args.registers.now in
     let start = c.as_mut_slice-tallies.result.now in
     let edge = edge_linked b.network c.args.store.now.network r c.args.a c.args.b b.is_state b.accepted b.change in
-    let few = few_nodes opens (state_of b.network r) c.self.inside.tallies.items c.args.self.now c.self.invariant c.self.view_is b.index in
-    let index = subst (IsIndexOf opens (state_of b.network r)) (sym (c.as_mut_slice-tallies.ensures.value ∙ c.self.view_is)) b.index in
-    second_room opens b.network c.args.store.now.network r c.args.a c.args.b start c.count_end.new.tallies edge index few c.count_end.ensures
+    let few = few_nodes g.R.Rules.ABOVE opens (state_of b.network r) c.self.inside.tallies.items c.args.self.now c.self.invariant c.self.view_is b.index in
+    let index = subst (IsIndexOf g.R.Rules.ABOVE opens (state_of b.network r)) (sym (c.as_mut_slice-tallies.ensures.value ∙ c.self.view_is)) b.index in
+    second_room g.R.Rules.ABOVE opens b.network c.args.store.now.network r c.args.a c.args.b start c.count_end.new.tallies edge index few c.count_end.ensures
 
 pub returns : goal.returns
 returns g c =
@@ -34,7 +34,7 @@ returns g c =
     let r = c.args.registers.now in
     let start = c.as_mut_slice-tallies.result.now in
     let edge = edge_linked b.network c.args.store.now.network r c.args.a c.args.b b.is_state b.accepted b.change in
-    let index = subst (IsIndexOf opens (state_of b.network r)) (sym (c.as_mut_slice-tallies.ensures.value ∙ c.self.view_is)) b.index in
+    let index = subst (IsIndexOf g.R.Rules.ABOVE opens (state_of b.network r)) (sym (c.as_mut_slice-tallies.ensures.value ∙ c.self.view_is)) b.index in
     let whole = written_whole c.self.inside.tallies.len c.count_end-2.new.tallies _ (c.self.inside.tallies.ok.0 ∙ ap length (sym c.as_mut_slice-tallies.ensures.value) ∙ sym c.count_end.ensures.places ∙ sym c.count_end-2.ensures.places) in
-    subst (IsIndexOf opens (state_of c.args.store.now.network r)) (sym whole)
-    (index_more opens b.network c.args.store.now.network r c.args.a c.args.b start c.count_end.new.tallies c.count_end-2.new.tallies edge index c.count_end.ensures c.count_end-2.ensures)
+    subst (IsIndexOf g.R.Rules.ABOVE opens (state_of c.args.store.now.network r)) (sym whole)
+    (index_more g.R.Rules.ABOVE opens b.network c.args.store.now.network r c.args.a c.args.b start c.count_end.new.tallies c.count_end-2.new.tallies edge index c.count_end.ensures c.count_end-2.ensures)

@@ -12,8 +12,8 @@ discount_end-requires-clause-counted g c =
     let r = c.args.registers.now in
     let start = c.as_mut_slice-tallies.result.now in
     let edge = edge_unlinked c.args.store.now.network b.network r c.args.a c.args.b b.is_state b.was_linked b.not_there b.not_back b.change in
-    let index = subst (IsIndexOf opens (state_of b.network r)) (sym (c.as_mut_slice-tallies.ensures.value ∙ c.self.view_is)) b.index in
-    end_counted opens c.args.store.now.network b.network r c.args.b c.args.a start (edge_swapped c.args.store.now.network b.network r c.args.a c.args.b edge) index
+    let index = subst (IsIndexOf g.R.Rules.ABOVE opens (state_of b.network r)) (sym (c.as_mut_slice-tallies.ensures.value ∙ c.self.view_is)) b.index in
+    end_counted g.R.Rules.ABOVE opens c.args.store.now.network b.network r c.args.b c.args.a start (edge_swapped c.args.store.now.network b.network r c.args.a c.args.b edge) index
 
 pub discount_end-requires-2-clause-counted : goal.discount_end-requires-2-clause-counted
 discount_end-requires-2-clause-counted g c =
@@ -22,8 +22,8 @@ discount_end-requires-2-clause-counted g c =
     let r = c.args.registers.now in
     let start = c.as_mut_slice-tallies.result.now in
     let edge = edge_unlinked c.args.store.now.network b.network r c.args.a c.args.b b.is_state b.was_linked b.not_there b.not_back b.change in
-    let index = subst (IsIndexOf opens (state_of b.network r)) (sym (c.as_mut_slice-tallies.ensures.value ∙ c.self.view_is)) b.index in
-    second_counted opens c.args.store.now.network b.network r c.args.a c.args.b start c.discount_end.new.tallies edge index c.discount_end.ensures
+    let index = subst (IsIndexOf g.R.Rules.ABOVE opens (state_of b.network r)) (sym (c.as_mut_slice-tallies.ensures.value ∙ c.self.view_is)) b.index in
+    second_counted g.R.Rules.ABOVE opens c.args.store.now.network b.network r c.args.a c.args.b start c.discount_end.new.tallies edge index c.discount_end.ensures
 
 pub returns : goal.returns
 returns g c =
@@ -32,7 +32,7 @@ returns g c =
     let r = c.args.registers.now in
     let start = c.as_mut_slice-tallies.result.now in
     let edge = edge_unlinked c.args.store.now.network b.network r c.args.a c.args.b b.is_state b.was_linked b.not_there b.not_back b.change in
-    let index = subst (IsIndexOf opens (state_of b.network r)) (sym (c.as_mut_slice-tallies.ensures.value ∙ c.self.view_is)) b.index in
+    let index = subst (IsIndexOf g.R.Rules.ABOVE opens (state_of b.network r)) (sym (c.as_mut_slice-tallies.ensures.value ∙ c.self.view_is)) b.index in
     let whole = written_whole c.self.inside.tallies.len c.discount_end-2.new.tallies _ (c.self.inside.tallies.ok.0 ∙ ap length (sym c.as_mut_slice-tallies.ensures.value) ∙ c.discount_end.ensures.places ∙ c.discount_end-2.ensures.places) in
-    subst (IsIndexOf opens (state_of c.args.store.now.network r)) (sym whole)
-    (index_less opens c.args.store.now.network b.network r c.args.a c.args.b start c.discount_end.new.tallies c.discount_end-2.new.tallies edge index c.discount_end.ensures c.discount_end-2.ensures)
+    subst (IsIndexOf g.R.Rules.ABOVE opens (state_of c.args.store.now.network r)) (sym whole)
+    (index_less g.R.Rules.ABOVE opens c.args.store.now.network b.network r c.args.a c.args.b start c.discount_end.new.tallies c.discount_end-2.new.tallies edge index c.discount_end.ensures c.discount_end-2.ensures)
