@@ -39,7 +39,7 @@ impl<R: Rules> Model for IndexedState<R> {
 
     ghost view = { λ n. record { state = state_of n.store.network n.registers; room = n.store.room } };
 
-    ghost invariant = { λ n. IsIndexed R.table.opens (state_of n.store.network n.registers) n.index };
+    ghost invariant = { λ n. IsIndexed R.ABOVE R.table.opens (state_of n.store.network n.registers) n.index };
 }
 
 impl<R: Rules> IndexedState<R> {

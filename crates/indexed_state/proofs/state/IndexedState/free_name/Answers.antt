@@ -18,6 +18,6 @@ invariant_of-self g c =
     let at = sym c.part.ensures.place in
     record {
       is_state = subst (λ (n : Network). IsState (state_of n r)) at now;
-      index = subst (λ (n : Network). IsIndexOf g.R.Rules.table.opens (state_of n r) c.self.inside.index) at (index_parted g.R.Rules.table.opens net r c.args.v c.self.inside.index c.self.invariant.is_state.is_network now.is_network here c.self.invariant.index);
+      index = subst (λ (n : Network). IsIndexOf g.R.Rules.ABOVE g.R.Rules.table.opens (state_of n r) c.self.inside.index) at (index_parted g.R.Rules.ABOVE g.R.Rules.table.opens net r c.args.v c.self.inside.index c.self.invariant.is_state.is_network now.is_network here c.self.invariant.index);
       few = subst (λ (n : Network). n.size ≤ 65535) at c.self.invariant.few;
     }
