@@ -6,6 +6,7 @@ pub mod Carried
 pub mod Preparing
 pub mod Committing
 pub mod Looked
+pub mod Turning
 pub mod Far
 pub mod Glances
 pub mod Written

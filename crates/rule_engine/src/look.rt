@@ -75,7 +75,8 @@ fn asks_for<R: Rules>(w: Node, v: Node) -> bool
     !R::ABOVE || w < v
 }
 
-/// Looks again at each neighbour that sees an open node where this one is open, and none where it is not.
+/// Looks again at each neighbour that sees an open node where this one is open, and none where it is not. Where guards ask for
+/// higher names alone, ends at the first neighbour that is not below the node.
 fn look_where_turned<R: Rules>(state: &IndexedState<R>, enabled: &mut EnabledSet, v: Node)
     requires has { IsTrue (present state.now.state.network v) }
     requires places { length enabled.old ≡ state.now.state.network.size + 1 }
@@ -83,8 +84,10 @@ fn look_where_turned<R: Rules>(state: &IndexedState<R>, enabled: &mut EnabledSet
 {
     let is_open = state.is_open(v);
     for &w in state.store().neighbours(v) {
-        let asked = asks_for::<R>(w, v) && state.relies_on(w, v, is_open);
-        look_if(state, enabled, w, asked);
+        if !asks_for::<R>(w, v) {
+            return;
+        }
+        look_if(state, enabled, w, state.relies_on(w, v, is_open));
     }
 }
 

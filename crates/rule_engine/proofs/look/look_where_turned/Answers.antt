@@ -1,12 +1,12 @@
-use Rattle.std.proofs.Common.{◌≡◌, ◌∙◌, ◌&&◌, List, ℕ, false, not, nat_eq, take, ap, sym, arith}
+use Rattle.std.proofs.Common.{◌≡◌, ◌∙◌, ◌&&◌, List, ℕ, true, false, not, nat_eq, take, ap, sym, arith}
 use Rattle.std.proofs.lemmas.List.{take_all}
 use Rattle.rule_machine.specs.Network.{neighbours}
 use Rattle.rule_machine.specs.State.{State}
 use Rattle.rule_set.specs.Glance.{reaches_beside}
 use Rattle.rule_engine.specs.Looked.{may_ask}
 use Rattle.rule_engine.proofs.Looked.{looked_alike, looked_more, looked_neighbours, looked_none}
+use Rattle.rule_engine.proofs.Turning.{looked_below}
 use Rattle.rule_engine.proofs.look.look_where_turned.Goals as goal
-use Rattle.rule_engine.proofs.look.look_where_turned.Goals.{then-asks_for, else-asks_for}
 
 pub loop-w-init : goal.loop-w-init
 loop-w-init g c = looked_none g.R.Rules.table c.args.state.now.state _
@@ -18,14 +18,21 @@ loop-w-preserved g c =
     let opens = g.R.Rules.table.opens in
     let v = c.args.v in
     let w = c.w-item.result in
-    let asked : c.if-asks_for.asked ≡ (may_ask above v w && not (reaches_beside above opens s w v)) = elim c.if-asks_for.branch [
-      | then-asks_for b ↦ b.asked-is ∙ b.relies_on-asked.ensures ∙ sym (ap (λ a. a && not (reaches_beside above opens s w v)) (sym c.asks_for.ensures ∙ b.if-asks_for.true))
-      | else-asks_for b ↦ b.asked-is ∙ b.if-asks_for.false ∙ sym (ap (λ a. a && not (reaches_beside above opens s w v)) (sym c.asks_for.ensures ∙ b.if-asks_for.false))
-    ] in
+    let asks : may_ask above v w ≡ true = sym c.asks_for.ensures ∙ c.if-not-asks_for.false in
     looked_more g.R.Rules.table s (λ x. false) (λ y x. nat_eq x y && (may_ask above v y && not (reaches_beside above opens s y v))) c.neighbours-w-items.result.now c.loop-w.w-index w _ _ _ c.loop-w-test.true c.w-item.is c.loop-w.invariant
-    (looked_alike g.R.Rules.table s (λ x. nat_eq x w && c.if-asks_for.asked) (λ x. nat_eq x w && (may_ask above v w && not (reaches_beside above opens s w v))) _ _
-    (λ x. ap (λ b. nat_eq x w && b) asked)
+    (looked_alike g.R.Rules.table s (λ x. nat_eq x w && c.relies_on.result) (λ x. nat_eq x w && (may_ask above v w && not (reaches_beside above opens s w v))) _ _
+    (λ x. ap (λ b. nat_eq x w && b) (c.relies_on.ensures ∙ sym (ap (λ a. a && not (reaches_beside above opens s w v)) asks)))
     c.look_if.ensures)
+
+pub returns-then-not-asks_for : goal.returns-then-not-asks_for
+returns-then-not-asks_for g c =
+    let s : State = c.args.state.now.state in
+    let above = g.R.Rules.ABOVE in
+    let opens = g.R.Rules.table.opens in
+    let v = c.args.v in
+    let list : List ℕ = c.neighbours-w-items.result.now in
+    let every : list ≡ neighbours s.network v = c.neighbours-w-items.ensures.all ∙ ap (λ n. neighbours n v) c.store.ensures.value in
+    looked_below g.R.Rules.table s above v (λ y. not (reaches_beside above opens s y v)) list c.loop-w.w-index c.w-item.result _ _ c.store.ensures.state.is_network every c.loop-w-test.true c.w-item.is (sym c.asks_for.ensures ∙ c.if-not-asks_for.true) c.loop-w.invariant
 
 pub returns : goal.returns
 returns g c =
