@@ -1,13 +1,14 @@
--- A table of the items of a choice.
-use Rattle.std.proofs.Common.{◌≡◌, ℕ, zero, suc, ◌+◌, ◌<◌, Bool, true, false, cond, not, ◌&&◌, ◌||◌, List, [], ◌∷◌, ◌++◌, length, get_or, take, drop, set, find, Option, None, Some, is_some, is_none, nat_eq, IfSome, IsTrue, refl, sym, ap, ◌∙◌, subst, ⊎_elim, arith, eq-eqb, eqb-true}
+-- A table of the items of a choice with their rules.
+use Rattle.std.proofs.Common.{◌≡◌, ℕ, zero, suc, ◌+◌, ◌<◌, Bool, true, false, cond, not, ◌&&◌, ◌||◌, List, [], ◌∷◌, ◌++◌, length, get_or, take, drop, set, find, Option, None, Some, is_some, is_none, option_map, nat_eq, IfSome, IsTrue, refl, sym, ap, ◌∙◌, subst, ⊎_elim, arith, eq-eqb, eqb-true}
 use Rattle.std.specs.List.{list_any, list_all}
 use Rattle.std.specs.Option.{option_or}
 use Rattle.std.proofs.lemmas.Bool.{or_parts, cases_eq, cases_Bool, ne_eqb, and_parts}
 use Rattle.std.proofs.lemmas.List.{get_or-set_same, get_or-set_other, take_more, drop_more}
 use Rattle.std.proofs.lemmas.List.Folds.{find-append}
+use Rattle.rule_machine.specs.declared.act.Act.{Act}
 use Rattle.rule_machine.specs.declared.choice.Item.{Item}
 use Rattle.rule_machine.specs.declared.moved.Moved.{Moved}
-use Rattle.rule_machine.specs.Network.{Network, present}
+use Rattle.rule_machine.specs.Network.{present}
 use Rattle.rule_machine.specs.State.{State}
 use Rattle.rule_machine.specs.RuleTable.{RuleTable, rule_at}
 use Rattle.rule_machine.specs.declared.refusal.Refusal.{Refusal}
@@ -17,7 +18,8 @@ use Rattle.rule_machine.specs.Least.{item_of}
 use Rattle.machine_laws.specs.Accepted.{choice_from_none, taken_at}
 use Rattle.machine_laws.specs.Pointers.{none_is}
 use Rattle.machine_laws.specs.Judged.{is_move_of, is_asked, is_answered}
-use Rattle.judge.specs.Choices.{item_at, Holds, is_named, is_mover, IsWithin, IsClear, ArePresent, refused_item, is_move_by}
+use Rattle.judge.specs.declared.choices.RuledItem.{RuledItem}
+use Rattle.judge.specs.Choices.{ruled_at, item_at, IsRuled, Holds, is_named, is_mover, IsWithin, IsClear, refused_item, is_move_by}
 
 -- ---- searches
 
@@ -37,10 +39,18 @@ beginning_fails p (x ∷ xs) (suc k) e =
 
 -- ---- items that are put into the table
 
+same_some : (o : Option RuledItem) → is_some o ≡ is_some (option_map (λ r. r.item) o)
+same_some None = refl
+same_some (Some r) = refl
+
+no_item : (o : Option RuledItem) → option_map (λ r. r.item) o ≡ None → o ≡ None
+no_item None e = refl
+no_item (Some r) e = cc
+
 -- why the next item is refused
-pub item_refused : (t : RuleTable) (s : State) (items : List Item) (k : ℕ) (item : Item) (table : List (Option Item)) → Holds table (take k items) → refused_item t s item (is_some (item_at table item.node)) ≡ refused_item t s item (is_named (take k items) item.node)
+pub item_refused : (t : RuleTable) (s : State) (items : List Item) (k : ℕ) (item : Item) (table : List (Option RuledItem)) → Holds t s table (take k items) → refused_item t s item (is_some (ruled_at table item.node)) ≡ refused_item t s item (is_named (take k items) item.node)
 item_refused t s items k item table held =
-    ap (refused_item t s item) (ap is_some (held item.node) ∙ found_any (λ i. nat_eq i.node item.node) (take k items))
+    ap (refused_item t s item) (same_some (ruled_at table item.node) ∙ ap is_some (held.first item.node) ∙ found_any (λ i. nat_eq i.node item.node) (take k items))
 
 -- one more item that is not refused
 pub refusal_more : (t : RuleTable) (s : State) (items : List Item) (k : ℕ) (item : Item) → k < length items → item ≡ get_or items k item → refused_item t s item (is_named (take k items) item.node) ≡ None → items_refusal t s (take (k + 1) items) (drop (k + 1) items) ≡ items_refusal t s (take k items) (drop k items)
@@ -71,40 +81,52 @@ option_or-none : {X : Type 0} (o : Option X) → option_or o None ≡ o
 option_or-none None = refl
 option_or-none (Some x) = refl
 
--- the table holds one more item, at a place that it has
-pub held_more : (table : List (Option Item)) (items : List Item) (k : ℕ) (item : Item) → Holds table (take k items) → k < length items → item ≡ get_or items k item → item.node < length table → is_named (take k items) item.node ≡ false → Holds (set table item.node (Some item)) (take (k + 1) items)
-held_more table items k item held within is place fresh v =
+first_more : (t : RuleTable) (s : State) (table : List (Option RuledItem)) (items : List Item) (k : ℕ) (item : Item) (act : Act) → Holds t s table (take k items) → k < length items → item ≡ get_or items k item → item.node < length table → is_named (take k items) item.node ≡ false → (v : ℕ) → item_at (set table item.node (Some (record { item = item; act = act }))) v ≡ item_of (take (k + 1) items) v
+first_more t s table items k item act held within is place fresh v =
     let front = take k items in
+    let ruled : Option RuledItem = Some (record { item = item; act = act }) in
     let more : take (k + 1) items ≡ front ++ item ∷ [] = take_more items k item within ∙ ap (λ i. front ++ i ∷ []) (sym is) in
     let apart : item_of (take (k + 1) items) v ≡ option_or (item_of front v) (cond (nat_eq item.node v) (Some item) None) = ap (λ l. item_of l v) more ∙ find-append (λ i. nat_eq i.node v) front (item ∷ []) in
     ⊎_elim
     (λ (same : v ≡ item.node).
     let none : item_of front v ≡ None = ap (item_of front) same ∙ not_found (λ i. nat_eq i.node item.node) front fresh in
-    ap (λ w. get_or (set table item.node (Some item)) w None) same ∙ get_or-set_same table item.node (Some item) None place
+    ap (λ w. item_at (set table item.node ruled) w) same ∙ ap (option_map (λ r. r.item)) (get_or-set_same table item.node ruled None place)
     ∙ sym (apart ∙ ap (λ b. option_or (item_of front v) (cond b (Some item) None)) (eq-eqb item.node v (sym same)) ∙ ap (λ o. option_or o (Some item)) none))
     (λ (other : v ≡ item.node → ⊥).
-    get_or-set_other table item.node v (Some item) None other ∙ held v ∙ sym (option_or-none (item_of front v))
+    ap (option_map (λ r. r.item)) (get_or-set_other table item.node v ruled None other) ∙ held.first v ∙ sym (option_or-none (item_of front v))
     ∙ sym (apart ∙ ap (λ b. option_or (item_of front v) (cond b (Some item) None)) (ne_eqb item.node v (λ e. other (sym e)))))
     (cases_eq v item.node)
 
+-- the table holds one more item, at a place that it has, with the rule of its node
+pub held_more : (t : RuleTable) (s : State) (table : List (Option RuledItem)) (items : List Item) (k : ℕ) (item : Item) (act : Act) → Holds t s table (take k items) → IsRuled t s item act → k < length items → item ≡ get_or items k item → item.node < length table → is_named (take k items) item.node ≡ false → Holds t s (set table item.node (Some (record { item = item; act = act }))) (take (k + 1) items)
+held_more t s table items k item act held mine within is place fresh =
+    let ruled : Option RuledItem = Some (record { item = item; act = act }) in
+    record {
+      first = first_more t s table items k item act held within is place fresh;
+      ruled = λ v.
+          ⊎_elim
+          (λ (same : v ≡ item.node). subst (λ o. IfSome o (λ r. IsRuled t s r.item r.act)) (sym (ap (ruled_at (set table item.node ruled)) same ∙ get_or-set_same table item.node ruled None place)) mine)
+          (λ (other : v ≡ item.node → ⊥). subst (λ o. IfSome o (λ r. IsRuled t s r.item r.act)) (sym (get_or-set_other table item.node v ruled None other)) (held.ruled v))
+          (cases_eq v item.node);
+    }
+
 -- a table of the first items has nothing where no item names the node
-pub within_from_held : (table : List (Option Item)) (items : List Item) (k : ℕ) → Holds table (take k items) → IsWithin table items
-within_from_held table items k held v none =
-    held v ∙ not_found (λ i. nat_eq i.node v) (take k items) (beginning_fails (λ i. nat_eq i.node v) items k none)
+pub within_from_held : (t : RuleTable) (s : State) (table : List (Option RuledItem)) (items : List Item) (k : ℕ) → Holds t s table (take k items) → IsWithin table items
+within_from_held t s table items k held v none =
+    no_item (ruled_at table v) (held.first v ∙ not_found (λ i. nat_eq i.node v) (take k items) (beginning_fails (λ i. nat_eq i.node v) items k none))
 
-pub within_from_all : (table : List (Option Item)) (items : List Item) → Holds table items → IsWithin table items
-within_from_all table items held v none = held v ∙ not_found (λ i. nat_eq i.node v) items none
+pub within_from_all : (t : RuleTable) (s : State) (table : List (Option RuledItem)) (items : List Item) → Holds t s table items → IsWithin table items
+within_from_all t s table items held v none =
+    no_item (ruled_at table v) (held.first v ∙ not_found (λ i. nat_eq i.node v) items none)
 
-pub within_from_clear : (table : List (Option Item)) (items : List Item) → IsClear table → IsWithin table items
+pub within_from_clear : (table : List (Option RuledItem)) (items : List Item) → IsClear table → IsWithin table items
 within_from_clear table items clear v none = clear v
 
 -- ---- moves of a choice that is not refused
 
 -- each item is the one at its node
-own_item : (t : RuleTable) (s : State) (items : List Item) → step_refusal t s items ≡ None → (k : ℕ) (d : Item) → k < length items → IsTrue (present s.network (get_or items k d).node) × (item_of items (get_or items k d).node ≡ Some (get_or items k d))
-own_item t s items none k d below =
-    let taken = taken_at t s [] items (choice_from_none t s items none).taken k d below in
-    (taken.0.has, taken.1)
+own_item : (t : RuleTable) (s : State) (items : List Item) → step_refusal t s items ≡ None → (k : ℕ) (d : Item) → k < length items → item_of items (get_or items k d).node ≡ Some (get_or items k d)
+own_item t s items none k d below = (taken_at t s [] items (choice_from_none t s items none).taken k d below).1
 
 -- what holds of each item holds of those in the rest
 pub record Own (items : List Item) (all : List Item) : Type 0 where
@@ -112,19 +134,6 @@ pub record Own (items : List Item) (all : List Item) : Type 0 where
 
 own_rest : (item : Item) (items all : List Item) → Own (item ∷ items) all → Own items all
 own_rest item items all o = record { own = λ k d below. o.own (suc k) d (omega (arith, below)) }
-
-found_present : (net : Network) (items : List Item) → ((k : ℕ) (d : Item) → k < length items → IsTrue (present net (get_or items k d).node)) → (v : ℕ) → IfSome (item_of items v) (λ i. IsTrue (present net i.node))
-found_present net [] all v = tt
-found_present net (item ∷ items) all v =
-    elim (nat_eq item.node v) as (λ b. IfSome (cond b (Some item) (item_of items v)) (λ i. IsTrue (present net i.node))) [
-      | true ↦ all 0 item (omega arith)
-      | false ↦ found_present net items (λ k d below. all (suc k) d (omega (arith, below))) v
-    ]
-
--- the items of a choice that is not refused are at present nodes
-pub held_present : (t : RuleTable) (s : State) (items : List Item) (table : List (Option Item)) → step_refusal t s items ≡ None → Holds table items → ArePresent s.network table
-held_present t s items table none held v =
-    subst (λ o. IfSome o (λ i. IsTrue (present s.network i.node))) (sym (held v)) (found_present s.network items (λ k d below. (own_item t s items none k d below).0) v)
 
 -- a move that an item asks for is of its node
 of_node : (t : RuleTable) (s : State) (item : Item) (m : Moved) → is_move_of t s item m ≡ true → item.node ≡ m.node
@@ -161,13 +170,13 @@ all_agree p q [] h = refl
 all_agree p q (x ∷ xs) h = ap (λ b. b && list_all p xs) (h x) ∙ ap (λ b. q x && b) (all_agree p q xs h)
 
 pub own_items : (t : RuleTable) (s : State) (items : List Item) → step_refusal t s items ≡ None → Own items items
-own_items t s items none = record { own = λ k d below. (own_item t s items none k d below).1 }
+own_items t s items none = record { own = own_item t s items none }
 
 -- the moves are asked for just where each is asked for by the item at its node
-pub asked_by : (t : RuleTable) (s : State) (items : List Item) (moves : List Moved) (table : List (Option Item)) → step_refusal t s items ≡ None → Holds table items → list_all (λ m. is_move_by t s (item_at table m.node) m) moves ≡ list_all (λ m. is_asked t s items m) moves
+pub asked_by : (t : RuleTable) (s : State) (items : List Item) (moves : List Moved) (table : List (Option RuledItem)) → step_refusal t s items ≡ None → Holds t s table items → list_all (λ m. is_move_by t s (item_at table m.node) m) moves ≡ list_all (λ m. is_asked t s items m) moves
 asked_by t s items moves table none held =
     all_agree _ _ moves (λ m.
-    ap (λ o. is_move_by t s o m) (held m.node)
+    ap (λ o. is_move_by t s o m) (held.first m.node)
     ∙ same_tests _ _ (any_found t s m items) (asked_in t s m items items (own_items t s items none)))
 
 -- where each move is asked for by the item at its node, a mover is answered
@@ -196,40 +205,41 @@ answered_mover t s item (m ∷ moves) e =
     or_true true = refl
     or_true false = refl
 
-none_left : (b : Bool) (o : Option Item) (item : Item) → o ≡ Some item → is_none (cond b None o) ≡ b
+none_left : (b : Bool) (o : Option RuledItem) (item : Item) → option_map (λ r. r.item) o ≡ Some item → is_none (cond b None o) ≡ b
 none_left true o item e = refl
-none_left false o item e = ap is_none e
+none_left false None item e = cc
+none_left false (Some r) item e = refl
 
-left_in : (t : RuleTable) (s : State) (items all : List Item) (moves : List Moved) (left : List (Option Item)) → Own items all → list_all (λ m. is_move_by t s (item_of all m.node) m) moves ≡ true → ((v : ℕ) → item_at left v ≡ cond (is_mover moves v) None (item_of all v)) → list_all (λ i. is_none (item_at left i.node)) items ≡ list_all (λ i. is_answered t s moves i) items
-left_in t s [] all moves left own asked out = refl
-left_in t s (item ∷ items) all moves left own asked out =
+left_in : (t : RuleTable) (s : State) (items all : List Item) (moves : List Moved) (table left : List (Option RuledItem)) → Own items all → Holds t s table all → list_all (λ m. is_move_by t s (item_of all m.node) m) moves ≡ true → ((v : ℕ) → ruled_at left v ≡ cond (is_mover moves v) None (ruled_at table v)) → list_all (λ i. is_none (ruled_at left i.node)) items ≡ list_all (λ i. is_answered t s moves i) items
+left_in t s [] all moves table left own held asked out = refl
+left_in t s (item ∷ items) all moves table left own held asked out =
     let mine = own.own 0 item (omega arith) in
-    let here : is_none (item_at left item.node) ≡ is_answered t s moves item =
-    ap is_none (out item.node) ∙ none_left (is_mover moves item.node) (item_of all item.node) item mine
+    let here : is_none (ruled_at left item.node) ≡ is_answered t s moves item =
+    ap is_none (out item.node) ∙ none_left (is_mover moves item.node) (ruled_at table item.node) item (held.first item.node ∙ mine)
     ∙ same_tests _ _ (mover_answered t s item all moves mine asked) (answered_mover t s item moves) in
-    ap (λ b. b && list_all (λ i. is_none (item_at left i.node)) items) here
-    ∙ ap (λ b. is_answered t s moves item && b) (left_in t s items all moves left (own_rest item items all own) asked out)
+    ap (λ b. b && list_all (λ i. is_none (ruled_at left i.node)) items) here
+    ∙ ap (λ b. is_answered t s moves item && b) (left_in t s items all moves table left (own_rest item items all own) held asked out)
 
 -- once the movers' items are taken out, each item has a move just where none is left
-pub left_answered : (t : RuleTable) (s : State) (items : List Item) (moves : List Moved) (table left : List (Option Item)) → step_refusal t s items ≡ None → Holds table items → list_all (λ m. is_move_by t s (item_at table m.node) m) moves ≡ true → ((v : ℕ) → item_at left v ≡ cond (is_mover moves v) None (item_at table v)) → list_all (λ i. is_none (item_at left i.node)) items ≡ list_all (λ i. is_answered t s moves i) items
+pub left_answered : (t : RuleTable) (s : State) (items : List Item) (moves : List Moved) (table left : List (Option RuledItem)) → step_refusal t s items ≡ None → Holds t s table items → list_all (λ m. is_move_by t s (item_at table m.node) m) moves ≡ true → ((v : ℕ) → ruled_at left v ≡ cond (is_mover moves v) None (ruled_at table v)) → list_all (λ i. is_none (ruled_at left i.node)) items ≡ list_all (λ i. is_answered t s moves i) items
 left_answered t s items moves table left none held asked out =
-    left_in t s items items moves left (own_items t s items none)
-    (sym (all_agree _ _ moves (λ m. ap (λ o. is_move_by t s o m) (held m.node))) ∙ asked)
-    (λ v. out v ∙ ap (cond (is_mover moves v) None) (held v))
+    left_in t s items items moves table left (own_items t s items none) held
+    (sym (all_agree _ _ moves (λ m. ap (λ o. is_move_by t s o m) (held.first m.node))) ∙ asked)
+    out
 
 -- what is left stands at nodes of items
-pub within_left : (items : List Item) (moves : List Moved) (table left : List (Option Item)) → Holds table items → ((v : ℕ) → item_at left v ≡ cond (is_mover moves v) None (item_at table v)) → IsWithin left items
-within_left items moves table left held out v none =
-    out v ∙ ap (cond (is_mover moves v) None) (within_from_all table items held v none) ∙ same_none (is_mover moves v)
+pub within_left : (t : RuleTable) (s : State) (items : List Item) (moves : List Moved) (table left : List (Option RuledItem)) → Holds t s table items → ((v : ℕ) → ruled_at left v ≡ cond (is_mover moves v) None (ruled_at table v)) → IsWithin left items
+within_left t s items moves table left held out v none =
+    out v ∙ ap (cond (is_mover moves v) None) (within_from_all t s table items held v none) ∙ same_none (is_mover moves v)
   where
-    same_none : (b : Bool) → cond {A = Option Item} b None None ≡ None
+    same_none : (b : Bool) → cond {A = Option RuledItem} b None None ≡ None
     same_none true = refl
     same_none false = refl
 
 -- a table that was cleared at all items is clear
-pub cleared_all : (items : List Item) (table left : List (Option Item)) → IsWithin table items → ((v : ℕ) → item_at left v ≡ cond (is_named items v) None (item_at table v)) → IsClear left
+pub cleared_all : (items : List Item) (table left : List (Option RuledItem)) → IsWithin table items → ((v : ℕ) → ruled_at left v ≡ cond (is_named items v) None (ruled_at table v)) → IsClear left
 cleared_all items table left within out v =
     ⊎_elim
-    (λ yes. out v ∙ ap (λ b. cond b None (item_at table v)) yes)
-    (λ no. out v ∙ ap (λ b. cond b None (item_at table v)) no ∙ within v no)
+    (λ yes. out v ∙ ap (λ b. cond b None (ruled_at table v)) yes)
+    (λ no. out v ∙ ap (λ b. cond b None (ruled_at table v)) no ∙ within v no)
     (cases_Bool (is_named items v))

@@ -1,24 +1,40 @@
--- A table with a place for each name, at which the item of a choice stands that names it.
-use Rattle.std.specs.Prelude.{◌≡◌, ℕ, ◌+◌, length, Bool, false, not, List, Option, None, Some, IfSome, IsTrue, if◌then◌else◌, nat_eq, slice_index_or}
+-- A table with a place for each name, at which the item of a choice stands that names it, with the rule that is enabled there.
+use Rattle.std.specs.Prelude.{◌≡◌, ℕ, ◌+◌, length, Bool, false, not, List, Option, None, Some, IfSome, IsTrue, if◌then◌else◌, nat_eq, option_map, slice_index_or}
 use Rattle.std.specs.List.{list_any}
+use Rattle.rule_machine.specs.declared.act.Act.{Act}
 use Rattle.rule_machine.specs.declared.choice.Item.{Item}
 use Rattle.rule_machine.specs.declared.moved.Moved.{Moved}
 use Rattle.rule_machine.specs.declared.refusal.Refusal.{Refusal}
 use Rattle.rule_machine.specs.declared.refusal.Refusal.TheVariants.{UnknownNode, ChosenTwice}
-use Rattle.rule_machine.specs.Network.{Network, present}
+use Rattle.rule_machine.specs.Network.{present}
 use Rattle.rule_machine.specs.State.{State}
 use Rattle.rule_machine.specs.RuleTable.{RuleTable, rule_at}
 use Rattle.rule_machine.specs.Refuse.{rule_refusal}
 use Rattle.rule_machine.specs.Least.{item_of}
 use Rattle.machine_laws.specs.Judged.{is_move_of}
+use Rattle.judge.specs.declared.choices.RuledItem.{RuledItem}
+
+-- what stands at a name
+abbrev pub ruled_at : List (Option RuledItem) → ℕ → Option RuledItem
+ruled_at table v = slice_index_or table v None
 
 -- the item at a name
-abbrev pub item_at : List (Option Item) → ℕ → Option Item
-item_at table v = slice_index_or table v None
+abbrev pub item_at : List (Option RuledItem) → ℕ → Option Item
+item_at table v = option_map (λ r. r.item) (ruled_at table v)
 
--- at each name stands the first of the items that names it
-abbrev pub Holds : List (Option Item) → List Item → Type 0
-Holds table items = (v : ℕ) → item_at table v ≡ item_of items v
+-- the rule is the one that is enabled at the item's node, and allows what the item wishes
+pub record IsRuled (t : RuleTable) (s : State) (item : Item) (act : Act) : Type 0 where
+  pub rule : rule_at t s item.node ≡ Some act
+  pub wish : IfSome item.wish (λ w. IsTrue (t.allowed s item.node act w))
+
+-- each item stands with its rule
+abbrev pub AreRuled : RuleTable → State → List (Option RuledItem) → Type 0
+AreRuled t s table = (v : ℕ) → IfSome (ruled_at table v) (λ r. IsRuled t s r.item r.act)
+
+-- at each name stands the first of the items that names it, with its rule
+pub record Holds (t : RuleTable) (s : State) (table : List (Option RuledItem)) (items : List Item) : Type 0 where
+  pub first : (v : ℕ) → item_at table v ≡ item_of items v
+  pub ruled : AreRuled t s table
 
 -- whether an item names v
 abbrev pub is_named : List Item → ℕ → Bool
@@ -29,16 +45,12 @@ abbrev pub is_mover : List Moved → ℕ → Bool
 is_mover moves v = list_any (λ m. nat_eq m.node v) moves
 
 -- an item stands only at a name that the items name
-abbrev pub IsWithin : List (Option Item) → List Item → Type 0
-IsWithin table items = (v : ℕ) → is_named items v ≡ false → item_at table v ≡ None
+abbrev pub IsWithin : List (Option RuledItem) → List Item → Type 0
+IsWithin table items = (v : ℕ) → is_named items v ≡ false → ruled_at table v ≡ None
 
 -- no item stands anywhere
-abbrev pub IsClear : List (Option Item) → Type 0
-IsClear table = (v : ℕ) → item_at table v ≡ None
-
--- the items are at nodes that are present
-abbrev pub ArePresent : Network → List (Option Item) → Type 0
-ArePresent net table = (v : ℕ) → IfSome (item_at table v) (λ i. IsTrue (present net i.node))
+abbrev pub IsClear : List (Option RuledItem) → Type 0
+IsClear table = (v : ℕ) → ruled_at table v ≡ None
 
 -- why an item is refused whose node may stand in the choice before
 abbrev pub refused_item : RuleTable → State → Item → Bool → Option Refusal
@@ -52,6 +64,6 @@ is_move_by t s None m = false
 is_move_by t s (Some item) m = is_move_of t s item m
 
 -- the table of these many names is between two events
-pub record IsReady (size : ℕ) (table : List (Option Item)) : Type 0 where
+pub record IsReady (size : ℕ) (table : List (Option RuledItem)) : Type 0 where
   pub len : length table ≡ size + 1
   pub clear : IsClear table

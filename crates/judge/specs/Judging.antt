@@ -9,6 +9,7 @@ use Rattle.rule_machine.specs.declared.reply.Reply.TheVariants.{Accepted}
 use Rattle.rule_machine.specs.State.{State}
 use Rattle.rule_machine.specs.RuleTable.{RuleTable}
 use Rattle.rule_machine.specs.Refuse.{refusal_of}
+use Rattle.judge.specs.declared.choices.RuledItem.{RuledItem}
 use Rattle.judge.specs.Choices.{IsReady}
 
 abbrev pub is_link : Event → Bool
@@ -50,6 +51,6 @@ same_counts c d =
     nat_eq c.nodes d.nodes && nat_eq c.edges d.edges && nat_eq c.spent d.spent && nat_eq c.pairs d.pairs && nat_eq c.enabled d.enabled && nat_eq c.charge d.charge
 
 -- the tables of these many names are between two events
-pub record AreReady (size : ℕ) (items : List (Option Item)) (marks : List Bool) : Type 0 where
+pub record AreReady (size : ℕ) (items : List (Option RuledItem)) (marks : List Bool) : Type 0 where
   pub chosen : IsReady size items
   pub courted : length marks ≡ size + 1

@@ -1,24 +1,31 @@
-//! The items of the step that is judged, each at its node.
+//! The items of the step that is judged, each at its node with its rule.
 
 ghost use Rattle.std.specs.Prelude.{◌≡◌, ◌+◌, ◌<◌, ◌≤◌, ℕ, IfOk, None, Some, cond, is_none, length, replicate, slice_set};
 ghost use Rattle.std.specs.List.{list_all};
-ghost use Rattle.judge.specs.Choices.{item_at, is_named, is_mover};
+ghost use Rattle.judge.specs.Choices.{ruled_at, is_named, is_mover};
 
-use rule_machine::{Item, Moved, Node, Want};
+use rule_machine::{Act, Item, Moved, Node, Want};
 use std::alloc::Global;
 use std::marker::Model;
+
+/// An item, and the rule that is enabled at its node.
+#[derive(Clone, Copy)]
+pub(crate) struct RuledItem {
+    pub(crate) item: Item,
+    pub(crate) act: Act,
+}
 
 /// The items of a choice, seen in contracts as a list with a place for each name; place 0 is nobody's.
 #[derive(Drop)]
 pub(crate) struct Chosen {
-    items: Vec<Option<Item>>,
+    items: Vec<Option<RuledItem>>,
 }
 
 impl Model for Chosen {
     ghost use Rattle.std.specs.Prelude.{List, Option};
-    ghost use Rattle.rule_machine.specs.declared.choice.Item.{Item};
+    ghost use Rattle.judge.specs.declared.choices.RuledItem.{RuledItem};
 
-    ghost Value = { List (Option Item) };
+    ghost Value = { List (Option RuledItem) };
 
     ghost view = { λ c. c.items.items };
 }
@@ -33,9 +40,9 @@ impl Chosen {
         Ok(Chosen { items })
     }
 
-    /// The item at a node.
-    pub(crate) fn get(&self, v: Node) -> Option<Item>
-        ensures { result ≡ item_at self.now v }
+    /// What stands at a node.
+    pub(crate) fn get(&self, v: Node) -> Option<RuledItem>
+        ensures { result ≡ ruled_at self.now v }
     {
         if v.place() < self.items.len() {
             self.items[v.place()]
@@ -44,13 +51,13 @@ impl Chosen {
         }
     }
 
-    /// Puts an item at its node, which has a place.
-    pub(crate) fn put(&mut self, item: Item)
+    /// Puts an item and its rule at its node, which has a place.
+    pub(crate) fn put(&mut self, item: Item, act: Act)
         requires { item.node < length self.old }
-        ensures { self.new ≡ slice_set self.old item.node (Some item) }
+        ensures { self.new ≡ slice_set self.old item.node (Some (record { item = item; act = act })) }
     {
         let place = item.node.place();
-        self.items[place] = Some(item);
+        self.items[place] = Some(RuledItem { item, act });
     }
 
     /// Takes out the item at a node, if there is one.
@@ -65,7 +72,7 @@ impl Chosen {
     /// Takes out what stands at the nodes of items.
     pub(crate) fn clear(&mut self, items: &[Item])
         ensures len { length self.new ≡ length self.old }
-        ensures out { (v : ℕ) → item_at self.new v ≡ cond (is_named items.now v) None (item_at self.old v) }
+        ensures out { (v : ℕ) → ruled_at self.new v ≡ cond (is_named items.now v) None (ruled_at self.old v) }
     {
         for item in items {
             self.take_out(item.node);
@@ -75,7 +82,7 @@ impl Chosen {
     /// Takes out what stands at the nodes of moves.
     pub(crate) fn take_movers(&mut self, moves: &[Moved])
         ensures len { length self.new ≡ length self.old }
-        ensures out { (v : ℕ) → item_at self.new v ≡ cond (is_mover moves.now v) None (item_at self.old v) }
+        ensures out { (v : ℕ) → ruled_at self.new v ≡ cond (is_mover moves.now v) None (ruled_at self.old v) }
     {
         for made in moves {
             self.take_out(made.node);
@@ -84,7 +91,7 @@ impl Chosen {
 
     /// Whether nothing stands at any node of items.
     pub(crate) fn has_none(&self, items: &[Item]) -> bool
-        ensures { result ≡ list_all (λ i. is_none (item_at self.now i.node)) items.now }
+        ensures { result ≡ list_all (λ i. is_none (ruled_at self.now i.node)) items.now }
     {
         for item in items {
             if self.get(item.node).is_some() {
@@ -96,13 +103,16 @@ impl Chosen {
 }
 
 /// So many places with no item.
-fn empty_places(alloc: Global, places: usize) -> Result<Vec<Option<Item>>, Want>
+fn empty_places(alloc: Global, places: usize) -> Result<Vec<Option<RuledItem>>, Want>
     requires { places ≤ 65536 }
     ensures { IfOk result (λ items. items.items ≡ replicate places None) }
 {
     let nobody: Option<Node> = None;
     let no_item = match nobody {
-        Some(node) => Some(Item { node, wish: None }),
+        Some(node) => Some(RuledItem {
+            item: Item { node, wish: None },
+            act: Act::Update,
+        }),
         None => None,
     };
     vec![in alloc; no_item; places]

@@ -47,7 +47,7 @@ impl NetState {
     fn refusal(&self, rules: RuleSet, event: &Event, chosen: &mut Chosen) -> Option<Refusal>
         requires { IsReady self.now.network.size chosen.old }
         ensures value { result ≡ refusal_of (table_of rules) self.now event.now }
-        ensures held { result ≡ None → Holds chosen.new (items_of event.now) }
+        ensures held { result ≡ None → Holds (table_of rules) self.now chosen.new (items_of event.now) }
         ensures within { IsWithin chosen.new (items_of event.now) }
         ensures len { length chosen.new ≡ length chosen.old }
     {
@@ -74,7 +74,7 @@ impl NetState {
         courted: &mut Courted,
     ) -> Result<bool, Want>
         requires accepted { refusal_of (table_of rules) self.old event.now ≡ None }
-        requires held { Holds chosen.old (items_of event.now) }
+        requires held { Holds (table_of rules) self.old chosen.old (items_of event.now) }
         requires courted { length courted.old ≡ self.old.network.size + 1 }
         ensures right { IfOk result (λ right. IsTrue right → Does (table_of rules) self.old spent event.now reply.now self.new) }
         ensures wrong { IfOk result (λ right. right ≡ false → ((s : State) → Does (table_of rules) self.old spent event.now reply.now s → ⊥) × (self.new ≡ self.old)) }
@@ -103,7 +103,7 @@ impl NetState {
         courted: &mut Courted,
     ) -> bool
         requires accepted { refusal_of (table_of rules) self.now event.now ≡ None }
-        requires held { Holds chosen.old (items_of event.now) }
+        requires held { Holds (table_of rules) self.now chosen.old (items_of event.now) }
         requires courted { length courted.old ≡ self.now.network.size + 1 }
         ensures value { IsTrue result ↔ Does (table_of rules) self.now spent event.now reply.now (followed self.now event.now reply.now) }
         ensures within { IsWithin chosen.new (items_of event.now) }
@@ -128,7 +128,7 @@ impl NetState {
     /// Whether a reply has the moves of a step of these items.
     fn may_move(&self, rules: RuleSet, items: &[Item], reply: &Reply, chosen: &mut Chosen) -> bool
         requires accepted { refusal_of (table_of rules) self.now (Event.Step items.now) ≡ None }
-        requires held { Holds chosen.old items.now }
+        requires held { Holds (table_of rules) self.now chosen.old items.now }
         ensures value { (spent : ℕ) → IsTrue result ↔ Does (table_of rules) self.now spent (Event.Step items.now) reply.now (followed self.now (Event.Step items.now) reply.now) }
         ensures within { IsWithin chosen.new items.now }
         ensures len { length chosen.new ≡ length chosen.old }

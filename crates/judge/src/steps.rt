@@ -1,6 +1,6 @@
 //! Whether moves are those of a step.
 
-ghost use Rattle.std.specs.Prelude.{◌≡◌, ◌+◌, ◌↔◌, [], IfSome, IsTrue, None, length, map};
+ghost use Rattle.std.specs.Prelude.{◌≡◌, ◌+◌, ◌↔◌, [], IfSome, IsTrue, MatchResult, None, Some, length, map, option_map};
 ghost use Rattle.std.specs.List.{list_all};
 ghost use Rattle.std.specs.List.Sorted.{IsStrictlyIncreasing};
 ghost use Rattle.rule_machine.specs.Network.{present};
@@ -9,8 +9,9 @@ ghost use Rattle.rule_machine.specs.Refuse as refuse;
 ghost use Rattle.rule_machine.specs.Step.{IsStep, after_moves};
 ghost use Rattle.rule_machine.specs.Tables.{table_of};
 ghost use Rattle.machine_laws.specs.Judged as judged;
-ghost use Rattle.judge.specs.Choices.{item_at, Holds, IsWithin, IsClear, ArePresent, refused_item, is_move_by};
+ghost use Rattle.judge.specs.Choices.{item_at, Holds, IsWithin, IsClear, IsRuled, AreRuled, refused_item, is_move_by};
 
+use crate::choices::RuledItem;
 use crate::{Chosen, NetState};
 use rule_machine::{Act, Item, Moved, Refusal, RuleSet};
 
@@ -25,7 +26,7 @@ impl NetState {
         requires clear { IsClear chosen.old }
         requires len { length chosen.old ≡ self.now.network.size + 1 }
         ensures value { result ≡ refuse.step_refusal (table_of rules) self.now items.now }
-        ensures held { result ≡ None → Holds chosen.new items.now }
+        ensures held { result ≡ None → Holds (table_of rules) self.now chosen.new items.now }
         ensures within { IsWithin chosen.new items.now }
         ensures len { length chosen.new ≡ length chosen.old }
     {
@@ -43,52 +44,52 @@ impl NetState {
         requires clear { IsClear chosen.old }
         requires len { length chosen.old ≡ self.now.network.size + 1 }
         ensures value { result ≡ refuse.items_refusal (table_of rules) self.now [] items.now }
-        ensures held { result ≡ None → Holds chosen.new items.now }
+        ensures held { result ≡ None → Holds (table_of rules) self.now chosen.new items.now }
         ensures within { IsWithin chosen.new items.now }
         ensures len { length chosen.new ≡ length chosen.old }
     {
         for item in items {
             let twice = chosen.get(item.node).is_some();
-            let refusal = self.item_refusal(rules, *item, twice);
-            if refusal.is_some() {
-                return refusal;
+            match self.taken(rules, *item, twice) {
+                Ok(act) => chosen.put(*item, act),
+                Err(refusal) => return Some(refusal),
             }
-            chosen.put(*item);
         }
         None
     }
 
-    /// Why an item is refused, where its node may have been chosen before.
-    fn item_refusal(&self, rules: RuleSet, item: Item, twice: bool) -> Option<Refusal>
-        ensures { result ≡ refused_item (table_of rules) self.now item twice }
+    /// The rule of an item's node, or why the item is refused, where its node may have been chosen before.
+    fn taken(&self, rules: RuleSet, item: Item, twice: bool) -> Result<Act, Refusal>
+        ensures { MatchResult result (λ act. (refused_item (table_of rules) self.now item twice ≡ None) × IsRuled (table_of rules) self.now item act) (λ refusal. refused_item (table_of rules) self.now item twice ≡ Some refusal) }
     {
         if !self.has(item.node) {
-            Some(Refusal::UnknownNode)
+            Err(Refusal::UnknownNode)
         } else if twice {
-            Some(Refusal::ChosenTwice)
+            Err(Refusal::ChosenTwice)
         } else {
-            self.rule_refusal(rules, item)
+            self.ruled(rules, item)
         }
     }
 
-    /// Why the rule of an item's node refuses it.
-    fn rule_refusal(&self, rules: RuleSet, item: Item) -> Option<Refusal>
+    /// The rule of an item's node, or why there is none that the item may have.
+    fn ruled(&self, rules: RuleSet, item: Item) -> Result<Act, Refusal>
         requires { IsTrue (present self.now.network item.node) }
-        ensures { result ≡ refuse.rule_refusal (table_of rules) self.now item (rule_at (table_of rules) self.now item.node) }
+        ensures { MatchResult result (λ act. (refuse.rule_refusal (table_of rules) self.now item (rule_at (table_of rules) self.now item.node) ≡ None) × IsRuled (table_of rules) self.now item act) (λ refusal. refuse.rule_refusal (table_of rules) self.now item (rule_at (table_of rules) self.now item.node) ≡ Some refusal) }
     {
         match self.rule_at(rules, item.node, None) {
-            Some(act) => self.wish_refusal(rules, act, item),
-            None => Some(Refusal::NotEnabled),
+            Some(act) if self.allows_wish(rules, act, item) => Ok(act),
+            Some(_) => Err(Refusal::BadTarget),
+            None => Err(Refusal::NotEnabled),
         }
     }
 
-    /// Why a rule refuses an item's wish.
-    fn wish_refusal(&self, rules: RuleSet, act: Act, item: Item) -> Option<Refusal>
-        ensures { result ≡ refuse.wish_refusal ((table_of rules).allowed self.now item.node act) item.wish }
+    /// Whether a rule allows what an item wishes, if it wishes anything.
+    fn allows_wish(&self, rules: RuleSet, act: Act, item: Item) -> bool
+        ensures { IsTrue result ↔ IfSome item.wish (λ w. IsTrue ((table_of rules).allowed self.now item.node act w)) }
     {
         match item.wish {
-            Some(w) if !self.is_allowed(rules, item.node, act, w) => Some(Refusal::BadTarget),
-            _ => None,
+            Some(w) => self.is_allowed(rules, item.node, act, w),
+            None => true,
         }
     }
 
@@ -102,7 +103,7 @@ impl NetState {
         chosen: &mut Chosen,
     ) -> bool
         requires accepted { refuse.step_refusal (table_of rules) self.now items.now ≡ None }
-        requires held { Holds chosen.old items.now }
+        requires held { Holds (table_of rules) self.now chosen.old items.now }
         ensures value { IsTrue result ↔ IsStep (table_of rules) self.now items.now moves.now (after_moves self.now moves.now) }
         ensures within { IsWithin chosen.new items.now }
         ensures len { length chosen.new ≡ length chosen.old }
@@ -120,7 +121,7 @@ impl NetState {
         chosen: &mut Chosen,
     ) -> bool
         requires accepted { refuse.step_refusal (table_of rules) self.now items.now ≡ None }
-        requires held { Holds chosen.old items.now }
+        requires held { Holds (table_of rules) self.now chosen.old items.now }
         ensures value { result ≡ judged.are_of_items (table_of rules) self.now items.now moves.now }
         ensures within { IsWithin chosen.new items.now }
         ensures len { length chosen.new ≡ length chosen.old }
@@ -134,7 +135,7 @@ impl NetState {
 
     /// Whether each move is one that the item at its node asks for.
     fn are_asked(&self, rules: RuleSet, moves: &[Moved], chosen: &Chosen) -> bool
-        requires { ArePresent self.now.network chosen.now }
+        requires { AreRuled (table_of rules) self.now chosen.now }
         ensures { result ≡ list_all (λ m. is_move_by (table_of rules) self.now (item_at chosen.now m.node) m) moves.now }
     {
         for &made in moves {
@@ -146,34 +147,22 @@ impl NetState {
     }
 
     /// Whether there is an item, and it asks for this move.
-    fn is_asked(&self, rules: RuleSet, item: Option<Item>, made: Moved) -> bool
-        requires { IfSome item (λ i. IsTrue (present self.now.network i.node)) }
-        ensures { result ≡ is_move_by (table_of rules) self.now item made }
+    fn is_asked(&self, rules: RuleSet, ruled: Option<RuledItem>, made: Moved) -> bool
+        requires { IfSome ruled (λ r. IsRuled (table_of rules) self.now r.item r.act) }
+        ensures { result ≡ is_move_by (table_of rules) self.now (option_map (λ r. r.item) ruled) made }
     {
-        match item {
-            Some(item) => self.is_move_of(rules, item, made),
+        match ruled {
+            Some(ruled) => self.is_move_of(rules, ruled.act, ruled.item, made),
             None => false,
         }
     }
 
-    /// Whether a move is one that an item asks for.
-    fn is_move_of(&self, rules: RuleSet, item: Item, made: Moved) -> bool
-        requires { IsTrue (present self.now.network item.node) }
+    /// Whether a move is one that an item asks for, by the rule of its node.
+    fn is_move_of(&self, rules: RuleSet, act: Act, item: Item, made: Moved) -> bool
+        requires { IsRuled (table_of rules) self.now item act }
         ensures { result ≡ judged.is_move_of (table_of rules) self.now item made }
     {
-        made.node == item.node
-            && is_rule(self.rule_at(rules, item.node, None), made.act)
-            && self.is_target(rules, made.act, item, made.target)
-    }
-}
-
-/// Whether a node's rule is this one.
-fn is_rule(rule: Option<Act>, act: Act) -> bool
-    ensures { result ≡ judged.is_rule rule act }
-{
-    match rule {
-        Some(own) => own == act,
-        None => false,
+        made.node == item.node && made.act == act && self.is_target(rules, act, item, made.target)
     }
 }
 

@@ -1,11 +1,12 @@
 //! The targets that a rule allows.
 
-ghost use Rattle.std.specs.Prelude.{◌≡◌};
+ghost use Rattle.std.specs.Prelude.{◌≡◌, ◌&&◌};
 ghost use Rattle.rule_machine.specs.HsuHuang.{hsu_huang_allowed};
 ghost use Rattle.rule_machine.specs.Manne.{manne_allowed};
 ghost use Rattle.rule_machine.specs.Step.{takes_target};
 ghost use Rattle.rule_machine.specs.Tables.{table_of};
 ghost use Rattle.machine_laws.specs.Judged as judged;
+ghost use Rattle.judge.specs.Choices.{IsRuled};
 
 use crate::NetState;
 use rule_machine::{Act, Item, Node, RuleSet};
@@ -43,7 +44,7 @@ impl NetState {
         }
     }
 
-    /// Whether a move that an item asks for, by a rule, may have this target.
+    /// Whether a move that an item asks for, by the rule of its node, may have this target.
     pub(crate) fn is_target(
         &self,
         rules: RuleSet,
@@ -51,15 +52,23 @@ impl NetState {
         item: Item,
         target: Option<Node>,
     ) -> bool
+        requires { IsRuled (table_of rules) self.now item act }
         ensures { result ≡ judged.is_target (table_of rules) self.now item.node act item.wish target }
     {
         match target {
-            Some(w) => {
-                takes_target(act)
-                    && self.is_allowed(rules, item.node, act, w)
-                    && suits_wish(item.wish, w)
-            }
+            Some(w) => takes_target(act) && self.suits(rules, act, item, w),
             None => !takes_target(act),
+        }
+    }
+
+    /// Whether an item lets its node point at another: at the one that it wishes, which is allowed, or else at any allowed one.
+    fn suits(&self, rules: RuleSet, act: Act, item: Item, w: Node) -> bool
+        requires { IsRuled (table_of rules) self.now item act }
+        ensures { result ≡ ((table_of rules).allowed self.now item.node act w && judged.suits_wish item.wish w) }
+    {
+        match item.wish {
+            Some(x) => x == w,
+            None => self.is_allowed(rules, item.node, act, w),
         }
     }
 }
@@ -71,15 +80,5 @@ fn takes_target(act: Act) -> bool
     match act {
         Act::Marry | Act::Seduce => true,
         Act::Update | Act::Abandon => false,
-    }
-}
-
-/// Whether a wish, if there is one, is for a node.
-fn suits_wish(wish: Option<Node>, w: Node) -> bool
-    ensures { result ≡ judged.suits_wish wish w }
-{
-    match wish {
-        Some(x) => x == w,
-        None => true,
     }
 }

@@ -2,12 +2,9 @@ use Rattle.std.proofs.Common.{◌∙◌, ◌&&◌, true, sym, ap}
 use Rattle.std.specs.List.{list_all}
 use Rattle.rule_machine.specs.Tables.{table_of}
 use Rattle.machine_laws.specs.Judged.{is_asked, is_answered}
-use Rattle.judge.proofs.Table.{held_present, asked_by, left_answered, within_left, within_from_all}
+use Rattle.judge.proofs.Table.{asked_by, left_answered, within_left, within_from_all}
 use Rattle.judge.proofs.net_state.NetState.are_of_items.Goals as goal
 use Rattle.judge.proofs.net_state.NetState.are_of_items.Goals.{then-not-fits_daemon-via-then-not-fits_daemon, then-not-fits_daemon-via-else-not-fits_daemon+then-not-are_asked}
-
-pub are_asked-requires : goal.are_asked-requires
-are_asked-requires c = held_present (table_of c.args.rules) c.args.self.now c.args.items.now c.args.chosen.now c.requires.accepted c.requires.held
 
 pub returns-then-not-fits_daemon-clause-value : goal.returns-then-not-fits_daemon-clause-value
 returns-then-not-fits_daemon-clause-value c =
@@ -25,7 +22,7 @@ returns-then-not-fits_daemon-clause-value c =
     ]
 
 pub returns-then-not-fits_daemon-clause-within : goal.returns-then-not-fits_daemon-clause-within
-returns-then-not-fits_daemon-clause-within c = within_from_all c.args.chosen.now c.args.items.now c.requires.held
+returns-then-not-fits_daemon-clause-within c = within_from_all (table_of c.args.rules) c.args.self.now c.args.chosen.now c.args.items.now c.requires.held
 
 pub returns-clause-value : goal.returns-clause-value
 returns-clause-value c =
@@ -41,4 +38,4 @@ returns-clause-value c =
     ∙ ap (λ b. b && (list_all (λ m. is_asked t s items m) moves && list_all (λ item. is_answered t s moves item) items)) (sym c.if-not-fits_daemon.false ∙ c.fits_daemon.ensures)
 
 pub returns-clause-within : goal.returns-clause-within
-returns-clause-within c = within_left c.args.items.now c.args.moves.now c.args.chosen.now c.take_movers.new.self c.requires.held c.take_movers.ensures.out
+returns-clause-within c = within_left (table_of c.args.rules) c.args.self.now c.args.items.now c.args.moves.now c.args.chosen.now c.take_movers.new.self c.requires.held c.take_movers.ensures.out

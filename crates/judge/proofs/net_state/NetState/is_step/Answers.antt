@@ -15,4 +15,4 @@ returns-then-are_ascending-clause-value c =
     )
 
 pub returns-else-are_ascending-clause-within : goal.returns-else-are_ascending-clause-within
-returns-else-are_ascending-clause-within c = within_from_all c.args.chosen.now c.args.items.now c.requires.held
+returns-else-are_ascending-clause-within c = within_from_all (table_of c.args.rules) c.args.self.now c.args.chosen.now c.args.items.now c.requires.held

@@ -7,6 +7,6 @@ use Rattle.judge.proofs.net_state.NetState.items_refusal.Given as goal
 abbrev pub invariant-loop-item : goal.invariant-loop-item
 invariant-loop-item l = record {
   same : refuse.items_refusal (table_of l.rules) l.self (take l.item-index l.items) (drop l.item-index l.items) ≡ refuse.items_refusal (table_of l.rules) l.self [] l.items;
-  held : Holds l.chosen (take l.item-index l.items);
+  held : Holds (table_of l.rules) l.self l.chosen (take l.item-index l.items);
   len : length l.chosen ≡ length l.fn.chosen;
 }
