@@ -63,7 +63,7 @@ impl NetState {
         ensures { result ≡ find (λ x. may_court self.now v x && nat_lt w x) (neighbours self.now.network v) }
     {
         for &x in self.neighbours(v) {
-            if self.may_court(v, x) && w < x {
+            if w < x && self.may_court(v, x) {
                 return Some(x);
             }
         }
