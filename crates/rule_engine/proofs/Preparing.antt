@@ -62,18 +62,14 @@ taken_prepares {E = E} t n n' spent items refused whole made result taken told a
     by_reply q (Err e) is moves told all want = record { reply = tt; room = tt; kept = kept; want = (is ∙ want, refl) }
 
 -- a step of one item, which has one look
-pub one_prepares : {E : Type 0} (t : RuleTable) (n : Indexed) (spent : ℕ) (item : Item) (result : Result Reply E) → IfOk result (IsToldOf (items_refusal t n.state [] (item ∷ [])) (moves_by t n.state (item ∷ []))) → OnErr result (items_refusal t n.state [] (item ∷ []) ≡ None) → Prepares t n spent (Step (item ∷ [])) result n
-one_prepares {E = E} t n spent item result told want =
+pub one_prepares : {E : Type 0} (t : RuleTable) (n : Indexed) (spent : ℕ) (item : Item) (reply : Reply) → IsToldOf (items_refusal t n.state [] (item ∷ [])) (moves_by t n.state (item ∷ [])) reply → Prepares {E = E} t n spent (Step (item ∷ [])) (Ok reply) n
+one_prepares {E = E} t n spent item reply told =
     let taken : IsTaken t n.state (item ∷ []) (items_refusal t n.state [] (item ∷ [])) true (moves_by t n.state (item ∷ [])) = record { size = sized t.central; refusal = refl; moves = λ none whole. refl } in
-    taken_prepares t n n spent (item ∷ []) (items_refusal t n.state [] (item ∷ [])) true (moves_by t n.state (item ∷ [])) result taken told (whole result) want refl
+    taken_prepares {E = E} t n n spent (item ∷ []) (items_refusal t n.state [] (item ∷ [])) true (moves_by t n.state (item ∷ [])) (Ok reply) taken told (λ none. refl) tt refl
   where
     sized : (central : Bool) → size_refusal central 1 ≡ None
     sized true = refl
     sized false = refl
-
-    whole : (r : Result Reply E) → OnOk r (items_refusal t n.state [] (item ∷ []) ≡ None → IsTrue true)
-    whole (Ok reply) = λ none. refl
-    whole (Err e) = tt
 
 -- a question whose answer may take memory
 pub asked_prepares : {E : Type 0} (t : RuleTable) (n : Indexed) (spent : ℕ) (event : Event) (result : Result Reply E) → refusal_of t n.state event ≡ None → IsTrue (takes_memory event) → ((reply : Reply) → HasRoomTo event reply n.room) → IfOk result (λ r. r ≡ reply_of t n.state spent event) → Prepares t n spent event result n

@@ -1,5 +1,5 @@
 -- What a node of a stable network adds to the charge.
-use Rattle.std.proofs.Common.{◌≡◌, ℕ, Bool, true, false, cond, not, ◌&&◌, ◌||◌, nat_lt, List, [], ◌∷◌, filter, count_by, Option, Some, None, IsTrue, IfSome, refl, ap, ◌∙◌, subst, arith}
+use Rattle.std.proofs.Common.{◌≡◌, ℕ, Bool, true, false, cond, not, ◌&&◌, ◌||◌, nat_lt, List, [], ◌∷◌, filter, count_by, sum_by, Option, Some, None, IsTrue, IfSome, refl, ap, ◌∙◌, subst, arith}
 use Rattle.std.proofs.lemmas.List.Sums.{sum_by-cons}
 use Rattle.rule_machine.specs.Network.{names, linked}
 use Rattle.rule_machine.specs.State.{State, IsState, pointer, married, points, holds_at, is_unanswered}
@@ -53,3 +53,13 @@ settled_part flags closed adds s v good stable closes =
     let own : cond {A = ℕ} (is_unanswered s v) 1 0 ≡ 0 = ap (λ b. cond {A = ℕ} b 1 0) (all_answered flags s v stable) in
     let edges : open_above closed s.network v ≡ 0 = none_kept (λ w. nat_lt v w && not (closed (v, w))) (linked s.network v) (λ w there. ap (λ b. nat_lt v w && not b) (closes v w (end_married flags s v w good stable there)) ∙ shut (nat_lt v w)) (names s.network) in
     omega (arith, own, edges)
+
+-- all nodes together add nothing where none adds anything by itself
+pub settled_sum : (flags : Bool) (closed : ℕ × ℕ → Bool) (adds : ℕ → ℕ) (s : State) → IsState s → IsStable flags s → ((x y : ℕ) → married s x || married s y ≡ true → closed (x, y) ≡ true) → ((v : ℕ) → adds v ≡ 0) → (vs : List ℕ) → sum_by (node_part closed adds s) vs ≡ 0
+settled_sum flags closed adds s good stable closes none [] = refl
+settled_sum flags closed adds s good stable closes none (v ∷ vs) =
+    let whole = sum_by-cons (node_part closed adds s) v vs in
+    let own = settled_part flags closed adds s v good stable closes in
+    let here = none v in
+    let rest = settled_sum flags closed adds s good stable closes none vs in
+    omega (arith, whole, own, here, rest)

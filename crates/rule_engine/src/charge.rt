@@ -112,13 +112,26 @@ fn charge_of_all<R: Rules>(state: &IndexedState<R>, is_stable: bool) -> u64
     charge
 }
 
-/// The charge of a state. A look at every name, and at every edge of a network that is not known to be stable.
+/// What all nodes add to the charge; no look at any where that is known to be nothing.
+fn charge_of_nodes<R: Rules>(state: &IndexedState<R>, is_stable: bool) -> u64
+    requires { IsTrue is_stable → IsStable R.table.flags state.now.state }
+    ensures { result ≡ sum_by (node_part (R.closed state.now.state) (R.adds state.now.state) state.now.state) (names state.now.state.network) }
+{
+    let _ = state.registers();
+    if is_stable && !R::NODES_ADD {
+        return 0;
+    }
+    charge_of_all(state, is_stable)
+}
+
+/// The charge of a state. A look at every name, and at every edge of a network that is not known to be stable; of one that is
+/// none, where nodes add nothing.
 pub(crate) fn charge_of<R: Rules>(state: &IndexedState<R>, is_stable: bool) -> u32
     requires { IsTrue is_stable → IsStable R.table.flags state.now.state }
     ensures { result ≡ R.table.charge state.now.state }
 {
     prove!(state.store().edges() <= MAX_EDGES);
-    charge_of_all(state, is_stable) as u32
+    charge_of_nodes(state, is_stable) as u32
 }
 
 /// The moves that are spent after a reply.

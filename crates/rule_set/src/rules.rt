@@ -36,6 +36,8 @@ pub trait Rules {
 
     ghost ABOVE: { Bool };
 
+    ghost NODES_ADD: { Bool };
+
     ghost NODE_WEIGHT: { ℕ };
 
     /// Which edges add nothing to the charge.
@@ -52,6 +54,9 @@ pub trait Rules {
 
     /// Whether its guards ask for open neighbours above a node alone, and not for any.
     const ABOVE: bool;
+
+    /// Whether a node adds to the charge beside its pointer and its edges.
+    const NODES_ADD: bool;
 
     /// What each node adds to the bound of the charge.
     const NODE_WEIGHT: u64;
@@ -120,6 +125,9 @@ pub trait Rules {
 
     /// The charge is twice the edges that are not closed, one for each pointer that is not answered, and what the nodes add.
     ghost charge_counts: { (s : State) → table.charge s ≡ 2 * count_by (λ e. not (closed s e)) (edge_list s.network) + count_by (is_unanswered s) (names s.network) + sum_by (adds s) (names s.network) };
+
+    /// Where nodes add nothing, none adds anything.
+    ghost adds_nothing: { NODES_ADD ≡ false → (s : State) (v : ℕ) → adds s v ≡ 0 };
 
     /// An edge of which an end is married adds nothing to the charge.
     ghost married_closes: { (s : State) (v w : ℕ) → IsTrue (married s v || married s w) → IsTrue (closed s (v, w)) };

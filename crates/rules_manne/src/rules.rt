@@ -24,7 +24,7 @@ impl Rules for Manne {
     ghost use Rattle.rules_manne.specs.Rule.{guard_is_glance, guard_is_local, one_rule_at};
     ghost use Rattle.rules_manne.specs.Target.{allowed_near, allowed_takes, target_from_guard};
     ghost use Rattle.rules_manne.specs.Quiet.{stable_from_quiet, quiet_from_stable};
-    ghost use Rattle.rules_manne.specs.Charge.{counted, light, married_closes};
+    ghost use Rattle.rules_manne.specs.Charge.{adds_always, counted, light, married_closes};
 
     ghost table = { manne };
 
@@ -33,6 +33,8 @@ impl Rules for Manne {
     ghost FLAGS = { true };
 
     ghost ABOVE = { true };
+
+    ghost NODES_ADD = { true };
 
     ghost NODE_WEIGHT = { 3 };
 
@@ -45,6 +47,8 @@ impl Rules for Manne {
     const FLAGS: bool = true;
 
     const ABOVE: bool = true;
+
+    const NODES_ADD: bool = true;
 
     const NODE_WEIGHT: u64 = 3;
 
@@ -120,6 +124,8 @@ impl Rules for Manne {
     ghost stable_is_quiet = { quiet_from_stable };
 
     ghost charge_counts = { counted };
+
+    ghost adds_nothing = { adds_always };
 
     ghost married_closes = { married_closes };
 

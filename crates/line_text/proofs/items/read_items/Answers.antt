@@ -9,4 +9,4 @@ returns-in_default-read_item-clause-items c all f e =
 
 pub loop-rest-preserved : goal.loop-rest-preserved
 loop-rest-preserved c =
-    rw c.in-Ok-push.ensures.items (SoFar-more c.args.bytes.now c.loop-rest.items.items c.loop-rest.rest.now c.in-Some.item c.in-Some.behind.now c.loop-rest.invariant c.in-Some.ensures)
+    rw c.in-Ok-push.ensures.items (SoFar-more c.args.bytes.now c.loop-rest.items.items c.loop-rest.rest.now c.in-Some-read_item.item c.in-Some-read_item.behind.now c.loop-rest.invariant c.in-Some-read_item.ensures)

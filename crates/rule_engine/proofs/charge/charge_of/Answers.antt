@@ -8,7 +8,7 @@ pub overflow_cast-result : goal.overflow_cast-result
 overflow_cast-result g c =
     let laws = g.met.R.Rules in
     let s = c.args.state.now.state in
-    let sum : c.charge_of_all.result ≡ g.R.Rules.table.charge s = c.charge_of_all.ensures ∙ parts_are_charge (g.R.Rules.closed s) (g.R.Rules.adds s) s c.store.ensures.state.is_network ∙ sym (laws.charge_counts s) in
+    let sum : c.charge_of_nodes.result ≡ g.R.Rules.table.charge s = c.charge_of_nodes.ensures ∙ parts_are_charge (g.R.Rules.closed s) (g.R.Rules.adds s) s c.store.ensures.state.is_network ∙ sym (laws.charge_counts s) in
     let bounded = laws.charge_is_bounded s c.store.ensures.state in
     let few = c.edges.ensures.few in
     let names = few_names s.network in
@@ -20,4 +20,4 @@ overflow_cast-result g c =
 pub returns : goal.returns
 returns g c =
     let s = c.args.state.now.state in
-    c.charge_of_all.ensures ∙ parts_are_charge (g.R.Rules.closed s) (g.R.Rules.adds s) s c.store.ensures.state.is_network ∙ sym (g.met.R.Rules.charge_counts s)
+    c.charge_of_nodes.ensures ∙ parts_are_charge (g.R.Rules.closed s) (g.R.Rules.adds s) s c.store.ensures.state.is_network ∙ sym (g.met.R.Rules.charge_counts s)

@@ -1,4 +1,4 @@
-use Rattle.std.proofs.Common.{◌≡◌, ◌+◌, List, [], ◌∷◌, refl, subst, ap, sym, ◌∙◌, length}
+use Rattle.std.proofs.Common.{◌≡◌, ◌+◌, List, [], ◌∷◌, Ok, refl, subst, ap, sym, ◌∙◌, length}
 use Rattle.std.specs.declared.alloc.AllocError.{AllocError}
 use Rattle.indexed_state.specs.Indexed.{Indexed}
 use Rattle.rule_machine.specs.declared.choice.Item.{Item}
@@ -19,9 +19,9 @@ returns-then-items-eq1 g c n =
     let t = g.R.Rules.table in
     let item = c.index-items-0.result in
     let alone : item ∷ [] ≡ c.args.choice.now = sym (one_alone c.items-items.result.now item c.if-items-eq1.true c.index-items-0.is) ∙ c.items-items.ensures.items in
-    subst (λ (items : List Item). Prepares {E = AllocError} t c.args.self.now n (Step items) c.reply_to_one.result c.args.self.now) alone
-    (subst (λ (m : Indexed). Prepares {E = AllocError} t m n (Step (item ∷ [])) c.reply_to_one.result m) c.self.view_is
-    (one_prepares t c.self.inside.state n item c.reply_to_one.result c.reply_to_one.ensures.told c.reply_to_one.ensures.want))
+    subst (λ (items : List Item). Prepares {E = AllocError} t c.args.self.now n (Step items) (Ok c.reply_to_one.result) c.args.self.now) alone
+    (subst (λ (m : Indexed). Prepares {E = AllocError} t m n (Step (item ∷ [])) (Ok c.reply_to_one.result) m) c.self.view_is
+    (one_prepares t c.self.inside.state n item c.reply_to_one.result c.reply_to_one.ensures))
 
 pub returns-in-Some : goal.returns-in-Some
 returns-in-Some g c n =
