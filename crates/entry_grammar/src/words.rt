@@ -1,6 +1,6 @@
 //! Lists of words that are joined by one space.
 
-ghost use Rattle.std.specs.Prelude.{◌≡◌, ◌≢◌, ℕ, List, [], IfOk, MatchOption, codes};
+ghost use Rattle.std.specs.Prelude.{◌≡◌, ◌≢◌, ℕ, List, [], ◌∷◌, IfOk, IfSome, MatchOption, codes};
 ghost use Rattle.std.specs.List.{AllByRecursion};
 ghost use Rattle.line_text.specs.Words.{joined, joined_or};
 ghost use Rattle.line_text.specs.Reading.{Reads};
@@ -25,23 +25,30 @@ pub trait Token {
             (λ found. TokenThen fits text bytes.now found.0 found.1.now) };
 }
 
-/// Reads words that are joined by one space, none at all from an empty text; `None` where anything else stands there. Memory is for
-/// two words and more.
+/// Reads a word that nothing follows.
+fn read_alone<W: Token + Copy>(bytes: &[u8]) -> Option<W>
+    ensures { IfSome result (λ word. AllByRecursion W.fits (word ∷ []) × (bytes.now ≡ joined W.text (word ∷ []))) }
+{
+    match W::read(bytes) {
+        Some((word, [])) => Some(word),
+        _ => None,
+    }
+}
+
+/// Reads words that are joined by one space, none at all from an empty text; `None` where anything else stands there. Memory is
+/// for two words and more.
 pub fn read_words<W: Token + Copy>(alloc: Global, bytes: &[u8]) -> Result<Option<Listing<W>>, Want>
     requires no_space { (word : W) → W.fits word → IsFree 32 (W.text word) }
     ensures { IfOk result (Reads (AllByRecursion W.fits) (joined W.text) bytes.now) }
 {
-    if bytes.is_empty() {
-        return Ok(Some(Listing::from_vec(Vec::new(alloc))));
-    }
-    let Some((first, behind_first)) = W::read(bytes) else {
-        return Ok(None);
-    };
-    let Some(mut rest) = behind(behind_first, b' ') else {
-        return Ok(Some(Listing::one(first)));
-    };
     let mut words = Vec::new(alloc);
-    words.push(first)?;
+    if bytes.is_empty() {
+        return Ok(Some(Listing::from_vec(words)));
+    }
+    if let Some(word) = read_alone(bytes) {
+        return Ok(Some(Listing::one(word)));
+    }
+    let mut rest = bytes;
     while let Some((word, behind_word)) = W::read(rest) {
         words.push(word)?;
         let Some(next) = behind(behind_word, b' ') else {

@@ -24,7 +24,7 @@ use std::marker::Model;
 use std::mem::size_of;
 
 // What an entry takes in the log, beside its lists.
-const _: () = prove!(size_of::<Entry>() <= 64);
+const _: () = prove!(size_of::<Entry>() <= 80);
 
 /// A network under the rules `R` and the log of its events, each with the reply to it: a run of the rule machine from
 /// the opening state to where the network is, or from a base, where a checkpoint dropped what came before. Contracts see beside
