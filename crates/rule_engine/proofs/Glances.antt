@@ -1,5 +1,5 @@
 -- What a write of one node's registers leaves of a glance at another.
-use Rattle.std.proofs.Common.{◌≡◌, ℕ, Bool, true, false, not, ◌&&◌, ◌||◌, List, [], ◌∷◌, reverse, Option, Some, is_some, find, nat_eq, nat_lt, IsTrue, refl, sym, ap, ap₂, ◌∙◌, ◌⊎◌, inl, inr, ⊎_elim}
+use Rattle.std.proofs.Common.{◌≡◌, ℕ, Bool, true, false, not, ◌&&◌, ◌||◌, List, [], ◌∷◌, reverse, Option, None, Some, is_some, is_none, find, nat_eq, nat_lt, IsTrue, refl, sym, ap, ap₂, ◌∙◌, ◌⊎◌, inl, inr, ⊎_elim}
 use Rattle.std.specs.List.{list_any}
 use Rattle.std.proofs.lemmas.Bool.{cases_Bool, cases_eq, eq-eqb, false_from_ne_true, ne_eqb, or_parts, true≢false}
 use Rattle.std.proofs.lemmas.List.{reverse-append}
@@ -84,11 +84,12 @@ never_asked : (above : Bool) (opens : Option ℕ → Bool → Bool) (s : State) 
 never_asked true opens s v w e = ap (λ b. is_open opens s v && b) e ∙ and_false (is_open opens s v)
 never_asked false opens s v w e = absurd (true≢false e)
 
-settled : (near asks beside : Bool) → (near && (asks && not beside)) ≡ false → (near ≡ false) ⊎ ((asks ≡ false) ⊎ (beside ≡ true))
-settled false asks beside e = inl refl
-settled true false beside e = inr (inl refl)
-settled true true true e = inr (inr refl)
-settled true true false e = absurd (true≢false e)
+settled : (near asks null beside : Bool) → null ≡ true → (near && (asks && (null && not beside))) ≡ false → (near ≡ false) ⊎ ((asks ≡ false) ⊎ (beside ≡ true))
+settled false asks null beside is e = inl refl
+settled true false null beside is e = inr (inl refl)
+settled true true null true is e = inr (inr refl)
+settled true true true false is e = absurd (true≢false e)
+settled true true false false is e = absurd (true≢false (sym is))
 
 reached_alike : (above : Bool) (opens : Option ℕ → Bool → Bool) (s u : State) (w x : ℕ) → is_open opens s x ≡ is_open opens u x → is_reached above opens s w x ≡ is_reached above opens u w x
 reached_alike true opens s u w x e = ap (λ b. b && nat_lt w x) e
@@ -113,11 +114,11 @@ module _ (above : Bool) (opens : Option ℕ → Bool → Bool) (s : State) (r : 
           (λ (apart : x ≡ v → ⊥). ap (λ b. not (nat_eq x v) && b) (reached_alike above opens s (with_registers s r) w x (ap₂ opens (alike.pointers x apart) (alike.flags x apart))))
           (cases_eq x v)
 
-  -- what is reached at v counts alike
-  reached_same : (w : ℕ) (turned : Bool) → (turned ≡ false → is_open opens s v ≡ is_open opens (with_registers s r) v) → (turned && may_turn above opens (with_registers s r) v w) ≡ false → (reaches_beside above opens (with_registers s r) w v || (linked s.network w v && is_reached above opens s w v)) ≡ (reaches_beside above opens (with_registers s r) w v || (linked s.network w v && is_reached above opens (with_registers s r) w v))
-  reached_same w false stays off =
+  -- what is reached at v counts alike where w points nowhere
+  reached_same : (w : ℕ) (turned : Bool) → pointer (with_registers s r) w ≡ None → (turned ≡ false → is_open opens s v ≡ is_open opens (with_registers s r) v) → (turned && may_turn above opens (with_registers s r) v w) ≡ false → (reaches_beside above opens (with_registers s r) w v || (linked s.network w v && is_reached above opens s w v)) ≡ (reaches_beside above opens (with_registers s r) w v || (linked s.network w v && is_reached above opens (with_registers s r) w v))
+  reached_same w false null stays off =
       ap (λ b. reaches_beside above opens (with_registers s r) w v || (linked s.network w v && b)) (reached_alike above opens s (with_registers s r) w v (stays refl))
-  reached_same w true stays off =
+  reached_same w true null stays off =
       ⊎_elim
       (λ (no : linked s.network v w ≡ false).
       let none : linked s.network w v ≡ false = linked_comm s.network w v ∙ no in
@@ -130,13 +131,13 @@ module _ (above : Bool) (opens : Option ℕ → Bool → Bool) (s : State) (r : 
       ap (λ b. b || (linked s.network w v && is_reached above opens s w v)) yes
       ∙ sym (ap (λ b. b || (linked s.network w v && is_reached above opens (with_registers s r) w v)) yes))
       rest)
-      (settled (linked s.network v w) (may_ask above v w) (reaches_beside above opens (with_registers s r) w v) off)
+      (settled (linked s.network v w) (may_ask above v w) (is_none (pointer (with_registers s r) w)) (reaches_beside above opens (with_registers s r) w v) (ap is_none null) off)
 
-  reach_same : (w : ℕ) (turned : Bool) → (turned ≡ false → is_open opens s v ≡ is_open opens (with_registers s r) v) → (turned && may_turn above opens (with_registers s r) v w) ≡ false → reaches above opens s w ≡ reaches above opens (with_registers s r) w
-  reach_same w turned stays off =
+  reach_same : (w : ℕ) (turned : Bool) → pointer (with_registers s r) w ≡ None → (turned ≡ false → is_open opens s v ≡ is_open opens (with_registers s r) v) → (turned && may_turn above opens (with_registers s r) v w) ≡ false → reaches above opens s w ≡ reaches above opens (with_registers s r) w
+  reach_same w turned null stays off =
       reach_beside above opens s v w good
       ∙ ap (λ b. b || (linked s.network w v && is_reached above opens s w v)) (beside_same w)
-      ∙ reached_same w turned stays off
+      ∙ reached_same w turned null stays off
       ∙ sym (reach_beside above opens (with_registers s r) v w good')
 
   pub suitor_same : (w : ℕ) → is_at (pointer s v) w ≡ false → is_at (pointer (with_registers s r) v) w ≡ false → has_suitor s w ≡ has_suitor (with_registers s r) w
@@ -164,8 +165,8 @@ module _ (above : Bool) (opens : Option ℕ → Bool → Bool) (s : State) (r : 
           (λ (apart : x ≡ v → ⊥). ap₂ (λ (b c : Bool). b && c) (ap (λ o. is_at o x) (alike.pointers w other)) (ap (λ o. is_at o w) (alike.pointers x apart)))
           (cases_eq x v)
 
-  -- a glance at who is not touched tells nothing new, where nobody is a new suitor there and none left
-  pub glance_far : (w : ℕ) (turned : Bool) → (turned ≡ false → is_open opens s v ≡ is_open opens (with_registers s r) v) → has_suitor s w ≡ has_suitor (with_registers s r) w → is_touched above opens (with_registers s r) v turned w ≡ false → SameGlance above opens s (with_registers s r) w
+  -- a glance at who is not touched tells nothing new, where nobody is a new suitor there and none left, or it points somewhere
+  pub glance_far : (w : ℕ) (turned : Bool) → (turned ≡ false → is_open opens s v ≡ is_open opens (with_registers s r) v) → (pointer (with_registers s r) w ≡ None → has_suitor s w ≡ has_suitor (with_registers s r) w) → is_touched above opens (with_registers s r) v turned w ≡ false → SameGlance above opens s (with_registers s r) w
   glance_far w turned stays suitors off =
       let parts = or_parts (nat_eq w v || is_suitor (with_registers s r) v w) (turned && may_turn above opens (with_registers s r) v w) off in
       let first = or_parts (nat_eq w v) (is_suitor (with_registers s r) v w) parts.0 in
@@ -176,8 +177,8 @@ module _ (above : Bool) (opens : Option ℕ → Bool → Bool) (s : State) (r : 
         own_pointer = alike.pointers w other;
         own_flag = alike.flags w other;
         marriage = marriage_same w other away;
-        suitor = suitors;
-        reach = reach_same w turned stays parts.1;
+        suitor = λ null. suitors (sym (alike.pointers w other) ∙ null);
+        reach = λ null. reach_same w turned (sym (alike.pointers w other) ∙ null) stays parts.1;
         target_pointer = λ x at. alike.pointers x (target x at);
         target_flag = λ x at. alike.flags x (target x at);
       }

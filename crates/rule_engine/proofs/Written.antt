@@ -1,5 +1,5 @@
 -- After a write of one node's registers, looks at who is touched keep the set of the enabled nodes.
-use Rattle.std.proofs.Common.{◌≡◌, ℕ, Bool, true, false, cond, not, ◌||◌, List, Option, None, is_some, find, refl, sym, ap, ◌∙◌, subst, ⊎_elim}
+use Rattle.std.proofs.Common.{◌≡◌, ℕ, Bool, true, false, cond, not, ◌&&◌, ◌||◌, List, Option, None, is_some, is_none, find, refl, sym, ap, ◌∙◌, subst, ⊎_elim}
 use Rattle.std.specs.Bool.{beq}
 use Rattle.std.proofs.lemmas.Bool.{cases_Bool, cond-true, cond-false, or_parts, true≢false}
 use Rattle.enabled_set.specs.Members.{is_in}
@@ -11,7 +11,7 @@ use Rattle.rule_machine.specs.Disturbance.{after_point, after_flag}
 use Rattle.rule_set.specs.Glance.{SameGlance}
 use Rattle.machine_laws.specs.Writes.{pointer-with_pointer_other, flag-with_flag_other}
 use Rattle.rule_engine.specs.Kept.{is_on, IsKept}
-use Rattle.rule_engine.specs.Looked.{is_touched, IsLookedAt}
+use Rattle.rule_engine.specs.Looked.{is_null_target, is_touched, IsLookedAt}
 use Rattle.rule_engine.proofs.Glances.{AreAlikeBut, with_registers, suitor_same, glance_far}
 use Rattle.rule_engine.proofs.Looked.{looked_both}
 
@@ -37,29 +37,38 @@ kept_glanced above t glance s r looked bits bits' kept good far done = record {
   few = kept.few;
 }
 
--- of a pointer: looks at its old and its new target, and at who is touched
-pub kept_pointed : (above : Bool) (t : RuleTable) → IsGlanced above t → (s u : State) (v : ℕ) (target left courted : Option ℕ) (turned : Bool) (bits one two three : List Bool) {marks : List Bool} → IsKept t s bits marks → IsState u → u ≡ after_point s v target → left ≡ pointer s v → courted ≡ pointer u v → (turned ≡ false → is_open t.opens s v ≡ is_open t.opens u v) → IsLookedAt t u (is_at left) bits one → IsLookedAt t u (is_at courted) one two → IsLookedAt t u (is_touched above t.opens u v turned) two three → IsKept t u three marks
+-- who is not looked at as a target is none where it points nowhere
+no_target : (s : State) (target : Option ℕ) (w : ℕ) → is_null_target s target w ≡ false → pointer s w ≡ None → is_at target w ≡ false
+no_target s target w off null = apart (is_at target w) (is_none (pointer s w)) (ap is_none null) off
+  where
+    apart : (at none : Bool) → none ≡ true → (at && none) ≡ false → at ≡ false
+    apart false none is e = refl
+    apart true none is e = absurd (true≢false (sym is ∙ e))
+
+-- of a pointer: looks at its old and its new target where they point nowhere, and at who is touched
+pub kept_pointed : (above : Bool) (t : RuleTable) → IsGlanced above t → (s u : State) (v : ℕ) (target left courted : Option ℕ) (turned : Bool) (bits one two three : List Bool) {marks : List Bool} → IsKept t s bits marks → IsState u → u ≡ after_point s v target → left ≡ pointer s v → courted ≡ pointer u v → (turned ≡ false → is_open t.opens s v ≡ is_open t.opens u v) → IsLookedAt t u (is_null_target u left) bits one → IsLookedAt t u (is_null_target u courted) one two → IsLookedAt t u (is_touched above t.opens u v turned) two three → IsKept t u three marks
 kept_pointed above t glance s u v target left courted turned bits one two three {marks} kept good is was now stays first second third =
     subst
-    (λ (q : State). IsState q → courted ≡ pointer q v → (turned ≡ false → is_open t.opens s v ≡ is_open t.opens q v) → IsLookedAt t q (is_at left) bits one → IsLookedAt t q (is_at courted) one two → IsLookedAt t q (is_touched above t.opens q v turned) two three → IsKept t q three marks)
+    (λ (q : State). IsState q → courted ≡ pointer q v → (turned ≡ false → is_open t.opens s v ≡ is_open t.opens q v) → IsLookedAt t q (is_null_target q left) bits one → IsLookedAt t q (is_null_target q courted) one two → IsLookedAt t q (is_touched above t.opens q v turned) two three → IsKept t q three marks)
     (sym is) there good now stays first second third
   where
-    there : IsState (after_point s v target) → courted ≡ pointer (after_point s v target) v → (turned ≡ false → is_open t.opens s v ≡ is_open t.opens (after_point s v target) v) → IsLookedAt t (after_point s v target) (is_at left) bits one → IsLookedAt t (after_point s v target) (is_at courted) one two → IsLookedAt t (after_point s v target) (is_touched above t.opens (after_point s v target) v turned) two three → IsKept t (after_point s v target) three marks
+    there : IsState (after_point s v target) → courted ≡ pointer (after_point s v target) v → (turned ≡ false → is_open t.opens s v ≡ is_open t.opens (after_point s v target) v) → IsLookedAt t (after_point s v target) (is_null_target (after_point s v target) left) bits one → IsLookedAt t (after_point s v target) (is_null_target (after_point s v target) courted) one two → IsLookedAt t (after_point s v target) (is_touched above t.opens (after_point s v target) v turned) two three → IsKept t (after_point s v target) three marks
     there good holds stays first second third =
         let r = (after_point s v target).registers in
         let alike : AreAlikeBut s (with_registers s r) v = record {
           pointers = λ x apart. sym (pointer-with_pointer_other s.registers v target x apart);
           flags = λ x apart. refl;
         } in
-        kept_glanced above t glance s r (λ w. (is_at left w || is_at courted w) || is_touched above t.opens (with_registers s r) v turned w) bits three kept good
+        let q = with_registers s r in
+        kept_glanced above t glance s r (λ w. (is_null_target q left w || is_null_target q courted w) || is_touched above t.opens (with_registers s r) v turned w) bits three kept good
         (λ w off.
-        let parts = or_parts (is_at left w || is_at courted w) (is_touched above t.opens (with_registers s r) v turned w) off in
-        let ends = or_parts (is_at left w) (is_at courted w) parts.0 in
+        let parts = or_parts (is_null_target q left w || is_null_target q courted w) (is_touched above t.opens (with_registers s r) v turned w) off in
+        let ends = or_parts (is_null_target q left w) (is_null_target q courted w) parts.0 in
         glance_far above t.opens s r v kept.is_state good alike w turned stays
-        (suitor_same above t.opens s r v kept.is_state good alike w (ap (λ o. is_at o w) (sym was) ∙ ends.0) (ap (λ o. is_at o w) (sym holds) ∙ ends.1))
+        (λ null. suitor_same above t.opens s r v kept.is_state good alike w (ap (λ o. is_at o w) (sym was) ∙ no_target q left w ends.0 null) (ap (λ o. is_at o w) (sym holds) ∙ no_target q courted w ends.1 null))
         parts.1)
-        (looked_both t (with_registers s r) (λ w. is_at left w || is_at courted w) (is_touched above t.opens (with_registers s r) v turned) bits two three
-        (looked_both t (with_registers s r) (is_at left) (is_at courted) bits one two first second) third)
+        (looked_both t (with_registers s r) (λ w. is_null_target q left w || is_null_target q courted w) (is_touched above t.opens (with_registers s r) v turned) bits two three
+        (looked_both t (with_registers s r) (is_null_target q left) (is_null_target q courted) bits one two first second) third)
 
 -- of a flag: looks at who is touched
 pub kept_flagged : (above : Bool) (t : RuleTable) → IsGlanced above t → (s u : State) (v : ℕ) (value turned : Bool) (bits bits' : List Bool) {marks : List Bool} → IsKept t s bits marks → IsState u → u ≡ after_flag s v value → (turned ≡ false → is_open t.opens s v ≡ is_open t.opens u v) → IsLookedAt t u (is_touched above t.opens u v turned) bits bits' → IsKept t u bits' marks
@@ -76,7 +85,7 @@ kept_flagged above t glance s u v value turned bits bits' {marks} kept good is s
           flags = λ x apart. sym (flag-with_flag_other s.registers v value x apart);
         } in
         kept_glanced above t glance s r (is_touched above t.opens (with_registers s r) v turned) bits bits' kept good
-        (λ w off. glance_far above t.opens s r v kept.is_state good alike w turned stays refl off) looked
+        (λ w off. glance_far above t.opens s r v kept.is_state good alike w turned stays (λ null. refl) off) looked
 
 -- what did not turn is as it was
 pub unturned : (now was : Bool) → not (beq now was) ≡ false → was ≡ now

@@ -1,8 +1,8 @@
 -- What a look again at some nodes makes of a set of enabled nodes, and where a write at a node may change a guard.
-use Rattle.std.specs.Prelude.{◌≡◌, ℕ, Bool, true, false, not, ◌&&◌, ◌||◌, List, Option, length, nat_eq, nat_lt, if◌then◌else◌}
+use Rattle.std.specs.Prelude.{◌≡◌, ℕ, Bool, true, false, not, ◌&&◌, ◌||◌, List, Option, is_none, length, nat_eq, nat_lt, if◌then◌else◌}
 use Rattle.enabled_set.specs.Members.{is_in}
 use Rattle.rule_machine.specs.Network.{linked}
-use Rattle.rule_machine.specs.State.{State, points}
+use Rattle.rule_machine.specs.State.{State, pointer, points, is_at}
 use Rattle.rule_machine.specs.RuleTable.{RuleTable}
 use Rattle.rule_set.specs.Glance.{reaches_beside}
 use Rattle.rule_engine.specs.Kept.{is_on}
@@ -16,12 +16,20 @@ abbrev pub may_ask : Bool → ℕ → ℕ → Bool
 may_ask true v w = nat_lt w v
 may_ask false v w = true
 
--- whether w is a neighbour of v that sees an open node where v is open, and none where it is not
+-- whether w is where a pointer is or was, and points nowhere
+abbrev pub is_null_target : State → Option ℕ → ℕ → Bool
+is_null_target s target w = is_at target w && is_none (pointer s w)
+
+-- whether w points nowhere, and sees an open node where v is open, and none where it is not
+abbrev pub turns_with : Bool → (Option ℕ → Bool → Bool) → State → ℕ → ℕ → Bool
+turns_with above opens s v w = is_none (pointer s w) && not (reaches_beside above opens s w v)
+
+-- whether w is a neighbour of v that asks for it and turns with it
 abbrev pub may_turn : Bool → (Option ℕ → Bool → Bool) → State → ℕ → ℕ → Bool
-may_turn above opens s v w = linked s.network v w && (may_ask above v w && not (reaches_beside above opens s w v))
+may_turn above opens s v w = linked s.network v w && (may_ask above v w && turns_with above opens s v w)
 
 -- whether the guard of w may be another after a write of v's registers, which may have turned whether v is open; of a pointer, the
--- old and the new target beside
+-- old and the new target beside, where they point nowhere
 abbrev pub is_touched : Bool → (Option ℕ → Bool → Bool) → State → ℕ → Bool → ℕ → Bool
 is_touched above opens s v turned w = (nat_eq w v || is_suitor s v w) || (turned && may_turn above opens s v w)
 

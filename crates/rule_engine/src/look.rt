@@ -1,9 +1,9 @@
 //! Looks again at nodes where something may have changed.
 
 ghost use Rattle.std.specs.Prelude.{◌≡◌, ◌+◌, ◌&&◌, IfSome, IsTrue, length, nat_eq};
-ghost use Rattle.rule_machine.specs.Network.{present};
-ghost use Rattle.rule_machine.specs.State.{is_at};
-ghost use Rattle.rule_engine.specs.Looked.{is_suitor, is_touched, may_ask, may_turn, IsLookedAt};
+ghost use Rattle.rule_machine.specs.Network.{linked, present};
+ghost use Rattle.rule_machine.specs.RuleTable as RuleTable;
+ghost use Rattle.rule_engine.specs.Looked.{is_null_target, is_suitor, is_touched, may_ask, may_turn, turns_with, IsLookedAt};
 
 use crate::guard::rule_at;
 use enabled_set::EnabledSet;
@@ -35,7 +35,7 @@ fn look_if<R: Rules>(state: &IndexedState<R>, enabled: &mut EnabledSet, v: Node,
     }
 }
 
-/// Looks again at the node that a pointer is or was at.
+/// Looks again at the node that a pointer is or was at, where that node points nowhere.
 pub(crate) fn look_at_target<R: Rules>(
     state: &IndexedState<R>,
     enabled: &mut EnabledSet,
@@ -43,10 +43,10 @@ pub(crate) fn look_at_target<R: Rules>(
 )
     requires has { IfSome target (λ w. IsTrue (present state.now.state.network w)) }
     requires places { length enabled.old ≡ state.now.state.network.size + 1 }
-    ensures { IsLookedAt R.table state.now.state (is_at target) enabled.old enabled.new }
+    ensures { IsLookedAt R.table state.now.state (is_null_target state.now.state target) enabled.old enabled.new }
 {
     if let Some(w) = target {
-        look_at(state, enabled, w);
+        look_if(state, enabled, w, state.registers().pointer(w).is_none());
     }
 }
 
@@ -75,8 +75,18 @@ fn asks_for<R: Rules>(w: Node, v: Node) -> bool
     !R::ABOVE || w < v
 }
 
-/// Looks again at each neighbour that sees an open node where this one is open, and none where it is not. Where guards ask for
-/// higher names alone, ends at the first neighbour that is not below the node.
+/// Whether a neighbour w points nowhere, and sees an open node where v is open, and none where it is not.
+fn turns_with<R: Rules>(state: &IndexedState<R>, w: Node, v: Node, is_open: bool) -> bool
+    requires has { IsTrue (present state.now.state.network w) }
+    requires linked { IsTrue (linked state.now.state.network w v) }
+    requires open { is_open ≡ RuleTable.is_open R.table.opens state.now.state v }
+    ensures { result ≡ turns_with R.ABOVE R.table.opens state.now.state v w }
+{
+    state.registers().pointer(w).is_none() && state.relies_on(w, v, is_open)
+}
+
+/// Looks again at each neighbour that points nowhere, and sees an open node where this one is open, and none where it is not. Where
+/// guards ask for higher names alone, ends at the first neighbour that is not below the node.
 fn look_where_turned<R: Rules>(state: &IndexedState<R>, enabled: &mut EnabledSet, v: Node)
     requires has { IsTrue (present state.now.state.network v) }
     requires places { length enabled.old ≡ state.now.state.network.size + 1 }
@@ -87,12 +97,13 @@ fn look_where_turned<R: Rules>(state: &IndexedState<R>, enabled: &mut EnabledSet
         if !asks_for::<R>(w, v) {
             return;
         }
-        look_if(state, enabled, w, state.relies_on(w, v, is_open));
+        look_if(state, enabled, w, turns_with(state, w, v, is_open));
     }
 }
 
 /// Looks again wherever a write of a node's registers may have changed a guard, but at a pointer's old and new target: at the node,
-/// at those who point at it, and where it turned whether the node is open, at the neighbours that see no other open node.
+/// at those who point at it, and where it turned whether the node is open, at the neighbours that point nowhere and see no other
+/// open node.
 pub(crate) fn look_after_write<R: Rules>(
     state: &IndexedState<R>,
     enabled: &mut EnabledSet,

@@ -206,10 +206,10 @@ impl<R: Rules> Net<R> {
     /// Carries out an event: a refusal, the change of the network, the moves of a step in which each free target is
     /// the least allowed one, or an answer. Want of memory comes after every refusal and changes nothing; `Unlink`,
     /// `Point`, `Flag`, `Show` and `Status` take no memory. `Link` and `Unlink` look again at the guards of their two ends, a
-    /// write of registers at that of its node, of those who point at it, and of a pointer's old and new target; where the
-    /// node is open then and was not, or was and is not, its neighbours' counts tell whose guards else. A step costs one look
-    /// at each chosen node beside that, and a sort of its moves where they don't ascend. `Status` looks at every name and at
-    /// every edge.
+    /// write of registers at that of its node, of those who point at it, and of a pointer's old and new target where they
+    /// point nowhere; where the node is open then and was not, or was and is not, the counts of its neighbours that point
+    /// nowhere tell whose guards else. A step costs one look at each chosen node beside that, and a sort of its moves where
+    /// they don't ascend. `Status` looks at every name and at every edge.
     pub fn apply(&mut self, event: &Event) -> Result<Reply, Want>
         ensures reply { IfOk result (λ reply. reply ≡ reply_of R.table self.old.state self.old.spent event.now) }
         ensures state { OnOk result (moment_of self.new ≡ moment_after R.table (moment_of self.old) event.now) }

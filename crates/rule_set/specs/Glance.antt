@@ -1,6 +1,6 @@
 -- What a guard asks at a node: little of the node, and of its neighbours together no more than whether one suits and whether one
--- is open.
-use Rattle.std.specs.Prelude.{◌≡◌, ℕ, Bool, true, false, not, ◌&&◌, Option, Some, is_some, find, nat_eq, nat_lt}
+-- is open, and that only where the node points nowhere.
+use Rattle.std.specs.Prelude.{◌≡◌, ℕ, Bool, true, false, not, ◌&&◌, Option, None, Some, is_some, find, nat_eq, nat_lt}
 use Rattle.rule_machine.specs.Network.{neighbours}
 use Rattle.rule_machine.specs.State.{State, pointer, flag, married, has_suitor}
 use Rattle.rule_machine.specs.RuleTable.{is_open, first_open, last_open_above}
@@ -25,8 +25,9 @@ pub record SameGlance (above : Bool) (opens : Option ℕ → Bool → Bool) (s u
   pub own_pointer : pointer s v ≡ pointer u v
   pub own_flag : flag s v ≡ flag u v
   pub marriage : married s v ≡ married u v
-  pub suitor : has_suitor s v ≡ has_suitor u v
-  pub reach : reaches above opens s v ≡ reaches above opens u v
+  -- of its neighbours together, where it points nowhere
+  pub suitor : pointer s v ≡ None → has_suitor s v ≡ has_suitor u v
+  pub reach : pointer s v ≡ None → reaches above opens s v ≡ reaches above opens u v
   -- the registers of whom it points at
   pub target_pointer : (w : ℕ) → pointer s v ≡ Some w → pointer s w ≡ pointer u w
   pub target_flag : (w : ℕ) → pointer s v ≡ Some w → flag s w ≡ flag u w

@@ -108,7 +108,7 @@ pub trait Rules {
     ghost is_local: { (s u : State) (v : ℕ) (act : Act) → IsState s → IsState u → SameAt s u v → table.guard s v act ≡ table.guard u v act };
 
     /// A guard asks no more than a glance: of its node's neighbours together only whether one suits and whether one is open,
-    /// and registers of none but whom the node points at.
+    /// and that only where the node points nowhere; and registers of none but whom the node points at.
     ghost is_glance: { (s u : State) (v : ℕ) (act : Act) → IsState s → IsState u → SameGlance ABOVE table.opens s u v → table.guard s v act ≡ table.guard u v act };
 
     /// At most one rule is enabled at a node.

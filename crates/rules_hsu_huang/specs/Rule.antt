@@ -91,11 +91,21 @@ glance_taken : (s u : State) (v : ℕ) (o : Option ℕ) → SameGlance false hsu
 glance_taken s u v None same e = refl
 glance_taken s u v (Some w) same e = ap (λ o. is_some o && not (is_at o v)) (same.target_pointer w e)
 
+-- whether one suits and whether one is open is asked where it points nowhere
+glance_marries : (s u : State) (v : ℕ) (o : Option ℕ) → SameGlance false hsu_huang_opens s u v → pointer s v ≡ o → (is_none o && has_suitor s v) ≡ (is_none o && has_suitor u v)
+glance_marries s u v None same e = same.suitor e
+glance_marries s u v (Some w) same e = refl
+
+glance_seduces : (s u : State) (v : ℕ) (o : Option ℕ) → SameGlance false hsu_huang_opens s u v → pointer s v ≡ o → (is_none o && not (has_suitor s v) && has_open s v) ≡ (is_none o && not (has_suitor u v) && has_open u v)
+glance_seduces s u v None same e = ap₂ (λ b c. not b && c) (same.suitor e) (same.reach e)
+glance_seduces s u v (Some w) same e = refl
+
 -- and no guard asks more than a glance
 pub guard_is_glance : (s u : State) (v : ℕ) (act : Act) → IsState s → IsState u → SameGlance false hsu_huang_opens s u v → hsu_huang.guard s v act ≡ hsu_huang.guard u v act
 guard_is_glance s u v Update is_state other same = refl
-guard_is_glance s u v Marry is_state other same = ap₂ (λ o b. is_none o && b) same.own_pointer same.suitor
+guard_is_glance s u v Marry is_state other same =
+    glance_marries s u v (pointer s v) same refl ∙ ap (λ o. is_none o && has_suitor u v) same.own_pointer
 guard_is_glance s u v Seduce is_state other same =
-    ap₂ (λ (b c : Bool). b && c) (ap₂ (λ o b. is_none o && not b) same.own_pointer same.suitor) same.reach
+    glance_seduces s u v (pointer s v) same refl ∙ ap (λ o. is_none o && not (has_suitor u v) && has_open u v) same.own_pointer
 guard_is_glance s u v Abandon is_state other same =
     glance_taken s u v (pointer s v) same refl ∙ ap (holds_at (is_taken u v)) same.own_pointer

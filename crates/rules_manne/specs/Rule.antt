@@ -139,23 +139,37 @@ guard_is_local s u v Abandon is_state other same =
 glance_settled : (s u : State) (v : ℕ) → SameGlance true manne_opens s u v → is_settled s v ≡ is_settled u v
 glance_settled s u v same = ap₂ (λ (m f : Bool). cond m f (not f)) same.marriage same.own_flag
 
-glance_courts : (s u : State) (v : ℕ) → IsState s → IsState u → SameGlance true manne_opens s u v → courts s v ≡ courts u v
-glance_courts s u v is_state other same =
-    greatest_reaches s v is_state.is_network ∙ same.reach ∙ sym (greatest_reaches u v other.is_network)
+glance_courts : (s u : State) (v : ℕ) → IsState s → IsState u → SameGlance true manne_opens s u v → pointer s v ≡ None → courts s v ≡ courts u v
+glance_courts s u v is_state other same null =
+    greatest_reaches s v is_state.is_network ∙ same.reach null ∙ sym (greatest_reaches u v other.is_network)
 
 glance_lost : (s u : State) (v : ℕ) (o : Option ℕ) → SameGlance true manne_opens s u v → pointer s v ≡ o → holds_at (is_lost s v) o ≡ holds_at (is_lost u v) o
 glance_lost s u v None same e = refl
 glance_lost s u v (Some w) same e =
     ap₂ (λ o f. not (is_at o v) && (f || nat_le w v)) (same.target_pointer w e) (same.target_flag w e)
 
+-- whether one suits and whether one is open is asked where it points nowhere
+glance_marries : (o : Option ℕ) (settled suitor suitor' : Bool) → (o ≡ None → suitor ≡ suitor') → (settled && is_none o && suitor) ≡ (settled && is_none o && suitor')
+glance_marries None settled suitor suitor' same = ap (λ b. settled && true && b) (same refl)
+glance_marries (Some w) true suitor suitor' same = refl
+glance_marries (Some w) false suitor suitor' same = refl
+
+glance_seduces : (o : Option ℕ) (settled suitor suitor' court court' : Bool) → (o ≡ None → suitor ≡ suitor') → (o ≡ None → court ≡ court') → (settled && is_none o && not suitor && court) ≡ (settled && is_none o && not suitor' && court')
+glance_seduces None settled suitor suitor' court court' same reach =
+    ap₂ (λ b c. settled && true && not b && c) (same refl) (reach refl)
+glance_seduces (Some w) true suitor suitor' court court' same reach = refl
+glance_seduces (Some w) false suitor suitor' court court' same reach = refl
+
 -- and no guard asks more than a glance
 pub guard_is_glance : (s u : State) (v : ℕ) (act : Act) → IsState s → IsState u → SameGlance true manne_opens s u v → manne.guard s v act ≡ manne.guard u v act
 guard_is_glance s u v Update is_state other same = ap not (glance_settled s u v same)
 guard_is_glance s u v Marry is_state other same =
-    ap₂ (λ (b c : Bool). b && c) (ap₂ (λ b o. b && is_none o) (glance_settled s u v same) same.own_pointer) same.suitor
+    ap₂ (λ b o. b && is_none o && has_suitor s v) (glance_settled s u v same) same.own_pointer
+    ∙ glance_marries (pointer u v) (is_settled u v) (has_suitor s v) (has_suitor u v) (λ null. same.suitor (same.own_pointer ∙ null))
 guard_is_glance s u v Seduce is_state other same =
-    ap₂ (λ (b c : Bool). b && c)
-    (ap₂ (λ b c. b && not c) (ap₂ (λ b o. b && is_none o) (glance_settled s u v same) same.own_pointer) same.suitor)
-    (glance_courts s u v is_state other same)
+    ap₂ (λ b o. b && is_none o && not (has_suitor s v) && courts s v) (glance_settled s u v same) same.own_pointer
+    ∙ glance_seduces (pointer u v) (is_settled u v) (has_suitor s v) (has_suitor u v) (courts s v) (courts u v)
+    (λ null. same.suitor (same.own_pointer ∙ null))
+    (λ null. glance_courts s u v is_state other same (same.own_pointer ∙ null))
 guard_is_glance s u v Abandon is_state other same =
     ap₂ (λ (b c : Bool). b && c) (glance_settled s u v same) (glance_lost s u v (pointer s v) same refl ∙ ap (holds_at (is_lost u v)) same.own_pointer)
