@@ -12,6 +12,9 @@ use rule_machine::{Node, Want};
 static PAIRS: [u8; 200] =
     *b"00010203040506070809101112131415161718192021222324252627282930313233343536373839404142434445464748495051525354555657585960616263646566676869707172737475767778798081828384858687888990919293949596979899";
 
+// More than any number and the byte behind it take.
+const ROOM: usize = 16;
+
 // The two digits of a number below 100.
 #[inline(always)]
 fn pair(number: u32) -> (u8, u8)
@@ -24,6 +27,7 @@ fn pair(number: u32) -> (u8, u8)
 }
 
 // Writes a number of at most four digits, and the byte behind it.
+#[inline(always)]
 fn put_short(out: &mut Vec<u8>, number: u32, behind: u8) -> Result<(), Want>
     requires { number < 10000 }
     ensures ok { OnOk result (out.new.items ≡ out.old.items ++ (number_text number ++ behind ∷ [])) }
@@ -61,7 +65,7 @@ fn put_longest(out: &mut Vec<u8>, number: u32, behind: u8) -> Result<(), Want>
 }
 
 // Writes a number of more than four digits, and the byte behind it.
-#[inline(never)]
+#[inline(always)]
 fn put_long(out: &mut Vec<u8>, number: u32, behind: u8) -> Result<(), Want>
     requires { 10000 ≤ number }
     ensures ok { OnOk result (out.new.items ≡ out.old.items ++ (number_text number ++ behind ∷ [])) }
@@ -81,8 +85,9 @@ fn put_long(out: &mut Vec<u8>, number: u32, behind: u8) -> Result<(), Want>
     out.extend_from_slice(&[first, second, thousands, hundreds, tens, ones, behind])
 }
 
-/// Writes a number in decimal, and the byte behind it: one look for room.
-pub(crate) fn put_number_then(out: &mut Vec<u8>, number: u32, behind: u8) -> Result<(), Want>
+// Writes a number, and the byte behind it.
+#[inline(always)]
+fn put_digits(out: &mut Vec<u8>, number: u32, behind: u8) -> Result<(), Want>
     ensures ok { OnOk result (out.new.items ≡ out.old.items ++ (number_text number ++ behind ∷ [])) }
     ensures err { OnErr result (out.new.items ≡ out.old.items) }
 {
@@ -90,6 +95,28 @@ pub(crate) fn put_number_then(out: &mut Vec<u8>, number: u32, behind: u8) -> Res
         return put_short(out, number, behind);
     }
     put_long(out, number, behind)
+}
+
+// Makes room, and writes a number and the byte behind it. It stands apart, as what is rare.
+#[cold]
+#[inline(never)]
+fn put_in_new_room(out: &mut Vec<u8>, number: u32, behind: u8) -> Result<(), Want>
+    ensures ok { OnOk result (out.new.items ≡ out.old.items ++ (number_text number ++ behind ∷ [])) }
+    ensures err { OnErr result (out.new.items ≡ out.old.items) }
+{
+    out.reserve(ROOM)?;
+    put_digits(out, number, behind)
+}
+
+/// Writes a number in decimal, and the byte behind it: one look for room, and behind it no call that would save registers.
+pub(crate) fn put_number_then(out: &mut Vec<u8>, number: u32, behind: u8) -> Result<(), Want>
+    ensures ok { OnOk result (out.new.items ≡ out.old.items ++ (number_text number ++ behind ∷ [])) }
+    ensures err { OnErr result (out.new.items ≡ out.old.items) }
+{
+    if out.capacity() - out.len() < ROOM {
+        return put_in_new_room(out, number, behind);
+    }
+    put_digits(out, number, behind)
 }
 
 /// Writes a number in decimal.
