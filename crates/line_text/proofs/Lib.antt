@@ -1,5 +1,6 @@
 pub mod Decimals
 pub mod Growing
+pub mod Spaces
 pub mod Digits
 pub mod ItemsOnce
 pub mod EventsOnce

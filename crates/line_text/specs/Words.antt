@@ -20,6 +20,10 @@ marked_text mark (Some n) = mark ++ number_text n
 abbrev pub spaced : {X : Type 0} → (X → List ℕ) → List X → List ℕ
 spaced text items = flat_map (λ item. codes " " ++ text item) items
 
+-- each item's text, with one space behind it
+abbrev pub space_ended : {X : Type 0} → (X → List ℕ) → List X → List ℕ
+space_ended text items = flat_map (λ item. text item ++ codes " ") items
+
 -- the items' texts, joined by one space
 abbrev pub joined : {X : Type 0} → (X → List ℕ) → List X → List ℕ
 joined text [] = []

@@ -5,7 +5,7 @@ ghost use Rattle.line_text.specs.Words.{IsName};
 ghost use Rattle.line_text.specs.EventText.{IsEvent, IsItem, event_text, item_text, pair_text, point_text, flag_text};
 ghost use Rattle.line_text.specs.Growth.{Extends};
 
-use crate::numbers::{put_marked, put_name, put_name_then, put_target};
+use crate::numbers::{put_name, put_name_then, put_target};
 use crate::word::{Word, put_spaced};
 use rule_machine::{Event, Item, Node, Want};
 
@@ -42,9 +42,12 @@ impl Word for Item {
 
     ghost fits = { IsItem };
 
-    fn put(&self, out: &mut Vec<u8>) -> Result<(), Want> {
-        put_name(out, self.node)?;
-        put_marked(out, self.wish)
+    fn put_then(&self, out: &mut Vec<u8>, behind: u8) -> Result<(), Want> {
+        let Some(wish) = self.wish else {
+            return put_name_then(out, self.node, behind);
+        };
+        put_name_then(out, self.node, b'>')?;
+        put_name_then(out, wish, behind)
     }
 }
 

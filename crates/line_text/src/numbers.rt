@@ -1,9 +1,8 @@
 //! Numbers and names at the end of a text.
 
-ghost use Rattle.std.specs.Prelude.{◌≡◌, ◌+◌, ◌/◌, ◌%◌, ◌<◌, ◌≤◌, [], ◌∷◌, ◌++◌, IfSome, codes, OnOk, OnErr};
-ghost use Rattle.line_text.specs.Words.{number_text, IsName, marked_text};
+ghost use Rattle.std.specs.Prelude.{◌≡◌, ◌+◌, ◌/◌, ◌%◌, ◌<◌, ◌≤◌, [], ◌∷◌, ◌++◌, IfSome, OnOk, OnErr};
+ghost use Rattle.line_text.specs.Words.{number_text, IsName};
 ghost use Rattle.line_text.specs.EventText.{target_text};
-ghost use Rattle.line_text.specs.Growth.{Extends};
 
 use itoa::Buffer;
 use rule_machine::{Node, Want};
@@ -157,17 +156,4 @@ pub(crate) fn put_target(out: &mut Vec<u8>, target: Option<Node>) -> Result<(), 
         None => out.extend_from_slice(b"-"),
         Some(node) => put_name(out, node),
     }
-}
-
-/// Writes a `>` and a name, where there is one.
-pub(crate) fn put_marked(out: &mut Vec<u8>, target: Option<Node>) -> Result<(), Want>
-    ensures ok { OnOk result (out.new.items ≡ out.old.items ++ marked_text (codes ">") target) }
-    ensures err { OnErr result (Extends out.old.items out.new.items) }
-    ensures named { OnOk result (IfSome target IsName) }
-{
-    if let Some(node) = target {
-        out.push(b'>')?;
-        put_name(out, node)?;
-    }
-    Ok(())
 }

@@ -1,24 +1,23 @@
 //! Replies at the end of a text.
 
-ghost use Rattle.std.specs.Prelude.{◌≡◌, ◌++◌, OnOk, OnErr};
+ghost use Rattle.std.specs.Prelude.{◌≡◌, [], ◌∷◌, ◌++◌, OnOk, OnErr};
 ghost use Rattle.line_text.specs.ReplyText.{IsCount, IsCounts, IsEnabled, IsMoved, IsPair, IsReply, act_word, counts_text, enabled_text, field_text, move_text, mutual_text, refusal_words, reply_text};
 ghost use Rattle.line_text.specs.Growth.{Extends};
 
-use crate::numbers::{
-    put_marked, put_name, put_name_then, put_number, put_number_then, put_target,
-};
+use crate::numbers::{put_name_then, put_number, put_number_then, put_target};
 use crate::word::{Word, put_joined, put_joined_or};
 use rule_machine::{Act, Counts, Edge, Moved, Node, Refusal, Reply, Want};
 
-fn put_act(out: &mut Vec<u8>, act: Act) -> Result<(), Want>
-    ensures ok { OnOk result (out.new.items ≡ out.old.items ++ act_word act) }
+// Writes a rule's word, and the byte behind it: one look for room.
+fn put_act_then(out: &mut Vec<u8>, act: Act, behind: u8) -> Result<(), Want>
+    ensures ok { OnOk result (out.new.items ≡ out.old.items ++ (act_word act ++ behind ∷ [])) }
     ensures err { OnErr result (out.new.items ≡ out.old.items) }
 {
     match act {
-        Act::Update => out.extend_from_slice(b"update"),
-        Act::Marry => out.extend_from_slice(b"marry"),
-        Act::Seduce => out.extend_from_slice(b"seduce"),
-        Act::Abandon => out.extend_from_slice(b"abandon"),
+        Act::Update => out.extend_from_slice(&[b'u', b'p', b'd', b'a', b't', b'e', behind]),
+        Act::Marry => out.extend_from_slice(&[b'm', b'a', b'r', b'r', b'y', behind]),
+        Act::Seduce => out.extend_from_slice(&[b's', b'e', b'd', b'u', b'c', b'e', behind]),
+        Act::Abandon => out.extend_from_slice(&[b'a', b'b', b'a', b'n', b'd', b'o', b'n', behind]),
     }
 }
 
@@ -35,10 +34,13 @@ impl Word for Moved {
 
     ghost fits = { IsMoved };
 
-    fn put(&self, out: &mut Vec<u8>) -> Result<(), Want> {
+    fn put_then(&self, out: &mut Vec<u8>, behind: u8) -> Result<(), Want> {
         put_name_then(out, self.node, b':')?;
-        put_act(out, self.act)?;
-        put_marked(out, self.target)
+        let Some(target) = self.target else {
+            return put_act_then(out, self.act, behind);
+        };
+        put_act_then(out, self.act, b'>')?;
+        put_name_then(out, target, behind)
     }
 }
 
@@ -47,9 +49,9 @@ impl Word for (Node, Act) {
 
     ghost fits = { IsEnabled };
 
-    fn put(&self, out: &mut Vec<u8>) -> Result<(), Want> {
+    fn put_then(&self, out: &mut Vec<u8>, behind: u8) -> Result<(), Want> {
         put_name_then(out, self.0, b':')?;
-        put_act(out, self.1)
+        put_act_then(out, self.1, behind)
     }
 }
 
@@ -58,9 +60,9 @@ impl Word for Edge {
 
     ghost fits = { IsPair };
 
-    fn put(&self, out: &mut Vec<u8>) -> Result<(), Want> {
+    fn put_then(&self, out: &mut Vec<u8>, behind: u8) -> Result<(), Want> {
         put_name_then(out, self.low(), b'-')?;
-        put_name(out, self.high())
+        put_name_then(out, self.high(), behind)
     }
 }
 

@@ -1,6 +1,6 @@
-use Rattle.line_text.proofs.Growing.{Extends-then, on_err}
+use Rattle.line_text.proofs.Spaces.{left_spaced}
 use Rattle.line_text.proofs.word.put_spaced.Goals as goal
 
-pub returns-in_err-put-clause-err : goal.returns-in_err-put-clause-err
-returns-in_err-put-clause-err g c =
-    on_err _ _ (Extends-then _ _ _ _ c.loop-word.invariant.0 (Extends-then _ _ _ _ c.in_ok-push.ensures.items c.in_err-put.ensures.err))
+pub returns-clause-ok : goal.returns-clause-ok
+returns-clause-ok g c =
+    left_spaced g.W.Word.text c.args.words.now c.args.out.now.items c.push.new.self.items c.put_each.new.out.items c.pop.new.self.items _ c.in_ok-push.ensures.items c.in_ok-put_each.ensures.ok c.put_each.new.out.ok.0 c.pop.ensures.rest
