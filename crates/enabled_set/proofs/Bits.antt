@@ -102,6 +102,10 @@ ones_low word (suc n) =
     omega arith)
     (cases_lt (bit_at word n) 1)
 
+-- the ones of a word
+pub ones_of : (word : ℕ) → word < 18446744073709551616 → count_ones word ≡ tally (has_bit word) 64
+ones_of word fits = let e : word % 2 ^ 64 ≡ word = omega arith in ap count_ones (sym e) ∙ ones_low word 64
+
 -- the ones among some places from one on
 pub ones_there : (word at width : ℕ) → width < 64 → tally (has_bit word) (at + width) ≡ tally (has_bit word) at + count_ones (bit_and (word / 2 ^ at) (1 * 2 ^ width % 18446744073709551616 - 1))
 ones_there word at width less =

@@ -2,7 +2,7 @@
 use Rattle.std.proofs.Common.{◌≡◌, ℕ, zero, suc, ◌+◌, ◌-◌, ◌*◌, ◌/◌, ◌%◌, ◌<◌, ◌≤◌, Bool, true, false, List, length, get_or, set, replicate, sym, ap, subst, ◌∙◌, arith, ⊎_elim}
 use Rattle.std.specs.Prelude.{◌≢◌}
 use Rattle.std.proofs.lemmas.Bool.{cases_lt, cases_eq, true≢false}
-use Rattle.std.proofs.lemmas.List.{length-set, length-replicate, get_or_read, get_or-replicate, get_or_past}
+use Rattle.std.proofs.lemmas.List.{length-set, length-replicate, get_or_read, get_or-replicate, get_or_past, set-get_or}
 use Rattle.enabled_set.specs.Members.{is_in}
 use Rattle.enabled_set.specs.Words.{has_bit, is_on, places_of}
 use Rattle.enabled_set.specs.Counts.{tally, before, IsCount, IsCounted}
@@ -18,6 +18,17 @@ count_read bits w counts v n some good there read = get_or_read counts (v / w) n
 -- the word that was read
 pub word_read : (words : List ℕ) (v read word : ℕ) → v / 64 < length words → read ≡ get_or words (v / 64) read → ((i : ℕ) → i < 64 → i ≢ (v % 64) → has_bit word i ≡ has_bit read i) → (i : ℕ) → i < 64 → i ≢ (v % 64) → has_bit word i ≡ has_bit (get_or words (v / 64) 0) i
 word_read words v read word room is others i inside apart = others i inside apart ∙ ap (λ w. has_bit w i) (get_or_read words (v / 64) read room is 0)
+
+-- the bit that was read, of a name that has a place
+pub bit_read : (bits : List Bool) (words s l : List ℕ) (total v read : ℕ) → IsCounted bits words s l total → v < length bits → read ≡ get_or words (v / 64) read → is_in bits v ≡ has_bit read (v % 64)
+unfolding is_on
+bit_read bits words s l total v read good there is =
+    let covered = good.covered in
+    good.same v ∙ ap (λ w. has_bit w (v % 64)) (sym (get_or_read words (v / 64) read (omega arith) is 0))
+
+-- nothing changes where a name is as it is to be
+pub put_same : (bits : List Bool) (v : ℕ) (b : Bool) → is_in bits v ≡ b → bits ≡ set bits v b
+put_same bits v b is = sym (set-get_or bits v false) ∙ ap (λ x. set bits v x) is
 
 -- who is a member, or is to be one, is somebody
 pub somebody : (bits : List Bool) (v : ℕ) → is_in bits 0 ≡ false → is_in bits v ≡ true → 1 ≤ v
@@ -50,7 +61,7 @@ places_put len bits words v word b long there room same here others =
     places_are len (set words (v / 64) word) (set bits v b) (omega arith) (λ u inside. same_put bits words v word b there room same here others u)
 
 -- one member more
-pub counted_more : (bits : List Bool) (words s l : List ℕ) (total v word x y : ℕ) → IsCounted bits words s l total → v < length bits → 1 ≤ v → is_in bits v ≡ false → has_bit word (v % 64) ≡ true → ((i : ℕ) → i < 64 → i ≢ (v % 64) → has_bit word i ≡ has_bit (get_or words (v / 64) 0) i) → x ≡ get_or s (v / 64) x → y ≡ get_or l (v / 1024) y → IsCounted (set bits v true) (set words (v / 64) word) (set s (v / 64) (x + 1)) (set l (v / 1024) (y + 1)) (total + 1)
+pub counted_more : (bits : List Bool) (words s l : List ℕ) (total v word x y : ℕ) → IsCounted bits words s l total → v < length bits → 1 ≤ v → is_in bits v ≡ false → has_bit word (v % 64) ≡ true → ((i : ℕ) → i < 64 → i ≢ (v % 64) → has_bit word i ≡ has_bit (get_or words (v / 64) 0) i) → x ≡ get_or s (v / 512) x → y ≡ get_or l (v / 4096) y → IsCounted (set bits v true) (set words (v / 64) word) (set s (v / 512) (x + 1)) (set l (v / 4096) (y + 1)) (total + 1)
 counted_more bits words s l total v word x y good there named off here others read_x read_y =
     let len = length-set bits v true in
     let words_len = length-set words (v / 64) word in
@@ -61,8 +72,8 @@ counted_more bits words s l total v word x y good there named off here others re
       spare = omega (arith, good.spare, len, words_len);
       nobody = same_there bits v true 0 (λ (e : 0 ≡ v). omega arith) ∙ good.nobody;
       same = same_put bits words v word true there (omega arith) good.same here others;
-      in_64 = count_more bits 64 s v x (omega arith) good.in_64 there off (count_read bits 64 s v x (omega arith) good.in_64 there read_x);
-      in_1024 = count_more bits 1024 l v y (omega arith) good.in_1024 there off (count_read bits 1024 l v y (omega arith) good.in_1024 there read_y);
+      in_512 = count_more bits 512 s v x (omega arith) good.in_512 there off (count_read bits 512 s v x (omega arith) good.in_512 there read_x);
+      in_4096 = count_more bits 4096 l v y (omega arith) good.in_4096 there off (count_read bits 4096 l v y (omega arith) good.in_4096 there read_y);
       in_all =
           let put = tally_put (is_in bits) (is_in (set bits v true)) v off (on_here bits v true there) (same_there bits v true) (length bits) in
           let all = ap (tally (is_in (set bits v true))) len in
@@ -72,7 +83,7 @@ counted_more bits words s l total v word x y good there named off here others re
     }
 
 -- one member less
-pub counted_less : (bits : List Bool) (words s l : List ℕ) (total v word x y : ℕ) → IsCounted bits words s l total → v < length bits → is_in bits v ≡ true → has_bit word (v % 64) ≡ false → ((i : ℕ) → i < 64 → i ≢ (v % 64) → has_bit word i ≡ has_bit (get_or words (v / 64) 0) i) → x ≡ get_or s (v / 64) x → y ≡ get_or l (v / 1024) y → IsCounted (set bits v false) (set words (v / 64) word) (set s (v / 64) (x - 1)) (set l (v / 1024) (y - 1)) (total - 1)
+pub counted_less : (bits : List Bool) (words s l : List ℕ) (total v word x y : ℕ) → IsCounted bits words s l total → v < length bits → is_in bits v ≡ true → has_bit word (v % 64) ≡ false → ((i : ℕ) → i < 64 → i ≢ (v % 64) → has_bit word i ≡ has_bit (get_or words (v / 64) 0) i) → x ≡ get_or s (v / 512) x → y ≡ get_or l (v / 4096) y → IsCounted (set bits v false) (set words (v / 64) word) (set s (v / 512) (x - 1)) (set l (v / 4096) (y - 1)) (total - 1)
 counted_less bits words s l total v word x y good there on here others read_x read_y =
     let len = length-set bits v false in
     let words_len = length-set words (v / 64) word in
@@ -84,8 +95,8 @@ counted_less bits words s l total v word x y good there on here others read_x re
       spare = omega (arith, good.spare, len, words_len);
       nobody = same_there bits v false 0 (λ (e : 0 ≡ v). omega arith) ∙ good.nobody;
       same = same_put bits words v word false there (omega arith) good.same here others;
-      in_64 = count_less bits 64 s v x (omega arith) good.in_64 there on (count_read bits 64 s v x (omega arith) good.in_64 there read_x);
-      in_1024 = count_less bits 1024 l v y (omega arith) good.in_1024 there on (count_read bits 1024 l v y (omega arith) good.in_1024 there read_y);
+      in_512 = count_less bits 512 s v x (omega arith) good.in_512 there on (count_read bits 512 s v x (omega arith) good.in_512 there read_x);
+      in_4096 = count_less bits 4096 l v y (omega arith) good.in_4096 there on (count_read bits 4096 l v y (omega arith) good.in_4096 there read_y);
       in_all =
           let put = tally_put (is_in (set bits v false)) (is_in bits) v (on_here bits v false there) on (λ k apart. sym (same_there bits v false k apart)) (length bits) in
           let all = ap (tally (is_in (set bits v false))) len in
@@ -128,7 +139,7 @@ count_empty n w m most =
     }
 
 -- the set of nobody
-counted_empty : (n : ℕ) → n ≤ 65536 → IsCounted (replicate n false) (replicate (n / 64 + 1) 0) (replicate (n / 64 + 1) 0) (replicate (n / 1024 + 1) 0) 0
+counted_empty : (n : ℕ) → n ≤ 65536 → IsCounted (replicate n false) (replicate (n / 64 + 1) 0) (replicate (n / 512 + 1) 0) (replicate (n / 4096 + 1) 0) 0
 counted_empty n few =
     let len = length-replicate n false in
     let o : ℕ = 0 in
@@ -139,8 +150,8 @@ counted_empty n few =
       spare = omega (arith, len, words_len);
       nobody = none_in n 0;
       same = λ v. none_in n v ∙ sym (on_none (n / 64 + 1) v);
-      in_64 = count_empty n 64 (n / 64 + 1) (omega arith);
-      in_1024 = count_empty n 1024 (n / 1024 + 1) (omega arith);
+      in_512 = count_empty n 512 (n / 512 + 1) (omega arith);
+      in_4096 = count_empty n 4096 (n / 4096 + 1) (omega arith);
       in_all = tally_nobody n (length (replicate n false));
     }
 
@@ -149,10 +160,10 @@ pub places_empty : (n : ℕ) (words : List ℕ) → words ≡ replicate (n / 64 
 places_empty n words is = places_are n words (replicate n false) (length-replicate n false) (λ v there. none_in n v ∙ sym (ap (λ ws. is_on ws v) is ∙ on_none (n / 64 + 1) v))
 
 -- the set of nobody, of lists that are known to be these
-pub counted_new : (n : ℕ) (words s l : List ℕ) → n ≤ 65536 → words ≡ replicate (n / 64 + 1) 0 → s ≡ replicate (n / 64 + 1) 0 → l ≡ replicate (n / 1024 + 1) 0 → IsCounted (places_of n words) words s l 0
+pub counted_new : (n : ℕ) (words s l : List ℕ) → n ≤ 65536 → words ≡ replicate (n / 64 + 1) 0 → s ≡ replicate (n / 512 + 1) 0 → l ≡ replicate (n / 4096 + 1) 0 → IsCounted (places_of n words) words s l 0
 counted_new n words s l few is_words is_s is_l =
     subst (λ (bits : List Bool). IsCounted bits words s l 0) (sym (places_empty n words is_words))
     (subst (λ (xs : List ℕ). IsCounted (replicate n false) xs s l 0) (sym is_words)
     (subst (λ (xs : List ℕ). IsCounted (replicate n false) (replicate (n / 64 + 1) 0) xs l 0) (sym is_s)
-    (subst (λ (xs : List ℕ). IsCounted (replicate n false) (replicate (n / 64 + 1) 0) (replicate (n / 64 + 1) 0) xs 0) (sym is_l)
+    (subst (λ (xs : List ℕ). IsCounted (replicate n false) (replicate (n / 64 + 1) 0) (replicate (n / 512 + 1) 0) xs 0) (sym is_l)
     (counted_empty n few))))

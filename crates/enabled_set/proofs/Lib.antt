@@ -6,4 +6,5 @@ pub mod Stretches
 pub mod Changes
 pub mod Members
 pub mod Steps
+pub mod Passes
 pub mod Nth

@@ -8,8 +8,8 @@ use Rattle.std.proofs.lemmas.Option.{slice_get_past}
 use Rattle.enabled_set.specs.Members.{is_in, members}
 use Rattle.enabled_set.specs.Words.{has_bit, is_on, AreNames}
 use Rattle.enabled_set.specs.Counts.{tally, below, before, IsCounted}
-use Rattle.enabled_set.proofs.Tally.{tally_rise, tally_flat, tally_shift}
-use Rattle.enabled_set.proofs.Before.{before_none}
+use Rattle.enabled_set.proofs.Tally.{tally_rise, tally_flat, tally_shift, tally_same}
+use Rattle.enabled_set.proofs.Before.{before_none, before_rise}
 use Rattle.enabled_set.proofs.Places.{on_word}
 use Rattle.enabled_set.proofs.Members.{below_true, members_below, length-members, nth_member, inside}
 use Rattle.enabled_set.proofs.Changes.{somebody}
@@ -62,37 +62,58 @@ below_all bits words s l total n good most =
     ∙ sym (members_below bits)
 
 -- more members are left in all places than are to pass
-pub enough_lots : (bits : List Bool) (words s l ls : List ℕ) (total k : ℕ) → IsCounted bits words s l total → ls ≡ l → k < total → before ls 0 + k < before ls 64
+pub enough_lots : (bits : List Bool) (words s l ls : List ℕ) (total k : ℕ) → IsCounted bits words s l total → ls ≡ l → k < total → before ls 0 + k < before ls 16
 enough_lots bits words s l ls total k good is less =
     let start = before_none ls in
-    let all = ap (λ xs. before xs 64) is ∙ good.in_1024.counted 64 in
+    let all = ap (λ xs. before xs 16) is ∙ good.in_4096.counted 16 in
     let few = good.few in
     let most = tally_rise (is_in bits) (length bits) 65536 few in
-    let same = ap (tally (is_in bits)) (let e : 1024 * 64 ≡ 65536 = omega arith in e) in
+    let same = ap (tally (is_in bits)) (let e : 4096 * 16 ≡ 65536 = omega arith in e) in
     let was = good.in_all in
     omega arith
 
 -- more members are left in a lot than are to pass
-pub enough_groups : (bits : List Bool) (words s l ls ss : List ℕ) (total lot left : ℕ) → IsCounted bits words s l total → ls ≡ l → ss ≡ s → left < get_or ls lot 0 → before ss (16 * lot) + left < before ss (16 * lot + 16)
+pub enough_groups : (bits : List Bool) (words s l ls ss : List ℕ) (total lot left : ℕ) → IsCounted bits words s l total → ls ≡ l → ss ≡ s → left < get_or ls lot 0 → before ss (8 * lot) + left < before ss (8 * lot + 16)
 enough_groups bits words s l ls ss total lot left good is_l is_s less =
-    let low = ap (λ xs. before xs (16 * lot)) is_s ∙ good.in_64.counted (16 * lot) in
-    let high = ap (λ xs. before xs (16 * lot + 16)) is_s ∙ good.in_64.counted (16 * lot + 16) in
-    let same_low = ap (tally (is_in bits)) (let e : 64 * (16 * lot) ≡ 1024 * lot = omega arith in e) in
-    let same_high = ap (tally (is_in bits)) (let e : 64 * (16 * lot + 16) ≡ 1024 * (lot + 1) = omega arith in e) in
-    let at_low = good.in_1024.counted lot in
-    let at_high = good.in_1024.counted (lot + 1) in
+    let low = ap (λ xs. before xs (8 * lot)) is_s ∙ good.in_512.counted (8 * lot) in
+    let high = ap (λ xs. before xs (8 * lot + 8)) is_s ∙ good.in_512.counted (8 * lot + 8) in
+    let rise = before_rise ss (8 * lot + 8) (8 * lot + 16) (omega arith) in
+    let same_low = ap (tally (is_in bits)) (let e : 512 * (8 * lot) ≡ 4096 * lot = omega arith in e) in
+    let same_high = ap (tally (is_in bits)) (let e : 512 * (8 * lot + 8) ≡ 4096 * (lot + 1) = omega arith in e) in
+    let at_low = good.in_4096.counted lot in
+    let at_high = good.in_4096.counted (lot + 1) in
     let step = before_step l lot in
     let read = ap (λ xs. get_or xs lot 0) is_l in
     omega arith
 
--- what two scans have passed, the second from where the first stands, of lists that were read
-pub passed : (bits : List Bool) (words s l ls ss : List ℕ) (total k lot lot_left group left : ℕ) → IsCounted bits words s l total → ls ≡ l → ss ≡ s → before ls lot + lot_left ≡ before ls 0 + k → before ss group + left ≡ before ss (16 * lot) + lot_left → tally (is_in bits) (64 * group) + left ≡ k
-passed bits words s l ls ss total k lot lot_left group left good is_l is_s from_l from_s =
+-- the words have as many below a place as there are members
+words_tally : (bits : List Bool) (words s l ws : List ℕ) (total n : ℕ) → IsCounted bits words s l total → ws ≡ words → tally (is_on ws) n ≡ tally (is_in bits) n
+words_tally bits words s l ws total n good is_w = ap (λ xs. tally (is_on xs) n) is_w ∙ sym (tally_same (is_in bits) (is_on words) n good.same)
+
+-- more members are left in a group than are to pass
+pub enough_words : (bits : List Bool) (words s l ss ws : List ℕ) (total group left : ℕ) → IsCounted bits words s l total → ss ≡ s → ws ≡ words → left < get_or ss group 0 → tally (is_on ws) (64 * (8 * group)) + left < tally (is_on ws) (64 * (8 * group) + 512)
+enough_words bits words s l ss ws total group left good is_s is_w less =
+    let low = words_tally bits words s l ws total (64 * (8 * group)) good is_w in
+    let high = words_tally bits words s l ws total (64 * (8 * group) + 512) good is_w in
+    let same_low = ap (tally (is_in bits)) (let e : 64 * (8 * group) ≡ 512 * group = omega arith in e) in
+    let same_high = ap (tally (is_in bits)) (let e : 64 * (8 * group) + 512 ≡ 512 * (group + 1) = omega arith in e) in
+    let at_low = good.in_512.counted group in
+    let at_high = good.in_512.counted (group + 1) in
+    let step = before_step s group in
+    let read = ap (λ xs. get_or xs group 0) is_s in
+    omega arith
+
+-- what three scans have passed, each from where the one before it stands, of lists that were read
+pub passed : (bits : List Bool) (words s l ls ss ws : List ℕ) (total k lot lot_left group group_left place left : ℕ) → IsCounted bits words s l total → ls ≡ l → ss ≡ s → ws ≡ words → before ls lot + lot_left ≡ before ls 0 + k → before ss group + group_left ≡ before ss (8 * lot) + lot_left → tally (is_on ws) (64 * place) + left ≡ tally (is_on ws) (64 * (8 * group)) + group_left → tally (is_in bits) (64 * place) + left ≡ k
+passed bits words s l ls ss ws total k lot lot_left group group_left place left good is_l is_s is_w from_l from_s from_w =
     let start = before_none ls in
-    let at_l = ap (λ xs. before xs lot) is_l ∙ good.in_1024.counted lot in
-    let in_s = ap (λ xs. before xs (16 * lot)) is_s ∙ good.in_64.counted (16 * lot) in
-    let same = ap (tally (is_in bits)) (let e : 64 * (16 * lot) ≡ 1024 * lot = omega arith in e) in
-    let at_s = ap (λ xs. before xs group) is_s ∙ good.in_64.counted group in
+    let at_l = ap (λ xs. before xs lot) is_l ∙ good.in_4096.counted lot in
+    let in_s = ap (λ xs. before xs (8 * lot)) is_s ∙ good.in_512.counted (8 * lot) in
+    let same_s = ap (tally (is_in bits)) (let e : 512 * (8 * lot) ≡ 4096 * lot = omega arith in e) in
+    let at_s = ap (λ xs. before xs group) is_s ∙ good.in_512.counted group in
+    let in_w = words_tally bits words s l ws total (64 * (8 * group)) good is_w in
+    let same_w = ap (tally (is_in bits)) (let e : 64 * (8 * group) ≡ 512 * group = omega arith in e) in
+    let at_w = words_tally bits words s l ws total (64 * place) good is_w in
     omega arith
 
 -- the members of a word, among all
@@ -103,17 +124,6 @@ word_tally bits words s l ws total word group n good is_w is few =
 -- there is no k-th member where k is no less than the total
 pub nth_none : (bits : List Bool) (words s l : List ℕ) (total k : ℕ) → IsCounted bits words s l total → total ≤ k → slice_get (members bits) k ≡ None
 nth_none bits words s l total k good most = slice_get_past (members bits) k (let len = length-members bits in let all = good.in_all in omega arith)
-
--- the word where two scans stand has more members than are to pass
-pub word_enough : (bits : List Bool) (words s l ss ws : List ℕ) (total word group left : ℕ) → IsCounted bits words s l total → ss ≡ s → ws ≡ words → word ≡ get_or ws group 0 → left < get_or ss group 0 → left < tally (has_bit word) 64
-word_enough bits words s l ss ws total word group left good is_s is_w is less =
-    let all = word_tally bits words s l ws total word group 64 good is_w is (omega arith) in
-    let low = good.in_64.counted group in
-    let high = good.in_64.counted (group + 1) in
-    let same = ap (tally (is_in bits)) (let e : 64 * (group + 1) ≡ 64 * group + 64 = omega arith in e) in
-    let step = before_step s group in
-    let read = ap (λ xs. get_or xs group 0) is_s in
-    omega arith
 
 -- the node of a name
 named : (o : Option ℕ) (n : ℕ) → SomeIff o ((1 ≤ n) × (n ≤ 65535)) n → (1 ≤ n) × (n ≤ 65535) → o ≡ Some n

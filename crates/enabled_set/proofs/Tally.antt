@@ -1,6 +1,6 @@
 -- Counting the numbers that pass, below a number.
 use Rattle.std.proofs.Common.{◌≡◌, ℕ, zero, suc, ◌+◌, ◌-◌, ◌<◌, ◌≤◌, Bool, true, false, cond, ◌⊎◌, ltb, refl, sym, ap, ◌∙◌, arith, ⊎_elim}
-use Rattle.std.proofs.lemmas.Bool.{cases_Bool, cases_order, lt-ltb, le-ltb}
+use Rattle.std.proofs.lemmas.Bool.{cases_Bool, cases_lt, cases_order, lt-ltb, le-ltb}
 use Rattle.enabled_set.specs.Counts.{tally}
 
 -- 1 where a number is above v, else 0
@@ -69,6 +69,14 @@ tally_flat p a (suc n) b none e =
     ∙ tally_false p (a + n) (none (a + n) (omega arith) (omega arith))
     ∙ tally_flat p a n (a + n) (λ k low high. none k low (omega arith)) refl
 
+-- where no number passes from one on, no tally is above that below it
+pub tally_end : (p : ℕ → Bool) (a b : ℕ) → ((k : ℕ) → a ≤ k → p k ≡ false) → tally p b ≤ tally p a
+tally_end p a b none =
+    ⊎_elim
+    (λ (lt : b < a). tally_rise p b a (omega arith))
+    (λ (le : a ≤ b). let same = tally_flat p a (b - a) b (λ k low high. none k low) (omega arith) in omega arith)
+    (cases_lt b a)
+
 -- two tests that agree at a number
 tally_step : (p q : ℕ → Bool) (n : ℕ) → q n ≡ p n → (d : ℕ) → tally q n ≡ tally p n + d → tally q (suc n) ≡ tally p (suc n) + d
 tally_step p q n same d h =
@@ -88,6 +96,13 @@ tally_shift p q a (suc n) same =
     (λ (h : p (a + n) ≡ true). let s = tally_true p (a + n) h in let t = tally_true q n (sym (same n (omega arith)) ∙ h) in omega arith)
     (λ (h : p (a + n) ≡ false). let s = tally_false p (a + n) h in let t = tally_false q n (sym (same n (omega arith)) ∙ h) in omega arith)
     (cases_Bool (p (a + n)))
+
+-- two tests that agree
+pub tally_same : (p q : ℕ → Bool) (n : ℕ) → ((k : ℕ) → p k ≡ q k) → tally p n ≡ tally q n
+tally_same p q n same =
+    let none = tally_none p in
+    let start = ap (tally p) (let e : 0 + n ≡ n = omega arith in e) in
+    let all : tally p (0 + n) ≡ tally p 0 + tally q n = tally_shift p q 0 n (λ k high. ap p (let e : 0 + k ≡ k = omega arith in e) ∙ same k) in omega arith
 
 -- one number more that passes
 pub tally_put : (p q : ℕ → Bool) (v : ℕ) → p v ≡ false → q v ≡ true → ((k : ℕ) → (k ≡ v → ⊥) → q k ≡ p k) → (n : ℕ) → tally q n ≡ tally p n + past v n

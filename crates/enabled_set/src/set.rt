@@ -3,20 +3,20 @@
 ghost use Rattle.std.specs.Prelude.{◌≡◌, ◌+◌, ◌<◌, ◌≤◌, true, false, length, replicate, slice_get, slice_set, IfOk};
 ghost use Rattle.enabled_set.specs.Members.{is_in, members};
 
-use crate::scan::{look, pass, push_word, word_at};
-use crate::word::{find_bit, with_bit, without_bit};
+use crate::scan::{look, pass, pass_words, push_word, word_at};
+use crate::word::{bit_is_set, find_bit, with_bit, without_bit};
 use rule_machine::{Node, Want};
 use std::alloc::Global;
 use std::marker::Model;
 
 /// A set of names, seen in contracts as a list with a place for each name, `true` where the name is a member. Place 0 is
-/// nobody's. A place is a bit, and each 64 and each 1,024 places have a count of their members.
+/// nobody's. A place is a bit, and each 512 and each 4,096 places have a count of their members.
 #[derive(Drop)]
 pub struct EnabledSet {
     len: usize,
     words: Vec<u64>,
-    by_64: Vec<u16>,
-    by_1024: Vec<u16>,
+    by_512: Vec<u16>,
+    by_4096: Vec<u16>,
     total: u32,
 }
 
@@ -29,25 +29,25 @@ impl Model for EnabledSet {
 
     ghost view = { λ s. places_of s.len s.words.items };
 
-    ghost invariant = { λ s. IsCounted (places_of s.len s.words.items) s.words.items s.by_64.items s.by_1024.items s.total };
+    ghost invariant = { λ s. IsCounted (places_of s.len s.words.items) s.words.items s.by_512.items s.by_4096.items s.total };
 }
 
 impl EnabledSet {
-    /// The empty set, for the names 1 to `nodes`, at most 65,535; takes a bit a name and some two bytes for each 64
-    /// names, at most some ten kilobytes.
+    /// The empty set, for the names 1 to `nodes`, at most 65,535; takes a bit a name and some two bytes for each 512
+    /// names, at most some nine kilobytes.
     pub fn new(alloc: Global, nodes: u32) -> Result<EnabledSet, Want>
         requires { nodes ≤ 65535 }
         ensures { IfOk result (λ set. set ≡ replicate (nodes + 1) false) }
     {
         let len = nodes as usize + 1;
         let words = vec![in alloc; 0; len / 64 + 1]?;
-        let by_64 = vec![in alloc; 0; len / 64 + 1]?;
-        let by_1024 = vec![in alloc; 0; len / 1024 + 1]?;
+        let by_512 = vec![in alloc; 0; len / 512 + 1]?;
+        let by_4096 = vec![in alloc; 0; len / 4096 + 1]?;
         Ok(EnabledSet {
             len,
             words,
-            by_64,
-            by_1024,
+            by_512,
+            by_4096,
             total: 0,
         })
     }
@@ -67,18 +67,19 @@ impl EnabledSet {
         self.total
     }
 
-    /// The k-th member by rising names, from 0; `None` where there are not so many. A look at 64 counts at most, then at
-    /// 16, then at a word.
+    /// The k-th member by rising names, from 0; `None` where there are not so many. A look at 16 counts at most, then at
+    /// eight, then at eight words, and at the bits of one.
     pub fn nth(&self, k: u32) -> Option<Node>
         ensures { result ≡ slice_get (members self.now) k }
     {
         if k >= self.total {
             return None;
         }
-        let lot = pass(&self.by_1024, 0, 64, k);
-        let group = pass(&self.by_64, 16 * lot.place, 16, lot.left);
-        let at = find_bit(word_at(&self.words, group.place), group.left);
-        Node::new((64 * group.place + at) as u32)
+        let lot = pass(&self.by_4096, 0, k);
+        let group = pass(&self.by_512, 8 * lot.place, lot.left);
+        let spot = pass_words(&self.words, 8 * group.place, group.left);
+        let at = find_bit(word_at(&self.words, spot.place), spot.left);
+        Node::new((64 * spot.place + at) as u32)
     }
 
     /// The members by rising names, at most 65,535; takes two bytes a member. A look at each word, and one more at each
@@ -99,12 +100,13 @@ impl EnabledSet {
         ensures { self.new ≡ slice_set self.old v true }
     {
         let place = v.place();
-        if look(&self.words, place) {
+        let word = self.words[place / 64];
+        if bit_is_set(word, place % 64) {
             return;
         }
-        self.words[place / 64] = with_bit(self.words[place / 64], place % 64);
-        self.by_64[place / 64] += 1;
-        self.by_1024[place / 1024] += 1;
+        self.words[place / 64] = with_bit(word, place % 64);
+        self.by_512[place / 512] += 1;
+        self.by_4096[place / 4096] += 1;
         self.total += 1;
     }
 
@@ -114,12 +116,13 @@ impl EnabledSet {
         ensures { self.new ≡ slice_set self.old v false }
     {
         let place = v.place();
-        if !look(&self.words, place) {
+        let word = self.words[place / 64];
+        if !bit_is_set(word, place % 64) {
             return;
         }
-        self.words[place / 64] = without_bit(self.words[place / 64], place % 64);
-        self.by_64[place / 64] -= 1;
-        self.by_1024[place / 1024] -= 1;
+        self.words[place / 64] = without_bit(word, place % 64);
+        self.by_512[place / 512] -= 1;
+        self.by_4096[place / 4096] -= 1;
         self.total -= 1;
     }
 }

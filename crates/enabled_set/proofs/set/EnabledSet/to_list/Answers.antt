@@ -12,4 +12,4 @@ pub returns : goal.returns
 returns c =
     let end = c.loop-place-test.false in
     let most : 64 * length c.self.inside.words.items ≤ 64 * c.loop-place.place = omega (arith, c.len-place-end.ensures) in
-    c.loop-place.invariant ∙ below_all (places_of c.self.inside.len c.self.inside.words.items) c.self.inside.words.items c.self.inside.by_64.items c.self.inside.by_1024.items c.self.inside.total (64 * c.loop-place.place) c.self.invariant most ∙ ap members c.self.view_is
+    c.loop-place.invariant ∙ below_all (places_of c.self.inside.len c.self.inside.words.items) c.self.inside.words.items c.self.inside.by_512.items c.self.inside.by_4096.items c.self.inside.total (64 * c.loop-place.place) c.self.invariant most ∙ ap members c.self.view_is
