@@ -23,6 +23,10 @@ pub bool_few : (b : Bool) → from_bool b ≤ 1
 bool_few true = omega arith
 bool_few false = omega arith
 
+pub one_few : (b : Bool) → cond {A = ℕ} b 1 0 ≤ 1
+one_few true = omega arith
+one_few false = omega arith
+
 -- a node has no more neighbours than there are nodes
 pub few_near : (net : Network) (v : ℕ) → length (neighbours net v) ≤ net.size
 few_near net v =

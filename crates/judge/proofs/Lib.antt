@@ -4,6 +4,7 @@ pub mod Listed
 pub mod Table
 pub mod Courting
 pub mod Counting
+pub mod Married
 pub mod Leaving
 pub mod Placed
 pub mod Made

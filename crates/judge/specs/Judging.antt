@@ -7,8 +7,9 @@ use Rattle.rule_machine.specs.declared.event.Event.TheVariants.{Link, Unlink, Po
 use Rattle.rule_machine.specs.declared.reply.Reply.{Reply}
 use Rattle.rule_machine.specs.declared.reply.Reply.TheVariants.{Accepted}
 use Rattle.rule_machine.specs.State.{State}
-use Rattle.rule_machine.specs.RuleTable.{RuleTable}
+use Rattle.rule_machine.specs.RuleTable.{RuleTable, enabled_names}
 use Rattle.rule_machine.specs.Refuse.{refusal_of}
+use Rattle.rule_machine.specs.Stable.{mutual_pairs}
 use Rattle.judge.specs.declared.choices.RuledItem.{RuledItem}
 use Rattle.judge.specs.Choices.{IsReady}
 
@@ -49,6 +50,11 @@ items_of Status = []
 abbrev pub same_counts : Counts → Counts → Bool
 same_counts c d =
     nat_eq c.nodes d.nodes && nat_eq c.edges d.edges && nat_eq c.spent d.spent && nat_eq c.pairs d.pairs && nat_eq c.enabled d.enabled && nat_eq c.charge d.charge
+
+-- whether the counts are right that are made of all names
+abbrev pub is_tallied : RuleTable → State → Counts → Bool
+is_tallied t s c =
+    nat_eq c.pairs (length (mutual_pairs s)) && nat_eq c.enabled (length (enabled_names t s)) && nat_eq c.charge (t.charge s)
 
 -- the tables of these many names are between two events
 pub record AreReady (size : ℕ) (items : List (Option RuledItem)) (marks : List Bool) : Type 0 where

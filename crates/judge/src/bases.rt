@@ -46,7 +46,8 @@ impl NetState {
         let mut courted = Courted::new(alloc, self.capacity())?;
         courted.find(self);
         // The charge alone never exceeds the bound.
-        Ok(u64::from(spent) <= self.bound(rules) - self.charge(rules, &courted))
+        let charge = self.tally(rules, &courted).charge;
+        Ok(u64::from(spent) <= self.bound(rules) - charge)
     }
 
     /// Whether the flags that are true are used by the rules.

@@ -1,64 +1,34 @@
-//! The charge of a state.
+//! What the nodes add to the charge of a state.
 
-ghost use Rattle.std.specs.Prelude.{◌≡◌, ◌≤◌, IsTrue, cond};
+ghost use Rattle.std.specs.Prelude.{◌≡◌, ◌≤◌, IsTrue, false};
 ghost use Rattle.rule_machine.specs.Network.{present};
 ghost use Rattle.rule_machine.specs.Charge as charge;
 ghost use Rattle.rule_machine.specs.State as state;
-ghost use Rattle.rule_machine.specs.Tables.{table_of};
 ghost use Rattle.judge.specs.Courting.{IsCourting};
 ghost use Rattle.judge.specs.Charging as charging;
 
-use crate::net_state::node_above;
 use crate::{Courted, NetState};
 use rule_machine::{Node, RuleSet};
 
 impl NetState {
-    /// The charge, which each move lowers. Looks at every name, and at both ends of every edge.
-    pub(crate) fn charge(&self, rules: RuleSet, courted: &Courted) -> u64
-        requires { IsCourting self.now courted.now }
-        ensures { result ≡ (table_of rules).charge self.now }
-    {
-        let mut total = 0;
-        for below in 0..self.last_name() {
-            total += self.charge_of(rules, node_above(below), courted);
-        }
-        total
-    }
-
-    /// What the node of a name adds, if there is one.
-    fn charge_of(&self, rules: RuleSet, v: Node, courted: &Courted) -> u64
-        requires few { self.now.network.size ≤ 65535 }
-        requires courting { IsCourting self.now courted.now }
-        ensures value { result ≡ cond (present self.now.network v) (charging.charge_at rules self.now v) 0 }
-        ensures few { result ≤ 131073 }
-    {
-        if self.has(v) {
-            self.charge_at(rules, v, courted)
-        } else {
-            0
-        }
-    }
-
-    /// What a node adds, with the edges to its higher neighbours. Looks at no edge where it is married.
-    fn charge_at(&self, rules: RuleSet, v: Node, courted: &Courted) -> u64
+    /// What an unmarried node adds, with the edges to its higher neighbours.
+    pub(crate) fn charge_at(&self, rules: RuleSet, v: Node, courted: &Courted) -> u64
         requires present { IsTrue (present self.now.network v) }
+        requires single { state.married self.now v ≡ false }
         requires few { self.now.network.size ≤ 65535 }
         requires courting { IsCourting self.now courted.now }
         ensures value { result ≡ charging.charge_at rules self.now v }
         ensures few { result ≤ 131073 }
     {
-        // A married node is answered, and its edges are closed.
-        if self.married(v) {
-            return self.flag_charge(rules, v);
-        }
         2 * self.open_above(rules, v, courted)
             + u64::from(self.is_unanswered(v))
             + self.flag_charge(rules, v)
     }
 
-    /// How many edges between a node and its higher neighbours are open.
+    /// How many edges between an unmarried node and its higher neighbours are open.
     fn open_above(&self, rules: RuleSet, v: Node, courted: &Courted) -> u64
         requires present { IsTrue (present self.now.network v) }
+        requires single { state.married self.now v ≡ false }
         requires few { self.now.network.size ≤ 65535 }
         requires courting { IsCourting self.now courted.now }
         ensures value { result ≡ charging.open_above rules self.now v }
@@ -73,14 +43,15 @@ impl NetState {
         open
     }
 
-    /// Whether the edge between a node and a higher one adds nothing to the charge.
+    /// Whether the edge between an unmarried node and a higher one adds nothing to the charge.
     fn is_closed(&self, rules: RuleSet, v: Node, w: Node, courted: &Courted) -> bool
         requires low { IsTrue (present self.now.network v) }
+        requires single { state.married self.now v ≡ false }
         requires high { IsTrue (present self.now.network w) }
         requires courting { IsCourting self.now courted.now }
         ensures { result ≡ charging.is_closed rules self.now (v, w) }
     {
-        if self.married(v) || self.married(w) {
+        if self.married(w) {
             return true;
         }
         match rules {
@@ -119,19 +90,16 @@ impl NetState {
         }
     }
 
-    /// What a node adds by its flag.
+    /// What an unmarried node adds by its flag.
     fn flag_charge(&self, rules: RuleSet, v: Node) -> u64
-        requires { IsTrue (present self.now.network v) }
+        requires { state.married self.now v ≡ false }
         ensures value { result ≡ charging.flag_charge rules self.now v }
         ensures few { result ≤ 2 }
     {
         match rules {
             RuleSet::Hh => 0,
-            RuleSet::Manne => match (self.married(v), self.flag(v)) {
-                (true, true) => 0,
-                (true, false) | (false, false) => 1,
-                (false, true) => 2,
-            },
+            RuleSet::Manne if self.flag(v) => 2,
+            RuleSet::Manne => 1,
         }
     }
 }

@@ -19,6 +19,7 @@ mod replies;
 mod scans;
 mod status;
 mod steps;
+mod tally;
 mod targets;
 
 use choices::Chosen;

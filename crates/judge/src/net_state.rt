@@ -1,6 +1,6 @@
 //! A network with its registers.
 
-ghost use Rattle.std.specs.Prelude.{◌≡◌, ◌+◌, ◌<◌, ◌≤◌, ◌&&◌, [], All, IfOk, IfSome, IsTrue, MatchOption, None, OnOk, OnErr, false, length, nat_le};
+ghost use Rattle.std.specs.Prelude.{◌≡◌, ◌+◌, ◌<◌, ◌≤◌, ◌&&◌, [], All, IfOk, IfSome, IsTrue, MatchOption, None, Some, OnOk, OnErr, false, length, nat_le};
 ghost use Rattle.std.specs.List.{AllByRecursion};
 ghost use Rattle.rule_machine.specs.Network as network;
 ghost use Rattle.rule_machine.specs.State as state;
@@ -153,11 +153,33 @@ impl NetState {
         self.registers.pointer(v)
     }
 
+    /// Whether the node at which another points points back: a look at its register alone.
+    #[inline(always)]
+    pub(crate) fn points_back(&self, v: Node, w: Node) -> bool
+        requires { state.pointer self.now v ≡ Some w }
+        ensures back { result ≡ state.points self.now.registers w v }
+        ensures sound { state.IsState self.now }
+    {
+        match self.registers.pointer(w) {
+            Some(target) => target == v,
+            None => false,
+        }
+    }
+
     /// A node's flag.
     pub(crate) fn flag(&self, v: Node) -> bool
         ensures { result ≡ state.flag self.now v }
     {
         self.store.has(v) && self.registers.flag(v)
+    }
+
+    /// The flag of the node of a name, if there is one: a look at its register alone.
+    #[inline(always)]
+    pub(crate) fn flag_at(&self, v: Node) -> bool
+        requires { v ≤ self.now.network.size }
+        ensures { result ≡ state.flag self.now v }
+    {
+        self.registers.flag(v)
     }
 
     /// Whether a node points at another.
@@ -168,13 +190,14 @@ impl NetState {
     }
 
     /// The neighbour with which the node of a name, if there is one, is a mutual pair.
+    #[inline(always)]
     pub(crate) fn partner(&self, v: Node) -> Option<Node>
         requires { v ≤ self.now.network.size }
         ensures value { result ≡ state.partner self.now v }
         ensures present { IfSome result (λ w. IsTrue (network.present self.now.network v)) }
     {
-        match self.registers.pointer(v) {
-            Some(w) if self.registers.points_at(w, v) => Some(w),
+        match self.pointer_at(v) {
+            Some(w) if self.points_back(v, w) => Some(w),
             Some(_) => None,
             None => None,
         }

@@ -58,13 +58,14 @@ impl NetState {
     /// The rule that is enabled at the node of a name, if there is one and any is.
     #[inline(always)]
     pub(crate) fn rule_of(&self, rules: RuleSet, v: Node, courted: &Courted) -> Option<Act>
-        requires { IsCourting self.now courted.now }
+        requires within { v ≤ self.now.network.size }
+        requires courting { IsCourting self.now courted.now }
         ensures { result ≡ cond (present self.now.network v) (rule_at (table_of rules) self.now v) None }
     {
-        if self.has(v) {
-            self.rule_at(rules, v, Some(courted))
-        } else {
-            None
+        match self.partner(v) {
+            Some(_) => self.married_rule(rules, v),
+            None if self.has(v) => self.rule_at(rules, v, Some(courted)),
+            None => None,
         }
     }
 
