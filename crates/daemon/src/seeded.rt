@@ -123,7 +123,7 @@ impl<G: Rng> Daemon for Seeded<G> {
     ghost chooses = { λ names central old choice new. (choice, G.stream new) ≡ drawn central names (G.stream old) };
 
     /// The choice that the generator's next words make; `None` exactly where the set is empty. At want of memory no word has
-    /// been drawn. A central daemon takes one word, some 64 looks and no memory; any other a word for each member, and room
+    /// been drawn. A central daemon takes one word, some 40 looks and no memory; any other a word for each member, and room
     /// for as many nodes and items as there are members, which are 65,535 at most.
     fn choose(&mut self, set: &EnabledSet, central: bool) -> Result<Option<Choice>, Want>
         ensures lawful { IfOk result (λ choice. IfSome choice (IsLawful set.now central)) }

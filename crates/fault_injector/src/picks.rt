@@ -8,7 +8,7 @@ ghost use Rattle.fault_injector.specs.Drawn.{node_at, target_at, is_odd};
 use graph_store::EdgeStore;
 use rule_machine::Node;
 
-/// The node at a place, counted from 0 by rising names: a look at some 80 counts and a word at most, and none where no name is
+/// The node at a place, counted from 0 by rising names: a look at 24 counts and eight words at most, and none where no name is
 /// absent.
 fn nth_node(store: &EdgeStore, place: u32) -> Node
     requires { place < node_count store.now.network }

@@ -100,7 +100,7 @@ impl EdgeStore {
         self.nodes
     }
 
-    /// The k-th node by rising names, from 0; `None` from `nodes()` on. A look at some 80 counts and a word at most.
+    /// The k-th node by rising names, from 0; `None` from `nodes()` on. A look at 24 counts and eight words at most.
     pub fn nth(&self, k: u32) -> Option<Node>
         ensures { result ≡ slice_get (names self.now.network) k }
     {

@@ -5,7 +5,7 @@ use Rattle.enabled_set.specs.Members.{members}
 use Rattle.daemon.specs.Lawful.{IsLawful}
 use Rattle.daemon.proofs.Odd.{lawful_one, lawful_some}
 use Rattle.daemon.proofs.seeded.SeededDaemon.choose.Goals as goal
-use Rattle.daemon.proofs.seeded.SeededDaemon.choose.Goals.{then-central+in_ok-choice, else-central+in_ok-choice-2}
+use Rattle.daemon.proofs.seeded.SeededDaemon.choose.Goals.{then-central, else-central+in_ok-choice}
 
 pub returns-clause-lawful : goal.returns-clause-lawful
 returns-clause-lawful g c =
@@ -13,6 +13,6 @@ returns-clause-lawful g c =
     let stream = g.G.Rng.stream c.self.inside.generator in
     let some : 1 ≤ length (members bits) = omega arith in
     elim c.if-central.branch [
-      | then-central+in_ok-choice w ↦ subst (IsLawful bits c.args.central) (sym (w.choice-is ∙ ap (λ (d : List Item × Stream). d.0) w.in_ok-choice.ensures.drawn)) (lawful_one bits c.args.central stream some)
-      | else-central+in_ok-choice-2 w ↦ subst (IsLawful bits c.args.central) (sym (w.choice-is ∙ ap (λ (d : List Item × Stream). d.0) w.in_ok-choice-2.ensures.drawn)) (lawful_some bits c.args.central stream some w.if-central.false)
+      | then-central w ↦ subst (IsLawful bits c.args.central) (sym (w.choice-is ∙ ap (λ (d : List Item × Stream). d.0) w.choose_one-choice.ensures)) (lawful_one bits c.args.central stream some)
+      | else-central+in_ok-choice w ↦ subst (IsLawful bits c.args.central) (sym (w.choice-is ∙ ap (λ (d : List Item × Stream). d.0) w.in_ok-choice.ensures.drawn)) (lawful_some bits c.args.central stream some w.if-central.false)
     ]
