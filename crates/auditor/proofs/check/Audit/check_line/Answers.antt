@@ -1,10 +1,43 @@
-use Rattle.std.proofs.Common.{ap, arith}
+use Rattle.std.proofs.Common.{◌≡◌, ◌∙◌, ◌+◌, ℕ, false, sym, ap, subst, arith}
+use Rattle.entry_grammar.specs.Spelling.{SpellsEntry}
+use Rattle.rule_machine.specs.Answer.{Answers, spent_after}
+use Rattle.rule_machine.specs.declared.event.Event.{Event}
+use Rattle.rule_machine.specs.declared.reply.Reply.{Reply}
 use Rattle.rule_machine.specs.Tables.{table_of}
-use Rattle.auditor.specs.Position.{Position}
-use Rattle.auditor.proofs.Refusing.{bad_reply}
+use Rattle.auditor.specs.Position.{Position, counted_more}
 use Rattle.auditor.proofs.check.Audit.check_line.Goals as goal
 
 pub returns-then-not-right : goal.returns-then-not-right
 returns-then-not-right c =
-    bad_reply (table_of c.args.rules) c.args.line.now c.args.self.now _ _ _ _ _ _ c.in-Ok.ensures.ok (omega (arith, c.if-seq-self.false, ap (λ (p : Position). p.number) c.self.view_is)) c.event.ensures.value c.reply.ensures.value
-    (ap (λ (p : Position). p.state) c.self.view_is) (ap (λ (p : Position). p.spent) c.self.view_is) (λ u. (c.in-Ok-judged.ensures.wrong c.if-not-right.true).0 u)
+    let t = table_of c.args.rules in
+    let entry = c.in-Ok.found.1 in
+    let number : c.in-Ok.found.0 ≡ c.args.self.now.number + 1 = grind arith in
+    let wrong : c.in-Ok-judged.right ≡ false = grind arith in
+    record {
+      entry = entry;
+      spells = subst (λ (n : ℕ). SpellsEntry c.args.line.now n entry) number c.in-Ok.ensures.ok;
+      never = λ s answers.
+          (c.in-Ok-judged.ensures.wrong wrong).0 s
+          (subst (λ (e : Event). Answers t c.self.inside.judge c.self.inside.spent e c.reply.result.now s) (sym c.event.ensures.value)
+          (subst (λ (r : Reply). Answers t c.self.inside.judge c.self.inside.spent entry.0 r s) (sym c.reply.ensures.value)
+          (subst (λ (p : Position). Answers t p.state p.spent entry.0 entry.1 s) (sym c.self.view_is) answers)));
+    }
+
+pub returns : goal.returns
+returns c =
+    let t = table_of c.args.rules in
+    let after = c.replay-judged.new.self in
+    let entry = c.in-Ok.found.1 in
+    let number : c.in-Ok.found.0 ≡ c.args.self.now.number + 1 = grind arith in
+    let told : Answers t c.self.inside.judge c.self.inside.spent c.event.result.now c.reply.result.now after = c.in-Ok-judged.ensures.right (grind arith) in
+    record {
+      entry = entry;
+      spells = subst (λ (n : ℕ). SpellsEntry c.args.line.now n entry) number c.in-Ok.ensures.ok;
+      answers =
+          subst (λ (p : Position). Answers t p.state p.spent entry.0 entry.1 after) c.self.view_is
+          (subst (λ (r : Reply). Answers t c.self.inside.judge c.self.inside.spent entry.0 r after) c.reply.ensures.value
+          (subst (λ (e : Event). Answers t c.self.inside.judge c.self.inside.spent e c.reply.result.now after) c.event.ensures.value told));
+      spends = c.spent_after-self-inside.ensures ∙ ap (spent_after c.self.inside.spent) c.reply-2.ensures.value ∙ ap (λ (p : Position). spent_after p.spent entry.1) c.self.view_is;
+      number = number;
+      counted = c.with_reply-self-inside.ensures.value ∙ ap (counted_more c.self.inside.counted) c.reply-3.ensures.value ∙ ap (λ (p : Position). counted_more p.counted entry.1) c.self.view_is;
+    }
