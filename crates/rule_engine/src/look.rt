@@ -82,7 +82,11 @@ fn turns_with<R: Rules>(state: &IndexedState<R>, w: Node, v: Node, is_open: bool
     requires open { is_open ≡ RuleTable.is_open R.table.opens state.now.state v }
     ensures { result ≡ turns_with R.ABOVE R.table.opens state.now.state v w }
 {
-    state.registers().pointer(w).is_none() && state.relies_on(w, v, is_open)
+    // The counts first: what they say of one neighbour they mostly say of the next, which a processor foresees.
+    if !state.relies_on(w, v, is_open) {
+        return false;
+    }
+    state.registers().pointer(w).is_none()
 }
 
 /// Looks again at each neighbour that points nowhere, and sees an open node where this one is open, and none where it is not. Where
