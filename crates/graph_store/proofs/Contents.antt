@@ -1,13 +1,12 @@
 -- The names in rows that are vectors, whatever their capacities.
-use Rattle.std.proofs.Common.{◌≡◌, ℕ, ◌-◌, ◌<◌, ◌≤◌, Bool, true, false, cond, List, [], ◌∷◌, map, length, get_or, set, sym, ap, subst, ◌∙◌, arith, Result, Ok, Err, MatchResult}
+use Rattle.std.proofs.Common.{◌≡◌, ℕ, suc, ◌-◌, ◌<◌, ◌≤◌, List, [], ◌∷◌, map, length, get_or, set, sym, ap, ◌∙◌, ◌+◌, take, drop, ◌++◌, append_assoc, length-take, length-drop, arith, Result, Ok, Err, MatchResult}
 use Rattle.std.specs.List.{insert, remove}
-use Rattle.std.specs.Result.{is_ok, IsErrAnd}
+use Rattle.std.specs.Result.{is_ok}
 use Rattle.std.specs.Vec.{vec_len, vec_capacity}
 use Rattle.std.specs.declared.vec.Vec.{Vec}
 use Rattle.std.specs.declared.alloc.Global.{Global}
-use Rattle.std.proofs.lemmas.Bool.{true≢false}
-use Rattle.std.proofs.Math.Seq.{map-set_same}
-use Rattle.std.proofs.lemmas.List.{map-set, get_or-map, get_or_past, length-map}
+use Rattle.std.proofs.Math.Seq.{map-set_same, take-append-add}
+use Rattle.std.proofs.lemmas.List.{map-set, get_or-map, get_or_past, length-map, ext_get_or, get_or-take, get_or-drop, take_rest, length-take-le, take-take, take-append-le, drop-drop}
 use Rattle.graph_store.specs.Rows.{contents, row_at, has, HasRoom, IsPlaceOf, IsGapFor}
 use Rattle.graph_store.proofs.Rising.{there_at_place, absent_at_gap}
 
@@ -36,11 +35,9 @@ contents_set rows v p d r change same inside is =
     let after : r.items ≡ change (row_at (contents rows) v) = is ∙ ap change there in
     map-set (λ (row : Vec ℕ Global). row.items) rows p r ∙ (λ i. set (contents rows) (same i) (after i))
 
--- a name put in where there is room
-pub contents_put : (rows : List (Vec ℕ Global)) (v p place name : ℕ) (d r : Vec ℕ Global) (ok : Bool) → p ≡ v → v < length rows → HasRoom rows v → (vec_len (get_or rows p d) < vec_capacity (get_or rows p d) → ok ≡ true) → r.items ≡ cond ok (insert (get_or rows p d).items place name) (get_or rows p d).items → contents (set rows p r) ≡ set (contents rows) v (insert (row_at (contents rows) v) place name)
-contents_put rows v p place name d r ok same inside room fits after =
-    let roomy : vec_len (get_or rows p d) < vec_capacity (get_or rows p d) = subst (HasRoom rows) (sym same) room d in
-    contents_set rows v p d r (λ l. insert l place name) same inside (after ∙ ap (λ b. cond b (insert (get_or rows p d).items place name) (get_or rows p d).items) (fits roomy))
+-- a name put in
+pub contents_put : (rows : List (Vec ℕ Global)) (v p place name : ℕ) (d r : Vec ℕ Global) → p ≡ v → v < length rows → r.items ≡ insert (get_or rows p d).items place name → contents (set rows p r) ≡ set (contents rows) v (insert (row_at (contents rows) v) place name)
+contents_put rows v p place name d r same inside after = contents_set rows v p d r (λ l. insert l place name) same inside after
 
 -- a name taken out
 pub contents_taken : (rows : List (Vec ℕ Global)) (v p place : ℕ) (d r : Vec ℕ Global) → p ≡ v → v < length rows → r.items ≡ remove (get_or rows p d).items place → contents (set rows p r) ≡ set (contents rows) v (remove (row_at (contents rows) v) place)
@@ -60,7 +57,24 @@ pub found : (row : List ℕ) (name : ℕ) (r : Result ℕ ℕ) → MatchResult r
 found row name (Ok i) place = sym (there_at_place row name i place)
 found row name (Err i) gap = sym (absent_at_gap row name i gap)
 
--- and gives the gap for what is not there
-pub missing : (row : List ℕ) (name : ℕ) (r : Result ℕ ℕ) → MatchResult r (IsPlaceOf row name) (IsGapFor row name) → has row name ≡ false → IsErrAnd r (IsGapFor row name)
-missing row name (Ok i) place absent = absurd (true≢false (sym (there_at_place row name i place) ∙ absent))
-missing row name (Err i) gap absent = gap
+-- names that moved down by one place
+pub lower_by_one : (old new : List ℕ) → length new ≡ length old → ((k : ℕ) → k + 1 < length old → get_or new k 0 ≡ get_or old (k + 1) 0) → take (length old - 1) new ≡ drop 1 old
+lower_by_one old new same moved =
+    ext_get_or 0 (take (length old - 1) new) (drop 1 old) (omega (arith, length-take (length old - 1) new, length-drop 1 old))
+    (λ k lt.
+    let inside : k + 1 < length old = omega (arith, lt, length-take (length old - 1) new) in
+    get_or-take (length old - 1) new k 0 (omega arith) ∙ moved k inside ∙ ap (λ i. get_or old i 0) (omega arith) ∙ sym (get_or-drop 1 old k 0))
+
+-- a name is out where those behind it moved down by one place and the last was let go
+pub taken_out : (row tail past rest : List ℕ) (len place : ℕ) → len ≡ length row → place < length row → length tail ≡ length (take (length row - place) (drop place row)) → take (length (take (length row - place) (drop place row)) - 1) tail ≡ drop 1 (take (length row - place) (drop place row)) → take (len - 1) (take len ((take place row ++ (tail ++ past)) ++ rest)) ≡ remove row place
+taken_out row tail past rest len place whole inside as_long moved =
+    let size : length (take (length row - place) (drop place row)) ≡ length row - place = ap length (take_rest row place) ∙ length-drop place row in
+    let front : length (take place row) ≡ place = length-take-le place row (omega arith) in
+    let ends : len - 1 ≡ length (take place row) + (length (take (length row - place) (drop place row)) - 1) = omega arith in
+    let behind : place + 1 ≡ suc place = omega arith in
+    let short : length (take (length row - place) (drop place row)) - 1 ≤ length tail = omega arith in
+    take-take (len - 1) len _ (omega arith)
+    ∙ ap (take (len - 1)) (append_assoc (take place row) (tail ++ past) rest ∙ ap (λ l. take place row ++ l) (append_assoc tail past rest))
+    ∙ ap (λ n. take n (take place row ++ (tail ++ (past ++ rest)))) ends
+    ∙ take-append-add (take place row) (tail ++ (past ++ rest)) _
+    ∙ ap (λ l. take place row ++ l) (take-append-le _ tail (past ++ rest) short ∙ moved ∙ ap (drop 1) (take_rest row place) ∙ drop-drop 1 place row ∙ ap (λ n. drop n row) behind)

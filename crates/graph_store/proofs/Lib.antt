@@ -4,6 +4,7 @@ pub mod Rising
 pub mod Store
 pub mod Switch
 pub mod Results
+pub mod Halves
 pub mod Contents
 pub mod Faults
 pub mod Present

@@ -2,7 +2,7 @@
 use Rattle.std.proofs.Common.{◌≡◌, ℕ, ◌-◌, ◌<◌, ◌≤◌, List, length, get_or, Result, Ok, Err, IfOk, OnOk, MatchResult, ap, sym, subst, arith, ⊎_elim}
 use Rattle.std.specs.Result.{IsErrAnd}
 use Rattle.std.specs.List.Sorted.{IsStrictlyIncreasing}
-use Rattle.graph_store.specs.Rows.{IsGapFor, IsRankOf}
+use Rattle.graph_store.specs.Rows.{IsGapFor}
 use Rattle.std.proofs.lemmas.Bool.{cases_lt}
 use Rattle.std.proofs.lemmas.List.Kept.{AllPairs-from_increasing}
 
@@ -32,9 +32,3 @@ gap_here row name place up inside low high = record {
   below = λ k lt. let l = low (omega (arith, lt)) in let le = never_falls row up k (place - 1) (omega (arith, lt)) (omega (arith, lt, inside)) in omega (arith, l, le);
   above = λ k ge lt. let h = high (omega (arith, ge, lt)) in let le = never_falls row up place k ge lt in omega (arith, h, le);
 }
-
--- behind those that are below it a name belongs, where it is not the next one
-pub gap_behind : (row : List ℕ) (name place : ℕ) → IsStrictlyIncreasing row → IsRankOf row name place → (place < length row → get_or row place 0 ≡ name → ⊥) → IsGapFor row name place
-gap_behind row name place up rank other =
-    gap_here row name place up rank.inside (λ some. rank.below (place - 1) (omega (arith, some)))
-    (λ lt. let le = rank.above place (omega arith) lt in let apart = other lt in omega (arith, le, apart))

@@ -59,11 +59,12 @@ pub record IsGapFor (row : List ℕ) (w i : ℕ) : Type 0 where
   pub below : (k : ℕ) → k < i → slice_index row k < w
   pub above : (k : ℕ) → i ≤ k → k < length row → w < slice_index row k
 
--- so many names of the row are below w: those before that place, and no other
-pub record IsRankOf (row : List ℕ) (w i : ℕ) : Type 0 where
-  pub inside : i ≤ length row
-  pub below : (k : ℕ) → k < i → slice_index row k < w
-  pub above : (k : ℕ) → i ≤ k → k < length row → w ≤ slice_index row k
+-- the place of w is in this part of the row or at its end: what stands before is lower, and what stands behind is higher
+pub record IsPartFor (row : List ℕ) (w start size : ℕ) : Type 0 where
+  pub inside : start + size ≤ length row
+  pub some : 0 < size
+  pub below : (k : ℕ) → k < start → slice_index row k < w
+  pub above : (k : ℕ) → start + size ≤ k → k < length row → w < slice_index row k
 
 -- the row at place v has room for one more name
 abbrev pub HasRoom : List (Vec ℕ Global) → ℕ → Type 0

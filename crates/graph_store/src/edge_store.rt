@@ -10,7 +10,7 @@ ghost use Rattle.graph_store.specs.declared.fault.GraphFault.TheVariants.{Memory
 use crate::GraphFault;
 use crate::roll::first_names;
 use crate::rows::{
-    empty_rows, find_gap, find_place, list_pairs, put_both, reserve_both, take_both,
+    empty_rows, find_gap, find_place, guess_gap, list_pairs, put_both, reserve_both, take_both,
 };
 use enabled_set::EnabledSet;
 use rule_machine::{Edge, Node, Want};
@@ -184,13 +184,22 @@ impl EdgeStore {
         Ok(place)
     }
 
-    // The place where `w` belongs among the neighbours of `v`: two looks where it is the last that was found.
+    // The place where `w` belongs among the neighbours of `v`.
     fn find_gap(&self, v: Node, w: Node) -> usize
         requires present { IsTrue (present self.now.network v) }
         requires apart { linked self.now.network v w ≡ false }
         ensures { IsGapFor (neighbours self.now.network v) w result }
     {
-        find_gap(&self.rows[v.place()], self.last_gap, w)
+        find_gap(&self.rows[v.place()], w)
+    }
+
+    // The same by two looks, where it is the last place that was found.
+    fn guess_gap(&self, v: Node, w: Node) -> usize
+        requires present { IsTrue (present self.now.network v) }
+        requires apart { linked self.now.network v w ≡ false }
+        ensures { IsGapFor (neighbours self.now.network v) w result }
+    {
+        guess_gap(&self.rows[v.place()], self.last_gap, w)
     }
 
     // Makes room for the edge between two nodes.
@@ -250,7 +259,7 @@ impl EdgeStore {
         requires room { HasRoomFor self.old.room a b }
         ensures { self.new.network ≡ with_edge self.old.network a b }
     {
-        let place_in_a = self.find_gap(a, b);
+        let place_in_a = self.guess_gap(a, b);
         let place_in_b = self.find_gap(b, a);
         self.put_edge(a, place_in_a, b, place_in_b);
     }

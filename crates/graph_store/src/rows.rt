@@ -1,9 +1,10 @@
 //! Neighbour lists, which rise.
 
-ghost use Rattle.std.specs.Prelude.{◌≡◌, ◌++◌, filter, map, nat_lt, ◌≢◌, ℕ, ◌+◌, ◌<◌, ◌≤◌, [], length, replicate, slice_set, IfOk, OnOk, MatchResult, IsTrue, slice_index, ◌-◌, true, false};
+ghost use Rattle.std.specs.Prelude.{◌≡◌, ◌++◌, filter, map, nat_lt, ◌≢◌, ℕ, ◌+◌, ◌<◌, ◌≤◌, [], length, replicate, slice_set, IfOk, OnOk, MatchResult, IsTrue, slice_index, ◌-◌, ◌/◌, ◌∷◌, take, drop, true, false};
 ghost use Rattle.std.specs.List.{insert, remove};
 ghost use Rattle.std.specs.List.Sorted.{IsStrictlyIncreasing};
-ghost use Rattle.graph_store.specs.Rows.{contents, pairs_from, row_at, has, IsPlaceOf, IsGapFor, IsRankOf, HasRoom};
+ghost use Rattle.std.specs.Vec.{vec_len, vec_capacity};
+ghost use Rattle.graph_store.specs.Rows.{contents, pairs_from, row_at, has, IsPlaceOf, IsGapFor, IsPartFor, HasRoom};
 
 use rule_machine::{Edge, Node, Want};
 use std::alloc::Global;
@@ -19,34 +20,98 @@ pub fn empty_rows(alloc: Global, count: usize) -> Result<Vec<Vec<Node>>, Want>
     Ok(rows)
 }
 
-/// How many names of a short row are below one. Goes through the row without a branch, which costs less than halving it.
-fn count_below(row: &[Node], name: Node) -> u16
-    requires rising { IsStrictlyIncreasing row.now }
-    requires short { length row.now ≤ 64 }
-    ensures { IsRankOf row.now name result }
-{
-    let mut below = 0;
-    for &next in row {
-        below += u16::from(next < name);
-    }
-    below
+// The most places of a part that is halved without a branch.
+const SHORT: usize = 64;
+
+// So many halvings leave one of so many places.
+const HALVINGS: usize = 6;
+
+/// The part of a row that the place of a name is looked for in: what stands before it is lower, and what stands behind it higher.
+#[derive(Clone, Copy)]
+struct Part {
+    start: usize,
+    size: usize,
 }
 
-/// The place of a name in a row, or the one where it belongs; a look at each place of a short row, and a look-up by halves in
-/// another.
+/// The half of a part in which the place is.
+#[inline(always)]
+fn halve(row: &[Node], name: Node, part: Part) -> Part
+    requires rising { IsStrictlyIncreasing row.now }
+    requires part { IsPartFor row.now name part.start part.size }
+    ensures part { IsPartFor row.now name result.start result.size }
+    ensures size { result.size ≡ part.size - part.size / 2 }
+{
+    let half = part.size / 2;
+    let middle = part.start + half;
+    let start = if name < row[middle] {
+        part.start
+    } else {
+        middle
+    };
+    Part {
+        start,
+        size: part.size - half,
+    }
+}
+
+/// A short part: the whole of a row that has no more places.
+fn shorten(row: &[Node], name: Node) -> Part
+    requires rising { IsStrictlyIncreasing row.now }
+    requires some { 0 < length row.now }
+    ensures part { IsPartFor row.now name result.start result.size }
+    ensures short { result.size ≤ 64 }
+{
+    let mut part = Part {
+        start: 0,
+        size: row.len(),
+    };
+    while part.size > SHORT {
+        part = halve(row, name, part);
+    }
+    part
+}
+
+/// The place of the last name that is not above one, or the first place. Turns whose number is fixed, though some be idle, cost
+/// less than an end that is guessed wrong.
+fn narrow(row: &[Node], name: Node) -> usize
+    requires rising { IsStrictlyIncreasing row.now }
+    requires some { 0 < length row.now }
+    ensures { IsPartFor row.now name result 1 }
+{
+    let mut part = shorten(row, name);
+    for _ in 0..HALVINGS {
+        part = halve(row, name, part);
+    }
+    part.start
+}
+
+/// The place of a name in a row, or the one where it belongs; a look-up by halves.
 pub fn find_place(row: &[Node], name: Node) -> Result<usize, usize>
     requires { IsStrictlyIncreasing row.now }
     ensures { MatchResult result (IsPlaceOf row.now name) (IsGapFor row.now name) }
 {
-    if row.len() > 64 {
-        return row.binary_search(&name);
+    if row.is_empty() {
+        return Err(0);
     }
-    let place = usize::from(count_below(row, name));
-    if place < row.len() && row[place] == name {
-        Ok(place)
+    let near = narrow(row, name);
+    if row[near] == name {
+        Ok(near)
     } else {
-        Err(place)
+        Err(near + usize::from(row[near] < name))
     }
+}
+
+/// The place where a name that is not in a row belongs; a look-up by halves.
+pub fn find_gap(row: &[Node], name: Node) -> usize
+    requires rising { IsStrictlyIncreasing row.now }
+    requires apart { has row.now name ≡ false }
+    ensures { IsGapFor row.now name result }
+{
+    if row.is_empty() {
+        return 0;
+    }
+    let near = narrow(row, name);
+    near + usize::from(row[near] < name)
 }
 
 /// Whether a name is above the one before a place of a row, where there is one.
@@ -71,7 +136,7 @@ fn is_below(row: &[Node], place: usize, name: Node) -> bool
 }
 
 /// The place where a name that is not in a row belongs: two looks where the guess is right, else a look-up by halves.
-pub fn find_gap(row: &[Node], guess: usize, name: Node) -> usize
+pub fn guess_gap(row: &[Node], guess: usize, name: Node) -> usize
     requires rising { IsStrictlyIncreasing row.now }
     requires apart { has row.now name ≡ false }
     ensures { IsGapFor row.now name result }
@@ -79,8 +144,11 @@ pub fn find_gap(row: &[Node], guess: usize, name: Node) -> usize
     if guess <= row.len() && is_above(row, guess, name) && is_below(row, guess, name) {
         return guess;
     }
-    find_place(row, name).unwrap_err()
+    find_gap(row, name)
 }
+
+// So many names more a full row has room for: as many as the smallest block of memory holds.
+const MORE: usize = 12;
 
 /// Makes room for one more name in a node's row, and changes no names.
 fn make_room(rows: &mut [Vec<Node>], node: Node) -> Result<(), Want>
@@ -89,7 +157,35 @@ fn make_room(rows: &mut [Vec<Node>], node: Node) -> Result<(), Want>
     ensures room { OnOk result (HasRoom rows.new node) }
     ensures others { (v : ℕ) → HasRoom rows.old v → HasRoom rows.new v }
 {
-    rows[node.place()].reserve(1)
+    let row = &mut rows[node.place()];
+    if row.len() < row.capacity() {
+        return Ok(());
+    }
+    row.reserve(MORE)
+}
+
+/// Moves the names of a row's end up by one place, of which the last is lost, and puts one in at the first. The loop is compiled
+/// to a move of memory at once, which `Vec::insert` is not.
+fn put_first(tail: &mut [Node], name: Node)
+    requires { 0 < length tail.old }
+    ensures { tail.new ≡ name ∷ take (length tail.old - 1) tail.old }
+{
+    let last = tail.len() - 1;
+    for moved in 0..last {
+        let at = last - 1 - moved;
+        tail[at + 1] = tail[at];
+    }
+    tail[0] = name;
+}
+
+/// Puts a name in at a place of a row that has room for it.
+fn put_at(row: &mut Vec<Node>, place: usize, name: Node)
+    requires inside { place ≤ length row.old.items }
+    requires room { vec_len row.old < vec_capacity row.old }
+    ensures { row.new.items ≡ insert row.old.items place name }
+{
+    let _full = row.push(name);
+    put_first(&mut row[place..], name);
 }
 
 /// Puts a name into a node's row, where there is room for it.
@@ -100,7 +196,7 @@ fn put_in(rows: &mut [Vec<Node>], node: Node, place: usize, name: Node)
     ensures names { contents rows.new ≡ slice_set (contents rows.old) node (insert (row_at (contents rows.old) node) place name) }
     ensures others { (v : ℕ) → v ≢ node → HasRoom rows.old v → HasRoom rows.new v }
 {
-    let _full = rows[node.place()].insert(place, name);
+    put_at(&mut rows[node.place()], place, name);
 }
 
 /// Makes room for one more name in each of two nodes' rows, and changes no names.
@@ -129,13 +225,31 @@ pub fn put_both(rows: &mut [Vec<Node>], a: Node, place_in_a: usize, b: Node, pla
     put_in(rows, b, place_in_b, a);
 }
 
+/// Moves the names of a row's end down by one place, of which the first is lost, and the last stands twice.
+fn drop_first(tail: &mut [Node])
+    ensures { take (length tail.old - 1) tail.new ≡ drop 1 tail.old }
+{
+    for at in 1..tail.len() {
+        tail[at - 1] = tail[at];
+    }
+}
+
+/// Takes out the name at a place of a row.
+fn take_at(row: &mut Vec<Node>, place: usize)
+    requires { place < length row.old.items }
+    ensures { row.new.items ≡ remove row.old.items place }
+{
+    drop_first(&mut row[place..]);
+    let _last = row.pop();
+}
+
 /// Takes the name at a place out of a node's row.
 fn take_out(rows: &mut [Vec<Node>], node: Node, place: usize)
     requires known { node < length rows.old }
     requires inside { place < length (row_at (contents rows.old) node) }
     ensures { contents rows.new ≡ slice_set (contents rows.old) node (remove (row_at (contents rows.old) node) place) }
 {
-    let _name = rows[node.place()].remove(place);
+    take_at(&mut rows[node.place()], place);
 }
 
 /// Takes two nodes out of each other's rows, at these places.
