@@ -22,36 +22,6 @@ pub climbs_odd : (p : ℕ → Bool) (low : ℕ) (names : List ℕ) (s : Stream) 
 climbs_odd p low [] s h = tt
 climbs_odd p low (v ∷ names) s h = climbs_kept p low v (next_u32 s).0 (draw_odd names (next_u32 s).1).0 h.0 h.1 (climbs_odd p (suc v) names (next_u32 s).1 h.2)
 
--- one name and one word more
-unrolled : (names : List ℕ) (i v word : ℕ) (s t : Stream) → i < length names → v ≡ get_or names i v → (word, t) ≡ next_u32 s → draw_odd (drop i names) s ≡ (keep_odd v word (draw_odd (drop (i + 1) names) t).0, (draw_odd (drop (i + 1) names) t).1)
-unrolled names i v word s t there is took =
-    let at = get_or_read names i v there is 0 in
-    let next : suc i ≡ i + 1 = omega arith in
-    let split : drop i names ≡ v ∷ drop (i + 1) names = drop-cons names i 0 there ∙ ap (λ x. x ∷ drop (suc i) names) (sym at) ∙ ap (λ k. v ∷ drop k names) next in
-    let go : ℕ × Stream → List ℕ × Stream = λ d. (keep_odd v d.0 (draw_odd (drop (i + 1) names) d.1).0, (draw_odd (drop (i + 1) names) d.1).1) in
-    ap (λ l. draw_odd l s) split ∙ ap go (sym took)
-
-pub rest_more : (names : List ℕ) (i v word : ℕ) (s t : Stream) → i < length names → v ≡ get_or names i v → (word, t) ≡ next_u32 s → (draw_odd (drop (i + 1) names) t).1 ≡ (draw_odd (drop i names) s).1
-rest_more names i v word s t there is took = sym (ap (λ (d : List ℕ × Stream). d.1) (unrolled names i v word s t there is took))
-
-kept_odd : (v word : ℕ) (names : List ℕ) → nat_eq (word % 2) 1 ≡ true → keep_odd v word names ≡ v ∷ names
-kept_odd v word names odd = ap (λ b. cond b (v ∷ names) names) odd
-
-kept_even : (v word : ℕ) (names : List ℕ) → nat_eq (word % 2) 1 ≡ false → keep_odd v word names ≡ names
-kept_even v word names even = ap (λ b. cond b (v ∷ names) names) even
-
-pub odd_more : (names : List ℕ) (i v word : ℕ) (s t : Stream) (done : List Item) → i < length names → v ≡ get_or names i v → (word, t) ≡ next_u32 s → nat_eq (word % 2) 1 ≡ true → (done ++ (record { node = v; wish = None }) ∷ []) ++ plain (draw_odd (drop (i + 1) names) t).0 ≡ done ++ plain (draw_odd (drop i names) s).0
-odd_more names i v word s t done there is took odd =
-    let step = ap (λ (d : List ℕ × Stream). done ++ plain d.0) (unrolled names i v word s t there is took) in
-    let keep = ap (λ l. done ++ plain l) (kept_odd v word (draw_odd (drop (i + 1) names) t).0 odd) in
-    append_assoc done ((record { node = v; wish = None }) ∷ []) (plain (draw_odd (drop (i + 1) names) t).0) ∙ sym (step ∙ keep)
-
-pub even_more : (names : List ℕ) (i v word : ℕ) (s t : Stream) (done : List Item) → i < length names → v ≡ get_or names i v → (word, t) ≡ next_u32 s → nat_eq (word % 2) 1 ≡ false → done ++ plain (draw_odd (drop (i + 1) names) t).0 ≡ done ++ plain (draw_odd (drop i names) s).0
-even_more names i v word s t done there is took even =
-    let step = ap (λ (d : List ℕ × Stream). done ++ plain d.0) (unrolled names i v word s t there is took) in
-    let keep = ap (λ l. done ++ plain l) (kept_even v word (draw_odd (drop (i + 1) names) t).0 even) in
-    sym (step ∙ keep)
-
 length_kept : (v word : ℕ) (names : List ℕ) → length (keep_odd v word names) ≤ length names + 1
 length_kept v word names =
     ⊎_elim

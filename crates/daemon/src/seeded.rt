@@ -18,8 +18,9 @@ fn next_member<G: Rng>(generator: &mut G, set: &EnabledSet) -> Node
     requires { 1 ≤ length (members set.now) }
     ensures { (result ∷ [], G.stream generator.new) ≡ draw_one (members set.now) (G.stream generator.old) }
 {
+    let count = set.count();
     let word = generator.next_u32();
-    set.nth(word % set.count()).unwrap()
+    set.nth(word % count).unwrap()
 }
 
 /// A choice of one member by one word. Takes no memory.
@@ -38,7 +39,8 @@ fn is_odd(word: u32) -> bool
     word % 2 == 1
 }
 
-/// Adds an item for each node whose word is odd, by one word for each node.
+/// Adds an item for each node whose word is odd, by one word for each node. Each item is written, and taken back where the word
+/// is even: half of the words are, so a jump over the write would be guessed wrong as often as not.
 fn push_odd<G: Rng>(generator: &mut G, names: &[Node], items: &mut Vec<Item>)
     requires empty { items.old.items ≡ [] }
     requires room { length names.now ≤ vec_capacity items.old }
@@ -47,13 +49,15 @@ fn push_odd<G: Rng>(generator: &mut G, names: &[Node], items: &mut Vec<Item>)
 {
     for node in names {
         let word = generator.next_u32();
-        if is_odd(word) {
-            items
-                .push(Item {
-                    node: *node,
-                    wish: None,
-                })
-                .unwrap();
+        let len = items.len();
+        items
+            .push(Item {
+                node: *node,
+                wish: None,
+            })
+            .unwrap();
+        if !is_odd(word) {
+            items.truncate(len);
         }
     }
 }

@@ -4,8 +4,8 @@ use Rattle.std.specs.Prelude.{◌≢◌, bit_and, bit_or, count_ones, nat_eq}
 use Rattle.std.specs.Int.{bit_at, w64, trailing_zeros}
 use Rattle.std.proofs.lemmas.Bool.{cases_Bool, cases_lt}
 use Rattle.std.proofs.Math.Nat.{mod-lt}
-use Rattle.std.proofs.lemmas.Nat.{shr-shr, shr_le, mod-pow-add, ones_cat, one_shl, and_mask, pow_pos, ones_le_self, zero_from_ones}
-use Rattle.std.proofs.lemmas.Nat.Bits.{shr_and_one, bit_at-zero, bit_at_set_same, bit_at_set_other, bit_at_clear_same, bit_at_clear_other, bit_at-trailing_zeros, bit_at_above, bit_at-lt}
+use Rattle.std.proofs.lemmas.Nat.{shr-shr, mod-pow-add, ones_cat, one_shl, and_mask, pow_pos, ones_le_self, zero_from_ones}
+use Rattle.std.proofs.lemmas.Nat.Bits.{shr_and_one, bit_at-zero, bit_at_set_same, bit_at_set_other, bit_at_clear_same, bit_at_clear_other, bit_at-trailing_zeros, bit_at-lt}
 use Rattle.enabled_set.specs.Words.{has_bit}
 use Rattle.enabled_set.specs.Counts.{tally}
 use Rattle.enabled_set.proofs.Tally.{tally_none, tally_true, tally_false, tally_shift}
@@ -44,29 +44,19 @@ without_others word at i within inside apart = has_same (bit_and word (184467440
 shifted : (word from i : ℕ) → bit_at (word / 2 ^ from) i ≡ bit_at word (from + i)
 shifted word from i = ap (λ n. n % 2) (shr-shr word from i)
 
-shifted_at : (word from i : ℕ) → from ≤ i → bit_at word i ≡ bit_at (word / 2 ^ from) (i - from)
-shifted_at word from i low = ap (bit_at word) (let e : i ≡ from + (i - from) = omega arith in e) ∙ sym (shifted word from (i - from))
-
 shifted_bit : (word from i : ℕ) → has_bit (word / 2 ^ from) i ≡ has_bit word (from + i)
 unfolding has_bit
 shifted_bit word from i = ap (λ n. nat_eq n 1) (shifted word from i)
 
--- there is no bit from a place on
-pub next_none : (word from i : ℕ) → word / 2 ^ from ≡ 0 → from ≤ i → has_bit word i ≡ false
-next_none word from i none low = has_none word i (shifted_at word from i low ∙ ap (λ n. bit_at n (i - from)) none ∙ bit_at-zero (i - from))
+-- a word of none
+pub first_none : (word i : ℕ) → word ≡ 0 → has_bit word i ≡ false
+first_none word i none = has_none word i (ap (λ n. bit_at n i) none ∙ bit_at-zero i)
 
--- the next bit from a place on
-pub next_some : (word from : ℕ) → word < 18446744073709551616 → 0 < word / 2 ^ from → (from ≤ from + trailing_zeros w64 (word / 2 ^ from)) × (from + trailing_zeros w64 (word / 2 ^ from) < 64) × (has_bit word (from + trailing_zeros w64 (word / 2 ^ from)) ≡ true) × ((i : ℕ) → from ≤ i → i < from + trailing_zeros w64 (word / 2 ^ from) → has_bit word i ≡ false)
-next_some word from fits some =
-    let at : ℕ = trailing_zeros w64 (word / 2 ^ from) in
-    let less = shr_le word from in
-    let zeros = bit_at-trailing_zeros w64 (word / 2 ^ from) some (omega arith) in
-    let one : bit_at word (from + at) ≡ 1 = sym (shifted word from at) ∙ zeros.1 in
-    let within : from + at < 64 = ⊎_elim
-    (λ (lt : from + at < 64). lt)
-    (λ (le : 64 ≤ from + at). let none = bit_at_above word 64 (from + at) fits le in absurd (omega arith))
-    (cases_lt (from + at) 64) in
-    (omega arith, within, has_one word (from + at) one, λ i low high. has_none word i (shifted_at word from i low ∙ zeros.2 (i - from) (omega arith)))
+-- the lowest bit
+pub first_some : (word : ℕ) → word < 18446744073709551616 → 0 < word → (trailing_zeros w64 word < 64) × (has_bit word (trailing_zeros w64 word) ≡ true) × ((i : ℕ) → i < trailing_zeros w64 word → has_bit word i ≡ false)
+first_some word fits some =
+    let zeros = bit_at-trailing_zeros w64 word some fits in
+    (zeros.0, has_one word (trailing_zeros w64 word) zeros.1, λ i low. has_none word i (zeros.2 i low))
 
 ones_of_0 : count_ones 0 ≡ 0
 ones_of_0 = omega (arith, ones_le_self 0)

@@ -65,6 +65,8 @@ pub counted_more : (bits : List Bool) (words s l : List ℕ) (total v word x y :
 counted_more bits words s l total v word x y good there named off here others read_x read_y =
     let len = length-set bits v true in
     let words_len = length-set words (v / 64) word in
+    let groups_len = length-set s (v / 512) (x + 1) in
+    let lots_len = length-set l (v / 4096) (y + 1) in
     let covered = good.covered in
     record {
       few = omega (arith, good.few, len);
@@ -74,6 +76,8 @@ counted_more bits words s l total v word x y good there named off here others re
       same = same_put bits words v word true there (omega arith) good.same here others;
       in_512 = count_more bits 512 s v x (omega arith) good.in_512 there off (count_read bits 512 s v x (omega arith) good.in_512 there read_x);
       in_4096 = count_more bits 4096 l v y (omega arith) good.in_4096 there off (count_read bits 4096 l v y (omega arith) good.in_4096 there read_y);
+      groups = omega (arith, good.groups, len, groups_len);
+      lots = omega (arith, good.lots, lots_len);
       in_all =
           let put = tally_put (is_in bits) (is_in (set bits v true)) v off (on_here bits v true there) (same_there bits v true) (length bits) in
           let all = ap (tally (is_in (set bits v true))) len in
@@ -87,6 +91,8 @@ pub counted_less : (bits : List Bool) (words s l : List ℕ) (total v word x y :
 counted_less bits words s l total v word x y good there on here others read_x read_y =
     let len = length-set bits v false in
     let words_len = length-set words (v / 64) word in
+    let groups_len = length-set s (v / 512) (x - 1) in
+    let lots_len = length-set l (v / 4096) (y - 1) in
     let named = somebody bits v good.nobody on in
     let covered = good.covered in
     record {
@@ -97,6 +103,8 @@ counted_less bits words s l total v word x y good there on here others read_x re
       same = same_put bits words v word false there (omega arith) good.same here others;
       in_512 = count_less bits 512 s v x (omega arith) good.in_512 there on (count_read bits 512 s v x (omega arith) good.in_512 there read_x);
       in_4096 = count_less bits 4096 l v y (omega arith) good.in_4096 there on (count_read bits 4096 l v y (omega arith) good.in_4096 there read_y);
+      groups = omega (arith, good.groups, len, groups_len);
+      lots = omega (arith, good.lots, lots_len);
       in_all =
           let put = tally_put (is_in (set bits v false)) (is_in bits) v (on_here bits v false there) on (λ k apart. sym (same_there bits v false k apart)) (length bits) in
           let all = ap (tally (is_in (set bits v false))) len in
@@ -139,31 +147,35 @@ count_empty n w m most =
     }
 
 -- the set of nobody
-counted_empty : (n : ℕ) → n ≤ 65536 → IsCounted (replicate n false) (replicate (n / 64 + 1) 0) (replicate (n / 512 + 1) 0) (replicate (n / 4096 + 1) 0) 0
+counted_empty : (n : ℕ) → n ≤ 65536 → IsCounted (replicate n false) (replicate (n / 64 + 8) 0) (replicate (n / 512 + 8) 0) (replicate 16 0) 0
 counted_empty n few =
     let len = length-replicate n false in
     let o : ℕ = 0 in
-    let words_len = length-replicate (n / 64 + 1) o in
+    let words_len = length-replicate (n / 64 + 8) o in
+    let groups_len = length-replicate (n / 512 + 8) o in
+    let lots_len = length-replicate 16 o in
     record {
       few = omega (arith, len);
       covered = omega (arith, len, words_len);
       spare = omega (arith, len, words_len);
       nobody = none_in n 0;
-      same = λ v. none_in n v ∙ sym (on_none (n / 64 + 1) v);
-      in_512 = count_empty n 512 (n / 512 + 1) (omega arith);
-      in_4096 = count_empty n 4096 (n / 4096 + 1) (omega arith);
+      same = λ v. none_in n v ∙ sym (on_none (n / 64 + 8) v);
+      in_512 = count_empty n 512 (n / 512 + 8) (omega arith);
+      in_4096 = count_empty n 4096 16 (omega arith);
+      groups = omega (arith, len, groups_len);
+      lots = lots_len;
       in_all = tally_nobody n (length (replicate n false));
     }
 
 -- the places of words of no bits
-pub places_empty : (n : ℕ) (words : List ℕ) → words ≡ replicate (n / 64 + 1) 0 → places_of n words ≡ replicate n false
-places_empty n words is = places_are n words (replicate n false) (length-replicate n false) (λ v there. none_in n v ∙ sym (ap (λ ws. is_on ws v) is ∙ on_none (n / 64 + 1) v))
+pub places_empty : (n : ℕ) (words : List ℕ) → words ≡ replicate (n / 64 + 8) 0 → places_of n words ≡ replicate n false
+places_empty n words is = places_are n words (replicate n false) (length-replicate n false) (λ v there. none_in n v ∙ sym (ap (λ ws. is_on ws v) is ∙ on_none (n / 64 + 8) v))
 
 -- the set of nobody, of lists that are known to be these
-pub counted_new : (n : ℕ) (words s l : List ℕ) → n ≤ 65536 → words ≡ replicate (n / 64 + 1) 0 → s ≡ replicate (n / 512 + 1) 0 → l ≡ replicate (n / 4096 + 1) 0 → IsCounted (places_of n words) words s l 0
+pub counted_new : (n : ℕ) (words s l : List ℕ) → n ≤ 65536 → words ≡ replicate (n / 64 + 8) 0 → s ≡ replicate (n / 512 + 8) 0 → l ≡ replicate 16 0 → IsCounted (places_of n words) words s l 0
 counted_new n words s l few is_words is_s is_l =
     subst (λ (bits : List Bool). IsCounted bits words s l 0) (sym (places_empty n words is_words))
     (subst (λ (xs : List ℕ). IsCounted (replicate n false) xs s l 0) (sym is_words)
-    (subst (λ (xs : List ℕ). IsCounted (replicate n false) (replicate (n / 64 + 1) 0) xs l 0) (sym is_s)
-    (subst (λ (xs : List ℕ). IsCounted (replicate n false) (replicate (n / 64 + 1) 0) (replicate (n / 512 + 1) 0) xs 0) (sym is_l)
+    (subst (λ (xs : List ℕ). IsCounted (replicate n false) (replicate (n / 64 + 8) 0) xs l 0) (sym is_s)
+    (subst (λ (xs : List ℕ). IsCounted (replicate n false) (replicate (n / 64 + 8) 0) (replicate (n / 512 + 8) 0) xs 0) (sym is_l)
     (counted_empty n few))))

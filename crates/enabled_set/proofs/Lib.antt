@@ -6,5 +6,6 @@ pub mod Stretches
 pub mod Changes
 pub mod Members
 pub mod Steps
+pub mod Halves
 pub mod Passes
 pub mod Nth

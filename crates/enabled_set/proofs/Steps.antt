@@ -1,22 +1,14 @@
 -- What a step of a scan passes, and what it appends.
-use Rattle.std.proofs.Common.{◌≡◌, ℕ, zero, suc, ◌+◌, ◌-◌, ◌<◌, ◌≤◌, Bool, true, false, List, get_or, add-one, refl, sym, ap, ◌∙◌, arith, ⊎_elim}
-use Rattle.std.proofs.lemmas.Bool.{cases_Bool, cases_lt}
+use Rattle.std.proofs.Common.{◌≡◌, ℕ, zero, suc, ◌+◌, ◌-◌, ◌≤◌, Bool, true, false, List, get_or, add-one, refl, sym, ap, ◌∙◌, arith, ⊎_elim}
+use Rattle.std.proofs.lemmas.Bool.{cases_Bool}
 use Rattle.enabled_set.specs.Counts.{tally, below, before}
 use Rattle.enabled_set.proofs.Tally.{tally_true, tally_false, tally_rise}
-use Rattle.enabled_set.proofs.Before.{before_more, before_rise}
+use Rattle.enabled_set.proofs.Before.{before_more}
 use Rattle.enabled_set.proofs.Members.{below_false}
 
 -- one stretch more
 pub before_step : (counts : List ℕ) (i : ℕ) → before counts (i + 1) ≡ before counts i + get_or counts i 0
 before_step counts i = ap (before counts) (add-one i) ∙ before_more counts i
-
--- a scan of counts stands before the last that there may be
-pub before_near : (counts : List ℕ) (from left to_pass place : ℕ) → before counts place + left ≡ before counts from + to_pass → before counts from + to_pass < before counts (from + 16) → place ≤ from + 16
-before_near counts from left to_pass place so_far enough =
-    ⊎_elim
-    (λ (lt : place < from + 16). omega arith)
-    (λ (le : from + 16 ≤ place). let rise = before_rise counts (from + 16) place le in absurd (omega arith))
-    (cases_lt place (from + 16))
 
 -- one place more
 pub tally_on : (p : ℕ → Bool) (n : ℕ) → p n ≡ true → tally p (n + 1) ≡ tally p n + 1

@@ -23,13 +23,16 @@ pub record IsCount (bits : List Bool) (width : ℕ) (counts : List ℕ) : Type 0
   pub covers : length bits ≤ width * length counts
   pub counted : (i : ℕ) → before counts i ≡ tally (is_in bits) (width * i)
 
--- The words have these places and at most a word's more, nobody is no member, and the counts and the total are right.
+-- The words have these places and at most eight words' more, nobody is no member, and the counts and the total are right.
+-- From the group or the lot of a place on there are eight words or counts, and sixteen lots in all.
 pub record IsCounted (bits : List Bool) (words by_512 by_4096 : List ℕ) (total : ℕ) : Type 0 where
   pub few : length bits ≤ 65536
-  pub covered : length bits ≤ 64 * length words
-  pub spare : 64 * length words ≤ length bits + 64
+  pub covered : length bits + 448 ≤ 64 * length words
+  pub spare : 64 * length words ≤ length bits + 512
   pub nobody : is_in bits 0 ≡ false
   pub same : (v : ℕ) → is_in bits v ≡ is_on words v
   pub in_512 : IsCount bits 512 by_512
   pub in_4096 : IsCount bits 4096 by_4096
+  pub groups : length bits + 3584 ≤ 512 * length by_512
+  pub lots : length by_4096 ≡ 16
   pub in_all : tally (is_in bits) (length bits) ≡ total

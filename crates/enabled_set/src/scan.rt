@@ -1,10 +1,10 @@
 //! Scans of words and of counts.
 
-ghost use Rattle.std.specs.Prelude.{◌≡◌, ◌+◌, ◌*◌, ◌<◌, ◌≤◌, slice_index, OnOk};
+ghost use Rattle.std.specs.Prelude.{◌≡◌, ◌+◌, ◌*◌, ◌<◌, ◌≤◌, length, slice_index, OnOk};
 ghost use Rattle.enabled_set.specs.Words.{has_bit, is_on, AreNames};
 ghost use Rattle.enabled_set.specs.Counts.{tally, before, below};
 
-use crate::word::{Spot, bit_is_set, next_bit};
+use crate::word::{Spot, bit_is_set, first_bit, spot_behind, without_bit};
 use rule_machine::{Node, Want};
 
 /// The word at a place; 0 past the end.
@@ -26,58 +26,88 @@ pub fn look(words: &[u64], place: usize) -> bool
     bit_is_set(word_at(words, place / 64), place % 64)
 }
 
-/// Passes the stretches from one on that have no more members than are to pass. Among the first 16 there is one that has
-/// more, and the scan stands before it.
-pub fn pass(counts: &[u16], from: usize, to_pass: u32) -> Spot
-    requires { before counts.now from + to_pass < before counts.now (from + 16) }
-    ensures passed { before counts.now result.place + result.left ≡ before counts.now from + to_pass }
+/// Passes the stretches that have no more members than are to pass. Among the first sixteen there is one that has more, and
+/// the scan stands before it. It stops there, since a network has few such stretches.
+#[inline(always)]
+pub fn pass_in_16(counts: &[u16], to_pass: u32) -> Spot
+    requires room { 16 ≤ length counts.now }
+    requires enough { to_pass < before counts.now 16 }
+    ensures passed { before counts.now result.place + result.left ≡ to_pass }
     ensures here { result.left < slice_index counts.now result.place }
-    ensures near { result.place ≤ from + 16 }
+    ensures near { result.place < 16 }
 {
     let mut left = to_pass;
-    for place in from..counts.len() {
+    for place in 0..15 {
         let count = u32::from(counts[place]);
         if left < count {
             return Spot { place, left };
         }
         left -= count;
     }
-    Spot { place: from, left }
+    Spot { place: 15, left }
+}
+
+/// The same from a stretch on, among the first eight. Each of them is summed, so that no jump has to be guessed.
+#[inline(always)]
+pub fn pass_in_8(counts: &[u16], from: usize, to_pass: u32) -> Spot
+    requires room { from + 8 ≤ length counts.now }
+    requires near { from ≤ 65528 }
+    requires enough { before counts.now from + to_pass < before counts.now (from + 8) }
+    ensures passed { before counts.now result.place + result.left ≡ before counts.now from + to_pass }
+    ensures here { result.left < slice_index counts.now result.place }
+    ensures near { result.place < from + 8 }
+{
+    let mut spot = Spot {
+        place: from,
+        left: to_pass,
+    };
+    let mut sum = 0;
+    for at in from..from + 7 {
+        sum += u32::from(counts[at]);
+        spot = spot_behind(spot, at + 1, to_pass, sum);
+    }
+    spot
 }
 
 /// Passes the words from one on that have no more bits than are to pass. Among the first eight there is one that has
-/// more, and the scan stands before it.
+/// more, and the scan stands before it. Each of them is summed, as above.
+#[inline(always)]
 pub fn pass_words(words: &[u64], from: usize, to_pass: u32) -> Spot
-    requires { tally (is_on words.now) (64 * from) + to_pass < tally (is_on words.now) (64 * from + 512) }
+    requires room { from + 8 ≤ length words.now }
+    requires near { from ≤ 65528 }
+    requires enough { tally (is_on words.now) (64 * from) + to_pass < tally (is_on words.now) (64 * (from + 8)) }
     ensures passed { tally (is_on words.now) (64 * result.place) + result.left ≡ tally (is_on words.now) (64 * from) + to_pass }
     ensures here { result.left < tally (has_bit (slice_index words.now result.place)) 64 }
-    ensures near { result.place ≤ from + 8 }
+    ensures near { result.place < from + 8 }
 {
-    let mut left = to_pass;
-    for place in from..words.len() {
-        let ones = words[place].count_ones();
-        if left < ones {
-            return Spot { place, left };
-        }
-        left -= ones;
+    let mut spot = Spot {
+        place: from,
+        left: to_pass,
+    };
+    let mut sum = 0;
+    for at in from..from + 7 {
+        sum += words[at].count_ones();
+        spot = spot_behind(spot, at + 1, to_pass, sum);
     }
-    Spot { place: from, left }
+    spot
 }
 
 /// Appends the names in a word to a list of those before.
+#[inline(always)]
 pub fn push_word(list: &mut Vec<Node>, words: &[u64], place: usize) -> Result<(), Want>
     requires named { AreNames words.now }
+    requires there { place < length words.now }
     requires near { place ≤ 65536 }
     requires so_far { list.old.items ≡ below (is_on words.now) (64 * place) }
     ensures { OnOk result (list.new.items ≡ below (is_on words.now) (64 * place + 64)) }
 {
-    let word = word_at(words, place);
-    let mut from = 0;
-    while let Some(at) = next_bit(word, from) {
-        if let Some(member) = Node::new((64 * place + at) as u32) {
+    let mut rest = words[place];
+    while let Some(at) = first_bit(rest) {
+        let name = (64 * place + at) as u16;
+        if let Some(member) = Node::new(u32::from(name)) {
             list.push(member)?;
         }
-        from = at + 1;
+        rest = without_bit(rest, at);
     }
     Ok(())
 }

@@ -3,14 +3,15 @@
 ghost use Rattle.std.specs.Prelude.{◌≡◌, ◌+◌, ◌<◌, ◌≤◌, true, false, length, replicate, slice_get, slice_set, IfOk};
 ghost use Rattle.enabled_set.specs.Members.{is_in, members};
 
-use crate::scan::{look, pass, pass_words, push_word, word_at};
+use crate::scan::{look, pass_in_8, pass_in_16, pass_words, push_word};
 use crate::word::{bit_is_set, find_bit, with_bit, without_bit};
 use rule_machine::{Node, Want};
 use std::alloc::Global;
 use std::marker::Model;
 
 /// A set of names, seen in contracts as a list with a place for each name, `true` where the name is a member. Place 0 is
-/// nobody's. A place is a bit, and each 512 and each 4,096 places have a count of their members.
+/// nobody's. A place is a bit, and each 512 and each 4,096 places have a count of their members. Behind the last places there
+/// is so much room that eight words, eight counts or sixteen can be read wherever a member may stand.
 #[derive(Drop)]
 pub struct EnabledSet {
     len: usize,
@@ -40,9 +41,9 @@ impl EnabledSet {
         ensures { IfOk result (λ set. set ≡ replicate (nodes + 1) false) }
     {
         let len = nodes as usize + 1;
-        let words = vec![in alloc; 0; len / 64 + 1]?;
-        let by_512 = vec![in alloc; 0; len / 512 + 1]?;
-        let by_4096 = vec![in alloc; 0; len / 4096 + 1]?;
+        let words = vec![in alloc; 0; len / 64 + 8]?;
+        let by_512 = vec![in alloc; 0; len / 512 + 8]?;
+        let by_4096 = vec![in alloc; 0; 16]?;
         Ok(EnabledSet {
             len,
             words,
@@ -75,11 +76,12 @@ impl EnabledSet {
         if k >= self.total {
             return None;
         }
-        let lot = pass(&self.by_4096, 0, k);
-        let group = pass(&self.by_512, 8 * lot.place, lot.left);
+        let lot = pass_in_16(&self.by_4096, k);
+        let group = pass_in_8(&self.by_512, 8 * lot.place, lot.left);
         let spot = pass_words(&self.words, 8 * group.place, group.left);
-        let at = find_bit(word_at(&self.words, spot.place), spot.left);
-        Node::new((64 * spot.place + at) as u32)
+        let at = find_bit(self.words[spot.place], spot.left);
+        let name = (64 * spot.place + at) as u16;
+        Node::new(u32::from(name))
     }
 
     /// The members by rising names, at most 65,535; takes two bytes a member. A look at each word, and one more at each

@@ -31,19 +31,15 @@ pub fn without_bit(word: u64, at: usize) -> u64
     word & !(1 << at)
 }
 
-/// The next bit that a word has, from a place on.
-pub fn next_bit(word: u64, from: usize) -> Option<usize>
-    requires { from ≤ 64 }
-    ensures { MatchOption result ((i : ℕ) → from ≤ i → i < 64 → has_bit word i ≡ false) (λ at. (from ≤ at) × (at < 64) × (has_bit word at ≡ true) × ((i : ℕ) → from ≤ i → i < at → has_bit word i ≡ false)) }
+/// The lowest bit that a word has.
+#[inline(always)]
+pub fn first_bit(word: u64) -> Option<usize>
+    ensures { MatchOption result ((i : ℕ) → i < 64 → has_bit word i ≡ false) (λ at. (at < 64) × (has_bit word at ≡ true) × ((i : ℕ) → i < at → has_bit word i ≡ false)) }
 {
-    if from >= 64 {
+    if word == 0 {
         return None;
     }
-    let rest = word >> from;
-    if rest == 0 {
-        return None;
-    }
-    Some(from + rest.trailing_zeros() as usize)
+    Some(word.trailing_zeros() as usize)
 }
 
 /// Where a scan stands: before a stretch of places, with as many members from there on to pass.
@@ -51,6 +47,42 @@ pub fn next_bit(word: u64, from: usize) -> Option<usize>
 pub struct Spot {
     pub place: usize,
     pub left: u32,
+}
+
+/// Passes a stretch of so many places that has so many members, if it has no more than are to pass. Both ways are as short,
+/// so none is jumped over.
+#[inline(always)]
+fn pass_over(spot: Spot, width: usize, members: u32) -> Spot
+    requires { spot.place + width ≤ 65536 }
+    ensures stays_place { spot.left < members → result.place ≡ spot.place }
+    ensures stays_left { spot.left < members → result.left ≡ spot.left }
+    ensures moves_place { members ≤ spot.left → result.place ≡ spot.place + width }
+    ensures moves_left { members ≤ spot.left → result.left + members ≡ spot.left }
+{
+    if spot.left < members {
+        return spot;
+    }
+    Spot {
+        place: spot.place + width,
+        left: spot.left - members,
+    }
+}
+
+/// The spot behind stretches that have so many members, if these are no more than are to pass; else the one that there was.
+#[inline(always)]
+pub fn spot_behind(spot: Spot, place: usize, to_pass: u32, members: u32) -> Spot
+    ensures stays_place { to_pass < members → result.place ≡ spot.place }
+    ensures stays_left { to_pass < members → result.left ≡ spot.left }
+    ensures moves_place { members ≤ to_pass → result.place ≡ place }
+    ensures moves_left { members ≤ to_pass → result.left + members ≡ to_pass }
+{
+    if to_pass < members {
+        return spot;
+    }
+    Spot {
+        place,
+        left: to_pass - members,
+    }
 }
 
 /// Of twice as many places as `width`, the half in which the bit stands that a scan is looking for.
@@ -63,14 +95,7 @@ fn half(word: u64, spot: Spot, width: usize) -> Spot
     ensures near { result.place ≤ spot.place + width }
 {
     let low = word >> spot.place & ((1 << width) - 1);
-    let ones = low.count_ones();
-    if spot.left < ones {
-        return spot;
-    }
-    Spot {
-        place: spot.place + width,
-        left: spot.left - ones,
-    }
+    pass_over(spot, width, low.count_ones())
 }
 
 /// The bit of a word that stands behind as many as are to pass.

@@ -1,27 +1,45 @@
-use Rattle.std.proofs.Common.{◌<◌, slice_get, get_or, ap, sym, subst, ◌∙◌}
+use Rattle.std.proofs.Common.{◌≤◌, ◌<◌, slice_get, get_or, length, ap, refl, sym, subst, ◌∙◌, arith}
+use Rattle.std.proofs.lemmas.List.{get_or_read}
+use Rattle.std.specs.Prelude.{SomeIff}
 use Rattle.enabled_set.specs.Members.{members}
 use Rattle.enabled_set.specs.Words.{has_bit, places_of}
 use Rattle.enabled_set.specs.Counts.{tally}
-use Rattle.enabled_set.proofs.Nth.{enough_lots, enough_groups, enough_words, passed, nth_none, nth_some}
+use Rattle.enabled_set.proofs.Nth.{enough_lots, enough_groups, enough_words, word_there, passed, nth_none, nth_some}
 use Rattle.enabled_set.proofs.set.EnabledSet.nth.Goals as goal
 
-pub pass-lot-requires : goal.pass-lot-requires
-pass-lot-requires c = enough_lots (places_of c.self.inside.len c.self.inside.words.items) c.self.inside.words.items c.self.inside.by_512.items c.self.inside.by_4096.items c.deref.result.now c.self.inside.total c.args.k c.self.invariant c.deref.ensures.value c.if-k-self.false
+pub pass_in_16-lot-requires : goal.pass_in_16-lot-requires
+pass_in_16-lot-requires c =
+    let lots = enough_lots (places_of c.self.inside.len c.self.inside.words.items) c.self.inside.words.items c.self.inside.by_512.items c.self.inside.by_4096.items c.deref.result.now c.self.inside.total c.args.k c.self.invariant c.deref.ensures.value c.if-k-self.false in
+    record { room = lots.0; enough = lots.1 }
 
-pub pass-group-requires : goal.pass-group-requires
-pass-group-requires c = enough_groups (places_of c.self.inside.len c.self.inside.words.items) c.self.inside.words.items c.self.inside.by_512.items c.self.inside.by_4096.items c.deref.result.now c.deref-2.result.now c.self.inside.total c.pass-lot.result.place c.pass-lot.result.left c.self.invariant c.deref.ensures.value c.deref-2.ensures.value c.pass-lot.ensures.here
+pub pass_in_8-group-requires : goal.pass_in_8-group-requires
+pass_in_8-group-requires c =
+    let groups = enough_groups (places_of c.self.inside.len c.self.inside.words.items) c.self.inside.words.items c.self.inside.by_512.items c.self.inside.by_4096.items c.deref.result.now c.deref-2.result.now c.self.inside.total c.pass_in_16-lot.result.place c.pass_in_16-lot.result.left c.self.invariant c.deref.ensures.value c.deref-2.ensures.value c.pass_in_16-lot.ensures.here in
+    record { room = groups.0; near = omega (arith, c.pass_in_16-lot.ensures.near); enough = groups.1 }
 
 pub pass_words-spot-requires : goal.pass_words-spot-requires
-pass_words-spot-requires c = enough_words (places_of c.self.inside.len c.self.inside.words.items) c.self.inside.words.items c.self.inside.by_512.items c.self.inside.by_4096.items c.deref-2.result.now c.deref-3.result.now c.self.inside.total c.pass-group.result.place c.pass-group.result.left c.self.invariant c.deref-2.ensures.value c.deref-3.ensures.value c.pass-group.ensures.here
+pass_words-spot-requires c =
+    let words = enough_words (places_of c.self.inside.len c.self.inside.words.items) c.self.inside.words.items c.self.inside.by_512.items c.self.inside.by_4096.items c.deref-2.result.now c.deref-3.result.now c.self.inside.total c.pass_in_8-group.result.place c.pass_in_8-group.result.left c.self.invariant c.deref-2.ensures.value c.deref-3.ensures.value c.pass_in_8-group.ensures.here in
+    record { room = words.0; near = omega (arith, c.pass_in_16-lot.ensures.near, c.pass_in_8-group.ensures.near); enough = words.1 }
 
 pub returns-then-k-self : goal.returns-then-k-self
 returns-then-k-self c = sym (ap (λ bits. slice_get (members bits) c.args.k) (sym c.self.view_is) ∙ nth_none (places_of c.self.inside.len c.self.inside.words.items) c.self.inside.words.items c.self.inside.by_512.items c.self.inside.by_4096.items c.self.inside.total c.args.k c.self.invariant c.if-k-self.true)
 
+pub index-requires : goal.index-requires
+index-requires c =
+    let there = word_there (places_of c.self.inside.len c.self.inside.words.items) c.self.inside.words.items c.self.inside.by_512.items c.self.inside.by_4096.items c.deref-2.result.now c.deref-3.result.now c.self.inside.total c.pass_in_8-group.result.place c.pass_in_8-group.result.left c.pass_words-spot.result.place c.self.invariant c.deref-2.ensures.value c.deref-3.ensures.value c.pass_in_8-group.ensures.here c.pass_words-spot.ensures.near in
+    omega (arith, c.deref-3.ensures.len, ap length c.deref-3.ensures.value)
+
 pub find_bit-at-requires : goal.find_bit-at-requires
-find_bit-at-requires c = subst (λ word. c.pass_words-spot.result.left < tally (has_bit word) 64) (ap (λ words. get_or words c.pass_words-spot.result.place 0) (c.deref-3.ensures.value ∙ sym c.deref-4.ensures.value) ∙ sym c.word_at.ensures) c.pass_words-spot.ensures.here
+find_bit-at-requires c =
+    let there = word_there (places_of c.self.inside.len c.self.inside.words.items) c.self.inside.words.items c.self.inside.by_512.items c.self.inside.by_4096.items c.deref-2.result.now c.deref-3.result.now c.self.inside.total c.pass_in_8-group.result.place c.pass_in_8-group.result.left c.pass_words-spot.result.place c.self.invariant c.deref-2.ensures.value c.deref-3.ensures.value c.pass_in_8-group.ensures.here c.pass_words-spot.ensures.near in
+    let read = get_or_read c.self.inside.words.items c.pass_words-spot.result.place c.index.result.now there c.index.ensures 0 in
+    subst (λ word. c.pass_words-spot.result.left < tally (has_bit word) 64) (ap (λ words. get_or words c.pass_words-spot.result.place 0) c.deref-3.ensures.value ∙ sym read) c.pass_words-spot.ensures.here
 
 pub returns : goal.returns
 returns c =
-    let reached = passed (places_of c.self.inside.len c.self.inside.words.items) c.self.inside.words.items c.self.inside.by_512.items c.self.inside.by_4096.items c.deref.result.now c.deref-2.result.now c.deref-3.result.now c.self.inside.total c.args.k c.pass-lot.result.place c.pass-lot.result.left c.pass-group.result.place c.pass-group.result.left c.pass_words-spot.result.place c.pass_words-spot.result.left c.self.invariant c.deref.ensures.value c.deref-2.ensures.value c.deref-3.ensures.value c.pass-lot.ensures.passed c.pass-group.ensures.passed c.pass_words-spot.ensures.passed in
-    nth_some (places_of c.self.inside.len c.self.inside.words.items) c.self.inside.words.items c.self.inside.by_512.items c.self.inside.by_4096.items c.deref-4.result.now c.self.inside.total c.args.k c.word_at.result c.pass_words-spot.result.place c.pass_words-spot.result.left c.find_bit-at.result c.new.result c.self.invariant c.deref-4.ensures.value c.word_at.ensures reached c.find_bit-at.ensures.inside c.find_bit-at.ensures.on c.find_bit-at.ensures.passed c.new.ensures
+    let there = word_there (places_of c.self.inside.len c.self.inside.words.items) c.self.inside.words.items c.self.inside.by_512.items c.self.inside.by_4096.items c.deref-2.result.now c.deref-3.result.now c.self.inside.total c.pass_in_8-group.result.place c.pass_in_8-group.result.left c.pass_words-spot.result.place c.self.invariant c.deref-2.ensures.value c.deref-3.ensures.value c.pass_in_8-group.ensures.here c.pass_words-spot.ensures.near in
+    let read = get_or_read c.self.inside.words.items c.pass_words-spot.result.place c.index.result.now there c.index.ensures 0 in
+    let reached = passed (places_of c.self.inside.len c.self.inside.words.items) c.self.inside.words.items c.self.inside.by_512.items c.self.inside.by_4096.items c.deref.result.now c.deref-2.result.now c.deref-3.result.now c.self.inside.total c.args.k c.pass_in_16-lot.result.place c.pass_in_16-lot.result.left c.pass_in_8-group.result.place c.pass_in_8-group.result.left c.pass_words-spot.result.place c.pass_words-spot.result.left c.self.invariant c.deref.ensures.value c.deref-2.ensures.value c.deref-3.ensures.value c.pass_in_16-lot.ensures.passed c.pass_in_8-group.ensures.passed c.pass_words-spot.ensures.passed in
+    nth_some (places_of c.self.inside.len c.self.inside.words.items) c.self.inside.words.items c.self.inside.by_512.items c.self.inside.by_4096.items c.self.inside.words.items c.self.inside.total c.args.k c.index.result.now c.pass_words-spot.result.place c.pass_words-spot.result.left c.find_bit-at.result c.new.result c.self.invariant refl read reached c.find_bit-at.ensures.inside c.find_bit-at.ensures.on c.find_bit-at.ensures.passed (subst (λ n. SomeIff c.new.result ((1 ≤ n) × (n ≤ 65535)) n) c.from.ensures c.new.ensures)
     ∙ ap (λ bits. slice_get (members bits) c.args.k) c.self.view_is

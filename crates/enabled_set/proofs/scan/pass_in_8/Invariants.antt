@@ -1,0 +1,10 @@
+use Rattle.std.proofs.Common.{◌+◌, ◌*◌, ◌≤◌}
+use Rattle.enabled_set.specs.Counts.{before}
+use Rattle.enabled_set.proofs.Halves.{IsPassed}
+use Rattle.enabled_set.proofs.scan.pass_in_8.Given as goal
+
+abbrev pub invariant-loop-at : goal.invariant-loop-at
+invariant-loop-at l = record {
+  scan : IsPassed (before l.counts) l.from l.at l.spot.place l.spot.left l.sum l.to_pass;
+  few : l.sum + 65535 * l.from ≤ 65535 * l.at;
+}
