@@ -4,7 +4,7 @@ use lib.Ieee.Fits.{and_l, and_r}
 use Rattle.std.specs.Fmt.{decimal}
 use Rattle.std.proofs.lemmas.Fmt.{decimal_digit}
 use Rattle.itoa.proofs.Decimal.{pair, decimal_two, decimal_pair, decimal_four}
-use Rattle.line_text.specs.declared.numbers.TheConstants.{PAIRS}
+use Rattle.line_text.specs.declared.room.TheConstants.{PAIRS}
 
 -- the first so many pairs of the table are right
 abbrev are_pairs : ℕ → Bool

@@ -1,4 +1,6 @@
 pub mod Decimals
+pub mod Windows
+pub mod Placed
 pub mod Growing
 pub mod Spaces
 pub mod Digits

@@ -1,5 +1,5 @@
 -- What the readers of a line's parts say of the bytes that they are given.
-use Rattle.std.specs.Prelude.{◌≡◌, ◌≢◌, ℕ, List, ◌++◌, length, Option, None, Some, MatchOption, slice_index, codes}
+use Rattle.std.specs.Prelude.{◌≡◌, ◌≢◌, Bool, true, false, ℕ, List, ◌++◌, length, Option, None, Some, MatchOption, slice_index, codes}
 use Rattle.std.specs.Int.{IsInRange}
 use Rattle.rule_machine.specs.declared.choice.Item.{Item}
 use Rattle.line_text.specs.Words.{number_text, IsName, spaced}
@@ -47,3 +47,8 @@ SpellsChoice bytes = (items : List Item) × IsChoice items × (bytes ≡ spaced 
 -- the same, and how many items there are
 abbrev pub HasItems : List ℕ → ℕ → Type 0
 HasItems bytes count = (items : List Item) × IsChoice items × (bytes ≡ spaced item_text items) × (length items ≡ count)
+
+-- what was put where it is kept, if anything was
+abbrev pub kept_if : {X : Type 0} → Bool → X → Option X
+kept_if true x = Some x
+kept_if false x = None

@@ -3,7 +3,7 @@
 ghost use Rattle.std.specs.Prelude.{◌≡◌, ℕ, List, Option, Bool, ⊤, IfOk, IfSome, OnErr, MatchOption};
 ghost use Rattle.line_text.specs.Words.{IsName, spaced};
 ghost use Rattle.line_text.specs.EventText.{IsChoice, Spells, SpellsStep, NotACommand, pair_text, point_text, flag_text, bool_text, target_text, item_text};
-ghost use Rattle.line_text.specs.Reading.{Reads, ReadsTwo};
+ghost use Rattle.line_text.specs.Reading.{Reads, ReadsTwo, kept_if};
 
 use crate::front::after;
 use crate::items::read_items;
@@ -76,46 +76,80 @@ fn read_flag(bytes: &[u8]) -> Option<(Node, bool)>
     Some((node, value))
 }
 
-/// Reads the command that a line is; `None` where it is none. Memory is for the items of a step alone, and a line that is
-/// no command wants none.
+// Puts an event that was found where the caller keeps it; whether one was.
 #[inline(always)]
+fn put(event: &mut Event, found: Option<Event>) -> bool
+    ensures { kept_if result event.new ≡ found }
+{
+    let Some(found) = found else {
+        return false;
+    };
+    *event = found;
+    true
+}
+
+/// Reads the command that a line is and puts it where the caller keeps it, so that none is moved; false where the line is none.
+/// Memory is for the items of a step alone, and a line that is no command wants none.
+#[inline(always)]
+pub fn read_command_into(alloc: Global, line: &[u8], event: &mut Event) -> Result<bool, Want>
+    ensures command { IfOk result
+        (λ is_one. MatchOption (kept_if is_one event.new) (NotACommand line.now) (λ found. Spells line.now found)) }
+    ensures memory { OnErr result (SpellsStep line.now) }
+{
+    if let Some(rest) = after(line, b"show ") {
+        return Ok(put(event, read_last(rest).map(|node| Event::Show(node))));
+    }
+    if let Some(rest) = after(line, b"step") {
+        return Ok(put(
+            event,
+            read_items(alloc, rest)?.map(|choice| Event::Step(choice)),
+        ));
+    }
+    if let Some(rest) = after(line, b"link ") {
+        return Ok(put(event, read_pair(rest).map(|(a, b)| Event::Link(a, b))));
+    }
+    if let Some(rest) = after(line, b"unlink ") {
+        return Ok(put(event, read_pair(rest).map(|(a, b)| Event::Unlink(a, b))));
+    }
+    if let Some(rest) = after(line, b"point ") {
+        return Ok(put(
+            event,
+            read_point(rest).map(|(node, target)| Event::Point(node, target)),
+        ));
+    }
+    if let Some(rest) = after(line, b"flag ") {
+        return Ok(put(
+            event,
+            read_flag(rest).map(|(node, value)| Event::Flag(node, value)),
+        ));
+    }
+    if let Some(rest) = after(line, b"join ") {
+        return Ok(put(event, read_last(rest).map(|node| Event::Join(node))));
+    }
+    if let Some(rest) = after(line, b"leave ") {
+        return Ok(put(event, read_last(rest).map(|node| Event::Leave(node))));
+    }
+    if line == b"enabled".as_slice() {
+        return Ok(put(event, Some(Event::Enabled)));
+    }
+    if line == b"matching".as_slice() {
+        return Ok(put(event, Some(Event::Matching)));
+    }
+    if line == b"status".as_slice() {
+        return Ok(put(event, Some(Event::Status)));
+    }
+    Ok(put(event, None))
+}
+
+/// The same; gives the command, `None` where the line is none.
 pub fn read_command(alloc: Global, line: &[u8]) -> Result<Option<Event>, Want>
     ensures command { IfOk result
         (λ found. MatchOption found (NotACommand line.now) (λ event. Spells line.now event)) }
     ensures memory { OnErr result (SpellsStep line.now) }
 {
-    if let Some(rest) = after(line, b"show ") {
-        return Ok(read_last(rest).map(|node| Event::Show(node)));
+    let mut event = Event::Status;
+    if !read_command_into(alloc, line, &mut event)? {
+        return Ok(None);
     }
-    if let Some(rest) = after(line, b"step") {
-        return Ok(read_items(alloc, rest)?.map(|choice| Event::Step(choice)));
-    }
-    if let Some(rest) = after(line, b"link ") {
-        return Ok(read_pair(rest).map(|(a, b)| Event::Link(a, b)));
-    }
-    if let Some(rest) = after(line, b"unlink ") {
-        return Ok(read_pair(rest).map(|(a, b)| Event::Unlink(a, b)));
-    }
-    if let Some(rest) = after(line, b"point ") {
-        return Ok(read_point(rest).map(|(node, target)| Event::Point(node, target)));
-    }
-    if let Some(rest) = after(line, b"flag ") {
-        return Ok(read_flag(rest).map(|(node, value)| Event::Flag(node, value)));
-    }
-    if let Some(rest) = after(line, b"join ") {
-        return Ok(read_last(rest).map(|node| Event::Join(node)));
-    }
-    if let Some(rest) = after(line, b"leave ") {
-        return Ok(read_last(rest).map(|node| Event::Leave(node)));
-    }
-    if line == b"enabled".as_slice() {
-        return Ok(Some(Event::Enabled));
-    }
-    if line == b"matching".as_slice() {
-        return Ok(Some(Event::Matching));
-    }
-    if line == b"status".as_slice() {
-        return Ok(Some(Event::Status));
-    }
-    Ok(None)
+    Ok(Some(event))
 }

@@ -1,15 +1,22 @@
 //! The lines of a transcript.
 
-ghost use Rattle.std.specs.Prelude.{◌≡◌, [], ◌∷◌, ◌++◌, codes, OnOk, OnErr};
-ghost use Rattle.line_text.specs.EventText.{IsEvent};
-ghost use Rattle.line_text.specs.ReplyText.{IsReply, reply_text};
+ghost use Rattle.std.specs.Prelude.{◌≡◌, ◌+◌, ◌<◌, ◌≤◌, [], ◌∷◌, ◌++◌, length, codes, take, IfSome, OnOk, OnErr};
+ghost use Rattle.rule_machine.specs.declared.event.Event.TheVariants.{Step};
+ghost use Rattle.rule_machine.specs.declared.reply.Reply.TheVariants.{Moves};
+ghost use Rattle.line_text.specs.EventText.{IsEvent, IsItem};
+ghost use Rattle.line_text.specs.ReplyText.{IsMoved, IsReply, reply_text};
 ghost use Rattle.line_text.specs.EntryText.{sizes_text, header_line, entry_line, numbered_text};
 ghost use Rattle.line_text.specs.Growth.{Extends};
 
 use crate::events::put_event;
 use crate::numbers::{put_name_then, put_number, put_number_then};
 use crate::replies::put_reply;
-use rule_machine::{Event, Reply, RuleSet, Want};
+use crate::room::{TOO_LONG, put_digits, put_window};
+use crate::word::Word;
+use rule_machine::{Event, Item, Moved, Reply, RuleSet, Want};
+
+// More than the entry of one item and one move takes.
+const ROOM: usize = 72;
 
 // Writes how many names there are and, where not all of them are present, how many are.
 fn put_sizes(out: &mut Vec<u8>, size: u32, count: u32) -> Result<(), Want>
@@ -57,11 +64,59 @@ fn append_answer(out: &mut Vec<u8>, reply: &Reply) -> Result<(), Want>
     }
 }
 
+// The item and the move of a step that has one of each.
+#[inline(always)]
+fn one_move<'a>(event: &'a Event, reply: &'a Reply) -> Option<(&'a Item, &'a Moved)>
+    ensures { IfSome result (λ pair. (event.now ≡ Step (pair.0.now ∷ [])) × (reply.now ≡ Moves (pair.1.now ∷ []))) }
+{
+    let (Event::Step(choice), Reply::Moves(moves)) = (event, reply) else {
+        return None;
+    };
+    match (choice.items(), moves.as_slice()) {
+        ([item], [moved]) => Some((item, moved)),
+        _ => None,
+    }
+}
+
+// Writes the entry of a step that has one item and one move at a place, and gives the place behind it.
+#[inline(always)]
+fn put_one_move(room: &mut [u8], at: usize, number: u32, item: &Item, moved: &Moved) -> usize
+    requires below { number < 1000000 }
+    requires space { at + 72 ≤ length room.old }
+    ensures text { take result room.new ≡ take at room.old ++ entry_line number (Step (item.now ∷ [])) (Moves (moved.now ∷ [])) }
+    ensures fit { IsItem item.now × IsMoved moved.now }
+{
+    let at = put_digits(room, at, number, b' ');
+    let at = put_window(room, at, *b"step    ", 5);
+    let at = item.put(room, at, b' ');
+    let at = put_window(room, at, *b"=       ", 2);
+    moved.put(room, at, b'\n')
+}
+
+// Writes the entry of a step that has one item and one move: one look for room.
+fn append_one_move(out: &mut Vec<u8>, number: u32, item: &Item, moved: &Moved) -> Result<(), Want>
+    requires { number < 1000000 }
+    ensures ok { OnOk result (out.new.items ≡ out.old.items ++ entry_line number (Step (item.now ∷ [])) (Moves (moved.now ∷ []))) }
+    ensures err { OnErr result (out.new.items ≡ out.old.items) }
+    ensures fit { OnOk result (IsItem item.now × IsMoved moved.now) }
+{
+    let at = out.len();
+    out.extend_from_slice(&[0; ROOM])?;
+    let end = put_one_move(out.as_mut_slice(), at, number, item, moved);
+    out.truncate(end);
+    Ok(())
+}
+
 fn append_entry(out: &mut Vec<u8>, number: u32, event: &Event, reply: &Reply) -> Result<(), Want>
     ensures ok { OnOk result (out.new.items ≡ out.old.items ++ entry_line number event.now reply.now) }
     ensures err { OnErr result (Extends out.old.items out.new.items) }
     ensures named { OnOk result (IsEvent event.now × IsReply reply.now) }
 {
+    if let Some((item, moved)) = one_move(event, reply)
+        && number < TOO_LONG
+    {
+        return append_one_move(out, number, item, moved);
+    }
     put_number_then(out, number, b' ')?;
     put_event(out, event)?;
     append_answer(out, reply)

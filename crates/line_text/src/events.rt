@@ -6,6 +6,7 @@ ghost use Rattle.line_text.specs.EventText.{IsEvent, IsItem, event_text, item_te
 ghost use Rattle.line_text.specs.Growth.{Extends};
 
 use crate::numbers::{put_name, put_name_then, put_target};
+use crate::room::put_node;
 use crate::word::{Word, put_spaced};
 use rule_machine::{Event, Item, Node, Want};
 
@@ -42,12 +43,13 @@ impl Word for Item {
 
     ghost fits = { IsItem };
 
-    fn put_then(&self, out: &mut Vec<u8>, behind: u8) -> Result<(), Want> {
+    #[inline(always)]
+    fn put(&self, room: &mut [u8], at: usize, behind: u8) -> usize {
         let Some(wish) = self.wish else {
-            return put_name_then(out, self.node, behind);
+            return put_node(room, at, self.node, behind);
         };
-        put_name_then(out, self.node, b'>')?;
-        put_name_then(out, wish, behind)
+        let at = put_node(room, at, self.node, b'>');
+        put_node(room, at, wish, behind)
     }
 }
 

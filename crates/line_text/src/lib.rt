@@ -12,10 +12,11 @@ mod names;
 mod numbers;
 mod numeral;
 mod replies;
+mod room;
 mod word;
 
 pub use base::put_base;
-pub use command::{read_bool, read_command, read_target};
+pub use command::{read_bool, read_command, read_command_into, read_target};
 pub use entry::{put_entry, put_entry_of_line, put_header};
 pub use front::after;
 pub use law::one_reading;

@@ -11,12 +11,15 @@ use rule_machine::Node;
 /// The most digits that a name has.
 const MAX_DIGITS: usize = 5;
 
-// How many digits stand at the front, and the number that they say where they are no more than a name has.
-fn read_digits(bytes: &[u8]) -> (usize, u32)
+/// The most digits that are read in one pass.
+pub(crate) const FEW_DIGITS: usize = 8;
+
+/// How many digits stand at the front, and the number that they say where they are few.
+pub(crate) fn read_digits(bytes: &[u8]) -> (usize, u32)
     ensures within { result.0 ≤ length bytes.now }
     ensures digits { AllDigits 10 (take result.0 bytes.now) }
     ensures ends { NoDigit (drop result.0 bytes.now) }
-    ensures value { result.0 ≤ 5 → result.1 ≡ digits_value 10 (take result.0 bytes.now) }
+    ensures value { result.0 ≤ 8 → result.1 ≡ digits_value 10 (take result.0 bytes.now) }
 {
     let mut value = 0u32;
     for (i, byte) in bytes.iter().enumerate() {

@@ -1,24 +1,50 @@
 //! Replies at the end of a text.
 
-ghost use Rattle.std.specs.Prelude.{◌≡◌, [], ◌∷◌, ◌++◌, OnOk, OnErr};
+ghost use Rattle.std.specs.Prelude.{◌≡◌, [], ◌∷◌, ◌++◌, ◌+◌, ◌≤◌, length, take, OnOk, OnErr};
 ghost use Rattle.line_text.specs.ReplyText.{IsCount, IsCounts, IsEnabled, IsMoved, IsPair, IsReply, act_word, counts_text, enabled_text, field_text, move_text, mutual_text, refusal_words, reply_text};
 ghost use Rattle.line_text.specs.Growth.{Extends};
 
-use crate::numbers::{put_name_then, put_number, put_number_then, put_target};
+use crate::numbers::{put_number, put_number_then, put_target};
+use crate::room::{put_node, put_window};
 use crate::word::{Word, put_joined, put_joined_or};
 use rule_machine::{Act, Counts, Edge, Moved, Node, Refusal, Reply, Want};
 
-// Writes a rule's word, and the byte behind it: one look for room.
-fn put_act_then(out: &mut Vec<u8>, act: Act, behind: u8) -> Result<(), Want>
-    ensures ok { OnOk result (out.new.items ≡ out.old.items ++ (act_word act ++ behind ∷ [])) }
-    ensures err { OnErr result (out.new.items ≡ out.old.items) }
+// A rule's word at the front of a window.
+#[inline(always)]
+fn act_window(act: Act) -> [u8; 8]
+    ensures { take (length (act_word act)) result ≡ act_word act }
 {
     match act {
-        Act::Update => out.extend_from_slice(&[b'u', b'p', b'd', b'a', b't', b'e', behind]),
-        Act::Marry => out.extend_from_slice(&[b'm', b'a', b'r', b'r', b'y', behind]),
-        Act::Seduce => out.extend_from_slice(&[b's', b'e', b'd', b'u', b'c', b'e', behind]),
-        Act::Abandon => out.extend_from_slice(&[b'a', b'b', b'a', b'n', b'd', b'o', b'n', behind]),
+        Act::Update => *b"update  ",
+        Act::Marry => *b"marry   ",
+        Act::Seduce => *b"seduce  ",
+        Act::Abandon => *b"abandon ",
     }
+}
+
+// How many bytes a rule's word has.
+#[inline(always)]
+fn act_length(act: Act) -> usize
+    ensures { result ≡ length (act_word act) }
+{
+    match act {
+        Act::Update | Act::Seduce => 6,
+        Act::Marry => 5,
+        Act::Abandon => 7,
+    }
+}
+
+// Writes a rule's word and the byte behind it at a place, and gives the place behind them. No branch tells the rule.
+#[inline(always)]
+fn put_act(room: &mut [u8], at: usize, act: Act, behind: u8) -> usize
+    requires { at + 8 ≤ length room.old }
+    ensures text { take result room.new ≡ take at room.old ++ (act_word act ++ behind ∷ []) }
+    ensures within { result ≤ at + 8 }
+    ensures len { length room.new ≡ length room.old }
+{
+    let end = put_window(room, at, act_window(act), act_length(act));
+    room[end] = behind;
+    end + 1
 }
 
 fn put_refusal(out: &mut Vec<u8>, refusal: Refusal) -> Result<(), Want>
@@ -34,13 +60,14 @@ impl Word for Moved {
 
     ghost fits = { IsMoved };
 
-    fn put_then(&self, out: &mut Vec<u8>, behind: u8) -> Result<(), Want> {
-        put_name_then(out, self.node, b':')?;
+    #[inline(always)]
+    fn put(&self, room: &mut [u8], at: usize, behind: u8) -> usize {
+        let at = put_node(room, at, self.node, b':');
         let Some(target) = self.target else {
-            return put_act_then(out, self.act, behind);
+            return put_act(room, at, self.act, behind);
         };
-        put_act_then(out, self.act, b'>')?;
-        put_name_then(out, target, behind)
+        let at = put_act(room, at, self.act, b'>');
+        put_node(room, at, target, behind)
     }
 }
 
@@ -49,9 +76,10 @@ impl Word for (Node, Act) {
 
     ghost fits = { IsEnabled };
 
-    fn put_then(&self, out: &mut Vec<u8>, behind: u8) -> Result<(), Want> {
-        put_name_then(out, self.0, b':')?;
-        put_act_then(out, self.1, behind)
+    #[inline(always)]
+    fn put(&self, room: &mut [u8], at: usize, behind: u8) -> usize {
+        let at = put_node(room, at, self.0, b':');
+        put_act(room, at, self.1, behind)
     }
 }
 
@@ -60,9 +88,10 @@ impl Word for Edge {
 
     ghost fits = { IsPair };
 
-    fn put_then(&self, out: &mut Vec<u8>, behind: u8) -> Result<(), Want> {
-        put_name_then(out, self.low(), b'-')?;
-        put_name_then(out, self.high(), behind)
+    #[inline(always)]
+    fn put(&self, room: &mut [u8], at: usize, behind: u8) -> usize {
+        let at = put_node(room, at, self.low(), b'-');
+        put_node(room, at, self.high(), behind)
     }
 }
 

@@ -1,6 +1,6 @@
 //! Words, and lists of them, at the end of a text.
 
-ghost use Rattle.std.specs.Prelude.{◌≡◌, [], ◌∷◌, ◌++◌, List, ℕ, OnOk, OnErr};
+ghost use Rattle.std.specs.Prelude.{◌≡◌, [], ◌∷◌, ◌++◌, ◌+◌, ◌≤◌, List, ℕ, length, take, codes, OnOk, OnErr};
 ghost use Rattle.std.specs.List.{AllByRecursion};
 ghost use Rattle.line_text.specs.Words.{space_ended, spaced, joined, joined_or};
 ghost use Rattle.line_text.specs.Growth.{Extends};
@@ -15,11 +15,30 @@ pub(crate) trait Word {
     // What each value of the type meets.
     ghost fits: { Self → Type 0 };
 
-    /// Writes the word, and the byte behind it.
-    fn put_then(&self, out: &mut Vec<u8>, behind: u8) -> Result<(), Want>
-        ensures ok { OnOk result (out.new.items ≡ out.old.items ++ (text self.now ++ behind ∷ [])) }
-        ensures err { OnErr result (Extends out.old.items out.new.items) }
-        ensures fit { OnOk result (fits self.now) };
+    /// Writes the word and the byte behind it at a place, and gives the place behind them.
+    fn put(&self, room: &mut [u8], at: usize, behind: u8) -> usize
+        requires { at + 24 ≤ length room.old }
+        ensures text { take result room.new ≡ take at room.old ++ (text self.now ++ behind ∷ []) }
+        ensures within { result ≤ at + 24 }
+        ensures len { length room.new ≡ length room.old }
+        ensures fit { fits self.now };
+}
+
+// More than any word and the byte behind it take.
+const ROOM: usize = 24;
+
+// Writes a word, and one space behind it: one look for room.
+#[inline(always)]
+fn put_word<W: Word>(out: &mut Vec<u8>, word: &W) -> Result<(), Want>
+    ensures ok { OnOk result (out.new.items ≡ out.old.items ++ (W.text word.now ++ codes " ")) }
+    ensures err { OnErr result (out.new.items ≡ out.old.items) }
+    ensures fit { OnOk result (W.fits word.now) }
+{
+    let at = out.len();
+    out.extend_from_slice(&[0; ROOM])?;
+    let end = word.put(out.as_mut_slice(), at, b' ');
+    out.truncate(end);
+    Ok(())
 }
 
 // Writes each word, and one space behind it.
@@ -29,7 +48,7 @@ fn put_each<W: Word>(out: &mut Vec<u8>, words: &[W]) -> Result<(), Want>
     ensures fit { OnOk result (AllByRecursion W.fits words.now) }
 {
     for word in words {
-        word.put_then(out, b' ')?;
+        put_word(out, word)?;
     }
     Ok(())
 }

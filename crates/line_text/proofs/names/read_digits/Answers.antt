@@ -9,11 +9,11 @@ use Rattle.line_text.proofs.Digits.{own}
 use Rattle.line_text.proofs.names.read_digits.Goals as goal
 
 -- the number with one digit more, of which nothing wraps
-step : (bytes : List ℕ) (i value digit : ℕ) → i < length bytes → i ≤ 5 → AllDigits 10 (take i bytes) → IsInRange 48 57 (get_or bytes i 0)
+step : (bytes : List ℕ) (i value digit : ℕ) → i < length bytes → i ≤ 8 → AllDigits 10 (take i bytes) → IsInRange 48 57 (get_or bytes i 0)
     → value ≡ digits_value 10 (take i bytes) → digit + 48 ≡ get_or bytes i 0 → (value * 10 % 4294967296 + digit) % 4294967296 ≡ digits_value 10 (take (i + 1) bytes)
 step bytes i value digit lt few d r is from =
     let k : length (take i bytes) ≡ i = length-take-le i bytes (omega (arith, lt)) in
-    let short : value < 100000 = omega (arith, is, digits_value_short own (take i bytes) 5 d (omega (arith, k, few))) in
+    let short : value < 100000000 = omega (arith, is, digits_value_short own (take i bytes) 8 d (omega (arith, k, few))) in
     omega (arith, short, is, from, r.0, r.1, digits_value_more 10 bytes i lt, digit_value_digit (get_or bytes i 0) r)
 
 pub loop-i-preserved : goal.loop-i-preserved

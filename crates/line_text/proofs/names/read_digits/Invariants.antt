@@ -5,5 +5,5 @@ use Rattle.line_text.proofs.names.read_digits.Given as goal
 abbrev pub invariant-loop-i : goal.invariant-loop-i
 invariant-loop-i l = record {
   digits : AllDigits 10 (take l.i l.bytes);
-  value : l.i ≤ 5 → l.value ≡ digits_value 10 (take l.i l.bytes);
+  value : l.i ≤ 8 → l.value ≡ digits_value 10 (take l.i l.bytes);
 }

@@ -1,0 +1,28 @@
+use Rattle.std.proofs.Common.{◌≡◌, ℕ, Bool, true, false, not, Ok, Result, refl, sym, subst, ap, ◌∙◌}
+use Rattle.std.specs.Str.{IsAscii}
+use Rattle.std.specs.Cmp.Lexicographic.{other_text}
+use Rattle.std.proofs.lemmas.Str.{IsUtf8-from_ascii}
+use Rattle.std.proofs.lemmas.Fmt.{IsAscii-decimal, parse-decimal}
+use Rattle.line_text.specs.Words.{number_text}
+use Rattle.line_text.proofs.numeral.read_long.Goals as goal
+
+same_ok : {E : Type 0} (r : Result ℕ E) (m n : ℕ) → r ≡ Ok m → r ≡ Ok n → m ≡ n
+same_ok r m n d e = cc
+
+off : (b : Bool) → true ≡ not b → false ≡ b
+off true e = sym e
+off false e = refl
+
+pub returns-in_default : goal.returns-in_default
+returns-in_default c n small e =
+    c.in_default.ensures.cases.0 (IsUtf8-from_ascii c.args.bytes.now (subst IsAscii (sym e) (IsAscii-decimal n small)))
+
+pub returns-in_default-from_str_radix : goal.returns-in_default-from_str_radix
+returns-in_default-from_str_radix c n small e =
+    c.in_default-from_str_radix.not-Ok n (parse-decimal 64 n c.in-Ok.digits.now c.from_str_radix.result small small (c.in-Ok.ensures.cases.0 ∙ e) c.from_str_radix.ensures.value)
+
+pub returns-then-ne : goal.returns-then-ne
+returns-then-ne c n small e =
+    let parsed = parse-decimal 64 n c.in-Ok.digits.now c.from_str_radix.result small small (c.in-Ok.ensures.cases.0 ∙ e) c.from_str_radix.ensures.value in
+    let same : c.in-Ok-from_str_radix.number ≡ n = same_ok c.from_str_radix.result c.in-Ok-from_str_radix.number n c.in-Ok-from_str_radix.is parsed in
+    other_text c.as_bytes.result.now c.args.bytes.now (off _ c.if-ne.ensures) (c.as_bytes.ensures.value ∙ c.format.ensures.text ∙ ap number_text same ∙ sym e)
