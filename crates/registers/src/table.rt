@@ -52,6 +52,13 @@ impl Registers {
         self.flags[v.place()]
     }
 
+    /// Where each name points, at its place; place 0 is nobody's.
+    pub fn pointers(&self) -> &[Option<Node>]
+        ensures { result.now ≡ self.now.pointers }
+    {
+        &self.pointers
+    }
+
     /// Whether a node points at another. A node that has no place points nowhere.
     pub fn points_at(&self, v: Node, w: Node) -> bool
         ensures { result ≡ points self.now v w }

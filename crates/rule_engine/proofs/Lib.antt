@@ -15,6 +15,7 @@ pub mod Coming
 pub mod Leaving
 pub mod Opening
 pub mod Marked
+pub mod Unmarked
 pub mod Ascending
 pub mod Moments
 pub mod Counted

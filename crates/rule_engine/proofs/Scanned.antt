@@ -1,6 +1,7 @@
 -- Lists that scans of all names, or of the enabled ones, make.
 use Rattle.std.proofs.Common.{◌≡◌, ℕ, ◌+◌, ◌<◌, Bool, true, false, cond, List, [], ◌∷◌, ◌++◌, length, get_or, take, filter, filter_map, SomeIff, Option, None, Some, Result, Ok, is_ok, is_some, option_map, option_to_list, IsTrue, refl, sym, ap, ◌∙◌, subst}
 use Rattle.std.specs.List.{range_with_len, cons_option}
+use Rattle.std.proofs.lemmas.Bool.{true≢false}
 use Rattle.std.proofs.lemmas.List.{append-nil}
 use Rattle.std.proofs.lemmas.List.Elements.{filter_map-append}
 use Rattle.rule_machine.specs.declared.act.Act.{Act}
@@ -64,3 +65,8 @@ skipped_found f before after xs i x within is so_far same none =
 -- what a call that succeeds leaves
 pub ok_branch : {A U E : Type 0} (r : Result U E) (u : U) (x y : A) → r ≡ Ok u → cond (is_ok r) x y ≡ x
 ok_branch r u x y e = ap (λ q. cond (is_ok q) x y) e
+
+-- what is not some is none
+pub none_found : {X : Type 0} (o : Option X) → is_some o ≡ false → o ≡ None
+none_found None is = refl
+none_found (Some x) is = absurd (true≢false is)

@@ -1,5 +1,5 @@
 -- What preparing and carrying out an event brings.
-use Rattle.std.specs.Prelude.{◌≡◌, ℕ, ◌<◌, ◌⊎◌, Bool, true, false, List, [], ◌∷◌, length, take, slice_get, IsSomeAnd, None, Result, IfOk, OnErr, IsTrue}
+use Rattle.std.specs.Prelude.{◌≡◌, ℕ, ◌<◌, ◌⊎◌, Bool, true, false, List, [], ◌∷◌, length, take, slice_get, IsSomeAnd, None, Result, Ok, Err, IfOk, OnErr, IsTrue}
 use Rattle.rule_machine.specs.declared.event.Event.{Event}
 use Rattle.rule_machine.specs.declared.event.Event.TheVariants.{Link, Unlink, Point, Flag, Step, Show, Enabled, Matching, Status, Join, Leave}
 use Rattle.rule_machine.specs.declared.reply.Reply.{Reply}
@@ -26,6 +26,11 @@ takes_memory (Show v) = false
 takes_memory Enabled = true
 takes_memory Matching = true
 takes_memory Status = false
+
+-- the reply that was put where it is kept, or want of memory
+abbrev pub told : {E : Type 0} → Result (Unit {0}) E → Reply → Result Reply E
+told (Ok done) reply = Ok reply
+told (Err e) reply = Err e
 
 -- The machine's reply, where these moves are spent, and room for what carrying it out adds; or want of memory, for an
 -- event that may take some and is not refused. The state stays.

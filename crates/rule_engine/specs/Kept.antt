@@ -36,6 +36,10 @@ pub record IsKept (t : RuleTable) (s : State) (bits marks : List Bool) : Type 0 
 abbrev pub answered_by : Registers → ℕ → Option ℕ
 answered_by r v = option_and_then (λ w. if points r w v then Some w else None) (pointer_of r v)
 
+-- every pointer is null or answered
+abbrev pub AreAnswered : Registers → Type 0
+AreAnswered r = (v : ℕ) → IfSome (pointer_of r v) (λ w. pointer_of r w ≡ Some v)
+
 -- v with the rule that is enabled there
 abbrev pub marked_at : RuleTable → State → ℕ → Option (ℕ × Act)
 marked_at t s v = option_map (λ act. (v, act)) (guard_at t s v)

@@ -1,5 +1,5 @@
 -- Marks of the nodes that the items so far name.
-use Rattle.std.specs.Prelude.{◌≡◌, ℕ, ◌<◌, Bool, false, List, IsSome, nat_eq}
+use Rattle.std.specs.Prelude.{◌≡◌, ℕ, ◌<◌, Bool, false, List, IsSome, length, nat_eq, slice_index_or}
 use Rattle.std.specs.List.{list_any}
 use Rattle.rule_machine.specs.declared.choice.Item.{Item}
 use Rattle.rule_machine.specs.declared.verdict.Verdict.{Verdict}
@@ -18,6 +18,10 @@ AreMarks test marks = (v : ℕ) → is_in marks v ≡ test v
 -- whether one of these items names the node
 abbrev pub is_named : List Item → ℕ → Bool
 is_named items v = list_any (λ i. nat_eq i.node v) items
+
+-- each item names a node above those that the items before it name
+abbrev pub Ascend : List Item → Type 0
+Ascend items = (i j : ℕ) (d : Item) → i < j → j < length items → (slice_index_or items i d).node < (slice_index_or items j d).node
 
 -- whether one of these verdicts is of the node
 abbrev pub is_judged : List Verdict → ℕ → Bool

@@ -1,11 +1,12 @@
 //! Refusals of edits and faults.
 
-ghost use Rattle.std.specs.Prelude.{◌≡◌};
+ghost use Rattle.std.specs.Prelude.{◌≡◌, Ok};
 ghost use Rattle.rule_machine.specs.Refuse.{unlink_refusal, point_refusal, flag_refusal, join_refusal, leave_refusal};
+ghost use Rattle.rule_engine.specs.Applied.{told};
 ghost use Rattle.rule_engine.specs.Refused.{refused_as, edit_reply};
 
 use graph_store::{EdgeStore, GraphFault};
-use rule_machine::{Node, Refusal, Reply};
+use rule_machine::{Node, Refusal, Reply, Want};
 use rule_set::Rules;
 
 /// The refusal for which a fault of the edge store stands; none for want of memory.
@@ -23,14 +24,23 @@ pub(crate) fn refusal_of(fault: GraphFault) -> Option<Refusal>
     }
 }
 
-/// The reply to an edit or a fault: refused for this reason, or accepted where there is none.
-pub(crate) fn edit_reply(refusal: Option<Refusal>) -> Reply
-    ensures { result ≡ edit_reply refusal }
+/// Puts the reply to an edit or a fault where the caller keeps it: refused for this reason, or accepted where there is none.
+pub(crate) fn put_edit(reply: &mut Reply, refusal: Option<Refusal>) -> Result<(), Want>
+    ensures { told result reply.new ≡ Ok (edit_reply refusal) }
 {
     match refusal {
-        Some(refusal) => Reply::Refused(refusal),
-        None => Reply::Accepted,
+        Some(refusal) => *reply = Reply::Refused(refusal),
+        None => *reply = Reply::Accepted,
     }
+    Ok(())
+}
+
+/// Puts a reply that was found where the caller keeps it.
+pub(crate) fn put(reply: &mut Reply, found: Result<Reply, Want>) -> Result<(), Want>
+    ensures { told result reply.new ≡ found }
+{
+    *reply = found?;
+    Ok(())
 }
 
 /// Why an edge is not taken out, if it is not.

@@ -17,16 +17,16 @@ ghost use Rattle.rule_machine.specs.Stable.{IsStable, IsMaximalMatching, mutual_
 ghost use Rattle.rule_machine.specs.declared.event.Event.TheVariants.{Link, Step, Show, Enabled, Matching, Status, Join, Leave};
 ghost use Rattle.rule_machine.specs.declared.reply.Reply.TheVariants.{Accepted};
 ghost use Rattle.rule_engine.specs.Kept.{guard_at, IsAnswered};
-ghost use Rattle.rule_engine.specs.Applied.{Prepares, disturbed};
+ghost use Rattle.rule_engine.specs.Applied.{Prepares, disturbed, told};
 ghost use Rattle.rule_engine.specs.Prepared.{HasRoomTo};
 ghost use Rattle.rule_engine.specs.Choosing.{verdict_of, verdicts_of};
 
 use crate::charge::charge_of;
 use crate::edits::{
-    edit_reply, refusal_of, refused_flag, refused_join, refused_leave, refused_point,
+    put, put_edit, refusal_of, refused_flag, refused_join, refused_leave, refused_point,
     refused_unlink,
 };
-use crate::guard::{outcome, reply_to_one, rule_enabled, take_items};
+use crate::guard::{outcome, put_reply_to_one, rule_enabled, take_items};
 use crate::judge::{refused_size, take_verdicts};
 use crate::listing::{count_pairs, enabled_rules, mutual_edges};
 use crate::look::{look_after_write, look_at, look_at_target};
@@ -158,52 +158,59 @@ impl<R: Rules> Engine<R> {
         charge_of(&self.state, self.is_quiet())
     }
 
-    /// The reply to an event where so many moves are spent, with all the memory had that carrying it out takes. The state
-    /// stays.
+    /// The reply to an event where so many moves are spent, put where the caller keeps it, with all the memory had that
+    /// carrying it out takes. The state stays. A reply is large for what it mostly says, so none is moved from call to call.
     #[inline(always)]
-    pub(crate) fn prepare(&mut self, event: &Event, spent: u32) -> Result<Reply, Want>
-        ensures { Prepares R.table self.old spent event.now result self.new }
+    pub(crate) fn prepare(
+        &mut self,
+        event: &Event,
+        spent: u32,
+        reply: &mut Reply,
+    ) -> Result<(), Want>
+        ensures { Prepares R.table self.old spent event.now (told result reply.new) self.new }
     {
         match event {
-            Event::Link(a, b) => self.prepare_link(*a, *b),
-            Event::Unlink(a, b) => Ok(edit_reply(refused_unlink(self.store(), *a, *b))),
-            Event::Point(v, target) => Ok(edit_reply(refused_point(self.store(), *v, *target))),
-            Event::Flag(v, _) => Ok(edit_reply(refused_flag::<R>(self.store(), *v))),
-            Event::Join(v) => Ok(edit_reply(refused_join(self.store(), *v))),
-            Event::Leave(v) => Ok(edit_reply(refused_leave(self.store(), *v))),
-            Event::Step(choice) => self.prepare_choice(choice),
-            Event::Show(v) => Ok(self.show(*v)),
-            Event::Enabled => self.list_enabled(),
-            Event::Matching => self.list_pairs(),
-            Event::Status => Ok(self.status(spent)),
+            Event::Link(a, b) => self.prepare_link(*a, *b, reply),
+            Event::Unlink(a, b) => put_edit(reply, refused_unlink(self.store(), *a, *b)),
+            Event::Point(v, target) => put_edit(reply, refused_point(self.store(), *v, *target)),
+            Event::Flag(v, _) => put_edit(reply, refused_flag::<R>(self.store(), *v)),
+            Event::Join(v) => put_edit(reply, refused_join(self.store(), *v)),
+            Event::Leave(v) => put_edit(reply, refused_leave(self.store(), *v)),
+            Event::Step(choice) => self.prepare_choice(choice, reply),
+            Event::Show(v) => put(reply, Ok(self.show(*v))),
+            Event::Enabled => put(reply, self.list_enabled()),
+            Event::Matching => put(reply, self.list_pairs()),
+            Event::Status => put(reply, Ok(self.status(spent))),
         }
     }
 
-    fn prepare_link(&mut self, a: Node, b: Node) -> Result<Reply, Want>
-        ensures { (spent : ℕ) → Prepares R.table self.old spent (Link a b) result self.new }
+    fn prepare_link(&mut self, a: Node, b: Node, reply: &mut Reply) -> Result<(), Want>
+        ensures { (spent : ℕ) → Prepares R.table self.old spent (Link a b) (told result reply.new) self.new }
     {
-        match self.state.reserve_link(a, b) {
-            Ok(()) => Ok(Reply::Accepted),
-            Err(fault) => match refusal_of(fault) {
-                Some(refusal) => Ok(Reply::Refused(refusal)),
-                None => Err(AllocError),
-            },
+        let Err(fault) = self.state.reserve_link(a, b) else {
+            return put_edit(reply, None);
+        };
+        let refusal = refusal_of(fault);
+        if refusal.is_none() {
+            return Err(AllocError);
         }
+        put_edit(reply, refusal)
     }
 
-    fn prepare_choice(&mut self, choice: &Choice) -> Result<Reply, Want>
-        ensures { (spent : ℕ) → Prepares R.table self.old spent (Step choice.now) result self.new }
+    fn prepare_choice(&mut self, choice: &Choice, reply: &mut Reply) -> Result<(), Want>
+        ensures { (spent : ℕ) → Prepares R.table self.old spent (Step choice.now) (told result reply.new) self.new }
     {
         let items = choice.items();
         if items.len() == 1 {
-            return Ok(reply_to_one(&self.state, items[0]));
+            put_reply_to_one(reply, &self.state, items[0]);
+            return Ok(());
         }
         if let Some(refusal) = refused_size(R::CENTRAL, items.len()) {
-            return Ok(Reply::Refused(refusal));
+            return put_edit(reply, Some(refusal));
         }
         let mut gathered = Gathered::new(self.alloc, items.len());
         let refused = take_items(&self.state, &mut self.chosen, &mut gathered, items);
-        step_reply(refused, gathered)
+        put(reply, step_reply(refused, gathered))
     }
 
     /// The reply to a step, from the verdicts of its items, without a second look at a guard.
@@ -243,7 +250,12 @@ impl<R: Rules> Engine<R> {
     fn list_pairs(&self) -> Result<Reply, Want>
         ensures { (spent : ℕ) → IfOk result (λ reply. reply ≡ reply_of R.table self.now.state spent Matching) }
     {
-        let pairs = mutual_edges(self.alloc, self.state.store(), self.state.registers())?;
+        let pairs = mutual_edges(
+            self.alloc,
+            self.state.store(),
+            self.state.registers(),
+            self.is_quiet(),
+        )?;
         Ok(Reply::Pairs(Listing::from_vec(pairs)))
     }
 
@@ -254,7 +266,7 @@ impl<R: Rules> Engine<R> {
         Reply::Counts(Counts {
             nodes: store.nodes(),
             edges: store.edges(),
-            pairs: count_pairs(store, self.state.registers()),
+            pairs: count_pairs(store, self.state.registers(), self.is_quiet()),
             enabled: self.enabled.count(),
             charge: self.charge(),
             spent,

@@ -8,6 +8,7 @@ ghost use Rattle.rule_engine.specs.Kept.{guard_at};
 ghost use Rattle.rule_engine.specs.Choosing.{IsToldOf, moves_by};
 ghost use Rattle.rule_engine.specs.Marks.{AreClear, AreMarks, is_named};
 
+use crate::climbing::{ascend, take_ascending};
 use crate::judge::{Taken, accepted, take_outcome};
 use crate::moves::Gathered;
 use enabled_set::EnabledSet;
@@ -98,7 +99,8 @@ fn unmark_items(chosen: &mut EnabledSet, items: &[Item])
 }
 
 /// Gathers the moves of items where none is refused, else says why the first is that is. A look at each item up to that
-/// one, and a search of its node's neighbours where its target is free. The marks are clear again at the end.
+/// one, and a search of its node's neighbours where its target is free. Items that ascend name no node twice; for others the
+/// nodes are marked, and the marks are clear again at the end.
 pub(crate) fn take_items<R: Rules>(
     state: &IndexedState<R>,
     chosen: &mut EnabledSet,
@@ -112,17 +114,20 @@ pub(crate) fn take_items<R: Rules>(
     ensures moves { result ≡ None → IsTrue gathered.new.whole → gathered.new.moves.items ≡ moves_by R.table state.now.state items.now }
     ensures kept { chosen.new ≡ chosen.old }
 {
+    if ascend(items) {
+        return take_ascending(state, gathered, items);
+    }
     let taken = take_up_to_refusal(state, chosen, gathered, items);
     unmark_items(chosen, &items[..taken.count]);
     taken.refusal
 }
 
-/// The reply to a step of one item, which needs no mark: a look at it, and no memory.
-pub(crate) fn reply_to_one<R: Rules>(state: &IndexedState<R>, item: Item) -> Reply
-    ensures { IsToldOf (items_refusal R.table state.now.state [] (item ∷ [])) (moves_by R.table state.now.state (item ∷ [])) result }
+/// Puts the reply to a step of one item, which needs no mark, where the caller keeps it: a look at the item, and no memory.
+pub(crate) fn put_reply_to_one<R: Rules>(reply: &mut Reply, state: &IndexedState<R>, item: Item)
+    ensures { IsToldOf (items_refusal R.table state.now.state [] (item ∷ [])) (moves_by R.table state.now.state (item ∷ [])) reply.new }
 {
     match accepted(outcome(state, item), false) {
-        Ok(moved) => Reply::Moves(Listing::one(moved)),
-        Err(refusal) => Reply::Refused(refusal),
+        Ok(moved) => *reply = Reply::Moves(Listing::one(moved)),
+        Err(refusal) => *reply = Reply::Refused(refusal),
     }
 }

@@ -7,7 +7,7 @@ ghost use Rattle.rule_machine.specs.Least.{move_in};
 ghost use Rattle.rule_engine.specs.Choosing.{moves_of, refused_by, size_refusal, verdicts_refusal};
 ghost use Rattle.rule_engine.specs.Marks.{AreClear, AreMarks, HasPlace, is_judged};
 
-use crate::moves::{Gathered, add_one};
+use crate::moves::Gathered;
 use enabled_set::EnabledSet;
 use rule_machine::{Moved, Node, Outcome, Refusal, Verdict};
 
@@ -61,7 +61,7 @@ pub(crate) fn take_outcome(
     match accepted(outcome, chosen.contains(node)) {
         Ok(moved) => {
             chosen.insert(node);
-            gathered.whole = gathered.whole && add_one(&mut gathered.moves, gathered.items, moved);
+            gathered.add(moved);
             None
         }
         Err(refusal) => Some(refusal),

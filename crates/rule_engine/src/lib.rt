@@ -3,6 +3,7 @@
 
 mod base;
 mod charge;
+mod climbing;
 mod edits;
 mod engine;
 mod guard;

@@ -26,6 +26,15 @@ impl Gathered {
         }
     }
 
+    /// Adds a move, where there was memory so far.
+    #[inline(always)]
+    pub(crate) fn add(&mut self, moved: Moved)
+        ensures whole { IsTrue self.new.whole → IsTrue self.old.whole }
+        ensures moves { IsTrue self.new.whole → self.new.moves.items ≡ self.old.moves.items ++ moved ∷ [] }
+    {
+        self.whole = self.whole && add_one(&mut self.moves, self.items, moved);
+    }
+
     /// The moves, ascending by node, or want of memory; takes none. Moves that ascend already cost one look each.
     pub(crate) fn into_ascending(self) -> Result<Listing<Moved>, Want>
         ensures { IfOk result (λ moves. IsTrue self.whole × AreLeast self.moves.items moves) }

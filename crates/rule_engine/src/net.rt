@@ -177,7 +177,20 @@ impl<R: Rules> Net<R> {
         ensures kept { moment_of self.new ≡ moment_of self.old }
         ensures want { OnErr result ((refusal_of R.table self.old.state event.now ≡ None) × IsTrue (takes_memory event.now)) }
     {
-        self.engine.prepare(event, self.spent)
+        let mut reply = Reply::Accepted;
+        self.prepare_into(event, &mut reply)?;
+        Ok(reply)
+    }
+
+    /// The same with the reply put where the caller keeps it.
+    #[inline(always)]
+    fn prepare_into(&mut self, event: &Event, reply: &mut Reply) -> Result<(), Want>
+        ensures reply { OnOk result (reply.new ≡ reply_of R.table self.old.state self.old.spent event.now) }
+        ensures prepared { OnOk result (IsPrepared R.table self.new event.now reply.new) }
+        ensures kept { moment_of self.new ≡ moment_of self.old }
+        ensures want { OnErr result ((refusal_of R.table self.old.state event.now ≡ None) × IsTrue (takes_memory event.now)) }
+    {
+        self.engine.prepare(event, self.spent, reply)
     }
 
     /// The same for a step, from the verdicts of its items, without a second look at a guard.
@@ -217,9 +230,24 @@ impl<R: Rules> Net<R> {
         ensures kept { OnErr result (moment_of self.new ≡ moment_of self.old) }
         ensures want { OnErr result ((refusal_of R.table self.old.state event.now ≡ None) × IsTrue (takes_memory event.now)) }
     {
-        let reply = self.prepare(event)?;
-        self.commit(event, &reply);
+        let mut reply = Reply::Accepted;
+        self.apply_into(event, &mut reply)?;
         Ok(reply)
+    }
+
+    /// The same with the reply put where the caller keeps it, so that none is moved: it may be any before, and at want of memory
+    /// nothing is said of it.
+    #[inline(always)]
+    pub fn apply_into(&mut self, event: &Event, reply: &mut Reply) -> Result<(), Want>
+        ensures reply { OnOk result (reply.new ≡ reply_of R.table self.old.state self.old.spent event.now) }
+        ensures state { OnOk result (moment_of self.new ≡ moment_after R.table (moment_of self.old) event.now) }
+        ensures machine { OnOk result (Answers R.table self.old.state self.old.spent event.now reply.new self.new.state) }
+        ensures kept { OnErr result (moment_of self.new ≡ moment_of self.old) }
+        ensures want { OnErr result ((refusal_of R.table self.old.state event.now ≡ None) × IsTrue (takes_memory event.now)) }
+    {
+        self.prepare_into(event, reply)?;
+        self.commit(event, reply);
+        Ok(())
     }
 
     /// Carries out events one after another: a run of the rule machine from the moment before to the moment after. At

@@ -1,5 +1,8 @@
 //! What a caller is told of an event.
 
+ghost use Rattle.std.specs.Prelude.{◌≡◌};
+ghost use Rattle.rule_machine.specs.declared.reply.Reply.TheVariants.{Accepted};
+
 use rule_machine::Reply;
 
 /// The number of the event's entry, and the reply to it.
@@ -9,4 +12,17 @@ pub struct Answer {
     pub seq: u32,
     /// What was answered.
     pub reply: Reply,
+}
+
+impl Answer {
+    /// Where answers are put, before the first.
+    pub fn none() -> Answer
+        ensures number { result.seq ≡ 0 }
+        ensures reply { result.reply ≡ Accepted }
+    {
+        Answer {
+            seq: 0,
+            reply: Reply::Accepted,
+        }
+    }
 }

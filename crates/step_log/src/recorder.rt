@@ -114,13 +114,14 @@ impl<R: Rules> Recorder<R> {
         self.net.spent()
     }
 
-    /// Carries out an event, and gives the number of its entry, from 1, and the reply to it. `LogFull` exactly where
-    /// there were as many entries as there may be, which comes before all else; `Memory` if memory runs out. At a fault
-    /// nothing has changed. Takes the memory of the reply and no other.
-    pub fn log(&mut self, event: &Event) -> Result<Answer, RecordFault>
-        ensures number { IfOk result (λ answer. answer.seq ≡ self.old.len + 1) }
-        ensures reply { IfOk result (λ answer. answer.reply ≡ reply_of R.table self.old.state self.old.spent event.now) }
-        ensures machine { IfOk result (λ answer. Answers R.table self.old.state self.old.spent event.now answer.reply self.new.state) }
+    /// Carries out an event, and puts the number of its entry, from 1, and the reply to it where the caller keeps its answers, so
+    /// that none is moved. `LogFull` exactly where there were as many entries as there may be, which comes before all else;
+    /// `Memory` if memory runs out. At a fault the network and its entries have not changed, and nothing is said of the answer.
+    /// Takes the memory of the reply and no other.
+    pub fn log(&mut self, event: &Event, answer: &mut Answer) -> Result<(), RecordFault>
+        ensures number { OnOk result (answer.new.seq ≡ self.old.len + 1) }
+        ensures reply { OnOk result (answer.new.reply ≡ reply_of R.table self.old.state self.old.spent event.now) }
+        ensures machine { OnOk result (Answers R.table self.old.state self.old.spent event.now answer.new.reply self.new.state) }
         ensures below { OnOk result (self.old.len < self.old.limit) }
         ensures recording { OnOk result (self.new ≡ entered R.table self.old event.now) }
         ensures full { self.old.len ≡ self.old.limit → IsErrOf result LogFull }
@@ -130,16 +131,14 @@ impl<R: Rules> Recorder<R> {
         if self.is_full() {
             return Err(RecordFault::LogFull);
         }
-        let reply = self.net.apply(event)?;
+        self.net.apply_into(event, &mut answer.reply)?;
         self.len += 1;
-        Ok(Answer {
-            seq: self.len,
-            reply,
-        })
+        answer.seq = self.len;
+        Ok(())
     }
 
     /// The same for a step, from the verdicts of its items: what `log` of the step would do, without a second look at a
-    /// guard.
+    /// guard. Gives the answer.
     pub fn log_step(&mut self, choice: &Choice, verdicts: &[Verdict]) -> Result<Answer, RecordFault>
         requires { verdicts.now ≡ verdicts_of R.table self.old.state choice.now }
         ensures number { IfOk result (λ answer. answer.seq ≡ self.old.len + 1) }

@@ -4,8 +4,8 @@ use Rattle.rule_machine.specs.Stable.{pair_above}
 use Rattle.rule_engine.specs.Kept.{answered_by}
 use Rattle.rule_engine.proofs.listing.count_pairs.Given as goal
 
-abbrev pub invariant-loop-name : goal.invariant-loop-name
-invariant-loop-name l = record {
-  count : l.count ≡ length (filter_map (λ v. pair_above v (answered_by l.registers v)) (range_with_len 1 (l.name - 1)));
-  few : l.count ≤ l.name - 1;
+abbrev pub invariant-loop-place : goal.invariant-loop-place
+invariant-loop-place l = record {
+  count : l.count ≡ length (filter_map (λ v. pair_above v (answered_by l.registers v)) (range_with_len 1 (l.place - 1)));
+  few : l.count ≤ l.place - 1;
 }

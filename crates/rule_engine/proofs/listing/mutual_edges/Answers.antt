@@ -1,28 +1,30 @@
-use Rattle.std.proofs.Common.{◌≡◌, ◌∙◌, ◌+◌, ◌-◌, ◌++◌, ℕ, Option, ap, sym, filter_map, option_to_list, arith}
+use Rattle.std.proofs.Common.{◌∙◌, ℕ, Option, ap, sym, filter_map, is_some, arith}
 use Rattle.std.specs.List.{range_with_len}
-use Rattle.std.proofs.lemmas.Grind.{common_steps}
+use Rattle.std.proofs.lemmas.List.{take_all}
 use Rattle.rule_machine.specs.Stable.{pair_above}
 use Rattle.rule_engine.specs.Kept.{state_of, answered_by}
-use Rattle.rule_engine.proofs.Found.{found_more}
-use Rattle.rule_engine.proofs.Named.{pairs_scanned}
-use Rattle.rule_engine.proofs.Scanned.{some_iff_at}
+use Rattle.rule_engine.proofs.Named.{found_kept, pairs_scanned}
+use Rattle.rule_engine.proofs.Scanned.{pushed_found, skipped_found, none_found}
 use Rattle.rule_engine.proofs.listing.mutual_edges.Goals as goal
 use Rattle.rule_engine.proofs.listing.mutual_edges.Goals.{in-Some+in_ok-push, in_default}
 
-pub loop-name-preserved : goal.loop-name-preserved
-loop-name-preserved c =
+pub loop-v-preserved : goal.loop-v-preserved
+loop-v-preserved c =
     let f : ℕ → Option (ℕ × ℕ) = λ v. pair_above v (answered_by c.args.registers.now v) in
-    let named : c.unwrap-v.result ≡ c.loop-name.name = some_iff_at _ _ _ _ c.new.ensures c.unwrap-v.ensures in
-    let more : c.loop-name.pairs.items ++ option_to_list (f c.loop-name.name) ≡ filter_map f (range_with_len 1 (c.loop-name.name + 1 - 1)) = found_more f c.loop-name.name c.loop-name.pairs.items c.loop-name.auto.name c.loop-name.invariant in
-    let pair : c.pair_at.result ≡ f c.loop-name.name = c.pair_at.ensures ∙ ap f named in
+    let v = c.v-item.result in
+    let pair = c.pair_at.ensures in
     elim c.match-pair_at.branch [
-      | in-Some+in_ok-push w ↦ grind (arith, common_steps, w.pairs-is, w.in_ok-push.ensures.items, w.in-Some.is, more, pair)
-      | in_default w ↦ grind (arith, common_steps, w.pairs-is, more, pair)
+      | in-Some+in_ok-push w ↦
+          pushed_found f c.loop-v.pairs.items _ c.deref-v-items.result.now c.loop-v.v-index v _ c.loop-v-test.true c.v-item.is c.loop-v.invariant (ap (λ r. r.items) w.pairs-is ∙ w.in_ok-push.ensures.items) (sym pair ∙ w.in-Some.is)
+      | in_default w ↦
+          skipped_found f c.loop-v.pairs.items _ c.deref-v-items.result.now c.loop-v.v-index v c.loop-v-test.true c.v-item.is c.loop-v.invariant (ap (λ r. r.items) w.pairs-is) (sym pair ∙ w.in_default.is)
     ]
 
 pub returns : goal.returns
 returns c =
     let s = state_of c.args.store.now.network c.args.registers.now in
-    let count : c.loop-name.name - 1 ≡ s.network.size = omega (arith, c.capacity-name-end.ensures.size) in
-    c.loop-name.invariant ∙ ap (λ n. filter_map (λ v. pair_above v (answered_by s.registers v)) (range_with_len 1 n)) count
-    ∙ sym (pairs_scanned s c.requires)
+    let f : ℕ → Option (ℕ × ℕ) = λ v. pair_above v (answered_by s.registers v) in
+    c.loop-v.invariant
+    ∙ ap (filter_map f) (take_all c.loop-v.v-index c.deref-v-items.result.now (omega arith) ∙ c.deref-v-items.ensures.value ∙ c.in_ok-ends.ensures.ends)
+    ∙ found_kept f (λ v. is_some (f v)) (λ v none. none_found (f v) none) (range_with_len 1 s.network.size)
+    ∙ sym (pairs_scanned s c.requires.state)

@@ -1,8 +1,7 @@
-use Rattle.std.proofs.Common.{◌≡◌, ◌-◌, filter_map}
-use Rattle.std.specs.List.{range_with_len}
+use Rattle.std.proofs.Common.{◌≡◌, take, filter_map}
 use Rattle.rule_machine.specs.Stable.{pair_above}
 use Rattle.rule_engine.specs.Kept.{answered_by}
 use Rattle.rule_engine.proofs.listing.mutual_edges.Given as goal
 
-abbrev pub invariant-loop-name : goal.invariant-loop-name
-invariant-loop-name l = l.pairs.items ≡ filter_map (λ v. pair_above v (answered_by l.registers v)) (range_with_len 1 (l.name - 1))
+abbrev pub invariant-loop-v : goal.invariant-loop-v
+invariant-loop-v l = l.pairs.items ≡ filter_map (λ v. pair_above v (answered_by l.registers v)) (take l.v-index l.v-items)

@@ -7,7 +7,7 @@ use Rattle.rule_machine.specs.Refuse.{items_refusal}
 use Rattle.rule_engine.specs.Choosing.{AreLeast, IsToldOf, moves_by, refused_by}
 use Rattle.rule_engine.proofs.Ascending.{one_least}
 use Rattle.rule_engine.proofs.Judged.{one_refusal}
-use Rattle.rule_engine.proofs.guard.reply_to_one.Goals as goal
+use Rattle.rule_engine.proofs.guard.put_reply_to_one.Goals as goal
 
 pub returns-in-Ok : goal.returns-in-Ok
 returns-in-Ok g c =

@@ -1,0 +1,12 @@
+use Rattle.std.proofs.Common.{◌≡◌, ◌≤◌, ◌-◌, filter, is_some, length, take}
+use Rattle.std.specs.List.{range_with_len}
+use Rattle.rule_machine.specs.Stable.{pair_above}
+use Rattle.rule_engine.specs.Kept.{answered_by}
+use Rattle.rule_engine.proofs.listing.lower_ends.Given as goal
+
+abbrev pub invariant-loop-place : goal.invariant-loop-place
+invariant-loop-place l = record {
+  ends : take l.count l.ends.items ≡ filter (λ v. is_some (pair_above v (answered_by l.registers v))) (range_with_len 1 (l.place - 1));
+  few : l.count ≤ l.place - 1;
+  room : length l.ends.items ≡ l.store.network.size;
+}

@@ -1,0 +1,49 @@
+//! Choices whose items ascend, as those of most daemons do: no node is named twice, so none needs a mark.
+
+ghost use Rattle.std.specs.Prelude.{◌≡◌, [], None, IsTrue};
+ghost use Rattle.rule_machine.specs.Refuse.{items_refusal};
+ghost use Rattle.rule_engine.specs.Choosing.{moves_by};
+ghost use Rattle.rule_engine.specs.Marks.{Ascend};
+
+use crate::guard::outcome;
+use crate::judge::accepted;
+use crate::moves::Gathered;
+use indexed_state::IndexedState;
+use rule_machine::{Item, Refusal};
+use rule_set::Rules;
+
+/// Whether each item names a node above that of the item before it. A look at each, up to the first that does not.
+pub(crate) fn ascend(items: &[Item]) -> bool
+    ensures { IsTrue result → Ascend items.now }
+{
+    let mut last = 0;
+    for item in items {
+        let place = item.node.place();
+        if place <= last {
+            return false;
+        }
+        last = place;
+    }
+    true
+}
+
+/// Gathers the moves of items that ascend where none is refused, else says why the first is that is. A look at each item up to
+/// that one, and a search of its node's neighbours where its target is free.
+pub(crate) fn take_ascending<R: Rules>(
+    state: &IndexedState<R>,
+    gathered: &mut Gathered,
+    items: &[Item],
+) -> Option<Refusal>
+    requires ascend { Ascend items.now }
+    requires none { gathered.old.moves.items ≡ [] }
+    ensures refusal { result ≡ items_refusal R.table state.now.state [] items.now }
+    ensures moves { result ≡ None → IsTrue gathered.new.whole → gathered.new.moves.items ≡ moves_by R.table state.now.state items.now }
+{
+    for item in items {
+        match accepted(outcome(state, *item), false) {
+            Ok(moved) => gathered.add(moved),
+            Err(refusal) => return Some(refusal),
+        }
+    }
+    None
+}
