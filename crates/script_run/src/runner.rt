@@ -20,13 +20,13 @@ use byte_streams::{OutputFault, finish};
 use line_text::{put_entry, put_entry_of_line, put_header};
 use rule_machine::{Event, RuleSet, Want};
 use rule_set::Rules;
-use script_text::{Command, read_line};
+use script_text::{Command, read_line_into};
 use seeded_turns::{DaemonTurns, EventSource, FaultTurns};
 use std::alloc::{AllocError, Global};
 use std::io::{Read, Write};
 use std::sync::Wait;
 use std::thread::Threads;
-use step_log::{RecordFault, Recorder};
+use step_log::{Answer, RecordFault, Recorder};
 
 /// The rule set by its name, a network whose entries are numbered, the text that is not written yet, and how many workers judge a
 /// step.
@@ -66,8 +66,9 @@ impl<R: Rules> Run<R> {
         ensures ends { EventEnds R.table self.old.recorder.limit event.now (progress self.old.rules self.old.recorder self.old.text.items) (progress self.new.rules self.new.recorder self.new.text.items) result }
         ensures limit { self.new.recorder.limit ≡ self.old.recorder.limit }
     {
-        match self.recorder.log(event) {
-            Ok(answer) => {
+        let mut answer = Answer::none();
+        match self.recorder.log(event, &mut answer) {
+            Ok(()) => {
                 put_entry(&mut self.text, answer.seq, event, &answer.reply)?;
                 Ok(true)
             }
@@ -84,8 +85,9 @@ impl<R: Rules> Run<R> {
         ensures ends { EventEnds R.table self.old.recorder.limit event.now (progress self.old.rules self.old.recorder self.old.text.items) (progress self.new.rules self.new.recorder self.new.text.items) result }
         ensures limit { self.new.recorder.limit ≡ self.old.recorder.limit }
     {
-        match self.recorder.log(event) {
-            Ok(answer) => {
+        let mut answer = Answer::none();
+        match self.recorder.log(event, &mut answer) {
+            Ok(()) => {
                 put_entry_of_line(&mut self.text, answer.seq, line, &answer.reply)?;
                 Ok(true)
             }
@@ -165,9 +167,10 @@ impl<R: Rules + Sync> Run<R> {
         if line.is_empty() {
             return Ok(None);
         }
-        let Some(command) = read_line(alloc, line)? else {
+        let mut command = Command::Checkpoint;
+        if !read_line_into(alloc, line, &mut command)? {
             return Ok(Some(Stop::BadLine { line: number }));
-        };
+        }
         let len = self.text.len();
         match self.follow(rt, alloc, &command, line) {
             Ok(true) => Ok(None),

@@ -1,13 +1,13 @@
 //! Reading a line of a script.
 
 ghost use Rattle.std.specs.Prelude.{IfOk, MatchOption};
-ghost use Rattle.line_text.specs.Reading.{Reads};
+ghost use Rattle.line_text.specs.Reading.{Reads, kept_if};
 ghost use Rattle.script_text.specs.Command.{IsTurns, turns_text, Says, SaysNothing, SaysNoTurns};
 
 use crate::{Command, MAX_TURNS, Turns};
-use line_text::{after, read_command, read_number};
+use line_text::{after, read_command_into, read_number};
 use memchr::memchr;
-use rule_machine::Want;
+use rule_machine::{Event, Want};
 use std::alloc::Global;
 
 /// Reads a seed, and how many turns it is for.
@@ -42,16 +42,35 @@ fn read_turning(line: &[u8]) -> Option<Command>
     None
 }
 
-/// Reads the command that a line is; `None` where it is none. Memory is for the items of a step alone.
+/// Reads the command that a line is and puts it where the caller keeps it, so that none is moved; false where the line is none.
+/// Memory is for the items of a step alone.
 #[inline(always)]
+pub fn read_line_into(alloc: Global, line: &[u8], command: &mut Command) -> Result<bool, Want>
+    ensures { IfOk result (λ is_one. MatchOption (kept_if is_one command.new) (SaysNothing line.now) (λ found. Says line.now found)) }
+{
+    let mut event = Event::Status;
+    if read_command_into(alloc, line, &mut event)? {
+        *command = Command::Tell(event);
+        return Ok(true);
+    }
+    if line == b"checkpoint".as_slice() {
+        *command = Command::Checkpoint;
+        return Ok(true);
+    }
+    let Some(turning) = read_turning(line) else {
+        return Ok(false);
+    };
+    *command = turning;
+    Ok(true)
+}
+
+/// The same; gives the command, `None` where the line is none.
 pub fn read_line(alloc: Global, line: &[u8]) -> Result<Option<Command>, Want>
     ensures { IfOk result (λ found. MatchOption found (SaysNothing line.now) (λ command. Says line.now command)) }
 {
-    if let Some(event) = read_command(alloc, line)? {
-        return Ok(Some(Command::Tell(event)));
+    let mut command = Command::Checkpoint;
+    if !read_line_into(alloc, line, &mut command)? {
+        return Ok(None);
     }
-    if line == b"checkpoint".as_slice() {
-        return Ok(Some(Command::Checkpoint));
-    }
-    Ok(read_turning(line))
+    Ok(Some(command))
 }
