@@ -4,6 +4,7 @@ pub mod Numbers
 pub mod Headers
 pub mod InFront
 pub mod Joined
+pub mod LongRuns
 pub mod Marked
 pub mod RefusalsOnce
 pub mod TokensOnce

@@ -11,6 +11,15 @@ use rule_machine::Node;
 /// The most digits that a name has.
 const MAX_DIGITS: usize = 5;
 
+/// The greatest name.
+const MAX_NAME: u32 = 65_535;
+
+/// The byte of the digit 0, in as many bits as a number has.
+const ZERO: u32 = 48;
+
+/// How many bytes tell a name and where it ends.
+const ENOUGH: usize = 6;
+
 /// Whether nothing stands there, or a space in front.
 #[inline(always)]
 pub(crate) fn ends(bytes: &[u8]) -> bool
@@ -42,24 +51,43 @@ pub(crate) fn digits_in_front(bytes: &[u8]) -> (usize, u32)
 {
     let mut number = 0u32;
     for (i, byte) in bytes.iter().enumerate() {
-        if !byte.is_ascii_digit() {
+        let digit = u32::from(*byte).wrapping_sub(ZERO);
+        if digit > 9 {
             return (i, number);
         }
-        number = number
-            .wrapping_mul(10)
-            .wrapping_add(u32::from(*byte - b'0'));
+        number = number.wrapping_mul(10).wrapping_add(digit);
     }
     (bytes.len(), number)
 }
 
+/// The same for a name: no more than six digits are counted, and of six it is not told whether more follow. Where there are six
+/// bytes no digit needs a test for the end.
+#[inline(always)]
+fn name_digits(bytes: &[u8]) -> (usize, u32)
+    ensures within { result.0 ≤ length bytes.now }
+    ensures digits { AllDigits 10 (take result.0 bytes.now) }
+    ensures ends { result.0 ≤ 5 → NoDigit (drop result.0 bytes.now) }
+    ensures value { result.0 ≤ 5 → result.1 ≡ digits_value 10 (take result.0 bytes.now) }
+{
+    if bytes.len() < ENOUGH {
+        return digits_in_front(bytes);
+    }
+    digits_in_front(&bytes[..ENOUGH])
+}
+
 /// Reads the name in front in one pass over its digits, and gives what follows them; `None` where there is no name.
+#[inline(always)]
 pub(crate) fn read_name(bytes: &[u8]) -> Option<(Node, &[u8])>
     ensures { MatchOption result
         ((name : ℕ) (rest : List ℕ) → NameThen bytes.now name rest → ⊥)
         (λ found. NameThen bytes.now found.0 found.1.now) }
 {
-    let (len, number) = digits_in_front(bytes);
+    let (len, number) = name_digits(bytes);
     if len == 0 || len > MAX_DIGITS || bytes[0] == b'0' {
+        return None;
+    }
+    // Told here, so that one test of the number is left.
+    if number > MAX_NAME {
         return None;
     }
     let Some(node) = Node::new(number) else {

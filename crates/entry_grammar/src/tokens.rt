@@ -15,6 +15,7 @@ use line_text::after;
 use rule_machine::{Act, Edge, Moved, Node};
 
 /// Reads the name that stands before the mark, and gives what stands behind the mark.
+#[inline(always)]
 pub(crate) fn read_marked(bytes: &[u8], mark: u8) -> Option<(Node, &[u8])>
     requires { IsInRange 48 57 mark → ⊥ }
     ensures { MatchOption result
@@ -101,6 +102,7 @@ fn read_deed(bytes: &[u8]) -> Option<(Act, Option<Node>, &[u8])>
 }
 
 // Reads the two ends of an edge in front with the mark between them, the lower one first, and gives what follows them.
+#[inline(always)]
 fn read_pair(bytes: &[u8], mark: u8) -> Option<(Edge, &[u8])>
     requires { IsInRange 48 57 mark → ⊥ }
     ensures { MatchOption result
@@ -113,7 +115,7 @@ fn read_pair(bytes: &[u8], mark: u8) -> Option<(Edge, &[u8])>
     let Some((high, rest)) = read_name(name) else {
         return None;
     };
-    if low.name() >= high.name() {
+    if low >= high {
         return None;
     }
     let Some(pair) = Edge::new(low, high) else {
@@ -176,6 +178,7 @@ impl Token for Edge {
 
     ghost fits = { IsPair };
 
+    #[inline(always)]
     fn read(bytes: &[u8]) -> Option<(Edge, &[u8])> {
         let Some((pair, rest)) = read_pair(bytes, b'-') else {
             return None;

@@ -35,19 +35,14 @@ fn read_alone<W: Token + Copy>(bytes: &[u8]) -> Option<W>
     }
 }
 
-/// Reads words that are joined by one space, none at all from an empty text; `None` where anything else stands there. Memory is
-/// for two words and more.
-pub fn read_words<W: Token + Copy>(alloc: Global, bytes: &[u8]) -> Result<Option<Listing<W>>, Want>
+/// Reads one word or more that are joined by one space; `None` where anything else stands there.
+#[inline(never)]
+fn read_many<W: Token + Copy>(alloc: Global, bytes: &[u8]) -> Result<Option<Listing<W>>, Want>
+    requires some { bytes.now ≢ [] }
     requires no_space { (word : W) → W.fits word → IsFree 32 (W.text word) }
     ensures { IfOk result (Reads (AllByRecursion W.fits) (joined W.text) bytes.now) }
 {
     let mut words = Vec::new(alloc);
-    if bytes.is_empty() {
-        return Ok(Some(Listing::from_vec(words)));
-    }
-    if let Some(word) = read_alone(bytes) {
-        return Ok(Some(Listing::one(word)));
-    }
     let mut rest = bytes;
     while let Some((word, behind_word)) = W::read(rest) {
         words.push(word)?;
@@ -57,6 +52,21 @@ pub fn read_words<W: Token + Copy>(alloc: Global, bytes: &[u8]) -> Result<Option
         rest = next;
     }
     Ok(None)
+}
+
+/// Reads words that are joined by one space, none at all from an empty text; `None` where anything else stands there. Memory is
+/// for two words and more.
+pub fn read_words<W: Token + Copy>(alloc: Global, bytes: &[u8]) -> Result<Option<Listing<W>>, Want>
+    requires no_space { (word : W) → W.fits word → IsFree 32 (W.text word) }
+    ensures { IfOk result (Reads (AllByRecursion W.fits) (joined W.text) bytes.now) }
+{
+    if bytes.is_empty() {
+        return Ok(Some(Listing::from_vec(Vec::new(alloc))));
+    }
+    if let Some(word) = read_alone(bytes) {
+        return Ok(Some(Listing::one(word)));
+    }
+    read_many(alloc, bytes)
 }
 
 /// Reads words that are joined by one space, or `none` for no words; `None` where anything else stands there.

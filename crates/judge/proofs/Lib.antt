@@ -1,6 +1,7 @@
 pub mod Keeping
 pub mod Moving
 pub mod Listed
+pub mod Rising
 pub mod Table
 pub mod Courting
 pub mod Counting

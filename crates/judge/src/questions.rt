@@ -1,12 +1,15 @@
 //! Whether a reply lists what a question asks for.
 
-ghost use Rattle.std.specs.Prelude.{◌≡◌, ◌≤◌, ◌↔◌, IfSome, IsTrue, None, Some, cond, slice_get};
+ghost use Rattle.std.specs.Prelude.{◌≡◌, ◌<◌, ◌≤◌, ◌↔◌, IfSome, IsTrue, None, Some, cond, count_by, slice_get};
+ghost use Rattle.std.specs.List.{range_with_len};
 ghost use Rattle.rule_machine.specs.Network.{present};
 ghost use Rattle.rule_machine.specs.RuleTable.{enabled, rule_at};
+ghost use Rattle.rule_machine.specs.State.{IsState, is_mutual};
 ghost use Rattle.rule_machine.specs.State as state;
 ghost use Rattle.rule_machine.specs.Stable.{mutual_pairs, pair_above};
 ghost use Rattle.rule_machine.specs.Tables.{table_of};
 ghost use Rattle.judge.specs.Courting.{IsCourting};
+ghost use Rattle.judge.specs.Pairing.{AreRising, points_up};
 
 use crate::net_state::node_above;
 use crate::{Courted, NetState};
@@ -37,9 +40,74 @@ impl NetState {
         place == given.len()
     }
 
+    /// Whether these are the mutual pairs. Where there are as many as nodes point upwards, looks at them alone, and at every name
+    /// where that does not tell it.
+    pub(crate) fn lists_pairs(&self, given: &[Edge]) -> bool
+        ensures { IsTrue result ↔ (given.now ≡ mutual_pairs self.now) }
+    {
+        self.are_all_upwards(given) || self.are_all_pairs(given)
+    }
+
+    /// Whether these are the mutual pairs, told by their number: they are mutual pairs, and no other node points upwards.
+    fn are_all_upwards(&self, given: &[Edge]) -> bool
+        ensures { IsTrue result → given.now ≡ mutual_pairs self.now }
+    {
+        given.len() == self.upward_pointers() as usize && self.are_rising(given)
+    }
+
+    /// How many nodes point at a higher one. Looks at every name's pointer.
+    #[inline(never)]
+    fn upward_pointers(&self) -> u32
+        ensures count { result ≡ count_by (points_up self.now) (range_with_len 1 self.now.network.size) }
+        ensures sound { IsState self.now }
+    {
+        let mut count = 0;
+        for below in 0..self.last_name() {
+            count += u32::from(self.points_up(node_above(below)));
+        }
+        count
+    }
+
+    /// Whether the node of a name, if there is one, points at a higher one.
+    #[inline(always)]
+    fn points_up(&self, v: Node) -> bool
+        requires { v ≤ self.now.network.size }
+        ensures { result ≡ points_up self.now v }
+    {
+        match self.pointer_at(v) {
+            Some(w) => v < w,
+            None => false,
+        }
+    }
+
+    /// Whether these are mutual pairs, by rising lower ends.
+    #[inline(never)]
+    fn are_rising(&self, given: &[Edge]) -> bool
+        ensures { IsTrue result → AreRising self.now 0 given.now }
+    {
+        let mut last = 0;
+        for pair in given {
+            let low = pair.low().name();
+            if low <= last || !self.is_mutual(*pair) {
+                return false;
+            }
+            last = low;
+        }
+        true
+    }
+
+    /// Whether the ends of an edge point at each other.
+    #[inline(always)]
+    fn is_mutual(&self, pair: Edge) -> bool
+        ensures value { result ≡ is_mutual self.now pair.0 pair.1 }
+        ensures below { pair.0 < pair.1 }
+    {
+        self.points(pair.low(), pair.high()) && self.points(pair.high(), pair.low())
+    }
+
     /// Whether these are the mutual pairs. Looks at every name.
     #[inline(never)]
-    pub(crate) fn lists_pairs(&self, given: &[Edge]) -> bool
+    fn are_all_pairs(&self, given: &[Edge]) -> bool
         ensures { IsTrue result ↔ (given.now ≡ mutual_pairs self.now) }
     {
         let mut place = 0;

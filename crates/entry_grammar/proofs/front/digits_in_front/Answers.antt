@@ -1,10 +1,10 @@
-use Rattle.std.proofs.Common.{ℕ, ◌<◌, ◌≤◌, ◌+◌, ◌*◌, ◌%◌, ◌≡◌, List, length, get_or, take, arith}
+use Rattle.std.proofs.Common.{ℕ, ◌<◌, ◌≤◌, ◌+◌, ◌*◌, ◌%◌, ◌≡◌, List, length, get_or, take, ap, arith}
 use Rattle.std.specs.Int.{IsInRange}
 use Rattle.std.specs.Str.Parse.{AllDigits, digits_value}
 use Rattle.std.proofs.lemmas.Int.Digits.{digits_more, digits_value_more}
 use Rattle.std.proofs.lemmas.List.{length-take-le}
 use Rattle.std.proofs.lemmas.Str.{digit_value_digit}
-use Rattle.std.proofs.lemmas.Str.Parse.{digits_value_short, digit_from_value}
+use Rattle.std.proofs.lemmas.Str.Parse.{digits_value_short}
 use Rattle.line_text.proofs.Digits.{own}
 use Rattle.entry_grammar.proofs.front.digits_in_front.Goals as goal
 
@@ -16,10 +16,18 @@ step bytes i value digit lt few d r is from =
     let short : value < 100000000 = omega (arith, is, digits_value_short own (take i bytes) 8 d (omega (arith, k, few))) in
     omega (arith, short, is, from, r.0, r.1, digits_value_more 10 bytes i lt, digit_value_digit (get_or bytes i 0) r)
 
+-- a byte is a digit where it is at most nine above the first, counted round
+digit_of : (byte digit : ℕ) → byte < 256 → digit ≡ (byte + 4294967248) % 4294967296 → digit ≤ 9 → (digit + 48 ≡ byte) × IsInRange 48 57 byte
+digit_of byte digit fits is low = let same : digit + 48 ≡ byte = omega arith in (same, (omega (arith, same), omega (arith, same)))
+
 pub loop-i-preserved : goal.loop-i-preserved
 loop-i-preserved c =
-    let r : IsInRange 48 57 (get_or c.args.bytes.now c.loop-i.i 0) = digit_from_value (get_or c.args.bytes.now c.loop-i.i 0) c.if-not-is_ascii_digit.ensures.bound in
+    let bytes = c.args.bytes.now in
+    let byte = get_or bytes c.loop-i.i 0 in
+    let digit = (c.from-digit.result + 4294967248) % 4294967296 in
+    let fits : byte < 256 = omega (arith, c.type_inv.bytes c.loop-i.i) in
+    let r = digit_of byte digit fits (ap (λ (x : ℕ). (x + 4294967248) % 4294967296) c.from-digit.ensures) c.if-digit-gt9.false in
     record {
-      digits = digits_more 10 c.args.bytes.now c.loop-i.i c.loop-i-test.true c.loop-i.invariant.digits c.if-not-is_ascii_digit.ensures.bound;
-      value = λ few. step c.args.bytes.now c.loop-i.i c.loop-i.number c.from.result c.loop-i-test.true (omega (arith, few)) c.loop-i.invariant.digits r (c.loop-i.invariant.value (omega (arith, few))) (omega (arith, c.from.ensures, r.0));
+      digits = digits_more 10 bytes c.loop-i.i c.loop-i-test.true c.loop-i.invariant.digits (omega (arith, digit_value_digit byte r.1, r.0, c.if-digit-gt9.false));
+      value = λ few. step bytes c.loop-i.i c.loop-i.number digit c.loop-i-test.true (omega (arith, few)) c.loop-i.invariant.digits r.1 (c.loop-i.invariant.value (omega (arith, few))) r.0;
     }

@@ -1,3 +1,4 @@
+use Rattle.std.proofs.lemmas.Grind.{common_steps}
 use Rattle.std.proofs.Common.{◌≡◌, ◌++◌, sym, ◌∙◌, arith}
 use Rattle.line_text.specs.Words.{number_text}
 use Rattle.line_text.proofs.Digits.{name_once}
@@ -9,10 +10,10 @@ returns-in_default-read_name c p rest h =
     let r = marked_once c.args.mark c.in-Some.low p.0 c.in-Some.name.now (number_text p.1 ++ rest) c.requires c.in-Some.ensures.0 h.fits.0 (sym c.in-Some.ensures.1 ∙ h.is) in
     c.in_default-read_name.ensures p.1 rest (record { fits = h.fits.1; ends = h.ends; is = grind arith })
 
-pub returns-then-name : goal.returns-then-name
-returns-then-name c p rest h =
+pub returns-then-ge : goal.returns-then-ge
+returns-then-ge c p rest h =
     let r = marked_once c.args.mark c.in-Some.low p.0 c.in-Some.name.now (number_text p.1 ++ rest) c.requires c.in-Some.ensures.0 h.fits.0 (sym c.in-Some.ensures.1 ∙ h.is) in
     let s = name_once _ c.in-Some-read_name.high p.1 _ rest c.in-Some-read_name.ensures (record { fits = h.fits.1; ends = h.ends; is = grind arith }) in
-    let low : c.name.result ≡ p.0 = grind arith in
-    let high : c.name-2.result ≡ p.1 = grind arith in
-    omega (arith, low, high, h.fits.2, c.if-name.true)
+    let low : c.in-Some.low ≡ p.0 = r.0 in
+    let high : c.in-Some-read_name.high ≡ p.1 = s.0 in
+    grind (arith, common_steps, low, high, h.fits.2, c.if-ge.true, c.ge.ensures)

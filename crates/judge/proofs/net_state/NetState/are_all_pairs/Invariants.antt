@@ -3,7 +3,7 @@ use Rattle.std.specs.List.{range_with_len}
 use Rattle.rule_machine.specs.Network.{present}
 use Rattle.rule_machine.specs.State.{partner}
 use Rattle.rule_machine.specs.Stable.{mutual_pairs, pair_above}
-use Rattle.judge.proofs.net_state.NetState.lists_pairs.Given as goal
+use Rattle.judge.proofs.net_state.NetState.are_all_pairs.Given as goal
 
 abbrev pub invariant-loop-below : goal.invariant-loop-below
 invariant-loop-below l = record {

@@ -8,8 +8,8 @@ use Rattle.rule_machine.specs.State.{partner}
 use Rattle.rule_machine.specs.Stable.{mutual_pairs, pair_above}
 use Rattle.judge.proofs.Counting.{kept_values}
 use Rattle.judge.proofs.Listed.{started, passed, stood, differs, ended}
-use Rattle.judge.proofs.net_state.NetState.lists_pairs.Goals as goal
-use Rattle.judge.proofs.net_state.NetState.lists_pairs.Goals.{in-Some+else-not-has_pair, in_default}
+use Rattle.judge.proofs.net_state.NetState.are_all_pairs.Goals as goal
+use Rattle.judge.proofs.net_state.NetState.are_all_pairs.Goals.{in-Some+else-not-has_pair, in_default}
 
 pub loop-below-init : goal.loop-below-init
 loop-below-init c =

@@ -1,6 +1,6 @@
 use Rattle.std.proofs.Common.{length}
 use Rattle.entry_grammar.proofs.Joined.{SoFar}
-use Rattle.entry_grammar.proofs.words.read_words.Given as goal
+use Rattle.entry_grammar.proofs.words.read_many.Given as goal
 
 abbrev pub invariant-loop-word : goal.invariant-loop-word
 invariant-loop-word g l = SoFar g.W.Token.text g.W.Token.fits l.bytes l.words.items l.rest
