@@ -6,13 +6,10 @@ ghost use Rattle.line_text.specs.Words.{IsName};
 ghost use Rattle.line_text.specs.Reading.{NoDigit, NameThen};
 ghost use Rattle.entry_grammar.specs.Reading.{Ends};
 
-use rule_machine::Node;
+use rule_machine::{MAX_NAME, Node};
 
 /// The most digits that a name has.
 const MAX_DIGITS: usize = 5;
-
-/// The greatest name.
-const MAX_NAME: u32 = 65_535;
 
 /// The byte of the digit 0, in as many bits as a number has.
 const ZERO: u32 = 48;
