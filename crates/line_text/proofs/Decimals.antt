@@ -22,10 +22,6 @@ below (suc n) p t h =
 pub PAIRS_at : (p : ℕ) → p < 100 → (get_or PAIRS (p * 2) 0 ≡ 48 + p / 10) × (get_or PAIRS (p * 2 + 1) 0 ≡ 48 + p % 10)
 PAIRS_at p h = below 100 p tt h
 
-pub decimal_of_two : (n : ℕ) → 10 ≤ n → n / 100 ≡ 0 → decimal n ≡ pair (n % 100)
-decimal_of_two n lo z =
-    let same : n % 100 ≡ n = omega (arith, z) in rw same (decimal_two n lo (omega (arith, z)))
-
 pub decimal_of_three : (n : ℕ) → 100 ≤ n → n / 100 < 10 → decimal n ≡ (48 + n / 100) ∷ pair (n % 100)
 decimal_of_three n lo hi = rw (decimal_pair n lo (omega (arith, hi)), decimal_digit (n / 100) hi)
 
