@@ -39,7 +39,7 @@ edges_without_repeats net = keys_without_repeats (map.entries net.edges) (holds 
 
 -- ---- counting by the lower end
 
-zeros : (xs : List ℕ) → sum_by (λ x. 0) xs ≡ 0
+pub zeros : (xs : List ℕ) → sum_by (λ x. 0) xs ≡ 0
 zeros [] = refl
 zeros (x ∷ xs) = let whole = sum_by-cons {X = ℕ} (λ x. 0) x xs in let rest = zeros xs in omega (arith, whole, rest)
 
@@ -52,7 +52,7 @@ absent_sum a b (x ∷ xs) out =
     omega (arith, whole, rest, here)
 
 -- a name in a list without repeats is marked once
-marked_once : (a : ℕ) (b : Bool) (xs : List ℕ) → IsIn a xs → IsWithoutRepeats xs → sum_by (λ v. cond (nat_eq a v && b) 1 0) xs ≡ cond b 1 0
+pub marked_once : (a : ℕ) (b : Bool) (xs : List ℕ) → IsIn a xs → IsWithoutRepeats xs → sum_by (λ v. cond (nat_eq a v && b) 1 0) xs ≡ cond b 1 0
 marked_once a b [] at single = absurd at
 marked_once a b (x ∷ xs) (inl same) single =
     let whole = sum_by-cons (λ v. cond (nat_eq a v && b) 1 0) x xs in
@@ -65,19 +65,19 @@ marked_once a b (x ∷ xs) (inr there) single =
     let here = ap {B = ℕ} (λ t. cond (t && b) 1 0) (ne_eqb a x (λ same. single.0 (subst (λ y. IsIn y xs) same there))) in
     omega (arith, whole, rest, here)
 
--- pairs are counted by their first numbers
-by_first : (p : ℕ × ℕ → Bool) (es : List (ℕ × ℕ)) (xs : List ℕ) → IsWithoutRepeats xs → ((e : ℕ × ℕ) → IsIn e es → IsIn e.0 xs) → count_by p es ≡ sum_by (λ v. count_by (λ e. nat_eq e.0 v && p e) es) xs
-by_first p [] xs single in_xs = sym (zeros xs)
-by_first p (e ∷ es) xs single in_xs =
+-- pairs are counted by the number at one of their ends
+pub by_end : (end : ℕ × ℕ → ℕ) (p : ℕ × ℕ → Bool) (es : List (ℕ × ℕ)) (xs : List ℕ) → IsWithoutRepeats xs → ((e : ℕ × ℕ) → IsIn e es → IsIn (end e) xs) → count_by p es ≡ sum_by (λ v. count_by (λ e. nat_eq (end e) v && p e) es) xs
+by_end end p [] xs single in_xs = sym (zeros xs)
+by_end end p (e ∷ es) xs single in_xs =
     let whole = sum_by-cons (λ e. cond (p e) 1 0) e es in
-    let rest = by_first p es xs single (λ f there. in_xs f (inr there)) in
-    let once = marked_once e.0 (p e) xs (in_xs e (inl refl)) single in
-    let split = sum_agree (λ v. count_by (λ f. nat_eq f.0 v && p f) (e ∷ es)) (λ v. cond (nat_eq e.0 v && p e) 1 0 + count_by (λ f. nat_eq f.0 v && p f) es) (λ v. sum_by-cons (λ (f : ℕ × ℕ). cond (nat_eq f.0 v && p f) 1 0) e es) xs in
-    let both = sum_add (λ v. cond (nat_eq e.0 v && p e) 1 0) (λ v. count_by (λ f. nat_eq f.0 v && p f) es) xs in
+    let rest = by_end end p es xs single (λ f there. in_xs f (inr there)) in
+    let once = marked_once (end e) (p e) xs (in_xs e (inl refl)) single in
+    let split = sum_agree (λ v. count_by (λ f. nat_eq (end f) v && p f) (e ∷ es)) (λ v. cond (nat_eq (end e) v && p e) 1 0 + count_by (λ f. nat_eq (end f) v && p f) es) (λ v. sum_by-cons (λ (f : ℕ × ℕ). cond (nat_eq (end f) v && p f) 1 0) e es) xs in
+    let both = sum_add (λ v. cond (nat_eq (end e) v && p e) 1 0) (λ v. count_by (λ f. nat_eq (end f) v && p f) es) xs in
     omega (arith, whole, rest, once, split, both)
 
 -- counting among the elements that pass a test
-count_filter : (q r : ℕ → Bool) (xs : List ℕ) → count_by q (filter r xs) ≡ count_by (λ w. r w && q w) xs
+pub count_filter : (q r : ℕ → Bool) (xs : List ℕ) → count_by q (filter r xs) ≡ count_by (λ w. r w && q w) xs
 count_filter q r [] = refl
 count_filter q r (x ∷ xs) =
     let first = kept (r x) in
@@ -131,7 +131,8 @@ higher_ends net p v = record {
   apart = λ w x at also passes passes_too same. ap (λ (e : ℕ × ℕ). e.1) same;
 }
 
-at_node : (net : Network) → IsNetwork net → (p : ℕ × ℕ → Bool) (v : ℕ) → count_by (λ e. nat_eq e.0 v && p e) (edge_list net) ≡ count_by (λ w. nat_lt v w && p (v, w)) (neighbours net v)
+-- the edges with this lower end that pass a test, counted at the node
+pub at_node : (net : Network) → IsNetwork net → (p : ℕ × ℕ → Bool) (v : ℕ) → count_by (λ e. nat_eq e.0 v && p e) (edge_list net) ≡ count_by (λ w. nat_lt v w && p (v, w)) (neighbours net v)
 at_node net good p v =
     let up = count_into (λ e. nat_eq e.0 v && p e) (edge_list net) (λ e. e.1) (λ w. linked net v w && (nat_lt v w && p (v, w))) (names net) (edges_without_repeats net) (lower_ends net good p v) in
     let down = count_into (λ w. linked net v w && (nat_lt v w && p (v, w))) (names net) (λ w. (v, w)) (λ e. nat_eq e.0 v && p e) (edge_list net) (names_without_repeats net) (higher_ends net p v) in
@@ -141,5 +142,5 @@ at_node net good p v =
 -- The edges that pass a test are those that pass it at each node's neighbours above it.
 pub edges_by_nodes : (net : Network) → IsNetwork net → (p : ℕ × ℕ → Bool) → count_by p (edge_list net) ≡ sum_by (λ v. count_by (λ w. nat_lt v w && p (v, w)) (neighbours net v)) (names net)
 edges_by_nodes net good p =
-    by_first p (edge_list net) (names net) (names_without_repeats net) (λ e at. in_names net e.0 (good.low_present e.0 e.1 (edges_contain net e at)))
+    by_end (λ e. e.0) p (edge_list net) (names net) (names_without_repeats net) (λ e at. in_names net e.0 (good.low_present e.0 e.1 (edges_contain net e at)))
     ∙ sum_agree (λ v. count_by (λ e. nat_eq e.0 v && p e) (edge_list net)) (λ v. count_by (λ w. nat_lt v w && p (v, w)) (neighbours net v)) (at_node net good p) (names net)

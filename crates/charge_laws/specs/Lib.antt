@@ -3,6 +3,8 @@ pub mod Charged
 pub mod Counting
 pub mod Members
 pub mod EdgesByNodes
+pub mod EdgesByEnds
+pub mod EdgesChanged
 pub mod Bounds
 pub mod Stances
 pub mod Turns
@@ -18,3 +20,4 @@ pub mod Tables
 pub mod Runs
 pub mod Epochs
 pub mod Begun
+pub mod ClosedByPointers

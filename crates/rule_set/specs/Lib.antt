@@ -2,3 +2,4 @@ pub mod Near
 pub mod Glance
 pub mod Target
 pub mod Standing
+pub mod Ends

@@ -1,16 +1,17 @@
 //! A set of rules.
 
-ghost use Rattle.std.specs.Prelude.{◌≡◌, ℕ, ◌+◌, ◌*◌, ◌≤◌, ◌||◌, Bool, false, not, List, [], length, count_by, sum_by, IsTrue, IsSome};
+ghost use Rattle.std.specs.Prelude.{◌≡◌, ℕ, ◌+◌, ◌*◌, ◌≤◌, Bool, false, Option, None, Some, List, [], length, count_by, sum_by, IsTrue, IsSome};
 ghost use Rattle.std.specs.Result.{result_ok};
 ghost use Rattle.rule_machine.specs.declared.act.Act.{Act};
 ghost use Rattle.rule_machine.specs.declared.act.Act.TheVariants.{Update};
 ghost use Rattle.rule_machine.specs.declared.choice.Item.{Item};
 ghost use Rattle.rule_machine.specs.declared.moved.Moved.{Moved};
-ghost use Rattle.rule_machine.specs.State.{State, IsState, is_unanswered, married};
+ghost use Rattle.rule_machine.specs.State.{State, IsState, pointer, is_unanswered, married};
 ghost use Rattle.rule_machine.specs.RuleTable.{RuleTable, rule_at, enabled_names, least_target};
 ghost use Rattle.rule_machine.specs.Network.{names, linked, edge_list, node_count, edge_count};
 ghost use Rattle.rule_machine.specs.Step.{IsStep};
 ghost use Rattle.rule_machine.specs.Stable.{IsStable};
+ghost use Rattle.rule_set.specs.Ends.{ends_open};
 ghost use Rattle.rule_set.specs.Glance.{SameGlance};
 ghost use Rattle.rule_set.specs.Near.{SameAt};
 ghost use Rattle.rule_set.specs.Standing.{IsStanding};
@@ -40,10 +41,12 @@ pub trait Rules {
 
     ghost NODE_WEIGHT: { ℕ };
 
-    /// Which edges add nothing to the charge.
-    ghost closed: { State → ℕ × ℕ → Bool };
+    ghost COURTED_CLOSE: { Bool };
 
-    /// What a node adds to it, beside 1 where its pointer is not answered.
+    /// Whether a node's pointer closes the edge to its target, which its ends leave open.
+    ghost closes: { State → ℕ → Bool };
+
+    /// What a node adds to the charge, beside 1 where its pointer is not answered.
     ghost adds: { State → ℕ → ℕ };
 
     /// Whether its daemon is central, so that one node moves at a time.
@@ -60,6 +63,9 @@ pub trait Rules {
 
     /// What each node adds to the bound of the charge.
     const NODE_WEIGHT: u64;
+
+    /// Whether an edge is closed between two nodes that point nowhere and have a suitor each.
+    const COURTED_CLOSE: bool;
 
     /// Whether a neighbour with this pointer and this flag is open to a seduction.
     fn opens(pointer: Option<Node>, flag: bool) -> bool
@@ -81,9 +87,9 @@ pub trait Rules {
         requires enabled { IsSome (rule_at table (L.state local.now) v) }
         ensures { result_ok result ≡ target_at table (L.state local.now) v wish };
 
-    /// Whether the edge between two nodes, the lower one first, adds nothing to the charge.
-    fn is_closed(low: &Standing, high: &Standing) -> bool
-        ensures { (s : State) → IsStanding s low.now → IsStanding s high.now → result ≡ closed s (low.now.node, high.now.node) };
+    /// Whether a node's pointer closes the edge to its target, which the ends of the edge leave open.
+    fn closes(node: &Standing, target: &Standing) -> bool
+        ensures { (s : State) → IsStanding s node.now → IsStanding s target.now → pointer s node.now.node ≡ Some target.now.node → result ≡ closes s node.now.node };
 
     /// What a node adds to the charge, beside 1 where its pointer is not answered.
     fn node_charge(node: &Standing) -> u32
@@ -123,14 +129,18 @@ pub trait Rules {
     /// Where the network is stable no rule is enabled.
     ghost stable_is_quiet: { (s : State) → IsState s → IsStable table.flags s → enabled_names table s ≡ [] };
 
-    /// The charge is twice the edges that are not closed, one for each pointer that is not answered, and what the nodes add.
-    ghost charge_counts: { (s : State) → table.charge s ≡ 2 * count_by (λ e. not (closed s e)) (edge_list s.network) + count_by (is_unanswered s) (names s.network) + sum_by (adds s) (names s.network) };
+    /// With twice the pointers that close an edge, the charge is twice the edges that are open by their ends, one for each
+    /// pointer that is not answered, and what the nodes add.
+    ghost charge_counts: { (s : State) → IsState s → table.charge s + 2 * count_by (closes s) (names s.network) ≡ 2 * count_by (ends_open COURTED_CLOSE s) (edge_list s.network) + count_by (is_unanswered s) (names s.network) + sum_by (adds s) (names s.network) };
 
     /// Where nodes add nothing, none adds anything.
     ghost adds_nothing: { NODES_ADD ≡ false → (s : State) (v : ℕ) → adds s v ≡ 0 };
 
-    /// An edge of which an end is married adds nothing to the charge.
-    ghost married_closes: { (s : State) (v w : ℕ) → IsTrue (married s v || married s w) → IsTrue (closed s (v, w)) };
+    /// A pointer that is null closes nothing.
+    ghost null_closes_none: { (s : State) (v : ℕ) → pointer s v ≡ None → closes s v ≡ false };
+
+    /// A married node's pointer closes nothing that its ends leave open.
+    ghost married_closes_none: { (s : State) (v : ℕ) → IsTrue (married s v) → closes s v ≡ false };
 
     /// A node adds little to the bound, so that what is counted fits 32 bits.
     ghost is_light: { NODE_WEIGHT ≤ 3 };

@@ -1,9 +1,12 @@
--- Under these rules a node adds nothing to the charge beside its pointer.
-use Rattle.std.proofs.Common.{◌≡◌, ℕ, ◌+◌, ◌*◌, ◌≤◌, true, ◌&&◌, ◌||◌, List, [], ◌∷◌, not, count_by, sum_by, refl, ap, arith}
+-- How the charge is counted. Under these rules a node adds nothing to it beside its pointer.
+use Rattle.std.proofs.Common.{◌≡◌, ℕ, ◌+◌, ◌*◌, ◌≤◌, true, false, List, [], ◌∷◌, None, is_none, count_by, sum_by, refl, ap, ◌∙◌, arith}
 use Rattle.std.proofs.lemmas.List.Sums.{sum_by-cons}
 use Rattle.rule_machine.specs.Network.{names, edge_list}
-use Rattle.rule_machine.specs.State.{State, is_unanswered, married}
-use Rattle.rule_machine.specs.Charge.{awaits, hsu_huang_closed, hsu_huang_charge, is_courted}
+use Rattle.rule_machine.specs.State.{State, IsState, pointer, holds_at, is_unanswered, married}
+use Rattle.rule_machine.specs.Charge.{hsu_huang_charge}
+use Rattle.rule_set.specs.Ends.{ends_open}
+use Rattle.machine_laws.specs.Pointers.{married_some}
+use Rattle.charge_laws.specs.ClosedByPointers.{hsu_huang_closes, hsu_huang_split}
 
 abbrev pub nothing : State → ℕ → ℕ
 nothing s v = 0
@@ -12,13 +15,19 @@ no_sum : (s : State) (xs : List ℕ) → sum_by (nothing s) xs ≡ 0
 no_sum s [] = refl
 no_sum s (x ∷ xs) = let rest = no_sum s xs in let whole = sum_by-cons (nothing s) x xs in omega (arith, rest, whole)
 
--- so the charge is what the edges and the pointers make of it
-pub charge_without_nodes : (s : State) → hsu_huang_charge s ≡ 2 * count_by (λ e. not (hsu_huang_closed s e)) (edge_list s.network) + count_by (is_unanswered s) (names s.network) + sum_by (nothing s) (names s.network)
-charge_without_nodes s = let none = no_sum s (names s.network) in omega (arith, none)
+-- so the charge is what the ends and the pointers make of it
+pub charge_without_nodes : (s : State) → IsState s → hsu_huang_charge s + 2 * count_by (hsu_huang_closes s) (names s.network) ≡ 2 * count_by (ends_open true s) (edge_list s.network) + count_by (is_unanswered s) (names s.network) + sum_by (nothing s) (names s.network)
+charge_without_nodes s good =
+    let split = hsu_huang_split s good in let none = no_sum s (names s.network) in omega (arith, split, none)
 
--- an edge with a married end is closed
-pub married_closes : (s : State) (v w : ℕ) → married s v || married s w ≡ true → hsu_huang_closed s (v, w) ≡ true
-married_closes s v w is = ap (λ b. b || awaits s v w || awaits s w v || (is_courted s v && is_courted s w)) is
+-- a null pointer closes nothing
+pub null_closes : (s : State) (v : ℕ) → pointer s v ≡ None → hsu_huang_closes s v ≡ false
+null_closes s v null = ap (holds_at (λ w. is_none (pointer s w))) null
+
+-- nor does that of a married node, whose target points back
+pub married_closes : (s : State) (v : ℕ) → married s v ≡ true → hsu_huang_closes s v ≡ false
+married_closes s v is =
+    let both = married_some s v is in ap (holds_at (λ w. is_none (pointer s w))) both.1 ∙ ap is_none both.2
 
 pub light : 1 ≤ 3
 light = omega arith

@@ -9,11 +9,11 @@ pub struct HsuHuang;
 
 impl Rules for HsuHuang {
     ghost use Rattle.std.specs.Prelude.{true, false, refl};
+    ghost use Rattle.charge_laws.specs.ClosedByPointers.{hsu_huang_closes};
     ghost use Rattle.charge_laws.specs.Laws.{hsu_huang_charged};
     ghost use Rattle.charge_laws.specs.Tables.{hsu_huang_flagless};
     ghost use Rattle.rule_machine.specs.HsuHuang.{hsu_huang};
-    ghost use Rattle.rule_machine.specs.Charge.{hsu_huang_closed};
-    ghost use Rattle.rules_hsu_huang.specs.Charge.{nothing, charge_without_nodes, light, married_closes};
+    ghost use Rattle.rules_hsu_huang.specs.Charge.{nothing, charge_without_nodes, light, null_closes, married_closes};
     ghost use Rattle.rules_hsu_huang.specs.Rule.{guard_is_glance, guard_is_local, one_rule_at};
     ghost use Rattle.rules_hsu_huang.specs.Target.{allowed_near, allowed_takes, target_from_guard};
     ghost use Rattle.rules_hsu_huang.specs.Quiet.{stable_from_quiet, quiet_from_stable};
@@ -30,7 +30,9 @@ impl Rules for HsuHuang {
 
     ghost NODE_WEIGHT = { 1 };
 
-    ghost closed = { hsu_huang_closed };
+    ghost COURTED_CLOSE = { true };
+
+    ghost closes = { hsu_huang_closes };
 
     ghost adds = { nothing };
 
@@ -43,6 +45,8 @@ impl Rules for HsuHuang {
     const NODES_ADD: bool = false;
 
     const NODE_WEIGHT: u64 = 1;
+
+    const COURTED_CLOSE: bool = true;
 
     fn opens(pointer: Option<Node>, _flag: bool) -> bool {
         pointer.is_none()
@@ -78,16 +82,8 @@ impl Rules for HsuHuang {
         }
     }
 
-    fn is_closed(low: &Standing, high: &Standing) -> bool {
-        if low.is_married || high.is_married {
-            return true;
-        }
-        match (low.pointer, high.pointer) {
-            (Some(w), None) => w == high.node,
-            (None, Some(v)) => v == low.node,
-            (None, None) => low.has_suitor && high.has_suitor,
-            (Some(_), Some(_)) => false,
-        }
+    fn closes(_node: &Standing, target: &Standing) -> bool {
+        target.pointer.is_none()
     }
 
     fn node_charge(_: &Standing) -> u32 {
@@ -120,7 +116,9 @@ impl Rules for HsuHuang {
 
     ghost adds_nothing = { λ _ _ _. refl };
 
-    ghost married_closes = { married_closes };
+    ghost null_closes_none = { null_closes };
+
+    ghost married_closes_none = { married_closes };
 
     ghost is_light = { light };
 

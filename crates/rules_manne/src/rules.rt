@@ -17,14 +17,15 @@ pub struct Manne;
 
 impl Rules for Manne {
     ghost use Rattle.std.specs.Prelude.{true, false, refl};
+    ghost use Rattle.charge_laws.specs.ClosedByPointers.{manne_closes};
     ghost use Rattle.charge_laws.specs.Laws.{manne_charged};
     ghost use Rattle.charge_laws.specs.Tables.{manne_flagless};
     ghost use Rattle.rule_machine.specs.Manne.{manne};
-    ghost use Rattle.rule_machine.specs.Charge.{manne_closed, manne_node_charge};
+    ghost use Rattle.rule_machine.specs.Charge.{manne_node_charge};
     ghost use Rattle.rules_manne.specs.Rule.{guard_is_glance, guard_is_local, one_rule_at};
     ghost use Rattle.rules_manne.specs.Target.{allowed_near, allowed_takes, target_from_guard};
     ghost use Rattle.rules_manne.specs.Quiet.{stable_from_quiet, quiet_from_stable};
-    ghost use Rattle.rules_manne.specs.Charge.{adds_always, counted, light, married_closes};
+    ghost use Rattle.rules_manne.specs.Charge.{adds_always, counted, light, null_closes, married_closes};
 
     ghost table = { manne };
 
@@ -38,7 +39,9 @@ impl Rules for Manne {
 
     ghost NODE_WEIGHT = { 3 };
 
-    ghost closed = { manne_closed };
+    ghost COURTED_CLOSE = { false };
+
+    ghost closes = { manne_closes };
 
     ghost adds = { manne_node_charge };
 
@@ -51,6 +54,8 @@ impl Rules for Manne {
     const NODES_ADD: bool = true;
 
     const NODE_WEIGHT: u64 = 3;
+
+    const COURTED_CLOSE: bool = false;
 
     fn opens(pointer: Option<Node>, flag: bool) -> bool {
         pointer.is_none() && !flag
@@ -83,14 +88,8 @@ impl Rules for Manne {
         }
     }
 
-    fn is_closed(low: &Standing, high: &Standing) -> bool {
-        if low.is_married || high.is_married {
-            return true;
-        }
-        match low.pointer {
-            Some(w) => w == high.node && !high.flag,
-            None => false,
-        }
+    fn closes(node: &Standing, target: &Standing) -> bool {
+        !node.is_married && node.node < target.node && !target.flag && !target.is_married
     }
 
     fn node_charge(node: &Standing) -> u32 {
@@ -127,7 +126,9 @@ impl Rules for Manne {
 
     ghost adds_nothing = { adds_always };
 
-    ghost married_closes = { married_closes };
+    ghost null_closes_none = { null_closes };
+
+    ghost married_closes_none = { married_closes };
 
     ghost is_light = { light };
 

@@ -1,0 +1,137 @@
+-- The open edges, counted as the edges that are open by what their ends are, less those that a pointer closes.
+use Rattle.std.proofs.Common.{◌≡◌, ℕ, ◌+◌, Bool, true, false, cond, not, ◌&&◌, ◌||◌, List, count_by, Option, None, Some, is_none, IfSome, IsTrue, nat_eq, nat_lt, refl, sym, ap, ◌∙◌, ⊎_elim, arith}
+use Rattle.std.proofs.lemmas.Bool.{and_parts, and_left, cases_eq, ne_eqb, true≢false}
+use Rattle.std.proofs.Math.Bool.{and-false}
+use Rattle.std.proofs.lemmas.Option.{none-some}
+use Rattle.rule_machine.specs.Network.{linked, names, neighbours, edge_list}
+use Rattle.rule_machine.specs.State.{State, IsState, is_at, holds_at, pointer, flag, points, married, has_suitor}
+use Rattle.rule_machine.specs.Charge.{awaits, is_courted, hsu_huang_closed, manne_closed}
+use Rattle.machine_laws.specs.Pointers.{if_some_from, points_true, pointer_linked, suitor_linked, null_unmarried, unanswered_unmarried}
+use Rattle.machine_laws.specs.Neighbours.{linked_present}
+use Rattle.charge_laws.specs.Counting.{IsIn, IsWithoutRepeats, sum_add, sum_agree, count_agree}
+use Rattle.charge_laws.specs.Members.{in_names, names_without_repeats}
+use Rattle.charge_laws.specs.EdgesByNodes.{zeros, marked_once, count_filter, edges_by_nodes}
+use Rattle.charge_laws.specs.EdgesByEnds.{by_both}
+use Rattle.charge_laws.specs.Stances.{null_from}
+
+-- Hsu and Huang: an edge is open by what its ends are, whoever points at whom
+abbrev pub hsu_huang_apart : State → ℕ × ℕ → Bool
+hsu_huang_apart s e = not (married s e.0) && not (married s e.1) && not (is_courted s e.0 && is_courted s e.1)
+
+-- v points at a node that points nowhere: that edge is closed all the same
+abbrev pub hsu_huang_closes : State → ℕ → Bool
+hsu_huang_closes s v = holds_at (λ w. is_none (pointer s w)) (pointer s v)
+
+-- Manne and others: likewise
+abbrev pub manne_apart : State → ℕ × ℕ → Bool
+manne_apart s e = not (married s e.0) && not (married s e.1)
+
+-- v points at a higher node that is not flagged, and neither is married
+abbrev pub manne_closes : State → ℕ → Bool
+manne_closes s v = not (married s v) && holds_at (λ w. nat_lt v w && not (flag s w) && not (married s w)) (pointer s v)
+
+-- ---- a pointer is at one neighbour
+
+-- what a pointer is at is counted once
+at_once : (o : Option ℕ) (test : ℕ → Bool) (xs : List ℕ) → IfSome o (λ w. IsIn w xs) → IsWithoutRepeats xs → count_by (λ w. is_at o w && test w) xs ≡ cond (holds_at test o) 1 0
+at_once None test xs at single = zeros xs
+at_once (Some x) test xs at single = count_agree (λ w. nat_eq x w && test w) (λ w. nat_eq x w && test x) same xs ∙ marked_once x (test x) xs at single
+  where
+    same : (w : ℕ) → (nat_eq x w && test w) ≡ (nat_eq x w && test x)
+    same w = ⊎_elim (λ e. ap (λ y. nat_eq x w && test y) (sym e)) (λ apart. let none = ne_eqb x w apart in and_left (nat_eq x w) (test w) none ∙ sym (and_left (nat_eq x w) (test x) none)) (cases_eq x w)
+
+-- among the neighbours that pass a test, v's target is one if it passes
+target_counted : (s : State) → IsState s → (test : ℕ → Bool) (v : ℕ) → count_by (λ w. points s.registers v w && test w) (neighbours s.network v) ≡ cond (holds_at test (pointer s v)) 1 0
+target_counted s good test v =
+    count_filter (λ w. points s.registers v w && test w) (linked s.network v) (names s.network)
+    ∙ count_agree (λ w. linked s.network v w && (points s.registers v w && test w)) (λ w. points s.registers v w && test w) same (names s.network)
+    ∙ at_once (pointer s v) test (names s.network) (if_some_from (pointer s v) (λ w. IsIn w (names s.network)) named) (names_without_repeats s.network)
+  where
+    named : (w : ℕ) → pointer s v ≡ Some w → IsIn w (names s.network)
+    named w e = in_names s.network w (linked_present s.network w v good.is_network (suitor_linked s w v good e))
+
+    near : (l p t : Bool) → (IsTrue p → IsTrue l) → (l && (p && t)) ≡ (p && t)
+    near true p t h = refl
+    near false false t h = refl
+    near false true t h = absurd (true≢false (sym (h refl)))
+
+    same : (w : ℕ) → (linked s.network v w && (points s.registers v w && test w)) ≡ (points s.registers v w && test w)
+    same w = near (linked s.network v w) (points s.registers v w) (test w) (λ h. pointer_linked s v w good (points_true s v w h))
+
+-- ---- Manne and others
+
+-- e's lower end points at the higher one and so closes e, which is open by its ends
+abbrev manne_pointed : State → ℕ × ℕ → Bool
+manne_pointed s e = points s.registers e.0 e.1 && (not (married s e.0) && (not (flag s e.1) && not (married s e.1)))
+
+-- at each node, that is the edge to its target, if any
+manne_pointed_above : (s : State) → IsState s → (v : ℕ) → count_by (λ w. nat_lt v w && manne_pointed s (v, w)) (neighbours s.network v) ≡ cond (manne_closes s v) 1 0
+manne_pointed_above s good v =
+    count_agree (λ w. nat_lt v w && manne_pointed s (v, w)) (λ w. points s.registers v w && (not (married s v) && high w)) (λ w. order (nat_lt v w) (points s.registers v w) (not (married s v)) (not (flag s w)) (not (married s w))) (neighbours s.network v)
+    ∙ target_counted s good (λ w. not (married s v) && high w) v
+    ∙ ap (λ b. cond b 1 0) (outside (not (married s v)) (pointer s v))
+  where
+    high : ℕ → Bool
+    high w = nat_lt v w && not (flag s w) && not (married s w)
+
+    order : (l p m f n : Bool) → (l && (p && (m && (f && n)))) ≡ (p && (m && (l && f && n)))
+    order true p m f n = refl
+    order false false m f n = refl
+    order false true false f n = refl
+    order false true true f n = refl
+
+    outside : (m : Bool) (o : Option ℕ) → holds_at (λ w. m && high w) o ≡ (m && holds_at high o)
+    outside true o = refl
+    outside false None = refl
+    outside false (Some w) = refl
+
+-- The edges that are open by their ends are the open ones and those that a pointer at a higher node closes.
+pub manne_split : (s : State) → IsState s → count_by (λ e. not (manne_closed s e)) (edge_list s.network) + count_by (manne_closes s) (names s.network) ≡ count_by (manne_apart s) (edge_list s.network)
+manne_split s good =
+    let each = sum_agree (λ e. cond (manne_apart s e) 1 0) (λ e. cond (not (manne_closed s e)) 1 0 + cond (manne_pointed s e) 1 0) (λ e. one (married s e.0) (married s e.1) (points s.registers e.0 e.1) (not (flag s e.1))) (edge_list s.network) in
+    let both = sum_add (λ e. cond (not (manne_closed s e)) 1 0) (λ e. cond (manne_pointed s e) 1 0) (edge_list s.network) in
+    let nodes = edges_by_nodes s.network good.is_network (manne_pointed s) in
+    let targets = sum_agree (λ v. count_by (λ w. nat_lt v w && manne_pointed s (v, w)) (neighbours s.network v)) (λ v. cond (manne_closes s v) 1 0) (manne_pointed_above s good) (names s.network) in
+    omega (arith, each, both, nodes, targets)
+  where
+    one : (m n p f : Bool) → ◌≡◌ {A = ℕ} (cond (not m && not n) 1 0) (cond (not (m || n || (p && f))) 1 0 + cond (p && (not m && (f && not n))) 1 0)
+    one true n false f = refl
+    one true n true f = refl
+    one false true false f = refl
+    one false false false f = refl
+    one false true true true = refl
+    one false true true false = refl
+    one false false true true = refl
+    one false false true false = refl
+
+-- ---- Hsu and Huang
+
+-- an edge that a waiting pointer closes is open by its ends, and has no other such pointer
+awaits_blocks : (s : State) (v w : ℕ) → IsTrue (awaits s v w) → (married s v ≡ false) × (married s w ≡ false) × (is_courted s v ≡ false) × (awaits s w v ≡ false)
+awaits_blocks s v w h =
+    let parts = and_parts (points s.registers v w) (is_none (pointer s w)) h in
+    let at = points_true s v w parts.0 in
+    let null = null_from (pointer s w) parts.1 in (
+      unanswered_unmarried s v w at (λ back. none-some v (sym null ∙ back)),
+      null_unmarried s w null,
+      ap (λ o. is_none o && has_suitor s v) at,
+      ap (λ o. is_at o v && is_none (pointer s v)) null,
+    )
+
+-- an edge that is open by its ends is open, or the pointer of one end closes it
+hsu_huang_one : (m n p q c d : Bool) → (IsTrue p → (m ≡ false) × (n ≡ false) × (c ≡ false) × (q ≡ false)) → (IsTrue q → (n ≡ false) × (m ≡ false) × (d ≡ false) × (p ≡ false)) → ◌≡◌ {A = ℕ} (cond (not m && not n && not (c && d)) 1 0) (cond (not (m || n || p || q || (c && d))) 1 0 + (cond p 1 0 + cond q 1 0))
+hsu_huang_one m n true q c d h k = let no = h refl in rw (no.0, no.1, no.2, no.3) refl
+hsu_huang_one m n false true c d h k = let no = k refl in rw (no.0, no.1, no.2, and-false c) refl
+hsu_huang_one true n false false c d h k = refl
+hsu_huang_one false true false false c d h k = refl
+hsu_huang_one false false false false c d h k = omega arith
+
+-- The edges that are open by their ends are the open ones and those that a pointer at a null node closes.
+pub hsu_huang_split : (s : State) → IsState s → count_by (λ e. not (hsu_huang_closed s e)) (edge_list s.network) + count_by (hsu_huang_closes s) (names s.network) ≡ count_by (hsu_huang_apart s) (edge_list s.network)
+hsu_huang_split s good =
+    let each = sum_agree (λ e. cond (hsu_huang_apart s e) 1 0) (λ e. cond (not (hsu_huang_closed s e)) 1 0 + (cond (awaits s e.0 e.1) 1 0 + cond (awaits s e.1 e.0) 1 0)) (λ e. hsu_huang_one (married s e.0) (married s e.1) (awaits s e.0 e.1) (awaits s e.1 e.0) (is_courted s e.0) (is_courted s e.1) (awaits_blocks s e.0 e.1) (awaits_blocks s e.1 e.0)) (edge_list s.network) in
+    let open_and = sum_add (λ e. cond (not (hsu_huang_closed s e)) 1 0) (λ e. cond (awaits s e.0 e.1) 1 0 + cond (awaits s e.1 e.0) 1 0) (edge_list s.network) in
+    let either = sum_add (λ (e : ℕ × ℕ). cond (awaits s e.0 e.1) 1 0) (λ e. cond (awaits s e.1 e.0) 1 0) (edge_list s.network) in
+    let nodes = by_both s.network good.is_network (awaits s) in
+    let targets = sum_agree (λ v. count_by (awaits s v) (neighbours s.network v)) (λ v. cond (hsu_huang_closes s v) 1 0) (target_counted s good (λ w. is_none (pointer s w))) (names s.network) in
+    omega (arith, each, open_and, either, nodes, targets)

@@ -1,0 +1,164 @@
+-- The edges that pass a test are counted at their higher ends, at both ends, and where only one node changes.
+use Rattle.std.proofs.Common.{◌≡◌, ℕ, ◌+◌, ◌<◌, min, max, Bool, true, false, cond, not, ◌&&◌, List, [], ◌∷◌, count_by, sum_by, nat_eq, nat_lt, IsTrue, refl, sym, ap, ap₂, ◌∙◌, subst, inl, inr, ⊎_elim, arith}
+use Rattle.std.specs.FinMap as map
+use Rattle.std.proofs.lemmas.Bool.{and_parts, and_from, eq-eqb, ne_eqb, eqb-true, eqb-false, lt-ltb, le-ltb, ltb-true, cases_order}
+use Rattle.std.proofs.lemmas.List.Sums.{sum_by-cons}
+use Rattle.rule_machine.specs.Network.{Network, IsNetwork, edge, names, present, linked, neighbours, edge_list}
+use Rattle.charge_laws.specs.Counting.{IsIn, IsInjection, count_into, count_agree, sum_add, sum_agree}
+use Rattle.charge_laws.specs.Members.{in_names, names_without_repeats, in_edges, edges_contain}
+use Rattle.charge_laws.specs.EdgesByNodes.{edges_without_repeats, by_end, count_filter, at_node, edges_by_nodes}
+
+edge_down : (v w : ℕ) → w < v → edge v w ≡ (w, v)
+edge_down v w below =
+    let low : min v w ≡ w = omega arith in
+    let high : max v w ≡ v = omega arith in
+    ap₂ (λ (a b : ℕ). (a, b)) low high
+
+as_entering : (p : ℕ × ℕ → Bool) (v : ℕ) (e : ℕ × ℕ) → IsTrue (nat_eq e.1 v && p e) → (e ≡ (e.0, v)) × IsTrue (p e)
+as_entering p v e h =
+    let parts = and_parts (nat_eq e.1 v) (p e) h in
+    (ap (λ (b : ℕ). (e.0, b)) (eqb-true e.1 v parts.0), parts.1)
+
+edge_reaches : (net : Network) → IsNetwork net → (p : ℕ × ℕ → Bool) (v w : ℕ) → IsTrue (map.contains_key net.edges (w, v)) → IsTrue (p (w, v)) → IsTrue (linked net v w && (nat_lt w v && p (w, v)))
+edge_reaches net good p v w at passes =
+    let below = good.low_first w v at in
+    and_from (linked net v w) (nat_lt w v && p (w, v)) (subst (λ e. IsTrue (map.contains_key net.edges e)) (sym (edge_down v w below)) at)
+    (and_from (nat_lt w v) (p (w, v)) (lt-ltb w v below) passes)
+
+reached_edge : (net : Network) (p : ℕ × ℕ → Bool) (v w : ℕ) → IsTrue (linked net v w && (nat_lt w v && p (w, v))) → IsTrue (map.contains_key net.edges (w, v)) × IsTrue (p (w, v))
+reached_edge net p v w h =
+    let parts = and_parts (linked net v w) (nat_lt w v && p (w, v)) h in
+    let more = and_parts (nat_lt w v) (p (w, v)) parts.1 in
+    (subst (λ e. IsTrue (map.contains_key net.edges e)) (edge_down v w (ltb-true w v more.0)) parts.0, more.1)
+
+to_lower : (net : Network) → IsNetwork net → (p : ℕ × ℕ → Bool) (v : ℕ) → IsInjection (λ e. nat_eq e.1 v && p e) (edge_list net) (λ e. e.0) (λ w. linked net v w && (nat_lt w v && p (w, v))) (names net)
+to_lower net good p v = record {
+  lands = λ e at passes. in_names net e.0 (good.low_present e.0 e.1 (edges_contain net e at));
+  passes = λ e at passes.
+      let is = as_entering p v e passes in
+      edge_reaches net good p v e.0 (subst (λ f. IsTrue (map.contains_key net.edges f)) is.0 (edges_contain net e at)) (subst (λ f. IsTrue (p f)) is.0 is.1);
+  apart = λ e f at also passes passes_too same.
+      (as_entering p v e passes).0 ∙ ap (λ (a : ℕ). (a, v)) same ∙ sym (as_entering p v f passes_too).0;
+}
+
+from_lower : (net : Network) (p : ℕ × ℕ → Bool) (v : ℕ) → IsInjection (λ w. linked net v w && (nat_lt w v && p (w, v))) (names net) (λ w. (w, v)) (λ e. nat_eq e.1 v && p e) (edge_list net)
+from_lower net p v = record {
+  lands = λ w at passes. in_edges net (w, v) (reached_edge net p v w passes).0;
+  passes = λ w at passes. and_from (nat_eq v v) (p (w, v)) (eq-eqb v v refl) (reached_edge net p v w passes).1;
+  apart = λ w x at also passes passes_too same. ap (λ (e : ℕ × ℕ). e.0) same;
+}
+
+-- the edges with this higher end that pass a test, counted at the node
+pub at_upper : (net : Network) → IsNetwork net → (p : ℕ × ℕ → Bool) (v : ℕ) → count_by (λ e. nat_eq e.1 v && p e) (edge_list net) ≡ count_by (λ w. nat_lt w v && p (w, v)) (neighbours net v)
+at_upper net good p v =
+    let down = count_into (λ e. nat_eq e.1 v && p e) (edge_list net) (λ e. e.0) (λ w. linked net v w && (nat_lt w v && p (w, v))) (names net) (edges_without_repeats net) (to_lower net good p v) in
+    let up = count_into (λ w. linked net v w && (nat_lt w v && p (w, v))) (names net) (λ w. (w, v)) (λ e. nat_eq e.1 v && p e) (edge_list net) (names_without_repeats net) (from_lower net p v) in
+    let among = count_filter (λ w. nat_lt w v && p (w, v)) (linked net v) (names net) in
+    omega (arith, down, up, among)
+
+-- The edges that pass a test are those that pass it at each node's neighbours below it.
+pub edges_by_upper : (net : Network) → IsNetwork net → (p : ℕ × ℕ → Bool) → count_by p (edge_list net) ≡ sum_by (λ v. count_by (λ w. nat_lt w v && p (w, v)) (neighbours net v)) (names net)
+edges_by_upper net good p =
+    by_end (λ e. e.1) p (edge_list net) (names net) (names_without_repeats net) (λ e at. in_names net e.1 (good.high_present e.0 e.1 (edges_contain net e at)))
+    ∙ sum_agree (λ v. count_by (λ e. nat_eq e.1 v && p e) (edge_list net)) (λ v. count_by (λ w. nat_lt w v && p (w, v)) (neighbours net v)) (at_upper net good p) (names net)
+
+-- ---- at both ends
+
+linked_apart : (net : Network) → IsNetwork net → (v w : ℕ) → IsTrue (linked net v w) → v ≡ w → ⊥
+linked_apart net good v w h same = let below = good.low_first (min v w) (max v w) h in omega arith
+
+-- what is above or below is one of the two
+one_side : (b c : Bool) (v w : ℕ) → (IsTrue b → v ≡ w → ⊥) → ◌≡◌ {A = ℕ} (cond (b && c) 1 0) (cond (b && (nat_lt v w && c)) 1 0 + cond (b && (nat_lt w v && c)) 1 0)
+one_side false c v w apart = omega arith
+one_side true c v w apart =
+    ⊎_elim (λ same. absurd (apart refl same))
+    (⊎_elim
+    (λ below. by_tests true false (lt-ltb v w below) (le-ltb w v (omega arith)) (omega arith))
+    (λ above. by_tests false true (le-ltb v w (omega arith)) (lt-ltb w v above) (omega arith)))
+    (cases_order v w)
+  where
+    by_tests : (s t : Bool) → nat_lt v w ≡ s → nat_lt w v ≡ t → ◌≡◌ {A = ℕ} (cond c 1 0) (cond (s && c) 1 0 + cond (t && c) 1 0) → ◌≡◌ {A = ℕ} (cond c 1 0) (cond (nat_lt v w && c) 1 0 + cond (nat_lt w v && c) 1 0)
+    by_tests s t e f h = h ∙ sym (ap₂ {C = ℕ} (λ s t. cond (s && c) 1 0 + cond (t && c) 1 0) e f)
+
+-- a node's neighbours are those above it and those below it
+two_sides : (net : Network) → IsNetwork net → (q : ℕ → Bool) (v : ℕ) → count_by q (neighbours net v) ≡ count_by (λ w. nat_lt v w && q w) (neighbours net v) + count_by (λ w. nat_lt w v && q w) (neighbours net v)
+two_sides net good q v =
+    let all = count_filter q (linked net v) (names net) in
+    let above = count_filter (λ w. nat_lt v w && q w) (linked net v) (names net) in
+    let below = count_filter (λ w. nat_lt w v && q w) (linked net v) (names net) in
+    let each = sum_agree (λ w. cond (linked net v w && q w) 1 0) (λ w. cond (linked net v w && (nat_lt v w && q w)) 1 0 + cond (linked net v w && (nat_lt w v && q w)) 1 0) (λ w. one_side (linked net v w) (q w) v w (linked_apart net good v w)) (names net) in
+    let both = sum_add (λ w. cond (linked net v w && (nat_lt v w && q w)) 1 0) (λ w. cond (linked net v w && (nat_lt w v && q w)) 1 0) (names net) in
+    omega (arith, all, above, below, each, both)
+
+-- What is counted at each node's neighbours is counted at each edge from both of its ends.
+pub by_both : (net : Network) → IsNetwork net → (r : ℕ → ℕ → Bool) → sum_by (λ v. count_by (r v) (neighbours net v)) (names net) ≡ count_by (λ e. r e.0 e.1) (edge_list net) + count_by (λ e. r e.1 e.0) (edge_list net)
+by_both net good r =
+    let each = sum_agree (λ v. count_by (r v) (neighbours net v)) (λ v. count_by (λ w. nat_lt v w && r v w) (neighbours net v) + count_by (λ w. nat_lt w v && r v w) (neighbours net v)) (λ v. two_sides net good (r v) v) (names net) in
+    let both = sum_add (λ v. count_by (λ w. nat_lt v w && r v w) (neighbours net v)) (λ v. count_by (λ w. nat_lt w v && r v w) (neighbours net v)) (names net) in
+    let lower = edges_by_nodes net good (λ e. r e.0 e.1) in
+    let upper = edges_by_upper net good (λ e. r e.1 e.0) in
+    omega (arith, each, both, lower, upper)
+
+-- ---- a change at one node
+
+-- what passes a test passes another with it or does not
+count_split : {X : Type 0} (s p : X → Bool) (xs : List X) → count_by p xs ≡ count_by (λ x. s x && p x) xs + count_by (λ x. not (s x) && p x) xs
+count_split s p xs =
+    sum_agree (λ x. cond (p x) 1 0) (λ x. cond (s x && p x) 1 0 + cond (not (s x) && p x) 1 0) (λ x. one (s x) (p x)) xs
+    ∙ sum_add (λ x. cond (s x && p x) 1 0) (λ x. cond (not (s x) && p x) 1 0) xs
+  where
+    one : (b c : Bool) → ◌≡◌ {A = ℕ} (cond c 1 0) (cond (b && c) 1 0 + cond (not b && c) 1 0)
+    one true c = omega arith
+    one false c = omega arith
+
+-- whether a pair has the node at neither end and passes a test
+abbrev elsewhere : ℕ → (ℕ → ℕ → Bool) → ℕ × ℕ → Bool
+elsewhere v p e = not (nat_eq e.1 v) && (not (nat_eq e.0 v) && p e.0 e.1)
+
+-- the other end of an edge to a node from below it is another node, and a symmetric test does not mind which end is first
+from_below : (p : ℕ → ℕ → Bool) (v : ℕ) → ((a b : ℕ) → p a b ≡ p b a) → (w : ℕ) → (nat_lt w v && (not (nat_eq w v) && p w v)) ≡ (nat_lt w v && p v w)
+from_below p v symmetric w = go (nat_lt w v) refl
+  where
+    go : (b : Bool) → nat_lt w v ≡ b → (b && (not (nat_eq w v) && p w v)) ≡ (b && p v w)
+    go true below = let under = ltb-true w v below in ap (λ t. not t && p w v) (ne_eqb w v (λ same. omega arith)) ∙ symmetric w v
+    go false above = refl
+
+-- The edges that pass a symmetric test are those that pass it at a node's neighbours, and those that pass it elsewhere.
+around : (net : Network) → IsNetwork net → (p : ℕ → ℕ → Bool) (v : ℕ) → ((a b : ℕ) → p a b ≡ p b a) → count_by (λ e. p e.0 e.1) (edge_list net) ≡ count_by (p v) (neighbours net v) + count_by (elsewhere v p) (edge_list net)
+around net good p v symmetric =
+    let leaving = count_split (λ e. nat_eq e.0 v) (λ e. p e.0 e.1) (edge_list net) in
+    let entering = count_split (λ e. nat_eq e.1 v) (λ e. not (nat_eq e.0 v) && p e.0 e.1) (edge_list net) in
+    let above = at_node net good (λ e. p e.0 e.1) v in
+    let below = at_upper net good (λ e. not (nat_eq e.0 v) && p e.0 e.1) v in
+    let turn = count_agree (λ w. nat_lt w v && (not (nat_eq w v) && p w v)) (λ w. nat_lt w v && p v w) (from_below p v symmetric) (neighbours net v) in
+    let sides = two_sides net good (p v) v in
+    omega (arith, leaving, entering, above, below, turn, sides)
+
+-- Where two symmetric tests differ only at one node, so do their counts only at its neighbours.
+pub turned : (net : Network) → IsNetwork net → (p q : ℕ → ℕ → Bool) (v : ℕ) → ((a b : ℕ) → p a b ≡ p b a) → ((a b : ℕ) → q a b ≡ q b a) → ((a b : ℕ) → (a ≡ v → ⊥) → (b ≡ v → ⊥) → q a b ≡ p a b) → count_by (λ e. q e.0 e.1) (edge_list net) + count_by (p v) (neighbours net v) ≡ count_by (λ e. p e.0 e.1) (edge_list net) + count_by (q v) (neighbours net v)
+turned net good p q v p_symmetric q_symmetric same =
+    let before = around net good p v p_symmetric in
+    let after = around net good q v q_symmetric in
+    let rest = count_agree (elsewhere v q) (elsewhere v p) (λ e. go e.0 e.1 (nat_eq e.0 v) (nat_eq e.1 v) refl refl) (edge_list net) in
+    omega (arith, before, after, rest)
+  where
+    go : (a b : ℕ) (s t : Bool) → nat_eq a v ≡ s → nat_eq b v ≡ t → (not t && (not s && q a b)) ≡ (not t && (not s && p a b))
+    go a b s true e f = refl
+    go a b true false e f = refl
+    go a b false false e f = same a b (eqb-false a v e) (eqb-false b v f)
+
+-- ---- tests that agree on what is there
+
+agree_in : {X : Type 0} (p q : X → Bool) (xs : List X) → ((x : X) → IsIn x xs → p x ≡ q x) → count_by p xs ≡ count_by q xs
+agree_in p q [] same = refl
+agree_in p q (x ∷ xs) same =
+    let left = sum_by-cons (λ y. cond (p y) 1 0) x xs in
+    let right = sum_by-cons (λ y. cond (q y) 1 0) x xs in
+    let here : ◌≡◌ {A = ℕ} (cond (p x) 1 0) (cond (q x) 1 0) = ap (λ b. cond b 1 0) (same x (inl refl)) in
+    let rest = agree_in p q xs (λ y there. same y (inr there)) in
+    omega (arith, left, right, here, rest)
+
+-- Tests that agree on nodes count the same edges.
+pub edges_agree : (net : Network) → IsNetwork net → (p q : ℕ × ℕ → Bool) → ((a b : ℕ) → IsTrue (present net a) → IsTrue (present net b) → p (a, b) ≡ q (a, b)) → count_by p (edge_list net) ≡ count_by q (edge_list net)
+edges_agree net good p q same =
+    agree_in p q (edge_list net) (λ e there. let at = edges_contain net e there in same e.0 e.1 (good.low_present e.0 e.1 at) (good.high_present e.0 e.1 at))
