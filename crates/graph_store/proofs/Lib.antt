@@ -10,3 +10,4 @@ pub mod Faults
 pub mod Present
 pub mod Leaving
 pub mod Listed
+pub mod Opened

@@ -3,15 +3,17 @@
 ghost use Rattle.std.specs.Prelude.{◌≡◌, ◌≤◌, false, length, [], slice_get, slice_set, IfOk, IfErr, OnOk, OnErr, MatchOption, IsTrue, All, None, Some};
 ghost use Rattle.rule_machine.specs.Network.{Network, edgeless, edgeless_with, with_node, without_node, names, node_count, edge_count, edge_list, present, linked, neighbours, with_edge, without_edge};
 ghost use Rattle.graph_store.specs.Fault.{nodes_fault, ends_fault, join_fault, leave_fault, link_fault, unlink_fault, Explains};
+ghost use Rattle.graph_store.specs.Ends.{end_at, open_edges};
 ghost use Rattle.graph_store.specs.Graph.{HasRoomFor};
 ghost use Rattle.graph_store.specs.Rows.{IsGapFor};
 ghost use Rattle.graph_store.specs.declared.fault.GraphFault.TheVariants.{Memory};
 
-use crate::GraphFault;
+use crate::ends::{are_open, shut_ends, turn_end};
 use crate::roll::first_names;
 use crate::rows::{
     empty_rows, find_gap, find_place, guess_gap, list_pairs, put_both, reserve_both, take_both,
 };
+use crate::{End, GraphFault};
 use enabled_set::EnabledSet;
 use rule_machine::{Edge, Node, Want};
 use std::alloc::Global;
@@ -23,15 +25,18 @@ pub const MAX_NODES: u32 = 65_535;
 /// The most edges that a graph has.
 pub const MAX_EDGES: u32 = 1_048_576;
 
-/// The names 1 to n, those of them that are nodes, and the edges between these, seen in contracts as the network of the three, and
-/// how many more neighbours each name has room for: each name has the sorted list of its neighbours, two bytes a neighbour, and
-/// a bit that says whether it is present. Names that are absent have no neighbours.
+/// The names 1 to n, those of them that are nodes, and the edges between these, seen in contracts as the network of the three, for
+/// how many more neighbours each name has room, and what each name makes of the edges at it. Each name has the sorted list of its
+/// neighbours, two bytes a neighbour, a bit that says whether it is present, and a byte for what it makes of its edges. Names that
+/// are absent have no neighbours.
 #[derive(Drop)]
 pub struct EdgeStore {
     rows: Vec<Vec<Node>>,
     nodes: u32,
     here: EnabledSet,
     edges: u32,
+    ends: Vec<End>,
+    open_edges: u32,
     // Where the last edge for which room was made belongs in its first end's row: a guess, which is looked at before it is used.
     last_gap: usize,
 }
@@ -41,14 +46,15 @@ impl Model for EdgeStore {
     ghost use Rattle.std.specs.Vec.{vec_len, vec_capacity};
     ghost use Rattle.graph_store.specs.Graph.{Graph, graph_code};
     ghost use Rattle.graph_store.specs.Rows.{contents, network_of, IsStore};
+    ghost use Rattle.graph_store.specs.Ends.{AreCounted};
 
     ghost Value = { Graph };
 
     ghost coded = { graph_code };
 
-    ghost view = { λ s. record { network = network_of s.nodes s.here (contents s.rows.items); room = map (λ row. vec_capacity row - vec_len row) s.rows.items } };
+    ghost view = { λ s. record { network = network_of s.nodes s.here (contents s.rows.items); room = map (λ row. vec_capacity row - vec_len row) s.rows.items; ends = s.ends.items } };
 
-    ghost invariant = { λ s. IsStore s.nodes s.here s.edges (contents s.rows.items) };
+    ghost invariant = { λ s. IsStore s.nodes s.here s.edges (contents s.rows.items) × AreCounted s.nodes (contents s.rows.items) s.ends.items s.open_edges };
 }
 
 impl EdgeStore {
@@ -62,8 +68,8 @@ impl EdgeStore {
         EdgeStore::with_present(alloc, nodes, nodes)
     }
 
-    /// The graph of the names 1 to `nodes`, of which 1 to `present` are nodes, with no edge; takes memory for one empty list a
-    /// name, and a bit a name. `TooManyNodes` above 65,535 names, and `Memory` if memory runs out.
+    /// The graph of the names 1 to `nodes`, of which 1 to `present` are nodes, with no edge; takes memory for one empty list, a
+    /// byte and a bit a name. `TooManyNodes` above 65,535 names, and `Memory` if memory runs out.
     pub fn with_present(alloc: Global, nodes: u32, present: u32) -> Result<EdgeStore, GraphFault>
         requires within { present ≤ nodes }
         ensures ok { IfOk result (λ store. store.network ≡ edgeless_with nodes present) }
@@ -75,11 +81,14 @@ impl EdgeStore {
         }
         let rows = empty_rows(alloc, nodes as usize + 1).map_err(|_| GraphFault::Memory)?;
         let here = first_names(alloc, nodes, present).map_err(|_| GraphFault::Memory)?;
+        let ends = shut_ends(alloc, nodes as usize + 1).map_err(|_| GraphFault::Memory)?;
         Ok(EdgeStore {
             rows,
             nodes,
             here,
             edges: 0,
+            ends,
+            open_edges: 0,
             last_gap: 0,
         })
     }
@@ -154,6 +163,34 @@ impl EdgeStore {
         list_pairs(self.rows.allocator().clone()?, &self.rows, self.edges)
     }
 
+    /// How many edges are open by what their ends make of them. One look.
+    pub fn open_edges(&self) -> u32
+        ensures count { result ≡ open_edges self.now.network self.now.ends }
+        ensures few { result ≤ 1048576 }
+    {
+        self.open_edges
+    }
+
+    /// Says what a name makes of the edges at it from now on, where at first each name shuts them: one look where that was said
+    /// before, else one at each neighbour. Takes no memory.
+    pub fn turn(&mut self, v: Node, end: End)
+        requires { v ≤ self.old.network.size }
+        ensures told { end_at self.new.ends v ≡ end }
+        ensures ends { self.new.ends ≡ slice_set self.old.ends v end }
+        ensures network { self.new.network ≡ self.old.network }
+        ensures room { self.new.room ≡ self.old.room }
+    {
+        if self.ends[v.place()] != end {
+            self.open_edges = turn_end(
+                &self.rows[v.place()],
+                &mut self.ends,
+                self.open_edges,
+                v,
+                end,
+            );
+        }
+    }
+
     // Whether an edge may join the two, which have to be nodes of the graph, and different.
     fn check_ends(&self, a: Node, b: Node) -> Result<(), GraphFault>
         ensures ok { OnOk result (ends_fault self.now.network a b ≡ None) }
@@ -223,6 +260,7 @@ impl EdgeStore {
     {
         put_both(&mut self.rows, a, place_in_a, b, place_in_b);
         self.edges += 1;
+        self.open_edges += u32::from(are_open(&self.ends, a, b));
     }
 
     /// Puts in the edge between two nodes: by a look-up by halves and a shift in the rows of the two.
@@ -280,6 +318,7 @@ impl EdgeStore {
         };
         take_both(&mut self.rows, a, place_in_a, b, place_in_b);
         self.edges -= 1;
+        self.open_edges -= u32::from(are_open(&self.ends, a, b));
         Ok(())
     }
 

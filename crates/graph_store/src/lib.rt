@@ -2,10 +2,13 @@
 #![tactic(auto)]
 
 mod edge_store;
+mod end;
+mod ends;
 mod fault;
 mod roll;
 mod rows;
 
 pub use edge_store::{EdgeStore, MAX_EDGES, MAX_NODES};
+pub use end::End;
 pub use fault::GraphFault;
 pub use rule_machine::{Edge, Node};

@@ -2,6 +2,8 @@
 use Rattle.std.specs.Prelude.{ℕ, ◌≤◌, Bool, List, Option, refl}
 use Rattle.std.specs.Coded.{Coded, code_by, coded×, coded_ℕ, coded_list}
 use Rattle.rule_machine.specs.State.{State, IsState, state_code}
+use Rattle.graph_store.specs.declared.end.End.{End}
+use Rattle.graph_store.specs.Ends.{end_code}
 use Rattle.suitor_index.specs.declared.tally.Tally.{Tally}
 use Rattle.suitor_index.specs.Tallies.{IsIndexOf}
 
@@ -11,11 +13,12 @@ pub record IsIndexed (above : Bool) (opens : Option ℕ → Bool → Bool) (s : 
   pub index : IsIndexOf above opens s tallies
   pub few : s.network.size ≤ 65535
 
--- a state, and for how many more neighbours each name has room
+-- a state, for how many more neighbours each name has room, and what each makes of the edges at it
 pub record Indexed : Type 0 where
   pub state : State
   pub room : List ℕ
+  pub ends : List End
 
 abbrev pub indexed_code : Coded Indexed
 indexed_code =
-    code_by (State × List ℕ) (coded× state_code (coded_list coded_ℕ)) (λ n. (n.state, n.room)) (λ p. record { state = p.0; room = p.1 }) (λ _. refl)
+    code_by (State × (List ℕ × List End)) (coded× state_code (coded× (coded_list coded_ℕ) (coded_list end_code))) (λ n. (n.state, (n.room, n.ends))) (λ p. record { state = p.0; room = p.1.0; ends = p.1.1 }) (λ _. refl)

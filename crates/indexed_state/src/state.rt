@@ -2,6 +2,7 @@
 
 ghost use Rattle.std.specs.Prelude.{◌≡◌, ◌≢◌, ◌≤◌, false, [], slice_set, IfOk, IfErr, IfSome, OnOk, OnErr, MatchOption, IsTrue, None, Some, not};
 ghost use Rattle.graph_store.specs.Fault.{nodes_fault, link_fault, unlink_fault, Explains};
+ghost use Rattle.graph_store.specs.Ends.{end_at, open_edges};
 ghost use Rattle.graph_store.specs.Graph.{HasRoomFor};
 ghost use Rattle.rule_machine.specs.Network.{present, linked, neighbours, without_edge};
 ghost use Rattle.rule_machine.specs.State.{IsState, opening, opening_with, flag, points};
@@ -12,7 +13,7 @@ ghost use Rattle.machine_laws.specs.Leaves.{after_parting};
 ghost use Rattle.suitor_index.specs.Tallies.{suitor_count, IsLoneSuitor};
 
 use crate::NodeView;
-use graph_store::{EdgeStore, GraphFault};
+use graph_store::{EdgeStore, End, GraphFault};
 use registers::Registers;
 use rule_machine::Node;
 use rule_set::Rules;
@@ -21,7 +22,8 @@ use std::marker::Model;
 use suitor_index::SuitorIndex;
 
 /// The edges and the registers of a network, with what the guards of the rules `R` ask of them counted at each node. Seen in
-/// contracts as a state of the rule machine, and for how many more neighbours each node has room.
+/// contracts as a state of the rule machine, for how many more neighbours each node has room, and what each makes of the edges at
+/// it.
 #[derive(Drop)]
 pub struct IndexedState<R: Rules> {
     pub(crate) store: EdgeStore,
@@ -37,7 +39,7 @@ impl<R: Rules> Model for IndexedState<R> {
 
     ghost coded = { indexed_code };
 
-    ghost view = { λ n. record { state = state_of n.store.network n.registers; room = n.store.room } };
+    ghost view = { λ n. record { state = state_of n.store.network n.registers; room = n.store.room; ends = n.store.ends } };
 
     ghost invariant = { λ n. IsIndexed R.ABOVE R.table.opens (state_of n.store.network n.registers) n.index };
 }
@@ -95,6 +97,26 @@ impl<R: Rules> IndexedState<R> {
         ensures state { IsState self.now.state }
     {
         &self.registers
+    }
+
+    /// How many edges are open by what their ends make of them. One look.
+    pub fn open_edges(&self) -> u32
+        ensures count { result ≡ open_edges self.now.state.network self.now.ends }
+        ensures few { result ≤ 1048576 }
+    {
+        self.store.open_edges()
+    }
+
+    /// Says what a name makes of the edges at it from now on: one look where that was said before, else one at each neighbour. Takes
+    /// no memory.
+    pub fn turn(&mut self, v: Node, end: End)
+        requires { v ≤ self.old.state.network.size }
+        ensures told { end_at self.new.ends v ≡ end }
+        ensures ends { self.new.ends ≡ slice_set self.old.ends v end }
+        ensures state { self.new.state ≡ self.old.state }
+        ensures room { self.new.room ≡ self.old.room }
+    {
+        self.store.turn(v, end);
     }
 
     /// What is shown at a node that is present.

@@ -1,0 +1,56 @@
+-- The edges that are open by what their ends make of them.
+use Rattle.std.specs.Prelude.{◌≡◌, ℕ, ◌+◌, Bool, true, false, not, ◌&&◌, List, length, count_by, slice_index_or, refl}
+use Rattle.std.specs.Coded.{Coded, code_by, coded×, coded_bool}
+use Rattle.std.specs.FinMap as map
+use Rattle.rule_machine.specs.Network.{Network, PairSet}
+use Rattle.graph_store.specs.declared.end.End.{End}
+use Rattle.graph_store.specs.declared.end.End.TheVariants.{Shut, Courted, Free}
+use Rattle.graph_store.specs.Rows.{edges_of}
+
+abbrev pub is_shut : End → Bool
+is_shut Shut = true
+is_shut Courted = false
+is_shut Free = false
+
+abbrev pub is_courted : End → Bool
+is_courted Shut = false
+is_courted Courted = true
+is_courted Free = false
+
+pub to_bools : End → Bool × Bool
+to_bools e = (is_shut e, is_courted e)
+
+pub of_bools : Bool × Bool → End
+of_bools (true, b) = Shut
+of_bools (false, true) = Courted
+of_bools (false, false) = Free
+
+pub told : (e : End) → of_bools (to_bools e) ≡ e
+unfolding of_bools to_bools
+told Shut = refl
+told Courted = refl
+told Free = refl
+
+abbrev pub end_code : Coded End
+end_code = code_by (Bool × Bool) (coded× coded_bool coded_bool) to_bools of_bools told
+
+-- whether an edge between two such nodes is open
+abbrev pub are_open : End → End → Bool
+are_open a b = not (is_shut a) && not (is_shut b) && not (is_courted a && is_courted b)
+
+-- what a node makes of its edges
+abbrev pub end_at : List End → ℕ → End
+end_at ends v = slice_index_or ends v Shut
+
+-- how many of these edges are open
+abbrev pub open_among : List End → PairSet → ℕ
+open_among ends edges = count_by (λ e. are_open (end_at ends e.0) (end_at ends e.1)) (map.keys edges)
+
+-- how many edges of a network are
+abbrev pub open_edges : Network → List End → ℕ
+open_edges net ends = open_among ends net.edges
+
+-- each name has its place, and so many edges of the rows are open
+pub record AreCounted (size : ℕ) (rows : List (List ℕ)) (ends : List End) (count : ℕ) : Type 0 where
+  pub places : length ends ≡ size + 1
+  pub counted : open_among ends (edges_of rows) ≡ count

@@ -1,0 +1,56 @@
+//! What all names make of the edges at them, and how many edges are open by that.
+
+ghost use Rattle.std.specs.Prelude.{◌≡◌, ◌+◌, ◌<◌, ◌≤◌, All, IfOk, count_by, length, replicate, slice_set};
+ghost use Rattle.graph_store.specs.Ends.{are_open, end_at};
+ghost use Rattle.graph_store.specs.declared.end.End.TheVariants.{Shut};
+
+use crate::End;
+use rule_machine::{Node, Want};
+use std::alloc::Global;
+
+/// A place for each of so many, which shuts its edges.
+pub fn shut_ends(alloc: Global, count: usize) -> Result<Vec<End>, Want>
+    ensures { IfOk result (λ ends. ends.items ≡ replicate count Shut) }
+{
+    vec![in alloc; End::Shut; count]
+}
+
+/// Whether an edge between two names is open.
+#[inline(always)]
+pub fn are_open(ends: &[End], a: Node, b: Node) -> bool
+    requires low { a < length ends.now }
+    requires high { b < length ends.now }
+    ensures { result ≡ are_open (end_at ends.now a) (end_at ends.now b) }
+{
+    ends[a.place()].is_open_to(ends[b.place()])
+}
+
+/// How many edges to the names of a row are open at such an end.
+fn open_to(row: &[Node], ends: &[End], end: End) -> u32
+    requires few { length row.now ≤ 65536 }
+    requires within { All (λ w. w < length ends.now) row.now }
+    ensures count { result ≡ count_by (λ w. are_open end (end_at ends.now w)) row.now }
+    ensures few { result ≤ 65536 }
+{
+    let mut count = 0;
+    for &w in row {
+        count += u32::from(end.is_open_to(ends[w.place()]));
+    }
+    count
+}
+
+/// Says what a name with this row makes of the edges at it, and tells how many edges are open then, where so many were before.
+pub fn turn_end(row: &[Node], ends: &mut [End], count: u32, v: Node, end: End) -> u32
+    requires few { length row.now ≤ 65536 }
+    requires within { All (λ w. w < length ends.old) row.now }
+    requires here { v < length ends.old }
+    requires room { count ≤ 1048576 }
+    requires counted { count_by (λ w. are_open (end_at ends.old v) (end_at ends.old w)) row.now ≤ count }
+    ensures ends { ends.new ≡ slice_set ends.old v end }
+    ensures count { result + count_by (λ w. are_open (end_at ends.old v) (end_at ends.old w)) row.now ≡ count + count_by (λ w. are_open end (end_at ends.old w)) row.now }
+{
+    let shut = open_to(row, ends, ends[v.place()]);
+    let opened = open_to(row, ends, end);
+    ends[v.place()] = end;
+    count + opened - shut
+}
