@@ -61,6 +61,13 @@ passed_more q p before low is =
     ∙ sym (ap (filter q) (range_more 1 (p - 1)) ∙ filter-append q (range_with_len 1 (p - 1)) ((1 + (p - 1)) ∷ []))
     ∙ ap (λ n. filter q (range_with_len 1 n)) count
 
+-- the same from below
+pub passed_next : (q : ℕ → Bool) (n : ℕ) (before : List ℕ) → before ≡ filter q (range_with_len 1 n) → before ++ cond (q (n + 1)) ((n + 1) ∷ []) [] ≡ filter q (range_with_len 1 (n + 1))
+passed_next q n before is =
+    let one_less : n + 1 - 1 ≡ n = omega arith in
+    let next : n + 1 + 1 - 1 ≡ n + 1 = omega arith in
+    passed_more q (n + 1) before (omega arith) (is ∙ ap (λ k. filter q (range_with_len 1 k)) (sym one_less)) ∙ ap (λ k. filter q (range_with_len 1 k)) next
+
 -- what is kept of a list whose next place was written, where that counts and where it does not
 pub kept_write : (xs : List ℕ) (i x : ℕ) (b : Bool) → i < length xs → take (i + cond b 1 0) (set xs i x) ≡ take i xs ++ cond b (x ∷ []) []
 kept_write xs i x true within = take_more_set xs i x within

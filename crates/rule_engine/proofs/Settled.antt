@@ -1,11 +1,14 @@
--- What a node of a stable network adds to the charge.
-use Rattle.std.proofs.Common.{◌≡◌, ℕ, Bool, true, false, cond, not, ◌&&◌, ◌||◌, nat_lt, List, [], ◌∷◌, filter, count_by, sum_by, Option, Some, None, IsTrue, IfSome, refl, ap, ◌∙◌, subst, arith}
+-- The charge of a stable network.
+use Rattle.std.proofs.Common.{◌≡◌, ℕ, ◌+◌, ◌*◌, Bool, true, false, cond, not, ◌&&◌, ◌||◌, nat_lt, List, [], ◌∷◌, filter, count_by, sum_by, Option, Some, None, IsTrue, IfSome, refl, ap, ◌∙◌, subst, arith}
 use Rattle.std.proofs.lemmas.List.Sums.{sum_by-cons}
-use Rattle.rule_machine.specs.Network.{names, linked}
+use Rattle.rule_machine.specs.Charge.{is_courted}
+use Rattle.rule_machine.specs.Network.{names, linked, neighbours, edge_list}
 use Rattle.rule_machine.specs.State.{State, IsState, pointer, married, points, holds_at, is_unanswered}
 use Rattle.rule_machine.specs.Stable.{IsStable}
+use Rattle.rule_set.specs.Ends.{ends_open}
 use Rattle.machine_laws.specs.Pointers.{married_from, points_from}
-use Rattle.rule_engine.specs.Charges.{open_above, node_part}
+use Rattle.charge_laws.specs.Counting.{count_agree, sum_agree}
+use Rattle.charge_laws.specs.EdgesByNodes.{zeros, edges_by_nodes}
 
 or_true : (b : Bool) → b || true ≡ true
 or_true true = refl
@@ -43,23 +46,29 @@ none_kept p kept fails (x ∷ xs) = at (kept x) refl (none_kept p kept fails xs)
         let here : cond {A = ℕ} (p x) 1 0 ≡ 0 = ap (λ b. cond {A = ℕ} b 1 0) (fails x is) in
         omega (arith, whole, here, rest)
 
-shut : (b : Bool) → (b && false) ≡ false
-shut true = refl
-shut false = refl
+-- no pointer of a stable network is unanswered
+none_unanswered : (flags : Bool) (s : State) → IsStable flags s → (vs : List ℕ) → count_by (is_unanswered s) vs ≡ 0
+none_unanswered flags s stable vs = count_agree (is_unanswered s) (λ v. false) (λ v. all_answered flags s v stable) vs ∙ zeros vs
 
--- what the node adds by itself, since its pointer is answered and its edges are closed
-pub settled_part : (flags : Bool) (closed : ℕ × ℕ → Bool) (adds : ℕ → ℕ) (s : State) (v : ℕ) → IsState s → IsStable flags s → ((x y : ℕ) → married s x || married s y ≡ true → closed (x, y) ≡ true) → adds v ≡ node_part closed adds s v
-settled_part flags closed adds s v good stable closes =
-    let own : cond {A = ℕ} (is_unanswered s v) 1 0 ≡ 0 = ap (λ b. cond {A = ℕ} b 1 0) (all_answered flags s v stable) in
-    let edges : open_above closed s.network v ≡ 0 = none_kept (λ w. nat_lt v w && not (closed (v, w))) (linked s.network v) (λ w there. ap (λ b. nat_lt v w && not b) (closes v w (end_married flags s v w good stable there)) ∙ shut (nat_lt v w)) (names s.network) in
-    omega (arith, own, edges)
+-- an edge with a married end is not open
+shut_by : (m n rest below : Bool) → m || n ≡ true → (below && (not m && not n && rest)) ≡ false
+shut_by true n rest true is = refl
+shut_by true n rest false is = refl
+shut_by false true rest true is = refl
+shut_by false true rest false is = refl
+shut_by false false rest below is = absurd cc
 
--- all nodes together add nothing where none adds anything by itself
-pub settled_sum : (flags : Bool) (closed : ℕ × ℕ → Bool) (adds : ℕ → ℕ) (s : State) → IsState s → IsStable flags s → ((x y : ℕ) → married s x || married s y ≡ true → closed (x, y) ≡ true) → ((v : ℕ) → adds v ≡ 0) → (vs : List ℕ) → sum_by (node_part closed adds s) vs ≡ 0
-settled_sum flags closed adds s good stable closes none [] = refl
-settled_sum flags closed adds s good stable closes none (v ∷ vs) =
-    let whole = sum_by-cons (node_part closed adds s) v vs in
-    let own = settled_part flags closed adds s v good stable closes in
-    let here = none v in
-    let rest = settled_sum flags closed adds s good stable closes none vs in
-    omega (arith, whole, own, here, rest)
+-- so none of its edges is
+none_open : (flags courted_close : Bool) (s : State) → IsState s → IsStable flags s → count_by (ends_open courted_close s) (edge_list s.network) ≡ 0
+none_open flags courted_close s good stable =
+    edges_by_nodes s.network good.is_network (ends_open courted_close s)
+    ∙ sum_agree (λ v. count_by (λ w. nat_lt v w && ends_open courted_close s (v, w)) (neighbours s.network v)) (λ v. 0) (λ v. none_kept (λ w. nat_lt v w && ends_open courted_close s (v, w)) (linked s.network v) (λ w there. shut_by (married s v) (married s w) (not (courted_close && (is_courted s v && is_courted s w))) (nat_lt v w) (end_married flags s v w good stable there)) (names s.network)) (names s.network)
+    ∙ zeros (names s.network)
+
+-- Where the nodes add nothing the charge of a stable network is none.
+pub settled_charge : (flags courted_close : Bool) (closes : ℕ → Bool) (adds : ℕ → ℕ) (s : State) (charge : ℕ) → IsState s → IsStable flags s → ((v : ℕ) → adds v ≡ 0) → charge + 2 * count_by closes (names s.network) ≡ 2 * count_by (ends_open courted_close s) (edge_list s.network) + count_by (is_unanswered s) (names s.network) + sum_by adds (names s.network) → charge ≡ 0
+settled_charge flags courted_close closes adds s charge good stable none counts =
+    let edges = none_open flags courted_close s good stable in
+    let pointers = none_unanswered flags s stable (names s.network) in
+    let nodes = sum_agree adds (λ v. 0) none (names s.network) ∙ zeros (names s.network) in
+    omega (arith, counts, edges, pointers, nodes)

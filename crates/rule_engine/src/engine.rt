@@ -21,14 +21,14 @@ ghost use Rattle.rule_engine.specs.Applied.{Prepares, disturbed, told};
 ghost use Rattle.rule_engine.specs.Prepared.{HasRoomTo};
 ghost use Rattle.rule_engine.specs.Choosing.{verdict_of, verdicts_of};
 
-use crate::charge::charge_of;
+use crate::charge::{charge_of, totals_of};
 use crate::edits::{
     put, put_edit, refusal_of, refused_flag, refused_join, refused_leave, refused_point,
     refused_unlink,
 };
 use crate::guard::{outcome, put_reply_to_one, rule_enabled, take_items};
 use crate::judge::{refused_size, take_verdicts};
-use crate::listing::{count_pairs, enabled_rules, mutual_edges};
+use crate::listing::{enabled_rules, mutual_edges};
 use crate::look::{look_after_write, look_at, look_at_target};
 use crate::moves::{Gathered, step_reply};
 use crate::parting::last_neighbour;
@@ -259,16 +259,18 @@ impl<R: Rules> Engine<R> {
         Ok(Reply::Pairs(Listing::from_vec(pairs)))
     }
 
-    fn status(&self, spent: u32) -> Reply
-        ensures { result ≡ reply_of R.table self.now.state spent Status }
+    fn status(&mut self, spent: u32) -> Reply
+        ensures reply { result ≡ reply_of R.table self.old.state spent Status }
+        ensures state { self.new.state ≡ self.old.state }
     {
-        let store = self.state.store();
+        let is_quiet = self.is_quiet();
+        let totals = totals_of(&mut self.state, is_quiet);
         Reply::Counts(Counts {
-            nodes: store.nodes(),
-            edges: store.edges(),
-            pairs: count_pairs(store, self.state.registers(), self.is_quiet()),
+            nodes: self.state.store().nodes(),
+            edges: self.state.store().edges(),
+            pairs: totals.pairs,
             enabled: self.enabled.count(),
-            charge: self.charge(),
+            charge: totals.charge,
             spent,
         })
     }

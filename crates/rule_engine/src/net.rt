@@ -133,7 +133,8 @@ impl<R: Rules> Net<R> {
     }
 
     /// The charge, at most 2,293,757: no more moves than this can come before the next accepted disturbance, and where it is zero
-    /// the network is stable. Takes no memory, and a look at every name and, where a rule is enabled, at every edge.
+    /// the network is stable. Takes no memory, and a look at every name and, where a rule is enabled, at all neighbours: a `Status`
+    /// tells it too, by looks at what has changed since the last one.
     pub fn charge(&self) -> u32
         ensures charge { result ≡ R.table.charge self.now.state }
         ensures settled { result ≡ 0 → IsStable R.table.flags self.now.state }

@@ -1,0 +1,43 @@
+use Rattle.std.proofs.Common.{rules, ◌≡◌, ◌≢◌, ◌<◌, ◌+◌, ℕ, List, length, fold, drop, get_or, drop-cons, suc, refl, ap, sym, add-one, ◌∙◌}
+use Rattle.rule_machine.specs.declared.act.Act.{Act}
+use Rattle.rule_machine.specs.declared.act.Act.TheVariants.{Update, Marry, Seduce, Abandon}
+use Rattle.rule_machine.specs.declared.moved.Moved.{Moved}
+use Rattle.rule_machine.specs.State.{State, Registers, with_flag}
+use Rattle.indexed_state.specs.Indexed.{Indexed}
+use Rattle.machine_laws.specs.Passes.{flag_read, flag_read_by, is_answered_at}
+use Rattle.rule_engine.proofs.engine.Engine.write_flags.Goals as goal
+use Rattle.rule_engine.proofs.engine.Engine.write_flags.Goals.{then-eq, else-eq}
+
+-- one move more is read
+read_more : (moves : List Moved) (i : ℕ) (m : Moved) (r r' all : Registers) → i < length moves → m ≡ get_or moves i m → fold flag_read r (drop i moves) ≡ all → r' ≡ flag_read r m → fold flag_read r' (drop (i + 1) moves) ≡ all
+read_more moves i m r r' all lt is so_far after =
+    rw add-one
+    (ap (λ x. fold flag_read x (drop (suc i) moves)) (after ∙ ap (flag_read r) is)
+    ∙ sym (ap (fold flag_read r) (drop-cons moves i m lt)) ∙ so_far)
+
+-- a move that does not update writes no flag
+no_flag : (r : Registers) (v : ℕ) (act : Act) → act ≢ Update → r ≡ flag_read_by r v act
+no_flag r v Update other = absurd (other refl)
+no_flag r v Marry other = refl
+no_flag r v Seduce other = refl
+no_flag r v Abandon other = refl
+
+pub loop-moved-preserved : goal.loop-moved-preserved
+loop-moved-preserved g c =
+    let m = c.moved-item.result in
+    elim c.if-eq.branch [
+      | then-eq w ↦
+          let seen = ap (λ (n : Indexed). n.state.registers) w.self.view_is in
+          let married = w.married-married.ensures ∙ ap (λ r. is_answered_at r m.node) (w.registers.ensures.value ∙ seen) in
+          record {
+            rest = read_more c.args.moves.now c.loop-moved.moved-index m _ _ _ c.loop-moved-test.true c.moved-item.is c.loop-moved.invariant.rest
+                (ap (λ (n : Indexed). n.state.registers) w.self-is ∙ ap (λ (s : State). s.registers) w.flag.ensures
+                ∙ ap (with_flag c.loop-moved.self.state.registers m.node) married
+                ∙ sym (ap (flag_read_by c.loop-moved.self.state.registers m.node) (let same : m.act ≡ Update = search rules in same)));
+            network = ap (λ (n : Indexed). n.state.network) w.self-is ∙ ap (λ (s : State). s.network) w.flag.ensures ∙ c.loop-moved.invariant.network;
+          }
+      | else-eq w ↦ record {
+        rest = read_more c.args.moves.now c.loop-moved.moved-index m _ _ _ c.loop-moved-test.true c.moved-item.is c.loop-moved.invariant.rest (ap (λ (n : Indexed). n.state.registers) w.self-is ∙ no_flag c.loop-moved.self.state.registers m.node m.act (let other : m.act ≢ Update = search rules in other));
+        network = ap (λ (n : Indexed). n.state.network) w.self-is ∙ c.loop-moved.invariant.network;
+      }
+    ]
