@@ -6,6 +6,8 @@ pub mod Table
 pub mod Courting
 pub mod Counting
 pub mod Married
+pub mod Adding
+pub mod Charged
 pub mod Leaving
 pub mod Placed
 pub mod Made

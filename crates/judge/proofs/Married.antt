@@ -1,22 +1,17 @@
--- What is enabled at a married node, and what it adds to the charge.
-use Rattle.std.proofs.Common.{◌≡◌, ℕ, Bool, true, false, cond, not, ◌&&◌, ◌||◌, find, nat_le, Option, None, Some, is_some, is_none, refl, sym, ap, ◌∙◌}
+-- What is enabled at a married node.
+use Rattle.std.proofs.Common.{◌≡◌, ℕ, Bool, true, false, cond, not, ◌&&◌, ◌||◌, find, nat_le, Option, None, Some, is_some, is_none, refl, ap, ◌∙◌}
 use Rattle.std.proofs.Math.Bool.{and-false}
 use Rattle.rule_machine.specs.declared.act.Act.{Act}
 use Rattle.rule_machine.specs.declared.act.Act.TheVariants.{Update, Marry, Seduce, Abandon}
-use Rattle.rule_machine.specs.declared.rules.RuleSet.{RuleSet}
-use Rattle.rule_machine.specs.declared.rules.RuleSet.TheVariants.{Hh, Manne}
 use Rattle.rule_machine.specs.Network.{neighbours}
 use Rattle.rule_machine.specs.State.{State, flag, has_suitor, holds_at, married, pointer, points}
 use Rattle.rule_machine.specs.RuleTable.{is_open, rule_at}
 use Rattle.rule_machine.specs.HsuHuang.{hsu_huang, hsu_huang_opens}
 use Rattle.rule_machine.specs.Manne.{manne, may_court}
-use Rattle.rule_machine.specs.Tables.{table_of}
 use Rattle.machine_laws.specs.Pointers.{married_some, points_from}
-use Rattle.judge.specs.Charging.{charge_at}
-use Rattle.judge.proofs.Counting.{charge_married}
 
 -- the first rule that is enabled, of four
-abbrev first_of : Bool → Bool → Bool → Bool → Option Act
+abbrev pub first_of : Bool → Bool → Bool → Bool → Option Act
 first_of update marry seduce abandon =
     cond update (Some Update) (cond marry (Some Marry) (cond seduce (Some Seduce) (cond abandon (Some Abandon) None)))
 
@@ -44,14 +39,3 @@ married_manne s v is =
     ∙ ap (λ p. first_of (not f) (f && is_none p && courted) (f && is_none p && not courted && null_near) (f && holds_at (λ w. not (points s.registers w v) && late w) p)) pair.1
     ∙ ap (λ b. first_of (not f) (f && false && courted) (f && false && not courted && null_near) (f && (not b && late pair.0))) (points_from s pair.0 v pair.2)
     ∙ flag_alone f courted null_near
-
--- it adds 1 where it has to raise its flag
-pub charge_late : (rules : RuleSet) (s : State) (v : ℕ) → married s v ≡ true → charge_at rules s v ≡ cond (is_some (rule_at (table_of rules) s v)) 1 0
-charge_late Hh s v is = sym (charge_married Hh s v is) ∙ sym (ap (λ o. cond {A = ℕ} (is_some o) 1 0) (married_hsu_huang s v is))
-charge_late Manne s v is =
-    sym (charge_married Manne s v is) ∙ ap (λ m. cond {A = ℕ} m (cond (flag s v) 0 1) (cond (flag s v) 2 1)) is
-    ∙ flagged (flag s v) ∙ sym (ap (λ o. cond {A = ℕ} (is_some o) 1 0) (married_manne s v is))
-  where
-    flagged : (f : Bool) → cond {A = ℕ} f 0 1 ≡ cond {A = ℕ} (is_some (cond {A = Option Act} f None (Some Update))) 1 0
-    flagged true = refl
-    flagged false = refl

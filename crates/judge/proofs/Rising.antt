@@ -1,15 +1,15 @@
--- Mutual pairs by rising lower ends, as many as nodes point upwards.
-use Rattle.std.proofs.Common.{◌≡◌, ℕ, ◌+◌, ◌<◌, ◌≤◌, ◌⊎◌, zero, suc, Bool, true, false, cond, nat_lt, List, [], ◌∷◌, length, filter_map, count_by, Option, None, Some, is_some, IsTrue, refl, sym, ap, subst, ◌∙◌, inl, inr, ⊎_elim, arith, lt-ltb}
+-- Mutual pairs by rising lower ends, as many as nodes point upwards or as are lower ends.
+use Rattle.std.proofs.Common.{◌≡◌, ℕ, ◌+◌, ◌<◌, ◌≤◌, ◌⊎◌, zero, suc, Bool, true, false, cond, nat_lt, ◌&&◌, List, [], ◌∷◌, length, filter_map, count_by, Option, None, Some, is_some, IsTrue, refl, sym, ap, subst, ◌∙◌, inl, inr, ⊎_elim, arith, lt-ltb}
 use Rattle.std.specs.List.{range_with_len, cons_option}
-use Rattle.std.proofs.lemmas.Bool.{cases_lt, and_parts}
+use Rattle.std.proofs.lemmas.Bool.{cases_lt, and_parts, and_from}
 use Rattle.std.proofs.lemmas.Option.{none-some}
 use Rattle.rule_machine.specs.Network.{present}
-use Rattle.rule_machine.specs.State.{State, IsState, holds_at, partner, points}
+use Rattle.rule_machine.specs.State.{State, IsState, holds_at, partner, pointer, points}
 use Rattle.rule_machine.specs.Stable.{mutual_pairs, pair_above}
 use Rattle.machine_laws.specs.Neighbours.{present_range, linked_present, option_cases}
-use Rattle.machine_laws.specs.Pointers.{partner_from, partner_some, points_true, pointer_linked}
+use Rattle.machine_laws.specs.Pointers.{partner_from, partner_some, points_from, points_true, pointer_linked}
 use Rattle.charge_laws.specs.Counting.{sum_le}
-use Rattle.judge.specs.Pairing.{points_up, AreRising}
+use Rattle.judge.specs.Pairing.{points_up, is_lower_end, AreRising}
 use Rattle.judge.proofs.Counting.{kept_values, length_filter_map}
 
 -- what a function gives, by rising first parts above n
@@ -69,31 +69,41 @@ rises s n (p ∷ pairs) good up =
     ap (λ b. cond b (pair_above p.0 (partner s p.0)) None) here ∙ ap (pair_above p.0) (partner_from s p.0 p.1 good to back) ∙ ap (λ b. cond b (Some p) None) (lt-ltb p.0 p.1 up.1) in
     (up.0, pair, rises s p.0 pairs good up.3)
 
--- a lower end points upwards
-lower_up : (s : State) (v : ℕ) → cond {A = ℕ} (is_some (pair_at s v)) 1 0 ≤ cond {A = ℕ} (points_up s v) 1 0
-lower_up s v = at (present s.network v) (option_cases (partner s v))
+-- a lower end passes a test that each passes
+lower_passes : (s : State) (test : Bool) (v : ℕ) → ((w : ℕ) → pointer s v ≡ Some w → pointer s w ≡ Some v → nat_lt v w ≡ true → test ≡ true) → cond {A = ℕ} (is_some (pair_at s v)) 1 0 ≤ cond {A = ℕ} test 1 0
+lower_passes s test v passes = at (present s.network v) (option_cases (partner s v))
   where
-    no_more : (here up : Bool) (p : ℕ × ℕ) → cond {A = ℕ} (is_some (cond here (cond up (Some p) None) None)) 1 0 ≤ cond {A = ℕ} up 1 0
-    no_more true true p = omega arith
-    no_more true false p = omega arith
-    no_more false up p = omega arith
+    one : (here up : Bool) (p : ℕ × ℕ) → (up ≡ true → test ≡ true) → cond {A = ℕ} (is_some (cond here (cond up (Some p) None) None)) 1 0 ≤ cond {A = ℕ} test 1 0
+    one true true p pass = let passed = ap (λ b. cond {A = ℕ} b 1 0) (pass refl) in omega (arith, passed)
+    one true false p pass = omega arith
+    one false up p pass = omega arith
 
-    no_one : (here : Bool) → cond {A = ℕ} (is_some (cond {A = Option (ℕ × ℕ)} here None None)) 1 0 ≤ cond {A = ℕ} (points_up s v) 1 0
+    no_one : (here : Bool) → cond {A = ℕ} (is_some (cond {A = Option (ℕ × ℕ)} here None None)) 1 0 ≤ cond {A = ℕ} test 1 0
     no_one true = omega arith
     no_one false = omega arith
 
-    at : (here : Bool) → (partner s v ≡ None) ⊎ ((w : ℕ) × (partner s v ≡ Some w)) → cond {A = ℕ} (is_some (cond here (pair_above v (partner s v)) None)) 1 0 ≤ cond {A = ℕ} (points_up s v) 1 0
-    at here (inl none) = subst (λ o. cond {A = ℕ} (is_some (cond here (pair_above v o) None)) 1 0 ≤ cond {A = ℕ} (points_up s v) 1 0) (sym none) (no_one here)
+    at : (here : Bool) → (partner s v ≡ None) ⊎ ((w : ℕ) × (partner s v ≡ Some w)) → cond {A = ℕ} (is_some (cond here (pair_above v (partner s v)) None)) 1 0 ≤ cond {A = ℕ} test 1 0
+    at here (inl none) = subst (λ o. cond {A = ℕ} (is_some (cond here (pair_above v o) None)) 1 0 ≤ cond {A = ℕ} test 1 0) (sym none) (no_one here)
     at here (inr some) =
-        let to = (partner_some s v some.0 some.1).0 in
-        subst (λ o. cond {A = ℕ} (is_some (cond here (pair_above v o) None)) 1 0 ≤ cond {A = ℕ} (points_up s v) 1 0) (sym some.1)
-        (subst (λ o. cond {A = ℕ} (is_some (cond here (pair_above v (Some some.0)) None)) 1 0 ≤ cond {A = ℕ} (holds_at (nat_lt v) o) 1 0) (sym to) (no_more here (nat_lt v some.0) (v, some.0)))
+        let ends = partner_some s v some.0 some.1 in
+        subst (λ o. cond {A = ℕ} (is_some (cond here (pair_above v o) None)) 1 0 ≤ cond {A = ℕ} test 1 0) (sym some.1)
+        (one here (nat_lt v some.0) (v, some.0) (passes some.0 ends.0 ends.1))
 
--- as many mutual pairs as nodes point upwards are all of them
-pub all_upwards : (s : State) (pairs : List (ℕ × ℕ)) → IsState s → AreRising s 0 pairs → length pairs ≡ count_by (points_up s) (range_with_len 1 s.network.size) → pairs ≡ mutual_pairs s
-all_upwards s pairs good up as_many =
+-- as many mutual pairs as nodes pass a test that each lower end passes are all of them
+all_passing : (s : State) (test : ℕ → Bool) (pairs : List (ℕ × ℕ)) → IsState s → ((v w : ℕ) → pointer s v ≡ Some w → pointer s w ≡ Some v → nat_lt v w ≡ true → test v ≡ true) → AreRising s 0 pairs → length pairs ≡ count_by test (range_with_len 1 s.network.size) → pairs ≡ mutual_pairs s
+all_passing s test pairs good passes up as_many =
     let all = range_with_len 1 s.network.size in
     let named = kept_values (present s.network) (λ v. pair_above v (partner s v)) (pair_at s) (λ v. refl) all in
-    let few = sum_le (λ v. cond {A = ℕ} (is_some (pair_at s v)) 1 0) (λ v. cond {A = ℕ} (points_up s v) 1 0) all (λ v in_all. lower_up s v) in
+    let few = sum_le (λ v. cond {A = ℕ} (is_some (pair_at s v)) 1 0) (λ v. cond {A = ℕ} (test v) 1 0) all (λ v in_all. lower_passes s (test v) v (passes v)) in
     let count = length_filter_map (pair_at s) all in
     all_given (pair_at s) s.network.size 0 pairs (in_range s) (rises s 0 pairs good up) (omega (arith, few, count, as_many)) ∙ sym named
+
+-- as many as nodes point upwards
+pub all_upwards : (s : State) (pairs : List (ℕ × ℕ)) → IsState s → AreRising s 0 pairs → length pairs ≡ count_by (points_up s) (range_with_len 1 s.network.size) → pairs ≡ mutual_pairs s
+all_upwards s pairs good = all_passing s (points_up s) pairs good (λ v w at back up. ap (holds_at (nat_lt v)) at ∙ up)
+
+-- as many as are lower ends
+pub all_counted : (s : State) (pairs : List (ℕ × ℕ)) → IsState s → AreRising s 0 pairs → length pairs ≡ count_by (is_lower_end s) (range_with_len 1 s.network.size) → pairs ≡ mutual_pairs s
+all_counted s pairs good =
+    all_passing s (is_lower_end s) pairs good
+    (λ v w at back up. ap (holds_at (λ x. nat_lt v x && points s.registers x v)) at ∙ and_from (nat_lt v w) (points s.registers w v) up (points_from s w v back))

@@ -1,25 +1,58 @@
--- What each node adds to the charge, with the edges to its higher neighbours.
-use Rattle.std.specs.Prelude.{ℕ, ◌+◌, ◌*◌, Bool, cond, not, ◌&&◌, count_by, nat_lt}
+-- What each name adds to the numbers of a status, and what it makes of the edges at it.
+use Rattle.std.specs.Prelude.{◌≡◌, ℕ, ◌+◌, Bool, None, cond, is_some}
 use Rattle.rule_machine.specs.declared.rules.RuleSet.{RuleSet}
 use Rattle.rule_machine.specs.declared.rules.RuleSet.TheVariants.{Hh, Manne}
-use Rattle.rule_machine.specs.Network.{neighbours}
-use Rattle.rule_machine.specs.State.{State, is_unanswered}
-use Rattle.rule_machine.specs.Charge.{hsu_huang_closed, manne_closed, manne_node_charge}
+use Rattle.rule_machine.specs.Network.{present}
+use Rattle.rule_machine.specs.State.{State, is_unanswered, married, partner}
+use Rattle.rule_machine.specs.Charge.{is_courted, manne_node_charge}
+use Rattle.rule_machine.specs.RuleTable.{rule_at}
+use Rattle.rule_machine.specs.Stable.{pair_above}
+use Rattle.rule_machine.specs.Tables.{table_of}
+use Rattle.charge_laws.specs.ClosedByPointers.{hsu_huang_closes, manne_closes}
+use Rattle.graph_store.specs.declared.end.End.{End}
+use Rattle.graph_store.specs.declared.end.End.TheVariants.{Shut, Courted, Free}
+use Rattle.judge.specs.declared.shares.Share.{Share}
 
--- whether an edge adds nothing
-abbrev pub is_closed : RuleSet → State → ℕ × ℕ → Bool
-is_closed Hh s e = hsu_huang_closed s e
-is_closed Manne s e = manne_closed s e
+-- what a name makes of the edges at it
+abbrev pub end_of : RuleSet → State → ℕ → End
+end_of Hh s v = cond (married s v) Shut (cond (is_courted s v) Courted Free)
+end_of Manne s v = cond (married s v) Shut Free
 
--- how many edges to higher neighbours add 2
-abbrev pub open_above : RuleSet → State → ℕ → ℕ
-open_above rules s v = count_by (λ w. nat_lt v w && not (is_closed rules s (v, w))) (neighbours s.network v)
+-- whether a node's pointer closes an edge that is open by its ends
+abbrev pub closes : RuleSet → State → ℕ → Bool
+closes Hh s v = hsu_huang_closes s v
+closes Manne s v = manne_closes s v
 
--- what the node adds by its flag
+-- what a node adds to the charge by its flag
 abbrev pub flag_charge : RuleSet → State → ℕ → ℕ
 flag_charge Hh s v = 0
 flag_charge Manne s v = manne_node_charge s v
 
--- all that is counted at the node
-abbrev pub charge_at : RuleSet → State → ℕ → ℕ
-charge_at rules s v = 2 * open_above rules s v + cond (is_unanswered s v) 1 0 + flag_charge rules s v
+-- what it adds beside its edges
+abbrev pub adds : RuleSet → State → ℕ → ℕ
+adds rules s v = cond (is_unanswered s v) 1 0 + flag_charge rules s v
+
+-- what is counted at a name, where there is a node
+abbrev pub pairs_at : State → ℕ → ℕ
+pairs_at s v = cond (is_some (cond (present s.network v) (pair_above v (partner s v)) None)) 1 0
+
+abbrev pub enabled_at : RuleSet → State → ℕ → ℕ
+enabled_at rules s v = cond (is_some (cond (present s.network v) (rule_at (table_of rules) s v) None)) 1 0
+
+abbrev pub added_at : RuleSet → State → ℕ → ℕ
+added_at rules s v = cond (present s.network v) (adds rules s v) 0
+
+abbrev pub closing_at : RuleSet → State → ℕ → ℕ
+closing_at rules s v = cond (present s.network v) (cond (closes rules s v) 1 0) 0
+
+-- the share of a name in each number
+pub record IsShare (rules : RuleSet) (s : State) (v : ℕ) (share : Share) : Type 0 where
+  pub pairs : share.pairs ≡ pairs_at s v
+  pub enabled : share.enabled ≡ enabled_at rules s v
+  pub added : share.added ≡ added_at rules s v
+  pub closing : share.closing ≡ closing_at rules s v
+  pub end : share.end ≡ end_of rules s v
+
+-- the share of a name without a node
+abbrev pub nobody : Share
+nobody = record { pairs = 0; enabled = 0; added = 0; closing = 0; end = Free }

@@ -39,15 +39,17 @@ impl NetState {
     }
 
     /// Whether what is spent is within the bound of the network, with the charge.
-    fn is_within(&self, alloc: Global, rules: RuleSet, spent: u32) -> Result<bool, Want>
-        ensures within { IfOk result (λ within. within ≡ nat_le (spent + (table_of rules).charge self.now) (charge_bound (weight_of rules) self.now.network)) }
-        ensures sound { IsState self.now }
+    fn is_within(&mut self, alloc: Global, rules: RuleSet, spent: u32) -> Result<bool, Want>
+        ensures within { IfOk result (λ within. within ≡ nat_le (spent + (table_of rules).charge self.old) (charge_bound (weight_of rules) self.old.network)) }
+        ensures sound { IsState self.old }
+        ensures kept { self.new ≡ self.old }
     {
+        let bound = self.bound(rules);
         let mut courted = Courted::new(alloc, self.capacity())?;
         courted.find(self);
+        let charge = u64::from(self.tally(rules, &courted).charge);
         // The charge alone never exceeds the bound.
-        let charge = self.tally(rules, &courted).charge;
-        Ok(u64::from(spent) <= self.bound(rules) - charge)
+        Ok(u64::from(spent) <= bound - charge)
     }
 
     /// Whether the flags that are true are used by the rules.
@@ -85,7 +87,7 @@ impl Judge {
         if edges.len() > MAX_EDGES as usize {
             return Ok(None);
         }
-        let Some(net) = NetState::from_lines(alloc, size, nodes, edges)? else {
+        let Some(mut net) = NetState::from_lines(alloc, size, nodes, edges)? else {
             return Ok(None);
         };
         if !net.is_within(alloc, rules, base.spent)? {

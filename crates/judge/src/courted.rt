@@ -5,7 +5,7 @@ ghost use Rattle.rule_machine.specs.State.{has_suitor};
 ghost use Rattle.judge.specs.Courting.{mark_at};
 
 use crate::NetState;
-use crate::net_state::node_above;
+use crate::net_state::{node_above, target_place};
 use rule_machine::{Node, Want};
 use std::alloc::Global;
 use std::marker::Model;
@@ -36,13 +36,15 @@ impl Courted {
     }
 
     /// Whether a node is marked.
+    #[inline(always)]
     pub(crate) fn has(&self, v: Node) -> bool
         ensures { result ≡ mark_at self.now v }
     {
         self.marks.get(v.place()).copied().unwrap_or(false)
     }
 
-    /// Marks the nodes that have a suitor, and no other. Looks at every name's pointer.
+    /// Marks the nodes that have a suitor, and no other. Looks at every name's pointer: which is null no processor foresees, so no
+    /// branch asks for it, and a null one marks nobody's place.
     #[inline(never)]
     pub(crate) fn find(&mut self, net: &NetState)
         requires { length self.old ≡ net.now.network.size + 1 }
@@ -52,20 +54,29 @@ impl Courted {
         self.clear();
         for below in 0..net.last_name() {
             let v = node_above(below);
-            if let Some(target) = net.pointer_at(v) {
-                self.put(target);
-            }
+            self.put(target_place(net.pointer_at(v)));
         }
+        self.clear_nobody();
     }
 
-    /// Marks a node, which has a place.
-    fn put(&mut self, v: Node)
-        requires { v < length self.old }
+    /// Marks a place.
+    #[inline(always)]
+    fn put(&mut self, place: usize)
+        requires { place < length self.old }
         ensures len { length self.new ≡ length self.old }
-        ensures marked { (x : ℕ) → mark_at self.new x ≡ (nat_eq x v || mark_at self.old x) }
+        ensures marked { (x : ℕ) → mark_at self.new x ≡ (nat_eq x place || mark_at self.old x) }
     {
-        let place = v.place();
         self.marks[place] = true;
+    }
+
+    /// Takes the mark at nobody's place away.
+    fn clear_nobody(&mut self)
+        requires { 1 ≤ length self.old }
+        ensures len { length self.new ≡ length self.old }
+        ensures nobody { mark_at self.new 0 ≡ false }
+        ensures others { (x : ℕ) → 1 ≤ x → mark_at self.new x ≡ mark_at self.old x }
+    {
+        self.marks[0] = false;
     }
 
     /// Takes all marks away.

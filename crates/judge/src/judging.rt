@@ -94,7 +94,7 @@ impl NetState {
 
     /// Whether an event that is not refused may have this reply.
     fn may_accept(
-        &self,
+        &mut self,
         rules: RuleSet,
         spent: u64,
         event: &Event,
@@ -102,10 +102,11 @@ impl NetState {
         chosen: &mut Chosen,
         courted: &mut Courted,
     ) -> bool
-        requires accepted { refusal_of (table_of rules) self.now event.now ≡ None }
-        requires held { Holds (table_of rules) self.now chosen.old (items_of event.now) }
-        requires courted { length courted.old ≡ self.now.network.size + 1 }
-        ensures value { IsTrue result ↔ Does (table_of rules) self.now spent event.now reply.now (followed self.now event.now reply.now) }
+        requires accepted { refusal_of (table_of rules) self.old event.now ≡ None }
+        requires held { Holds (table_of rules) self.old chosen.old (items_of event.now) }
+        requires courted { length courted.old ≡ self.old.network.size + 1 }
+        ensures value { IsTrue result ↔ Does (table_of rules) self.old spent event.now reply.now (followed self.old event.now reply.now) }
+        ensures kept { self.new ≡ self.old }
         ensures within { IsWithin chosen.new (items_of event.now) }
         ensures len { length chosen.new ≡ length chosen.old }
         ensures courted { length courted.new ≡ length courted.old }

@@ -2,7 +2,6 @@
 #![tactic(auto)]
 
 mod bases;
-mod charge;
 mod choices;
 mod courted;
 mod guards;
@@ -17,6 +16,7 @@ mod refusals;
 mod replay;
 mod replies;
 mod scans;
+mod shares;
 mod status;
 mod steps;
 mod tally;

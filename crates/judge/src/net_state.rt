@@ -8,7 +8,7 @@ ghost use Rattle.rule_machine.specs.Refuse.{link_refusal, unlink_refusal, point_
 ghost use Rattle.rule_machine.specs.Disturbance.{after_link, after_unlink, after_point, after_flag, after_join, after_leave};
 ghost use Rattle.rule_machine.specs.Step.{after_moves};
 ghost use Rattle.machine_laws.specs.Keeps.{IsMoveIn};
-ghost use Rattle.judge.specs.States.{without_place};
+ghost use Rattle.judge.specs.States.{target_place, without_place};
 
 use crate::moves::{clear_pointer, write_moves};
 use graph_store::EdgeStore;
@@ -17,11 +17,12 @@ use rule_machine::{Edge, Moved, Node, Place, Want};
 use std::alloc::{AllocError, Global};
 use std::marker::Model;
 
-/// The neighbour lists and the registers of a network, seen in contracts as a state. Nothing else is kept.
+/// The neighbour lists and the registers of a network, seen in contracts as a state. What the names make of their edges is kept
+/// beside, for the next tally alone.
 #[derive(Drop)]
 pub(crate) struct NetState {
-    store: EdgeStore,
-    registers: Registers,
+    pub(crate) store: EdgeStore,
+    pub(crate) registers: Registers,
 }
 
 impl Model for NetState {
@@ -44,6 +45,17 @@ pub(crate) fn node_above(name: u16) -> Node
     ensures { result ≡ name + 1 }
 {
     Node::new(u32::from(name) + 1).unwrap()
+}
+
+/// The place of the node at which a pointer is; 0, which is nobody's, where it is null. No branch tells which.
+#[inline(always)]
+pub(crate) fn target_place(pointer: Option<Node>) -> usize
+    ensures { result ≡ target_place pointer }
+{
+    match pointer {
+        Some(w) => w.place(),
+        None => 0,
+    }
 }
 
 impl NetState {

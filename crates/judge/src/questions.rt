@@ -4,14 +4,14 @@ ghost use Rattle.std.specs.Prelude.{◌≡◌, ◌<◌, ◌≤◌, ◌↔◌, If
 ghost use Rattle.std.specs.List.{range_with_len};
 ghost use Rattle.rule_machine.specs.Network.{present};
 ghost use Rattle.rule_machine.specs.RuleTable.{enabled, rule_at};
-ghost use Rattle.rule_machine.specs.State.{IsState, is_mutual};
+ghost use Rattle.rule_machine.specs.State.{IsState, is_mutual, points};
 ghost use Rattle.rule_machine.specs.State as state;
 ghost use Rattle.rule_machine.specs.Stable.{mutual_pairs, pair_above};
 ghost use Rattle.rule_machine.specs.Tables.{table_of};
 ghost use Rattle.judge.specs.Courting.{IsCourting};
-ghost use Rattle.judge.specs.Pairing.{AreRising, points_up};
+ghost use Rattle.judge.specs.Pairing.{AreRising, is_lower_end, points_up};
 
-use crate::net_state::node_above;
+use crate::net_state::{node_above, target_place};
 use crate::{Courted, NetState};
 use rule_machine::{Act, Edge, Node, RuleSet};
 
@@ -40,12 +40,13 @@ impl NetState {
         place == given.len()
     }
 
-    /// Whether these are the mutual pairs. Where there are as many as nodes point upwards, looks at them alone, and at every name
-    /// where that does not tell it.
+    /// Whether these are the mutual pairs, told by their number: that of the nodes that point upwards, or else that of the lower
+    /// ends. Looks at every name's pointer, for the lower ends at that of its target too, and at the pairs; at every name's pair
+    /// only where neither number tells it.
     pub(crate) fn lists_pairs(&self, given: &[Edge]) -> bool
         ensures { IsTrue result ↔ (given.now ≡ mutual_pairs self.now) }
     {
-        self.are_all_upwards(given) || self.are_all_pairs(given)
+        self.are_all_upwards(given) || self.are_all_counted(given) || self.are_all_pairs(given)
     }
 
     /// Whether these are the mutual pairs, told by their number: they are mutual pairs, and no other node points upwards.
@@ -76,6 +77,48 @@ impl NetState {
     {
         match self.pointer_at(v) {
             Some(w) => v < w,
+            None => false,
+        }
+    }
+
+    /// Whether these are the mutual pairs, told by their number: they are mutual pairs, and no other node is a lower end.
+    fn are_all_counted(&self, given: &[Edge]) -> bool
+        ensures { IsTrue result → given.now ≡ mutual_pairs self.now }
+    {
+        given.len() == self.lower_ends() as usize && self.are_rising(given)
+    }
+
+    /// How many nodes are the lower end of a mutual pair. Looks at every name's pointer and at that of where it points.
+    #[inline(never)]
+    fn lower_ends(&self) -> u32
+        ensures count { result ≡ count_by (is_lower_end self.now) (range_with_len 1 self.now.network.size) }
+        ensures sound { IsState self.now }
+    {
+        let mut count = 0;
+        for below in 0..self.last_name() {
+            count += u32::from(self.is_lower_end(node_above(below)));
+        }
+        count
+    }
+
+    /// Whether the node of a name, if there is one, is the lower end of a mutual pair. Which one is no processor foresees, so no
+    /// branch asks for it.
+    #[inline(always)]
+    fn is_lower_end(&self, v: Node) -> bool
+        requires { v ≤ self.now.network.size }
+        ensures { result ≡ is_lower_end self.now v }
+    {
+        let target = target_place(self.pointer_at(v));
+        (v.place() < target) & self.is_pointed_at(v, target)
+    }
+
+    /// Whether the pointer at a place is at a node.
+    #[inline(always)]
+    fn is_pointed_at(&self, v: Node, place: usize) -> bool
+        ensures { result ≡ points self.now.registers place v }
+    {
+        match self.registers.pointers().get(place) {
+            Some(pointer) => target_place(*pointer) == v.place(),
             None => false,
         }
     }

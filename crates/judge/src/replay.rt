@@ -12,8 +12,9 @@ use std::alloc::Global;
 use std::marker::Model;
 
 /// A network that judges replies, seen in contracts as a state. Guards, targets and numbers are found anew at each event
-/// from the neighbour lists and the registers; beside them there are only the places of a choice's items, which are clear
-/// between two calls, and those of the marks that `Enabled` and `Status` make anew.
+/// from the neighbour lists and the registers, but for the edges that are open by their ends, which are counted on from one
+/// `Status` to the next; beside them there are only the places of a choice's items, which are clear between two calls, and those
+/// of the marks that `Enabled` and `Status` make anew.
 #[derive(Drop)]
 pub struct Judge {
     pub(crate) net: NetState,
@@ -72,8 +73,9 @@ impl Judge {
     /// Whether the machine may give this reply to the event, where these moves are spent since the last accepted
     /// disturbance; where it may, the event is carried out as the reply says. Where no target is wished, any allowed one
     /// is right. A wrong reply changes nothing, and neither does want of memory, which comes only where a link is rightly
-    /// accepted. A disturbance and a `Show` cost look-ups, a step looks at the neighbours of its nodes, `Enabled` and
-    /// `Status` at all names and edges, and `Matching` at all names.
+    /// accepted. A disturbance and a `Show` cost look-ups, a step looks at the neighbours of its nodes, `Enabled` at all names
+    /// and at the neighbours of those that may seduce, `Status` there and at the neighbours of those whose edges count otherwise
+    /// than at the last one, and `Matching` at all names.
     pub fn replay(
         &mut self,
         rules: RuleSet,

@@ -1,6 +1,6 @@
 //! Scans of a node's neighbours.
 
-ghost use Rattle.std.specs.Prelude.{◌≡◌, ◌&&◌, IsTrue, find, nat_lt};
+ghost use Rattle.std.specs.Prelude.{◌≡◌, ◌<◌, ◌&&◌, All, IsTrue, find, is_none, length, nat_lt, not};
 ghost use Rattle.rule_machine.specs.Network.{neighbours, present};
 ghost use Rattle.rule_machine.specs.State as state;
 ghost use Rattle.rule_machine.specs.RuleTable.{first_open};
@@ -8,6 +8,7 @@ ghost use Rattle.rule_machine.specs.HsuHuang.{hsu_huang_opens};
 ghost use Rattle.rule_machine.specs.Manne.{may_court};
 
 use crate::NetState;
+use registers::Registers;
 use rule_machine::Node;
 
 impl NetState {
@@ -29,12 +30,7 @@ impl NetState {
         requires { IsTrue (present self.now.network v) }
         ensures { result ≡ first_open hsu_huang_opens self.now v }
     {
-        for &w in self.neighbours(v) {
-            if self.pointer_at(w).is_none() {
-                return Some(w);
-            }
-        }
-        None
+        null_among(self.store.neighbours(v), &self.registers)
     }
 
     /// Whether a node may court another: that one is above it, points nowhere and is not flagged.
@@ -49,12 +45,7 @@ impl NetState {
         requires { IsTrue (present self.now.network v) }
         ensures { result ≡ find (may_court self.now v) (neighbours self.now.network v) }
     {
-        for &w in self.neighbours(v) {
-            if self.may_court(v, w) {
-                return Some(w);
-            }
-        }
-        None
+        courted_among(self.store.neighbours(v), &self.registers, v)
     }
 
     /// The first neighbour above another that a node may court.
@@ -69,4 +60,31 @@ impl NetState {
         }
         None
     }
+}
+
+/// The first of these that points nowhere.
+pub(crate) fn null_among(row: &[Node], registers: &Registers) -> Option<Node>
+    requires { All (λ w. w < length registers.now.pointers) row.now }
+    ensures { result ≡ find (λ w. is_none (state.pointer_of registers.now w)) row.now }
+{
+    for &w in row {
+        if registers.pointer(w).is_none() {
+            return Some(w);
+        }
+    }
+    None
+}
+
+/// The first of these that is above a node, points nowhere and is not flagged.
+pub(crate) fn courted_among(row: &[Node], registers: &Registers, v: Node) -> Option<Node>
+    requires pointers { All (λ w. w < length registers.now.pointers) row.now }
+    requires flags { All (λ w. w < length registers.now.flags) row.now }
+    ensures { result ≡ find (λ w. (is_none (state.pointer_of registers.now w) && not (state.flag_of registers.now w)) && nat_lt v w) row.now }
+{
+    for &w in row {
+        if v < w && registers.pointer(w).is_none() && !registers.flag(w) {
+            return Some(w);
+        }
+    }
+    None
 }

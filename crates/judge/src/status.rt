@@ -11,14 +11,15 @@ use rule_machine::{Counts, Reply, RuleSet};
 impl NetState {
     /// Whether a reply has the numbers of the network, where these moves are spent.
     pub(crate) fn has_counts(
-        &self,
+        &mut self,
         rules: RuleSet,
         spent: u64,
         reply: &Reply,
         courted: &mut Courted,
     ) -> bool
-        requires { length courted.old ≡ self.now.network.size + 1 }
-        ensures value { IsTrue result ↔ (reply.now ≡ Reply.Counts (counts_of (table_of rules) self.now spent)) }
+        requires { length courted.old ≡ self.old.network.size + 1 }
+        ensures value { IsTrue result ↔ (reply.now ≡ Reply.Counts (counts_of (table_of rules) self.old spent)) }
+        ensures kept { self.new ≡ self.old }
         ensures len { length courted.new ≡ length courted.old }
     {
         match reply {
@@ -28,10 +29,17 @@ impl NetState {
     }
 
     /// Whether these are the numbers of the network, where these moves are spent. Looks at every name where those are right that
-    /// need no look, and then at the neighbours of the nodes that are not married.
-    fn are_counts(&self, rules: RuleSet, spent: u64, given: Counts, courted: &mut Courted) -> bool
-        requires { length courted.old ≡ self.now.network.size + 1 }
-        ensures value { result ≡ same_counts given (counts_of (table_of rules) self.now spent) }
+    /// need no look.
+    fn are_counts(
+        &mut self,
+        rules: RuleSet,
+        spent: u64,
+        given: Counts,
+        courted: &mut Courted,
+    ) -> bool
+        requires { length courted.old ≡ self.old.network.size + 1 }
+        ensures value { result ≡ same_counts given (counts_of (table_of rules) self.old spent) }
+        ensures kept { self.new ≡ self.old }
         ensures len { length courted.new ≡ length courted.old }
     {
         given.nodes == self.nodes()
@@ -41,15 +49,14 @@ impl NetState {
     }
 
     /// Whether the numbers are those that are counted at the names.
-    fn are_tallied(&self, rules: RuleSet, given: Counts, courted: &mut Courted) -> bool
-        requires { length courted.old ≡ self.now.network.size + 1 }
-        ensures value { result ≡ is_tallied (table_of rules) self.now given }
+    fn are_tallied(&mut self, rules: RuleSet, given: Counts, courted: &mut Courted) -> bool
+        requires { length courted.old ≡ self.old.network.size + 1 }
+        ensures value { result ≡ is_tallied (table_of rules) self.old given }
+        ensures kept { self.new ≡ self.old }
         ensures len { length courted.new ≡ length courted.old }
     {
         courted.find(self);
         let tally = self.tally(rules, courted);
-        given.pairs == tally.pairs
-            && given.enabled == tally.enabled
-            && u64::from(given.charge) == tally.charge
+        given.pairs == tally.pairs && given.enabled == tally.enabled && given.charge == tally.charge
     }
 }

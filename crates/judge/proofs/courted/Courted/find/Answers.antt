@@ -1,9 +1,9 @@
-use Rattle.std.proofs.Common.{◌≡◌, ◌+◌, ◌∙◌, ℕ, ◌≤◌, true, List, Bool, length, Some, None, sym, ap, subst, arith}
-use Rattle.rule_machine.specs.State.{pointer, has_suitor}
+use Rattle.std.proofs.Common.{◌≡◌, ◌∙◌, ◌||◌, ℕ, nat_eq, ap, arith}
+use Rattle.rule_machine.specs.State.{pointer}
 use Rattle.judge.specs.Courting.{mark_at}
-use Rattle.judge.proofs.Courting.{right_more, all_more, all_same, marked_all}
+use Rattle.judge.specs.States.{target_place}
+use Rattle.judge.proofs.Courting.{right_more, all_more, marked_all}
 use Rattle.judge.proofs.courted.Courted.find.Goals as goal
-use Rattle.judge.proofs.courted.Courted.find.Goals.{in-Some, in_default}
 
 pub loop-below-preserved : goal.loop-below-preserved
 loop-below-preserved c =
@@ -11,29 +11,17 @@ loop-below-preserved c =
     let v = c.node_above-v.result in
     let n = c.loop-below.below in
     let marks = c.loop-below.self in
+    let more = c.put.new.self in
     let inv = c.loop-below.invariant in
-    let named : v ≡ n + 1 = c.node_above-v.ensures in
-    elim c.match-pointer_at.branch [
-      | in-Some w ↦
-          let at : pointer s v ≡ Some w.in-Some.target = sym c.pointer_at.ensures ∙ w.in-Some.is in
-          let more = w.put.new.self in
-          let len : length more ≡ length c.args.self.now = w.put.ensures.len ∙ inv.len in
-          record {
-            len = ap length w.self-is ∙ len;
-            right = subst (λ (m : List Bool). (x : ℕ) → mark_at m x ≡ true → has_suitor s x ≡ true) (sym w.self-is) (right_more s marks more v w.in-Some.target c.last_name-below-end.ensures.sound at w.put.ensures.marked inv.right);
-            all = subst (λ (m : List Bool). (u x : ℕ) → u ≤ n + 1 → pointer s u ≡ Some x → mark_at m x ≡ true) (sym w.self-is) (all_more s marks more n v w.in-Some.target named at w.put.ensures.marked inv.all);
-          }
-      | in_default w ↦
-          let none : pointer s v ≡ None = sym c.pointer_at.ensures ∙ w.in_default.is in
-          record {
-            len = ap length w.self-is ∙ inv.len;
-            right = subst (λ (m : List Bool). (x : ℕ) → mark_at m x ≡ true → has_suitor s x ≡ true) (sym w.self-is) inv.right;
-            all = subst (λ (m : List Bool). (u x : ℕ) → u ≤ n + 1 → pointer s u ≡ Some x → mark_at m x ≡ true) (sym w.self-is) (all_same s marks n v named none inv.all);
-          }
-    ]
+    let place = c.target_place.ensures ∙ ap target_place c.pointer_at.ensures in
+    let put : (x : ℕ) → mark_at more x ≡ (nat_eq x (target_place (pointer s v)) || mark_at marks x) = λ x. c.put.ensures.marked x ∙ ap (λ p. nat_eq x p || mark_at marks x) place in
+    record {
+      len = c.put.ensures.len ∙ inv.len;
+      right = right_more s marks more v c.last_name-below-end.ensures.sound put inv.right;
+      all = all_more s marks more n v c.node_above-v.ensures put inv.all;
+    }
 
 pub returns-clause-marked : goal.returns-clause-marked
 returns-clause-marked c =
-    let s = c.args.net.now in
-    marked_all s c.loop-below.self c.last_name-below-end.ensures.sound c.loop-below.invariant.right
+    marked_all c.args.net.now c.loop-below.self c.clear_nobody.new.self c.last_name-below-end.ensures.sound c.clear_nobody.ensures.nobody c.clear_nobody.ensures.others c.loop-below.invariant.right
     (λ v x low at. c.loop-below.invariant.all v x (omega (arith, c.last_name-below-end.ensures.size)) at)

@@ -1,12 +1,17 @@
-use Rattle.std.proofs.Common.{◌≤◌, ◌∙◌, length, sym, subst}
+use Rattle.std.proofs.Common.{◌≡◌, ◌≤◌, ◌∙◌, ℕ, false, length, sym, subst}
 use Rattle.std.proofs.lemmas.Bool.{true≢false}
 use Rattle.charge_laws.specs.Charged.{charge_bound}
+use Rattle.rule_machine.specs.declared.rules.RuleSet.{RuleSet}
 use Rattle.rule_machine.specs.Base.{IsBegun}
-use Rattle.rule_machine.specs.State.{State}
+use Rattle.rule_machine.specs.State.{State, flag}
 use Rattle.rule_machine.specs.Tables.{table_of}
 use Rattle.judge.specs.Bases.{weight_of}
 use Rattle.judge.proofs.Begun.{too_much, fit_flags, begins, lines_made}
 use Rattle.judge.proofs.replay.Judge.at_base.Goals as goal
+
+-- the flags that are true are used by the rules
+abbrev HasFitFlags : RuleSet → State → Type 0
+HasFitFlags rules s = (table_of rules).flags ≡ false → (v : ℕ) → flag s v ≡ false
 
 pub returns-then-not-branch-clause-none : goal.returns-then-not-branch-clause-none
 returns-then-not-branch-clause-none c = λ none start begun few.
@@ -20,7 +25,7 @@ returns-then-not-has_fit_flags-clause-none c = λ none start begun few.
     let base = c.args.base.now in
     let lines = lines_made c.args.size base c.as_slice-nodes.result.now c.as_slice-edges.result.now c.in_ok-net.field-0 c.in-Some.net c.in_ok-net.ensures.some c.in-Some.is c.as_slice-nodes.ensures c.as_slice-edges.ensures in
     let fit = fit_flags (table_of c.args.rules) (charge_bound (weight_of c.args.rules)) c.args.size base c.in-Some.net start c.in_ok-is_within.ensures.sound lines begun in
-    true≢false (sym (c.has_fit_flags.ensures.1 fit) ∙ c.if-not-has_fit_flags.true)
+    true≢false (sym (c.has_fit_flags.ensures.1 (subst (HasFitFlags c.args.rules) (sym c.in_ok-is_within.ensures.kept) fit)) ∙ c.if-not-has_fit_flags.true)
 
 pub returns-clause-begun : goal.returns-clause-begun
 returns-clause-begun c =
@@ -28,7 +33,7 @@ returns-clause-begun c =
     let t = table_of c.args.rules in
     let bound = charge_bound (weight_of c.args.rules) in
     let lines = lines_made c.args.size base c.as_slice-nodes.result.now c.as_slice-edges.result.now c.in_ok-net.field-0 c.in-Some.net c.in_ok-net.ensures.some c.in-Some.is c.as_slice-nodes.ensures c.as_slice-edges.ensures in
-    let begun = begins t bound c.args.size base c.in-Some.net c.in_ok-is_within.ensures.sound lines (c.has_fit_flags.ensures.0 c.if-not-has_fit_flags.false) (sym c.in_ok-is_within.ensures.within ∙ c.if-not-branch.false) in (
-      subst (λ (s : State). IsBegun t bound c.args.size base (record { state = s; spent = base.spent })) (sym c.in_ok-of_net.ensures) begun,
+    let begun = begins t bound c.args.size base c.in-Some.net c.in_ok-is_within.ensures.sound lines (subst (HasFitFlags c.args.rules) c.in_ok-is_within.ensures.kept (c.has_fit_flags.ensures.0 c.if-not-has_fit_flags.false)) (sym c.in_ok-is_within.ensures.within ∙ c.if-not-branch.false) in (
+      subst (λ (s : State). IsBegun t bound c.args.size base (record { state = s; spent = base.spent })) (sym (c.in_ok-of_net.ensures ∙ c.in_ok-is_within.ensures.kept)) begun,
       subst (λ edges. length edges ≤ 1048576) c.as_slice-edges.ensures c.if-edges.false,
     )
