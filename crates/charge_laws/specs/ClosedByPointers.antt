@@ -1,5 +1,5 @@
 -- The open edges, counted as the edges that are open by what their ends are, less those that a pointer closes.
-use Rattle.std.proofs.Common.{◌≡◌, ℕ, ◌+◌, Bool, true, false, cond, not, ◌&&◌, ◌||◌, List, count_by, Option, None, Some, is_none, IfSome, IsTrue, nat_eq, nat_lt, refl, sym, ap, ◌∙◌, ⊎_elim, arith}
+use Rattle.std.proofs.Common.{◌≡◌, ℕ, ◌+◌, Bool, true, false, cond, not, ◌&&◌, ◌||◌, List, count_by, sum_by, Option, None, Some, is_none, IfSome, IsTrue, nat_eq, nat_lt, refl, sym, ap, ◌∙◌, ⊎_elim, arith}
 use Rattle.std.proofs.lemmas.Bool.{and_parts, and_left, cases_eq, ne_eqb, true≢false}
 use Rattle.std.proofs.Math.Bool.{and-false}
 use Rattle.std.proofs.lemmas.Option.{none-some}
@@ -7,7 +7,7 @@ use Rattle.rule_machine.specs.Network.{linked, names, neighbours, edge_list}
 use Rattle.rule_machine.specs.State.{State, IsState, is_at, holds_at, pointer, flag, points, married, has_suitor}
 use Rattle.rule_machine.specs.Charge.{awaits, is_courted, hsu_huang_closed, manne_closed}
 use Rattle.machine_laws.specs.Pointers.{if_some_from, points_true, pointer_linked, suitor_linked, null_unmarried, unanswered_unmarried}
-use Rattle.machine_laws.specs.Neighbours.{linked_present}
+use Rattle.machine_laws.specs.Neighbours.{linked_present, option_cases}
 use Rattle.charge_laws.specs.Counting.{IsIn, IsWithoutRepeats, sum_add, sum_agree, count_agree}
 use Rattle.charge_laws.specs.Members.{in_names, names_without_repeats}
 use Rattle.charge_laws.specs.EdgesByNodes.{zeros, marked_once, count_filter, edges_by_nodes}
@@ -33,7 +33,7 @@ manne_closes s v = not (married s v) && holds_at (λ w. nat_lt v w && not (flag 
 -- ---- a pointer is at one neighbour
 
 -- what a pointer is at is counted once
-at_once : (o : Option ℕ) (test : ℕ → Bool) (xs : List ℕ) → IfSome o (λ w. IsIn w xs) → IsWithoutRepeats xs → count_by (λ w. is_at o w && test w) xs ≡ cond (holds_at test o) 1 0
+pub at_once : (o : Option ℕ) (test : ℕ → Bool) (xs : List ℕ) → IfSome o (λ w. IsIn w xs) → IsWithoutRepeats xs → count_by (λ w. is_at o w && test w) xs ≡ cond (holds_at test o) 1 0
 at_once None test xs at single = zeros xs
 at_once (Some x) test xs at single = count_agree (λ w. nat_eq x w && test w) (λ w. nat_eq x w && test x) same xs ∙ marked_once x (test x) xs at single
   where
@@ -135,3 +135,17 @@ hsu_huang_split s good =
     let nodes = by_both s.network good.is_network (awaits s) in
     let targets = sum_agree (λ v. count_by (awaits s v) (neighbours s.network v)) (λ v. cond (hsu_huang_closes s v) 1 0) (target_counted s good (λ w. is_none (pointer s w))) (names s.network) in
     omega (arith, each, open_and, either, nodes, targets)
+
+-- ---- at the targets
+
+-- The pointers that close an edge, counted at the nodes that they are at.
+pub closing_by_targets : (s : State) → IsState s → (closes : ℕ → Bool) → ((v : ℕ) → pointer s v ≡ None → closes v ≡ false) → sum_by (λ w. count_by (λ v. points s.registers v w && closes v) (neighbours s.network w)) (names s.network) ≡ count_by closes (names s.network)
+closing_by_targets s good closes null =
+    let at_targets = by_both s.network good.is_network (λ w v. points s.registers v w && closes v) in
+    let at_nodes = by_both s.network good.is_network (λ v w. points s.registers v w && closes v) in
+    let each = sum_agree (λ v. count_by (λ w. points s.registers v w && closes v) (neighbours s.network v)) (λ v. cond (closes v) 1 0) (λ v. target_counted s good (λ w. closes v) v ∙ ap (λ b. cond b 1 0) (at_pointer v)) (names s.network) in
+    omega (arith, at_targets, at_nodes, each)
+  where
+    at_pointer : (v : ℕ) → holds_at (λ w. closes v) (pointer s v) ≡ closes v
+    at_pointer v =
+        ⊎_elim (λ none. ap (holds_at (λ w. closes v)) none ∙ sym (null v none)) (λ some. ap (holds_at (λ w. closes v)) some.1) (option_cases (pointer s v))

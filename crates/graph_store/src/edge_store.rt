@@ -246,6 +246,7 @@ impl EdgeStore {
         ensures room { OnOk result (HasRoomFor self.new.room a b) }
         ensures fault { IfErr result (λ fault. fault ≡ Memory) }
         ensures unchanged { self.new.network ≡ self.old.network }
+        ensures ends { self.new.ends ≡ self.old.ends }
     {
         reserve_both(&mut self.rows, a, b).map_err(|_| GraphFault::Memory)
     }
@@ -256,7 +257,8 @@ impl EdgeStore {
         requires room { HasRoomFor self.old.room a b }
         requires gap_in_a { IsGapFor (neighbours self.old.network a) b place_in_a }
         requires gap_in_b { IsGapFor (neighbours self.old.network b) a place_in_b }
-        ensures { self.new.network ≡ with_edge self.old.network a b }
+        ensures network { self.new.network ≡ with_edge self.old.network a b }
+        ensures ends { self.new.ends ≡ self.old.ends }
     {
         put_both(&mut self.rows, a, place_in_a, b, place_in_b);
         self.edges += 1;
@@ -270,6 +272,7 @@ impl EdgeStore {
         ensures ok { OnOk result ((link_fault self.old.network a b ≡ None) × (self.new.network ≡ with_edge self.old.network a b)) }
         ensures fault { IfErr result (λ fault. Explains (link_fault self.old.network a b) fault) }
         ensures unchanged { OnErr result (self.new.network ≡ self.old.network) }
+        ensures ends { self.new.ends ≡ self.old.ends }
     {
         let place_in_a = self.check_link(a, b)?;
         self.make_room(a, b)?;
@@ -285,6 +288,7 @@ impl EdgeStore {
         ensures ok { OnOk result ((link_fault self.old.network a b ≡ None) × HasRoomFor self.new.room a b) }
         ensures fault { IfErr result (λ fault. Explains (link_fault self.old.network a b) fault) }
         ensures unchanged { self.new.network ≡ self.old.network }
+        ensures ends { self.new.ends ≡ self.old.ends }
     {
         self.last_gap = self.check_link(a, b)?;
         self.make_room(a, b)
@@ -295,7 +299,8 @@ impl EdgeStore {
     pub fn link_reserved(&mut self, a: Node, b: Node)
         requires free { link_fault self.old.network a b ≡ None }
         requires room { HasRoomFor self.old.room a b }
-        ensures { self.new.network ≡ with_edge self.old.network a b }
+        ensures network { self.new.network ≡ with_edge self.old.network a b }
+        ensures ends { self.new.ends ≡ self.old.ends }
     {
         let place_in_a = self.guess_gap(a, b);
         let place_in_b = self.find_gap(b, a);
@@ -308,6 +313,7 @@ impl EdgeStore {
         ensures ok { OnOk result ((unlink_fault self.old.network a b ≡ None) × (self.new.network ≡ without_edge self.old.network a b)) }
         ensures fault { IfErr result (λ fault. unlink_fault self.old.network a b ≡ Some fault) }
         ensures unchanged { OnErr result (self.new.network ≡ self.old.network) }
+        ensures ends { self.new.ends ≡ self.old.ends }
     {
         self.check_ends(a, b)?;
         let Ok(place_in_a) = find_place(&self.rows[a.place()], b) else {
@@ -328,6 +334,7 @@ impl EdgeStore {
         ensures ok { OnOk result ((join_fault self.old.network v ≡ None) × (self.new.network ≡ with_node self.old.network v)) }
         ensures fault { IfErr result (λ fault. join_fault self.old.network v ≡ Some fault) }
         ensures unchanged { OnErr result (self.new.network ≡ self.old.network) }
+        ensures ends { self.new.ends ≡ self.old.ends }
     {
         if v.name() > self.nodes {
             return Err(GraphFault::UnknownNode);
@@ -353,6 +360,7 @@ impl EdgeStore {
         ensures ok { OnOk result ((leave_fault self.old.network v ≡ None) × (self.new.network ≡ without_node self.old.network v)) }
         ensures fault { IfErr result (λ fault. leave_fault self.old.network v ≡ Some fault) }
         ensures unchanged { OnErr result (self.new.network ≡ self.old.network) }
+        ensures ends { self.new.ends ≡ self.old.ends }
     {
         if !self.has(v) {
             return Err(GraphFault::UnknownNode);
@@ -371,6 +379,7 @@ impl EdgeStore {
         requires alone { neighbours self.old.network v ≡ [] }
         ensures place { self.new.network ≡ record self.old.network { here = slice_set self.old.network.here v false } }
         ensures node { self.new.network ≡ without_node self.old.network v }
+        ensures ends { self.new.ends ≡ self.old.ends }
     {
         self.here.remove(v);
     }

@@ -11,4 +11,5 @@ mod rows;
 pub use edge_store::{EdgeStore, MAX_EDGES, MAX_NODES};
 pub use end::End;
 pub use fault::GraphFault;
+pub use roll::first_names;
 pub use rule_machine::{Edge, Node};

@@ -7,7 +7,7 @@ use enabled_set::EnabledSet;
 use rule_machine::{Node, Want};
 use std::alloc::Global;
 
-/// The set of the names 1 to `count`, for names up to `size`.
+/// The set of the names 1 to `count`, for names up to `size`; takes what `EnabledSet::new` takes.
 pub fn first_names(alloc: Global, size: u32, count: u32) -> Result<EnabledSet, Want>
     requires few { size ≤ 65535 }
     requires within { count ≤ size }

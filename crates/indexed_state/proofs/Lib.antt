@@ -1,2 +1,6 @@
 pub mod Partners
 pub mod Edges
+pub mod Named
+pub mod Rounds
+pub mod Told
+pub mod Summed

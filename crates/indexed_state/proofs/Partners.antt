@@ -1,13 +1,10 @@
 -- Partners and marriages, read off the registers.
 use Rattle.std.proofs.Common.{◌≡◌, ℕ, Bool, true, false, cond, Option, None, Some, is_some, option_and_then, refl, sym, ap, ◌∙◌, ⊎_elim}
 use Rattle.std.proofs.lemmas.Bool.{true≢false}
-use Rattle.rule_machine.specs.State.{State, Registers, IsState, pointer, pointer_of, points, partner, married, holds_at}
+use Rattle.rule_machine.specs.State.{State, IsState, pointer, points, partner, married, holds_at}
 use Rattle.machine_laws.specs.Neighbours.{option_cases}
+use Rattle.indexed_state.specs.Shares.{answered_by}
 use Rattle.machine_laws.specs.Pointers.{none_is, partner_from, null_unmarried, unanswered_unmarried, points_true, points_from}
-
--- the node that v points at, if it points back
-abbrev pub answered_by : Registers → ℕ → Option ℕ
-answered_by r v = option_and_then (λ w. cond (points r w v) (Some w) None) (pointer_of r v)
 
 at_pointer : (s : State) (v w : ℕ) → IsState s → pointer s v ≡ Some w → (b : Bool) → points s.registers w v ≡ b → partner s v ≡ cond b (Some w) None
 at_pointer s v w good at true back = partner_from s v w good at (points_true s w v back)

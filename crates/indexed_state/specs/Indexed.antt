@@ -1,6 +1,6 @@
 -- What is kept beside a state.
 use Rattle.std.specs.Prelude.{ℕ, ◌≤◌, Bool, List, Option, refl}
-use Rattle.std.specs.Coded.{Coded, code_by, coded×, coded_ℕ, coded_list}
+use Rattle.std.specs.Coded.{Coded, code_by, coded×, coded_ℕ, coded_bool, coded_list}
 use Rattle.rule_machine.specs.State.{State, IsState, state_code}
 use Rattle.graph_store.specs.declared.end.End.{End}
 use Rattle.graph_store.specs.Ends.{end_code}
@@ -13,12 +13,14 @@ pub record IsIndexed (above : Bool) (opens : Option ℕ → Bool → Bool) (s : 
   pub index : IsIndexOf above opens s tallies
   pub few : s.network.size ≤ 65535
 
--- a state, for how many more neighbours each name has room, and what each makes of the edges at it
+-- a state, for how many more neighbours each name has room, what each makes of the edges at it, and which names are stale: their
+-- nodes may bring something else to what questions ask than when they were last looked at
 pub record Indexed : Type 0 where
   pub state : State
   pub room : List ℕ
   pub ends : List End
+  pub stale : List Bool
 
 abbrev pub indexed_code : Coded Indexed
 indexed_code =
-    code_by (State × (List ℕ × List End)) (coded× state_code (coded× (coded_list coded_ℕ) (coded_list end_code))) (λ n. (n.state, (n.room, n.ends))) (λ p. record { state = p.0; room = p.1.0; ends = p.1.1 }) (λ _. refl)
+    code_by (State × (List ℕ × (List End × List Bool))) (coded× state_code (coded× (coded_list coded_ℕ) (coded× (coded_list end_code) (coded_list coded_bool)))) (λ n. (n.state, (n.room, (n.ends, n.stale)))) (λ p. record { state = p.0; room = p.1.0; ends = p.1.1.0; stale = p.1.1.1 }) (λ _. refl)

@@ -1,8 +1,12 @@
-//! A state of the rule machine with an index of suitors and open neighbours, which every change keeps right.
+//! A state of the rule machine with an index of suitors and open neighbours and what each node brings to what questions ask of all,
+//! which every change keeps right.
 #![tactic(auto)]
 
+mod shares;
 mod state;
+mod totals;
 mod view;
 
 pub use state::IndexedState;
+pub use totals::{Totals, end_of, is_unanswered};
 pub use view::NodeView;

@@ -2,7 +2,6 @@
 
 ghost use Rattle.std.specs.Prelude.{◌≡◌, ◌≢◌, ◌≤◌, false, [], slice_set, IfOk, IfErr, IfSome, OnOk, OnErr, MatchOption, IsTrue, None, Some, not};
 ghost use Rattle.graph_store.specs.Fault.{nodes_fault, link_fault, unlink_fault, Explains};
-ghost use Rattle.graph_store.specs.Ends.{end_at, open_edges};
 ghost use Rattle.graph_store.specs.Graph.{HasRoomFor};
 ghost use Rattle.rule_machine.specs.Network.{present, linked, neighbours, without_edge};
 ghost use Rattle.rule_machine.specs.State.{IsState, opening, opening_with, flag, points};
@@ -13,7 +12,8 @@ ghost use Rattle.machine_laws.specs.Leaves.{after_parting};
 ghost use Rattle.suitor_index.specs.Tallies.{suitor_count, IsLoneSuitor};
 
 use crate::NodeView;
-use graph_store::{EdgeStore, End, GraphFault};
+use crate::shares::Shares;
+use graph_store::{EdgeStore, GraphFault};
 use registers::Registers;
 use rule_machine::Node;
 use rule_set::Rules;
@@ -21,27 +21,29 @@ use std::alloc::Global;
 use std::marker::Model;
 use suitor_index::SuitorIndex;
 
-/// The edges and the registers of a network, with what the guards of the rules `R` ask of them counted at each node. Seen in
-/// contracts as a state of the rule machine, for how many more neighbours each node has room, and what each makes of the edges at
-/// it.
+/// The edges and the registers of a network, with what the guards of the rules `R` ask of them counted at each node, and what each
+/// node brings to what questions ask of all. Seen in contracts as a state of the rule machine, for how many more neighbours each
+/// node has room, what each made of the edges at it when it was last looked at, and which names are stale since.
 #[derive(Drop)]
 pub struct IndexedState<R: Rules> {
     pub(crate) store: EdgeStore,
     pub(crate) registers: Registers,
     pub(crate) index: SuitorIndex<R>,
+    pub(crate) shares: Shares,
 }
 
 impl<R: Rules> Model for IndexedState<R> {
     ghost use Rattle.suitor_index.specs.Tallies.{state_of};
     ghost use Rattle.indexed_state.specs.Indexed.{Indexed, indexed_code, IsIndexed};
+    ghost use Rattle.indexed_state.specs.Shares.{AreTold};
 
     ghost Value = { Indexed };
 
     ghost coded = { indexed_code };
 
-    ghost view = { λ n. record { state = state_of n.store.network n.registers; room = n.store.room; ends = n.store.ends } };
+    ghost view = { λ n. record { state = state_of n.store.network n.registers; room = n.store.room; ends = n.store.ends; stale = n.shares.stale } };
 
-    ghost invariant = { λ n. IsIndexed R.ABOVE R.table.opens (state_of n.store.network n.registers) n.index };
+    ghost invariant = { λ n. IsIndexed R.ABOVE R.table.opens (state_of n.store.network n.registers) n.index × AreTold R.COURTED_CLOSE R.closes R.adds (state_of n.store.network n.registers) n.store.ends n.shares.each.items n.shares.lower_ends n.shares.stale };
 }
 
 impl<R: Rules> IndexedState<R> {
@@ -74,10 +76,14 @@ impl<R: Rules> IndexedState<R> {
         let Ok(index) = SuitorIndex::build(alloc, &store, &registers) else {
             return Err(GraphFault::Memory);
         };
+        let Ok(shares) = Shares::new(alloc, nodes) else {
+            return Err(GraphFault::Memory);
+        };
         Ok(IndexedState {
             store,
             registers,
             index,
+            shares,
         })
     }
 
@@ -97,26 +103,6 @@ impl<R: Rules> IndexedState<R> {
         ensures state { IsState self.now.state }
     {
         &self.registers
-    }
-
-    /// How many edges are open by what their ends make of them. One look.
-    pub fn open_edges(&self) -> u32
-        ensures count { result ≡ open_edges self.now.state.network self.now.ends }
-        ensures few { result ≤ 1048576 }
-    {
-        self.store.open_edges()
-    }
-
-    /// Says what a name makes of the edges at it from now on: one look where that was said before, else one at each neighbour. Takes
-    /// no memory.
-    pub fn turn(&mut self, v: Node, end: End)
-        requires { v ≤ self.old.state.network.size }
-        ensures told { end_at self.new.ends v ≡ end }
-        ensures ends { self.new.ends ≡ slice_set self.old.ends v end }
-        ensures state { self.new.state ≡ self.old.state }
-        ensures room { self.new.room ≡ self.old.room }
-    {
-        self.store.turn(v, end);
     }
 
     /// What is shown at a node that is present.
@@ -176,6 +162,8 @@ impl<R: Rules> IndexedState<R> {
     {
         self.store.link_reserved(a, b);
         self.index.linked(a, b, &self.store, &self.registers);
+        self.shares.mark(a);
+        self.shares.mark(b);
     }
 
     /// Sets a node's pointer to null if it is at the other node.
@@ -210,6 +198,8 @@ impl<R: Rules> IndexedState<R> {
     {
         self.store.unlink(a, b).unwrap();
         self.index.unlinked(a, b, &self.store, &self.registers);
+        self.shares.mark(a);
+        self.shares.mark(b);
     }
 
     /// Removes an edge, and sets to null the pointers that crossed it.
@@ -245,9 +235,12 @@ impl<R: Rules> IndexedState<R> {
         ensures { self.new.state ≡ after_point self.old.state v target }
     {
         let old = self.registers.pointer(v);
+        let left = old;
+        let courted = target;
         self.registers.set_pointer(v, target);
         self.index
             .pointer_changed(v, old, &self.store, &self.registers);
+        self.shares.mark_pointer(v, left, courted);
     }
 
     /// Writes a node's flag. Looks at the node's neighbours only where that makes it open or not open any more. Takes no memory.
@@ -260,6 +253,7 @@ impl<R: Rules> IndexedState<R> {
         }
         self.registers.set_flag(v, value);
         self.index.flag_changed(v, &self.store, &self.registers);
+        self.shares.mark(v);
     }
 
     /// Makes a name a node, with no edge, a null pointer and its flag false. Takes no memory.
@@ -271,6 +265,7 @@ impl<R: Rules> IndexedState<R> {
         prove!(v.name() >= 1);
         self.store.join(v).unwrap();
         self.index.joined(v, &self.store, &self.registers);
+        self.shares.mark(v);
     }
 
     /// The last neighbour of a node.
@@ -305,6 +300,7 @@ impl<R: Rules> IndexedState<R> {
         ensures state { IsState self.old.state }
     {
         self.store.part(v);
+        self.shares.mark(v);
     }
 
     /// Makes absent a node that has no edge, and its flag false: the last step of a node that leaves, where its edges went one

@@ -15,7 +15,7 @@ use Rattle.enabled_set.specs.Members.{is_in, members}
 use Rattle.rule_engine.specs.Kept.{is_on, AreOn, IsKept}
 use Rattle.rule_engine.specs.Looked.{IsLookedAt}
 use Rattle.rule_engine.proofs.Looked.{looked_both}
-use Rattle.rule_engine.proofs.Named.{kept_twice}
+use Rattle.indexed_state.proofs.Named.{kept_twice}
 use Rattle.rule_engine.proofs.Opening.{blank_at}
 use Rattle.rule_engine.proofs.Far.{cut_far, link_far}
 

@@ -1,12 +1,12 @@
 -- Lists that grow by one at their end.
-use Rattle.std.proofs.Common.{◌≡◌, ℕ, ◌+◌, ◌-◌, ◌<◌, ◌≤◌, List, [], ◌∷◌, ◌++◌, length, get_or, set, take, drop, filter, filter_map, Bool, true, false, cond, Option, None, Some, option_to_list, nat_eq, refl, sym, ap, ◌∙◌, arith}
-use mir.Val.{bool_byte}
-use Rattle.std.specs.List.{All, list_any, range_with_len, cons_option}
+use Rattle.std.proofs.Common.{◌≡◌, ℕ, ◌+◌, ◌-◌, ◌<◌, ◌≤◌, List, [], ◌∷◌, ◌++◌, length, get_or, take, drop, filter_map, Option, None, Some, option_to_list, nat_eq, refl, sym, ap, ◌∙◌, arith}
+use Rattle.std.specs.List.{list_any, range_with_len, cons_option}
 use Rattle.std.specs.Option.{option_or}
-use Rattle.std.proofs.lemmas.List.{append-nil, map-id, drop_more, take-set, take_more, take_more_set}
-use Rattle.std.proofs.lemmas.List.FromFn.{get_or-range_with_len, length-range_with_len, map-range_with_len_more}
-use Rattle.std.proofs.lemmas.List.Elements.{All-filter, filter-append, filter_map-append}
+use Rattle.std.proofs.lemmas.List.{map-id, drop_more, take_more}
+use Rattle.std.proofs.lemmas.List.FromFn.{map-range_with_len_more}
+use Rattle.std.proofs.lemmas.List.Elements.{filter_map-append}
 use Rattle.rule_machine.specs.declared.verdict.Verdict.{Verdict}
+pub use Rattle.indexed_state.proofs.Summed.{one_byte, few_bytes}
 use Rattle.rule_engine.specs.Choosing.{refused_by, verdicts_refusal}
 
 -- the names of a range, and the next one
@@ -50,44 +50,3 @@ pub one_alone : {X : Type 0} (xs : List X) (x : X) → length xs ≡ 1 → x ≡
 one_alone [] x one is = absurd (omega arith)
 one_alone (y ∷ []) x one is = ap (λ z. z ∷ []) (sym is)
 one_alone (y ∷ z ∷ zs) x one is = absurd (omega arith)
-
--- the names below p that pass a test, and p
-pub passed_more : (q : ℕ → Bool) (p : ℕ) (before : List ℕ) → 1 ≤ p → before ≡ filter q (range_with_len 1 (p - 1)) → before ++ cond (q p) (p ∷ []) [] ≡ filter q (range_with_len 1 (p + 1 - 1))
-passed_more q p before low is =
-    let next : 1 + (p - 1) ≡ p = omega arith in
-    let count : p - 1 + 1 ≡ p + 1 - 1 = omega arith in
-    ap (λ l. l ++ cond (q p) (p ∷ []) []) is
-    ∙ ap (λ x. filter q (range_with_len 1 (p - 1)) ++ cond (q x) (x ∷ []) []) (sym next)
-    ∙ sym (ap (filter q) (range_more 1 (p - 1)) ∙ filter-append q (range_with_len 1 (p - 1)) ((1 + (p - 1)) ∷ []))
-    ∙ ap (λ n. filter q (range_with_len 1 n)) count
-
--- the same from below
-pub passed_next : (q : ℕ → Bool) (n : ℕ) (before : List ℕ) → before ≡ filter q (range_with_len 1 n) → before ++ cond (q (n + 1)) ((n + 1) ∷ []) [] ≡ filter q (range_with_len 1 (n + 1))
-passed_next q n before is =
-    let one_less : n + 1 - 1 ≡ n = omega arith in
-    let next : n + 1 + 1 - 1 ≡ n + 1 = omega arith in
-    passed_more q (n + 1) before (omega arith) (is ∙ ap (λ k. filter q (range_with_len 1 k)) (sym one_less)) ∙ ap (λ k. filter q (range_with_len 1 k)) next
-
--- what is kept of a list whose next place was written, where that counts and where it does not
-pub kept_write : (xs : List ℕ) (i x : ℕ) (b : Bool) → i < length xs → take (i + cond b 1 0) (set xs i x) ≡ take i xs ++ cond b (x ∷ []) []
-kept_write xs i x true within = take_more_set xs i x within
-kept_write xs i x false within =
-    let same : i + 0 ≡ i = omega arith in
-    ap (λ n. take n (set xs i x)) same ∙ take-set xs i x ∙ sym (append-nil (take i xs))
-
--- a test as a number
-pub one_byte : (b : Bool) → bool_byte b ≡ cond b 1 0
-one_byte true = refl
-one_byte false = refl
-
-pub few_bytes : (b : Bool) → bool_byte b ≤ 1
-few_bytes true = omega arith
-few_bytes false = omega arith
-
--- each name that is found is one
-pub found_within : (q : ℕ → Bool) (n size : ℕ) → size ≡ n + 1 → All (λ v. v < size) (filter q (range_with_len 1 n))
-found_within q n size more = All-filter q (λ v. v < size) (range_with_len 1 n) (λ k d within.
-    let count = length-range_with_len 1 n in
-    let low : k < n = omega (arith, within, count) in
-    let at = get_or-range_with_len 1 n k d low in
-    omega (arith, at, low, more))

@@ -1,5 +1,4 @@
 pub mod Found
-pub mod Named
 pub mod Judged
 pub mod Scanned
 pub mod Carried
@@ -19,6 +18,5 @@ pub mod Unmarked
 pub mod Ascending
 pub mod Moments
 pub mod Counted
-pub mod Settled
 pub mod NextVerdict
 pub mod Placed

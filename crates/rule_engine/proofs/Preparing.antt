@@ -72,9 +72,9 @@ one_prepares {E = E} t n spent item reply told =
     sized false = refl
 
 -- a question whose answer may take memory
-pub asked_prepares : {E : Type 0} (t : RuleTable) (n : Indexed) (spent : ℕ) (event : Event) (result : Result Reply E) → refusal_of t n.state event ≡ None → IsTrue (takes_memory event) → ((reply : Reply) → HasRoomTo event reply n.room) → IfOk result (λ r. r ≡ reply_of t n.state spent event) → Prepares t n spent event result n
-asked_prepares t n spent event (Ok reply) allowed may room told = record { reply = told; room = room reply; kept = refl; want = tt }
-asked_prepares t n spent event (Err e) allowed may room told = record { reply = tt; room = tt; kept = refl; want = (allowed, may) }
+pub asked_prepares : {E : Type 0} (t : RuleTable) (n n' : Indexed) (spent : ℕ) (event : Event) (result : Result Reply E) → n'.state ≡ n.state → refusal_of t n.state event ≡ None → IsTrue (takes_memory event) → ((reply : Reply) → HasRoomTo event reply n'.room) → IfOk result (λ r. r ≡ reply_of t n.state spent event) → Prepares t n spent event result n'
+asked_prepares t n n' spent event (Ok reply) same allowed may room told = record { reply = told; room = room reply; kept = same; want = tt }
+asked_prepares t n n' spent event (Err e) same allowed may room told = record { reply = tt; room = tt; kept = same; want = (allowed, may) }
 
 -- a link is refused for the reason for which the edge store makes no room for it
 room_refused : (shown same joined full : Bool) (fault : GraphFault) → Explains (cond (not shown) (Some store.UnknownNode) (cond same (Some store.SelfLoop) (cond joined (Some store.AlreadyLinked) (cond full (Some store.TooManyEdges) None)))) fault → refused_as fault ≡ cond (not shown) (Some UnknownNode) (cond same (Some SelfLoop) (cond joined (Some AlreadyLinked) (cond full (Some TooManyEdges) None)))

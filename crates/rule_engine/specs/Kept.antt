@@ -1,9 +1,9 @@
 -- What a network keeps beside its state.
-use Rattle.std.specs.Prelude.{◌≡◌, ℕ, ◌+◌, ◌≤◌, Bool, false, IfSome, IsTrue, List, length, replicate, slice_index_or, Option, Some, None, is_some, option_and_then, option_map, if◌then◌else◌}
+use Rattle.std.specs.Prelude.{◌≡◌, ℕ, ◌+◌, ◌≤◌, Bool, false, IfSome, IsTrue, List, length, replicate, Option, Some, None, is_some, option_map, if◌then◌else◌}
 use Rattle.enabled_set.specs.Members.{is_in}
 use Rattle.rule_machine.specs.declared.act.Act.{Act}
 use Rattle.rule_machine.specs.Network.{Network, present}
-use Rattle.rule_machine.specs.State.{State, Registers, IsState, is_at, pointer, flag, married}
+use Rattle.rule_machine.specs.State.{State, Registers, IsState, pointer, flag, married}
 use Rattle.rule_machine.specs.Run.{Moment}
 use Rattle.rule_machine.specs.declared.base.Place.{Place}
 use Rattle.rule_machine.specs.Base.{place_at}
@@ -31,22 +31,6 @@ pub record IsKept (t : RuleTable) (s : State) (bits marks : List Bool) : Type 0 
   pub enabled : AreOn t s bits
   pub unmarked : marks ≡ replicate (s.network.size + 1) false
   pub few : s.network.size ≤ 65535
-
--- the node that v points at, if it points back, where these are the pointers
-abbrev pub answered_in : List (Option ℕ) → ℕ → Option ℕ
-answered_in pointers v = option_and_then (λ w. if is_at (slice_index_or pointers w None) v then Some w else None) (slice_index_or pointers v None)
-
-abbrev pub answered_by : Registers → ℕ → Option ℕ
-answered_by r v = answered_in r.pointers v
-
--- the place at which a pointer is; 0, which is nobody's, where it is null
-abbrev pub target_place : Option ℕ → ℕ
-target_place None = 0
-target_place (Some w) = w
-
--- every pointer is null or answered
-abbrev pub AreAnswered : List (Option ℕ) → Type 0
-AreAnswered pointers = (v : ℕ) → IfSome (slice_index_or pointers v None) (λ w. slice_index_or pointers w None ≡ Some v)
 
 -- v with the rule that is enabled there
 abbrev pub marked_at : RuleTable → State → ℕ → Option (ℕ × Act)

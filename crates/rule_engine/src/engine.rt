@@ -155,7 +155,7 @@ impl<R: Rules> Engine<R> {
     pub(crate) fn charge(&self) -> u32
         ensures { result ≡ R.table.charge self.now.state }
     {
-        charge_of(&self.state, self.is_quiet())
+        charge_of(&self.state)
     }
 
     /// The reply to an event where so many moves are spent, put where the caller keeps it, with all the memory had that
@@ -179,7 +179,10 @@ impl<R: Rules> Engine<R> {
             Event::Step(choice) => self.prepare_choice(choice, reply),
             Event::Show(v) => put(reply, Ok(self.show(*v))),
             Event::Enabled => put(reply, self.list_enabled()),
-            Event::Matching => put(reply, self.list_pairs()),
+            Event::Matching => {
+                let pairs = self.list_pairs();
+                put(reply, pairs)
+            }
             Event::Status => put(reply, Ok(self.status(spent))),
         }
     }
@@ -247,15 +250,11 @@ impl<R: Rules> Engine<R> {
         Ok(Reply::EnabledAre(Listing::from_vec(rules)))
     }
 
-    fn list_pairs(&self) -> Result<Reply, Want>
-        ensures { (spent : ℕ) → IfOk result (λ reply. reply ≡ reply_of R.table self.now.state spent Matching) }
+    fn list_pairs(&mut self) -> Result<Reply, Want>
+        ensures reply { (spent : ℕ) → IfOk result (λ reply. reply ≡ reply_of R.table self.old.state spent Matching) }
+        ensures state { self.new.state ≡ self.old.state }
     {
-        let pairs = mutual_edges(
-            self.alloc,
-            self.state.store(),
-            self.state.registers(),
-            self.is_quiet(),
-        )?;
+        let pairs = mutual_edges(self.alloc, &mut self.state)?;
         Ok(Reply::Pairs(Listing::from_vec(pairs)))
     }
 
@@ -263,8 +262,7 @@ impl<R: Rules> Engine<R> {
         ensures reply { result ≡ reply_of R.table self.old.state spent Status }
         ensures state { self.new.state ≡ self.old.state }
     {
-        let is_quiet = self.is_quiet();
-        let totals = totals_of(&mut self.state, is_quiet);
+        let totals = totals_of(&mut self.state);
         Reply::Counts(Counts {
             nodes: self.state.store().nodes(),
             edges: self.state.store().edges(),

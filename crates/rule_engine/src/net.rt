@@ -133,8 +133,8 @@ impl<R: Rules> Net<R> {
     }
 
     /// The charge, at most 2,293,757: no more moves than this can come before the next accepted disturbance, and where it is zero
-    /// the network is stable. Takes no memory, and a look at every name and, where a rule is enabled, at all neighbours: a `Status`
-    /// tells it too, by looks at what has changed since the last one.
+    /// the network is stable. Takes no memory, and a look at every name and at all neighbours: a `Status` tells it too, by looks at
+    /// what has changed since the last one.
     pub fn charge(&self) -> u32
         ensures charge { result ≡ R.table.charge self.now.state }
         ensures settled { result ≡ 0 → IsStable R.table.flags self.now.state }
@@ -223,7 +223,8 @@ impl<R: Rules> Net<R> {
     /// write of registers at that of its node, of those who point at it, and of a pointer's old and new target where they
     /// point nowhere; where the node is open then and was not, or was and is not, the counts of its neighbours that point
     /// nowhere tell whose guards else. A step costs one look at each chosen node beside that, and a sort of its moves where
-    /// they don't ascend. `Status` looks at every name and at every edge.
+    /// they don't ascend. `Matching` and `Status` look again at the nodes whose share in the answer may have changed since either was
+    /// last asked, and at the neighbours of those that make something else of their edges or that several point at.
     pub fn apply(&mut self, event: &Event) -> Result<Reply, Want>
         ensures reply { IfOk result (λ reply. reply ≡ reply_of R.table self.old.state self.old.spent event.now) }
         ensures state { OnOk result (moment_of self.new ≡ moment_after R.table (moment_of self.old) event.now) }

@@ -1,5 +1,5 @@
 -- What the charge looks at, at a node.
-use Rattle.std.specs.Prelude.{◌≡◌}
+use Rattle.std.specs.Prelude.{◌≡◌, ℕ}
 use Rattle.rule_machine.specs.State.{State, pointer, flag, married, has_suitor}
 use Rattle.rule_set.specs.declared.standing.Standing.{Standing}
 
@@ -9,3 +9,10 @@ pub record IsStanding (s : State) (it : Standing) : Type 0 where
   pub flagged : it.flag ≡ flag s it.node
   pub paired : it.is_married ≡ married s it.node
   pub courted : it.has_suitor ≡ has_suitor s it.node
+
+-- two states have the same at a node
+pub record IsSameStanding (s u : State) (v : ℕ) : Type 0 where
+  pub points : pointer s v ≡ pointer u v
+  pub flagged : flag s v ≡ flag u v
+  pub paired : married s v ≡ married u v
+  pub courted : has_suitor s v ≡ has_suitor u v

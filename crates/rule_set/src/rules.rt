@@ -6,7 +6,7 @@ ghost use Rattle.rule_machine.specs.declared.act.Act.{Act};
 ghost use Rattle.rule_machine.specs.declared.act.Act.TheVariants.{Update};
 ghost use Rattle.rule_machine.specs.declared.choice.Item.{Item};
 ghost use Rattle.rule_machine.specs.declared.moved.Moved.{Moved};
-ghost use Rattle.rule_machine.specs.State.{State, IsState, pointer, is_unanswered, married};
+ghost use Rattle.rule_machine.specs.State.{State, IsState, pointer, is_unanswered};
 ghost use Rattle.rule_machine.specs.RuleTable.{RuleTable, rule_at, enabled_names, least_target};
 ghost use Rattle.rule_machine.specs.Network.{names, linked, edge_list, node_count, edge_count};
 ghost use Rattle.rule_machine.specs.Step.{IsStep};
@@ -14,7 +14,7 @@ ghost use Rattle.rule_machine.specs.Stable.{IsStable};
 ghost use Rattle.rule_set.specs.Ends.{ends_open};
 ghost use Rattle.rule_set.specs.Glance.{SameGlance};
 ghost use Rattle.rule_set.specs.Near.{SameAt};
-ghost use Rattle.rule_set.specs.Standing.{IsStanding};
+ghost use Rattle.rule_set.specs.Standing.{IsStanding, IsSameStanding};
 ghost use Rattle.rule_set.specs.Target.{target_at, takes_target};
 
 use crate::{Local, Standing};
@@ -37,8 +37,6 @@ pub trait Rules {
 
     ghost ABOVE: { Bool };
 
-    ghost NODES_ADD: { Bool };
-
     ghost NODE_WEIGHT: { ℕ };
 
     ghost COURTED_CLOSE: { Bool };
@@ -57,9 +55,6 @@ pub trait Rules {
 
     /// Whether its guards ask for open neighbours above a node alone, and not for any.
     const ABOVE: bool;
-
-    /// Whether a node adds to the charge beside its pointer and its edges.
-    const NODES_ADD: bool;
 
     /// What each node adds to the bound of the charge.
     const NODE_WEIGHT: u64;
@@ -88,11 +83,11 @@ pub trait Rules {
         ensures { result_ok result ≡ target_at table (L.state local.now) v wish };
 
     /// Whether a node's pointer closes the edge to its target, which the ends of the edge leave open.
-    fn closes(node: &Standing, target: &Standing) -> bool
-        ensures { (s : State) → IsStanding s node.now → IsStanding s target.now → pointer s node.now.node ≡ Some target.now.node → result ≡ closes s node.now.node };
+    fn closes(node: Node, target: &Standing) -> bool
+        ensures { (s : State) → IsState s → IsStanding s target.now → pointer s node ≡ Some target.now.node → result ≡ closes s node };
 
     /// What a node adds to the charge, beside 1 where its pointer is not answered.
-    fn node_charge(node: &Standing) -> u32
+    fn node_charge(node: &Standing) -> u8
         ensures { (s : State) → IsStanding s node.now → result ≡ adds s node.now.node };
 
     /// The table says of the daemon what the constant says.
@@ -133,14 +128,14 @@ pub trait Rules {
     /// pointer that is not answered, and what the nodes add.
     ghost charge_counts: { (s : State) → IsState s → table.charge s + 2 * count_by (closes s) (names s.network) ≡ 2 * count_by (ends_open COURTED_CLOSE s) (edge_list s.network) + count_by (is_unanswered s) (names s.network) + sum_by (adds s) (names s.network) };
 
-    /// Where nodes add nothing, none adds anything.
-    ghost adds_nothing: { NODES_ADD ≡ false → (s : State) (v : ℕ) → adds s v ≡ 0 };
+    /// What a node adds depends on no more than what stands at it.
+    ghost adds_by_standing: { (s u : State) (v : ℕ) → IsSameStanding s u v → adds s v ≡ adds u v };
 
     /// A pointer that is null closes nothing.
     ghost null_closes_none: { (s : State) (v : ℕ) → pointer s v ≡ None → closes s v ≡ false };
 
-    /// A married node's pointer closes nothing that its ends leave open.
-    ghost married_closes_none: { (s : State) (v : ℕ) → IsTrue (married s v) → closes s v ≡ false };
+    /// Whether a pointer closes an edge depends on no more than what stands at its target.
+    ghost closes_by_target: { (s u : State) (v w : ℕ) → IsState s → IsState u → pointer s v ≡ Some w → pointer u v ≡ Some w → IsSameStanding s u w → closes s v ≡ closes u v };
 
     /// A node adds little to the bound, so that what is counted fits 32 bits.
     ghost is_light: { NODE_WEIGHT ≤ 3 };

@@ -1,11 +1,11 @@
 -- How the charge is counted. Under these rules a node adds nothing to it beside its pointer.
-use Rattle.std.proofs.Common.{◌≡◌, ℕ, ◌+◌, ◌*◌, ◌≤◌, true, false, List, [], ◌∷◌, None, is_none, count_by, sum_by, refl, ap, ◌∙◌, arith}
+use Rattle.std.proofs.Common.{◌≡◌, ℕ, ◌+◌, ◌*◌, ◌≤◌, true, false, List, [], ◌∷◌, None, Some, is_none, count_by, sum_by, refl, sym, ap, ◌∙◌, arith}
 use Rattle.std.proofs.lemmas.List.Sums.{sum_by-cons}
 use Rattle.rule_machine.specs.Network.{names, edge_list}
-use Rattle.rule_machine.specs.State.{State, IsState, pointer, holds_at, is_unanswered, married}
+use Rattle.rule_machine.specs.State.{State, IsState, pointer, holds_at, is_unanswered}
 use Rattle.rule_machine.specs.Charge.{hsu_huang_charge}
 use Rattle.rule_set.specs.Ends.{ends_open}
-use Rattle.machine_laws.specs.Pointers.{married_some}
+use Rattle.rule_set.specs.Standing.{IsSameStanding}
 use Rattle.charge_laws.specs.ClosedByPointers.{hsu_huang_closes, hsu_huang_split}
 
 abbrev pub nothing : State → ℕ → ℕ
@@ -24,10 +24,10 @@ charge_without_nodes s good =
 pub null_closes : (s : State) (v : ℕ) → pointer s v ≡ None → hsu_huang_closes s v ≡ false
 null_closes s v null = ap (holds_at (λ w. is_none (pointer s w))) null
 
--- nor does that of a married node, whose target points back
-pub married_closes : (s : State) (v : ℕ) → married s v ≡ true → hsu_huang_closes s v ≡ false
-married_closes s v is =
-    let both = married_some s v is in ap (holds_at (λ w. is_none (pointer s w))) both.1 ∙ ap is_none both.2
+-- whether one closes an edge goes by the pointer of its target
+pub closes_alike : (s u : State) (v w : ℕ) → IsState s → IsState u → pointer s v ≡ Some w → pointer u v ≡ Some w → IsSameStanding s u w → hsu_huang_closes s v ≡ hsu_huang_closes u v
+closes_alike s u v w good also at still same =
+    ap (holds_at (λ x. is_none (pointer s x))) at ∙ ap is_none same.points ∙ sym (ap (holds_at (λ x. is_none (pointer u x))) still)
 
 pub light : 1 ≤ 3
 light = omega arith

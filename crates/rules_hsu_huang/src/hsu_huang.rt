@@ -13,7 +13,7 @@ impl Rules for HsuHuang {
     ghost use Rattle.charge_laws.specs.Laws.{hsu_huang_charged};
     ghost use Rattle.charge_laws.specs.Tables.{hsu_huang_flagless};
     ghost use Rattle.rule_machine.specs.HsuHuang.{hsu_huang};
-    ghost use Rattle.rules_hsu_huang.specs.Charge.{nothing, charge_without_nodes, light, null_closes, married_closes};
+    ghost use Rattle.rules_hsu_huang.specs.Charge.{nothing, charge_without_nodes, light, null_closes, closes_alike};
     ghost use Rattle.rules_hsu_huang.specs.Rule.{guard_is_glance, guard_is_local, one_rule_at};
     ghost use Rattle.rules_hsu_huang.specs.Target.{allowed_near, allowed_takes, target_from_guard};
     ghost use Rattle.rules_hsu_huang.specs.Quiet.{stable_from_quiet, quiet_from_stable};
@@ -25,8 +25,6 @@ impl Rules for HsuHuang {
     ghost FLAGS = { false };
 
     ghost ABOVE = { false };
-
-    ghost NODES_ADD = { false };
 
     ghost NODE_WEIGHT = { 1 };
 
@@ -41,8 +39,6 @@ impl Rules for HsuHuang {
     const FLAGS: bool = false;
 
     const ABOVE: bool = false;
-
-    const NODES_ADD: bool = false;
 
     const NODE_WEIGHT: u64 = 1;
 
@@ -82,11 +78,11 @@ impl Rules for HsuHuang {
         }
     }
 
-    fn closes(_node: &Standing, target: &Standing) -> bool {
+    fn closes(_node: Node, target: &Standing) -> bool {
         target.pointer.is_none()
     }
 
-    fn node_charge(_: &Standing) -> u32 {
+    fn node_charge(_: &Standing) -> u8 {
         0
     }
 
@@ -114,11 +110,11 @@ impl Rules for HsuHuang {
 
     ghost charge_counts = { charge_without_nodes };
 
-    ghost adds_nothing = { λ _ _ _. refl };
+    ghost adds_by_standing = { λ _ _ _ _. refl };
 
     ghost null_closes_none = { null_closes };
 
-    ghost married_closes_none = { married_closes };
+    ghost closes_by_target = { closes_alike };
 
     ghost is_light = { light };
 

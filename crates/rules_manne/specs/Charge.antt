@@ -1,10 +1,13 @@
 -- How the charge is counted.
-use Rattle.std.proofs.Common.{◌≡◌, ℕ, ◌+◌, ◌*◌, ◌≤◌, Bool, true, false, not, ◌&&◌, None, count_by, sum_by, nat_lt, refl, ap, true≢false, arith}
-use Rattle.std.proofs.lemmas.Bool.{and_right}
+use Rattle.std.proofs.Common.{◌≡◌, ℕ, ◌+◌, ◌*◌, ◌≤◌, Bool, true, false, cond, not, ◌&&◌, None, Some, count_by, sum_by, nat_lt, refl, sym, ap, ◌∙◌, subst, arith}
+use Rattle.std.proofs.lemmas.Bool.{and_right, true≢false}
 use Rattle.rule_machine.specs.Network.{names, edge_list}
 use Rattle.rule_machine.specs.State.{State, IsState, pointer, flag, holds_at, is_unanswered, married}
 use Rattle.rule_machine.specs.Charge.{manne_node_charge, manne_charge}
 use Rattle.rule_set.specs.Ends.{ends_open}
+use Rattle.rule_set.specs.Standing.{IsSameStanding, IsStanding}
+use Rattle.rule_set.specs.declared.standing.Standing.{Standing}
+use Rattle.machine_laws.specs.Pointers.{married_from, married_some}
 use Rattle.charge_laws.specs.Counting.{count_agree}
 use Rattle.charge_laws.specs.ClosedByPointers.{manne_apart, manne_closes, manne_split}
 
@@ -25,14 +28,40 @@ pub null_closes : (s : State) (v : ℕ) → pointer s v ≡ None → manne_close
 null_closes s v null =
     and_right (not (married s v)) _ (ap (holds_at (λ w. nat_lt v w && not (flag s w) && not (married s w))) null)
 
--- nor does that of a married node
-pub married_closes : (s : State) (v : ℕ) → married s v ≡ true → manne_closes s v ≡ false
-married_closes s v is =
-    ap (λ m. not m && holds_at (λ w. nat_lt v w && not (flag s w) && not (married s w)) (pointer s v)) is
+-- a pointer at w closes its edge where w is higher, and neither flagged nor married: then its own node is not married either
+pub closes_at : (s : State) (v w : ℕ) → IsState s → pointer s v ≡ Some w → manne_closes s v ≡ (nat_lt v w && not (flag s w) && not (married s w))
+closes_at s v w good at =
+    ap (λ o. not (married s v) && holds_at (λ x. nat_lt v x && not (flag s x) && not (married s x)) o) at
+    ∙ by_target (married s v) (nat_lt v w) (not (flag s w)) (married s w) (λ paired. let both = married_some s v paired in married_from s w v good (subst (λ x. pointer s x ≡ Some v) (some_same (sym both.1 ∙ at)) both.2) at)
+  where
+    some_same : {a b : ℕ} → Some a ≡ Some b → a ≡ b
+    some_same e = cc
+
+    none : (p f : Bool) → false ≡ (p && f && false)
+    none true true = refl
+    none true false = refl
+    none false f = refl
+
+    by_target : (m p f n : Bool) → (m ≡ true → n ≡ true) → (not m && (p && f && not n)) ≡ (p && f && not n)
+    by_target false p f n h = refl
+    by_target true p f true h = none p f
+    by_target true p f false h = absurd (true≢false (sym (h refl)))
+
+-- whether one closes an edge goes by what stands at its target
+pub closes_alike : (s u : State) (v w : ℕ) → IsState s → IsState u → pointer s v ≡ Some w → pointer u v ≡ Some w → IsSameStanding s u w → manne_closes s v ≡ manne_closes u v
+closes_alike s u v w good also at still same =
+    closes_at s v w good at
+    ∙ (λ i. nat_lt v w && not (same.flagged i) && not (same.paired i))
+    ∙ sym (closes_at u v w also still)
+
+-- and what a node adds by what stands at it
+pub adds_alike : (s u : State) (v : ℕ) → IsSameStanding s u v → manne_node_charge s v ≡ manne_node_charge u v
+adds_alike s u v same = λ i. cond (same.paired i) (cond (same.flagged i) 0 1) (cond (same.flagged i) 2 1)
 
 pub light : 3 ≤ 3
 light = omega arith
 
--- nodes do add to it
-pub adds_always : true ≡ false → (s : State) (v : ℕ) → manne_node_charge s v ≡ 0
-adds_always never s v = absurd (true≢false never)
+-- so it is read off what stands at the target
+pub closes_standing : (s : State) (v : ℕ) (target : Standing) → IsState s → IsStanding s target → pointer s v ≡ Some target.node → manne_closes s v ≡ (nat_lt v target.node && not target.flag && not target.is_married)
+closes_standing s v target good stands at =
+    closes_at s v target.node good at ∙ (λ i. nat_lt v target.node && not (sym stands.flagged i) && not (sym stands.paired i))

@@ -25,7 +25,7 @@ impl Rules for Manne {
     ghost use Rattle.rules_manne.specs.Rule.{guard_is_glance, guard_is_local, one_rule_at};
     ghost use Rattle.rules_manne.specs.Target.{allowed_near, allowed_takes, target_from_guard};
     ghost use Rattle.rules_manne.specs.Quiet.{stable_from_quiet, quiet_from_stable};
-    ghost use Rattle.rules_manne.specs.Charge.{adds_always, counted, light, null_closes, married_closes};
+    ghost use Rattle.rules_manne.specs.Charge.{adds_alike, closes_alike, closes_standing, counted, light, null_closes};
 
     ghost table = { manne };
 
@@ -34,8 +34,6 @@ impl Rules for Manne {
     ghost FLAGS = { true };
 
     ghost ABOVE = { true };
-
-    ghost NODES_ADD = { true };
 
     ghost NODE_WEIGHT = { 3 };
 
@@ -50,8 +48,6 @@ impl Rules for Manne {
     const FLAGS: bool = true;
 
     const ABOVE: bool = true;
-
-    const NODES_ADD: bool = true;
 
     const NODE_WEIGHT: u64 = 3;
 
@@ -88,11 +84,14 @@ impl Rules for Manne {
         }
     }
 
-    fn closes(node: &Standing, target: &Standing) -> bool {
-        !node.is_married && node.node < target.node && !target.flag && !target.is_married
+    fn closes(node: Node, target: &Standing) -> bool {
+        if target.flag || target.is_married {
+            return false;
+        }
+        node < target.node
     }
 
-    fn node_charge(node: &Standing) -> u32 {
+    fn node_charge(node: &Standing) -> u8 {
         match (node.is_married, node.flag) {
             (true, true) => 0,
             (true, false) | (false, false) => 1,
@@ -124,11 +123,11 @@ impl Rules for Manne {
 
     ghost charge_counts = { counted };
 
-    ghost adds_nothing = { adds_always };
+    ghost adds_by_standing = { adds_alike };
 
     ghost null_closes_none = { null_closes };
 
-    ghost married_closes_none = { married_closes };
+    ghost closes_by_target = { closes_alike };
 
     ghost is_light = { light };
 

@@ -1,7 +1,8 @@
 use Rattle.std.proofs.Common.{◌∙◌, ◌&&◌, ℕ, Bool, cond, ap, length, nat_lt, arith}
 use Rattle.rule_machine.specs.Network.{neighbours}
 use Rattle.rule_set.specs.Ends.{ends_open}
-use Rattle.rule_engine.proofs.Counted.{counted_more, few_neighbours}
+use Rattle.indexed_state.proofs.Summed.{counted_more}
+use Rattle.rule_engine.proofs.Counted.{few_neighbours}
 use Rattle.rule_engine.proofs.Found.{few_bytes, one_byte}
 use Rattle.rule_engine.proofs.charge.open_above.Goals as goal
 

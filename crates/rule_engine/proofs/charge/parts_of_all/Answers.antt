@@ -1,12 +1,11 @@
-use Rattle.std.proofs.Common.{◌≡◌, ◌∙◌, ◌+◌, ℕ, Option, ap, sym, cond, filter_map, is_some, length, sum_by, arith}
+use Rattle.std.proofs.Common.{◌≡◌, ◌∙◌, ◌+◌, ℕ, ap, sym, cond, sum_by, arith}
 use Rattle.std.specs.List.{range_with_len}
 use Rattle.rule_machine.specs.Network.{Network, present}
-use Rattle.rule_machine.specs.Stable.{pair_above}
 use Rattle.rule_machine.specs.State.{State}
-use Rattle.rule_engine.specs.Charges.{closing_part, node_part}
-use Rattle.rule_engine.specs.Kept.{answered_by}
-use Rattle.rule_engine.proofs.Counted.{found_count_next, names_sum, summed_next}
-use Rattle.rule_engine.proofs.Named.{pairs_scanned}
+use Rattle.indexed_state.specs.Shares.{node_part}
+use Rattle.indexed_state.proofs.Named.{names_sum}
+use Rattle.rule_engine.specs.Charges.{closing_part}
+use Rattle.rule_engine.proofs.Counted.{summed_next}
 use Rattle.rule_engine.proofs.charge.parts_of_all.Goals as goal
 
 pub loop-below-preserved : goal.loop-below-preserved
@@ -16,26 +15,13 @@ loop-below-preserved g c =
     let named = c.node_above.ensures in
     let little = c.part_of_name-part.ensures.little in
     let so_far = c.loop-below.invariant.little in
-    let found : ℕ → Option (ℕ × ℕ) = λ v. pair_above v (answered_by s.registers v) in
     let added : ℕ → ℕ = λ v. cond (present s.network v) (node_part (adds s) s v) 0 in
     let closing : ℕ → ℕ = λ v. cond (present s.network v) (closing_part (g.R.Rules.closes s) v) 0 in
     record {
-      pairs =
-          ap (λ n. c.loop-below.all.pairs + n) (c.part_of_name-part.ensures.pairs ∙ ap (λ v. cond {A = ℕ} (is_some (found v)) 1 0) named)
-          ∙ found_count_next found c.loop-below.below c.loop-below.all.pairs c.loop-below.invariant.pairs;
       added = summed_next added c.loop-below.below c.loop-below.all.added _ c.loop-below.invariant.added (ap (λ n. c.loop-below.all.added + n) (c.part_of_name-part.ensures.added ∙ ap added named));
       closing = summed_next closing c.loop-below.below c.loop-below.all.closing _ c.loop-below.invariant.closing (ap (λ n. c.loop-below.all.closing + n) (c.part_of_name-part.ensures.closing ∙ ap closing named));
-      little = (omega (arith, little.0, so_far.0), omega (arith, little.1, so_far.1), omega (arith, little.2, so_far.2));
+      little = (omega (arith, little.0, so_far.0), omega (arith, little.1, so_far.1));
     }
-
-pub returns-clause-pairs : goal.returns-clause-pairs
-returns-clause-pairs g c =
-    let s = c.args.state.now.state in
-    let size = c.last_name-below-end.ensures ∙ ap (λ (n : Network). n.size) c.store.ensures.value in
-    let count : c.loop-below.below ≡ s.network.size = omega (arith, size) in
-    c.loop-below.invariant.pairs
-    ∙ ap (λ n. length (filter_map (λ v. pair_above v (answered_by s.registers v)) (range_with_len 1 n))) count
-    ∙ sym (ap length (pairs_scanned s c.store.ensures.state))
 
 pub returns-clause-added : goal.returns-clause-added
 returns-clause-added g c =

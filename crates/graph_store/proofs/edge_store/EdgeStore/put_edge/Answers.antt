@@ -61,5 +61,5 @@ invariant_of-self c =
       },
     )
 
-pub returns : goal.returns
-returns c = (linked_now c).1
+pub returns-clause-network : goal.returns-clause-network
+returns-clause-network c = (linked_now c).1

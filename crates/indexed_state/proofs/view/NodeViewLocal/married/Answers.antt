@@ -9,4 +9,4 @@ pub returns : goal.returns
 returns g c =
     let s : State = state_of c.state.inside.store.network c.state.inside.registers in
     let v = c.args.self.now.node in
-    c.married.ensures ∙ sym (married_answered s v c.state.invariant.is_state) ∙ ap (λ (n : Indexed). married n.state v) c.state.view_is
+    c.married.ensures ∙ sym (married_answered s v c.state.invariant.0.is_state) ∙ ap (λ (n : Indexed). married n.state v) c.state.view_is

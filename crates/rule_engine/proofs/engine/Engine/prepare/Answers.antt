@@ -17,9 +17,9 @@ returns-in-Step g c =
 pub returns-in-Enabled : goal.returns-in-Enabled
 returns-in-Enabled g c =
     subst (λ (r : Result Reply AllocError). Prepares {E = AllocError} g.R.Rules.table c.args.self.now c.args.spent c.args.event.now r c.args.self.now) (sym c.put-in-Enabled.ensures)
-    (subst (λ event. Prepares {E = AllocError} g.R.Rules.table c.args.self.now c.args.spent event c.list_enabled.result c.args.self.now) (sym c.in-Enabled.is) (asked_prepares g.R.Rules.table c.args.self.now c.args.spent Enabled c.list_enabled.result refl refl (λ reply. tt) (c.list_enabled.ensures c.args.spent)))
+    (subst (λ event. Prepares {E = AllocError} g.R.Rules.table c.args.self.now c.args.spent event c.list_enabled.result c.args.self.now) (sym c.in-Enabled.is) (asked_prepares g.R.Rules.table c.args.self.now c.args.self.now c.args.spent Enabled c.list_enabled.result refl refl refl (λ reply. tt) (c.list_enabled.ensures c.args.spent)))
 
 pub returns-in-Matching : goal.returns-in-Matching
 returns-in-Matching g c =
-    subst (λ (r : Result Reply AllocError). Prepares {E = AllocError} g.R.Rules.table c.args.self.now c.args.spent c.args.event.now r c.args.self.now) (sym c.put-in-Matching.ensures)
-    (subst (λ event. Prepares {E = AllocError} g.R.Rules.table c.args.self.now c.args.spent event c.list_pairs.result c.args.self.now) (sym c.in-Matching.is) (asked_prepares g.R.Rules.table c.args.self.now c.args.spent Matching c.list_pairs.result refl refl (λ reply. tt) (c.list_pairs.ensures c.args.spent)))
+    subst (λ (r : Result Reply AllocError). Prepares {E = AllocError} g.R.Rules.table c.args.self.now c.args.spent c.args.event.now r c.list_pairs-pairs.new.self) (sym c.put-in-Matching.ensures)
+    (subst (λ event. Prepares {E = AllocError} g.R.Rules.table c.args.self.now c.args.spent event c.list_pairs-pairs.result c.list_pairs-pairs.new.self) (sym c.in-Matching.is) (asked_prepares g.R.Rules.table c.args.self.now c.list_pairs-pairs.new.self c.args.spent Matching c.list_pairs-pairs.result c.list_pairs-pairs.ensures.state refl refl (λ reply. tt) (c.list_pairs-pairs.ensures.reply c.args.spent)))

@@ -1,0 +1,229 @@
+-- What the shares come to where no name is stale.
+use Rattle.std.proofs.Common.{◌≡◌, ℕ, suc, ◌+◌, ◌-◌, ◌<◌, ◌≤◌, Bool, true, false, cond, not, ◌&&◌, List, [], ◌∷◌, length, get_or, set, map, count_by, sum_by, filter, filter_map, Option, None, Some, is_some, option_and_then, IsTrue, slice_get, nat_eq, take, refl, sym, ap, ap₂, subst, ◌∙◌, ⊎_elim, arith}
+use mir.Val.{bool_byte}
+use Rattle.std.specs.List.{range_with_len, cons_option}
+use Rattle.std.proofs.lemmas.Bool.{cases_eq, cases_lt, cases_Bool, eq-eqb, false_from_ne_true, ne_eqb, true≢false}
+use Rattle.std.proofs.lemmas.Option.{none-some}
+use Rattle.std.proofs.lemmas.List.{ext_get_or, get_or_past, get_or-set_other, get_or-set_same, length-set}
+use Rattle.std.proofs.lemmas.List.FromFn.{get_or-map-range_with_len, length-map-range_with_len}
+use Rattle.std.specs.List.{All}
+use Rattle.std.proofs.lemmas.List.Elements.{All-set}
+use Rattle.std.proofs.lemmas.List.Sums.{sum_by_more, sum_by-cons, sum_by-le, sum_by-set}
+use Rattle.enabled_set.specs.Members.{is_in, members}
+use Rattle.enabled_set.specs.Counts.{tally}
+use Rattle.enabled_set.proofs.Members.{length-members}
+use Rattle.enabled_set.proofs.Tally.{past_above, tally_put, tally_through}
+use Rattle.graph_store.specs.declared.end.End.{End}
+use Rattle.graph_store.specs.declared.end.End.TheVariants.{Shut, Courted, Free}
+use Rattle.graph_store.specs.Ends.{are_open, end_at, open_edges}
+use Rattle.rule_machine.specs.Charge.{is_courted}
+use Rattle.rule_machine.specs.Network.{Network, IsNetwork, names, present, linked, neighbours, edge_list}
+use Rattle.rule_machine.specs.Stable.{mutual_pairs, pair_above}
+use Rattle.rule_machine.specs.State.{State, IsState, is_at, pointer, points, married, has_suitor}
+use Rattle.machine_laws.specs.Neighbours.{linked_present}
+use Rattle.machine_laws.specs.Pointers.{no_suitor, pointer_linked, points_true}
+use Rattle.rule_set.specs.Ends.{ends_open}
+use Rattle.charge_laws.specs.ClosedByPointers.{at_once, closing_by_targets}
+use Rattle.charge_laws.specs.Counting.{count_agree}
+use Rattle.charge_laws.specs.EdgesByNodes.{count_filter}
+use Rattle.charge_laws.specs.Members.{in_names, names_without_repeats}
+use Rattle.suitor_index.specs.Tallies.{IsLoneSuitor}
+use Rattle.charge_laws.specs.EdgesByEnds.{edges_agree}
+use Rattle.indexed_state.specs.declared.shares.Share.{Share}
+use Rattle.indexed_state.specs.Shares.{answered_by, closing_at, end_of, is_lower_end, no_share, share_at}
+use Rattle.indexed_state.proofs.Named.{names_sum, pairs_scanned}
+
+-- ---- stale names
+
+first_passes : (p : ℕ → Bool) (xs : List ℕ) (v : ℕ) → slice_get (filter p xs) 0 ≡ Some v → p v ≡ true
+first_passes p [] v e = absurd (none-some v e)
+first_passes p (x ∷ xs) v e = step (p x) refl (first_passes p xs v) e
+  where
+    step : (b : Bool) → p x ≡ b → (slice_get (filter p xs) 0 ≡ Some v → p v ≡ true) → slice_get (cond b (x ∷ filter p xs) (filter p xs)) 0 ≡ Some v → p v ≡ true
+    step true is rest e = subst (λ y. p y ≡ true) (let same : x ≡ v = cc in same) is
+    step false is rest e = rest e
+
+-- the first member is one, and has a place
+pub first_member : (bits : List Bool) (v : ℕ) → slice_get (members bits) 0 ≡ Some v → (is_in bits v ≡ true) × (v < length bits)
+first_member bits v e =
+    let is = first_passes (is_in bits) (range_with_len 0 (length bits)) v e in
+    (is, ⊎_elim (λ (within : v < length bits). within) (λ (past : length bits ≤ v). absurd (true≢false (sym is ∙ get_or_past bits v false past))) (cases_lt v (length bits)))
+
+empty_first : (xs : List ℕ) → slice_get xs 0 ≡ None → length xs ≡ 0
+empty_first [] e = refl
+empty_first (x ∷ xs) e = absurd (none-some x (sym e))
+
+-- where there is no first member there is none
+pub no_member : (bits : List Bool) → slice_get (members bits) 0 ≡ None → (v : ℕ) → is_in bits v ≡ false
+no_member bits none v =
+    let nothing = empty_first (members bits) none in
+    let counted = length-members bits in
+    ⊎_elim
+    (λ (is : is_in bits v ≡ true).
+    ⊎_elim
+    (λ (within : v < length bits). let some = tally_through (is_in bits) 0 v (length bits) is (omega arith) within in absurd (omega (arith, nothing, counted, some)))
+    (λ (past : length bits ≤ v). get_or_past bits v false past)
+    (cases_lt v (length bits)))
+    (λ (is : is_in bits v ≡ false). is)
+    (cases_Bool (is_in bits v))
+
+-- a set without one of its members has fewer
+pub one_fewer : (bits bits' : List Bool) (v : ℕ) → is_in bits v ≡ true → v < length bits → bits' ≡ set bits v false → length (members bits') < length (members bits)
+one_fewer bits bits' v is within cleared =
+    let before = length-members bits in
+    let after = length-members bits' in
+    let places = ap length cleared ∙ length-set bits v false in
+    let same : tally (is_in bits') (length bits') ≡ tally (is_in bits') (length bits) = ap (tally (is_in bits')) places in
+    let less = tally_put (is_in bits') (is_in bits) v (ap (λ l. is_in l v) cleared ∙ get_or-set_same bits v false false within) is (λ k apart. sym (ap (λ l. is_in l k) cleared ∙ get_or-set_other bits v k false false apart)) (length bits) in
+    let one = past_above v (length bits) within in
+    omega (arith, before, after, same, less, one)
+
+-- ---- lower ends
+
+-- place 0 is nobody's
+nobody_points : (s : State) → IsState s → is_lower_end s.registers 0 ≡ false
+nobody_points s good = at_null (pointer s 0) refl
+  where
+    at_null : (o : Option ℕ) → pointer s 0 ≡ o → is_lower_end s.registers 0 ≡ false
+    at_null None e = ap (λ o. is_some (pair_above 0 (option_and_then (λ w. cond (points s.registers w 0) (Some w) None) o))) e
+    at_null (Some w) e = absurd (true≢false (sym (linked_present s.network 0 w good.is_network (pointer_linked s 0 w good e))))
+
+-- the lower ends that are kept are those that there are
+pub lower_members : (s : State) (lower : List Bool) → IsState s → length lower ≡ s.network.size + 1 → ((v : ℕ) → is_in lower v ≡ is_lower_end s.registers v) → members lower ≡ filter (is_lower_end s.registers) (range_with_len 1 s.network.size)
+lower_members s lower good places same =
+    let count : length lower ≡ suc s.network.size = omega (arith, places) in
+    ap (λ n. filter (is_in lower) (range_with_len 0 n)) count
+    ∙ (λ i. filter (λ v. same v i) (range_with_len 0 (suc s.network.size)))
+    ∙ ap (λ b. cond b (0 ∷ filter (is_lower_end s.registers) (range_with_len 1 s.network.size)) (filter (is_lower_end s.registers) (range_with_len 1 s.network.size))) (nobody_points s good)
+
+-- as many pass as are found
+found_passed : {X : Type 0} (f : ℕ → Option X) (xs : List ℕ) → length (filter (λ v. is_some (f v)) xs) ≡ length (filter_map f xs)
+found_passed {X = X} f [] = refl
+found_passed {X = X} f (x ∷ xs) = step (f x) (found_passed f xs)
+  where
+    step : (o : Option X) → length (filter (λ v. is_some (f v)) xs) ≡ length (filter_map f xs) → length (cond (is_some o) (x ∷ filter (λ v. is_some (f v)) xs) (filter (λ v. is_some (f v)) xs)) ≡ length (cons_option o (filter_map f xs))
+    step None rest = rest
+    step (Some y) rest = ap suc rest
+
+pub lower_count : (s : State) (lower : List Bool) → IsState s → length lower ≡ s.network.size + 1 → ((v : ℕ) → is_in lower v ≡ is_lower_end s.registers v) → length (members lower) ≡ length (mutual_pairs s)
+lower_count s lower good places same =
+    ap length (lower_members s lower good places same)
+    ∙ found_passed (λ v. pair_above v (answered_by s.registers v)) (range_with_len 1 s.network.size)
+    ∙ sym (ap length (pairs_scanned s good))
+
+-- ---- pointers that close an edge
+
+-- a test as a number
+pub one_byte : (b : Bool) → bool_byte b ≡ cond b 1 0
+one_byte true = refl
+one_byte false = refl
+
+pub few_bytes : (b : Bool) → bool_byte b ≤ 1
+few_bytes true = omega arith
+few_bytes false = omega arith
+
+-- one more neighbour that passes the test, or does not
+pub counted_more : (p : ℕ → Bool) (xs : List ℕ) (i x count one : ℕ) → i < length xs → x ≡ get_or xs i x → count ≡ count_by p (take i xs) → one ≡ cond (p x) 1 0 → count + one ≡ count_by p (take (i + 1) xs)
+counted_more p xs i x count one within is so_far passes =
+    ap₂ ◌+◌ so_far (passes ∙ ap (λ y. cond {A = ℕ} (p y) 1 0) is) ∙ sym (sum_by_more (λ y. cond (p y) 1 0) xs i x within)
+
+none_passes : (p : ℕ → Bool) (xs : List ℕ) → ((x : ℕ) → p x ≡ false) → count_by p xs ≡ 0
+none_passes p [] none = refl
+none_passes p (x ∷ xs) none =
+    let whole = sum_by-cons (λ y. cond (p y) 1 0) x xs in
+    let rest = none_passes p xs none in
+    let first : ◌≡◌ {A = ℕ} (cond (p x) 1 0) 0 = ap (λ b. cond {A = ℕ} b 1 0) (none x) in
+    omega (arith, whole, rest, first)
+
+-- none, at a node that has no suitor
+pub no_closing : (s : State) (closes : ℕ → Bool) (v : ℕ) → IsState s → has_suitor s v ≡ false → closing_at closes s v ≡ 0
+no_closing s closes v good none =
+    none_passes (λ x. points s.registers x v && closes x) (neighbours s.network v) (λ x.
+    ap (λ b. b && closes x) (false_from_ne_true (points s.registers x v) (λ at. no_suitor s v x good none (points_true s x v at))))
+
+eq_back : (a b : ℕ) → nat_eq a b ≡ nat_eq b a
+eq_back a b = ⊎_elim (λ same. eq-eqb a b same ∙ sym (eq-eqb b a (sym same))) (λ apart. ne_eqb a b apart ∙ sym (ne_eqb b a (λ same. apart (sym same)))) (cases_eq a b)
+
+-- the one suitor's, at a node that has one
+pub lone_closing : (s : State) (closes : ℕ → Bool) (v w : ℕ) → IsLoneSuitor s v w → closing_at closes s v ≡ cond (points s.registers w v && closes w) 1 0
+lone_closing s closes v w lone =
+    count_filter (λ x. points s.registers x v && closes x) (linked s.network v) (names s.network)
+    ∙ count_agree (λ x. linked s.network v x && (points s.registers x v && closes x)) (λ x. is_at (Some w) x && closes x) each (names s.network)
+    ∙ at_once (Some w) closes (names s.network) (in_names s.network w lone.here) (names_without_repeats s.network)
+    ∙ ap (λ b. cond b 1 0) (sym (ap (λ b. b && closes w) here))
+  where
+    regroup : (l p c : Bool) → (l && (p && c)) ≡ ((l && p) && c)
+    regroup true p c = refl
+    regroup false p c = refl
+
+    each : (x : ℕ) → (linked s.network v x && (points s.registers x v && closes x)) ≡ (is_at (Some w) x && closes x)
+    each x = regroup (linked s.network v x) (points s.registers x v) (closes x) ∙ ap (λ b. b && closes x) (lone.alone x ∙ eq_back x w)
+
+    second : (l p : Bool) → (l && p) ≡ true → p ≡ true
+    second true p e = e
+    second false p e = absurd (true≢false (sym e))
+
+    here : points s.registers w v ≡ true
+    here = second (linked s.network v w) (points s.registers w v) (lone.alone w ∙ eq-eqb w w refl)
+
+-- ---- sums
+
+-- a sum over a list is one over its places
+by_places : {X : Type 0} (f : X → ℕ) (xs : List X) (d : X) → sum_by f xs ≡ sum_by (λ i. f (get_or xs i d)) (range_with_len 0 (length xs))
+by_places {X = X} f xs d =
+    ap (sum_by f) (ext_get_or d xs (map (λ i. get_or xs i d) (range_with_len 0 (length xs))) (sym (length-map-range_with_len (λ i. get_or xs i d) 0 (length xs))) (λ i within. sym (get_or-map-range_with_len (λ i. get_or xs i d) 0 (length xs) i i d within (omega arith))))
+    ∙ mapped (λ i. get_or xs i d) (range_with_len 0 (length xs))
+  where
+    mapped : (g : ℕ → X) (is : List ℕ) → sum_by f (map g is) ≡ sum_by (λ i. f (g i)) is
+    mapped g [] = refl
+    mapped g (i ∷ is) =
+        let left = sum_by-cons f (g i) (map g is) in
+        let right = sum_by-cons (λ i. f (g i)) i is in
+        let rest = mapped g is in
+        omega (arith, left, right, rest)
+
+-- where one share takes the place of another the sum still fits
+pub sum_fits : (f : Share → ℕ) (each : List Share) (v : ℕ) (was share : Share) (sum x y : ℕ) → length each ≤ 65536 → All (λ it. f it ≤ 65535) each → f share ≤ 65535 → v < length each → sum ≡ sum_by f each → was ≡ get_or each v was → x ≡ f was → y ≡ f share → sum - x + y ≤ 4294901760
+sum_fits f each v was share sum x y few light fits within is at left right =
+    let turn = sum_by-set f each v share was within in
+    let most = sum_by-le f 65535 (set each v share) (All-set (λ it. f it ≤ 65535) each v share fits light) in
+    let places = length-set each v share in
+    let same = ap f at in
+    omega (arith, turn, most, places, same)
+
+-- what the names bring is what the nodes bring, where nobody has place 0
+pub summed : (f : Share → ℕ) (part : ℕ → ℕ) (net : Network) (each : List Share) → length each ≡ net.size + 1 → ((v : ℕ) → f (share_at each v) ≡ cond (present net v) (part v) 0) → sum_by f each ≡ sum_by part (names net)
+summed f part net each places told =
+    let count : length each ≡ suc net.size = omega (arith, places) in
+    by_places f each no_share
+    ∙ ap (λ n. sum_by (λ v. f (share_at each v)) (range_with_len 0 n)) count
+    ∙ (λ i. sum_by (λ v. told v i) (range_with_len 0 (suc net.size)))
+    ∙ (let whole = sum_by-cons (λ v. cond (present net v) (part v) 0) 0 (range_with_len 1 net.size) in omega (arith, whole))
+    ∙ sym (names_sum part net)
+
+-- and the pointers that close an edge are those that are counted at their targets
+pub closing_summed : (s : State) → IsState s → (closes : ℕ → Bool) → ((v : ℕ) → pointer s v ≡ None → closes v ≡ false) → (each : List Share) → length each ≡ s.network.size + 1 → ((v : ℕ) → (share_at each v).closing ≡ cond (present s.network v) (closing_at closes s v) 0) → sum_by (λ (it : Share). it.closing) each ≡ count_by closes (names s.network)
+closing_summed s good closes null each places told =
+    summed (λ (it : Share). it.closing) (closing_at closes s) s.network each places told ∙ closing_by_targets s good closes null
+
+-- ---- edges
+
+-- an edge as its ends make it is open as the charge counts it
+open_alike : (m n courted_close a b : Bool) → are_open (cond m Shut (cond (courted_close && a) Courted Free)) (cond n Shut (cond (courted_close && b) Courted Free)) ≡ (not m && not n && not (courted_close && (a && b)))
+open_alike true n c a b = refl
+open_alike false true true true b = refl
+open_alike false true true false b = refl
+open_alike false true false a b = refl
+open_alike false false false a b = refl
+open_alike false false true true true = refl
+open_alike false false true true false = refl
+open_alike false false true false true = refl
+open_alike false false true false false = refl
+
+pub ends_alike : (courted_close : Bool) (s : State) (v w : ℕ) → are_open (end_of courted_close s v) (end_of courted_close s w) ≡ ends_open courted_close s (v, w)
+ends_alike courted_close s v w = open_alike (married s v) (married s w) courted_close (is_courted s v) (is_courted s w)
+
+-- where each node has said what it makes of its edges, the open ones are those that the charge counts
+pub turned_open : (courted_close : Bool) (s : State) (ends : List End) → IsNetwork s.network → ((v : ℕ) → IsTrue (present s.network v) → end_at ends v ≡ end_of courted_close s v) → open_edges s.network ends ≡ count_by (ends_open courted_close s) (edge_list s.network)
+turned_open courted_close s ends good turned =
+    edges_agree s.network good (λ e. are_open (end_at ends e.0) (end_at ends e.1)) (ends_open courted_close s) (λ a b here there. ap₂ are_open (turned a here) (turned b there) ∙ ends_alike courted_close s a b)

@@ -1,0 +1,80 @@
+-- What is kept of each name, at first and after a look.
+use Rattle.std.proofs.Common.{◌≡◌, ◌≢◌, ℕ, ◌+◌, ◌<◌, ◌≤◌, Bool, false, cond, ◌&&◌, List, length, get_or, set, replicate, None, Some, is_some, option_and_then, IsTrue, leb, sym, ap, subst, ◌∙◌, ⊎_elim, arith}
+use Rattle.std.proofs.lemmas.Bool.{cases_eq, cases_lt, le-leb, lt-leb, and_left, true≢false}
+use Rattle.std.proofs.lemmas.List.{get_or-replicate, get_or_past, get_or-set_other, get_or-set_same, length-replicate, length-set}
+use Rattle.enabled_set.specs.Members.{is_in}
+use Rattle.graph_store.specs.declared.end.End.{End}
+use Rattle.graph_store.specs.Ends.{end_at}
+use Rattle.graph_store.proofs.Present.{first_names_at, first_names_len}
+use Rattle.rule_machine.specs.Network.{first_names, present}
+use Rattle.rule_machine.specs.State.{State, points, pointer, opening_with}
+use Rattle.rule_machine.specs.Stable.{pair_above}
+use Rattle.indexed_state.specs.declared.shares.Share.{Share}
+use Rattle.indexed_state.specs.Shares.{closing_at, end_of, is_lower_end, no_share, node_part, share_at, IsToldAt, AreTold}
+
+-- what is everywhere is at each place, and past the end
+pub everywhere : {X : Type 0} (n v : ℕ) (d : X) → get_or (replicate n d) v d ≡ d
+everywhere n v d =
+    ⊎_elim (λ (below : v < n). get_or-replicate n v d d below) (λ (past : n ≤ v). get_or_past (replicate n d) v d (let k = length-replicate n d in omega (arith, k))) (cases_lt v n)
+
+-- of a name without a node and without a pointer nothing is to be told
+told_nowhere : (courted_close : Bool) (closes : State → ℕ → Bool) (adds : State → ℕ → ℕ) (s : State) (ends : List End) (each : List Share) (lower : List Bool) (v : ℕ) → present s.network v ≡ false → pointer s v ≡ None → share_at each v ≡ no_share → is_in lower v ≡ false → IsToldAt courted_close closes adds s ends each lower v
+told_nowhere courted_close closes adds s ends each lower v absent null nothing not_lower = record {
+  added = ap (λ (it : Share). it.added) nothing ∙ sym (ap (λ b. cond b (node_part (adds s) s v) 0) absent);
+  closing = ap (λ (it : Share). it.closing) nothing ∙ sym (ap (λ b. cond b (closing_at (closes s) s v) 0) absent);
+  is_lower = not_lower ∙ sym (ap (λ o. is_some (pair_above v (option_and_then (λ w. cond (points s.registers w v) (Some w) None) o))) null);
+  end = λ here. absurd (true≢false (sym here ∙ absent));
+}
+
+-- at first all names are stale
+pub told_at_first : (courted_close : Bool) (closes : State → ℕ → Bool) (adds : State → ℕ → ℕ) (size count : ℕ) (ends : List End) → AreTold courted_close closes adds (opening_with size count) ends (replicate (size + 1) no_share) (replicate (size + 1) false) (first_names size size)
+told_at_first courted_close closes adds size count ends = record {
+  places = length-replicate (size + 1) no_share;
+  lower_places = length-replicate (size + 1) false;
+  stale_places = first_names_len size size;
+  told = λ v fresh.
+      told_nowhere courted_close closes adds (opening_with size count) ends (replicate (size + 1) no_share) (replicate (size + 1) false) v (absent v fresh) (everywhere (size + 1) v None) (everywhere (size + 1) v no_share) (everywhere (size + 1) v false);
+}
+  where
+    absent : (v : ℕ) → is_in (first_names size size) v ≡ false → present (opening_with size count).network v ≡ false
+    absent v fresh =
+        ⊎_elim (λ (none : v < 1). and_left (leb 1 v) _ (lt-leb 1 v none))
+        (λ (some : 1 ≤ v).
+        ⊎_elim (λ (past : size < v). ap (λ b. leb 1 v && (b && get_or (first_names size count) v false)) (lt-leb v size past) ∙ ap (λ b. b && false) (le-leb 1 v some))
+        (λ (within : v ≤ size). absurd (true≢false (sym (first_names_at size size v within ∙ ap (λ b. b && leb v size) (le-leb 1 v some) ∙ le-leb v size within) ∙ fresh)))
+        (cases_lt size v))
+        (cases_lt v 1)
+
+-- a look at a name tells of it, and of the others what was told
+pub told_next : (courted_close : Bool) (closes : State → ℕ → Bool) (adds : State → ℕ → ℕ) (s : State) (ends ends' : List End) (each each' : List Share) (lower lower' stale stale' : List Bool) (v : ℕ) (share : Share) (is_lower : Bool) → v ≤ s.network.size → each' ≡ set each v share → lower' ≡ set lower v is_lower → stale' ≡ set stale v false → share.added ≡ cond (present s.network v) (node_part (adds s) s v) 0 → share.closing ≡ cond (present s.network v) (closing_at (closes s) s v) 0 → is_lower ≡ is_lower_end s.registers v → (IsTrue (present s.network v) → end_at ends' v ≡ end_of courted_close s v) → ((w : ℕ) → w ≢ v → end_at ends' w ≡ end_at ends w) → AreTold courted_close closes adds s ends each lower stale → AreTold courted_close closes adds s ends' each' lower' stale'
+told_next courted_close closes adds s ends ends' each each' lower lower' stale stale' v share is_lower within set_each set_lower set_stale added closing low end others told = record {
+  places = ap length set_each ∙ length-set each v share ∙ told.places;
+  lower_places = ap length set_lower ∙ length-set lower v is_lower ∙ told.lower_places;
+  stale_places = ap length set_stale ∙ length-set stale v false ∙ told.stale_places;
+  told = λ w fresh.
+      ⊎_elim
+      (λ (same : w ≡ v). subst (λ x. IsToldAt courted_close closes adds s ends' each' lower' x) (sym same) here)
+      (λ (apart : w ≢ v). there w apart (told.told w (sym (ap (λ l. is_in l w) set_stale ∙ get_or-set_other stale v w false false apart) ∙ fresh)))
+      (cases_eq w v);
+}
+  where
+    new_share : share_at each' v ≡ share
+    new_share = ap (λ l. share_at l v) set_each ∙ get_or-set_same each v share no_share (omega (arith, told.places))
+
+    here : IsToldAt courted_close closes adds s ends' each' lower' v
+    here = record {
+      added = ap (λ (it : Share). it.added) new_share ∙ added;
+      closing = ap (λ (it : Share). it.closing) new_share ∙ closing;
+      is_lower = ap (λ l. is_in l v) set_lower ∙ get_or-set_same lower v is_lower false (omega (arith, told.lower_places)) ∙ low;
+      end = end;
+    }
+
+    there : (w : ℕ) → w ≢ v → IsToldAt courted_close closes adds s ends each lower w → IsToldAt courted_close closes adds s ends' each' lower' w
+    there w apart was =
+        let same = ap (λ l. share_at l w) set_each ∙ get_or-set_other each v w share no_share apart in
+        record {
+          added = ap (λ (it : Share). it.added) same ∙ was.added;
+          closing = ap (λ (it : Share). it.closing) same ∙ was.closing;
+          is_lower = ap (λ l. is_in l w) set_lower ∙ get_or-set_other lower v w is_lower false apart ∙ was.is_lower;
+          end = λ h. others w apart ∙ was.end h;
+        }

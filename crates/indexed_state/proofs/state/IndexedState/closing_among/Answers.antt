@@ -1,0 +1,32 @@
+use Rattle.std.proofs.Common.{◌&&◌, ◌∙◌, ℕ, Bool, cond, count_by, refl, ap, arith}
+use Rattle.std.proofs.lemmas.List.{take_all}
+use Rattle.rule_machine.specs.Network.{neighbours}
+use Rattle.rule_machine.specs.State.{points}
+use Rattle.suitor_index.proofs.Built.{few_neighbours}
+use Rattle.indexed_state.specs.Indexed.{Indexed}
+use Rattle.indexed_state.proofs.Summed.{counted_more, few_bytes, one_byte}
+use Rattle.indexed_state.proofs.state.IndexedState.closing_among.Goals as goal
+
+pub overflow_add-closing : goal.overflow_add-closing
+overflow_add-closing g c =
+    let net = c.self.inside.store.network in
+    let few = few_neighbours net c.args.node.now.node c.neighbours-w-items.result.now net.size c.neighbours-w-items.ensures.all refl c.self.invariant.0.few in
+    let so_far = c.loop-w.invariant.few in
+    omega (arith, few, so_far, c.loop-w-test.true, c.from-closing.ensures, few_bytes c.closes_edge.result)
+
+pub loop-w-preserved : goal.loop-w-preserved
+loop-w-preserved g c =
+    let v = c.args.node.now.node in
+    let p : ℕ → Bool = λ x. points c.args.self.now.state.registers x v && g.R.Rules.closes c.args.self.now.state x in
+    let so_far = c.loop-w.invariant.few in
+    record {
+      count = counted_more p c.neighbours-w-items.result.now c.loop-w.w-index c.w-item.result c.loop-w.closing c.from-closing.result c.loop-w-test.true c.w-item.is c.loop-w.invariant.count (c.from-closing.ensures ∙ one_byte c.closes_edge.result ∙ ap (λ (b : Bool). cond {A = ℕ} b 1 0) c.closes_edge.ensures);
+      few = omega (arith, so_far, c.from-closing.ensures, few_bytes c.closes_edge.result);
+    }
+
+pub returns : goal.returns
+returns g c =
+    let v = c.args.node.now.node in
+    c.loop-w.invariant.count
+    ∙ ap (count_by (λ x. points c.args.self.now.state.registers x v && g.R.Rules.closes c.args.self.now.state x))
+    (take_all c.loop-w.w-index c.neighbours-w-items.result.now (omega arith) ∙ c.neighbours-w-items.ensures.all ∙ ap (λ (n : Indexed). neighbours n.state.network v) c.self.view_is)

@@ -1,0 +1,52 @@
+use Rattle.std.proofs.Common.{◌≡◌, ◌∙◌, ℕ, false, length, count_by, sum_by, ap}
+use Rattle.enabled_set.specs.Members.{is_in}
+use Rattle.rule_machine.specs.Network.{names, edge_list}
+use Rattle.rule_machine.specs.Stable.{mutual_pairs}
+use Rattle.rule_machine.specs.State.{State}
+use Rattle.rule_set.specs.Ends.{ends_open}
+use Rattle.suitor_index.specs.Tallies.{state_of}
+use Rattle.indexed_state.specs.declared.shares.Share.{Share}
+use Rattle.indexed_state.specs.Indexed.{Indexed}
+use Rattle.indexed_state.specs.Shares.{node_part}
+use Rattle.indexed_state.proofs.Summed.{closing_summed, lower_count, summed, turned_open}
+use Rattle.indexed_state.proofs.state.IndexedState.totals.Goals as goal
+
+pub returns-clause-pairs : goal.returns-clause-pairs
+returns-clause-pairs g c =
+    let s : State = state_of c.self.inside.store.network c.self.inside.registers in
+    let same = ap (λ (n : Indexed). n.state) c.self.view_is ∙ c.look_again.ensures.state in
+    let fresh : (v : ℕ) → is_in c.self.inside.shares.stale v ≡ false = λ v. ap (λ (n : Indexed). is_in n.stale v) c.self.view_is ∙ c.look_again.ensures.told v in
+    let told = c.self.invariant.1 in
+    c.count.ensures
+    ∙ lower_count s c.self.inside.shares.lower_ends c.self.invariant.0.is_state told.lower_places (λ v. (told.told v (fresh v)).is_lower)
+    ∙ ap (λ (t : State). length (mutual_pairs t)) same
+
+pub returns-clause-open : goal.returns-clause-open
+returns-clause-open g c =
+    let s : State = state_of c.self.inside.store.network c.self.inside.registers in
+    let same = ap (λ (n : Indexed). n.state) c.self.view_is ∙ c.look_again.ensures.state in
+    let fresh : (v : ℕ) → is_in c.self.inside.shares.stale v ≡ false = λ v. ap (λ (n : Indexed). is_in n.stale v) c.self.view_is ∙ c.look_again.ensures.told v in
+    let told = c.self.invariant.1 in
+    c.open_edges.ensures.count
+    ∙ turned_open g.R.Rules.COURTED_CLOSE s c.self.inside.store.ends c.self.invariant.0.is_state.is_network (λ v. (told.told v (fresh v)).end)
+    ∙ ap (λ (t : State). count_by (ends_open g.R.Rules.COURTED_CLOSE t) (edge_list t.network)) same
+
+pub returns-clause-added : goal.returns-clause-added
+returns-clause-added g c =
+    let s : State = state_of c.self.inside.store.network c.self.inside.registers in
+    let same = ap (λ (n : Indexed). n.state) c.self.view_is ∙ c.look_again.ensures.state in
+    let fresh : (v : ℕ) → is_in c.self.inside.shares.stale v ≡ false = λ v. ap (λ (n : Indexed). is_in n.stale v) c.self.view_is ∙ c.look_again.ensures.told v in
+    let told = c.self.invariant.1 in
+    c.self.inside.shares.summed.in_all
+    ∙ summed (λ (it : Share). it.added) (node_part (g.R.Rules.adds s) s) s.network c.self.inside.shares.each.items told.places (λ v. (told.told v (fresh v)).added)
+    ∙ ap (λ (t : State). sum_by (node_part (g.R.Rules.adds t) t) (names t.network)) same
+
+pub returns-clause-closing : goal.returns-clause-closing
+returns-clause-closing g c =
+    let s : State = state_of c.self.inside.store.network c.self.inside.registers in
+    let same = ap (λ (n : Indexed). n.state) c.self.view_is ∙ c.look_again.ensures.state in
+    let fresh : (v : ℕ) → is_in c.self.inside.shares.stale v ≡ false = λ v. ap (λ (n : Indexed). is_in n.stale v) c.self.view_is ∙ c.look_again.ensures.told v in
+    let told = c.self.invariant.1 in
+    c.self.inside.shares.summed.closed
+    ∙ closing_summed s c.self.invariant.0.is_state (g.R.Rules.closes s) (g.met.R.Rules.null_closes_none s) c.self.inside.shares.each.items told.places (λ v. (told.told v (fresh v)).closing)
+    ∙ ap (λ (t : State). count_by (g.R.Rules.closes t) (names t.network)) same

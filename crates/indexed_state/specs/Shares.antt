@@ -1,0 +1,71 @@
+-- What each node brings to what questions ask of all nodes.
+use Rattle.std.specs.Prelude.{◌≡◌, ◌≢◌, ℕ, ◌+◌, ◌≤◌, Bool, false, cond, ◌&&◌, List, length, count_by, sum_by, Option, Some, None, is_some, option_and_then, slice_index_or, IsTrue, if◌then◌else◌}
+use Rattle.enabled_set.specs.Members.{is_in}
+use Rattle.graph_store.specs.declared.end.End.{End}
+use Rattle.graph_store.specs.declared.end.End.TheVariants.{Shut, Courted, Free}
+use Rattle.graph_store.specs.Ends.{end_at}
+use Rattle.rule_machine.specs.Network.{present, neighbours}
+use Rattle.rule_machine.specs.State.{State, Registers, is_at, points, is_unanswered, married}
+use Rattle.rule_machine.specs.Stable.{pair_above}
+use Rattle.rule_machine.specs.Charge.{is_courted}
+use Rattle.indexed_state.specs.declared.shares.Share.{Share}
+
+-- the node that v points at, if it points back, where these are the pointers
+abbrev pub answered_in : List (Option ℕ) → ℕ → Option ℕ
+answered_in pointers v = option_and_then (λ w. if is_at (slice_index_or pointers w None) v then Some w else None) (slice_index_or pointers v None)
+
+abbrev pub answered_by : Registers → ℕ → Option ℕ
+answered_by r v = answered_in r.pointers v
+
+-- whether v is the lower end of a mutual pair
+abbrev pub is_lower_end : Registers → ℕ → Bool
+is_lower_end r v = is_some (pair_above v (answered_by r v))
+
+-- what a node makes of the edges at it: a married one shuts them, and where courted nodes close the edges between them it says
+-- whether it is one
+abbrev pub end_of : Bool → State → ℕ → End
+end_of courted_close s v = cond (married s v) Shut (cond (courted_close && is_courted s v) Courted Free)
+
+-- 1 where v's pointer is not answered, and what v adds by itself
+abbrev pub node_part : (ℕ → ℕ) → State → ℕ → ℕ
+node_part adds s v = cond (is_unanswered s v) 1 0 + adds v
+
+-- how many pointers at w close the edge that they are on, which its ends leave open
+abbrev pub closing_at : (ℕ → Bool) → State → ℕ → ℕ
+closing_at closes s w = count_by (λ v. points s.registers v w && closes v) (neighbours s.network w)
+
+-- what a name brings where no node has it
+abbrev pub no_share : Share
+no_share = record { added = 0; closing = 0 }
+
+abbrev pub share_at : List Share → ℕ → Share
+share_at each v = slice_index_or each v no_share
+
+-- w is another node than v, and not one that its pointer was at or is at
+pub record IsElsewhere (v : ℕ) (was is : Option ℕ) (w : ℕ) : Type 0 where
+  pub other : w ≢ v
+  pub not_was : is_at was w ≡ false
+  pub not_is : is_at is w ≡ false
+
+-- both parts of a share fit sixteen bits
+abbrev pub IsLight : Share → Type 0
+IsLight it = (it.added ≤ 65535) × (it.closing ≤ 65535)
+
+-- the sums are those of the shares
+pub record AreSummed (each : List Share) (added closing : ℕ) : Type 0 where
+  pub in_all : added ≡ sum_by (λ (it : Share). it.added) each
+  pub closed : closing ≡ sum_by (λ (it : Share). it.closing) each
+
+-- what is kept of a name is what it brings, whether it is a lower end, and what it makes of its edges
+pub record IsToldAt (courted_close : Bool) (closes : State → ℕ → Bool) (adds : State → ℕ → ℕ) (s : State) (ends : List End) (each : List Share) (lower : List Bool) (v : ℕ) : Type 0 where
+  pub added : (share_at each v).added ≡ cond (present s.network v) (node_part (adds s) s v) 0
+  pub closing : (share_at each v).closing ≡ cond (present s.network v) (closing_at (closes s) s v) 0
+  pub is_lower : is_in lower v ≡ is_lower_end s.registers v
+  pub end : IsTrue (present s.network v) → end_at ends v ≡ end_of courted_close s v
+
+-- it is, of each name that is not stale
+pub record AreTold (courted_close : Bool) (closes : State → ℕ → Bool) (adds : State → ℕ → ℕ) (s : State) (ends : List End) (each : List Share) (lower stale : List Bool) : Type 0 where
+  pub places : length each ≡ s.network.size + 1
+  pub lower_places : length lower ≡ s.network.size + 1
+  pub stale_places : length stale ≡ s.network.size + 1
+  pub told : (v : ℕ) → is_in stale v ≡ false → IsToldAt courted_close closes adds s ends each lower v

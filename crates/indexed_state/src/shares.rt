@@ -1,0 +1,129 @@
+//! What each node brings to what questions ask of all nodes, as it was when the node was last looked at.
+
+ghost use Rattle.std.specs.Prelude.{◌≡◌, ◌≢◌, All, ℕ, ◌+◌, ◌<◌, ◌≤◌, false, length, replicate, slice_set, IfOk, IfSome};
+ghost use Rattle.enabled_set.specs.Members.{is_in};
+ghost use Rattle.rule_machine.specs.Network.{first_names};
+ghost use Rattle.rule_machine.specs.State.{is_at};
+ghost use Rattle.indexed_state.specs.Shares.{no_share, AreSummed, IsElsewhere, IsLight};
+
+use enabled_set::EnabledSet;
+use graph_store::first_names;
+use rule_machine::{Node, Want};
+use std::alloc::Global;
+
+/// What a node brings to the charge beside its own edges: what it adds, and how many pointers at it close the edge that they are
+/// on, which its ends leave open.
+#[derive(Clone, Copy)]
+pub(crate) struct Share {
+    pub(crate) added: u16,
+    pub(crate) closing: u16,
+}
+
+/// What is brought where there is no node.
+pub(crate) const NO_SHARE: Share = Share {
+    added: 0,
+    closing: 0,
+};
+
+/// What each node brought when it was last looked at, with the sums, and whether it was the lower end of a mutual pair. The nodes of
+/// stale names may bring something else now.
+#[derive(Drop)]
+pub(crate) struct Shares {
+    pub(crate) each: Vec<Share>,
+    pub(crate) added: u32,
+    pub(crate) closing: u32,
+    pub(crate) lower_ends: EnabledSet,
+    pub(crate) stale: EnabledSet,
+    ghost few: { length each.items ≤ 65536 },
+    ghost light: { All IsLight each.items },
+    ghost summed: { AreSummed each.items added closing },
+}
+
+impl Shares {
+    /// Nothing is brought as yet, and all names up to `nodes` are stale. Takes four bytes and two bits a name.
+    pub(crate) fn new(alloc: Global, nodes: u32) -> Result<Shares, Want>
+        requires { nodes ≤ 65535 }
+        ensures each { IfOk result (λ it. it.each.items ≡ replicate (nodes + 1) no_share) }
+        ensures lower { IfOk result (λ it. it.lower_ends ≡ replicate (nodes + 1) false) }
+        ensures stale { IfOk result (λ it. it.stale ≡ first_names nodes nodes) }
+    {
+        let each = vec![in alloc; NO_SHARE; nodes as usize + 1]?;
+        let lower_ends = EnabledSet::new(alloc, nodes)?;
+        let stale = first_names(alloc, nodes, nodes)?;
+        Ok(Shares {
+            each,
+            added: 0,
+            closing: 0,
+            lower_ends,
+            stale,
+        })
+    }
+
+    /// A name is stale from now on.
+    #[inline(always)]
+    pub(crate) fn mark(&mut self, v: Node)
+        requires { v < length self.old.stale }
+        ensures kept { (self.new.each.items ≡ self.old.each.items) × (self.new.lower_ends ≡ self.old.lower_ends) }
+        ensures places { length self.new.stale ≡ length self.old.stale }
+        ensures marked { (w : ℕ) → is_in self.new.stale w ≡ false → (is_in self.old.stale w ≡ false) × (w ≢ v) }
+    {
+        self.stale.insert(v);
+    }
+
+    /// The name that a pointer is at, if any, is stale from now on.
+    #[inline(always)]
+    fn mark_target(&mut self, target: Option<Node>)
+        requires { IfSome target (λ w. w < length self.old.stale) }
+        ensures kept { (self.new.each.items ≡ self.old.each.items) × (self.new.lower_ends ≡ self.old.lower_ends) }
+        ensures places { length self.new.stale ≡ length self.old.stale }
+        ensures marked { (w : ℕ) → is_in self.new.stale w ≡ false → (is_in self.old.stale w ≡ false) × (is_at target w ≡ false) }
+    {
+        if let Some(w) = target {
+            self.mark(w);
+        }
+    }
+
+    /// A node's pointer was written: it and those that the pointer was at and is at are stale from now on.
+    #[inline(always)]
+    pub(crate) fn mark_pointer(&mut self, v: Node, was: Option<Node>, is: Option<Node>)
+        requires node { v < length self.old.stale }
+        requires was { IfSome was (λ w. w < length self.old.stale) }
+        requires is { IfSome is (λ w. w < length self.old.stale) }
+        ensures kept { (self.new.each.items ≡ self.old.each.items) × (self.new.lower_ends ≡ self.old.lower_ends) }
+        ensures places { length self.new.stale ≡ length self.old.stale }
+        ensures marked { (w : ℕ) → is_in self.new.stale w ≡ false → (is_in self.old.stale w ≡ false) × IsElsewhere v was is w }
+    {
+        self.mark(v);
+        self.mark_target(was);
+        self.mark_target(is);
+    }
+
+    /// Keeps what a name brings now: it is stale no longer.
+    pub(crate) fn put(&mut self, v: Node, share: Share, is_lower_end: bool)
+        requires share { v < length self.old.each.items }
+        requires lower { v < length self.old.lower_ends }
+        requires stale { v < length self.old.stale }
+        ensures each { self.new.each.items ≡ slice_set self.old.each.items v share }
+        ensures lower { self.new.lower_ends ≡ slice_set self.old.lower_ends v is_lower_end }
+        ensures stale { self.new.stale ≡ slice_set self.old.stale v false }
+    {
+        let was = self.each[v.place()];
+        self.each[v.place()] = share;
+        self.added = self.added - u32::from(was.added) + u32::from(share.added);
+        self.closing = self.closing - u32::from(was.closing) + u32::from(share.closing);
+        put_member(&mut self.lower_ends, v, is_lower_end);
+        self.stale.remove(v);
+    }
+}
+
+/// Makes a name that has a place a member or none.
+fn put_member(set: &mut EnabledSet, v: Node, is_member: bool)
+    requires { v < length set.old }
+    ensures { set.new ≡ slice_set set.old v is_member }
+{
+    if is_member {
+        set.insert(v);
+    } else {
+        set.remove(v);
+    }
+}

@@ -1,7 +1,0 @@
-use Rattle.std.proofs.Common.{◌≡◌, take, filter_map}
-use Rattle.rule_machine.specs.Stable.{pair_above}
-use Rattle.rule_engine.specs.Kept.{answered_by}
-use Rattle.rule_engine.proofs.listing.mutual_edges.Given as goal
-
-abbrev pub invariant-loop-v : goal.invariant-loop-v
-invariant-loop-v l = l.pairs.items ≡ filter_map (λ v. pair_above v (answered_by l.registers v)) (take l.v-index l.v-items)
