@@ -10,10 +10,6 @@ pub bool_number : (b : Bool) → from_bool b ≡ cond b 1 0
 bool_number true = refl
 bool_number false = refl
 
-pub bool_few : (b : Bool) → from_bool b ≤ 1
-bool_few true = omega arith
-bool_few false = omega arith
-
 pub one_few : (b : Bool) → cond {A = ℕ} b 1 0 ≤ 1
 one_few true = omega arith
 one_few false = omega arith

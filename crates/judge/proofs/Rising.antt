@@ -1,109 +1,165 @@
--- Mutual pairs by rising lower ends, as many as nodes point upwards or as are lower ends.
-use Rattle.std.proofs.Common.{◌≡◌, ℕ, ◌+◌, ◌<◌, ◌≤◌, ◌⊎◌, zero, suc, Bool, true, false, cond, nat_lt, ◌&&◌, List, [], ◌∷◌, length, filter_map, count_by, Option, None, Some, is_some, IsTrue, refl, sym, ap, subst, ◌∙◌, inl, inr, ⊎_elim, arith, lt-ltb}
+-- Lists by rising names of what is told of names: those that have as much as is told at all have all of it.
+use Rattle.std.proofs.Common.{◌≡◌, ℕ, ◌+◌, ◌<◌, ◌≤◌, ◌↔◌, zero, suc, Bool, true, false, cond, nat_lt, List, [], ◌∷◌, drop, get_or, length, filter_map, Option, None, Some, is_some, IsTrue, refl, sym, ap, subst, ◌∙◌, ⊎_elim, arith, lt-ltb}
+use Rattle.std.specs.Option.{option_map}
 use Rattle.std.specs.List.{range_with_len, cons_option}
-use Rattle.std.proofs.lemmas.Bool.{cases_lt, and_parts, and_from}
-use Rattle.std.proofs.lemmas.Option.{none-some}
-use Rattle.rule_machine.specs.Network.{present}
-use Rattle.rule_machine.specs.State.{State, IsState, holds_at, partner, pointer, points}
+use Rattle.std.proofs.lemmas.Bool.{cases_lt, true≢false}
+use Rattle.std.proofs.lemmas.List.{drop_all, drop_more}
+use Rattle.std.proofs.lemmas.List.Sums.{length-filter}
+use Rattle.std.proofs.lemmas.Option.{none-some, cond_some}
+use Rattle.rule_machine.specs.declared.act.Act.{Act}
+use Rattle.rule_machine.specs.Network.{names, present}
+use Rattle.rule_machine.specs.State.{State, IsState, partner, points}
 use Rattle.rule_machine.specs.Stable.{mutual_pairs, pair_above}
+use Rattle.rule_machine.specs.RuleTable.{RuleTable, enabled, enabled_names, rule_at}
 use Rattle.machine_laws.specs.Neighbours.{present_range, linked_present, option_cases}
 use Rattle.machine_laws.specs.Pointers.{partner_from, partner_some, points_from, points_true, pointer_linked}
-use Rattle.charge_laws.specs.Counting.{sum_le}
-use Rattle.judge.specs.Pairing.{points_up, is_lower_end, AreRising}
+use Rattle.charge_laws.specs.Counting.{sum_agree}
+use Rattle.judge.specs.Rising.{AreRising, pair_at, ruled_node}
 use Rattle.judge.proofs.Counting.{kept_values, length_filter_map}
-
--- what a function gives, by rising first parts above n
-abbrev Rises : (ℕ → Option (ℕ × ℕ)) → ℕ → List (ℕ × ℕ) → Type 0
-Rises f n [] = Unit
-Rises f n (p ∷ pairs) = (n < p.0) × (f p.0 ≡ Some p) × Rises f p.0 pairs
 
 nil_of : {X : Type 0} (xs : List X) → length xs ≤ 0 → [] ≡ xs
 nil_of [] few = refl
 nil_of (x ∷ xs) few = absurd (omega (arith, few))
 
--- it is all that is given, where no more is given
-all_given : (f : ℕ → Option (ℕ × ℕ)) (k n : ℕ) (pairs : List (ℕ × ℕ)) → ((v : ℕ) (p : ℕ × ℕ) → f v ≡ Some p → v ≤ n + k) → Rises f n pairs → length (filter_map f (range_with_len (n + 1) k)) ≤ length pairs → pairs ≡ filter_map f (range_with_len (n + 1) k)
-all_given f k n [] top up few = nil_of (filter_map f (range_with_len (n + 1) k)) few
-all_given f zero n (p ∷ pairs) top up few = absurd (omega (arith, up.0, top p.0 p up.1))
-all_given f (suc k) n (p ∷ pairs) top up few =
+-- it is all that is told, where no more is told
+all_told : {Y : Type 0} (f : ℕ → Option (ℕ × Y)) (k n : ℕ) (items : List (ℕ × Y)) → ((v : ℕ) (p : ℕ × Y) → f v ≡ Some p → v ≤ n + k) → AreRising f n items → length (filter_map f (range_with_len (n + 1) k)) ≤ length items → items ≡ filter_map f (range_with_len (n + 1) k)
+all_told f k n [] top up few = nil_of (filter_map f (range_with_len (n + 1) k)) few
+all_told f zero n (p ∷ items) top up few = absurd (omega (arith, up.0, top p.0 p up.1))
+all_told {Y = Y} f (suc k) n (p ∷ items) top up few =
     let rest = filter_map f (range_with_len (n + 1 + 1) k) in
-    let more : (qs : List (ℕ × ℕ)) → Rises f (n + 1) qs → length rest ≤ length qs → qs ≡ rest = λ qs u l. all_given f k (n + 1) qs (λ v q e. omega (arith, top v q e)) u l in
-    let step : (o : Option (ℕ × ℕ)) → f (n + 1) ≡ o → filter_map f (range_with_len (n + 1) (suc k)) ≡ cons_option o rest = λ o e. ap (λ x. cons_option x rest) e in
+    let more : (qs : List (ℕ × Y)) → AreRising f (n + 1) qs → length rest ≤ length qs → qs ≡ rest = λ qs u l. all_told f k (n + 1) qs (λ v q e. omega (arith, top v q e)) u l in
+    let step : (o : Option (ℕ × Y)) → f (n + 1) ≡ o → filter_map f (range_with_len (n + 1) (suc k)) ≡ cons_option o rest = λ o e. ap (λ x. cons_option x rest) e in
     ⊎_elim
     (λ (above : n + 1 < p.0).
     ⊎_elim
-    (λ (none : f (n + 1) ≡ None). more (p ∷ pairs) (above, up.1, up.2) (omega (arith, few, ap length (step None none))) ∙ sym (step None none))
-    (λ (some : (q : ℕ × ℕ) × (f (n + 1) ≡ Some q)).
+    (λ (none : f (n + 1) ≡ None). more (p ∷ items) (above, up.1, up.2) (omega (arith, few, ap length (step None none))) ∙ sym (step None none))
+    (λ (some : (q : ℕ × Y) × (f (n + 1) ≡ Some q)).
     let long = ap length (step (Some some.0) some.1) in
-    let same = ap length (more (p ∷ pairs) (above, up.1, up.2) (omega (arith, few, long))) in
+    let same = ap length (more (p ∷ items) (above, up.1, up.2) (omega (arith, few, long))) in
     absurd (omega (arith, few, long, same)))
     (option_cases (f (n + 1))))
     (λ (here : p.0 ≤ n + 1).
     let same : p.0 ≡ n + 1 = omega (arith, here, up.0) in
     let first = step (Some p) (ap f (sym same) ∙ up.1) in
-    ap (λ l. p ∷ l) (more pairs (subst (λ (m : ℕ). Rises f m pairs) same up.2) (omega (arith, few, ap length first))) ∙ sym first)
+    ap (λ l. p ∷ l) (more items (subst (λ (m : ℕ). AreRising f m items) same up.2) (omega (arith, few, ap length first))) ∙ sym first)
     (cases_lt (n + 1) p.0)
 
--- the mutual pair of which the node of a name is the lower end
-abbrev pair_at : State → ℕ → Option (ℕ × ℕ)
-pair_at s v = cond (present s.network v) (pair_above v (partner s v)) None
-
-present_at : (s : State) (v : ℕ) (p : ℕ × ℕ) → pair_at s v ≡ Some p → IsTrue (present s.network v)
-present_at s v p e = kept (present s.network v) e
+-- all that is told rises
+all_rise : {Y : Type 0} (f : ℕ → Option (ℕ × Y)) → ((v : ℕ) (p : ℕ × Y) → f v ≡ Some p → p.0 ≡ v) → (k n m : ℕ) → m ≤ n → AreRising f m (filter_map f (range_with_len (n + 1) k))
+all_rise f named zero n m low = tt
+all_rise {Y = Y} f named (suc k) n m low =
+    step (f (n + 1)) refl (all_rise f named k (n + 1) m (omega arith)) (all_rise f named k (n + 1) (n + 1) (omega arith))
   where
-    kept : (b : Bool) → cond b (pair_above v (partner s v)) None ≡ Some p → IsTrue b
-    kept true e = refl
-    kept false e = absurd (none-some p e)
+    step : (o : Option (ℕ × Y)) → f (n + 1) ≡ o → AreRising f m (filter_map f (range_with_len (n + 1 + 1) k)) → AreRising f (n + 1) (filter_map f (range_with_len (n + 1 + 1) k)) → AreRising f m (cons_option o (filter_map f (range_with_len (n + 1 + 1) k)))
+    step None e without with_it = without
+    step (Some p) e without with_it =
+        let at : p.0 ≡ n + 1 = named (n + 1) p e in (
+          omega (arith, at, low),
+          ap f at ∙ e,
+          subst (λ (v : ℕ). AreRising f v (filter_map f (range_with_len (n + 1 + 1) k))) (sym at) with_it,
+        )
 
-in_range : (s : State) (v : ℕ) (p : ℕ × ℕ) → pair_at s v ≡ Some p → v ≤ 0 + s.network.size
-in_range s v p e = let low = present_range s.network v (present_at s v p e) in omega (arith, low.1)
+-- as many items as are told of the names up to size are all of them exactly if they rise
+all_listed : {Y : Type 0} (f : ℕ → Option (ℕ × Y)) (size : ℕ) (all items : List (ℕ × Y)) → all ≡ filter_map f (range_with_len 1 size) → ((v : ℕ) (p : ℕ × Y) → f v ≡ Some p → (v ≤ size) × (p.0 ≡ v)) → length items ≡ length all → AreRising f 0 items ↔ (items ≡ all)
+all_listed f size all items is told as_many =
+    let long = ap length is in (
+      λ up. all_told f size 0 items (λ v p e. (let at = told v p e in omega (arith, at.0))) up (omega (arith, as_many, long)) ∙ sym is,
+      λ same. subst (AreRising f 0) (sym (same ∙ is)) (all_rise f (λ v p e. (told v p e).1) size 0 0 (omega arith)),
+    )
 
-rises : (s : State) (n : ℕ) (pairs : List (ℕ × ℕ)) → IsState s → AreRising s n pairs → Rises (pair_at s) n pairs
-rises s n [] good up = tt
-rises s n (p ∷ pairs) good up =
-    let both = and_parts (points s.registers p.0 p.1) (points s.registers p.1 p.0) up.2 in
-    let to = points_true s p.0 p.1 both.0 in
-    let back = points_true s p.1 p.0 both.1 in
-    let here = linked_present s.network p.0 p.1 good.is_network (pointer_linked s p.0 p.1 good to) in
-    let pair : pair_at s p.0 ≡ Some p =
-    ap (λ b. cond b (pair_above p.0 (partner s p.0)) None) here ∙ ap (pair_above p.0) (partner_from s p.0 p.1 good to back) ∙ ap (λ b. cond b (Some p) None) (lt-ltb p.0 p.1 up.1) in
-    (up.0, pair, rises s p.0 pairs good up.3)
+-- ---- mutual pairs
 
--- a lower end passes a test that each passes
-lower_passes : (s : State) (test : Bool) (v : ℕ) → ((w : ℕ) → pointer s v ≡ Some w → pointer s w ≡ Some v → nat_lt v w ≡ true → test ≡ true) → cond {A = ℕ} (is_some (pair_at s v)) 1 0 ≤ cond {A = ℕ} test 1 0
-lower_passes s test v passes = at (present s.network v) (option_cases (partner s v))
+-- a pair is told of its lower end, which is there
+told_pair : (s : State) (v : ℕ) (p : ℕ × ℕ) → pair_at s v ≡ Some p → IsTrue (present s.network v) × (p.0 ≡ v) × (partner s v ≡ Some p.1)
+told_pair s v p e = told (present s.network v) (partner s v) e
   where
-    one : (here up : Bool) (p : ℕ × ℕ) → (up ≡ true → test ≡ true) → cond {A = ℕ} (is_some (cond here (cond up (Some p) None) None)) 1 0 ≤ cond {A = ℕ} test 1 0
-    one true true p pass = let passed = ap (λ b. cond {A = ℕ} b 1 0) (pass refl) in omega (arith, passed)
-    one true false p pass = omega arith
-    one false up p pass = omega arith
+    told : (b : Bool) (o : Option ℕ) → cond b (pair_above v o) None ≡ Some p → IsTrue b × (p.0 ≡ v) × (o ≡ Some p.1)
+    told true (Some w) e =
+        let same = (cond_some (nat_lt v w) (v, w) p e).1 in
+        (refl, sym (ap (λ q. q.0) same), ap (λ q. Some q.1) same)
+    told true None e = absurd (none-some p e)
+    told false o e = absurd (none-some p e)
 
-    no_one : (here : Bool) → cond {A = ℕ} (is_some (cond {A = Option (ℕ × ℕ)} here None None)) 1 0 ≤ cond {A = ℕ} test 1 0
-    no_one true = omega arith
-    no_one false = omega arith
+pub pairs_listed : (s : State) (pairs : List (ℕ × ℕ)) → length pairs ≡ length (mutual_pairs s) → AreRising (pair_at s) 0 pairs ↔ (pairs ≡ mutual_pairs s)
+pairs_listed s pairs as_many =
+    all_listed (pair_at s) s.network.size (mutual_pairs s) pairs (kept_values (present s.network) (λ v. pair_above v (partner s v)) (pair_at s) (λ v. refl) (range_with_len 1 s.network.size))
+    (λ v p e. let pair = told_pair s v p e in ((present_range s.network v pair.0).1, pair.1))
+    as_many
 
-    at : (here : Bool) → (partner s v ≡ None) ⊎ ((w : ℕ) × (partner s v ≡ Some w)) → cond {A = ℕ} (is_some (cond here (pair_above v (partner s v)) None)) 1 0 ≤ cond {A = ℕ} test 1 0
-    at here (inl none) = subst (λ o. cond {A = ℕ} (is_some (cond here (pair_above v o) None)) 1 0 ≤ cond {A = ℕ} test 1 0) (sym none) (no_one here)
-    at here (inr some) =
-        let ends = partner_some s v some.0 some.1 in
-        subst (λ o. cond {A = ℕ} (is_some (cond here (pair_above v o) None)) 1 0 ≤ cond {A = ℕ} test 1 0) (sym some.1)
-        (one here (nat_lt v some.0) (v, some.0) (passes some.0 ends.0 ends.1))
+-- two nodes that point at each other
+pair_told : (s : State) (v w : ℕ) → IsState s → v < w → IsTrue (points s.registers v w) → IsTrue (points s.registers w v) → pair_at s v ≡ Some (v, w)
+pair_told s v w good up there back =
+    let to = points_true s v w there in
+    let from = points_true s w v back in
+    let here = linked_present s.network v w good.is_network (pointer_linked s v w good to) in
+    ap (λ b. cond b (pair_above v (partner s v)) None) here ∙ ap (pair_above v) (partner_from s v w good to from) ∙ ap (λ b. cond b (Some (v, w)) None) (lt-ltb v w up)
 
--- as many mutual pairs as nodes pass a test that each lower end passes are all of them
-all_passing : (s : State) (test : ℕ → Bool) (pairs : List (ℕ × ℕ)) → IsState s → ((v w : ℕ) → pointer s v ≡ Some w → pointer s w ≡ Some v → nat_lt v w ≡ true → test v ≡ true) → AreRising s 0 pairs → length pairs ≡ count_by test (range_with_len 1 s.network.size) → pairs ≡ mutual_pairs s
-all_passing s test pairs good passes up as_many =
-    let all = range_with_len 1 s.network.size in
-    let named = kept_values (present s.network) (λ v. pair_above v (partner s v)) (pair_at s) (λ v. refl) all in
-    let few = sum_le (λ v. cond {A = ℕ} (is_some (pair_at s v)) 1 0) (λ v. cond {A = ℕ} (test v) 1 0) all (λ v in_all. lower_passes s (test v) v (passes v)) in
-    let count = length_filter_map (pair_at s) all in
-    all_given (pair_at s) s.network.size 0 pairs (in_range s) (rises s 0 pairs good up) (omega (arith, few, count, as_many)) ∙ sym named
+-- v points at w, and w tells whether they are a pair
+pub told_back : (s : State) (v w : ℕ) (back : Bool) → IsState s → v < w → IsTrue (points s.registers v w) → back ≡ points s.registers w v → IsTrue back ↔ (pair_at s v ≡ Some (v, w))
+told_back s v w back good up there is = (
+  λ yes. pair_told s v w good up there (sym is ∙ yes),
+  λ e. is ∙ points_from s w v (partner_some s v w (told_pair s v (v, w) e).2).1,
+)
 
--- as many as nodes point upwards
-pub all_upwards : (s : State) (pairs : List (ℕ × ℕ)) → IsState s → AreRising s 0 pairs → length pairs ≡ count_by (points_up s) (range_with_len 1 s.network.size) → pairs ≡ mutual_pairs s
-all_upwards s pairs good = all_passing s (points_up s) pairs good (λ v w at back up. ap (holds_at (nat_lt v)) at ∙ up)
+-- v does not point at w
+pub told_apart : (s : State) (v w : ℕ) → points s.registers v w ≡ false → pair_at s v ≡ Some (v, w) → ⊥
+told_apart s v w apart e = true≢false (sym (points_from s v w (partner_some s v w (told_pair s v (v, w) e).2).0) ∙ apart)
 
--- as many as are lower ends
-pub all_counted : (s : State) (pairs : List (ℕ × ℕ)) → IsState s → AreRising s 0 pairs → length pairs ≡ count_by (is_lower_end s) (range_with_len 1 s.network.size) → pairs ≡ mutual_pairs s
-all_counted s pairs good =
-    all_passing s (is_lower_end s) pairs good
-    (λ v w at back up. ap (holds_at (λ x. nat_lt v x && points s.registers x v)) at ∙ and_from (nat_lt v w) (points s.registers w v) up (points_from s w v back))
+-- ---- enabled nodes
+
+-- a rule is told of a node that is there, at which it is enabled
+told_rule : (t : RuleTable) (s : State) (v : ℕ) (p : ℕ × Act) → ruled_node t s v ≡ Some p → IsTrue (present s.network v) × (p.0 ≡ v) × (rule_at t s v ≡ Some p.1)
+told_rule t s v p e = told (present s.network v) (rule_at t s v) e
+  where
+    told : (b : Bool) (o : Option Act) → option_map (λ act. (v, act)) (cond b o None) ≡ Some p → IsTrue b × (p.0 ≡ v) × (o ≡ Some p.1)
+    told true (Some act) e = let same : (v, act) ≡ p = cc in (refl, sym (ap (λ q. q.0) same), ap (λ q. Some q.1) same)
+    told true None e = absurd (none-some p e)
+    told false o e = absurd (none-some p e)
+
+mapped : {X Y : Type 0} (h : X → Y) (b : Bool) (o : Option X) → option_map h (cond b o None) ≡ cond b (option_map h o) None
+mapped h true o = refl
+mapped h false o = refl
+
+some_mapped : {X Y : Type 0} (h : X → Y) (o : Option X) → is_some (option_map h o) ≡ is_some o
+some_mapped h None = refl
+some_mapped h (Some x) = refl
+
+-- the enabled nodes are as many as their rules
+pub enabled_count : (t : RuleTable) (s : State) → length (enabled_names t s) ≡ length (enabled t s)
+enabled_count t s =
+    let f : ℕ → Option (ℕ × Act) = λ v. option_map (λ act. (v, act)) (rule_at t s v) in
+    length-filter (λ v. is_some (rule_at t s v)) (names s.network)
+    ∙ sum_agree (λ v. cond {A = ℕ} (is_some (rule_at t s v)) 1 0) (λ v. cond {A = ℕ} (is_some (f v)) 1 0) (λ v. ap (λ b. cond {A = ℕ} b 1 0) (sym (some_mapped (λ (act : Act). (v, act)) (rule_at t s v)))) (names s.network)
+    ∙ sym (length_filter_map f (names s.network))
+
+-- as many nodes with their rules as there are enabled nodes
+pub enabled_listed : (t : RuleTable) (s : State) (nodes : List (ℕ × Act)) → length nodes ≡ length (enabled_names t s) → AreRising (ruled_node t s) 0 nodes ↔ (nodes ≡ enabled t s)
+enabled_listed t s nodes as_many =
+    let f : ℕ → Option (ℕ × Act) = λ v. option_map (λ act. (v, act)) (rule_at t s v) in
+    let split : (v : ℕ) → ruled_node t s v ≡ cond (present s.network v) (f v) None = λ v. mapped (λ (act : Act). (v, act)) (present s.network v) (rule_at t s v) in
+    all_listed (ruled_node t s) s.network.size (enabled t s) nodes (kept_values (present s.network) f (ruled_node t s) split (range_with_len 1 s.network.size))
+    (λ v p e. let node = told_rule t s v p e in ((present_range s.network v node.0).1, node.1))
+    (as_many ∙ enabled_count t s)
+
+-- ---- a walk over a list
+
+-- the item at a place, and what comes behind it
+item_at : {X : Type 0} (items : List X) (at : ℕ) (p : X) → at < length items → p ≡ get_or items at p → drop at items ≡ p ∷ drop (at + 1) items
+item_at items at p within is = drop_more items at p within ∙ ap (λ x. x ∷ drop (at + 1) items) (sym is)
+
+-- one more item, which is told of its name, above the last one
+pub rise_more : {Y : Type 0} (P : Type 0) (f : ℕ → Option (ℕ × Y)) (items : List (ℕ × Y)) (at last next : ℕ) (p : ℕ × Y) → at < length items → p ≡ get_or items at p → next ≡ p.0 → last < next → f p.0 ≡ Some p → P ↔ AreRising f last (drop at items) → P ↔ AreRising f next (drop (at + 1) items)
+rise_more P f items at last next p within is name above told so_far =
+    let here = item_at items at p within is in (
+      λ h. subst (λ (n : ℕ). AreRising f n (drop (at + 1) items)) (sym name) (subst (AreRising f last) here (so_far.0 h)).2,
+      λ rest. so_far.1 (subst (AreRising f last) (sym here) (omega (arith, name, above), told, subst (λ (n : ℕ). AreRising f n (drop (at + 1) items)) name rest)),
+    )
+
+-- an item that is not above the last one, or is not told of its name
+pub rise_not : {Y : Type 0} (P : Type 0) (f : ℕ → Option (ℕ × Y)) (items : List (ℕ × Y)) (at last : ℕ) (p : ℕ × Y) → at < length items → p ≡ get_or items at p → (last < p.0 → f p.0 ≡ Some p → ⊥) → P ↔ AreRising f last (drop at items) → P → ⊥
+rise_not P f items at last p within is wrong so_far h =
+    let up = subst (AreRising f last) (item_at items at p within is) (so_far.0 h) in wrong up.0 up.1
+
+-- behind the last item
+pub rise_end : {Y : Type 0} (P : Type 0) (f : ℕ → Option (ℕ × Y)) (items : List (ℕ × Y)) (at last : ℕ) → length items ≤ at → P ↔ AreRising f last (drop at items) → P
+rise_end P f items at last end so_far = so_far.1 (subst (AreRising f last) (sym (drop_all at items end)) tt)

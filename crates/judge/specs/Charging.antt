@@ -3,15 +3,15 @@ use Rattle.std.specs.Prelude.{◌≡◌, ℕ, ◌+◌, Bool, None, cond, is_some
 use Rattle.rule_machine.specs.declared.rules.RuleSet.{RuleSet}
 use Rattle.rule_machine.specs.declared.rules.RuleSet.TheVariants.{Hh, Manne}
 use Rattle.rule_machine.specs.Network.{present}
-use Rattle.rule_machine.specs.State.{State, is_unanswered, married, partner}
+use Rattle.rule_machine.specs.State.{State, is_unanswered, married}
 use Rattle.rule_machine.specs.Charge.{is_courted, manne_node_charge}
 use Rattle.rule_machine.specs.RuleTable.{rule_at}
-use Rattle.rule_machine.specs.Stable.{pair_above}
 use Rattle.rule_machine.specs.Tables.{table_of}
 use Rattle.charge_laws.specs.ClosedByPointers.{hsu_huang_closes, manne_closes}
 use Rattle.graph_store.specs.declared.end.End.{End}
 use Rattle.graph_store.specs.declared.end.End.TheVariants.{Shut, Courted, Free}
 use Rattle.judge.specs.declared.shares.Share.{Share}
+use Rattle.judge.specs.Rising.{pair_at}
 
 -- what a name makes of the edges at it
 abbrev pub end_of : RuleSet → State → ℕ → End
@@ -34,7 +34,7 @@ adds rules s v = cond (is_unanswered s v) 1 0 + flag_charge rules s v
 
 -- what is counted at a name, where there is a node
 abbrev pub pairs_at : State → ℕ → ℕ
-pairs_at s v = cond (is_some (cond (present s.network v) (pair_above v (partner s v)) None)) 1 0
+pairs_at s v = cond (is_some (pair_at s v)) 1 0
 
 abbrev pub enabled_at : RuleSet → State → ℕ → ℕ
 enabled_at rules s v = cond (is_some (cond (present s.network v) (rule_at (table_of rules) s v) None)) 1 0

@@ -3,5 +3,6 @@ pub mod Choices
 pub mod Courting
 pub mod Charging
 pub mod Judging
-pub mod Pairing
+pub mod Rising
+pub mod Surveying
 pub mod Bases

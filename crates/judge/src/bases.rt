@@ -9,7 +9,7 @@ ghost use Rattle.rule_machine.specs.State.{IsState, flag};
 ghost use Rattle.rule_machine.specs.Tables.{table_of};
 ghost use Rattle.judge.specs.Bases.{NamesRise, EdgesRise, weight_of};
 
-use crate::{Courted, Judge, NetState};
+use crate::{Judge, NetState, Survey};
 use graph_store::MAX_EDGES;
 use rule_machine::{Base, Place, RuleSet, Want};
 use std::alloc::Global;
@@ -45,9 +45,8 @@ impl NetState {
         ensures kept { self.new ≡ self.old }
     {
         let bound = self.bound(rules);
-        let mut courted = Courted::new(alloc, self.capacity())?;
-        courted.find(self);
-        let charge = u64::from(self.tally(rules, &courted).charge);
+        let mut survey = Survey::new(alloc, self.capacity())?;
+        let charge = u64::from(survey.tally(rules, self).charge);
         // The charge alone never exceeds the bound.
         Ok(u64::from(spent) <= bound - charge)
     }

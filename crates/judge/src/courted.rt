@@ -10,8 +10,7 @@ use rule_machine::{Node, Want};
 use std::alloc::Global;
 use std::marker::Model;
 
-/// Which nodes have a suitor, found anew for each question about rules; seen in contracts as a list with a place for each name,
-/// of which place 0 is nobody's.
+/// Which nodes have a suitor; seen in contracts as a list with a place for each name, of which place 0 is nobody's.
 #[derive(Drop)]
 pub(crate) struct Courted {
     marks: Vec<bool>,
@@ -52,7 +51,7 @@ impl Courted {
         ensures marked { (v : ℕ) → mark_at self.new v ≡ has_suitor net.now v }
     {
         self.clear();
-        for below in 0..net.last_name() {
+        for below in 0..net.capacity() as u16 {
             let v = node_above(below);
             self.put(target_place(net.pointer_at(v)));
         }

@@ -1,9 +1,9 @@
 //! The rule that is enabled at a node.
 
-ghost use Rattle.std.specs.Prelude.{◌≡◌, ◌≤◌, IfSome, IsTrue};
+ghost use Rattle.std.specs.Prelude.{◌≡◌, IfSome, IsTrue};
 ghost use Rattle.rule_machine.specs.Network.{present};
 ghost use Rattle.rule_machine.specs.RuleTable as table;
-ghost use Rattle.rule_machine.specs.State.{has_suitor, married};
+ghost use Rattle.rule_machine.specs.State.{has_suitor};
 ghost use Rattle.rule_machine.specs.HsuHuang.{hsu_huang};
 ghost use Rattle.rule_machine.specs.Manne.{manne};
 ghost use Rattle.rule_machine.specs.Tables.{table_of};
@@ -57,20 +57,6 @@ impl NetState {
             None if self.has_suitor(v, marks) => Some(Act::Marry),
             None if self.first_courted(v).is_some() => Some(Act::Seduce),
             None => None,
-        }
-    }
-
-    /// The rule that is enabled at a married node, if any is: under a rule set with flags it raises one that is false.
-    #[inline(always)]
-    pub(crate) fn married_rule(&self, rules: RuleSet, v: Node) -> Option<Act>
-        requires within { v ≤ self.now.network.size }
-        requires married { IsTrue (married self.now v) }
-        ensures { result ≡ table.rule_at (table_of rules) self.now v }
-    {
-        match rules {
-            RuleSet::Hh => None,
-            RuleSet::Manne if self.flag_at(v) => None,
-            RuleSet::Manne => Some(Act::Update),
         }
     }
 

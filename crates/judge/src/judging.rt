@@ -1,6 +1,6 @@
 //! The judgement of a reply, and what it does.
 
-ghost use Rattle.std.specs.Prelude.{◌≡◌, ◌+◌, ◌↔◌, ℕ, None, false, IsTrue, IfOk, OnOk, OnErr, length};
+ghost use Rattle.std.specs.Prelude.{◌≡◌, ◌↔◌, ℕ, None, false, IsTrue, IfOk, OnOk, OnErr, length};
 ghost use Rattle.rule_machine.specs.Answer.{Answers, Does};
 ghost use Rattle.rule_machine.specs.Refuse.{refusal_of};
 ghost use Rattle.rule_machine.specs.RuleTable.{RuleTable};
@@ -9,9 +9,10 @@ ghost use Rattle.rule_machine.specs.Tables.{table_of};
 ghost use Rattle.machine_laws.specs.Followed.{followed, disturbed};
 ghost use Rattle.judge.specs.Choices.{Holds, IsWithin, IsReady};
 ghost use Rattle.judge.specs.Judging.{TakesMemory, is_link, items_of};
+ghost use Rattle.judge.specs.Surveying.{IsSurvey};
 
 use crate::replies::{is_accepted, is_refusal, is_shown};
-use crate::{Chosen, Courted, NetState};
+use crate::{Chosen, NetState, Survey};
 use rule_machine::{Event, Item, Refusal, Reply, RuleSet, Want};
 
 impl NetState {
@@ -24,10 +25,10 @@ impl NetState {
         event: &Event,
         reply: &Reply,
         chosen: &mut Chosen,
-        courted: &mut Courted,
+        survey: &mut Survey,
     ) -> Result<bool, Want>
         requires chosen { IsReady self.old.network.size chosen.old }
-        requires courted { length courted.old ≡ self.old.network.size + 1 }
+        requires surveyed { IsSurvey self.old survey.old }
         ensures right { IfOk result (λ right. IsTrue right → Answers (table_of rules) self.old spent event.now reply.now self.new) }
         ensures wrong { IfOk result (λ right. right ≡ false → ((s : State) → Answers (table_of rules) self.old spent event.now reply.now s → ⊥) × (self.new ≡ self.old)) }
         ensures err { OnErr result (self.new ≡ self.old) }
@@ -35,11 +36,11 @@ impl NetState {
         ensures size { self.new.network.size ≡ self.old.network.size }
         ensures within { IsWithin chosen.new (items_of event.now) }
         ensures len { length chosen.new ≡ length chosen.old }
-        ensures courted { length courted.new ≡ length courted.old }
+        ensures surveyed { IsSurvey self.new survey.new }
     {
         match self.refusal(rules, event, chosen) {
             Some(refusal) => Ok(is_refusal(reply, refusal)),
-            None => self.judge_accepted(rules, spent, event, reply, chosen, courted),
+            None => self.judge_accepted(rules, spent, event, reply, chosen, survey),
         }
     }
 
@@ -71,11 +72,11 @@ impl NetState {
         event: &Event,
         reply: &Reply,
         chosen: &mut Chosen,
-        courted: &mut Courted,
+        survey: &mut Survey,
     ) -> Result<bool, Want>
         requires accepted { refusal_of (table_of rules) self.old event.now ≡ None }
         requires held { Holds (table_of rules) self.old chosen.old (items_of event.now) }
-        requires courted { length courted.old ≡ self.old.network.size + 1 }
+        requires surveyed { IsSurvey self.old survey.old }
         ensures right { IfOk result (λ right. IsTrue right → Does (table_of rules) self.old spent event.now reply.now self.new) }
         ensures wrong { IfOk result (λ right. right ≡ false → ((s : State) → Does (table_of rules) self.old spent event.now reply.now s → ⊥) × (self.new ≡ self.old)) }
         ensures err { OnErr result (self.new ≡ self.old) }
@@ -83,12 +84,12 @@ impl NetState {
         ensures size { self.new.network.size ≡ self.old.network.size }
         ensures within { IsWithin chosen.new (items_of event.now) }
         ensures len { length chosen.new ≡ length chosen.old }
-        ensures courted { length courted.new ≡ length courted.old }
+        ensures surveyed { IsSurvey self.new survey.new }
     {
-        if !self.may_accept(rules, spent, event, reply, chosen, courted) {
+        if !self.may_accept(rules, spent, event, reply, chosen, survey) {
             return Ok(false);
         }
-        self.follow(rules, event, reply)?;
+        self.follow(rules, event, reply, survey)?;
         Ok(true)
     }
 
@@ -100,16 +101,16 @@ impl NetState {
         event: &Event,
         reply: &Reply,
         chosen: &mut Chosen,
-        courted: &mut Courted,
+        survey: &mut Survey,
     ) -> bool
         requires accepted { refusal_of (table_of rules) self.old event.now ≡ None }
         requires held { Holds (table_of rules) self.old chosen.old (items_of event.now) }
-        requires courted { length courted.old ≡ self.old.network.size + 1 }
+        requires surveyed { IsSurvey self.old survey.old }
         ensures value { IsTrue result ↔ Does (table_of rules) self.old spent event.now reply.now (followed self.old event.now reply.now) }
         ensures kept { self.new ≡ self.old }
         ensures within { IsWithin chosen.new (items_of event.now) }
         ensures len { length chosen.new ≡ length chosen.old }
-        ensures courted { length courted.new ≡ length courted.old }
+        ensures surveyed { IsSurvey self.new survey.new }
     {
         match event {
             Event::Link(_, _)
@@ -120,9 +121,9 @@ impl NetState {
             | Event::Leave(_) => is_accepted(reply),
             Event::Step(choice) => self.may_move(rules, choice.items(), reply, chosen),
             Event::Show(v) => is_shown(self.pointer(*v), reply),
-            Event::Enabled => self.are_enabled(rules, reply, courted),
-            Event::Matching => self.are_mutual(reply),
-            Event::Status => self.has_counts(rules, spent, reply, courted),
+            Event::Enabled => self.are_enabled(rules, reply, survey),
+            Event::Matching => self.are_mutual(rules, reply, survey),
+            Event::Status => self.has_counts(rules, spent, reply, survey),
         }
     }
 
@@ -140,29 +141,43 @@ impl NetState {
         }
     }
 
-    /// Carries out an event as a reply says that the machine may give.
-    fn follow(&mut self, rules: RuleSet, event: &Event, reply: &Reply) -> Result<(), Want>
+    /// Carries out an event as a reply says that the machine may give. What was counted is kept where the reply changes nothing.
+    fn follow(
+        &mut self,
+        rules: RuleSet,
+        event: &Event,
+        reply: &Reply,
+        survey: &mut Survey,
+    ) -> Result<(), Want>
+        requires surveyed { IsSurvey self.old survey.old }
         requires accepted { refusal_of (table_of rules) self.old event.now ≡ None }
         requires right { (spent : ℕ) × Does (table_of rules) self.old spent event.now reply.now (followed self.old event.now reply.now) }
         ensures ok { OnOk result (self.new ≡ followed self.old event.now reply.now) }
         ensures err { OnErr result (self.new ≡ self.old) }
         ensures want { OnErr result (IsTrue (is_link event.now) × (reply.now ≡ Reply.Accepted)) }
+        ensures surveyed { IsSurvey self.new survey.new }
     {
         match reply {
-            Reply::Accepted => self.disturb(event)?,
-            Reply::Moves(moves) => self.make_moves(moves.as_slice()),
+            Reply::Accepted => self.disturb(event, survey)?,
+            Reply::Moves(moves) => {
+                survey.forget();
+                self.make_moves(moves.as_slice());
+            }
             _ => {}
         }
         Ok(())
     }
 
-    /// Carries out a disturbance. A step and a question do nothing.
-    fn disturb(&mut self, event: &Event) -> Result<(), Want>
-        requires { (t : RuleTable) × (refusal_of t self.old event.now ≡ None) }
+    /// Carries out a disturbance, and forgets what was counted before it. A step and a question do nothing.
+    fn disturb(&mut self, event: &Event, survey: &mut Survey) -> Result<(), Want>
+        requires surveyed { IsSurvey self.old survey.old }
+        requires accepted { (t : RuleTable) × (refusal_of t self.old event.now ≡ None) }
         ensures ok { OnOk result (self.new ≡ disturbed self.old event.now) }
         ensures err { OnErr result (self.new ≡ self.old) }
         ensures want { OnErr result (IsTrue (is_link event.now)) }
+        ensures surveyed { IsSurvey self.new survey.new }
     {
+        survey.forget();
         match event {
             Event::Link(a, b) => self.link(*a, *b)?,
             Event::Unlink(a, b) => self.unlink(*a, *b),

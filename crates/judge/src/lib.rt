@@ -19,6 +19,7 @@ mod scans;
 mod shares;
 mod status;
 mod steps;
+mod survey;
 mod tally;
 mod targets;
 
@@ -26,3 +27,4 @@ use choices::Chosen;
 use courted::Courted;
 use net_state::NetState;
 pub use replay::Judge;
+use survey::Survey;

@@ -18,7 +18,7 @@ pub(crate) fn clear_pointer(registers: &mut Registers, v: Node, w: Node)
 }
 
 /// Writes the flags of moves that update, from the pointers as they are.
-fn write_flags(registers: &mut Registers, moves: &[Moved])
+pub(crate) fn write_flags(registers: &mut Registers, moves: &[Moved])
     requires flags_in { All (λ m. m.node < length registers.old.flags) moves.now }
     requires pointers_in { All (λ m. m.node < length registers.old.pointers) moves.now }
     ensures written { registers.new ≡ fold flag_read registers.old moves.now }
@@ -33,7 +33,7 @@ fn write_flags(registers: &mut Registers, moves: &[Moved])
 }
 
 /// Writes the pointers of moves.
-fn write_pointers(registers: &mut Registers, moves: &[Moved])
+pub(crate) fn write_pointers(registers: &mut Registers, moves: &[Moved])
     requires { All (λ m. m.node < length registers.old.pointers) moves.now }
     ensures { registers.new ≡ fold pointer_written registers.old moves.now }
 {
@@ -44,14 +44,4 @@ fn write_pointers(registers: &mut Registers, moves: &[Moved])
             Act::Abandon => registers.set_pointer(made.node, None),
         }
     }
-}
-
-/// Writes all moves of one step: flags first, since they are read from the pointers of before.
-pub(crate) fn write_moves(registers: &mut Registers, moves: &[Moved])
-    requires flags_in { All (λ m. m.node < length registers.old.flags) moves.now }
-    requires pointers_in { All (λ m. m.node < length registers.old.pointers) moves.now }
-    ensures { registers.new ≡ fold pointer_written (fold flag_read registers.old moves.now) moves.now }
-{
-    write_flags(registers, moves);
-    write_pointers(registers, moves);
 }

@@ -1,6 +1,6 @@
 //! A network with its registers.
 
-ghost use Rattle.std.specs.Prelude.{◌≡◌, ◌+◌, ◌<◌, ◌≤◌, ◌&&◌, [], All, IfOk, IfSome, IsTrue, MatchOption, None, Some, OnOk, OnErr, false, length, nat_le};
+ghost use Rattle.std.specs.Prelude.{◌≡◌, ◌+◌, ◌<◌, ◌≤◌, ◌&&◌, [], All, IfOk, IsTrue, MatchOption, None, Some, OnOk, OnErr, false, length, nat_le};
 ghost use Rattle.std.specs.List.{AllByRecursion};
 ghost use Rattle.rule_machine.specs.Network as network;
 ghost use Rattle.rule_machine.specs.State as state;
@@ -10,7 +10,7 @@ ghost use Rattle.rule_machine.specs.Step.{after_moves};
 ghost use Rattle.machine_laws.specs.Keeps.{IsMoveIn};
 ghost use Rattle.judge.specs.States.{target_place, without_place};
 
-use crate::moves::{clear_pointer, write_moves};
+use crate::moves::{clear_pointer, write_flags, write_pointers};
 use graph_store::EdgeStore;
 use registers::Registers;
 use rule_machine::{Edge, Moved, Node, Place, Want};
@@ -87,15 +87,6 @@ impl NetState {
         ensures sound { state.IsState self.now }
     {
         self.store.capacity()
-    }
-
-    /// The greatest name that a node may have, in sixteen bits: what counts up to it needs no test whether it counts names.
-    #[inline(always)]
-    pub(crate) fn last_name(&self) -> u16
-        ensures size { result ≡ self.now.network.size }
-        ensures sound { state.IsState self.now }
-    {
-        self.capacity() as u16
     }
 
     /// How many edges there are, at most 1,048,576.
@@ -201,26 +192,12 @@ impl NetState {
         self.registers.points_at(v, w)
     }
 
-    /// The neighbour with which the node of a name, if there is one, is a mutual pair.
-    #[inline(always)]
-    pub(crate) fn partner(&self, v: Node) -> Option<Node>
-        requires { v ≤ self.now.network.size }
-        ensures value { result ≡ state.partner self.now v }
-        ensures present { IfSome result (λ w. IsTrue (network.present self.now.network v)) }
-    {
-        match self.pointer_at(v) {
-            Some(w) if self.points_back(v, w) => Some(w),
-            Some(_) => None,
-            None => None,
-        }
-    }
-
     /// Whether a node is in a mutual pair.
     pub(crate) fn married(&self, v: Node) -> bool
         requires { IsTrue (network.present self.now.network v) }
         ensures { result ≡ state.married self.now v }
     {
-        self.partner(v).is_some()
+        self.registers.married(v)
     }
 
     /// Adds the edge between two nodes.
@@ -335,6 +312,8 @@ impl NetState {
         requires { All (IsMoveIn self.old.network) moves.now }
         ensures { self.new ≡ after_moves self.old moves.now }
     {
-        write_moves(&mut self.registers, moves);
+        // Flags first, since they are read from the pointers of before.
+        write_flags(&mut self.registers, moves);
+        write_pointers(&mut self.registers, moves);
     }
 }

@@ -6,26 +6,25 @@ ghost use Rattle.rule_machine.specs.State.{State, opening, opening_with};
 ghost use Rattle.rule_machine.specs.Tables.{table_of};
 ghost use Rattle.judge.specs.Judging.{TakesMemory};
 
-use crate::{Chosen, Courted, NetState};
+use crate::{Chosen, NetState, Survey};
 use rule_machine::{Event, Reply, RuleSet, Want};
 use std::alloc::Global;
 use std::marker::Model;
 
-/// A network that judges replies, seen in contracts as a state. Guards, targets and numbers are found anew at each event
-/// from the neighbour lists and the registers, but for the edges that are open by their ends, which are counted on from one
-/// `Status` to the next; beside them there are only the places of a choice's items, which are clear between two calls, and those
-/// of the marks that `Enabled` and `Status` make anew.
+/// A network that judges replies, seen in contracts as a state. Guards and targets are found anew at each event from the neighbour
+/// lists and the registers; what a question asks for is counted by the first one about a state, and forgotten as the state changes,
+/// but for the edges that are open by their ends, which are counted on from one such count to the next. Beside them there are only
+/// the places of a choice's items, which are clear between two calls.
 #[derive(Drop)]
 pub struct Judge {
     pub(crate) net: NetState,
     chosen: Chosen,
-    courted: Courted,
+    survey: Survey,
 }
 
 impl Model for Judge {
-    ghost use Rattle.std.specs.Prelude.{◌≡◌, ◌+◌, length};
     ghost use Rattle.rule_machine.specs.State.{State, state_code};
-    ghost use Rattle.judge.specs.Judging.{AreReady};
+    ghost use Rattle.judge.specs.Surveying.{AreReady};
 
     ghost Value = { State };
 
@@ -33,7 +32,7 @@ impl Model for Judge {
 
     ghost view = { λ j. j.net };
 
-    ghost invariant = { λ j. AreReady j.net.network.size j.chosen j.courted };
+    ghost invariant = { λ j. AreReady j.net j.chosen j.survey };
 }
 
 impl Judge {
@@ -62,20 +61,20 @@ impl Judge {
     {
         let nodes = net.capacity();
         let chosen = Chosen::new(alloc, nodes)?;
-        let courted = Courted::new(alloc, nodes)?;
+        let survey = Survey::new(alloc, nodes)?;
         Ok(Judge {
             net,
             chosen,
-            courted,
+            survey,
         })
     }
 
     /// Whether the machine may give this reply to the event, where these moves are spent since the last accepted
     /// disturbance; where it may, the event is carried out as the reply says. Where no target is wished, any allowed one
     /// is right. A wrong reply changes nothing, and neither does want of memory, which comes only where a link is rightly
-    /// accepted. A disturbance and a `Show` cost look-ups, a step looks at the neighbours of its nodes, `Enabled` at all names
-    /// and at the neighbours of those that may seduce, `Status` there and at the neighbours of those whose edges count otherwise
-    /// than at the last one, and `Matching` at all names.
+    /// accepted. A disturbance and a `Show` cost look-ups, and a step looks at the neighbours of its nodes. The first `Enabled`,
+    /// `Matching` or `Status` about a state looks at all names, at the neighbours of those that may seduce, and at the neighbours of
+    /// those whose edges count otherwise than at the last count; further ones look at what their replies list.
     pub fn replay(
         &mut self,
         rules: RuleSet,
@@ -94,7 +93,7 @@ impl Judge {
             event,
             reply,
             &mut self.chosen,
-            &mut self.courted,
+            &mut self.survey,
         );
         if let Event::Step(choice) = event {
             self.chosen.clear(choice.items());

@@ -1,45 +1,32 @@
 //! What is counted at the names.
 
-ghost use Rattle.std.specs.Prelude.{◌≡◌, length};
-ghost use Rattle.rule_machine.specs.RuleTable as table;
-ghost use Rattle.rule_machine.specs.Stable.{mutual_pairs};
+ghost use Rattle.std.specs.Prelude.{◌≡◌};
 ghost use Rattle.rule_machine.specs.State.{IsState};
-ghost use Rattle.rule_machine.specs.Tables.{table_of};
 ghost use Rattle.judge.specs.Courting.{IsCourting};
 ghost use Rattle.judge.specs.States.{state_of};
+ghost use Rattle.judge.specs.Surveying.{IsTally};
 
+use crate::Courted;
 use crate::net_state::node_above;
 use crate::shares::share_of;
-use crate::{Courted, NetState};
 use graph_store::EdgeStore;
 use registers::Registers;
 use rule_machine::RuleSet;
 
-/// What a status counts.
+/// What a status counts, and by which rules.
 #[derive(Clone, Copy)]
 pub(crate) struct Tally {
+    pub(crate) rules: RuleSet,
     pub(crate) pairs: u32,
     pub(crate) enabled: u32,
     pub(crate) charge: u32,
 }
 
-impl NetState {
-    /// The mutual pairs, the enabled nodes, and the charge, which each move lowers. Looks at every name, at the neighbours of the
-    /// nodes that may seduce, and at those of the nodes whose edges count otherwise than at the last time.
-    pub(crate) fn tally(&mut self, rules: RuleSet, courted: &Courted) -> Tally
-        requires { IsCourting self.old courted.now }
-        ensures pairs { result.pairs ≡ length (mutual_pairs self.old) }
-        ensures enabled { result.enabled ≡ length (table.enabled_names (table_of rules) self.old) }
-        ensures charge { result.charge ≡ (table_of rules).charge self.old }
-        ensures kept { self.new ≡ self.old }
-    {
-        tally_all(&mut self.store, &self.registers, rules, courted)
-    }
-}
-
-/// The tally of a network. An edge that is open by what its ends make of it adds 2 to the charge, unless a pointer closes it.
+/// The tally of a network. An edge that is open by what its ends make of it adds 2 to the charge, unless a pointer closes it. Looks
+/// at every name, at the neighbours of the nodes that may seduce, and at those of the nodes whose edges count otherwise than at the
+/// last time.
 #[inline(never)]
-fn tally_all(
+pub(crate) fn tally_all(
     store: &mut EdgeStore,
     registers: &Registers,
     rules: RuleSet,
@@ -47,9 +34,7 @@ fn tally_all(
 ) -> Tally
     requires sound { IsState (state_of store.old.network registers.now) }
     requires courting { IsCourting (state_of store.old.network registers.now) courted.now }
-    ensures pairs { result.pairs ≡ length (mutual_pairs (state_of store.old.network registers.now)) }
-    ensures enabled { result.enabled ≡ length (table.enabled_names (table_of rules) (state_of store.old.network registers.now)) }
-    ensures charge { result.charge ≡ (table_of rules).charge (state_of store.old.network registers.now) }
+    ensures value { IsTally rules (state_of store.old.network registers.now) result }
     ensures kept { store.new.network ≡ store.old.network }
 {
     let mut pairs = 0;
@@ -67,6 +52,7 @@ fn tally_all(
     }
     let charge = 2 * store.open_edges() + added - 2 * closing;
     Tally {
+        rules,
         pairs,
         enabled,
         charge,

@@ -1,4 +1,4 @@
-use Rattle.std.proofs.Common.{◌≡◌, ◌+◌, ◌*◌, ◌∙◌, ℕ, Option, None, cond, length, sum_by, refl, sym, ap, subst, arith}
+use Rattle.std.proofs.Common.{◌≡◌, ◌+◌, ◌*◌, ◌∙◌, ℕ, Option, length, sum_by, refl, sym, ap, subst, arith}
 use Rattle.std.specs.List.{range_with_len}
 use Rattle.rule_machine.specs.Network.{Network, present}
 use Rattle.rule_machine.specs.State.{partner}
@@ -7,6 +7,7 @@ use Rattle.rule_machine.specs.RuleTable.{rule_at}
 use Rattle.rule_machine.specs.Tables.{table_of}
 use Rattle.graph_store.specs.Ends.{open_edges}
 use Rattle.judge.specs.Charging.{IsShare, pairs_at, enabled_at, added_at, closing_at}
+use Rattle.judge.specs.Rising.{pair_at}
 use Rattle.judge.specs.States.{state_of}
 use Rattle.judge.proofs.Charged.{AreTurned, turned_more, charge_turned, few_pairs, few_enabled, few_added, few_closing}
 use Rattle.judge.proofs.Counting.{sum_more, kept_values, length_filter_map, kept_count}
@@ -54,23 +55,19 @@ whole c =
 pub overflow_sub-charge : goal.overflow_sub-charge
 overflow_sub-charge c = let all = whole c in omega (arith, all)
 
-pub returns-clause-charge : goal.returns-clause-charge
-returns-clause-charge c = let all = whole c in omega (arith, all)
-
-pub returns-clause-pairs : goal.returns-clause-pairs
-returns-clause-pairs c =
-    let s = state_of c.args.store.now.network c.args.registers.now in
-    let f : ℕ → Option (ℕ × ℕ) = λ v. pair_above v (partner s v) in
-    let g : ℕ → Option (ℕ × ℕ) = λ v. cond (present s.network v) (f v) None in
-    let all = range_with_len 1 s.network.size in
-    let end : c.loop-below.below ≡ s.network.size = omega (arith, c.capacity-below-end.ensures.size) in
-    c.loop-below.invariant.pairs ∙ ap (λ k. sum_by (pairs_at s) (range_with_len 1 k)) end
-    ∙ sym (ap length (kept_values (present s.network) f g (λ v. refl) all) ∙ length_filter_map g all)
-
-pub returns-clause-enabled : goal.returns-clause-enabled
-returns-clause-enabled c =
+pub returns-clause-value : goal.returns-clause-value
+returns-clause-value c =
     let t = table_of c.args.rules in
     let s = state_of c.args.store.now.network c.args.registers.now in
+    let f : ℕ → Option (ℕ × ℕ) = λ v. pair_above v (partner s v) in
+    let all = range_with_len 1 s.network.size in
     let end : c.loop-below.below ≡ s.network.size = omega (arith, c.capacity-below-end.ensures.size) in
-    c.loop-below.invariant.enabled ∙ ap (λ k. sum_by (enabled_at c.args.rules s) (range_with_len 1 k)) end
-    ∙ sym (kept_count (present s.network) (rule_at t s) (range_with_len 1 s.network.size))
+    let charge = whole c in
+    record {
+      rules_are = refl;
+      pairs = c.loop-below.invariant.pairs ∙ ap (λ k. sum_by (pairs_at s) (range_with_len 1 k)) end
+          ∙ sym (ap length (kept_values (present s.network) f (pair_at s) (λ v. refl) all) ∙ length_filter_map (pair_at s) all);
+      enabled = c.loop-below.invariant.enabled ∙ ap (λ k. sum_by (enabled_at c.args.rules s) (range_with_len 1 k)) end
+          ∙ sym (kept_count (present s.network) (rule_at t s) all);
+      charge = omega (arith, charge);
+    }

@@ -17,11 +17,11 @@ loop-below-preserved c =
     let put : (x : ℕ) → mark_at more x ≡ (nat_eq x (target_place (pointer s v)) || mark_at marks x) = λ x. c.put.ensures.marked x ∙ ap (λ p. nat_eq x p || mark_at marks x) place in
     record {
       len = c.put.ensures.len ∙ inv.len;
-      right = right_more s marks more v c.last_name-below-end.ensures.sound put inv.right;
+      right = right_more s marks more v c.capacity-below-end.ensures.sound put inv.right;
       all = all_more s marks more n v c.node_above-v.ensures put inv.all;
     }
 
 pub returns-clause-marked : goal.returns-clause-marked
 returns-clause-marked c =
-    marked_all c.args.net.now c.loop-below.self c.clear_nobody.new.self c.last_name-below-end.ensures.sound c.clear_nobody.ensures.nobody c.clear_nobody.ensures.others c.loop-below.invariant.right
-    (λ v x low at. c.loop-below.invariant.all v x (omega (arith, c.last_name-below-end.ensures.size)) at)
+    marked_all c.args.net.now c.loop-below.self c.clear_nobody.new.self c.capacity-below-end.ensures.sound c.clear_nobody.ensures.nobody c.clear_nobody.ensures.others c.loop-below.invariant.right
+    (λ v x low at. c.loop-below.invariant.all v x (omega (arith, c.capacity-below-end.ensures.size)) at)
