@@ -1,4 +1,5 @@
 pub mod Decimals
+pub mod Trailing
 pub mod Windows
 pub mod Placed
 pub mod Growing

@@ -3,12 +3,11 @@ use Rattle.std.proofs.Common.{◌≡◌, ℕ, zero, suc, ◌+◌, ◌-◌, ◌*�
 use Rattle.std.specs.Int.{byte_at, bytes_low_first, to_le_bytes, from_le_bytes}
 use Rattle.std.specs.Fmt.{decimal}
 use Rattle.std.proofs.Math.Nat.{div-div-eq-div-mul, pow-succ'}
-use Rattle.std.proofs.lemmas.Bool.{cases_lt, lt-ltb, le-ltb}
-use Rattle.std.specs.Prelude.{nat_lt}
-use mir.Val.{bool_byte}
+use Rattle.std.proofs.lemmas.Bool.{cases_lt}
 use Rattle.std.proofs.lemmas.Fmt.{decimal_digit, decimal_nonempty}
 use Rattle.std.proofs.lemmas.Nat.{le_bytes_8}
-use Rattle.itoa.proofs.Decimal.{pair, decimal_two}
+use Rattle.itoa.proofs.Decimal.{decimal_two}
+use Rattle.line_text.specs.Words.{six_digits}
 use Rattle.line_text.proofs.Decimals.{decimal_of_three, decimal_of_four, decimal_of_five, decimal_of_six}
 
 -- the next byte of a number is that byte of what is left without the lowest
@@ -20,12 +19,8 @@ bytes_next : (i k n : ℕ) → bytes_low_first i k (n / 256) ≡ bytes_low_first
 bytes_next i zero n = refl
 bytes_next i (suc k) n = rw (byte_next i n, bytes_next (suc i) k n)
 
--- six digits of a number
-abbrev pub six : ℕ → List ℕ
-six n = pair (n / 100 / 100) ++ (pair (n / 100 % 100) ++ pair (n % 100))
-
 -- the six digits without the zeros that lead them
-pub decimal_in_six : (n : ℕ) → n < 1000000 → drop (6 - length (decimal n)) (six n) ≡ decimal n
+pub decimal_in_six : (n : ℕ) → n < 1000000 → drop (6 - length (decimal n)) (six_digits n) ≡ decimal n
 decimal_in_six n h =
     elim (cases_lt n 10) [
       | inl a ↦ let e : n % 100 % 10 ≡ n = omega arith in rw (decimal_digit n a, e)
@@ -48,27 +43,6 @@ decimal_in_six n h =
       ]
     ]
 
--- how many zeros lead the six digits, a test for each
-pub zeros_counted : (n : ℕ) → n < 1000000
-    → bool_byte (nat_lt n 10) + bool_byte (nat_lt n 100) + bool_byte (nat_lt n 1000) + bool_byte (nat_lt n 10000) + bool_byte (nat_lt n 100000) ≡ 6 - length (decimal n)
-zeros_counted n h =
-    elim (cases_lt n 10) [
-      | inl a ↦ rw (lt-ltb n 10 a, lt-ltb n 100 (omega arith), lt-ltb n 1000 (omega arith), lt-ltb n 10000 (omega arith), lt-ltb n 100000 (omega arith), decimal_digit n a)
-      | inr a ↦ elim (cases_lt n 100) [
-        | inl b ↦ rw (le-ltb n 10 a, lt-ltb n 100 b, lt-ltb n 1000 (omega arith), lt-ltb n 10000 (omega arith), lt-ltb n 100000 (omega arith), decimal_two n a b)
-        | inr b ↦ elim (cases_lt n 1000) [
-          | inl d ↦ rw (le-ltb n 10 a, le-ltb n 100 b, lt-ltb n 1000 d, lt-ltb n 10000 (omega arith), lt-ltb n 100000 (omega arith), decimal_of_three n b (omega arith))
-          | inr d ↦ elim (cases_lt n 10000) [
-            | inl f ↦ rw (le-ltb n 10 a, le-ltb n 100 b, le-ltb n 1000 d, lt-ltb n 10000 f, lt-ltb n 100000 (omega arith), decimal_of_four n (omega arith) f)
-            | inr f ↦ elim (cases_lt n 100000) [
-              | inl g ↦ rw (le-ltb n 10 a, le-ltb n 100 b, le-ltb n 1000 d, le-ltb n 10000 f, lt-ltb n 100000 g, decimal_of_five n f (omega arith))
-              | inr g ↦ rw (le-ltb n 10 a, le-ltb n 100 b, le-ltb n 1000 d, le-ltb n 10000 f, le-ltb n 100000 g, decimal_of_six n (omega arith) h)
-            ]
-          ]
-        ]
-      ]
-    ]
-
 -- bytes that were shifted down by the zeros that lead a number
 shifted_bytes : (v : ℕ) (bs : List ℕ) → to_le_bytes w64 v ≡ bs → (j : ℕ) → j ≤ 5 → take (7 - j) (to_le_bytes w64 (v / 2 ^ (8 * j))) ≡ take (7 - j) (drop j bs)
 shifted_bytes v bs e zero h = let z : v / 1 ≡ v = omega arith in rw (z, ← e)
@@ -80,7 +54,7 @@ shifted_bytes v bs e (suc (suc (suc (suc (suc zero))))) h = rw (← e) (simp div
 shifted_bytes v bs e (suc (suc (suc (suc (suc (suc j)))))) h = absurd (omega arith)
 
 -- six digits and a byte, without the first of them
-cut : (n b j : ℕ) → j ≤ 5 → take (7 - j) (drop j (six n ++ (b ∷ 0 ∷ []))) ≡ drop j (six n) ++ b ∷ []
+cut : (n b j : ℕ) → j ≤ 5 → take (7 - j) (drop j (six_digits n ++ (b ∷ 0 ∷ []))) ≡ drop j (six_digits n) ++ b ∷ []
 cut n b zero h = refl
 cut n b (suc zero) h = refl
 cut n b (suc (suc zero)) h = refl
@@ -89,7 +63,7 @@ cut n b (suc (suc (suc (suc zero)))) h = refl
 cut n b (suc (suc (suc (suc (suc zero))))) h = refl
 cut n b (suc (suc (suc (suc (suc (suc j)))))) h = absurd (omega arith)
 
-bounded : (n b : ℕ) → n < 1000000 → b < 256 → (i : ℕ) → get_or (six n ++ (b ∷ 0 ∷ [])) i 0 < 256
+bounded : (n b : ℕ) → n < 1000000 → b < 256 → (i : ℕ) → get_or (six_digits n ++ (b ∷ 0 ∷ [])) i 0 < 256
 bounded n b h k zero = omega arith
 bounded n b h k (suc zero) = omega arith
 bounded n b h k (suc (suc zero)) = omega arith
@@ -101,26 +75,14 @@ bounded n b h k (suc (suc (suc (suc (suc (suc (suc zero))))))) = omega arith
 bounded n b h k (suc (suc (suc (suc (suc (suc (suc (suc i)))))))) = omega arith
 
 -- a number and the byte behind it, in the window that begins behind the zeros
-pub number_in_window : (n b v j : ℕ) → n < 1000000 → b < 256 → v ≡ from_le_bytes w64 (six n ++ (b ∷ 0 ∷ [])) → j ≡ 6 - length (decimal n) → take (7 - j) (to_le_bytes w64 (v / 2 ^ (8 * j))) ≡ decimal n ++ b ∷ []
+pub number_in_window : (n b v j : ℕ) → n < 1000000 → b < 256 → v ≡ from_le_bytes w64 (six_digits n ++ (b ∷ 0 ∷ [])) → j ≡ 6 - length (decimal n) → take (7 - j) (to_le_bytes w64 (v / 2 ^ (8 * j))) ≡ decimal n ++ b ∷ []
 number_in_window n b v j h k e z =
     let few : j ≤ 5 = omega (arith, decimal_nonempty n (omega arith)) in
-    let bytes = le_bytes_8 (six n ++ (b ∷ 0 ∷ [])) v refl (bounded n b h k) e in
-    shifted_bytes v (six n ++ (b ∷ 0 ∷ [])) bytes j few ∙ cut n b j few ∙ ap (λ (x : List ℕ). x ++ b ∷ []) (rw z (decimal_in_six n h))
+    let bytes = le_bytes_8 (six_digits n ++ (b ∷ 0 ∷ [])) v refl (bounded n b h k) e in
+    shifted_bytes v (six_digits n ++ (b ∷ 0 ∷ [])) bytes j few ∙ cut n b j few ∙ ap (λ (x : List ℕ). x ++ b ∷ []) (rw z (decimal_in_six n h))
 
--- three pairs of digits and a byte, packed
-pub packed : (n b p q r : ℕ) → n < 1000000 → b < 256
-    → p ≡ 48 + n / 10000 / 10 + (48 + n / 10000 % 10) * 256
-    → q ≡ 48 + (n / 100 - n / 10000 * 100) / 10 + (48 + (n / 100 - n / 10000 * 100) % 10) * 256
-    → r ≡ 48 + (n - n / 100 * 100) / 10 + (48 + (n - n / 100 * 100) % 10) * 256
-    → p + q * 65536 % 18446744073709551616 + r * 4294967296 % 18446744073709551616 + b * 281474976710656 % 18446744073709551616 ≡ from_le_bytes w64 (six n ++ (b ∷ 0 ∷ []))
-packed n b p q r h k f g e =
-    let x : n / 10000 ≡ n / 100 / 100 = omega arith in
-    let y : n / 100 - n / 10000 * 100 ≡ n / 100 % 100 = omega arith in
-    let z : n - n / 100 * 100 ≡ n % 100 = omega arith in
-    let f' : p ≡ 48 + n / 100 / 100 / 10 + (48 + n / 100 / 100 % 10) * 256 = rw (← x) f in
-    let g' : q ≡ 48 + n / 100 % 100 / 10 + (48 + n / 100 % 100 % 10) * 256 = rw (← y) g in
-    let e' : r ≡ 48 + n % 100 / 10 + (48 + n % 100 % 10) * 256 = rw (← z) e in
-    let a : q * 65536 % 18446744073709551616 ≡ q * 65536 = omega arith in
-    let d : r * 4294967296 % 18446744073709551616 ≡ r * 4294967296 = omega arith in
+-- six digits, and a byte behind them
+pub packed : (n b d : ℕ) → n < 1000000 → b < 256 → d ≡ from_le_bytes w64 (six_digits n ++ (0 ∷ 0 ∷ [])) → d + b * 281474976710656 % 18446744073709551616 ≡ from_le_bytes w64 (six_digits n ++ (b ∷ 0 ∷ []))
+packed n b d h k e =
     let m : b * 281474976710656 % 18446744073709551616 ≡ b * 281474976710656 = omega arith in
-    rw (a, d, m, f', g', e') (omega arith)
+    rw (m, e) (omega arith)

@@ -1,11 +1,17 @@
 -- The words that lines are made of. A byte is its ASCII code.
-use Rattle.std.specs.Prelude.{ℕ, ◌≤◌, List, [], ◌∷◌, ◌++◌, Option, None, Some, codes}
+use Rattle.std.specs.Prelude.{ℕ, ◌+◌, ◌/◌, ◌%◌, ◌≤◌, List, [], ◌∷◌, ◌++◌, Option, None, Some, codes}
 use Rattle.std.specs.Fmt.{decimal}
 use Rattle.std.specs.List.{flat_map}
 
 -- a number in decimal, with no leading zero
 abbrev pub number_text : ℕ → List ℕ
 number_text n = decimal n
+
+-- the six digits of a number below a million, with the zeros that lead them
+abbrev pub six_digits : ℕ → List ℕ
+six_digits n =
+    (48 + n / 100 / 100 / 10) ∷ (48 + n / 100 / 100 % 10) ∷ (48 + n / 100 % 100 / 10) ∷ (48 + n / 100 % 100 % 10)
+    ∷ (48 + n % 100 / 10) ∷ (48 + n % 100 % 10) ∷ []
 
 -- what a node is named by
 abbrev pub IsName : ℕ → Type 0

@@ -1,7 +1,8 @@
 //! Short texts, written into room that is there.
 
-ghost use Rattle.std.specs.Prelude.{◌≡◌, ◌+◌, ◌-◌, ◌*◌, ◌/◌, ◌%◌, ◌<◌, ◌≤◌, [], ◌∷◌, ◌++◌, length, take};
-ghost use Rattle.line_text.specs.Words.{number_text, IsName};
+ghost use Rattle.std.specs.Prelude.{◌≡◌, ℕ, ◌+◌, ◌-◌, ◌*◌, ◌/◌, ◌%◌, ◌^◌, ◌<◌, ◌≤◌, [], ◌∷◌, ◌++◌, length, take};
+ghost use Rattle.std.specs.Int.{w64, from_le_bytes};
+ghost use Rattle.line_text.specs.Words.{number_text, six_digits, IsName};
 
 use rule_machine::Node;
 
@@ -25,29 +26,51 @@ fn pair(number: u32) -> u64
     u64::from(u16::from_le_bytes([PAIRS[at], PAIRS[at + 1]]))
 }
 
-// How many zeros lead a number's six digits.
-#[inline(always)]
-fn leading_zeros(number: u32) -> u32
-    requires { number < 1000000 }
-    ensures { result ≡ 6 - length (number_text number) }
-{
-    u32::from(number < 10)
-        + u32::from(number < 100)
-        + u32::from(number < 1000)
-        + u32::from(number < 10_000)
-        + u32::from(number < 100_000)
-}
+// What takes the code of 0 off six digits, and sets the highest bit of the last: that one counts where it is 0, too.
+const LAST_COUNTS: u64 = (0x80 << 40) - 0x3030_3030_3030;
 
-// A number's six digits and the byte behind them, without the zeros that lead them.
+// A number's six digits, the first of them in the lowest byte.
 #[inline(always)]
-fn number_window(number: u32, behind: u8, zeros: u32) -> [u8; 8]
-    requires below { number < 1000000 }
-    requires leading { zeros ≡ 6 - length (number_text number) }
-    ensures { take (7 - zeros) result ≡ number_text number ++ behind ∷ [] }
+fn digits(number: u32) -> u64
+    requires { number < 1000000 }
+    ensures { result ≡ from_le_bytes w64 (six_digits number ++ 0 ∷ 0 ∷ []) }
 {
     let (front, first) = (number / 100, number / 10_000);
-    let low = pair(first) + (pair(front - first * 100) << 16) + (pair(number - front * 100) << 32);
-    ((low + (u64::from(behind) << 48)) >> (8 * zeros)).to_le_bytes()
+    pair(first) + (pair(front - first * 100) << 16) + (pair(number - front * 100) << 32)
+}
+
+// How many zeros lead six digits: eight bits each are clear below the first that is not 0.
+#[inline(always)]
+fn leading_zeros(digits: u64) -> u32
+    requires { digits < 2 ^ 48 }
+    ensures { (n : ℕ) → n < 1000000 → digits ≡ from_le_bytes w64 (six_digits n ++ 0 ∷ 0 ∷ []) → result ≡ 6 - length (number_text n) }
+{
+    (digits + LAST_COUNTS).trailing_zeros() / 8
+}
+
+// A number's digits and the byte behind them in a window, and how many bytes these are.
+#[inline(always)]
+fn number_window(number: u32, behind: u8) -> ([u8; 8], usize)
+    requires { number < 1000000 }
+    ensures text { take result.1 result.0 ≡ number_text number ++ behind ∷ [] }
+    ensures short { result.1 ≤ 7 }
+{
+    let digits = digits(number);
+    let zeros = leading_zeros(digits);
+    let window = (digits + (u64::from(behind) << 48)) >> (8 * zeros);
+    (window.to_le_bytes(), 7 - zeros as usize)
+}
+
+// Writes a window over as many bytes: an array at once, since a copy of a slice looks whether the two overlap.
+#[inline(always)]
+fn put_whole(place: &mut [u8], window: [u8; 8])
+    requires { length place.old ≡ 8 }
+    ensures same { place.new ≡ window }
+    ensures len { length place.new ≡ 8 }
+{
+    if let Some(bytes) = place.as_mut_array::<WINDOW>() {
+        *bytes = window;
+    }
 }
 
 /// Writes the first bytes of a window at a place, and gives the place behind them. No branch tells how many they are.
@@ -59,7 +82,7 @@ pub(crate) fn put_window(room: &mut [u8], at: usize, window: [u8; 8], count: usi
     ensures within { result ≡ at + count }
     ensures len { length room.new ≡ length room.old }
 {
-    room[at..at + WINDOW].copy_from_slice(&window);
+    put_whole(&mut room[at..at + WINDOW], window);
     at + count
 }
 
@@ -72,13 +95,8 @@ pub(crate) fn put_digits(room: &mut [u8], at: usize, number: u32, behind: u8) ->
     ensures within { result ≤ at + 8 }
     ensures len { length room.new ≡ length room.old }
 {
-    let zeros = leading_zeros(number);
-    put_window(
-        room,
-        at,
-        number_window(number, behind, zeros),
-        7 - zeros as usize,
-    )
+    let (window, count) = number_window(number, behind);
+    put_window(room, at, window, count)
 }
 
 /// Writes a node's name and the byte behind it at a place, and gives the place behind them.

@@ -1,6 +1,6 @@
 //! Words, and lists of them, at the end of a text.
 
-ghost use Rattle.std.specs.Prelude.{◌≡◌, [], ◌∷◌, ◌++◌, ◌+◌, ◌≤◌, List, ℕ, length, take, codes, OnOk, OnErr};
+ghost use Rattle.std.specs.Prelude.{◌≡◌, [], ◌∷◌, ◌++◌, ◌+◌, ◌*◌, ◌≤◌, List, ℕ, length, take, codes, OnOk, OnErr};
 ghost use Rattle.std.specs.List.{AllByRecursion};
 ghost use Rattle.line_text.specs.Words.{space_ended, spaced, joined, joined_or};
 ghost use Rattle.line_text.specs.Growth.{Extends};
@@ -27,16 +27,33 @@ pub(crate) trait Word {
 // More than any word and the byte behind it take.
 const ROOM: usize = 24;
 
-// Writes a word, and one space behind it: one look for room.
+// For how many words room is made at once: what is asked for ahead stays small.
+const BATCH: usize = 64;
+
+// Writes each word and one space behind it at a place, and gives the place behind them.
 #[inline(always)]
-fn put_word<W: Word>(out: &mut Vec<u8>, word: &W) -> Result<(), Want>
-    ensures ok { OnOk result (out.new.items ≡ out.old.items ++ (W.text word.now ++ codes " ")) }
+fn put_words<W: Word>(room: &mut [u8], at: usize, words: &[W]) -> usize
+    requires { at + 24 * length words.now ≤ length room.old }
+    ensures text { take result room.new ≡ take at room.old ++ space_ended W.text words.now }
+    ensures fit { AllByRecursion W.fits words.now }
+{
+    let mut end = at;
+    for word in words {
+        end = word.put(room, end, b' ');
+    }
+    end
+}
+
+// Writes a batch of words, and one space behind each: one look for room.
+fn put_batch<W: Word>(out: &mut Vec<u8>, words: &[W]) -> Result<(), Want>
+    requires { length words.now ≤ 64 }
+    ensures ok { OnOk result (out.new.items ≡ out.old.items ++ space_ended W.text words.now) }
     ensures err { OnErr result (out.new.items ≡ out.old.items) }
-    ensures fit { OnOk result (W.fits word.now) }
+    ensures fit { OnOk result (AllByRecursion W.fits words.now) }
 {
     let at = out.len();
-    out.extend_from_slice(&[0; ROOM])?;
-    let end = word.put(out.as_mut_slice(), at, b' ');
+    out.resize(at + words.len() * ROOM, 0)?;
+    let end = put_words(out.as_mut_slice(), at, words);
     out.truncate(end);
     Ok(())
 }
@@ -47,8 +64,11 @@ fn put_each<W: Word>(out: &mut Vec<u8>, words: &[W]) -> Result<(), Want>
     ensures err { OnErr result (Extends out.old.items out.new.items) }
     ensures fit { OnOk result (AllByRecursion W.fits words.now) }
 {
-    for word in words {
-        put_word(out, word)?;
+    let mut left = words;
+    while !left.is_empty() {
+        let (batch, rest) = left.split_at(left.len().min(BATCH));
+        put_batch(out, batch)?;
+        left = rest;
     }
     Ok(())
 }

@@ -1,8 +1,15 @@
-use Rattle.std.proofs.Common.{◌≡◌, ◌++◌, take}
+use Rattle.std.proofs.Common.{◌≡◌, ◌++◌, length}
 use Rattle.std.specs.List.{AllByRecursion}
+use Rattle.line_text.specs.Growth.{Extends}
 use Rattle.line_text.specs.Words.{space_ended}
 use Rattle.line_text.proofs.word.put_each.Given as goal
 
-abbrev pub invariant-loop-word : goal.invariant-loop-word
-invariant-loop-word g l =
-    (l.out.items ≡ l.fn.out.items ++ space_ended g.W.Word.text (take l.word-index l.words)) × AllByRecursion g.W.Word.fits (take l.word-index l.words)
+abbrev pub invariant-loop-left : goal.invariant-loop-left
+invariant-loop-left g l = record {
+  text : l.out.items ++ space_ended g.W.Word.text l.left ≡ l.fn.out.items ++ space_ended g.W.Word.text l.words;
+  fit : AllByRecursion g.W.Word.fits l.left → AllByRecursion g.W.Word.fits l.words;
+  begun : Extends l.fn.out.items l.out.items;
+}
+
+abbrev pub decreases-loop-left : goal.decreases-loop-left
+decreases-loop-left g l = length l.left
