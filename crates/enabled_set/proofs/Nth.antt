@@ -211,7 +211,7 @@ pub nth_none : (bits : List Bool) (words s l : List ℕ) (total k : ℕ) → IsC
 nth_none bits words s l total k good most = slice_get_past (members bits) k (let len = length-members bits in let all = good.in_all in omega arith)
 
 -- the node of a name
-named : (o : Option ℕ) (n : ℕ) → SomeIff o ((1 ≤ n) × (n ≤ 65535)) n → (1 ≤ n) × (n ≤ 65535) → o ≡ Some n
+pub named : (o : Option ℕ) (n : ℕ) → SomeIff o ((1 ≤ n) × (n ≤ 65535)) n → (1 ≤ n) × (n ≤ 65535) → o ≡ Some n
 named None n h name = absurd (h name)
 named (Some x) n h name = ap (λ (y : ℕ). Some y) h.1
 
@@ -223,3 +223,18 @@ nth_some bits words s l ws total k word group left at o good is_w is reached wit
     let part = word_tally bits words s l ws total word group at good is_w is (omega arith) in
     let there : tally (is_in bits) (64 * group + at) ≡ k = omega arith in
     named o v node (names_only bits words s l total good v here) ∙ sym (nth_member bits v k (good.same v ∙ here) there)
+
+-- a block without a bit has no member
+pub block_none : (bits : List Bool) (words s l : List ℕ) (total word block : ℕ) → IsCounted bits words s l total → word ≡ get_or words block 0 → ((i : ℕ) → i < 64 → has_bit word i ≡ false) → (v : ℕ) → 64 * block ≤ v → v < 64 * block + 64 → is_in bits v ≡ false
+block_none bits words s l total word block good is none v low high =
+    let i : ℕ = v - 64 * block in
+    let inside : i < 64 = omega (arith, low, high) in
+    let at : v ≡ 64 * block + i = omega (arith, low) in
+    good.same v ∙ ap (is_on words) at ∙ on_word words block i inside ∙ ap (λ w. has_bit w i) (sym is) ∙ none i inside
+
+-- and a bit of it is one
+pub block_some : (bits : List Bool) (words s l : List ℕ) (total word block at : ℕ) → IsCounted bits words s l total → word ≡ get_or words block 0 → at < 64 → has_bit word at ≡ true → (is_in bits (64 * block + at) ≡ true) × (1 ≤ 64 * block + at) × (64 * block + at ≤ 65535)
+block_some bits words s l total word block at good is inside on =
+    let here : is_on words (64 * block + at) ≡ true = on_word words block at inside ∙ ap (λ w. has_bit w at) (sym is) ∙ on in
+    let name = names_only bits words s l total good (64 * block + at) here in
+    (good.same (64 * block + at) ∙ here, name.0, name.1)

@@ -1,9 +1,8 @@
 -- What the shares come to where no name is stale.
-use Rattle.std.proofs.Common.{◌≡◌, ℕ, suc, ◌+◌, ◌-◌, ◌<◌, ◌≤◌, Bool, true, false, cond, not, ◌&&◌, List, [], ◌∷◌, length, get_or, set, map, count_by, sum_by, filter, filter_map, Option, None, Some, is_some, option_and_then, IsTrue, slice_get, nat_eq, take, refl, sym, ap, ap₂, subst, ◌∙◌, ⊎_elim, arith}
+use Rattle.std.proofs.Common.{◌≡◌, ◌*◌, ◌≢◌, ℕ, suc, ◌+◌, ◌-◌, ◌<◌, ◌≤◌, Bool, true, false, cond, not, ◌&&◌, List, [], ◌∷◌, length, get_or, set, map, count_by, sum_by, filter, filter_map, Option, None, Some, is_some, option_and_then, IsTrue, nat_eq, take, refl, sym, ap, ap₂, ◌∙◌, ⊎_elim, arith}
 use mir.Val.{bool_byte}
 use Rattle.std.specs.List.{range_with_len, cons_option}
-use Rattle.std.proofs.lemmas.Bool.{cases_eq, cases_lt, cases_Bool, eq-eqb, false_from_ne_true, ne_eqb, true≢false}
-use Rattle.std.proofs.lemmas.Option.{none-some}
+use Rattle.std.proofs.lemmas.Bool.{cases_eq, cases_lt, eq-eqb, false_from_ne_true, ne_eqb, true≢false}
 use Rattle.std.proofs.lemmas.List.{ext_get_or, get_or_past, get_or-set_other, get_or-set_same, length-set}
 use Rattle.std.proofs.lemmas.List.FromFn.{get_or-map-range_with_len, length-map-range_with_len}
 use Rattle.std.specs.List.{All}
@@ -12,7 +11,7 @@ use Rattle.std.proofs.lemmas.List.Sums.{sum_by_more, sum_by-cons, sum_by-le, sum
 use Rattle.enabled_set.specs.Members.{is_in, members}
 use Rattle.enabled_set.specs.Counts.{tally}
 use Rattle.enabled_set.proofs.Members.{length-members}
-use Rattle.enabled_set.proofs.Tally.{past_above, tally_put, tally_through}
+use Rattle.enabled_set.proofs.Tally.{past_above, tally_put}
 use Rattle.graph_store.specs.declared.end.End.{End}
 use Rattle.graph_store.specs.declared.end.End.TheVariants.{Shut, Courted, Free}
 use Rattle.graph_store.specs.Ends.{are_open, end_at, open_edges}
@@ -35,37 +34,27 @@ use Rattle.indexed_state.proofs.Named.{names_sum, pairs_scanned}
 
 -- ---- stale names
 
-first_passes : (p : ℕ → Bool) (xs : List ℕ) (v : ℕ) → slice_get (filter p xs) 0 ≡ Some v → p v ≡ true
-first_passes p [] v e = absurd (none-some v e)
-first_passes p (x ∷ xs) v e = step (p x) refl (first_passes p xs v) e
-  where
-    step : (b : Bool) → p x ≡ b → (slice_get (filter p xs) 0 ≡ Some v → p v ≡ true) → slice_get (cond b (x ∷ filter p xs) (filter p xs)) 0 ≡ Some v → p v ≡ true
-    step true is rest e = subst (λ y. p y ≡ true) (let same : x ≡ v = cc in same) is
-    step false is rest e = rest e
+-- a member has a place
+pub has_place : (bits : List Bool) (v : ℕ) → is_in bits v ≡ true → v < length bits
+has_place bits v is =
+    ⊎_elim (λ (within : v < length bits). within) (λ (past : length bits ≤ v). absurd (true≢false (sym is ∙ get_or_past bits v false past))) (cases_lt v (length bits))
 
--- the first member is one, and has a place
-pub first_member : (bits : List Bool) (v : ℕ) → slice_get (members bits) 0 ≡ Some v → (is_in bits v ≡ true) × (v < length bits)
-first_member bits v e =
-    let is = first_passes (is_in bits) (range_with_len 0 (length bits)) v e in
-    (is, ⊎_elim (λ (within : v < length bits). within) (λ (past : length bits ≤ v). absurd (true≢false (sym is ∙ get_or_past bits v false past))) (cases_lt v (length bits)))
-
-empty_first : (xs : List ℕ) → slice_get xs 0 ≡ None → length xs ≡ 0
-empty_first [] e = refl
-empty_first (x ∷ xs) e = absurd (none-some x (sym e))
-
--- where there is no first member there is none
-pub no_member : (bits : List Bool) → slice_get (members bits) 0 ≡ None → (v : ℕ) → is_in bits v ≡ false
-no_member bits none v =
-    let nothing = empty_first (members bits) none in
-    let counted = length-members bits in
+-- who is no member is none of the set without another
+pub still_none : (bits bits' : List Bool) (v w : ℕ) → bits' ≡ set bits v false → is_in bits w ≡ false → is_in bits' w ≡ false
+still_none bits bits' v w cleared none =
     ⊎_elim
-    (λ (is : is_in bits v ≡ true).
+    (λ (same : w ≡ v).
     ⊎_elim
-    (λ (within : v < length bits). let some = tally_through (is_in bits) 0 v (length bits) is (omega arith) within in absurd (omega (arith, nothing, counted, some)))
-    (λ (past : length bits ≤ v). get_or_past bits v false past)
+    (λ (within : v < length bits). ap (λ x. is_in bits' x) same ∙ ap (λ l. is_in l v) cleared ∙ get_or-set_same bits v false false within)
+    (λ (past : length bits ≤ v). ap (λ x. is_in bits' x) same ∙ ap (λ l. is_in l v) cleared ∙ get_or_past (set bits v false) v false (let places = length-set bits v false in omega (arith, places, past)))
     (cases_lt v (length bits)))
-    (λ (is : is_in bits v ≡ false). is)
-    (cases_Bool (is_in bits v))
+    (λ (apart : w ≢ v). ap (λ l. is_in l w) cleared ∙ get_or-set_other bits v w false false apart ∙ none)
+    (cases_eq w v)
+
+-- what holds in all blocks holds everywhere
+pub none_anywhere : (bits : List Bool) (blocks : ℕ) → length bits ≤ 64 * blocks → ((v : ℕ) → v < 64 * blocks → is_in bits v ≡ false) → (v : ℕ) → is_in bits v ≡ false
+none_anywhere bits blocks covered none v =
+    ⊎_elim (λ (within : v < 64 * blocks). none v within) (λ (past : 64 * blocks ≤ v). get_or_past bits v false (omega (arith, covered, past))) (cases_lt v (64 * blocks))
 
 -- a set without one of its members has fewer
 pub one_fewer : (bits bits' : List Bool) (v : ℕ) → is_in bits v ≡ true → v < length bits → bits' ≡ set bits v false → length (members bits') < length (members bits)

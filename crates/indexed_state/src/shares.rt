@@ -67,7 +67,9 @@ impl Shares {
         ensures places { length self.new.stale ≡ length self.old.stale }
         ensures marked { (w : ℕ) → is_in self.new.stale w ≡ false → (is_in self.old.stale w ≡ false) × (w ≢ v) }
     {
-        self.stale.insert(v);
+        if !self.stale.contains(v) {
+            self.stale.insert(v);
+        }
     }
 
     /// The name that a pointer is at, if any, is stale from now on.

@@ -1,11 +1,27 @@
-use Rattle.std.proofs.Common.{◌∙◌, sym}
-use Rattle.indexed_state.proofs.Summed.{first_member, no_member, one_fewer}
+use Rattle.std.proofs.Common.{◌∙◌, ◌*◌, ◌<◌, ◌≤◌, length, ap, arith, ⊎_elim}
+use Rattle.std.proofs.lemmas.Bool.{cases_lt}
+use Rattle.indexed_state.specs.Indexed.{Indexed}
+use Rattle.indexed_state.proofs.Summed.{none_anywhere}
 use Rattle.indexed_state.proofs.state.IndexedState.look_again.Goals as goal
 
-pub loop-v-smaller : goal.loop-v-smaller
-loop-v-smaller g c =
-    let member = first_member c.loop-v.self.stale c.in-Some.v (sym c.first_stale.ensures.first ∙ c.in-Some.is) in
-    one_fewer c.loop-v.self.stale c.look_at.new.self.stale c.in-Some.v member.0 member.1 c.look_at.ensures.stale
+pub loop-block-preserved : goal.loop-block-preserved
+loop-block-preserved g c =
+    let block = c.loop-block.block in
+    let looked = c.look_again_in.ensures in
+    record {
+      state = looked.state ∙ c.loop-block.invariant.state;
+      room = looked.room ∙ c.loop-block.invariant.room;
+      places = looked.places ∙ c.loop-block.invariant.places;
+      told = λ v below.
+          ⊎_elim
+          (λ (before : v < 64 * block). looked.fresh v (c.loop-block.invariant.told v before))
+          (λ (here : 64 * block ≤ v). looked.told v here (omega (arith, below)))
+          (cases_lt v (64 * block));
+    }
 
 pub returns-clause-told : goal.returns-clause-told
-returns-clause-told g c = no_member c.loop-v.self.stale (sym c.first_stale.ensures.first ∙ c.in_default.is)
+returns-clause-told g c =
+    let places = c.loop-block.invariant.places in
+    let same = ap (λ (n : Indexed). length n.stale) c.self.view_is in
+    let covered = c.blocks-block-end.ensures.all in
+    none_anywhere c.loop-block.self.stale c.loop-block.block (omega (arith, places, same, covered, c.loop-block-test.false)) c.loop-block.invariant.told
