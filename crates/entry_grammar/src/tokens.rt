@@ -63,6 +63,7 @@ fn after_act(bytes: &[u8], act: Act) -> Option<&[u8]>
 }
 
 // Reads the word for a rule in front, which its first byte tells, and gives what follows it.
+#[inline(always)]
 fn read_act(bytes: &[u8]) -> Option<(Act, &[u8])>
     ensures { MatchOption result
         ((act : Act) (rest : List ℕ) → bytes.now ≡ act_word act ++ rest → ⊥)
@@ -159,6 +160,7 @@ impl Token for (Node, Act) {
 
     ghost fits = { IsEnabled };
 
+    #[inline(always)]
     fn read(bytes: &[u8]) -> Option<((Node, Act), &[u8])> {
         let Some((node, word)) = read_marked(bytes, b':') else {
             return None;
