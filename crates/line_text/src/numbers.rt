@@ -49,7 +49,9 @@ fn put_rare(out: &mut Vec<u8>, number: u32, behind: u8) -> Result<(), Want>
     append_digits(out, number, behind)
 }
 
-/// Writes a number in decimal, and the byte behind it: one look for room.
+/// Writes a number in decimal, and the byte behind it: one look for room. A call of its own, so that what writes an entry's number
+/// stays short enough to stand in its caller.
+#[inline(never)]
 pub(crate) fn put_number_then(out: &mut Vec<u8>, number: u32, behind: u8) -> Result<(), Want>
     ensures ok { OnOk result (out.new.items ≡ out.old.items ++ (number_text number ++ behind ∷ [])) }
     ensures err { OnErr result (out.new.items ≡ out.old.items) }
