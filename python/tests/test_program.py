@@ -216,8 +216,7 @@ class Found(Timed):
     def of_a_repository(self, console):
         """What a program says that uses the client in a repository with this console, and its standard error."""
         folder = self.folder()
-        os.mkdir(os.path.join(folder, "python"))
-        shutil.copy(rudekpi.__file__, os.path.join(folder, "python"))
+        shutil.copytree(os.path.dirname(rudekpi.__file__), os.path.join(folder, "python", "rudekpi"))
         if console:
             shutil.copy(self.program(console), os.path.join(folder, "console"))
         uses = "import rudekpi\nfor _ in range(2):\n    with rudekpi.Network('hh', 3) as net: print(net.nodes)\n"

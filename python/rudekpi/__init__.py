@@ -1,0 +1,31 @@
+"""Networks that keep their nodes in pairs, played by the program `console` and driven from Python.
+
+    with Network(rules="manne", nodes=["ann", "bob", "cleo"]) as net:
+        net.link("ann", "bob")
+        net.link("bob", "cleo")
+        net.settle(lambda enabled: list(enabled))    # a daemon: from the enabled nodes to those that move
+        print(net.matching().partner("bob"))
+
+Each call writes a line to `console run` and waits for its entry; inside `with net.batch() as batch:` those of `batch` do not
+wait. A command that the network refuses raises `Refused`, and where the program ends, `Ended` has its status and last line.
+`drive` and `scramble` write an entry a turn, and how many is not known beforehand. So the client asks for the `status`
+behind them, and that entry ends them: it stands in the transcript like any other, and in the reply. `checkpoint` writes
+the lines of a base, which are no entry.
+
+The program is the argument `program`, else the environment's RUDEKPI_CONSOLE, else the `console` that lies beside this package
+(`bin/console` in it), else that of the repository in which the package lies. A network is for one thread. A transcript is kept in memory as long as its network.
+"""
+
+from .audits import audit, epochs, replay
+from .batch import Batch, Pending
+from .errors import Damaged, Ended, Garbled, PastBound, Refused, RudekpiError, WrongChoice
+from .network import Network
+from .replies import (
+    Accepted, Base, Enabled, Epoch, Fault, Matching, Move, Moves, Registers, Settled, Shown, Status, Summary, Turns, Wish,
+)
+
+__all__ = [
+    "Accepted", "Base", "Batch", "Damaged", "Enabled", "Ended", "Epoch", "Fault", "Garbled", "Matching", "Move", "Moves",
+    "Network", "PastBound", "Pending", "Refused", "Registers", "RudekpiError", "Settled", "Shown", "Status", "Summary", "Turns",
+    "Wish", "WrongChoice", "audit", "epochs", "replay",
+]

@@ -1,0 +1,16 @@
+"""Numbers of the program's lines, and their limits."""
+
+from __future__ import annotations
+
+from operator import index
+from typing import Any
+
+MOST_NODES, MOST_TURNS, MOST_SEED = 65_535, 1_000_000, 2**64 - 1
+
+
+def number_within(given: Any, most: int, what: str) -> int:
+    """A whole number from 0 to the most that may be."""
+    number = int(index(given))  # before Python 3.10 the index of True is True
+    if not 0 <= number <= most:
+        raise ValueError(f"{what} is 0 to {most}, and not {number}")
+    return number

@@ -1,0 +1,37 @@
+"""Where the program is found."""
+
+from __future__ import annotations
+
+import functools
+import os
+import subprocess
+from typing import Union
+
+from .errors import Ended
+
+Program = Union[str, "os.PathLike[str]", None]
+PACKAGE = os.path.dirname(os.path.realpath(__file__))
+
+
+@functools.lru_cache(maxsize=None)
+def repository_program() -> str:
+    """The program of this repository, which is built first where it has to be, with its lines on standard error."""
+    path = os.path.join(os.path.dirname(os.path.dirname(PACKAGE)), "console")
+    if not os.path.isfile(path):
+        raise FileNotFoundError(f"no program at {path}: name one by program= or RUDEKPI_CONSOLE")
+    built = subprocess.run([path, "--version"], stdin=subprocess.DEVNULL, stdout=subprocess.DEVNULL)
+    if built.returncode:
+        raise Ended(built.returncode, b"the program could not be built")
+    return path
+
+
+def found_program(program: Program = None) -> str:
+    """The program that is called: the one that is named, else RUDEKPI_CONSOLE's, the one in the package, the repository's.
+
+    Raises `FileNotFoundError` where there is none of these, and `Ended` where the repository's can't be built.
+    """
+    given = program or os.environ.get("RUDEKPI_CONSOLE")
+    if given:
+        return os.fspath(given)
+    beside = os.path.join(PACKAGE, "bin", "console")
+    return beside if os.path.isfile(beside) else repository_program()
