@@ -3,11 +3,21 @@ import importlib.machinery
 import importlib.util
 import os
 import re
+import shutil
 import subprocess
 import sys
 
+WITHOUT = "nothing is proved or built without it, and ./console runs as long as the sources are those of release/console"
+
+
+def require():
+    """Ends the program, with a line that says so, where the kit is missing."""
+    if shutil.which("rt") is None:
+        sys.exit(f"{os.path.basename(sys.argv[0])}: the Rattle kit is missing (no rt in PATH): {WITHOUT}")
+
 
 def load():
+    require()
     page = subprocess.run(["rt", "doc"], capture_output=True, text=True, check=True).stdout.strip()
     loader = importlib.machinery.SourceFileLoader("rtlib", f"{os.path.dirname(page)}/bin/rtlib.py")
     made = importlib.util.module_from_spec(importlib.util.spec_from_loader("rtlib", loader))

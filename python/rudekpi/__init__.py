@@ -24,6 +24,8 @@ from .replies import (
     Accepted, Base, Enabled, Epoch, Fault, Matching, Move, Moves, Registers, Settled, Shown, Status, Summary, Turns, Wish,
 )
 
+__version__ = "0.1.0"
+
 __all__ = [
     "Accepted", "Base", "Batch", "Damaged", "Enabled", "Ended", "Epoch", "Fault", "Garbled", "Matching", "Move", "Moves",
     "Network", "PastBound", "Pending", "Refused", "Registers", "RudekpiError", "Settled", "Shown", "Status", "Summary", "Turns",

@@ -1,0 +1,133 @@
+"""Makes the wheel of the package `rudekpi` beside it, with the program of release/ in it: what pip calls by pyproject.toml.
+
+It stands on the standard library alone: so `pip install ./python` needs no index, where setuptools would have to be fetched, as a fresh
+environment has none. The same files make the same wheel to the byte. The program is for Linux on x86-64 with glibc 2.34 or later; where
+pip runs elsewhere the package is made without it.
+"""
+import base64
+import hashlib
+import io
+import os
+import pathlib
+import platform
+import re
+import tarfile
+import zipfile
+
+HERE = pathlib.Path(__file__).resolve().parent
+PACKAGE = HERE / "rudekpi"
+PROGRAM = "rudekpi/bin/console"
+GLIBC = (2, 34)
+WITH_PROGRAM, WITHOUT = "py3-none-manylinux_2_34_x86_64", "py3-none-any"
+METADATA = """\
+Metadata-Version: 2.1
+Name: rudekpi
+Version: {version}
+Summary: Keeps a changing network's nodes in pairs, by self-stabilising rules, in which every function is proved
+License: MIT
+Requires-Python: >=3.9
+Classifier: Typing :: Typed
+"""
+WHEEL = """\
+Wheel-Version: 1.0
+Generator: rudekpi
+Root-Is-Purelib: {is_pure}
+Tag: {tag}
+"""
+ENTRY_POINTS = """\
+[console_scripts]
+rudekpi = rudekpi.__main__:main
+"""
+
+
+def version():
+    return re.search(r'^__version__ = "([0-9.]+)"$', (PACKAGE / "__init__.py").read_text(), re.MULTILINE)[1]
+
+
+def beside(name):
+    """A file of the repository: beside the package in a source archive, else one folder above."""
+    for folder in (HERE, HERE.parent):
+        if (folder / name).is_file():
+            return folder / name
+    raise FileNotFoundError(f"{name} lies neither in {HERE} nor above it: build in the repository, by pip 21.3 or later")
+
+
+def program():
+    """The program of release/, whole."""
+    found, told = beside("release/console").read_bytes(), beside("release/MADE_FROM").read_text()
+    if f"\nprogram {hashlib.sha256(found).hexdigest()}\n" not in told:
+        raise ValueError("release/console is not the program of which release/MADE_FROM tells")
+    return found
+
+
+def runs_here():
+    libc, number = platform.libc_ver()
+    is_new = libc == "glibc" and tuple(map(int, number.split(".")[:2])) >= GLIBC
+    return platform.system() == "Linux" and platform.machine() == "x86_64" and is_new
+
+
+def sources():
+    """The files of the package, by their names in a wheel."""
+    names = sorted(path for path in PACKAGE.rglob("*") if path.suffix == ".py" or path.name == "py.typed")
+    return {path.relative_to(HERE).as_posix(): path.read_bytes() for path in names}
+
+
+def recorded(files, record):
+    """The list of all files with their digests, as a wheel has it."""
+    lines = []
+    for name, content in files.items():
+        digest = base64.urlsafe_b64encode(hashlib.sha256(content).digest()).rstrip(b"=").decode()
+        lines.append(f"{name},sha256={digest},{len(content)}\n")
+    return "".join([*lines, f"{record},,\n"]).encode()
+
+
+def write_wheel(folder, tag, files):
+    """Writes a wheel of these files and of what tells of them, and gives its name."""
+    number, is_pure = version(), str(tag == WITHOUT).lower()
+    info = f"rudekpi-{number}.dist-info"
+    files[f"{info}/LICENSE"] = beside("LICENSE").read_bytes()
+    files[f"{info}/METADATA"] = METADATA.format(version=number).encode()
+    files[f"{info}/WHEEL"] = WHEEL.format(is_pure=is_pure, tag=tag).encode()
+    files[f"{info}/entry_points.txt"] = ENTRY_POINTS.encode()
+    files[f"{info}/RECORD"] = recorded(files, f"{info}/RECORD")
+    name = f"rudekpi-{number}-{tag}.whl"
+    with zipfile.ZipFile(os.path.join(folder, name), "w") as wheel:
+        for path, content in files.items():
+            entry = zipfile.ZipInfo(path)
+            entry.compress_type, entry.create_system = zipfile.ZIP_DEFLATED, 3
+            entry.external_attr = (0o100755 if path == PROGRAM else 0o100644) << 16
+            wheel.writestr(entry, content)
+    return name
+
+
+def make_wheel(folder, has_program):
+    """Writes the wheel of the package, and gives its name."""
+    if has_program:
+        return write_wheel(folder, WITH_PROGRAM, {**sources(), PROGRAM: program()})
+    return write_wheel(folder, WITHOUT, sources())
+
+
+def build_wheel(wheel_directory, config_settings=None, metadata_directory=None):
+    has_program = runs_here()
+    if not has_program:
+        print("rudekpi: made without its program, which wants Linux on x86-64 with glibc 2.34 or later")
+    return make_wheel(wheel_directory, has_program)
+
+
+def build_editable(wheel_directory, config_settings=None, metadata_directory=None):
+    """Writes a wheel that has Python read the package where it lies, with the repository's own program."""
+    return write_wheel(wheel_directory, WITHOUT, {"rudekpi.pth": f"{HERE}\n".encode()})
+
+
+def build_sdist(sdist_directory, config_settings=None):
+    """Writes an archive of the sources with the program, from which a wheel can be made anywhere."""
+    top = f"rudekpi-{version()}"
+    files = {**sources(), "PKG-INFO": METADATA.format(version=version()).encode()}
+    files.update({name: (HERE / name).read_bytes() for name in ("pyproject.toml", "wheel_builder.py")})
+    files.update({name: beside(name).read_bytes() for name in ("LICENSE", "release/console", "release/MADE_FROM")})
+    with tarfile.open(os.path.join(sdist_directory, f"{top}.tar.gz"), "w:gz") as archive:
+        for name, content in files.items():
+            entry = tarfile.TarInfo(f"{top}/{name}")
+            entry.size, entry.mode = len(content), 0o755 if name.endswith("/console") else 0o644
+            archive.addfile(entry, io.BytesIO(content))
+    return f"{top}.tar.gz"
