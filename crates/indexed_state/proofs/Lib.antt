@@ -1,5 +1,4 @@
 pub mod Partners
-pub mod Edges
 pub mod Named
 pub mod Rounds
 pub mod Told

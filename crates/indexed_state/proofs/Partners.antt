@@ -1,7 +1,7 @@
--- Partners and marriages, read off the registers.
-use Rattle.std.proofs.Common.{◌≡◌, ℕ, Bool, true, false, cond, Option, None, Some, is_some, option_and_then, refl, sym, ap, ◌∙◌, ⊎_elim}
+-- Partners, read off the registers.
+use Rattle.std.proofs.Common.{◌≡◌, ℕ, Bool, true, false, cond, None, Some, option_and_then, refl, sym, ap, ◌∙◌, ⊎_elim}
 use Rattle.std.proofs.lemmas.Bool.{true≢false}
-use Rattle.rule_machine.specs.State.{State, IsState, pointer, points, partner, married, holds_at}
+use Rattle.rule_machine.specs.State.{State, IsState, pointer, points, partner}
 use Rattle.machine_laws.specs.Neighbours.{option_cases}
 use Rattle.indexed_state.specs.Shares.{answered_by}
 use Rattle.machine_laws.specs.Pointers.{none_is, partner_from, null_unmarried, unanswered_unmarried, points_true, points_from}
@@ -17,11 +17,3 @@ partner_answered s v good =
     (λ null. none_is (partner s v) (null_unmarried s v null) ∙ sym (ap (option_and_then (λ w. cond (points s.registers w v) (Some w) None)) null))
     (λ at. at_pointer s v at.0 good at.1 (points s.registers at.0 v) refl ∙ sym (ap (option_and_then (λ w. cond (points s.registers w v) (Some w) None)) at.1))
     (option_cases (pointer s v))
-
-some_answered : (o : Option ℕ) (test : ℕ → Bool) → is_some (option_and_then (λ w. cond (test w) (Some w) None) o) ≡ holds_at test o
-some_answered None test = refl
-some_answered (Some w) test = elim (test w) as (λ b. is_some (cond b (Some w) None) ≡ b) [ true ↦ refl | false ↦ refl ]
-
--- it is married where the node that it points at points back
-pub married_answered : (s : State) (v : ℕ) → IsState s → married s v ≡ holds_at (λ w. points s.registers w v) (pointer s v)
-married_answered s v good = ap is_some (partner_answered s v good) ∙ some_answered (pointer s v) (λ w. points s.registers w v)

@@ -7,6 +7,6 @@ mod state;
 mod totals;
 mod view;
 
-pub use state::IndexedState;
+pub use state::{Change, IndexedState};
 pub use totals::{Totals, end_of, is_unanswered};
 pub use view::NodeView;

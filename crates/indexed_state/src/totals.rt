@@ -66,8 +66,8 @@ impl<R: Rules> IndexedState<R> {
         let view = self.at(v);
         Standing {
             node: v,
-            pointer: self.registers.pointer(v),
-            flag: self.registers.flag(v),
+            pointer: self.net.pointer(v),
+            flag: self.net.flag(v),
             is_married: view.married(),
             has_suitor: view.has_suitor(),
         }
@@ -79,7 +79,7 @@ impl<R: Rules> IndexedState<R> {
         requires { IsStanding self.now.state node.now }
         ensures { result ≡ (points self.now.state.registers w node.now.node && R.closes self.now.state w) }
     {
-        self.registers.points_at(w, node.node) && R::closes(w, node)
+        self.net.points(w, node.node) && R::closes(w, node)
     }
 
     /// How many neighbours of a node point at it and close the edge by that, which its ends leave open. A look at each.
@@ -89,7 +89,7 @@ impl<R: Rules> IndexedState<R> {
         ensures { result ≡ closing_at (R.closes self.now.state) self.now.state node.now.node }
     {
         let mut closing = 0;
-        for &w in self.store.neighbours(node.node) {
+        for &w in self.net.neighbours(node.node) {
             closing += u16::from(self.closes_edge(w, node));
         }
         closing
@@ -101,7 +101,8 @@ impl<R: Rules> IndexedState<R> {
         requires standing { IsStanding self.now.state node.now }
         ensures { result ≡ closing_at (R.closes self.now.state) self.now.state node.now.node }
     {
-        let _ = &self.store;
+        // By the invariant, which a look at a field opens, the state is sound.
+        let _ = &self.net;
         if !node.has_suitor {
             return 0;
         }
@@ -116,12 +117,12 @@ impl<R: Rules> IndexedState<R> {
         ensures added { result.added ≡ cond (present self.now.state.network v) (node_part (R.adds self.now.state) self.now.state v) 0 }
         ensures closing { result.closing ≡ cond (present self.now.state.network v) (closing_at (R.closes self.now.state) self.now.state v) 0 }
     {
-        if !self.store.has(v) {
+        if !self.net.has(v) {
             return NO_SHARE;
         }
         let node = self.standing(v);
         Share {
-            added: u16::from(is_unanswered(&self.registers, &node))
+            added: u16::from(is_unanswered(self.net.registers(), &node))
                 + u16::from(R::node_charge(&node)),
             closing: self.closing_at(&node),
         }
@@ -132,8 +133,8 @@ impl<R: Rules> IndexedState<R> {
         requires { v ≤ self.now.state.network.size }
         ensures { result ≡ is_lower_end self.now.state.registers v }
     {
-        match self.registers.pointer(v) {
-            Some(w) => v < w && self.registers.points_at(w, v),
+        match self.net.pointer(v) {
+            Some(w) => v < w && self.net.points(w, v),
             None => false,
         }
     }
@@ -142,7 +143,7 @@ impl<R: Rules> IndexedState<R> {
     fn end_at(&self, v: Node) -> Option<End>
         ensures { MatchOption result (present self.now.state.network v ≡ false) (λ end. end ≡ end_of R.COURTED_CLOSE self.now.state v) }
     {
-        if !self.store.has(v) {
+        if !self.net.has(v) {
             return None;
         }
         Some(end_of::<R>(&self.standing(v)))
@@ -161,7 +162,7 @@ impl<R: Rules> IndexedState<R> {
         let end = self.end_at(v);
         self.shares.put(v, share, is_lower_end);
         if let Some(end) = end {
-            self.store.turn(v, end);
+            self.net.turn(v, end);
         }
     }
 
@@ -214,7 +215,7 @@ impl<R: Rules> IndexedState<R> {
         self.look_again();
         Totals {
             pairs: self.shares.lower_ends.count(),
-            open_edges: self.store.open_edges(),
+            open_edges: self.net.open_edges(),
             added: self.shares.added,
             closing: self.shares.closing,
         }

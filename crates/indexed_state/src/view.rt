@@ -37,72 +37,56 @@ impl<R: Rules> Local for NodeView<'_, R> {
 
     fn pointer(&self, v: Node) -> Option<Node> {
         let state = self.state;
-        state.registers.pointer(v)
+        state.net.pointer(v)
     }
 
     fn flag(&self, v: Node) -> bool {
         let state = self.state;
-        state.registers.flag(v)
+        state.net.flag(v)
     }
 
     fn married(&self) -> bool {
         let state = self.state;
-        state.registers.married(self.node)
+        state.net.married(self.node)
     }
 
     fn has_suitor(&self) -> bool {
         let state = self.state;
-        state
-            .index
-            .has_suitor(self.node, &state.store, &state.registers)
+        state.index.has_suitor(self.node, &state.net)
     }
 
     fn first_suitor(&self) -> Option<Node> {
         let state = self.state;
-        state
-            .index
-            .first_suitor(self.node, &state.store, &state.registers)
+        state.index.first_suitor(self.node, &state.net)
     }
 
     fn is_suitor(&self, w: Node) -> bool {
         let state = self.state;
-        state
-            .index
-            .is_suitor(self.node, w, &state.store, &state.registers)
+        state.index.is_suitor(self.node, w, &state.net)
     }
 
     fn has_open(&self) -> bool {
         let state = self.state;
-        state
-            .index
-            .has_open(self.node, &state.store, &state.registers)
+        state.index.has_open(self.node, &state.net)
     }
 
     fn first_open(&self) -> Option<Node> {
         let state = self.state;
-        state
-            .index
-            .first_open(self.node, &state.store, &state.registers)
+        state.index.first_open(self.node, &state.net)
     }
 
     fn has_open_above(&self) -> bool {
         let state = self.state;
-        state
-            .index
-            .has_open_above(self.node, &state.store, &state.registers)
+        state.index.has_open_above(self.node, &state.net)
     }
 
     fn last_open_above(&self) -> Option<Node> {
         let state = self.state;
-        state
-            .index
-            .last_open_above(self.node, &state.store, &state.registers)
+        state.index.last_open_above(self.node, &state.net)
     }
 
     fn is_open(&self, w: Node) -> bool {
         let state = self.state;
-        state
-            .index
-            .is_open(self.node, w, &state.store, &state.registers)
+        state.index.is_open(self.node, w, &state.net)
     }
 }

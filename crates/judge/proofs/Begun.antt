@@ -17,6 +17,7 @@ use Rattle.rule_machine.specs.Run.{Moment}
 use Rattle.rule_machine.specs.Tables.{table_of}
 use Rattle.machine_laws.specs.Bases.{base_tells}
 use Rattle.machine_laws.specs.Neighbours.{option_cases, names_none, names_fails}
+use Rattle.net_state.specs.Held.{Held}
 use Rattle.judge.specs.Bases.{HasLines, weight_of}
 
 -- the charge alone is within the bound
@@ -75,9 +76,9 @@ lines_of t bound size base start begun = record {
 }
 
 -- the lines of the state that is made
-pub lines_made : (size : ℕ) (base : Base) (nodes : List Place) (edges : List (ℕ × ℕ)) (found : Option State) (s : State) → IfSome found (HasLines size nodes edges) → found ≡ Some s → nodes ≡ base.nodes → edges ≡ base.edges → HasLines size base.nodes base.edges s
-lines_made size base nodes edges found s lines is same_nodes same_edges =
-    let made : HasLines size nodes edges s = subst (λ o. IfSome o (HasLines size nodes edges)) is lines in
+pub lines_made : (size : ℕ) (base : Base) (nodes : List Place) (edges : List (ℕ × ℕ)) (found : Option Held) (n : Held) → IfSome found (λ m. HasLines size nodes edges m.state) → found ≡ Some n → nodes ≡ base.nodes → edges ≡ base.edges → HasLines size base.nodes base.edges n.state
+lines_made size base nodes edges found n lines is same_nodes same_edges =
+    let made : HasLines size nodes edges n.state = subst (λ o. IfSome o (λ m. HasLines size nodes edges m.state)) is lines in
     record { size_is = made.size_is; nodes_are = made.nodes_are ∙ same_nodes; edges_are = made.edges_are ∙ same_edges }
 
 -- none begins where too much is spent

@@ -7,11 +7,7 @@ use Rattle.machine_laws.specs.Pointers.{pointer_linked, suitor_linked, suitor_so
 use Rattle.judge.specs.Courting.{mark_at}
 use Rattle.judge.specs.States.{target_place}
 
--- where a node points there is one
-pub target_in : (s : State) (v w : ℕ) → IsState s → pointer s v ≡ Some w → w ≤ s.network.size
-target_in s v w good at = (present_range s.network w (linked_present s.network w v good.is_network (suitor_linked s w v good at))).1
-
--- and not at nobody
+-- a pointer is not at nobody
 pub target_least : (s : State) (v w : ℕ) → IsState s → pointer s v ≡ Some w → 1 ≤ w
 target_least s v w good at = (present_range s.network w (linked_present s.network w v good.is_network (suitor_linked s w v good at))).0
 

@@ -8,7 +8,5 @@ pub mod Counting
 pub mod Married
 pub mod Adding
 pub mod Charged
-pub mod Leaving
-pub mod Placed
 pub mod Made
 pub mod Begun

@@ -1,22 +1,22 @@
 -- Networks made line by line: what each name, each edge and each pair of registers adds.
-use Rattle.std.proofs.Common.{◌≡◌, ℕ, ◌+◌, ◌<◌, ◌≤◌, suc, zero, Bool, true, false, not, cond, ◌&&◌, ◌||◌, List, [], ◌∷◌, ◌++◌, length, map, filter, get_or, set, take, Option, None, Some, IsTrue, nat_eq, nat_le, leb, refl, sym, ap, ap₂, ◌∙◌, find, min, max, subst, ⊎_elim, arith, add-one}
+use Rattle.std.proofs.Common.{◌≡◌, ℕ, ◌+◌, ◌<◌, ◌≤◌, suc, zero, Bool, true, false, not, cond, ◌&&◌, List, [], ◌∷◌, ◌++◌, length, map, filter, get_or, take, Option, None, Some, IsTrue, nat_eq, nat_le, leb, refl, sym, ap, ap₂, ◌∙◌, find, min, max, subst, ⊎_elim, arith, add-one}
 use Rattle.std.specs.FinMap as finmap
 use Rattle.std.specs.Cmp.{tied_itself}
 use Rattle.std.specs.List.{range_with_len, list_any}
 use Rattle.std.specs.List.Sorted.{IsStrictlyIncreasing}
 use Rattle.std.specs.Ordering.{eq_by_cmp, ordering_reverse, is_eq}
 use Rattle.std.specs.declared.cmp.Ordering.TheVariants.{Less, Greater}
-use Rattle.std.proofs.lemmas.Bool.{true≢false, cases_eq, eq-eqb, eqb-true, ne_eqb, false_from_ne_true, le-leb, leb-true, and_parts, or_from}
-use Rattle.std.proofs.lemmas.List.{length-map, length-take, get_or-set_same, take_more}
+use Rattle.std.proofs.lemmas.Bool.{true≢false, eq-eqb, eqb-true, ne_eqb, false_from_ne_true, leb-true, and_parts, or_from}
+use Rattle.std.proofs.lemmas.List.{length-map, length-take, take_more}
 use Rattle.std.proofs.lemmas.List.Folds.{list_any_at}
 use Rattle.rule_machine.specs.declared.base.Place.{Place}
 use Rattle.rule_machine.specs.declared.refusal.Refusal.TheVariants.{UnknownNode, SelfLoop, AlreadyLinked, TooManyEdges, NotNeighbour}
-use Rattle.rule_machine.specs.Network.{Network, IsNetwork, pair_cmp, edge, present, linked, names, edge_list, edge_count, with_node, with_edge, edgeless_with, first_names}
+use Rattle.rule_machine.specs.Network.{Network, pair_cmp, edge, present, linked, names, edge_list, edge_count, with_edge, edgeless_with, first_names}
 use Rattle.rule_machine.specs.State.{State, IsState, pointer}
 use Rattle.rule_machine.specs.Disturbance.{after_point, after_flag}
 use Rattle.rule_machine.specs.Refuse.{link_refusal, point_refusal}
 use Rattle.rule_machine.specs.Base.{place_at, places}
-use Rattle.machine_laws.specs.Edges.{pair_total, present_other}
+use Rattle.machine_laws.specs.Edges.{pair_total}
 use Rattle.machine_laws.specs.Edges as edges
 use Rattle.machine_laws.specs.Neighbours.{present_range, option_cases, names_none, names_some, linked_pair}
 use Rattle.machine_laws.specs.Pointers.{pointer_linked}
@@ -61,34 +61,6 @@ increasing u (p ∷ []) up k inside = absurd (omega arith)
 increasing u (p ∷ q ∷ nodes) up zero inside = up.1.0
 increasing u (p ∷ q ∷ nodes) up (suc k) inside =
     let h = increasing p.node (q ∷ nodes) up.1 k (omega arith) in simp add-one (simp add-one at h)
-
--- who is a node where one more is
-pub present_more : (net : Network) (v x : ℕ) → IsNetwork net → 1 ≤ v → v ≤ net.size → present (with_node net v) x ≡ (nat_eq x v || present net x)
-present_more net v x good low high =
-    ⊎_elim
-    (λ same.
-    let len = good.here_len in
-    let here : get_or (set net.here v true) v false ≡ true = get_or-set_same net.here v true false (omega (arith, len, high)) in
-    ap (present (with_node net v)) same
-    ∙ (λ i. le-leb 1 v low i && (le-leb v net.size high i && here i))
-    ∙ sym (ap (λ b. b || present net x) (eq-eqb x v same)))
-    (λ apart. present_other net v true x apart ∙ sym (ap (λ b. b || present net x) (ne_eqb x v apart)))
-    (cases_eq x v)
-
-turn : (a b c : Bool) → (a || (b || c)) ≡ (b || (a || c))
-turn true true c = refl
-turn true false c = refl
-turn false b c = refl
-
-pub has_more : (nodes : List Place) (k : ℕ) (place : Place) (x : ℕ) → k < length nodes → place ≡ get_or nodes k place → has (names_in (take (k + 1) nodes)) x ≡ (nat_eq x place.node || has (names_in (take k nodes)) x)
-has_more nodes k place x within is =
-    ap (λ l. has (names_in l) x) (take_more nodes k place within ∙ ap (λ p. take k nodes ++ p ∷ []) (sym is))
-    ∙ behind (take k nodes) place x
-  where
-    behind : (some : List Place) (p : Place) (x : ℕ) → has (names_in (some ++ p ∷ [])) x ≡ (nat_eq x p.node || has (names_in some) x)
-    behind [] p x = refl
-    behind (q ∷ some) p x =
-        ap (λ b. nat_eq x q.node || b) (behind some p x) ∙ turn (nat_eq x q.node) (nat_eq x p.node) (has (names_in some) x)
 
 -- who is a node, where the names are these
 pub names_are : (net : Network) (nodes : List Place) → NamesRise 0 nodes → ((x : ℕ) → present net x ≡ has (names_in nodes) x) → names net ≡ names_in nodes

@@ -19,7 +19,7 @@ use Rattle.machine_laws.specs.Accepted.{choice_from_none, taken_at}
 use Rattle.machine_laws.specs.Pointers.{none_is}
 use Rattle.machine_laws.specs.Judged.{is_move_of, is_asked, is_answered}
 use Rattle.judge.specs.declared.choices.RuledItem.{RuledItem}
-use Rattle.judge.specs.Choices.{ruled_at, item_at, IsRuled, Holds, is_named, is_mover, IsWithin, IsClear, refused_item, is_move_by}
+use Rattle.judge.specs.Choices.{ruled_at, item_at, IsRuled, Holds, is_named, is_mover, IsWithin, refused_item, is_move_by}
 
 -- ---- searches
 
@@ -118,9 +118,6 @@ within_from_held t s table items k held v none =
 pub within_from_all : (t : RuleTable) (s : State) (table : List (Option RuledItem)) (items : List Item) → Holds t s table items → IsWithin table items
 within_from_all t s table items held v none =
     no_item (ruled_at table v) (held.first v ∙ not_found (λ i. nat_eq i.node v) items none)
-
-pub within_from_clear : (table : List (Option RuledItem)) (items : List Item) → IsClear table → IsWithin table items
-within_from_clear table items clear v none = clear v
 
 -- ---- moves of a choice that is not refused
 
@@ -235,11 +232,3 @@ within_left t s items moves table left held out v none =
     same_none : (b : Bool) → cond {A = Option RuledItem} b None None ≡ None
     same_none true = refl
     same_none false = refl
-
--- a table that was cleared at all items is clear
-pub cleared_all : (items : List Item) (table left : List (Option RuledItem)) → IsWithin table items → ((v : ℕ) → ruled_at left v ≡ cond (is_named items v) None (ruled_at table v)) → IsClear left
-cleared_all items table left within out v =
-    ⊎_elim
-    (λ yes. out v ∙ ap (λ b. cond b None (ruled_at table v)) yes)
-    (λ no. out v ∙ ap (λ b. cond b None (ruled_at table v)) no ∙ within v no)
-    (cases_Bool (is_named items v))

@@ -1,5 +1,5 @@
 -- What is found by a look at every name, as long as it is right.
-use Rattle.std.specs.Prelude.{◌≡◌, ◌+◌, Bool, List, Option, IfSome, length}
+use Rattle.std.specs.Prelude.{◌≡◌, ◌+◌, Bool, List, IfSome, length}
 use Rattle.rule_machine.specs.declared.rules.RuleSet.{RuleSet}
 use Rattle.rule_machine.specs.State.{State}
 use Rattle.rule_machine.specs.RuleTable.{enabled_names}
@@ -7,7 +7,7 @@ use Rattle.rule_machine.specs.Stable.{mutual_pairs}
 use Rattle.rule_machine.specs.Tables.{table_of}
 use Rattle.judge.specs.declared.tally.Tally.{Tally}
 use Rattle.judge.specs.declared.survey.Survey.{Survey}
-use Rattle.judge.specs.declared.choices.RuledItem.{RuledItem}
+use Rattle.judge.specs.declared.notes.Notes.{Notes}
 use Rattle.judge.specs.Choices.{IsReady}
 use Rattle.judge.specs.Courting.{IsCourting}
 
@@ -29,6 +29,6 @@ pub record IsSurvey (s : State) (survey : Survey) : Type 0 where
   pub found : IfSome survey.tally (IsFound s survey.courted)
 
 -- what is kept beside a state between two events
-pub record AreReady (s : State) (items : List (Option RuledItem)) (survey : Survey) : Type 0 where
-  pub chosen : IsReady s.network.size items
-  pub surveyed : IsSurvey s survey
+pub record AreReady (s : State) (notes : Notes) : Type 0 where
+  pub chosen : IsReady s.network.size notes.chosen
+  pub surveyed : IsSurvey s notes.survey

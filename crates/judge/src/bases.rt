@@ -9,8 +9,10 @@ ghost use Rattle.rule_machine.specs.State.{IsState, flag};
 ghost use Rattle.rule_machine.specs.Tables.{table_of};
 ghost use Rattle.judge.specs.Bases.{NamesRise, EdgesRise, weight_of};
 
-use crate::{Judge, NetState, Survey};
+use crate::lines::from_lines;
+use crate::{Judge, Survey};
 use graph_store::MAX_EDGES;
+use net_state::NetState;
 use rule_machine::{Base, Place, RuleSet, Want};
 use std::alloc::Global;
 
@@ -26,41 +28,39 @@ fn has_flag(nodes: &[Place]) -> bool
     false
 }
 
-impl NetState {
-    /// What is the most that may be spent, with the charge that is left: twice the edges, and the rules' weight for each node.
-    fn bound(&self, rules: RuleSet) -> u64
-        ensures { result ≡ charge_bound (weight_of rules) self.now.network }
-    {
-        let weight = match rules {
-            RuleSet::Hh => 1,
-            RuleSet::Manne => 3,
-        };
-        2 * u64::from(self.edges()) + weight * u64::from(self.nodes())
-    }
+/// What is the most that may be spent, with the charge that is left: twice the edges, and the rules' weight for each node.
+fn bound(net: &NetState, rules: RuleSet) -> u64
+    ensures { result ≡ charge_bound (weight_of rules) net.now.state.network }
+{
+    let weight = match rules {
+        RuleSet::Hh => 1,
+        RuleSet::Manne => 3,
+    };
+    2 * u64::from(net.edges()) + weight * u64::from(net.nodes())
+}
 
-    /// Whether what is spent is within the bound of the network, with the charge.
-    fn is_within(&mut self, alloc: Global, rules: RuleSet, spent: u32) -> Result<bool, Want>
-        ensures within { IfOk result (λ within. within ≡ nat_le (spent + (table_of rules).charge self.old) (charge_bound (weight_of rules) self.old.network)) }
-        ensures sound { IsState self.old }
-        ensures kept { self.new ≡ self.old }
-    {
-        let bound = self.bound(rules);
-        let mut survey = Survey::new(alloc, self.capacity())?;
-        let charge = u64::from(survey.tally(rules, self).charge);
-        // The charge alone never exceeds the bound.
-        Ok(u64::from(spent) <= bound - charge)
-    }
+/// Whether what is spent is within the bound of the network, with the charge.
+fn is_within(net: &mut NetState, alloc: Global, rules: RuleSet, spent: u32) -> Result<bool, Want>
+    ensures within { IfOk result (λ within. within ≡ nat_le (spent + (table_of rules).charge net.old.state) (charge_bound (weight_of rules) net.old.state.network)) }
+    ensures sound { IsState net.old.state }
+    ensures kept { net.new.state ≡ net.old.state }
+{
+    let bound = bound(net, rules);
+    let mut survey = Survey::new(alloc, net.capacity())?;
+    let charge = u64::from(survey.tally(rules, net).charge);
+    // The charge alone never exceeds the bound.
+    Ok(u64::from(spent) <= bound - charge)
+}
 
-    /// Whether the flags that are true are used by the rules.
-    fn has_fit_flags(&self, rules: RuleSet, nodes: &[Place]) -> bool
-        requires sound { IsState self.now }
-        requires listed { places self.now ≡ nodes.now }
-        ensures { IsTrue result ↔ ((table_of rules).flags ≡ false → (v : ℕ) → flag self.now v ≡ false) }
-    {
-        match rules {
-            RuleSet::Hh => !has_flag(nodes),
-            RuleSet::Manne => true,
-        }
+/// Whether the flags that are true are used by the rules.
+fn has_fit_flags(net: &NetState, rules: RuleSet, nodes: &[Place]) -> bool
+    requires sound { IsState net.now.state }
+    requires listed { places net.now.state ≡ nodes.now }
+    ensures { IsTrue result ↔ ((table_of rules).flags ≡ false → (v : ℕ) → flag net.now.state v ≡ false) }
+{
+    match rules {
+        RuleSet::Hh => !has_flag(nodes),
+        RuleSet::Manne => true,
     }
 }
 
@@ -86,13 +86,13 @@ impl Judge {
         if edges.len() > MAX_EDGES as usize {
             return Ok(None);
         }
-        let Some(mut net) = NetState::from_lines(alloc, size, nodes, edges)? else {
+        let Some(mut net) = from_lines(alloc, size, nodes, edges)? else {
             return Ok(None);
         };
-        if !net.is_within(alloc, rules, base.spent)? {
+        if !is_within(&mut net, alloc, rules, base.spent)? {
             return Ok(None);
         }
-        if !net.has_fit_flags(rules, nodes) {
+        if !has_fit_flags(&net, rules, nodes) {
             return Ok(None);
         }
         Ok(Some(Judge::of_net(alloc, net)?))

@@ -4,8 +4,8 @@ ghost use Rattle.std.specs.Prelude.{◌≡◌, ◌+◌, ◌<◌, ◌≤◌, ◌|
 ghost use Rattle.rule_machine.specs.State.{has_suitor};
 ghost use Rattle.judge.specs.Courting.{mark_at};
 
-use crate::NetState;
-use crate::net_state::{node_above, target_place};
+use crate::names::{node_above, target_place};
+use net_state::NetState;
 use rule_machine::{Node, Want};
 use std::alloc::Global;
 use std::marker::Model;
@@ -46,14 +46,14 @@ impl Courted {
     /// branch asks for it, and a null one marks nobody's place.
     #[inline(never)]
     pub(crate) fn find(&mut self, net: &NetState)
-        requires { length self.old ≡ net.now.network.size + 1 }
+        requires { length self.old ≡ net.now.state.network.size + 1 }
         ensures len { length self.new ≡ length self.old }
-        ensures marked { (v : ℕ) → mark_at self.new v ≡ has_suitor net.now v }
+        ensures marked { (v : ℕ) → mark_at self.new v ≡ has_suitor net.now.state v }
     {
         self.clear();
         for below in 0..net.capacity() as u16 {
             let v = node_above(below);
-            self.put(target_place(net.pointer_at(v)));
+            self.put(target_place(net.pointer(v)));
         }
         self.clear_nobody();
     }

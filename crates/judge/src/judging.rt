@@ -9,184 +9,193 @@ ghost use Rattle.rule_machine.specs.Tables.{table_of};
 ghost use Rattle.machine_laws.specs.Followed.{followed, disturbed};
 ghost use Rattle.judge.specs.Choices.{Holds, IsWithin, IsReady};
 ghost use Rattle.judge.specs.Judging.{TakesMemory, is_link, items_of};
-ghost use Rattle.judge.specs.Surveying.{IsSurvey};
+ghost use Rattle.judge.specs.Surveying.{AreReady, IsSurvey};
 
+use crate::edits::{link, point};
+use crate::questions::{are_enabled, are_mutual};
+use crate::reads::pointer;
+use crate::refusals::{
+    flag_refusal, join_refusal, link_refusal, point_refusal, show_refusal, unlink_refusal,
+};
 use crate::replies::{is_accepted, is_refusal, is_shown};
-use crate::{Chosen, NetState, Survey};
+use crate::status::has_counts;
+use crate::steps::{is_step, step_refusal};
+use crate::{Chosen, Notes, Survey};
+use net_state::{NetState, leave, make_moves, unlink};
 use rule_machine::{Event, Item, Refusal, Reply, RuleSet, Want};
 
-impl NetState {
-    /// Whether the machine may give this reply to the event, where these moves are spent; where it may, the event is
-    /// carried out as the reply says. Items of a step may stand at their nodes then.
-    pub(crate) fn judge(
-        &mut self,
-        rules: RuleSet,
-        spent: u64,
-        event: &Event,
-        reply: &Reply,
-        chosen: &mut Chosen,
-        survey: &mut Survey,
-    ) -> Result<bool, Want>
-        requires chosen { IsReady self.old.network.size chosen.old }
-        requires surveyed { IsSurvey self.old survey.old }
-        ensures right { IfOk result (λ right. IsTrue right → Answers (table_of rules) self.old spent event.now reply.now self.new) }
-        ensures wrong { IfOk result (λ right. right ≡ false → ((s : State) → Answers (table_of rules) self.old spent event.now reply.now s → ⊥) × (self.new ≡ self.old)) }
-        ensures err { OnErr result (self.new ≡ self.old) }
-        ensures want { OnErr result (TakesMemory (table_of rules) self.old event.now reply.now) }
-        ensures size { self.new.network.size ≡ self.old.network.size }
-        ensures within { IsWithin chosen.new (items_of event.now) }
-        ensures len { length chosen.new ≡ length chosen.old }
-        ensures surveyed { IsSurvey self.new survey.new }
-    {
-        match self.refusal(rules, event, chosen) {
-            Some(refusal) => Ok(is_refusal(reply, refusal)),
-            None => self.judge_accepted(rules, spent, event, reply, chosen, survey),
-        }
+/// Whether the machine may give this reply to the event, where these moves are spent; where it may, the event is
+/// carried out as the reply says. Items of a step may stand at their nodes then.
+pub(crate) fn judge_reply(
+    net: &mut NetState,
+    rules: RuleSet,
+    spent: u64,
+    event: &Event,
+    reply: &Reply,
+    notes: &mut Notes,
+) -> Result<bool, Want>
+    requires { AreReady net.old.state notes.old }
+    ensures right { IfOk result (λ right. IsTrue right → Answers (table_of rules) net.old.state spent event.now reply.now net.new.state) }
+    ensures wrong { IfOk result (λ right. right ≡ false → ((s : State) → Answers (table_of rules) net.old.state spent event.now reply.now s → ⊥) × (net.new.state ≡ net.old.state)) }
+    ensures err { OnErr result (net.new.state ≡ net.old.state) }
+    ensures want { OnErr result (TakesMemory (table_of rules) net.old.state event.now reply.now) }
+    ensures size { net.new.state.network.size ≡ net.old.state.network.size }
+    ensures within { IsWithin notes.new.chosen (items_of event.now) }
+    ensures len { length notes.new.chosen ≡ length notes.old.chosen }
+    ensures surveyed { IsSurvey net.new.state notes.new.survey }
+{
+    match refusal(net, rules, event, &mut notes.chosen) {
+        Some(refusal) => Ok(is_refusal(reply, refusal)),
+        None => judge_accepted(net, rules, spent, event, reply, notes),
     }
+}
 
-    /// Why an event is refused, if it is. The items of a step up to the first that is refused stand at their nodes then.
-    fn refusal(&self, rules: RuleSet, event: &Event, chosen: &mut Chosen) -> Option<Refusal>
-        requires { IsReady self.now.network.size chosen.old }
-        ensures value { result ≡ refusal_of (table_of rules) self.now event.now }
-        ensures held { result ≡ None → Holds (table_of rules) self.now chosen.new (items_of event.now) }
-        ensures within { IsWithin chosen.new (items_of event.now) }
-        ensures len { length chosen.new ≡ length chosen.old }
-    {
-        match event {
-            Event::Link(a, b) => self.link_refusal(*a, *b),
-            Event::Unlink(a, b) => self.unlink_refusal(*a, *b),
-            Event::Point(v, target) => self.point_refusal(*v, *target),
-            Event::Flag(v, _) => self.flag_refusal(rules, *v),
-            Event::Join(v) => self.join_refusal(*v),
-            Event::Step(choice) => self.step_refusal(rules, choice.items(), chosen),
-            Event::Show(v) | Event::Leave(v) => self.show_refusal(*v),
-            Event::Enabled | Event::Matching | Event::Status => None,
-        }
+/// Why an event is refused, if it is. The items of a step up to the first that is refused stand at their nodes then.
+fn refusal(net: &NetState, rules: RuleSet, event: &Event, chosen: &mut Chosen) -> Option<Refusal>
+    requires { IsReady net.now.state.network.size chosen.old }
+    ensures value { result ≡ refusal_of (table_of rules) net.now.state event.now }
+    ensures held { result ≡ None → Holds (table_of rules) net.now.state chosen.new (items_of event.now) }
+    ensures within { IsWithin chosen.new (items_of event.now) }
+    ensures len { length chosen.new ≡ length chosen.old }
+{
+    match event {
+        Event::Link(a, b) => link_refusal(net, *a, *b),
+        Event::Unlink(a, b) => unlink_refusal(net, *a, *b),
+        Event::Point(v, target) => point_refusal(net, *v, *target),
+        Event::Flag(v, _) => flag_refusal(net, rules, *v),
+        Event::Join(v) => join_refusal(net, *v),
+        Event::Step(choice) => step_refusal(net, rules, choice.items(), chosen),
+        Event::Show(v) | Event::Leave(v) => show_refusal(net, *v),
+        Event::Enabled | Event::Matching | Event::Status => None,
     }
+}
 
-    /// Whether the machine may give this reply to an event that is not refused, and what the reply does.
-    fn judge_accepted(
-        &mut self,
-        rules: RuleSet,
-        spent: u64,
-        event: &Event,
-        reply: &Reply,
-        chosen: &mut Chosen,
-        survey: &mut Survey,
-    ) -> Result<bool, Want>
-        requires accepted { refusal_of (table_of rules) self.old event.now ≡ None }
-        requires held { Holds (table_of rules) self.old chosen.old (items_of event.now) }
-        requires surveyed { IsSurvey self.old survey.old }
-        ensures right { IfOk result (λ right. IsTrue right → Does (table_of rules) self.old spent event.now reply.now self.new) }
-        ensures wrong { IfOk result (λ right. right ≡ false → ((s : State) → Does (table_of rules) self.old spent event.now reply.now s → ⊥) × (self.new ≡ self.old)) }
-        ensures err { OnErr result (self.new ≡ self.old) }
-        ensures want { OnErr result (IsTrue (is_link event.now) × (reply.now ≡ Reply.Accepted)) }
-        ensures size { self.new.network.size ≡ self.old.network.size }
-        ensures within { IsWithin chosen.new (items_of event.now) }
-        ensures len { length chosen.new ≡ length chosen.old }
-        ensures surveyed { IsSurvey self.new survey.new }
-    {
-        if !self.may_accept(rules, spent, event, reply, chosen, survey) {
-            return Ok(false);
-        }
-        self.follow(rules, event, reply, survey)?;
-        Ok(true)
+/// Whether the machine may give this reply to an event that is not refused, and what the reply does.
+fn judge_accepted(
+    net: &mut NetState,
+    rules: RuleSet,
+    spent: u64,
+    event: &Event,
+    reply: &Reply,
+    notes: &mut Notes,
+) -> Result<bool, Want>
+    requires accepted { refusal_of (table_of rules) net.old.state event.now ≡ None }
+    requires held { Holds (table_of rules) net.old.state notes.old.chosen (items_of event.now) }
+    requires surveyed { IsSurvey net.old.state notes.old.survey }
+    ensures right { IfOk result (λ right. IsTrue right → Does (table_of rules) net.old.state spent event.now reply.now net.new.state) }
+    ensures wrong { IfOk result (λ right. right ≡ false → ((s : State) → Does (table_of rules) net.old.state spent event.now reply.now s → ⊥) × (net.new.state ≡ net.old.state)) }
+    ensures err { OnErr result (net.new.state ≡ net.old.state) }
+    ensures want { OnErr result (IsTrue (is_link event.now) × (reply.now ≡ Reply.Accepted)) }
+    ensures size { net.new.state.network.size ≡ net.old.state.network.size }
+    ensures within { IsWithin notes.new.chosen (items_of event.now) }
+    ensures len { length notes.new.chosen ≡ length notes.old.chosen }
+    ensures surveyed { IsSurvey net.new.state notes.new.survey }
+{
+    if !may_accept(net, rules, spent, event, reply, notes) {
+        return Ok(false);
     }
+    follow(net, rules, event, reply, &mut notes.survey)?;
+    Ok(true)
+}
 
-    /// Whether an event that is not refused may have this reply.
-    fn may_accept(
-        &mut self,
-        rules: RuleSet,
-        spent: u64,
-        event: &Event,
-        reply: &Reply,
-        chosen: &mut Chosen,
-        survey: &mut Survey,
-    ) -> bool
-        requires accepted { refusal_of (table_of rules) self.old event.now ≡ None }
-        requires held { Holds (table_of rules) self.old chosen.old (items_of event.now) }
-        requires surveyed { IsSurvey self.old survey.old }
-        ensures value { IsTrue result ↔ Does (table_of rules) self.old spent event.now reply.now (followed self.old event.now reply.now) }
-        ensures kept { self.new ≡ self.old }
-        ensures within { IsWithin chosen.new (items_of event.now) }
-        ensures len { length chosen.new ≡ length chosen.old }
-        ensures surveyed { IsSurvey self.new survey.new }
-    {
-        match event {
-            Event::Link(_, _)
-            | Event::Unlink(_, _)
-            | Event::Point(_, _)
-            | Event::Flag(_, _)
-            | Event::Join(_)
-            | Event::Leave(_) => is_accepted(reply),
-            Event::Step(choice) => self.may_move(rules, choice.items(), reply, chosen),
-            Event::Show(v) => is_shown(self.pointer(*v), reply),
-            Event::Enabled => self.are_enabled(rules, reply, survey),
-            Event::Matching => self.are_mutual(rules, reply, survey),
-            Event::Status => self.has_counts(rules, spent, reply, survey),
-        }
+/// Whether an event that is not refused may have this reply.
+fn may_accept(
+    net: &mut NetState,
+    rules: RuleSet,
+    spent: u64,
+    event: &Event,
+    reply: &Reply,
+    notes: &mut Notes,
+) -> bool
+    requires accepted { refusal_of (table_of rules) net.old.state event.now ≡ None }
+    requires held { Holds (table_of rules) net.old.state notes.old.chosen (items_of event.now) }
+    requires surveyed { IsSurvey net.old.state notes.old.survey }
+    ensures value { IsTrue result ↔ Does (table_of rules) net.old.state spent event.now reply.now (followed net.old.state event.now reply.now) }
+    ensures kept { net.new.state ≡ net.old.state }
+    ensures within { IsWithin notes.new.chosen (items_of event.now) }
+    ensures len { length notes.new.chosen ≡ length notes.old.chosen }
+    ensures surveyed { IsSurvey net.new.state notes.new.survey }
+{
+    match event {
+        Event::Link(_, _)
+        | Event::Unlink(_, _)
+        | Event::Point(_, _)
+        | Event::Flag(_, _)
+        | Event::Join(_)
+        | Event::Leave(_) => is_accepted(reply),
+        Event::Step(choice) => may_move(net, rules, choice.items(), reply, &mut notes.chosen),
+        Event::Show(v) => is_shown(pointer(net, *v), reply),
+        Event::Enabled => are_enabled(net, rules, reply, &mut notes.survey),
+        Event::Matching => are_mutual(net, rules, reply, &mut notes.survey),
+        Event::Status => has_counts(net, rules, spent, reply, &mut notes.survey),
     }
+}
 
-    /// Whether a reply has the moves of a step of these items.
-    fn may_move(&self, rules: RuleSet, items: &[Item], reply: &Reply, chosen: &mut Chosen) -> bool
-        requires accepted { refusal_of (table_of rules) self.now (Event.Step items.now) ≡ None }
-        requires held { Holds (table_of rules) self.now chosen.old items.now }
-        ensures value { (spent : ℕ) → IsTrue result ↔ Does (table_of rules) self.now spent (Event.Step items.now) reply.now (followed self.now (Event.Step items.now) reply.now) }
-        ensures within { IsWithin chosen.new items.now }
-        ensures len { length chosen.new ≡ length chosen.old }
-    {
-        match reply {
-            Reply::Moves(moves) => self.is_step(rules, items, moves.as_slice(), chosen),
-            _ => false,
-        }
+/// Whether a reply has the moves of a step of these items.
+fn may_move(
+    net: &NetState,
+    rules: RuleSet,
+    items: &[Item],
+    reply: &Reply,
+    chosen: &mut Chosen,
+) -> bool
+    requires accepted { refusal_of (table_of rules) net.now.state (Event.Step items.now) ≡ None }
+    requires held { Holds (table_of rules) net.now.state chosen.old items.now }
+    ensures value { (spent : ℕ) → IsTrue result ↔ Does (table_of rules) net.now.state spent (Event.Step items.now) reply.now (followed net.now.state (Event.Step items.now) reply.now) }
+    ensures within { IsWithin chosen.new items.now }
+    ensures len { length chosen.new ≡ length chosen.old }
+{
+    match reply {
+        Reply::Moves(moves) => is_step(net, rules, items, moves.as_slice(), chosen),
+        _ => false,
     }
+}
 
-    /// Carries out an event as a reply says that the machine may give. What was counted is kept where the reply changes nothing.
-    fn follow(
-        &mut self,
-        rules: RuleSet,
-        event: &Event,
-        reply: &Reply,
-        survey: &mut Survey,
-    ) -> Result<(), Want>
-        requires surveyed { IsSurvey self.old survey.old }
-        requires accepted { refusal_of (table_of rules) self.old event.now ≡ None }
-        requires right { (spent : ℕ) × Does (table_of rules) self.old spent event.now reply.now (followed self.old event.now reply.now) }
-        ensures ok { OnOk result (self.new ≡ followed self.old event.now reply.now) }
-        ensures err { OnErr result (self.new ≡ self.old) }
-        ensures want { OnErr result (IsTrue (is_link event.now) × (reply.now ≡ Reply.Accepted)) }
-        ensures surveyed { IsSurvey self.new survey.new }
-    {
-        match reply {
-            Reply::Accepted => self.disturb(event, survey)?,
-            Reply::Moves(moves) => {
-                survey.forget();
-                self.make_moves(moves.as_slice());
-            }
-            _ => {}
+/// Carries out an event as a reply says that the machine may give. What was counted is kept where the reply changes nothing.
+fn follow(
+    net: &mut NetState,
+    rules: RuleSet,
+    event: &Event,
+    reply: &Reply,
+    survey: &mut Survey,
+) -> Result<(), Want>
+    requires surveyed { IsSurvey net.old.state survey.old }
+    requires accepted { refusal_of (table_of rules) net.old.state event.now ≡ None }
+    requires right { (spent : ℕ) × Does (table_of rules) net.old.state spent event.now reply.now (followed net.old.state event.now reply.now) }
+    ensures ok { OnOk result (net.new.state ≡ followed net.old.state event.now reply.now) }
+    ensures err { OnErr result (net.new.state ≡ net.old.state) }
+    ensures want { OnErr result (IsTrue (is_link event.now) × (reply.now ≡ Reply.Accepted)) }
+    ensures surveyed { IsSurvey net.new.state survey.new }
+{
+    match reply {
+        Reply::Accepted => disturb(net, event, survey)?,
+        Reply::Moves(moves) => {
+            survey.forget();
+            make_moves(net, moves.as_slice());
         }
-        Ok(())
+        _ => {}
     }
+    Ok(())
+}
 
-    /// Carries out a disturbance, and forgets what was counted before it. A step and a question do nothing.
-    fn disturb(&mut self, event: &Event, survey: &mut Survey) -> Result<(), Want>
-        requires surveyed { IsSurvey self.old survey.old }
-        requires accepted { (t : RuleTable) × (refusal_of t self.old event.now ≡ None) }
-        ensures ok { OnOk result (self.new ≡ disturbed self.old event.now) }
-        ensures err { OnErr result (self.new ≡ self.old) }
-        ensures want { OnErr result (IsTrue (is_link event.now)) }
-        ensures surveyed { IsSurvey self.new survey.new }
-    {
-        survey.forget();
-        match event {
-            Event::Link(a, b) => self.link(*a, *b)?,
-            Event::Unlink(a, b) => self.unlink(*a, *b),
-            Event::Point(v, target) => self.point(*v, *target),
-            Event::Flag(v, value) => self.set_flag(*v, *value),
-            Event::Join(v) => self.join(*v),
-            Event::Leave(v) => self.leave(*v),
-            Event::Step(_) | Event::Show(_) | Event::Enabled | Event::Matching | Event::Status => {}
-        }
-        Ok(())
+/// Carries out a disturbance, and forgets what was counted before it. A step and a question do nothing.
+fn disturb(net: &mut NetState, event: &Event, survey: &mut Survey) -> Result<(), Want>
+    requires surveyed { IsSurvey net.old.state survey.old }
+    requires accepted { (t : RuleTable) × (refusal_of t net.old.state event.now ≡ None) }
+    ensures ok { OnOk result (net.new.state ≡ disturbed net.old.state event.now) }
+    ensures err { OnErr result (net.new.state ≡ net.old.state) }
+    ensures want { OnErr result (IsTrue (is_link event.now)) }
+    ensures surveyed { IsSurvey net.new.state survey.new }
+{
+    survey.forget();
+    match event {
+        Event::Link(a, b) => link(net, *a, *b)?,
+        Event::Unlink(a, b) => unlink(net, *a, *b),
+        Event::Point(v, target) => point(net, *v, *target),
+        Event::Flag(v, value) => net.set_flag(*v, *value),
+        Event::Join(v) => net.join(*v),
+        Event::Leave(v) => leave(net, *v),
+        Event::Step(_) | Event::Show(_) | Event::Enabled | Event::Matching | Event::Status => {}
     }
+    Ok(())
 }

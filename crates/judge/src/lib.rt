@@ -4,14 +4,16 @@
 mod bases;
 mod choices;
 mod courted;
+mod edits;
 mod guards;
 mod judging;
 mod lines;
 mod looks;
-mod moves;
-mod net_state;
+mod names;
+mod notes;
 mod places;
 mod questions;
+mod reads;
 mod refusals;
 mod replay;
 mod replies;
@@ -25,6 +27,6 @@ mod targets;
 
 use choices::Chosen;
 use courted::Courted;
-use net_state::NetState;
+use notes::Notes;
 pub use replay::Judge;
 use survey::Survey;

@@ -7,6 +7,7 @@ ghost use Rattle.rule_machine.specs.State as state;
 ghost use Rattle.rule_machine.specs.Tables.{table_of};
 
 use crate::Judge;
+use crate::guards::rule_at;
 use rule_machine::{Act, Node, RuleSet};
 
 impl Judge {
@@ -68,6 +69,6 @@ impl Judge {
         requires { IsTrue (network.present self.now.network v) }
         ensures { result ≡ table.rule_at (table_of rules) self.now v }
     {
-        self.net.rule_at(rules, v, None)
+        rule_at(&self.net, rules, v, None)
     }
 }

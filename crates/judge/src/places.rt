@@ -1,43 +1,11 @@
 //! What a base tells of a network.
 
 ghost use Rattle.std.specs.Prelude.{◌≡◌, ◌≤◌, IfOk, length};
-ghost use Rattle.rule_machine.specs.Base.{base_of, places};
-ghost use Rattle.judge.specs.Bases.{place_in};
+ghost use Rattle.rule_machine.specs.Base.{base_of};
 
-use crate::{Judge, NetState};
-use rule_machine::{Base, Listing, Node, Place, Want};
+use crate::Judge;
+use rule_machine::{Base, Listing, Want};
 use std::alloc::Global;
-
-impl NetState {
-    /// A node with its registers; none where the name is absent.
-    fn place_of(&self, v: Node) -> Option<Place>
-        ensures { result ≡ place_in self.now v }
-    {
-        if !self.has(v) {
-            return None;
-        }
-        Some(Place {
-            node: v,
-            target: self.pointer(v),
-            flagged: self.flag(v),
-        })
-    }
-
-    /// The nodes with their registers, by rising names. A look at each name.
-    fn list_places(&self, alloc: Global) -> Result<Vec<Place>, Want>
-        ensures places { IfOk result (λ v. v.items ≡ places self.now) }
-        ensures few { IfOk result (λ v. length v.items ≤ 65535) }
-    {
-        let mut places = Vec::with_capacity(alloc, self.nodes() as usize)?;
-        for below in 0..self.capacity() {
-            let v = Node::new(below + 1).unwrap();
-            if let Some(place) = self.place_of(v) {
-                places.push(place)?;
-            }
-        }
-        Ok(places)
-    }
-}
 
 impl Judge {
     /// The base at which it stands, after so many entries and with these moves spent since the last accepted disturbance. Takes

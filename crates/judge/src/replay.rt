@@ -6,7 +6,10 @@ ghost use Rattle.rule_machine.specs.State.{State, opening, opening_with};
 ghost use Rattle.rule_machine.specs.Tables.{table_of};
 ghost use Rattle.judge.specs.Judging.{TakesMemory};
 
-use crate::{Chosen, NetState, Survey};
+use crate::Notes;
+use crate::edits::opened;
+use crate::judging::judge_reply;
+use net_state::NetState;
 use rule_machine::{Event, Reply, RuleSet, Want};
 use std::alloc::Global;
 use std::marker::Model;
@@ -18,8 +21,7 @@ use std::marker::Model;
 #[derive(Drop)]
 pub struct Judge {
     pub(crate) net: NetState,
-    chosen: Chosen,
-    survey: Survey,
+    notes: Notes,
 }
 
 impl Model for Judge {
@@ -30,9 +32,9 @@ impl Model for Judge {
 
     ghost coded = { state_code };
 
-    ghost view = { λ j. j.net };
+    ghost view = { λ j. j.net.state };
 
-    ghost invariant = { λ j. AreReady j.net j.chosen j.survey };
+    ghost invariant = { λ j. AreReady j.net.state j.notes };
 }
 
 impl Judge {
@@ -51,22 +53,17 @@ impl Judge {
         requires within { present ≤ nodes }
         ensures { IfOk result (λ judge. judge ≡ opening_with nodes present) }
     {
-        let net = NetState::with_present(alloc, nodes, present)?;
+        let net = opened(alloc, nodes, present)?;
         Judge::of_net(alloc, net)
     }
 
     /// The judge in the state of a network.
     pub(crate) fn of_net(alloc: Global, net: NetState) -> Result<Judge, Want>
-        ensures { IfOk result (λ judge. judge ≡ net) }
+        ensures { IfOk result (λ judge. judge ≡ net.state) }
     {
         let nodes = net.capacity();
-        let chosen = Chosen::new(alloc, nodes)?;
-        let survey = Survey::new(alloc, nodes)?;
-        Ok(Judge {
-            net,
-            chosen,
-            survey,
-        })
+        let notes = Notes::new(alloc, nodes)?;
+        Ok(Judge { net, notes })
     }
 
     /// Whether the machine may give this reply to the event, where these moves are spent since the last accepted
@@ -87,16 +84,9 @@ impl Judge {
         ensures err { OnErr result (self.new ≡ self.old) }
         ensures want { OnErr result (TakesMemory (table_of rules) self.old event.now reply.now) }
     {
-        let right = self.net.judge(
-            rules,
-            spent,
-            event,
-            reply,
-            &mut self.chosen,
-            &mut self.survey,
-        );
+        let right = judge_reply(&mut self.net, rules, spent, event, reply, &mut self.notes);
         if let Event::Step(choice) = event {
-            self.chosen.clear(choice.items());
+            self.notes.chosen.clear(choice.items());
         }
         right
     }

@@ -4,12 +4,11 @@ ghost use Rattle.std.specs.Prelude.{◌≡◌, ◌≤◌, None};
 ghost use Rattle.rule_machine.specs.State.{IsState, pointer};
 ghost use Rattle.judge.specs.Charging.{IsShare, nobody};
 ghost use Rattle.judge.specs.Courting.{IsCourting};
-ghost use Rattle.judge.specs.States.{state_of};
 
 use crate::Courted;
-use crate::scans::{courted_among, null_among};
-use graph_store::{EdgeStore, End};
-use registers::Registers;
+use crate::scans::{first_null_among, first_to_court_among};
+use graph_store::End;
+use net_state::NetState;
 use rule_machine::{Node, RuleSet};
 
 /// The share of a name in the numbers of a status: what it adds to the charge beside its edges, whether its pointer closes one of
@@ -39,36 +38,30 @@ fn no_share() -> Share
 
 /// The share of a name. Looks at the registers of the name and of its target, and at the neighbours of a node that may seduce.
 #[inline(always)]
-pub(crate) fn share_of(
-    store: &EdgeStore,
-    registers: &Registers,
-    rules: RuleSet,
-    v: Node,
-    courted: &Courted,
-) -> Share
-    requires within { v ≤ store.now.network.size }
-    requires sound { IsState (state_of store.now.network registers.now) }
-    requires courting { IsCourting (state_of store.now.network registers.now) courted.now }
-    ensures { IsShare rules (state_of store.now.network registers.now) v result }
+pub(crate) fn share_of(net: &NetState, rules: RuleSet, v: Node, courted: &Courted) -> Share
+    requires within { v ≤ net.now.state.network.size }
+    requires sound { IsState net.now.state }
+    requires courting { IsCourting net.now.state courted.now }
+    ensures { IsShare rules net.now.state v result }
 {
     match rules {
-        RuleSet::Hh => hsu_huang_share(store, registers, v, courted),
-        RuleSet::Manne => manne_share(store, registers, v, courted),
+        RuleSet::Hh => hsu_huang_share(net, v, courted),
+        RuleSet::Manne => manne_share(net, v, courted),
     }
 }
 
 /// The share of a name under Hsu and Huang's rules.
 #[inline(always)]
-fn hsu_huang_share(store: &EdgeStore, registers: &Registers, v: Node, courted: &Courted) -> Share
-    requires within { v ≤ store.now.network.size }
-    requires sound { IsState (state_of store.now.network registers.now) }
-    requires courting { IsCourting (state_of store.now.network registers.now) courted.now }
-    ensures { IsShare RuleSet.Hh (state_of store.now.network registers.now) v result }
+fn hsu_huang_share(net: &NetState, v: Node, courted: &Courted) -> Share
+    requires within { v ≤ net.now.state.network.size }
+    requires sound { IsState net.now.state }
+    requires courting { IsCourting net.now.state courted.now }
+    ensures { IsShare RuleSet.Hh net.now.state v result }
 {
-    let Some(w) = registers.pointer(v) else {
-        return hsu_huang_single(store, registers, v, courted);
+    let Some(w) = net.pointer(v) else {
+        return hsu_huang_single(net, v, courted);
     };
-    match registers.pointer(w) {
+    match net.pointer(w) {
         Some(back) if back == v => Share {
             pairs: u32::from(v < w),
             enabled: 0,
@@ -95,11 +88,11 @@ fn hsu_huang_share(store: &EdgeStore, registers: &Registers, v: Node, courted: &
 
 /// The same where it points nowhere: it is enabled where it has a suitor, or a neighbour that it may seduce.
 #[inline(always)]
-fn hsu_huang_single(store: &EdgeStore, registers: &Registers, v: Node, courted: &Courted) -> Share
-    requires null { pointer (state_of store.now.network registers.now) v ≡ None }
-    requires sound { IsState (state_of store.now.network registers.now) }
-    requires courting { IsCourting (state_of store.now.network registers.now) courted.now }
-    ensures { IsShare RuleSet.Hh (state_of store.now.network registers.now) v result }
+fn hsu_huang_single(net: &NetState, v: Node, courted: &Courted) -> Share
+    requires null { pointer net.now.state v ≡ None }
+    requires sound { IsState net.now.state }
+    requires courting { IsCourting net.now.state courted.now }
+    ensures { IsShare RuleSet.Hh net.now.state v result }
 {
     if courted.has(v) {
         return Share {
@@ -110,12 +103,12 @@ fn hsu_huang_single(store: &EdgeStore, registers: &Registers, v: Node, courted: 
             end: End::Courted,
         };
     }
-    if !store.has(v) {
+    if !net.has(v) {
         return no_share();
     }
     Share {
         pairs: 0,
-        enabled: u32::from(null_among(store.neighbours(v), registers).is_some()),
+        enabled: u32::from(first_null_among(net.neighbours(v), net).is_some()),
         added: 0,
         closing: 0,
         end: End::Free,
@@ -124,17 +117,17 @@ fn hsu_huang_single(store: &EdgeStore, registers: &Registers, v: Node, courted: 
 
 /// The share of a name under the rules of Manne and others.
 #[inline(always)]
-fn manne_share(store: &EdgeStore, registers: &Registers, v: Node, courted: &Courted) -> Share
-    requires within { v ≤ store.now.network.size }
-    requires sound { IsState (state_of store.now.network registers.now) }
-    requires courting { IsCourting (state_of store.now.network registers.now) courted.now }
-    ensures { IsShare RuleSet.Manne (state_of store.now.network registers.now) v result }
+fn manne_share(net: &NetState, v: Node, courted: &Courted) -> Share
+    requires within { v ≤ net.now.state.network.size }
+    requires sound { IsState net.now.state }
+    requires courting { IsCourting net.now.state courted.now }
+    ensures { IsShare RuleSet.Manne net.now.state v result }
 {
-    let Some(w) = registers.pointer(v) else {
-        return manne_single(store, registers, v, courted);
+    let Some(w) = net.pointer(v) else {
+        return manne_single(net, v, courted);
     };
-    let is_flagged = registers.flag(v);
-    if registers.points_at(w, v) {
+    let is_flagged = net.flag(v);
+    if net.points(w, v) {
         let late = u32::from(!is_flagged);
         return Share {
             pairs: u32::from(v < w),
@@ -144,32 +137,32 @@ fn manne_share(store: &EdgeStore, registers: &Registers, v: Node, courted: &Cour
             end: End::Shut,
         };
     }
-    let is_vain = registers.flag(w) || w <= v;
+    let is_vain = net.flag(w) || w <= v;
     Share {
         pairs: 0,
         enabled: u32::from(is_flagged || is_vain),
         added: 2 + u32::from(is_flagged),
-        closing: u32::from(!is_vain && !registers.married(w)),
+        closing: u32::from(!is_vain && !net.married(w)),
         end: End::Free,
     }
 }
 
 /// The same where it points nowhere: it is enabled where it has a suitor, or a neighbour that it may seduce.
 #[inline(always)]
-fn manne_single(store: &EdgeStore, registers: &Registers, v: Node, courted: &Courted) -> Share
-    requires null { pointer (state_of store.now.network registers.now) v ≡ None }
-    requires within { v ≤ store.now.network.size }
-    requires sound { IsState (state_of store.now.network registers.now) }
-    requires courting { IsCourting (state_of store.now.network registers.now) courted.now }
-    ensures { IsShare RuleSet.Manne (state_of store.now.network registers.now) v result }
+fn manne_single(net: &NetState, v: Node, courted: &Courted) -> Share
+    requires null { pointer net.now.state v ≡ None }
+    requires within { v ≤ net.now.state.network.size }
+    requires sound { IsState net.now.state }
+    requires courting { IsCourting net.now.state courted.now }
+    ensures { IsShare RuleSet.Manne net.now.state v result }
 {
-    if !store.has(v) {
+    if !net.has(v) {
         return no_share();
     }
-    let is_flagged = registers.flag(v);
+    let is_flagged = net.flag(v);
     let is_enabled = is_flagged
         || courted.has(v)
-        || courted_among(store.neighbours(v), registers, v).is_some();
+        || first_to_court_among(net.neighbours(v), net, v).is_some();
     Share {
         pairs: 0,
         enabled: u32::from(is_enabled),

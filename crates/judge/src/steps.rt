@@ -11,159 +11,165 @@ ghost use Rattle.rule_machine.specs.Tables.{table_of};
 ghost use Rattle.machine_laws.specs.Judged as judged;
 ghost use Rattle.judge.specs.Choices.{item_at, Holds, IsWithin, IsClear, IsRuled, AreRuled, refused_item, is_move_by};
 
+use crate::Chosen;
 use crate::choices::RuledItem;
-use crate::{Chosen, NetState};
+use crate::guards::rule_at;
+use crate::targets::{is_allowed, is_target};
+use net_state::NetState;
 use rule_machine::{Act, Item, Moved, Refusal, RuleSet};
 
-impl NetState {
-    /// Why a step is refused, if it is. The items up to the first that is refused stand at their nodes then.
-    pub(crate) fn step_refusal(
-        &self,
-        rules: RuleSet,
-        items: &[Item],
-        chosen: &mut Chosen,
-    ) -> Option<Refusal>
-        requires clear { IsClear chosen.old }
-        requires len { length chosen.old ≡ self.now.network.size + 1 }
-        ensures value { result ≡ refuse.step_refusal (table_of rules) self.now items.now }
-        ensures held { result ≡ None → Holds (table_of rules) self.now chosen.new items.now }
-        ensures within { IsWithin chosen.new items.now }
-        ensures len { length chosen.new ≡ length chosen.old }
-    {
-        if items.is_empty() {
-            return Some(Refusal::EmptyChoice);
-        }
-        match rules {
-            RuleSet::Hh if items.len() > 1 => Some(Refusal::NotCentral),
-            _ => self.items_refusal(rules, items, chosen),
-        }
+/// Why a step is refused, if it is. The items up to the first that is refused stand at their nodes then.
+pub(crate) fn step_refusal(
+    net: &NetState,
+    rules: RuleSet,
+    items: &[Item],
+    chosen: &mut Chosen,
+) -> Option<Refusal>
+    requires clear { IsClear chosen.old }
+    requires len { length chosen.old ≡ net.now.state.network.size + 1 }
+    ensures value { result ≡ refuse.step_refusal (table_of rules) net.now.state items.now }
+    ensures held { result ≡ None → Holds (table_of rules) net.now.state chosen.new items.now }
+    ensures within { IsWithin chosen.new items.now }
+    ensures len { length chosen.new ≡ length chosen.old }
+{
+    if items.is_empty() {
+        return Some(Refusal::EmptyChoice);
     }
-
-    /// The first refusal of an item.
-    fn items_refusal(&self, rules: RuleSet, items: &[Item], chosen: &mut Chosen) -> Option<Refusal>
-        requires clear { IsClear chosen.old }
-        requires len { length chosen.old ≡ self.now.network.size + 1 }
-        ensures value { result ≡ refuse.items_refusal (table_of rules) self.now [] items.now }
-        ensures held { result ≡ None → Holds (table_of rules) self.now chosen.new items.now }
-        ensures within { IsWithin chosen.new items.now }
-        ensures len { length chosen.new ≡ length chosen.old }
-    {
-        for item in items {
-            let twice = chosen.get(item.node).is_some();
-            match self.taken(rules, *item, twice) {
-                Ok(act) => chosen.put(*item, act),
-                Err(refusal) => return Some(refusal),
-            }
-        }
-        None
+    match rules {
+        RuleSet::Hh if items.len() > 1 => Some(Refusal::NotCentral),
+        _ => items_refusal(net, rules, items, chosen),
     }
+}
 
-    /// The rule of an item's node, or why the item is refused, where its node may have been chosen before.
-    fn taken(&self, rules: RuleSet, item: Item, twice: bool) -> Result<Act, Refusal>
-        ensures { MatchResult result (λ act. (refused_item (table_of rules) self.now item twice ≡ None) × IsRuled (table_of rules) self.now item act) (λ refusal. refused_item (table_of rules) self.now item twice ≡ Some refusal) }
-    {
-        if !self.has(item.node) {
-            Err(Refusal::UnknownNode)
-        } else if twice {
-            Err(Refusal::ChosenTwice)
-        } else {
-            self.ruled(rules, item)
+/// The first refusal of an item.
+fn items_refusal(
+    net: &NetState,
+    rules: RuleSet,
+    items: &[Item],
+    chosen: &mut Chosen,
+) -> Option<Refusal>
+    requires clear { IsClear chosen.old }
+    requires len { length chosen.old ≡ net.now.state.network.size + 1 }
+    ensures value { result ≡ refuse.items_refusal (table_of rules) net.now.state [] items.now }
+    ensures held { result ≡ None → Holds (table_of rules) net.now.state chosen.new items.now }
+    ensures within { IsWithin chosen.new items.now }
+    ensures len { length chosen.new ≡ length chosen.old }
+{
+    for item in items {
+        let twice = chosen.get(item.node).is_some();
+        match taken(net, rules, *item, twice) {
+            Ok(act) => chosen.put(*item, act),
+            Err(refusal) => return Some(refusal),
         }
     }
+    None
+}
 
-    /// The rule of an item's node, or why there is none that the item may have.
-    fn ruled(&self, rules: RuleSet, item: Item) -> Result<Act, Refusal>
-        requires { IsTrue (present self.now.network item.node) }
-        ensures { MatchResult result (λ act. (refuse.rule_refusal (table_of rules) self.now item (rule_at (table_of rules) self.now item.node) ≡ None) × IsRuled (table_of rules) self.now item act) (λ refusal. refuse.rule_refusal (table_of rules) self.now item (rule_at (table_of rules) self.now item.node) ≡ Some refusal) }
-    {
-        match self.rule_at(rules, item.node, None) {
-            Some(act) if self.allows_wish(rules, act, item) => Ok(act),
-            Some(_) => Err(Refusal::BadTarget),
-            None => Err(Refusal::NotEnabled),
-        }
+/// The rule of an item's node, or why the item is refused, where its node may have been chosen before.
+fn taken(net: &NetState, rules: RuleSet, item: Item, twice: bool) -> Result<Act, Refusal>
+    ensures { MatchResult result (λ act. (refused_item (table_of rules) net.now.state item twice ≡ None) × IsRuled (table_of rules) net.now.state item act) (λ refusal. refused_item (table_of rules) net.now.state item twice ≡ Some refusal) }
+{
+    if !net.has(item.node) {
+        Err(Refusal::UnknownNode)
+    } else if twice {
+        Err(Refusal::ChosenTwice)
+    } else {
+        ruled(net, rules, item)
     }
+}
 
-    /// Whether a rule allows what an item wishes, if it wishes anything.
-    fn allows_wish(&self, rules: RuleSet, act: Act, item: Item) -> bool
-        ensures { IsTrue result ↔ IfSome item.wish (λ w. IsTrue ((table_of rules).allowed self.now item.node act w)) }
-    {
-        match item.wish {
-            Some(w) => self.is_allowed(rules, item.node, act, w),
-            None => true,
-        }
+/// The rule of an item's node, or why there is none that the item may have.
+fn ruled(net: &NetState, rules: RuleSet, item: Item) -> Result<Act, Refusal>
+    requires { IsTrue (present net.now.state.network item.node) }
+    ensures { MatchResult result (λ act. (refuse.rule_refusal (table_of rules) net.now.state item (rule_at (table_of rules) net.now.state item.node) ≡ None) × IsRuled (table_of rules) net.now.state item act) (λ refusal. refuse.rule_refusal (table_of rules) net.now.state item (rule_at (table_of rules) net.now.state item.node) ≡ Some refusal) }
+{
+    match rule_at(net, rules, item.node, None) {
+        Some(act) if allows_wish(net, rules, act, item) => Ok(act),
+        Some(_) => Err(Refusal::BadTarget),
+        None => Err(Refusal::NotEnabled),
     }
+}
 
-    /// Whether these are the moves of one step of the items, which stand at their nodes: some, one under a central
-    /// daemon, ascending by node, each what an item asks for, and each item with one. Takes the movers' items out.
-    pub(crate) fn is_step(
-        &self,
-        rules: RuleSet,
-        items: &[Item],
-        moves: &[Moved],
-        chosen: &mut Chosen,
-    ) -> bool
-        requires accepted { refuse.step_refusal (table_of rules) self.now items.now ≡ None }
-        requires held { Holds (table_of rules) self.now chosen.old items.now }
-        ensures value { IsTrue result ↔ IsStep (table_of rules) self.now items.now moves.now (after_moves self.now moves.now) }
-        ensures within { IsWithin chosen.new items.now }
-        ensures len { length chosen.new ≡ length chosen.old }
-    {
-        are_ascending(moves) && self.are_of_items(rules, items, moves, chosen)
+/// Whether a rule allows what an item wishes, if it wishes anything.
+fn allows_wish(net: &NetState, rules: RuleSet, act: Act, item: Item) -> bool
+    ensures { IsTrue result ↔ IfSome item.wish (λ w. IsTrue ((table_of rules).allowed net.now.state item.node act w)) }
+{
+    match item.wish {
+        Some(w) => is_allowed(net, rules, item.node, act, w),
+        None => true,
     }
+}
 
-    /// Whether there are as many moves as the daemon lets through, each move is one that an item asks for, and each item
-    /// has a move. Takes the movers' items out, so that an item that is left has none.
-    fn are_of_items(
-        &self,
-        rules: RuleSet,
-        items: &[Item],
-        moves: &[Moved],
-        chosen: &mut Chosen,
-    ) -> bool
-        requires accepted { refuse.step_refusal (table_of rules) self.now items.now ≡ None }
-        requires held { Holds (table_of rules) self.now chosen.old items.now }
-        ensures value { result ≡ judged.are_of_items (table_of rules) self.now items.now moves.now }
-        ensures within { IsWithin chosen.new items.now }
-        ensures len { length chosen.new ≡ length chosen.old }
-    {
-        if !fits_daemon(rules, moves) || !self.are_asked(rules, moves, chosen) {
+/// Whether these are the moves of one step of the items, which stand at their nodes: some, one under a central
+/// daemon, ascending by node, each what an item asks for, and each item with one. Takes the movers' items out.
+pub(crate) fn is_step(
+    net: &NetState,
+    rules: RuleSet,
+    items: &[Item],
+    moves: &[Moved],
+    chosen: &mut Chosen,
+) -> bool
+    requires accepted { refuse.step_refusal (table_of rules) net.now.state items.now ≡ None }
+    requires held { Holds (table_of rules) net.now.state chosen.old items.now }
+    ensures value { IsTrue result ↔ IsStep (table_of rules) net.now.state items.now moves.now (after_moves net.now.state moves.now) }
+    ensures within { IsWithin chosen.new items.now }
+    ensures len { length chosen.new ≡ length chosen.old }
+{
+    are_ascending(moves) && are_of_items(net, rules, items, moves, chosen)
+}
+
+/// Whether there are as many moves as the daemon lets through, each move is one that an item asks for, and each item
+/// has a move. Takes the movers' items out, so that an item that is left has none.
+fn are_of_items(
+    net: &NetState,
+    rules: RuleSet,
+    items: &[Item],
+    moves: &[Moved],
+    chosen: &mut Chosen,
+) -> bool
+    requires accepted { refuse.step_refusal (table_of rules) net.now.state items.now ≡ None }
+    requires held { Holds (table_of rules) net.now.state chosen.old items.now }
+    ensures value { result ≡ judged.are_of_items (table_of rules) net.now.state items.now moves.now }
+    ensures within { IsWithin chosen.new items.now }
+    ensures len { length chosen.new ≡ length chosen.old }
+{
+    if !fits_daemon(rules, moves) || !are_asked(net, rules, moves, chosen) {
+        return false;
+    }
+    chosen.take_movers(moves);
+    chosen.has_none(items)
+}
+
+/// Whether each move is one that the item at its node asks for.
+fn are_asked(net: &NetState, rules: RuleSet, moves: &[Moved], chosen: &Chosen) -> bool
+    requires { AreRuled (table_of rules) net.now.state chosen.now }
+    ensures { result ≡ list_all (λ m. is_move_by (table_of rules) net.now.state (item_at chosen.now m.node) m) moves.now }
+{
+    for &made in moves {
+        if !is_asked(net, rules, chosen.get(made.node), made) {
             return false;
         }
-        chosen.take_movers(moves);
-        chosen.has_none(items)
     }
+    true
+}
 
-    /// Whether each move is one that the item at its node asks for.
-    fn are_asked(&self, rules: RuleSet, moves: &[Moved], chosen: &Chosen) -> bool
-        requires { AreRuled (table_of rules) self.now chosen.now }
-        ensures { result ≡ list_all (λ m. is_move_by (table_of rules) self.now (item_at chosen.now m.node) m) moves.now }
-    {
-        for &made in moves {
-            if !self.is_asked(rules, chosen.get(made.node), made) {
-                return false;
-            }
-        }
-        true
+/// Whether there is an item, and it asks for this move.
+fn is_asked(net: &NetState, rules: RuleSet, ruled: Option<RuledItem>, made: Moved) -> bool
+    requires { IfSome ruled (λ r. IsRuled (table_of rules) net.now.state r.item r.act) }
+    ensures { result ≡ is_move_by (table_of rules) net.now.state (option_map (λ r. r.item) ruled) made }
+{
+    match ruled {
+        Some(ruled) => is_move_of(net, rules, ruled.act, ruled.item, made),
+        None => false,
     }
+}
 
-    /// Whether there is an item, and it asks for this move.
-    fn is_asked(&self, rules: RuleSet, ruled: Option<RuledItem>, made: Moved) -> bool
-        requires { IfSome ruled (λ r. IsRuled (table_of rules) self.now r.item r.act) }
-        ensures { result ≡ is_move_by (table_of rules) self.now (option_map (λ r. r.item) ruled) made }
-    {
-        match ruled {
-            Some(ruled) => self.is_move_of(rules, ruled.act, ruled.item, made),
-            None => false,
-        }
-    }
-
-    /// Whether a move is one that an item asks for, by the rule of its node.
-    fn is_move_of(&self, rules: RuleSet, act: Act, item: Item, made: Moved) -> bool
-        requires { IsRuled (table_of rules) self.now item act }
-        ensures { result ≡ judged.is_move_of (table_of rules) self.now item made }
-    {
-        made.node == item.node && made.act == act && self.is_target(rules, act, item, made.target)
-    }
+/// Whether a move is one that an item asks for, by the rule of its node.
+fn is_move_of(net: &NetState, rules: RuleSet, act: Act, item: Item, made: Moved) -> bool
+    requires { IsRuled (table_of rules) net.now.state item act }
+    ensures { result ≡ judged.is_move_of (table_of rules) net.now.state item made }
+{
+    made.node == item.node && made.act == act && is_target(net, rules, act, item, made.target)
 }
 
 /// Whether there are as many moves as the daemon lets through: some, and one under a central daemon.

@@ -4,8 +4,9 @@ ghost use Rattle.std.specs.Prelude.{◌≡◌, ◌+◌, ◌≤◌, IfOk, None, l
 ghost use Rattle.judge.specs.Courting.{IsCourting};
 ghost use Rattle.judge.specs.Surveying.{IsSurvey, IsTally};
 
+use crate::Courted;
 use crate::tally::{Tally, tally_all};
-use crate::{Courted, NetState};
+use net_state::NetState;
 use rule_machine::{RuleSet, Want};
 use std::alloc::Global;
 
@@ -40,11 +41,11 @@ impl Survey {
 
     /// The tally of a network by these rules: what is kept where it is by them, and else what is found anew.
     pub(crate) fn tally(&mut self, rules: RuleSet, net: &mut NetState) -> Tally
-        requires { IsSurvey net.old self.old }
-        ensures value { IsTally rules net.old result }
-        ensures courting { IsCourting net.old self.new.courted }
-        ensures kept { net.new ≡ net.old }
-        ensures surveyed { IsSurvey net.new self.new }
+        requires { IsSurvey net.old.state self.old }
+        ensures value { IsTally rules net.old.state result }
+        ensures courting { IsCourting net.old.state self.new.courted }
+        ensures kept { net.new.state ≡ net.old.state }
+        ensures surveyed { IsSurvey net.new.state self.new }
     {
         let kept = self.tally;
         match kept {
@@ -55,14 +56,14 @@ impl Survey {
 
     /// Finds the marks and the tally of a network anew.
     fn find(&mut self, rules: RuleSet, net: &mut NetState) -> Tally
-        requires { length self.old.courted ≡ net.old.network.size + 1 }
-        ensures value { IsTally rules net.old result }
-        ensures courting { IsCourting net.old self.new.courted }
-        ensures kept { net.new ≡ net.old }
-        ensures surveyed { IsSurvey net.new self.new }
+        requires { length self.old.courted ≡ net.old.state.network.size + 1 }
+        ensures value { IsTally rules net.old.state result }
+        ensures courting { IsCourting net.old.state self.new.courted }
+        ensures kept { net.new.state ≡ net.old.state }
+        ensures surveyed { IsSurvey net.new.state self.new }
     {
         self.courted.find(net);
-        let tally = tally_all(&mut net.store, &net.registers, rules, &self.courted);
+        let tally = tally_all(net, rules, &self.courted);
         self.tally = Some(tally);
         tally
     }

@@ -1,16 +1,13 @@
 //! What is counted at the names.
 
 ghost use Rattle.std.specs.Prelude.{◌≡◌};
-ghost use Rattle.rule_machine.specs.State.{IsState};
 ghost use Rattle.judge.specs.Courting.{IsCourting};
-ghost use Rattle.judge.specs.States.{state_of};
 ghost use Rattle.judge.specs.Surveying.{IsTally};
 
 use crate::Courted;
-use crate::net_state::node_above;
+use crate::names::node_above;
 use crate::shares::share_of;
-use graph_store::EdgeStore;
-use registers::Registers;
+use net_state::NetState;
 use rule_machine::RuleSet;
 
 /// What a status counts, and by which rules.
@@ -26,31 +23,25 @@ pub(crate) struct Tally {
 /// at every name, at the neighbours of the nodes that may seduce, and at those of the nodes whose edges count otherwise than at the
 /// last time.
 #[inline(never)]
-pub(crate) fn tally_all(
-    store: &mut EdgeStore,
-    registers: &Registers,
-    rules: RuleSet,
-    courted: &Courted,
-) -> Tally
-    requires sound { IsState (state_of store.old.network registers.now) }
-    requires courting { IsCourting (state_of store.old.network registers.now) courted.now }
-    ensures value { IsTally rules (state_of store.old.network registers.now) result }
-    ensures kept { store.new.network ≡ store.old.network }
+pub(crate) fn tally_all(net: &mut NetState, rules: RuleSet, courted: &Courted) -> Tally
+    requires courting { IsCourting net.old.state courted.now }
+    ensures value { IsTally rules net.old.state result }
+    ensures kept { net.new.state ≡ net.old.state }
 {
     let mut pairs = 0;
     let mut enabled = 0;
     let mut added = 0;
     let mut closing = 0;
-    for below in 0..store.capacity() as u16 {
+    for below in 0..net.capacity() as u16 {
         let v = node_above(below);
-        let share = share_of(store, registers, rules, v, courted);
-        store.turn(v, share.end);
+        let share = share_of(net, rules, v, courted);
+        net.turn(v, share.end);
         pairs += share.pairs;
         enabled += share.enabled;
         added += share.added;
         closing += share.closing;
     }
-    let charge = 2 * store.open_edges() + added - 2 * closing;
+    let charge = 2 * net.open_edges() + added - 2 * closing;
     Tally {
         rules,
         pairs,

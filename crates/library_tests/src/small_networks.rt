@@ -158,7 +158,7 @@ impl<R: Rules> Twins<R> {
     }
 
     /// Compares how the charge has fallen with the moves that came.
-    fn expect_paid(&self, rt: &impl Abort, before: u32, moves: u32) {
+    fn expect_paid(&mut self, rt: &impl Abort, before: u32, moves: u32) {
         let after = self.net.charge();
         assert!(rt;
             after.saturating_add(moves) <= before,

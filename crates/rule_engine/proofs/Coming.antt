@@ -1,20 +1,16 @@
 -- Nodes that join and leave: what is shown at the others, and that the set of the enabled nodes is kept.
-use Rattle.std.proofs.Common.{◌≡◌, ℕ, ◌<◌, ◌≤◌, Bool, true, false, cond, is_some, not, List, [], length, set, get_or, nat_eq, Option, None, Some, IfSome, MatchOption, IsTrue, refl, sym, ap, ◌∙◌, subst, ⊎_elim, arith}
-use Rattle.std.proofs.lemmas.Bool.{and_parts, and_from, cases_lt, false_from_ne_true, le-leb, ne_eqb, true≢false}
+use Rattle.std.proofs.Common.{◌≡◌, ℕ, ◌<◌, ◌≤◌, Bool, true, false, cond, is_some, List, length, set, get_or, nat_eq, None, IsTrue, refl, sym, ap, ◌∙◌, subst, ⊎_elim, arith}
+use Rattle.std.proofs.lemmas.Bool.{and_parts, and_from, cases_lt, false_from_ne_true, le-leb, true≢false}
 use Rattle.std.proofs.lemmas.List.{get_or-set_same, get_or_past, length-set}
-use Rattle.rule_machine.specs.declared.refusal.Refusal.TheVariants.{UnknownNode, SelfLoop, NotLinked}
-use Rattle.rule_machine.specs.Network.{Network, IsNetwork, present, linked, neighbours, with_node}
+use Rattle.rule_machine.specs.Network.{Network, IsNetwork, present, with_node}
 use Rattle.rule_machine.specs.State.{State, IsState}
 use Rattle.rule_machine.specs.RuleTable.{RuleTable, rule_at}
 use Rattle.rule_machine.specs.Disturbance.{after_join}
-use Rattle.rule_machine.specs.Refuse.{both_present, unlink_refusal}
-use Rattle.rule_set.specs.Near.{IsNear, SameAt}
-use Rattle.machine_laws.specs.Edges.{linked_comm, present_other}
+use Rattle.rule_set.specs.Near.{SameAt}
+use Rattle.machine_laws.specs.Edges.{present_other}
 use Rattle.machine_laws.specs.Keeps.{join_keeps}
-use Rattle.machine_laws.specs.Leaves.{after_parting}
-use Rattle.machine_laws.specs.Neighbours.{linked_apart, linked_back, linked_present, neighbours_range}
-use Rattle.machine_laws.specs.Writes.{flag-with_flag_other}
-use Rattle.machine_laws.specs.Parted.{no_edge}
+use Rattle.net_state.specs.Held.{without_place}
+use Rattle.machine_laws.specs.Neighbours.{neighbours_range}
 use Rattle.rule_engine.specs.Kept.{is_on, IsKept}
 use Rattle.rule_engine.specs.Looked.{IsLookedAt}
 use Rattle.rule_engine.proofs.Again.{IsLocal, kept_again}
@@ -46,22 +42,6 @@ kept_joined t local s u v bits bits' kept low is done =
 
 -- ---- a node that leaves
 
--- its edges can be removed
-linked_ends : (net : Network) (v w : ℕ) → IsNetwork net → IsTrue (linked net v w) → (shown same : Bool) → shown ≡ true → same ≡ false → cond (not shown) (Some UnknownNode) (cond same (Some SelfLoop) (cond (linked net v w) None (Some NotLinked))) ≡ None
-linked_ends net v w good there true false has apart = ap (λ b. cond b None (Some NotLinked)) there
-linked_ends net v w good there true true has apart = absurd cc
-linked_ends net v w good there false same has apart = absurd cc
-
-pub edge_unlinks : (net : Network) (v w : ℕ) → IsNetwork net → IsTrue (linked net v w) → unlink_refusal net v w ≡ None
-edge_unlinks net v w good there =
-    linked_ends net v w good there (both_present net v w) (nat_eq v w)
-    (and_from (present net v) (present net w) (linked_present net v w good there) (linked_present net w v good (linked_back net w v ∙ there)))
-    (ne_eqb v w (linked_apart net v w good there))
-
-pub edges_unlink : (net : Network) (v : ℕ) (o : Option ℕ) → IsNetwork net → MatchOption o (neighbours net v ≡ []) (λ w. IsTrue (linked net v w)) → IfSome o (λ w. unlink_refusal net v w ≡ None)
-edges_unlink net v None good is = tt
-edges_unlink net v (Some w) good is = edge_unlinks net v w good is
-
 -- it is absent then
 pub parted_absent : (net : Network) (v : ℕ) → present (record net { here = set net.here v false }) v ≡ false
 parted_absent net v =
@@ -74,21 +54,14 @@ parted_absent net v =
         (λ (past : length row ≤ v). get_or_past (set row v false) v false (let same = length-set row v false in omega (arith, same)))
         (cases_lt v (length row))
 
--- what is shown at another name stays where a node without an edge goes
-pub part_far : (s : State) (v w : ℕ) → IsState s → IsState (after_parting s v) → neighbours s.network v ≡ [] → (w ≡ v → ⊥) → SameAt s (after_parting s v) w
-part_far s v w good good' none apart = record {
-  neighbours = neighbours_range s.network w good.is_network ∙ sym (neighbours_range (after_parting s v).network w good'.is_network);
+-- what is shown at another name stays where the name of a node without an edge is freed
+pub part_far : (s : State) (v w : ℕ) → IsState s → IsState (without_place s v) → SameAt s (without_place s v) w
+part_far s v w good good' = record {
+  neighbours = neighbours_range s.network w good.is_network ∙ sym (neighbours_range (without_place s v).network w good'.is_network);
   linked = λ x. refl;
   pointers = λ x near. refl;
-  flags = λ x near. sym (flag-with_flag_other s.registers v false x (other x near));
+  flags = λ x near. refl;
 }
-  where
-    other : (x : ℕ) → IsNear s w x → x ≡ v → ⊥
-    other x near at =
-        ⊎_elim
-        (λ (here : x ≡ w). apart (sym here ∙ at))
-        (λ (there : IsTrue (linked s.network w x)). true≢false (sym there ∙ ap (linked s.network w) at ∙ linked_comm s.network w v ∙ no_edge s.network v good.is_network none w))
-        near
 
 -- and no rule is enabled there
 pub absent_off : (t : RuleTable) (q : State) (v : ℕ) → present q.network v ≡ false → is_on t q v ≡ false

@@ -19,4 +19,3 @@ pub mod Ascending
 pub mod Moments
 pub mod Counted
 pub mod NextVerdict
-pub mod Placed

@@ -1,8 +1,7 @@
 -- Looks again at nodes, one after another.
-use Rattle.std.proofs.Common.{◌≡◌, ℕ, zero, suc, ◌+◌, ◌<◌, ◌≤◌, Bool, true, false, cond, ◌&&◌, ◌||◌, List, [], ◌∷◌, length, take, set, get_or, filter, find, Some, is_some, nat_eq, refl, sym, ap, ap₂, ◌∙◌, ⊎_elim, arith}
+use Rattle.std.proofs.Common.{◌≡◌, ℕ, zero, suc, ◌+◌, ◌<◌, ◌≤◌, Bool, true, false, cond, ◌&&◌, ◌||◌, List, [], ◌∷◌, length, take, get_or, filter, find, Some, is_some, nat_eq, refl, sym, ap, ap₂, ◌∙◌, ⊎_elim, arith}
 use Rattle.std.specs.List.{list_any, range_with_len}
-use Rattle.std.proofs.lemmas.Bool.{cases_Bool, cases_eq, eq-eqb, eqb-true, ne_eqb, or_parts, or_right, true≢false, cond-true, cond-false}
-use Rattle.std.proofs.lemmas.List.{length-set, get_or-set_same, get_or-set_other}
+use Rattle.std.proofs.lemmas.Bool.{cases_Bool, cases_eq, eq-eqb, eqb-true, ne_eqb, or_parts, or_right, true≢false}
 use Rattle.std.proofs.lemmas.List.Folds.{list_any_more}
 use Rattle.rule_machine.specs.Network.{Network, IsNetwork, linked, neighbours}
 use Rattle.rule_machine.specs.State.{State, suits, has_suitor}
@@ -10,16 +9,6 @@ use Rattle.rule_machine.specs.RuleTable.{RuleTable}
 use Rattle.machine_laws.specs.Neighbours.{present_range, linked_present, linked_back, neighbours_range}
 use Rattle.rule_engine.specs.Kept.{is_on}
 use Rattle.rule_engine.specs.Looked.{is_suitor, IsLookedAt}
-
--- a look at one node
-pub looked_one : (t : RuleTable) (s : State) (v : ℕ) (bits : List Bool) (b : Bool) → v < length bits → b ≡ is_on t s v → IsLookedAt t s (λ w. nat_eq w v) bits (set bits v b)
-looked_one t s v bits b within is = record {
-  places = length-set bits v b;
-  each = λ w. ⊎_elim
-      (λ (same : w ≡ v). ap (λ x. get_or (set bits v b) x false) same ∙ get_or-set_same bits v b false within ∙ is ∙ ap (is_on t s) (sym same) ∙ sym (cond-true (nat_eq w v) (is_on t s w) (get_or bits w false) (eq-eqb w v same)))
-      (λ (apart : w ≡ v → ⊥). get_or-set_other bits v w b false apart ∙ sym (cond-false (nat_eq w v) (is_on t s w) (get_or bits w false) (ne_eqb w v apart)))
-      (cases_eq w v);
-}
 
 -- no look
 pub looked_none : (t : RuleTable) (s : State) (bits : List Bool) → IsLookedAt t s (λ w. false) bits bits

@@ -1,28 +1,23 @@
 -- Replies that are prepared.
-use Rattle.std.proofs.Common.{◌≡◌, ℕ, Bool, true, false, cond, not, nat_eq, nat_le, List, [], ◌∷◌, length, Option, None, Some, Result, Ok, Err, IfOk, OnOk, OnErr, IsTrue, refl, sym, ap, subst, ◌∙◌}
+use Rattle.std.proofs.Common.{◌≡◌, ℕ, Bool, true, false, cond, not, List, [], ◌∷◌, length, Option, None, Some, Result, Ok, Err, IfOk, OnOk, OnErr, IsTrue, refl, sym, ap, subst, ◌∙◌}
 use Rattle.std.specs.Option.{option_or}
 use Rattle.std.proofs.lemmas.Bool.{and_parts}
-use Rattle.graph_store.specs.declared.fault.GraphFault.{GraphFault}
-use Rattle.graph_store.specs.declared.fault.GraphFault.TheVariants as store
-use Rattle.graph_store.specs.Fault.{link_fault, Explains}
-use Rattle.graph_store.specs.Graph.{HasRoomFor}
 use Rattle.indexed_state.specs.Indexed.{Indexed}
 use Rattle.rule_machine.specs.declared.choice.Item.{Item}
 use Rattle.rule_machine.specs.declared.event.Event.{Event}
-use Rattle.rule_machine.specs.declared.event.Event.TheVariants.{Link, Step}
+use Rattle.rule_machine.specs.declared.event.Event.TheVariants.{Step}
 use Rattle.rule_machine.specs.declared.moved.Moved.{Moved}
 use Rattle.rule_machine.specs.declared.reply.Reply.{Reply}
-use Rattle.rule_machine.specs.declared.reply.Reply.TheVariants.{Accepted, Refused, Moves}
+use Rattle.rule_machine.specs.declared.reply.Reply.TheVariants.{Refused, Moves}
 use Rattle.rule_machine.specs.declared.refusal.Refusal.{Refusal}
-use Rattle.rule_machine.specs.declared.refusal.Refusal.TheVariants.{UnknownNode, SelfLoop, AlreadyLinked, TooManyEdges}
-use Rattle.rule_machine.specs.Network.{Network, present, linked, edge_count}
+use Rattle.rule_machine.specs.declared.refusal.Refusal.TheVariants.{UnknownNode}
+use Rattle.rule_machine.specs.Network.{Network, present}
 use Rattle.rule_machine.specs.State.{State}
 use Rattle.rule_machine.specs.RuleTable.{RuleTable}
-use Rattle.rule_machine.specs.Refuse.{refusal_of, both_present, max_edges, items_refusal, link_refusal, step_refusal}
+use Rattle.rule_machine.specs.Refuse.{refusal_of, both_present, items_refusal, link_refusal, step_refusal}
 use Rattle.rule_machine.specs.Least.{reply_by, reply_of, least_moves}
 use Rattle.rule_engine.specs.Applied.{Prepares, takes_memory}
 use Rattle.rule_engine.specs.Choosing.{size_refusal, moves_by, IsToldOf}
-use Rattle.rule_engine.specs.Refused.{refused_as}
 use Rattle.rule_engine.specs.Prepared.{IsPrepared, HasRoomTo}
 use Rattle.rule_engine.proofs.Judged.{step_refusal-parts}
 
@@ -76,20 +71,6 @@ pub asked_prepares : {E : Type 0} (t : RuleTable) (n n' : Indexed) (spent : ℕ)
 asked_prepares t n n' spent event (Ok reply) same allowed may room told = record { reply = told; room = room reply; kept = same; want = tt }
 asked_prepares t n n' spent event (Err e) same allowed may room told = record { reply = tt; room = tt; kept = same; want = (allowed, may) }
 
--- a link is refused for the reason for which the edge store makes no room for it
-room_refused : (shown same joined full : Bool) (fault : GraphFault) → Explains (cond (not shown) (Some store.UnknownNode) (cond same (Some store.SelfLoop) (cond joined (Some store.AlreadyLinked) (cond full (Some store.TooManyEdges) None)))) fault → refused_as fault ≡ cond (not shown) (Some UnknownNode) (cond same (Some SelfLoop) (cond joined (Some AlreadyLinked) (cond full (Some TooManyEdges) None)))
-room_refused false same joined full fault is = ap refused_as is
-room_refused true true joined full fault is = ap refused_as is
-room_refused true false true full fault is = ap refused_as is
-room_refused true false false true fault is = ap refused_as is
-room_refused true false false false fault is = ap refused_as is
-
-link_refused : (net : Network) (a b : ℕ) (fault : GraphFault) → Explains (link_fault net a b) fault → refused_as fault ≡ link_refusal net a b
-link_refused net a b fault is = room_refused (both_present net a b) (nat_eq a b) (linked net a b) (nat_le max_edges (edge_count net)) fault is
-
-link_allowed : (net : Network) (a b : ℕ) → link_fault net a b ≡ None → link_refusal net a b ≡ None
-link_allowed net a b none = sym (link_refused net a b store.Memory (subst (λ o. Explains o store.Memory) (sym none) refl))
-
 -- a link that is not refused is between two nodes
 shown_first : {X : Type 0} (shown : Bool) (x : X) (o : Option X) → cond (not shown) (Some x) o ≡ None → IsTrue shown
 shown_first true x o none = refl
@@ -97,31 +78,6 @@ shown_first false x o none = absurd cc
 
 pub link_ends : (net : Network) (a b : ℕ) → link_refusal net a b ≡ None → IsTrue (present net a) × IsTrue (present net b)
 link_ends net a b none = and_parts (present net a) (present net b) (shown_first (both_present net a b) UnknownNode _ none)
-
--- a link for which there is room, one that is refused, and one that wants memory
-pub roomy_prepares : {E : Type 0} (t : RuleTable) (n n' : Indexed) (spent a b : ℕ) → n'.state ≡ n.state → (link_fault n.state.network a b ≡ None) × HasRoomFor n'.room a b → Prepares {E = E} t n spent (Link a b) (Ok Accepted) n'
-roomy_prepares t n n' spent a b kept made = record {
-  reply = ap (reply_by t n.state spent (Link a b)) (sym (link_allowed n.state.network a b made.0));
-  room = made.1;
-  kept = kept;
-  want = tt;
-}
-
-pub faulty_prepares : {E : Type 0} (t : RuleTable) (n n' : Indexed) (spent a b : ℕ) (fault : GraphFault) (refusal : Refusal) → n'.state ≡ n.state → Explains (link_fault n.state.network a b) fault → refused_as fault ≡ Some refusal → Prepares {E = E} t n spent (Link a b) (Ok (Refused refusal)) n'
-faulty_prepares t n n' spent a b fault refusal kept is told = record {
-  reply = ap (reply_by t n.state spent (Link a b)) (sym told ∙ link_refused n.state.network a b fault is);
-  room = tt;
-  kept = kept;
-  want = tt;
-}
-
-pub roomless_prepares : {E : Type 0} (t : RuleTable) (n n' : Indexed) (spent a b : ℕ) (fault : GraphFault) (e : E) → n'.state ≡ n.state → Explains (link_fault n.state.network a b) fault → refused_as fault ≡ None → Prepares t n spent (Link a b) (Err e) n'
-roomless_prepares t n n' spent a b fault e kept is none = record {
-  reply = tt;
-  room = tt;
-  kept = kept;
-  want = (sym (link_refused n.state.network a b fault is) ∙ none, refl);
-}
 
 -- what is prepared of an engine is prepared of a network
 pub engine_prepared : {E : Type 0} (t : RuleTable) (n n' : Indexed) (spent : ℕ) (event : Event) (result : Result Reply E) → Prepares t n spent event result n' → IfOk result (IsPrepared t (record { state = n'.state; spent = spent; room = n'.room }) event)

@@ -3,10 +3,9 @@ use Rattle.std.specs.Prelude.{◌≡◌, ℕ, ◌<◌, ◌⊎◌, Bool, true, fa
 use Rattle.rule_machine.specs.declared.event.Event.{Event}
 use Rattle.rule_machine.specs.declared.event.Event.TheVariants.{Link, Unlink, Point, Flag, Step, Show, Enabled, Matching, Status, Join, Leave}
 use Rattle.rule_machine.specs.declared.reply.Reply.{Reply}
-use Rattle.rule_machine.specs.State.{State, IsState}
+use Rattle.rule_machine.specs.State.{IsState}
 use Rattle.rule_machine.specs.RuleTable.{RuleTable}
 use Rattle.rule_machine.specs.Refuse.{refusal_of}
-use Rattle.rule_machine.specs.Disturbance.{after_link, after_unlink, after_point, after_flag, after_join, after_leave}
 use Rattle.rule_machine.specs.Least.{reply_of}
 use Rattle.rule_machine.specs.Run.{Moment, moment_after}
 use Rattle.charge_laws.specs.Charged.{IsWithinBound}
@@ -39,20 +38,6 @@ pub record Prepares {E : Type 0} (t : RuleTable) (n : Indexed) (spent : ℕ) (ev
   pub room : IfOk result (λ r. HasRoomTo event r n'.room)
   pub kept : n'.state ≡ n.state
   pub want : OnErr result ((refusal_of t n.state event ≡ None) × IsTrue (takes_memory event))
-
--- the state after an edit or a fault; no other event changes it
-abbrev pub disturbed : State → Event → State
-disturbed s (Link a b) = after_link s a b
-disturbed s (Unlink a b) = after_unlink s a b
-disturbed s (Point v target) = after_point s v target
-disturbed s (Flag v value) = after_flag s v value
-disturbed s (Join v) = after_join s v
-disturbed s (Leave v) = after_leave s v
-disturbed s (Step items) = s
-disturbed s (Show v) = s
-disturbed s Enabled = s
-disturbed s Matching = s
-disturbed s Status = s
 
 -- the state is one, and what is spent and the charge are within the bound of its network
 pub record IsPaid (t : RuleTable) (weight : ℕ) (m : Moment) : Type 0 where

@@ -2,15 +2,10 @@
 use Rattle.std.specs.Prelude.{◌≡◌, ℕ, ◌+◌, ◌≤◌, Bool, false, IfSome, IsTrue, List, length, replicate, Option, Some, None, is_some, option_map, if◌then◌else◌}
 use Rattle.enabled_set.specs.Members.{is_in}
 use Rattle.rule_machine.specs.declared.act.Act.{Act}
-use Rattle.rule_machine.specs.Network.{Network, present}
-use Rattle.rule_machine.specs.State.{State, Registers, IsState, pointer, flag, married}
+use Rattle.rule_machine.specs.Network.{present}
+use Rattle.rule_machine.specs.State.{State, IsState, pointer, flag, married}
 use Rattle.rule_machine.specs.Run.{Moment}
-use Rattle.rule_machine.specs.declared.base.Place.{Place}
-use Rattle.rule_machine.specs.Base.{place_at}
 use Rattle.rule_machine.specs.RuleTable.{RuleTable, rule_at}
-
-abbrev pub state_of : Network → Registers → State
-state_of net registers = record { network = net; registers = registers }
 
 -- the rule that is enabled at a name; at an absent one there is none
 abbrev pub guard_at : RuleTable → State → ℕ → Option Act
@@ -44,7 +39,3 @@ pub record IsAnswered (uses_flags : Bool) (s : State) : Type 0 where
 -- a state, and the moves spent
 abbrev pub moment : State → ℕ → Moment
 moment s spent = record { state = s; spent = spent }
-
--- a name with its registers, where it is a node of the state
-abbrev pub place_in : State → ℕ → Option Place
-place_in s v = if present s.network v then Some (place_at s v) else None

@@ -4,5 +4,4 @@ pub mod Choosing
 pub mod Marks
 pub mod Refused
 pub mod Applied
-pub mod Charges
 pub mod Prepared

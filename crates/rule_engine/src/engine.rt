@@ -1,27 +1,25 @@
 //! A state under a rule set, and what carries out events on it.
 
-ghost use Rattle.std.specs.Prelude.{All, ◌≡◌, ◌<◌, ◌≤◌, ◌↔◌, ℕ, [], IfOk, IfErr, IfSome, OnOk, IsTrue, None, false, fold, length, slice_get};
+ghost use Rattle.std.specs.Prelude.{◌≡◌, ◌<◌, ◌≤◌, ◌↔◌, ℕ, [], IfOk, IfErr, IfSome, OnOk, IsTrue, None, false, length, slice_get};
 ghost use Rattle.enabled_set.specs.Members.{members};
 ghost use Rattle.graph_store.specs.Fault.{nodes_fault, Explains};
 ghost use Rattle.graph_store.specs.Graph.{HasRoomFor};
-ghost use Rattle.rule_machine.specs.Network.{present, linked, neighbours};
+ghost use Rattle.rule_machine.specs.Network.{present};
 ghost use Rattle.rule_machine.specs.State.{opening_with, IsState};
 ghost use Rattle.rule_machine.specs.RuleTable.{enabled_names};
-ghost use Rattle.rule_machine.specs.Disturbance.{after_link, after_unlink, after_point, after_flag, after_join, after_leave, without_pointer};
-ghost use Rattle.rule_machine.specs.Refuse.{refusal_of, link_refusal, unlink_refusal};
+ghost use Rattle.rule_machine.specs.Disturbance.{after_link, after_join};
+ghost use Rattle.rule_machine.specs.Refuse.{refusal_of, link_refusal};
 ghost use Rattle.rule_machine.specs.Least.{reply_of, state_after};
-ghost use Rattle.rule_machine.specs.Step.{after_moves};
-ghost use Rattle.machine_laws.specs.Keeps.{IsMoveIn};
-ghost use Rattle.machine_laws.specs.Passes.{flag_read, pointer_written};
 ghost use Rattle.rule_machine.specs.Stable.{IsStable, IsMaximalMatching, mutual_pairs};
+ghost use Rattle.machine_laws.specs.Followed.{disturbed};
 ghost use Rattle.rule_machine.specs.declared.event.Event.TheVariants.{Link, Step, Show, Enabled, Matching, Status, Join, Leave};
 ghost use Rattle.rule_machine.specs.declared.reply.Reply.TheVariants.{Accepted};
 ghost use Rattle.rule_engine.specs.Kept.{guard_at, IsAnswered};
-ghost use Rattle.rule_engine.specs.Applied.{Prepares, disturbed, told};
+ghost use Rattle.rule_engine.specs.Applied.{Prepares, told};
 ghost use Rattle.rule_engine.specs.Prepared.{HasRoomTo};
 ghost use Rattle.rule_engine.specs.Choosing.{verdict_of, verdicts_of};
 
-use crate::charge::{charge_of, totals_of};
+use crate::charge::totals_of;
 use crate::edits::{
     put, put_edit, refusal_of, refused_flag, refused_join, refused_leave, refused_point,
     refused_unlink,
@@ -31,14 +29,12 @@ use crate::judge::{refused_size, take_verdicts};
 use crate::listing::{enabled_rules, mutual_edges};
 use crate::look::{look_after_write, look_at, look_at_target};
 use crate::moves::{Gathered, step_reply};
-use crate::parting::last_neighbour;
 use enabled_set::EnabledSet;
 use graph_store::{EdgeStore, GraphFault};
 use indexed_state::IndexedState;
+use net_state::{Disturb, NetState, leave, make_moves, unlink};
 use registers::Registers;
-use rule_machine::{
-    Act, Choice, Counts, Event, Listing, Moved, Node, Refusal, Reply, Verdict, Want,
-};
+use rule_machine::{Act, Choice, Counts, Event, Listing, Node, Refusal, Reply, Verdict, Want};
 use rule_set::Rules;
 use std::alloc::{AllocError, Global};
 use std::marker::Model;
@@ -152,10 +148,12 @@ impl<R: Rules> Engine<R> {
     }
 
     /// The charge.
-    pub(crate) fn charge(&self) -> u32
-        ensures { result ≡ R.table.charge self.now.state }
+    pub(crate) fn charge(&mut self) -> u32
+        ensures charge { result ≡ R.table.charge self.old.state }
+        ensures state { self.new.state ≡ self.old.state }
+        ensures room { self.new.room ≡ self.old.room }
     {
-        charge_of(&self.state)
+        totals_of(&mut self.state).charge
     }
 
     /// The reply to an event where so many moves are spent, put where the caller keeps it, with all the memory had that
@@ -282,7 +280,7 @@ impl<R: Rules> Engine<R> {
     {
         match reply {
             Reply::Accepted => self.disturb(event),
-            Reply::Moves(moves) => self.make_moves(moves.as_slice()),
+            Reply::Moves(moves) => make_moves(self, moves.as_slice()),
             _ => {}
         }
     }
@@ -293,7 +291,7 @@ impl<R: Rules> Engine<R> {
         ensures { self.new.state ≡ state_after R.table self.old.state (Step choice.now) }
     {
         if let Reply::Moves(moves) = reply {
-            self.make_moves(moves.as_slice());
+            make_moves(self, moves.as_slice());
         }
     }
 
@@ -305,11 +303,11 @@ impl<R: Rules> Engine<R> {
     {
         match event {
             Event::Link(a, b) => self.link(*a, *b),
-            Event::Unlink(a, b) => self.unlink(*a, *b),
-            Event::Point(v, target) => self.point(*v, *target),
-            Event::Flag(v, value) => self.flag(*v, *value),
+            Event::Unlink(a, b) => unlink(self, *a, *b),
+            Event::Point(v, target) => self.set_pointer(*v, *target),
+            Event::Flag(v, value) => self.set_flag(*v, *value),
             Event::Join(v) => self.join(*v),
-            Event::Leave(v) => self.leave(*v),
+            Event::Leave(v) => leave(self, *v),
             Event::Step(_) | Event::Show(_) | Event::Enabled | Event::Matching | Event::Status => {}
         }
     }
@@ -324,55 +322,6 @@ impl<R: Rules> Engine<R> {
         look_at(&self.state, &mut self.enabled, b);
     }
 
-    fn unlink(&mut self, a: Node, b: Node)
-        requires { unlink_refusal self.old.state.network a b ≡ None }
-        ensures { self.new.state ≡ after_unlink self.old.state a b }
-    {
-        self.clear_pointer(a, b);
-        self.clear_pointer(b, a);
-        let Ok(()) = self.state.unlink(a, b) else {
-            unreachable!();
-        };
-        look_at(&self.state, &mut self.enabled, a);
-        look_at(&self.state, &mut self.enabled, b);
-    }
-
-    // Sets a node's pointer to null where it is at the other node.
-    fn clear_pointer(&mut self, v: Node, w: Node)
-        requires { IsTrue (present self.old.state.network v) }
-        ensures registers { self.new.state.registers ≡ without_pointer self.old.state.registers v w }
-        ensures network { self.new.state.network ≡ self.old.state.network }
-    {
-        if self.state.registers().points_at(v, w) {
-            self.point(v, None);
-        }
-    }
-
-    fn point(&mut self, v: Node, target: Option<Node>)
-        requires present { IsTrue (present self.old.state.network v) }
-        requires near { IfSome target (λ w. IsTrue (linked self.old.state.network v w)) }
-        ensures { self.new.state ≡ after_point self.old.state v target }
-    {
-        let left = self.state.registers().pointer(v);
-        let was_open = self.state.is_open(v);
-        self.state.set_pointer(v, target);
-        let turned = self.state.is_open(v) != was_open;
-        let courted = self.state.registers().pointer(v);
-        look_at_target(&self.state, &mut self.enabled, left);
-        look_at_target(&self.state, &mut self.enabled, courted);
-        look_after_write(&self.state, &mut self.enabled, v, turned);
-    }
-
-    fn flag(&mut self, v: Node, value: bool)
-        requires { IsTrue (present self.old.state.network v) }
-        ensures { self.new.state ≡ after_flag self.old.state v value }
-    {
-        let was_open = self.state.is_open(v);
-        self.state.set_flag(v, value);
-        let turned = self.state.is_open(v) != was_open;
-        look_after_write(&self.state, &mut self.enabled, v, turned);
-    }
-
     /// Makes a name a node, with no edge, a null pointer and its flag false. Looks at no other node, and takes no memory.
     pub(crate) fn join(&mut self, v: Node)
         requires within { v ≤ self.old.state.network.size }
@@ -383,66 +332,38 @@ impl<R: Rules> Engine<R> {
         self.state.join(v);
         look_at(&self.state, &mut self.enabled, v);
     }
+}
 
-    // Takes out the edges of a node, one by one, and sets to null the pointers that crossed them.
-    fn unlink_all(&mut self, v: Node)
-        requires { IsTrue (present self.old.state.network v) }
-        ensures left { after_leave self.new.state v ≡ after_leave self.old.state v }
-        ensures present { IsTrue (present self.new.state.network v) }
-        ensures alone { neighbours self.new.state.network v ≡ [] }
-    {
-        // From the end, so that the node's own neighbour list never shifts.
-        while let Some(w) = last_neighbour(&self.state, v) {
-            self.unlink(v, w);
-        }
+impl<R: Rules> Disturb for Engine<R> {
+    ghost state = { λ n. n.state };
+
+    fn net(&self) -> &NetState {
+        self.state.net()
     }
 
-    /// Makes a node absent, with its edges: what `unlink` costs, for each neighbour. Takes no memory.
-    pub(crate) fn leave(&mut self, v: Node)
-        requires { IsTrue (present self.old.state.network v) }
-        ensures { self.new.state ≡ after_leave self.old.state v }
-    {
-        self.unlink_all(v);
-        self.state.part(v);
+    fn set_pointer(&mut self, v: Node, target: Option<Node>) {
+        // Each use has a copy: of a value that is passed on proofs say no more.
+        let courted = target;
+        let change = self.state.write_pointer(v, target);
+        let left = change.left;
+        look_at_target(&self.state, &mut self.enabled, left);
+        look_at_target(&self.state, &mut self.enabled, courted);
+        look_after_write(&self.state, &mut self.enabled, v, change.turned);
+    }
+
+    fn set_flag(&mut self, v: Node, value: bool) {
+        let turned = self.state.write_flag(v, value);
+        look_after_write(&self.state, &mut self.enabled, v, turned);
+    }
+
+    fn take_out(&mut self, a: Node, b: Node) {
+        self.state.take_out(a, b);
+        look_at(&self.state, &mut self.enabled, a);
+        look_at(&self.state, &mut self.enabled, b);
+    }
+
+    fn free_name(&mut self, v: Node) {
+        self.state.free_name(v);
         self.enabled.remove(v);
-    }
-
-    // Writes the flags of moves that update, from the pointers as they are.
-    fn write_flags(&mut self, moves: &[Moved])
-        requires { All (IsMoveIn self.old.state.network) moves.now }
-        ensures registers { self.new.state.registers ≡ fold flag_read self.old.state.registers moves.now }
-        ensures network { self.new.state.network ≡ self.old.state.network }
-    {
-        for moved in moves {
-            if moved.act == Act::Update {
-                let married = self.state.registers().married(moved.node);
-                self.flag(moved.node, married);
-            }
-        }
-    }
-
-    // Writes the pointers of moves.
-    fn write_pointers(&mut self, moves: &[Moved])
-        requires { All (IsMoveIn self.old.state.network) moves.now }
-        ensures registers { self.new.state.registers ≡ fold pointer_written self.old.state.registers moves.now }
-        ensures network { self.new.state.network ≡ self.old.state.network }
-    {
-        for moved in moves {
-            match moved.act {
-                Act::Update => {}
-                Act::Marry | Act::Seduce => self.point(moved.node, moved.target),
-                Act::Abandon => self.point(moved.node, None),
-            }
-        }
-    }
-
-    /// Carries out the moves of one step: flags first, since they are read from the pointers of before.
-    fn make_moves(&mut self, moves: &[Moved])
-        requires { All (IsMoveIn self.old.state.network) moves.now }
-        ensures { self.new.state ≡ after_moves self.old.state moves.now }
-    {
-        let _ = &self.state;
-        self.write_flags(moves);
-        self.write_pointers(moves);
     }
 }

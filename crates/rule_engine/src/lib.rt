@@ -1,7 +1,6 @@
 //! The rule engine: a network whose replies and states are the rule machine's, for any set of rules.
 #![tactic(auto)]
 
-mod base;
 mod charge;
 mod climbing;
 mod edits;
@@ -12,7 +11,6 @@ mod listing;
 mod look;
 mod moves;
 mod net;
-mod parting;
 
 pub use enabled_set::EnabledSet;
 pub use graph_store::{Edge, GraphFault, Node};

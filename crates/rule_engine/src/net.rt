@@ -18,11 +18,11 @@ ghost use Rattle.rule_engine.specs.Applied.{StopsAt, moment_after_all, takes_mem
 ghost use Rattle.rule_engine.specs.Choosing.{verdict_of, verdicts_of};
 ghost use Rattle.rule_engine.specs.Prepared.{IsPrepared, moment_of};
 
-use crate::base::list_places;
 use crate::charge::spent_after;
 use crate::engine::Engine;
 use enabled_set::EnabledSet;
 use graph_store::{EdgeStore, GraphFault};
+use net_state::Disturb;
 use registers::Registers;
 use rule_machine::{Act, Base, Choice, Event, Listing, Node, Reply, Verdict, Want};
 use rule_set::Rules;
@@ -133,11 +133,11 @@ impl<R: Rules> Net<R> {
     }
 
     /// The charge, at most 2,293,757: no more moves than this can come before the next accepted disturbance, and where it is zero
-    /// the network is stable. Takes no memory, and a look at every name and at all neighbours: a `Status` tells it too, by looks at
-    /// what has changed since the last one.
-    pub fn charge(&self) -> u32
-        ensures charge { result ≡ R.table.charge self.now.state }
-        ensures settled { result ≡ 0 → IsStable R.table.flags self.now.state }
+    /// the network is stable. Takes no memory, and looks at what has changed since this or a `Status` was last asked.
+    pub fn charge(&mut self) -> u32
+        ensures charge { result ≡ R.table.charge self.old.state }
+        ensures settled { result ≡ 0 → IsStable R.table.flags self.old.state }
+        ensures kept { self.new ≡ self.old }
     {
         self.engine.charge()
     }
@@ -148,9 +148,9 @@ impl<R: Rules> Net<R> {
         ensures base { IfOk result (λ base. base ≡ base_of number (moment_of self.now)) }
         ensures few { IfOk result (λ base. (length base.nodes ≤ 65535) × (length base.edges ≤ 1048576)) }
     {
-        let store = self.engine.store();
-        let nodes = list_places(self.alloc, store, self.engine.registers())?;
-        let edges = store.list()?;
+        let net = self.engine.net();
+        let nodes = net.list_places(self.alloc)?;
+        let edges = net.list_edges()?;
         Ok(Base {
             number,
             spent: self.spent,

@@ -10,7 +10,8 @@ use Rattle.machine_laws.specs.Writes.{pointer-with_pointer_other, flag-with_flag
 use Rattle.machine_laws.specs.Neighbours.{linked_back, linked_present, present_range}
 use Rattle.machine_laws.specs.Pointers.{pointer_linked}
 use Rattle.suitor_index.specs.declared.tally.Tally.{Tally}
-use Rattle.suitor_index.specs.Tallies.{state_of, tally_of, asks_for, IsIndexOf}
+use Rattle.net_state.specs.Held.{state_of}
+use Rattle.suitor_index.specs.Tallies.{tally_of, asks_for, IsIndexOf}
 use Rattle.suitor_index.specs.Told.{IsCourted, IsRepointed, IsTurned, HasSuitor, HasRoomFor, CanTurn}
 use Rattle.suitor_index.specs.Before.{IsBeforePoint, IsBeforeFlag}
 use Rattle.suitor_index.proofs.Near.{listed_linked}

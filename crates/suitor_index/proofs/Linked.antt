@@ -12,7 +12,8 @@ use Rattle.machine_laws.specs.Search.{cond-none}
 use Rattle.machine_laws.specs.Neighbours.{linked_apart, linked_present, linked_back}
 use Rattle.machine_laws.specs.Pointers.{points_true, pointer_linked}
 use Rattle.suitor_index.specs.declared.tally.Tally.{Tally}
-use Rattle.suitor_index.specs.Tallies.{state_of, tally_of, asks_for, IsIndexOf}
+use Rattle.net_state.specs.Held.{state_of}
+use Rattle.suitor_index.specs.Tallies.{tally_of, asks_for, IsIndexOf}
 use Rattle.suitor_index.specs.Told.{one_if, IsOpenTo}
 use Rattle.suitor_index.proofs.Loops.{open_still}
 use Rattle.suitor_index.proofs.Turned.{tally_small}

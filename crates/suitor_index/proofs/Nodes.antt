@@ -9,7 +9,8 @@ use Rattle.rule_machine.specs.RuleTable.{is_open}
 use Rattle.machine_laws.specs.Edges.{present_other, with_node_is_network}
 use Rattle.machine_laws.specs.Neighbours.{linked_present, neighbours_range}
 use Rattle.suitor_index.specs.declared.tally.Tally.{Tally}
-use Rattle.suitor_index.specs.Tallies.{state_of, nothing, tally_of, tally_at, name_if, asks_for, IsIndexOf}
+use Rattle.net_state.specs.Held.{state_of}
+use Rattle.suitor_index.specs.Tallies.{nothing, tally_of, tally_at, name_if, asks_for, IsIndexOf}
 use Rattle.suitor_index.proofs.Reached.{open_is}
 
 -- what a scan of these nodes counts

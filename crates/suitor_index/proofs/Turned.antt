@@ -8,7 +8,8 @@ use Rattle.rule_set.specs.Glance.{is_reached}
 use Rattle.machine_laws.specs.Neighbours.{linked_back}
 use Rattle.machine_laws.specs.Pointers.{points_true, suitor_linked, at_from}
 use Rattle.suitor_index.specs.declared.tally.Tally.{Tally}
-use Rattle.suitor_index.specs.Tallies.{state_of, tally_of, tally_at, asks_for, IsIndexOf}
+use Rattle.net_state.specs.Held.{state_of}
+use Rattle.suitor_index.specs.Tallies.{tally_of, tally_at, asks_for, IsIndexOf}
 use Rattle.suitor_index.specs.Told.{one_if, IsCourted, IsRepointed, IsTurned, HasSuitor, HasRoomFor, CanTurn}
 use Rattle.suitor_index.proofs.Near.{near_turn, near_le, near_ones, near_names, listed_is_linked}
 use Rattle.suitor_index.proofs.Reached.{open_is}

@@ -4,7 +4,8 @@ use Rattle.rule_machine.specs.Network.{Network, present, linked, with_edge, with
 use Rattle.rule_machine.specs.State.{State, Registers, IsState, pointer, flag, pointer_of, points, with_pointer, with_flag}
 use Rattle.rule_machine.specs.Refuse.{link_refusal}
 use Rattle.suitor_index.specs.declared.tally.Tally.{Tally}
-use Rattle.suitor_index.specs.Tallies.{state_of, IsIndexOf}
+use Rattle.net_state.specs.Held.{state_of}
+use Rattle.suitor_index.specs.Tallies.{IsIndexOf}
 
 -- the tallies are those of the state before the edge between two nodes was put in
 pub record IsBeforeLink (above : Bool) (opens : Option ℕ → Bool → Bool) (now : State) (a b : ℕ) (tallies : List Tally) : Type 0 where

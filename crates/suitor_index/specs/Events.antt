@@ -1,14 +1,14 @@
 -- The changes that events make are changes of which an index of the state before can be told.
-use Rattle.std.proofs.Common.{◌≡◌, ℕ, ◌<◌, ◌≤◌, Bool, false, true, not, List, length, Option, None, IsTrue, refl, sym, ap, ◌∙◌, arith}
+use Rattle.std.proofs.Common.{◌≡◌, ℕ, ◌<◌, ◌≤◌, Bool, false, List, length, Option, None, IsTrue, refl, sym, ap, arith}
 use Rattle.rule_machine.specs.Network.{linked, present, without_edge}
-use Rattle.rule_machine.specs.State.{State, IsState, pointer, flag, flag_of, points}
+use Rattle.rule_machine.specs.State.{State, IsState, pointer, points}
 use Rattle.rule_machine.specs.Refuse.{link_refusal}
-use Rattle.rule_machine.specs.Disturbance.{after_link, after_point, after_flag, after_join}
-use Rattle.machine_laws.specs.Writes.{pointer-with_pointer_same, flag-with_flag_same}
+use Rattle.rule_machine.specs.Disturbance.{after_link, after_point, after_join}
+use Rattle.machine_laws.specs.Writes.{pointer-with_pointer_same}
 use Rattle.machine_laws.specs.Neighbours.{present_range}
 use Rattle.suitor_index.specs.declared.tally.Tally.{Tally}
 use Rattle.suitor_index.specs.Tallies.{IsIndexOf}
-use Rattle.suitor_index.specs.Before.{IsBeforeLink, IsBeforeUnlink, IsBeforePoint, IsBeforeFlag, IsBeforeJoin}
+use Rattle.suitor_index.specs.Before.{IsBeforeLink, IsBeforeUnlink, IsBeforePoint, IsBeforeJoin}
 
 -- an edge is put in
 pub before_link : (above : Bool) (opens : Option ℕ → Bool → Bool) (s : State) (a b : ℕ) (tallies : List Tally) → IsState s → link_refusal s.network a b ≡ None → IsIndexOf above opens s tallies → IsBeforeLink above opens (after_link s a b) a b tallies
@@ -46,26 +46,6 @@ before_point above opens s v target tallies good here index =
       change = ap (λ t. (after_point s v t).registers) (sym (pointer-with_pointer_same s.registers v target inside));
       index = index;
     }
-
--- a flag is turned
-pub before_flag : (above : Bool) (opens : Option ℕ → Bool → Bool) (s : State) (v : ℕ) (tallies : List Tally) → IsState s → IsTrue (present s.network v) → IsIndexOf above opens s tallies → IsBeforeFlag above opens (after_flag s v (not (flag s v))) v tallies
-before_flag above opens s v tallies good here index =
-    let bounds = present_range s.network v here in
-    let places = good.flags_len in
-    let high = bounds.1 in
-    let inside : v < length s.registers.flags = omega arith in
-    let same : flag_of (after_flag s v (not (flag s v))).registers v ≡ not (flag s v) = flag-with_flag_same s.registers v (not (flag s v)) inside in
-    record {
-      registers = s.registers;
-      is_state = good;
-      change = ap (λ t. (after_flag s v t).registers) (sym same);
-      was = sym (not_not (flag s v)) ∙ ap not (sym same);
-      index = index;
-    }
-  where
-    not_not : (b : Bool) → not (not b) ≡ b
-    not_not true = refl
-    not_not false = refl
 
 -- a name becomes present
 pub before_join : (above : Bool) (opens : Option ℕ → Bool → Bool) (s : State) (v : ℕ) (tallies : List Tally) → IsState s → v ≤ s.network.size → present s.network v ≡ false → IsIndexOf above opens s tallies → IsBeforeJoin above opens (after_join s v) v tallies

@@ -1,13 +1,10 @@
 -- What is counted at a node, and a table of it with a place for each name; place 0 is nobody's.
 use Rattle.std.specs.Prelude.{◌≡◌, ℕ, ◌+◌, Bool, true, false, cond, ◌&&◌, List, length, Option, IsTrue, nat_eq, nat_lt, slice_index_or}
 use Rattle.std.specs.List.{count_by, sum_by}
-use Rattle.rule_machine.specs.Network.{Network, linked, present, neighbours}
-use Rattle.rule_machine.specs.State.{State, Registers, suits}
+use Rattle.rule_machine.specs.Network.{linked, present, neighbours}
+use Rattle.rule_machine.specs.State.{State, suits}
 use Rattle.rule_set.specs.Glance.{is_reached}
 use Rattle.suitor_index.specs.declared.tally.Tally.{Tally}
-
-abbrev pub state_of : Network → Registers → State
-state_of net registers = record { network = net; registers = registers }
 
 -- nothing is counted
 abbrev pub nothing : Tally

@@ -2,16 +2,15 @@
 
 ghost use Rattle.std.specs.Prelude.{◌≡◌, ◌≢◌, ◌<◌, ◌≤◌, ◌&&◌, IfOk, IsTrue, MatchOption, is_some, length, not};
 ghost use Rattle.rule_machine.specs.Network.{present, linked};
-ghost use Rattle.rule_machine.specs.State.{IsState, suits, has_suitor, first_suitor};
+ghost use Rattle.rule_machine.specs.State.{suits, has_suitor, first_suitor};
 ghost use Rattle.rule_machine.specs.RuleTable as RuleTable;
 ghost use Rattle.rule_machine.specs.RuleTable.{is_open, first_open, last_open_above};
 ghost use Rattle.rule_set.specs.Glance.{reaches_beside};
-ghost use Rattle.suitor_index.specs.Tallies.{state_of, suitor_count, tally_of, tally_at, IsIndexOf, IsLoneSuitor};
+ghost use Rattle.suitor_index.specs.Tallies.{suitor_count, tally_of, tally_at, IsIndexOf, IsLoneSuitor};
 
 use crate::tally::NOTHING;
 use crate::{Tally, scan};
-use graph_store::EdgeStore;
-use registers::Registers;
+use net_state::NetState;
 use rule_machine::{Node, Want};
 use rule_set::Rules;
 use std::alloc::Global;
@@ -39,18 +38,13 @@ impl<R: Rules> Model for SuitorIndex<R> {
 
 impl<R: Rules> SuitorIndex<R> {
     /// The index of a network, by a look at each node's neighbours. Takes eight bytes a node; `Err` if memory runs out.
-    pub fn build(
-        alloc: Global,
-        store: &EdgeStore,
-        registers: &Registers,
-    ) -> Result<SuitorIndex<R>, Want>
-        requires { IsState (state_of store.now.network registers.now) }
-        ensures { IfOk result (λ index. IsIndexOf R.ABOVE R.table.opens (state_of store.now.network registers.now) index) }
+    pub fn build(alloc: Global, net: &NetState) -> Result<SuitorIndex<R>, Want>
+        ensures { IfOk result (λ index. IsIndexOf R.ABOVE R.table.opens net.now.state index) }
     {
-        let mut tallies = vec![in alloc; NOTHING; store.capacity() as usize + 1]?;
-        for name in 1..store.capacity() + 1 {
+        let mut tallies = vec![in alloc; NOTHING; net.capacity() as usize + 1]?;
+        for name in 1..net.capacity() + 1 {
             let v = Node::new(name).unwrap();
-            tallies[v.place()] = count_at::<R>(store, registers, v);
+            tallies[v.place()] = count_at::<R>(net, v);
         }
         Ok(SuitorIndex {
             tallies,
@@ -68,25 +62,23 @@ impl<R: Rules> SuitorIndex<R> {
     }
 
     /// Whether a neighbour points at the node. One look.
-    pub fn has_suitor(&self, v: Node, store: &EdgeStore, registers: &Registers) -> bool
-        requires state { IsState (state_of store.now.network registers.now) }
-        requires index { IsIndexOf R.ABOVE R.table.opens (state_of store.now.network registers.now) self.now }
-        requires present { IsTrue (present store.now.network v) }
-        ensures { result ≡ has_suitor (state_of store.now.network registers.now) v }
+    pub fn has_suitor(&self, v: Node, net: &NetState) -> bool
+        requires index { IsIndexOf R.ABOVE R.table.opens net.now.state self.now }
+        requires present { IsTrue (present net.now.state.network v) }
+        ensures { result ≡ has_suitor net.now.state v }
     {
         self.tally(v).suitors > 0
     }
 
     /// Whether a neighbour is open. One look where the guards ask for any open neighbour; else a scan of the neighbours, which
     /// stops at the first.
-    pub fn has_open(&self, v: Node, store: &EdgeStore, registers: &Registers) -> bool
-        requires state { IsState (state_of store.now.network registers.now) }
-        requires index { IsIndexOf R.ABOVE R.table.opens (state_of store.now.network registers.now) self.now }
-        requires present { IsTrue (present store.now.network v) }
-        ensures { result ≡ is_some (first_open R.table.opens (state_of store.now.network registers.now) v) }
+    pub fn has_open(&self, v: Node, net: &NetState) -> bool
+        requires index { IsIndexOf R.ABOVE R.table.opens net.now.state self.now }
+        requires present { IsTrue (present net.now.state.network v) }
+        ensures { result ≡ is_some (first_open R.table.opens net.now.state v) }
     {
         if R::ABOVE {
-            self.first_open(v, store, registers).is_some()
+            self.first_open(v, net).is_some()
         } else {
             self.tally(v).reached > 0
         }
@@ -94,63 +86,58 @@ impl<R: Rules> SuitorIndex<R> {
 
     /// Whether an open neighbour has a higher name than the node. One look where the guards ask for those alone; else a scan of
     /// the neighbours from the last, which stops at the first.
-    pub fn has_open_above(&self, v: Node, store: &EdgeStore, registers: &Registers) -> bool
-        requires state { IsState (state_of store.now.network registers.now) }
-        requires index { IsIndexOf R.ABOVE R.table.opens (state_of store.now.network registers.now) self.now }
-        requires present { IsTrue (present store.now.network v) }
-        ensures { result ≡ is_some (last_open_above R.table.opens (state_of store.now.network registers.now) v) }
+    pub fn has_open_above(&self, v: Node, net: &NetState) -> bool
+        requires index { IsIndexOf R.ABOVE R.table.opens net.now.state self.now }
+        requires present { IsTrue (present net.now.state.network v) }
+        ensures { result ≡ is_some (last_open_above R.table.opens net.now.state v) }
     {
         if R::ABOVE {
             self.tally(v).reached > 0
         } else {
-            self.last_open_above(v, store, registers).is_some()
+            self.last_open_above(v, net).is_some()
         }
     }
 
     /// Whether no neighbour that the node's guard asks for is open but v, which is a neighbour, and open or not as is said here. One
     /// look.
-    pub fn relies_on(
-        &self,
-        w: Node,
-        v: Node,
-        is_open: bool,
-        store: &EdgeStore,
-        registers: &Registers,
-    ) -> bool
-        requires state { IsState (state_of store.now.network registers.now) }
-        requires index { IsIndexOf R.ABOVE R.table.opens (state_of store.now.network registers.now) self.now }
-        requires present { IsTrue (present store.now.network w) }
-        requires linked { IsTrue (linked store.now.network w v) }
-        requires open { is_open ≡ RuleTable.is_open R.table.opens (state_of store.now.network registers.now) v }
-        ensures { result ≡ not (reaches_beside R.ABOVE R.table.opens (state_of store.now.network registers.now) w v) }
+    pub fn relies_on(&self, w: Node, v: Node, is_open: bool, net: &NetState) -> bool
+        requires index { IsIndexOf R.ABOVE R.table.opens net.now.state self.now }
+        requires present { IsTrue (present net.now.state.network w) }
+        requires linked { IsTrue (linked net.now.state.network w v) }
+        requires open { is_open ≡ RuleTable.is_open R.table.opens net.now.state v }
+        ensures { result ≡ not (reaches_beside R.ABOVE R.table.opens net.now.state w v) }
     {
+        // By its contract the state is sound.
+        let _ = net.registers();
         self.tally(w)
             .has_none_but(scan::asks_for::<R>(w, v) && is_open)
     }
 
     /// The first neighbour that points at the node. One look where there is none or one; else a scan of the neighbours, which
     /// stops at the first.
-    pub fn first_suitor(&self, v: Node, store: &EdgeStore, registers: &Registers) -> Option<Node>
-        requires state { IsState (state_of store.now.network registers.now) }
-        requires index { IsIndexOf R.ABOVE R.table.opens (state_of store.now.network registers.now) self.now }
-        requires present { IsTrue (present store.now.network v) }
-        ensures { result ≡ first_suitor (state_of store.now.network registers.now) v }
+    pub fn first_suitor(&self, v: Node, net: &NetState) -> Option<Node>
+        requires index { IsIndexOf R.ABOVE R.table.opens net.now.state self.now }
+        requires present { IsTrue (present net.now.state.network v) }
+        ensures { result ≡ first_suitor net.now.state v }
     {
+        // By its contract the state is sound.
+        let _ = net.registers();
         let tally = self.tally(v);
         match tally.suitors {
             0 => None,
             1 => Node::new(tally.sum),
-            _ => scan::first_pointing_at(store.neighbours(v), registers, v),
+            _ => scan::first_pointing_at(net.neighbours(v), net, v),
         }
     }
 
     /// The neighbour that points at the node, where it is the only one; `None` where none does, or several do. One look.
-    pub fn lone_suitor(&self, v: Node, store: &EdgeStore, registers: &Registers) -> Option<Node>
-        requires state { IsState (state_of store.now.network registers.now) }
-        requires index { IsIndexOf R.ABOVE R.table.opens (state_of store.now.network registers.now) self.now }
-        requires present { IsTrue (present store.now.network v) }
-        ensures { MatchOption result (suitor_count (state_of store.now.network registers.now) v ≢ 1) (IsLoneSuitor (state_of store.now.network registers.now) v) }
+    pub fn lone_suitor(&self, v: Node, net: &NetState) -> Option<Node>
+        requires index { IsIndexOf R.ABOVE R.table.opens net.now.state self.now }
+        requires present { IsTrue (present net.now.state.network v) }
+        ensures { MatchOption result (suitor_count net.now.state v ≢ 1) (IsLoneSuitor net.now.state v) }
     {
+        // By its contract the state is sound.
+        let _ = net.registers();
         let tally = self.tally(v);
         if tally.suitors == 1 {
             Node::new(tally.sum)
@@ -161,61 +148,56 @@ impl<R: Rules> SuitorIndex<R> {
 
     /// The first open neighbour. One look where there is none and the guards ask for any; else a scan of the neighbours, which
     /// stops at the first.
-    pub fn first_open(&self, v: Node, store: &EdgeStore, registers: &Registers) -> Option<Node>
-        requires state { IsState (state_of store.now.network registers.now) }
-        requires index { IsIndexOf R.ABOVE R.table.opens (state_of store.now.network registers.now) self.now }
-        requires present { IsTrue (present store.now.network v) }
-        ensures { result ≡ first_open R.table.opens (state_of store.now.network registers.now) v }
+    pub fn first_open(&self, v: Node, net: &NetState) -> Option<Node>
+        requires index { IsIndexOf R.ABOVE R.table.opens net.now.state self.now }
+        requires present { IsTrue (present net.now.state.network v) }
+        ensures { result ≡ first_open R.table.opens net.now.state v }
     {
         if !R::ABOVE && self.tally(v).reached == 0 {
             return None;
         }
-        scan::first_open::<R>(store.neighbours(v), registers)
+        scan::first_open::<R>(net.neighbours(v), net)
     }
 
     /// The greatest open neighbour, where its name is above the node's. One look where there is none and the guards ask for
     /// those alone; else a scan of the neighbours from the last, which stops at the first.
-    pub fn last_open_above(&self, v: Node, store: &EdgeStore, registers: &Registers) -> Option<Node>
-        requires state { IsState (state_of store.now.network registers.now) }
-        requires index { IsIndexOf R.ABOVE R.table.opens (state_of store.now.network registers.now) self.now }
-        requires present { IsTrue (present store.now.network v) }
-        ensures { result ≡ last_open_above R.table.opens (state_of store.now.network registers.now) v }
+    pub fn last_open_above(&self, v: Node, net: &NetState) -> Option<Node>
+        requires index { IsIndexOf R.ABOVE R.table.opens net.now.state self.now }
+        requires present { IsTrue (present net.now.state.network v) }
+        ensures { result ≡ last_open_above R.table.opens net.now.state v }
     {
         if R::ABOVE && self.tally(v).reached == 0 {
             return None;
         }
-        scan::last_open_above::<R>(store.neighbours(v), registers, v)
+        scan::last_open_above::<R>(net.neighbours(v), net, v)
     }
 
     /// Whether a name is a neighbour that points at the node. One look.
-    pub fn is_suitor(&self, v: Node, w: Node, store: &EdgeStore, registers: &Registers) -> bool
-        requires state { IsState (state_of store.now.network registers.now) }
-        requires index { IsIndexOf R.ABOVE R.table.opens (state_of store.now.network registers.now) self.now }
-        requires present { IsTrue (present store.now.network v) }
-        ensures { result ≡ (linked store.now.network v w && suits (state_of store.now.network registers.now) v w) }
+    pub fn is_suitor(&self, v: Node, w: Node, net: &NetState) -> bool
+        requires index { IsIndexOf R.ABOVE R.table.opens net.now.state self.now }
+        requires present { IsTrue (present net.now.state.network v) }
+        ensures { result ≡ (linked net.now.state.network v w && suits net.now.state v w) }
     {
-        registers.points_at(w, v)
+        net.registers().points_at(w, v)
     }
 
     /// Whether a name is an open neighbour. A look-up by halves among the neighbours of the node.
-    pub fn is_open(&self, v: Node, w: Node, store: &EdgeStore, registers: &Registers) -> bool
-        requires state { IsState (state_of store.now.network registers.now) }
-        requires index { IsIndexOf R.ABOVE R.table.opens (state_of store.now.network registers.now) self.now }
-        requires present { IsTrue (present store.now.network v) }
-        ensures { result ≡ (linked store.now.network v w && is_open R.table.opens (state_of store.now.network registers.now) w) }
+    pub fn is_open(&self, v: Node, w: Node, net: &NetState) -> bool
+        requires index { IsIndexOf R.ABOVE R.table.opens net.now.state self.now }
+        requires present { IsTrue (present net.now.state.network v) }
+        ensures { result ≡ (linked net.now.state.network v w && is_open R.table.opens net.now.state w) }
     {
-        store.linked(v, w) && scan::is_open::<R>(registers, w)
+        net.linked(v, w) && scan::is_open::<R>(net, w)
     }
 }
 
 /// What is counted at a name; nothing where it is absent.
-fn count_at<R: Rules>(store: &EdgeStore, registers: &Registers, v: Node) -> Tally
-    requires { IsState (state_of store.now.network registers.now) }
-    ensures { IsTrue (present store.now.network v) → result ≡ tally_at R.ABOVE R.table.opens (state_of store.now.network registers.now) v }
+fn count_at<R: Rules>(net: &NetState, v: Node) -> Tally
+    ensures { IsTrue (present net.now.state.network v) → result ≡ tally_at R.ABOVE R.table.opens net.now.state v }
 {
-    if store.has(v) {
-        prove!(store.capacity() <= 65_535);
-        scan::count::<R>(store.neighbours(v), registers, v)
+    if net.has(v) {
+        prove!(net.capacity() <= 65_535);
+        scan::count::<R>(net.neighbours(v), net, v)
     } else {
         NOTHING
     }

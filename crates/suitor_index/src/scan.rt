@@ -1,22 +1,23 @@
 //! Looks at a node's neighbours one after another.
 
-ghost use Rattle.std.specs.Prelude.{◌≡◌, ◌<◌, ◌≤◌, ◌&&◌, All, find, length, nat_lt, reverse};
+ghost use Rattle.std.specs.Prelude.{◌≡◌, ◌≤◌, ◌&&◌, All, find, length, nat_lt, reverse, IsTrue};
 ghost use Rattle.std.specs.List.{count_by, sum_by};
 ghost use Rattle.suitor_index.specs.Tallies.{asks_for, name_if};
-ghost use Rattle.rule_machine.specs.State.{points, pointer_of, flag_of};
+ghost use Rattle.rule_machine.specs.Network.{present};
+ghost use Rattle.rule_machine.specs.State.{points, pointer, flag};
 
 use crate::Tally;
 use crate::tally::NOTHING;
-use registers::Registers;
+use net_state::NetState;
 use rule_machine::Node;
 use rule_set::Rules;
 
 /// The first of these nodes that points at v.
-pub(crate) fn first_pointing_at(nodes: &[Node], registers: &Registers, v: Node) -> Option<Node>
-    ensures { result ≡ find (λ w. points registers.now w v) nodes.now }
+pub(crate) fn first_pointing_at(nodes: &[Node], net: &NetState, v: Node) -> Option<Node>
+    ensures { result ≡ find (λ w. points net.now.state.registers w v) nodes.now }
 {
     for &w in nodes {
-        if registers.points_at(w, v) {
+        if net.points(w, v) {
             return Some(w);
         }
     }
@@ -24,12 +25,11 @@ pub(crate) fn first_pointing_at(nodes: &[Node], registers: &Registers, v: Node) 
 }
 
 /// Whether a node's registers make it open to a seduction.
-pub(crate) fn is_open<R: Rules>(registers: &Registers, w: Node) -> bool
-    requires pointer_in { w < length registers.now.pointers }
-    requires flag_in { w < length registers.now.flags }
-    ensures { result ≡ R.table.opens (pointer_of registers.now w) (flag_of registers.now w) }
+pub(crate) fn is_open<R: Rules>(net: &NetState, w: Node) -> bool
+    requires known { w ≤ net.now.state.network.size }
+    ensures { result ≡ R.table.opens (pointer net.now.state w) (flag net.now.state w) }
 {
-    R::opens(registers.pointer(w), registers.flag(w))
+    R::opens(net.pointer(w), net.flag(w))
 }
 
 /// Whether the guard of v asks for open neighbours of which w may be one.
@@ -40,22 +40,20 @@ pub(crate) fn asks_for<R: Rules>(v: Node, w: Node) -> bool
 }
 
 /// Whether w is open, and one that the guard of v asks for.
-pub(crate) fn is_reached<R: Rules>(registers: &Registers, v: Node, w: Node) -> bool
-    requires pointer_in { w < length registers.now.pointers }
-    requires flag_in { w < length registers.now.flags }
-    ensures { result ≡ (asks_for R.ABOVE v w && R.table.opens (pointer_of registers.now w) (flag_of registers.now w)) }
+pub(crate) fn is_reached<R: Rules>(net: &NetState, v: Node, w: Node) -> bool
+    requires known { w ≤ net.now.state.network.size }
+    ensures { result ≡ (asks_for R.ABOVE v w && R.table.opens (pointer net.now.state w) (flag net.now.state w)) }
 {
-    asks_for::<R>(v, w) && is_open::<R>(registers, w)
+    asks_for::<R>(v, w) && is_open::<R>(net, w)
 }
 
 /// The first of these nodes that is open.
-pub(crate) fn first_open<R: Rules>(nodes: &[Node], registers: &Registers) -> Option<Node>
-    requires pointers_in { All (λ w. w < length registers.now.pointers) nodes.now }
-    requires flags_in { All (λ w. w < length registers.now.flags) nodes.now }
-    ensures { result ≡ find (λ w. R.table.opens (pointer_of registers.now w) (flag_of registers.now w)) nodes.now }
+pub(crate) fn first_open<R: Rules>(nodes: &[Node], net: &NetState) -> Option<Node>
+    requires present { All (λ w. IsTrue (present net.now.state.network w)) nodes.now }
+    ensures { result ≡ find (λ w. R.table.opens (pointer net.now.state w) (flag net.now.state w)) nodes.now }
 {
     for &w in nodes {
-        if is_open::<R>(registers, w) {
+        if is_open::<R>(net, w) {
             return Some(w);
         }
     }
@@ -63,18 +61,13 @@ pub(crate) fn first_open<R: Rules>(nodes: &[Node], registers: &Registers) -> Opt
 }
 
 /// The first of these nodes from the end that is open and has a name above v's.
-pub(crate) fn last_open_above<R: Rules>(
-    nodes: &[Node],
-    registers: &Registers,
-    v: Node,
-) -> Option<Node>
-    requires pointers_in { All (λ w. w < length registers.now.pointers) nodes.now }
-    requires flags_in { All (λ w. w < length registers.now.flags) nodes.now }
-    ensures { result ≡ find (λ w. R.table.opens (pointer_of registers.now w) (flag_of registers.now w) && nat_lt v w) (reverse nodes.now) }
+pub(crate) fn last_open_above<R: Rules>(nodes: &[Node], net: &NetState, v: Node) -> Option<Node>
+    requires present { All (λ w. IsTrue (present net.now.state.network w)) nodes.now }
+    ensures { result ≡ find (λ w. R.table.opens (pointer net.now.state w) (flag net.now.state w) && nat_lt v w) (reverse nodes.now) }
 {
     for place in (0..nodes.len()).rev() {
         let w = nodes[place];
-        if w > v && is_open::<R>(registers, w) {
+        if w > v && is_open::<R>(net, w) {
             return Some(w);
         }
     }
@@ -82,18 +75,17 @@ pub(crate) fn last_open_above<R: Rules>(
 }
 
 /// What is counted at v, whose neighbours these nodes are.
-pub(crate) fn count<R: Rules>(nodes: &[Node], registers: &Registers, v: Node) -> Tally
+pub(crate) fn count<R: Rules>(nodes: &[Node], net: &NetState, v: Node) -> Tally
     requires few { length nodes.now ≤ 65535 }
-    requires pointers_in { All (λ w. w < length registers.now.pointers) nodes.now }
-    requires flags_in { All (λ w. w < length registers.now.flags) nodes.now }
-    ensures suitors { result.suitors ≡ count_by (λ w. points registers.now w v) nodes.now }
-    ensures reached { result.reached ≡ count_by (λ w. asks_for R.ABOVE v w && R.table.opens (pointer_of registers.now w) (flag_of registers.now w)) nodes.now }
-    ensures sum { result.sum ≡ sum_by (name_if (λ w. points registers.now w v)) nodes.now }
+    requires present { All (λ w. IsTrue (present net.now.state.network w)) nodes.now }
+    ensures suitors { result.suitors ≡ count_by (λ w. points net.now.state.registers w v) nodes.now }
+    ensures reached { result.reached ≡ count_by (λ w. asks_for R.ABOVE v w && R.table.opens (pointer net.now.state w) (flag net.now.state w)) nodes.now }
+    ensures sum { result.sum ≡ sum_by (name_if (λ w. points net.now.state.registers w v)) nodes.now }
 {
     let mut tally = NOTHING;
     for &w in nodes {
-        let is_suitor = registers.points_at(w, v);
-        tally = tally.with_neighbour(w, is_suitor, is_reached::<R>(registers, v, w));
+        let is_suitor = net.points(w, v);
+        tally = tally.with_neighbour(w, is_suitor, is_reached::<R>(net, v, w));
     }
     tally
 }

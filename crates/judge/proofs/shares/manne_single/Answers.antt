@@ -4,7 +4,6 @@ use Rattle.rule_machine.specs.Network.{neighbours}
 use Rattle.rule_machine.specs.Manne.{may_court}
 use Rattle.rule_machine.specs.State.{flag, has_suitor}
 use Rattle.judge.specs.Charging.{IsShare}
-use Rattle.judge.specs.States.{state_of}
 use Rattle.judge.proofs.Adding.{manne_absent, manne_single}
 use Rattle.judge.proofs.Counting.{bool_number}
 use Rattle.judge.proofs.shares.manne_single.Goals as goal
@@ -22,12 +21,12 @@ or_right false false n e = refl
 
 pub returns-then-not-has : goal.returns-then-not-has
 returns-then-not-has c =
-    let s = state_of c.args.store.now.network c.args.registers.now in
+    let s = c.args.net.now.state in
     subst (IsShare Manne s c.args.v) (sym c.no_share.ensures) (manne_absent s c.args.v c.requires.null (sym c.has.ensures ∙ c.if-not-has.true))
 
 pub returns : goal.returns
 returns c =
-    let s = state_of c.args.store.now.network c.args.registers.now in
+    let s = c.args.net.now.state in
     let v = c.args.v in
     let near = is_some (find (may_court s v) (neighbours s.network v)) in
     let courted : c.if-is_flagged.value ≡ (flag s v || has_suitor s v) =
@@ -38,7 +37,7 @@ returns c =
     let moves : c.if-has.is_enabled ≡ (flag s v || has_suitor s v || near) =
     elim c.if-has.branch [
       | then-has x ↦ x.is_enabled-is ∙ x.if-has.true ∙ sym (or_left (flag s v) (has_suitor s v) near (sym courted ∙ x.if-has.true))
-      | else-has x ↦ x.is_enabled-is ∙ x.is_some-is_enabled.ensures ∙ ap is_some (x.courted_among.ensures ∙ ap (find (may_court s v)) x.neighbours.ensures.all) ∙ sym (or_right (flag s v) (has_suitor s v) near (sym courted ∙ x.if-has.false))
+      | else-has x ↦ x.is_enabled-is ∙ x.is_some-is_enabled.ensures ∙ ap is_some (x.first_to_court_among.ensures ∙ ap (find (may_court s v)) x.neighbours.ensures.all) ∙ sym (or_right (flag s v) (has_suitor s v) near (sym courted ∙ x.if-has.false))
     ] in
     manne_single s v c.from.result (1 + c.from-2.result) c.requires.null (sym c.has.ensures ∙ c.if-not-has.false)
     (c.from.ensures ∙ bool_number c.if-has.is_enabled ∙ ap (λ b. cond {A = ℕ} b 1 0) moves)

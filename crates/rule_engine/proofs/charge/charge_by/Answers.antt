@@ -9,7 +9,7 @@ overflow_sub-result g c =
     let s = c.args.state.now.state in
     let good = c.registers.ensures.state in
     let whole = charge_counted g.R.Rules.COURTED_CLOSE (g.R.Rules.closes s) (g.R.Rules.adds s) s (g.R.Rules.table.charge s) c.args.open_edges c.args.added c.args.closing (g.met.R.Rules.charge_counts s good) c.requires.open c.requires.added c.requires.closing in
-    omega (arith, whole, c.from.ensures, c.from-2.ensures)
+    omega (arith, whole, c.from.ensures, c.from-2.ensures, c.from-3.ensures)
 
 pub overflow_cast-result : goal.overflow_cast-result
 overflow_cast-result g c =
@@ -23,11 +23,11 @@ overflow_cast-result g c =
     let size = c.store.ensures.few in
     let edges = c.edges.ensures.count ∙ ap edge_count c.store.ensures.value in
     let fits = bound_fits g.R.Rules.NODE_WEIGHT s.network laws.is_light (omega (arith, names, size)) (omega (arith, few, edges)) in
-    omega (arith, whole, bounded, fits, c.from.ensures, c.from-2.ensures)
+    omega (arith, whole, bounded, fits, c.from.ensures, c.from-2.ensures, c.from-3.ensures)
 
 pub returns : goal.returns
 returns g c =
     let s = c.args.state.now.state in
     let good = c.registers.ensures.state in
     let whole = charge_counted g.R.Rules.COURTED_CLOSE (g.R.Rules.closes s) (g.R.Rules.adds s) s (g.R.Rules.table.charge s) c.args.open_edges c.args.added c.args.closing (g.met.R.Rules.charge_counts s good) c.requires.open c.requires.added c.requires.closing in
-    omega (arith, whole, c.from.ensures, c.from-2.ensures)
+    omega (arith, whole, c.from.ensures, c.from-2.ensures, c.from-3.ensures)

@@ -16,8 +16,8 @@ with_neighbour-tally-requires g c =
 
 pub loop-w-preserved : goal.loop-w-preserved
 loop-w-preserved g c =
-    let reaches : ℕ → Bool = λ w. asks_for g.R.Rules.ABOVE c.args.v w && g.R.Rules.table.opens (pointer_of c.args.registers.now w) (flag_of c.args.registers.now w) in
-    let suits : ℕ → Bool = λ w. points c.args.registers.now w c.args.v in
+    let reaches : ℕ → Bool = λ w. asks_for g.R.Rules.ABOVE c.args.v w && g.R.Rules.table.opens (pointer_of c.args.net.now.state.registers w) (flag_of c.args.net.now.state.registers w) in
+    let suits : ℕ → Bool = λ w. points c.args.net.now.state.registers w c.args.v in
     let nodes = c.args.nodes.now in
     let i = c.loop-w.w-index in
     let w = c.w-item.result in
@@ -30,10 +30,10 @@ loop-w-preserved g c =
     let reached = t.reached in
     let names = t.few in
     record {
-      suitors = count_take_more suits nodes i w _ c.loop-w.tally.suitors _ c.loop-w-test.true c.w-item.is inv.suitors t.suitors c.points_at-is_suitor.ensures;
+      suitors = count_take_more suits nodes i w _ c.loop-w.tally.suitors _ c.loop-w-test.true c.w-item.is inv.suitors t.suitors c.points-is_suitor.ensures;
       reached = count_take_more reaches nodes i w _ c.loop-w.tally.reached _ c.loop-w-test.true c.w-item.is inv.reached t.reached c.is_reached.ensures;
-      sum = names_take_more suits nodes i w _ c.loop-w.tally.sum _ c.loop-w-test.true c.w-item.is inv.sum t.sum c.points_at-is_suitor.ensures;
-      few_suitors = omega (arith, suitors, one_if_small c.points_at-is_suitor.result);
+      sum = names_take_more suits nodes i w _ c.loop-w.tally.sum _ c.loop-w-test.true c.w-item.is inv.sum t.sum c.points-is_suitor.ensures;
+      few_suitors = omega (arith, suitors, one_if_small c.points-is_suitor.result);
       few_reached = omega (arith, reached, one_if_small c.is_reached.result);
       few_names = omega arith;
     }

@@ -5,5 +5,5 @@ use Rattle.suitor_index.proofs.scan.last_open_above.Given as goal
 -- nothing was found behind the place
 abbrev pub invariant-loop-place : goal.invariant-loop-place
 invariant-loop-place g l =
-    let test : ℕ → Bool = λ w. g.R.Rules.table.opens (pointer_of l.registers w) (flag_of l.registers w) && nat_lt l.v w in
+    let test : ℕ → Bool = λ w. g.R.Rules.table.opens (pointer_of l.net.state.registers w) (flag_of l.net.state.registers w) && nat_lt l.v w in
     find test (reverse (take l.place l.nodes)) ≡ find test (reverse l.nodes)

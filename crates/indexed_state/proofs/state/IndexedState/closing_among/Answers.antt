@@ -9,7 +9,7 @@ use Rattle.indexed_state.proofs.state.IndexedState.closing_among.Goals as goal
 
 pub overflow_add-closing : goal.overflow_add-closing
 overflow_add-closing g c =
-    let net = c.self.inside.store.network in
+    let net = c.self.inside.net.state.network in
     let few = few_neighbours net c.args.node.now.node c.neighbours-w-items.result.now net.size c.neighbours-w-items.ensures.all refl c.self.invariant.0.few in
     let so_far = c.loop-w.invariant.few in
     omega (arith, few, so_far, c.loop-w-test.true, c.from-closing.ensures, few_bytes c.closes_edge.result)

@@ -3,7 +3,6 @@ use Rattle.std.specs.List.{range_with_len}
 use Rattle.std.specs.Result.{IfOk}
 use Rattle.enabled_set.specs.Members.{is_in}
 use Rattle.rule_machine.specs.State.{State}
-use Rattle.suitor_index.specs.Tallies.{state_of}
 use Rattle.indexed_state.specs.Indexed.{Indexed}
 use Rattle.indexed_state.specs.Shares.{is_lower_end}
 use Rattle.indexed_state.proofs.Summed.{lower_members}
@@ -11,7 +10,7 @@ use Rattle.indexed_state.proofs.state.IndexedState.lower_ends.Goals as goal
 
 pub returns-clause-ends : goal.returns-clause-ends
 returns-clause-ends g c =
-    let s : State = state_of c.self.inside.store.network c.self.inside.registers in
+    let s : State = c.self.inside.net.state in
     let same = ap (λ (n : Indexed). n.state) c.self.view_is ∙ c.look_again.ensures.state in
     let fresh : (v : ℕ) → is_in c.self.inside.shares.stale v ≡ false = λ v. ap (λ (n : Indexed). is_in n.stale v) c.self.view_is ∙ c.look_again.ensures.told v in
     let told = c.self.invariant.1 in

@@ -4,7 +4,6 @@ use Rattle.rule_machine.specs.Network.{names, edge_list}
 use Rattle.rule_machine.specs.Stable.{mutual_pairs}
 use Rattle.rule_machine.specs.State.{State}
 use Rattle.rule_set.specs.Ends.{ends_open}
-use Rattle.suitor_index.specs.Tallies.{state_of}
 use Rattle.indexed_state.specs.declared.shares.Share.{Share}
 use Rattle.indexed_state.specs.Indexed.{Indexed}
 use Rattle.indexed_state.specs.Shares.{node_part}
@@ -13,7 +12,7 @@ use Rattle.indexed_state.proofs.state.IndexedState.totals.Goals as goal
 
 pub returns-clause-pairs : goal.returns-clause-pairs
 returns-clause-pairs g c =
-    let s : State = state_of c.self.inside.store.network c.self.inside.registers in
+    let s : State = c.self.inside.net.state in
     let same = ap (λ (n : Indexed). n.state) c.self.view_is ∙ c.look_again.ensures.state in
     let fresh : (v : ℕ) → is_in c.self.inside.shares.stale v ≡ false = λ v. ap (λ (n : Indexed). is_in n.stale v) c.self.view_is ∙ c.look_again.ensures.told v in
     let told = c.self.invariant.1 in
@@ -23,17 +22,17 @@ returns-clause-pairs g c =
 
 pub returns-clause-open : goal.returns-clause-open
 returns-clause-open g c =
-    let s : State = state_of c.self.inside.store.network c.self.inside.registers in
+    let s : State = c.self.inside.net.state in
     let same = ap (λ (n : Indexed). n.state) c.self.view_is ∙ c.look_again.ensures.state in
     let fresh : (v : ℕ) → is_in c.self.inside.shares.stale v ≡ false = λ v. ap (λ (n : Indexed). is_in n.stale v) c.self.view_is ∙ c.look_again.ensures.told v in
     let told = c.self.invariant.1 in
     c.open_edges.ensures.count
-    ∙ turned_open g.R.Rules.COURTED_CLOSE s c.self.inside.store.ends c.self.invariant.0.is_state.is_network (λ v. (told.told v (fresh v)).end)
+    ∙ turned_open g.R.Rules.COURTED_CLOSE s c.self.inside.net.ends c.self.invariant.0.is_state.is_network (λ v. (told.told v (fresh v)).end)
     ∙ ap (λ (t : State). count_by (ends_open g.R.Rules.COURTED_CLOSE t) (edge_list t.network)) same
 
 pub returns-clause-added : goal.returns-clause-added
 returns-clause-added g c =
-    let s : State = state_of c.self.inside.store.network c.self.inside.registers in
+    let s : State = c.self.inside.net.state in
     let same = ap (λ (n : Indexed). n.state) c.self.view_is ∙ c.look_again.ensures.state in
     let fresh : (v : ℕ) → is_in c.self.inside.shares.stale v ≡ false = λ v. ap (λ (n : Indexed). is_in n.stale v) c.self.view_is ∙ c.look_again.ensures.told v in
     let told = c.self.invariant.1 in
@@ -43,7 +42,7 @@ returns-clause-added g c =
 
 pub returns-clause-closing : goal.returns-clause-closing
 returns-clause-closing g c =
-    let s : State = state_of c.self.inside.store.network c.self.inside.registers in
+    let s : State = c.self.inside.net.state in
     let same = ap (λ (n : Indexed). n.state) c.self.view_is ∙ c.look_again.ensures.state in
     let fresh : (v : ℕ) → is_in c.self.inside.shares.stale v ≡ false = λ v. ap (λ (n : Indexed). is_in n.stale v) c.self.view_is ∙ c.look_again.ensures.told v in
     let told = c.self.invariant.1 in

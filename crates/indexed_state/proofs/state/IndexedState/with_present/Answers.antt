@@ -1,27 +1,20 @@
-use Rattle.std.proofs.Common.{◌≡◌, ◌+◌, ◌≤◌, Bool, false, List, replicate, sym, ap₂, subst}
-use Rattle.rule_machine.specs.Network.{Network}
+use Rattle.std.proofs.Common.{◌+◌, ◌≤◌, Bool, false, List, replicate, sym, subst}
 use Rattle.rule_machine.specs.State.{State, IsState, opening_with}
 use Rattle.machine_laws.specs.Keeps.{opening_is_state}
-use Rattle.suitor_index.specs.Tallies.{state_of}
 use Rattle.indexed_state.specs.declared.shares.Share.{Share}
 use Rattle.indexed_state.specs.Shares.{no_share, AreTold}
 use Rattle.indexed_state.proofs.Told.{told_at_first}
 use Rattle.indexed_state.proofs.state.IndexedState.with_present.Goals as goal
 
-pub build-requires : goal.build-requires
-build-requires g c =
-    let is : state_of c.in_ok-store.store.network c.in-Ok.registers ≡ opening_with c.args.nodes c.args.present = ap₂ state_of c.in_ok-store.ensures.ok c.in-Ok.ensures in
-    subst (λ (s : State). IsState s) (sym is) (opening_is_state c.args.nodes c.args.present)
-
 pub invariant_of-result : goal.invariant_of-result
 invariant_of-result g c =
-    let is : state_of c.in_ok-store.store.network c.in-Ok.registers ≡ opening_with c.args.nodes c.args.present = ap₂ state_of c.in_ok-store.ensures.ok c.in-Ok.ensures in
-    let ends = c.in_ok-store.store.ends in
+    let is = c.in_ok-net.ensures.ok in
+    let ends = c.in_ok-net.net.ends in
     let shares = c.in-Ok-new.shares in (
       record {
         is_state = subst (λ (s : State). IsState s) (sym is) (opening_is_state c.args.nodes c.args.present);
-        index = c.in-Ok-build.ensures;
-        few = subst (λ (n : Network). n.size ≤ 65535) (sym c.in_ok-store.ensures.ok) c.in_ok-store.ensures.small;
+        index = c.in-Ok.ensures;
+        few = subst (λ (s : State). s.network.size ≤ 65535) (sym is) c.in_ok-net.ensures.small;
       },
       subst (λ (t : State). AreTold g.R.Rules.COURTED_CLOSE g.R.Rules.closes g.R.Rules.adds t ends shares.each.items shares.lower_ends shares.stale) (sym is)
           (subst (λ (l : List Share). AreTold g.R.Rules.COURTED_CLOSE g.R.Rules.closes g.R.Rules.adds (opening_with c.args.nodes c.args.present) ends l shares.lower_ends shares.stale) (sym c.in-Ok-new.ensures.each)

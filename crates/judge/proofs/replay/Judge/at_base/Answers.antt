@@ -17,14 +17,14 @@ pub returns-then-not-branch-clause-none : goal.returns-then-not-branch-clause-no
 returns-then-not-branch-clause-none c = λ none start begun few.
     let base = c.args.base.now in
     let lines = lines_made c.args.size base c.as_slice-nodes.result.now c.as_slice-edges.result.now c.in_ok-net.field-0 c.in-Some.net c.in_ok-net.ensures.some c.in-Some.is c.as_slice-nodes.ensures c.as_slice-edges.ensures in
-    too_much (table_of c.args.rules) (charge_bound (weight_of c.args.rules)) c.args.size base c.in-Some.net start c.in_ok-is_within.ensures.sound lines
+    too_much (table_of c.args.rules) (charge_bound (weight_of c.args.rules)) c.args.size base c.in-Some.net.state start c.in_ok-is_within.ensures.sound lines
     (sym c.in_ok-is_within.ensures.within ∙ c.if-not-branch.true) begun
 
 pub returns-then-not-has_fit_flags-clause-none : goal.returns-then-not-has_fit_flags-clause-none
 returns-then-not-has_fit_flags-clause-none c = λ none start begun few.
     let base = c.args.base.now in
     let lines = lines_made c.args.size base c.as_slice-nodes.result.now c.as_slice-edges.result.now c.in_ok-net.field-0 c.in-Some.net c.in_ok-net.ensures.some c.in-Some.is c.as_slice-nodes.ensures c.as_slice-edges.ensures in
-    let fit = fit_flags (table_of c.args.rules) (charge_bound (weight_of c.args.rules)) c.args.size base c.in-Some.net start c.in_ok-is_within.ensures.sound lines begun in
+    let fit = fit_flags (table_of c.args.rules) (charge_bound (weight_of c.args.rules)) c.args.size base c.in-Some.net.state start c.in_ok-is_within.ensures.sound lines begun in
     true≢false (sym (c.has_fit_flags.ensures.1 (subst (HasFitFlags c.args.rules) (sym c.in_ok-is_within.ensures.kept) fit)) ∙ c.if-not-has_fit_flags.true)
 
 pub returns-clause-begun : goal.returns-clause-begun
@@ -33,7 +33,7 @@ returns-clause-begun c =
     let t = table_of c.args.rules in
     let bound = charge_bound (weight_of c.args.rules) in
     let lines = lines_made c.args.size base c.as_slice-nodes.result.now c.as_slice-edges.result.now c.in_ok-net.field-0 c.in-Some.net c.in_ok-net.ensures.some c.in-Some.is c.as_slice-nodes.ensures c.as_slice-edges.ensures in
-    let begun = begins t bound c.args.size base c.in-Some.net c.in_ok-is_within.ensures.sound lines (subst (HasFitFlags c.args.rules) c.in_ok-is_within.ensures.kept (c.has_fit_flags.ensures.0 c.if-not-has_fit_flags.false)) (sym c.in_ok-is_within.ensures.within ∙ c.if-not-branch.false) in (
+    let begun = begins t bound c.args.size base c.in-Some.net.state c.in_ok-is_within.ensures.sound lines (subst (HasFitFlags c.args.rules) c.in_ok-is_within.ensures.kept (c.has_fit_flags.ensures.0 c.if-not-has_fit_flags.false)) (sym c.in_ok-is_within.ensures.within ∙ c.if-not-branch.false) in (
       subst (λ (s : State). IsBegun t bound c.args.size base (record { state = s; spent = base.spent })) (sym (c.in_ok-of_net.ensures ∙ c.in_ok-is_within.ensures.kept)) begun,
       subst (λ edges. length edges ≤ 1048576) c.as_slice-edges.ensures c.if-edges.false,
     )

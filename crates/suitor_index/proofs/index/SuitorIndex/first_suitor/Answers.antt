@@ -6,5 +6,5 @@ returns-in-0 g c = no_suitor_counted g.R.Rules.ABOVE g.R.Rules.table.opens _ c.a
 
 pub returns-in-1 : goal.returns-in-1
 returns-in-1 g c =
-    one_suitor_counted g.R.Rules.ABOVE g.R.Rules.table.opens _ c.args.self.now c.args.v c.tally-tally.result c.new.result c.requires.state c.requires.index c.requires.present c.tally-tally.ensures.value
+    one_suitor_counted g.R.Rules.ABOVE g.R.Rules.table.opens _ c.args.self.now c.args.v c.tally-tally.result c.new.result c.registers.ensures.sound c.requires.index c.requires.present c.tally-tally.ensures.value
     c.tally-tally.ensures.few c.in-1.is c.new.ensures

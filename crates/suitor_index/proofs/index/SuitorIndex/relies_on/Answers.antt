@@ -1,7 +1,7 @@
 use Rattle.std.proofs.Common.{◌≡◌, ◌∙◌, ℕ, Bool, ◌&&◌, nat_le, sym, ap, ap₂}
 use Rattle.rule_machine.specs.State.{State}
 use Rattle.rule_set.specs.Glance.{is_reached}
-use Rattle.suitor_index.specs.Tallies.{state_of, asks_for}
+use Rattle.suitor_index.specs.Tallies.{asks_for}
 use Rattle.suitor_index.specs.Told.{one_if}
 use Rattle.suitor_index.proofs.Counts.{others_counted}
 use Rattle.suitor_index.proofs.Reached.{reached_is}
@@ -10,7 +10,7 @@ use Rattle.suitor_index.proofs.index.SuitorIndex.relies_on.Goals.{then-asks_for,
 
 pub returns : goal.returns
 returns g c =
-    let s : State = state_of c.args.store.now.network c.args.registers.now in
+    let s : State = c.args.net.now.state in
     let above = g.R.Rules.ABOVE in
     let opens = g.R.Rules.table.opens in
     let w = c.args.w in
@@ -22,4 +22,4 @@ returns g c =
     c.has_none_but.ensures
     ∙ ap₂ (λ (n : ℕ) (b : Bool). nat_le n (one_if b)) (ap (λ t. t.reached) (c.tally.ensures.value ∙ c.requires.index.counted w c.requires.present))
     (told ∙ ap (λ b. asks_for above w v && b) c.requires.open ∙ sym (reached_is above opens s w v))
-    ∙ others_counted s.network (is_reached above opens s w) w v c.requires.state.is_network c.requires.linked
+    ∙ others_counted s.network (is_reached above opens s w) w v c.registers.ensures.sound.is_network c.requires.linked

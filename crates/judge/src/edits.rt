@@ -1,0 +1,57 @@
+//! What accepted events write.
+
+ghost use Rattle.std.specs.Prelude.{◌≡◌, ◌≤◌, IfOk, None, OnErr, OnOk};
+ghost use Rattle.rule_machine.specs.State.{IsState, opening_with};
+ghost use Rattle.rule_machine.specs.Refuse.{link_refusal, point_refusal};
+ghost use Rattle.rule_machine.specs.Disturbance.{after_link, after_point, after_flag};
+
+use net_state::NetState;
+use rule_machine::{Node, Place, Want};
+use std::alloc::{AllocError, Global};
+
+/// The nodes 1 to `present`, for names up to `nodes`, without an edge, all pointers null and all flags false.
+pub(crate) fn opened(alloc: Global, nodes: u32, present: u32) -> Result<NetState, Want>
+    requires few { nodes ≤ 65535 }
+    requires within { present ≤ nodes }
+    ensures { IfOk result (λ net. net.state ≡ opening_with nodes present) }
+{
+    match NetState::with_present(alloc, nodes, present) {
+        Ok(net) => Ok(net),
+        Err(_) => Err(AllocError),
+    }
+}
+
+/// Adds the edge between two nodes.
+pub(crate) fn link(net: &mut NetState, a: Node, b: Node) -> Result<(), Want>
+    requires { link_refusal net.old.state.network a b ≡ None }
+    ensures ok { OnOk result (net.new.state ≡ after_link net.old.state a b) }
+    ensures err { OnErr result (net.new.state ≡ net.old.state) }
+{
+    let Ok(()) = net.reserve_link(a, b) else {
+        return Err(AllocError);
+    };
+    net.link_reserved(a, b);
+    Ok(())
+}
+
+/// Writes a node's pointer.
+pub(crate) fn point(net: &mut NetState, v: Node, target: Option<Node>)
+    requires { point_refusal net.old.state.network v target ≡ None }
+    ensures { net.new.state ≡ after_point net.old.state v target }
+{
+    // By its contract the state is sound.
+    let _ = net.registers();
+    net.set_pointer(v, target);
+}
+
+/// Writes a node's registers.
+pub(crate) fn write(net: &mut NetState, place: Place)
+    requires { point_refusal net.old.state.network place.node place.target ≡ None }
+    ensures written { net.new.state ≡ after_flag (after_point net.old.state place.node place.target) place.node place.flagged }
+    ensures sound { IsState net.old.state }
+{
+    // By its contract the state is sound.
+    let _ = net.registers();
+    point(net, place.node, place.target);
+    net.set_flag(place.node, place.flagged);
+}

@@ -1,0 +1,94 @@
+-- What a new edge says of its ends, and pointers that do not cross.
+use Rattle.std.proofs.Common.{◌≡◌, ℕ, Bool, true, false, cond, not, ◌&&◌, Some, None, IsTrue, nat_eq, nat_le, refl, sym, ap, ◌∙◌}
+use Rattle.std.proofs.lemmas.Bool.{true≢false, false_from_ne_true, ne_eqb}
+use Rattle.std.proofs.lemmas.Option.{none-some}
+use Rattle.rule_machine.specs.declared.refusal.Refusal.TheVariants.{UnknownNode, SelfLoop, AlreadyLinked, NotLinked, TooManyEdges}
+use Rattle.rule_machine.specs.Network.{Network, IsNetwork, present, linked, edge_count}
+use Rattle.rule_machine.specs.State.{Registers, points, pointer_of, with_pointer}
+use Rattle.rule_machine.specs.Disturbance.{without_pointer}
+use Rattle.rule_machine.specs.Refuse.{both_present, link_refusal, unlink_refusal, max_edges}
+use Rattle.machine_laws.specs.Neighbours.{linked_back, linked_apart, linked_present}
+use Rattle.machine_laws.specs.Search.{cond-none}
+use Rattle.machine_laws.specs.Writes.{some_from_is_at, without_pointer_was, without_pointer_gone}
+use Rattle.graph_store.specs.Fault.{link_fault}
+use Rattle.graph_store.specs.declared.fault.GraphFault.TheVariants as fault
+
+-- what two names are that an edge may be put between
+pub record IsNewEdge (net : Network) (a b : ℕ) : Type 0 where
+  pub accepted : link_refusal net a b ≡ None
+  pub lower : IsTrue (present net a)
+  pub upper : IsTrue (present net b)
+  pub apart : nat_eq a b ≡ false
+
+-- nothing is wrong with the ends of a new edge
+pub record Passes (absent loop there full : Bool) : Type 0 where
+  pub present : absent ≡ false
+  pub apart : loop ≡ false
+  pub fresh : there ≡ false
+  pub room : full ≡ false
+
+passes : (absent loop there full : Bool) → cond absent (Some fault.UnknownNode) (cond loop (Some fault.SelfLoop) (cond there (Some fault.AlreadyLinked) (cond full (Some fault.TooManyEdges) None))) ≡ None → Passes absent loop there full
+passes true loop there full e = absurd (none-some fault.UnknownNode (sym e))
+passes false true there full e = absurd (none-some fault.SelfLoop (sym e))
+passes false false true full e = absurd (none-some fault.AlreadyLinked (sym e))
+passes false false false true e = absurd (none-some fault.TooManyEdges (sym e))
+passes false false false false e = record { present = refl; apart = refl; fresh = refl; room = refl }
+
+both : (b c : Bool) → not (b && c) ≡ false → IsTrue b × IsTrue c
+both true true e = (refl, refl)
+both true false e = absurd (true≢false e)
+both false c e = absurd (true≢false e)
+
+pub new_edge : (net : Network) (a b : ℕ) → link_fault net a b ≡ None → IsNewEdge net a b
+new_edge net a b none =
+    let p = passes (not (both_present net a b)) (nat_eq a b) (linked net a b) (nat_le max_edges (edge_count net)) none in
+    let ends = both (present net a) (present net b) p.present in
+    record {
+      accepted = ap (λ t. cond t (Some UnknownNode) (cond (nat_eq a b) (Some SelfLoop) (cond (linked net a b) (Some AlreadyLinked) (cond (nat_le max_edges (edge_count net)) (Some TooManyEdges) None)))) p.present
+          ∙ ap (λ t. cond t (Some SelfLoop) (cond (linked net a b) (Some AlreadyLinked) (cond (nat_le max_edges (edge_count net)) (Some TooManyEdges) None))) p.apart
+          ∙ ap (λ t. cond t (Some AlreadyLinked) (cond (nat_le max_edges (edge_count net)) (Some TooManyEdges) None)) p.fresh
+          ∙ ap (λ t. cond t (Some TooManyEdges) None) p.room;
+      lower = ends.0;
+      upper = ends.1;
+      apart = p.apart;
+    }
+
+-- without a pointer that does not cross, nothing changes
+pub stays : (r : Registers) (v w : ℕ) → points r v w ≡ false → without_pointer r v w ≡ r
+stays r v w e = ap (λ t. cond t (with_pointer r v None) r) e
+
+-- pointers across an edge that are cleared one after the other: neither is there any more
+pub crossing_cleared : (r : Registers) (a b : ℕ) → points (without_pointer (without_pointer r a b) b a) a b ≡ false
+crossing_cleared r a b =
+    false_from_ne_true _ (λ at. without_pointer_gone r a b (without_pointer_was (without_pointer r a b) b a a b (some_from_is_at (pointer_of (without_pointer (without_pointer r a b) b a) a) b at)))
+
+pub pointer_cleared : (r : Registers) (v w : ℕ) → points (without_pointer r v w) v w ≡ false
+pointer_cleared r v w = false_from_ne_true _ (λ at. without_pointer_gone r v w (some_from_is_at (pointer_of (without_pointer r v w) v) w at))
+
+-- ---- an edge that goes
+
+linked_of : (b : Bool) → cond b None (Some NotLinked) ≡ None → b ≡ true
+linked_of true e = refl
+linked_of false e = absurd cc
+
+-- one whose removal is not refused is there
+pub unrefused_linked : (net : Network) (a b : ℕ) → unlink_refusal net a b ≡ None → IsTrue (linked net a b)
+unrefused_linked net a b none =
+    let first = cond-none (not (both_present net a b)) UnknownNode _ none in
+    linked_of (linked net a b) (cond-none (nat_eq a b) SelfLoop _ first.1).1
+
+free : (p q e l : Bool) → p ≡ true → q ≡ true → e ≡ false → l ≡ true → cond (not (p && q)) (Some UnknownNode) (cond e (Some SelfLoop) (cond l None (Some NotLinked))) ≡ None
+free true true false true first second third fourth = refl
+free false q e l first second third fourth = absurd cc
+free true false e l first second third fourth = absurd cc
+free true true true l first second third fourth = absurd cc
+free true true false false first second third fourth = absurd cc
+
+-- an edge that is there may be removed
+pub may_unlink : (net : Network) (v w : ℕ) → IsNetwork net → IsTrue (linked net v w) → unlink_refusal net v w ≡ None
+may_unlink net v w good near =
+    free (present net v) (present net w) (nat_eq v w) (linked net v w)
+    (linked_present net v w good near)
+    (linked_present net w v good (linked_back net w v ∙ near))
+    (ne_eqb v w (linked_apart net v w good near))
+    near

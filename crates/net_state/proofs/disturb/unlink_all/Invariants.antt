@@ -1,0 +1,14 @@
+use Rattle.std.proofs.Common.{◌≡◌, IsTrue}
+use Rattle.rule_machine.specs.Network.{present, edge_count}
+use Rattle.rule_machine.specs.Disturbance.{after_leave}
+use Rattle.net_state.proofs.disturb.unlink_all.Given as goal
+
+-- the node is there, and to leave now would leave what it would have left before
+abbrev pub invariant-loop-w : goal.invariant-loop-w
+invariant-loop-w g l = record {
+  here : IsTrue (present (g.D.Disturb.state l.it).network l.v);
+  left : after_leave (g.D.Disturb.state l.it) l.v ≡ after_leave (g.D.Disturb.state l.initial.it) l.v;
+}
+
+abbrev pub decreases-loop-w : goal.decreases-loop-w
+decreases-loop-w g l = edge_count (g.D.Disturb.state l.it).network

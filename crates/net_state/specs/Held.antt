@@ -1,0 +1,30 @@
+-- A network with its registers as contracts see it.
+use Rattle.std.specs.Prelude.{ℕ, false, slice_set, List, Option, None, Some, if◌then◌else◌, refl}
+use Rattle.std.specs.Coded.{Coded, code_by, coded×, coded_ℕ, coded_list}
+use Rattle.rule_machine.specs.Network.{Network, present}
+use Rattle.rule_machine.specs.State.{State, Registers, state_code}
+use Rattle.rule_machine.specs.Base.{place_at}
+use Rattle.rule_machine.specs.declared.base.Place.{Place}
+use Rattle.graph_store.specs.declared.end.End.{End}
+use Rattle.graph_store.specs.Ends.{end_code}
+
+-- a state, for how many more neighbours each name has room, and what each name makes of the edges at it
+pub record Held : Type 0 where
+  pub state : State
+  pub room : List ℕ
+  pub ends : List End
+
+abbrev pub held_code : Coded Held
+held_code =
+    code_by (State × (List ℕ × List End)) (coded× state_code (coded× (coded_list coded_ℕ) (coded_list end_code))) (λ n. (n.state, (n.room, n.ends))) (λ p. record { state = p.0; room = p.1.0; ends = p.1.1 }) (λ _. refl)
+
+abbrev pub state_of : Network → Registers → State
+state_of net registers = record { network = net; registers = registers }
+
+-- the state in which a name is free, and all else as it was
+abbrev pub without_place : State → ℕ → State
+without_place s v = record s { network = record s.network { here = slice_set s.network.here v false } }
+
+-- a name with its registers, where it is a node of the state
+abbrev pub place_in : State → ℕ → Option Place
+place_in s v = if present s.network v then Some (place_at s v) else None

@@ -1,0 +1,182 @@
+//! A network with its registers.
+
+ghost use Rattle.std.specs.Prelude.{◌≡◌, ◌≤◌, ◌&&◌, All, IfOk, IfErr, IsTrue, OnOk, length, nat_le};
+ghost use Rattle.rule_machine.specs.Network as network;
+ghost use Rattle.rule_machine.specs.State as state;
+ghost use Rattle.graph_store.specs.Ends.{open_edges};
+ghost use Rattle.graph_store.specs.Fault.{nodes_fault, Explains};
+
+use graph_store::{EdgeStore, GraphFault};
+use registers::Registers;
+use rule_machine::{Edge, Node, Want};
+use std::alloc::Global;
+use std::marker::Model;
+
+/// The neighbour lists and the registers of a network, seen in contracts as a state, for how many more neighbours each name has
+/// room, and what each name makes of the edges at it.
+#[derive(Drop)]
+pub struct NetState {
+    pub(crate) store: EdgeStore,
+    pub(crate) registers: Registers,
+}
+
+impl Model for NetState {
+    ghost use Rattle.rule_machine.specs.State.{IsState};
+    ghost use Rattle.net_state.specs.Held.{Held, held_code, state_of};
+
+    ghost Value = { Held };
+
+    ghost coded = { held_code };
+
+    ghost view = { λ n. record { state = state_of n.store.network n.registers; room = n.store.room; ends = n.store.ends } };
+
+    ghost invariant = { λ n. IsState (state_of n.store.network n.registers) };
+}
+
+impl NetState {
+    /// The nodes 1 to `present`, for names up to `nodes`, without an edge, all pointers null and all flags false. `TooManyNodes`
+    /// above 65,535 names, and `Memory` if memory runs out.
+    pub fn with_present(alloc: Global, nodes: u32, present: u32) -> Result<NetState, GraphFault>
+        requires within { present ≤ nodes }
+        ensures ok { IfOk result (λ net. net.state ≡ state.opening_with nodes present) }
+        ensures small { OnOk result (nodes ≤ 65535) }
+        ensures fault { IfErr result (λ fault. Explains (nodes_fault nodes) fault) }
+    {
+        let store = EdgeStore::with_present(alloc, nodes, present)?;
+        let Ok(registers) = Registers::new(alloc, nodes) else {
+            return Err(GraphFault::Memory);
+        };
+        Ok(NetState { store, registers })
+    }
+
+    /// The edges.
+    #[inline(always)]
+    pub fn store(&self) -> &EdgeStore
+        ensures network { result.now.network ≡ self.now.state.network }
+        ensures room { result.now.room ≡ self.now.room }
+        ensures ends { result.now.ends ≡ self.now.ends }
+        ensures sound { state.IsState self.now.state }
+    {
+        &self.store
+    }
+
+    /// The registers.
+    #[inline(always)]
+    pub fn registers(&self) -> &Registers
+        ensures value { result.now ≡ self.now.state.registers }
+        ensures sound { state.IsState self.now.state }
+    {
+        &self.registers
+    }
+
+    /// How many nodes there are, at most 65,535.
+    pub fn nodes(&self) -> u32
+        ensures count { result ≡ network.node_count self.now.state.network }
+        ensures few { result ≤ 65535 }
+    {
+        self.store.nodes()
+    }
+
+    /// The greatest name that a node may have, at most 65,535.
+    #[inline(always)]
+    pub fn capacity(&self) -> u32
+        ensures size { result ≡ self.now.state.network.size }
+        ensures few { result ≤ 65535 }
+        ensures sound { state.IsState self.now.state }
+    {
+        self.store.capacity()
+    }
+
+    /// How many edges there are, at most 1,048,576.
+    pub fn edges(&self) -> u32
+        ensures count { result ≡ network.edge_count self.now.state.network }
+        ensures few { result ≤ 1048576 }
+    {
+        self.store.edges()
+    }
+
+    /// The edges, by rising lower ends, and those of one lower end by rising higher ends; takes four bytes an edge.
+    pub fn list_edges(&self) -> Result<Vec<Edge>, Want>
+        ensures list { IfOk result (λ edges. edges.items ≡ network.edge_list self.now.state.network) }
+        ensures few { IfOk result (λ edges. length edges.items ≤ 1048576) }
+    {
+        self.store.list()
+    }
+
+    /// How many edges are open by what their ends make of them. One look.
+    pub fn open_edges(&self) -> u32
+        ensures count { result ≡ open_edges self.now.state.network self.now.ends }
+        ensures few { result ≤ 1048576 }
+    {
+        self.store.open_edges()
+    }
+
+    /// Whether a node has this name. One look.
+    #[inline(always)]
+    pub fn has(&self, v: Node) -> bool
+        ensures { result ≡ network.present self.now.state.network v }
+    {
+        self.store.has(v)
+    }
+
+    /// Whether a node may have this name, as one has or may come to have: it is not above the greatest.
+    pub fn is_name(&self, v: Node) -> bool
+        ensures { result ≡ (nat_le 1 v && nat_le v self.now.state.network.size) }
+    {
+        prove!(v.name() >= 1);
+        v.name() <= self.capacity()
+    }
+
+    /// Whether there is an edge between two names: a look-up by halves.
+    pub fn linked(&self, a: Node, b: Node) -> bool
+        ensures value { result ≡ network.linked self.now.state.network a b }
+        ensures present { IsTrue result → IsTrue (network.present self.now.state.network a) × IsTrue (network.present self.now.state.network b) }
+    {
+        self.store.linked(a, b)
+    }
+
+    /// A node's neighbours, ascending.
+    #[inline(always)]
+    pub fn neighbours(&self, v: Node) -> &[Node]
+        requires { IsTrue (network.present self.now.state.network v) }
+        ensures all { result.now ≡ network.neighbours self.now.state.network v }
+        ensures present { All (λ w. IsTrue (network.present self.now.state.network w)) result.now }
+        ensures linked { All (λ w. IsTrue (network.linked self.now.state.network v w)) result.now }
+    {
+        self.store.neighbours(v)
+    }
+
+    /// Where the node of a name points, if there is one and it points anywhere: a look at its register alone.
+    #[inline(always)]
+    pub fn pointer(&self, v: Node) -> Option<Node>
+        requires { v ≤ self.now.state.network.size }
+        ensures { result ≡ state.pointer self.now.state v }
+    {
+        self.registers.pointer(v)
+    }
+
+    /// The flag of the node of a name, if there is one: a look at its register alone.
+    #[inline(always)]
+    pub fn flag(&self, v: Node) -> bool
+        requires { v ≤ self.now.state.network.size }
+        ensures { result ≡ state.flag self.now.state v }
+    {
+        self.registers.flag(v)
+    }
+
+    /// Whether a name points at another. One look.
+    #[inline(always)]
+    pub fn points(&self, v: Node, w: Node) -> bool
+        ensures { result ≡ state.points self.now.state.registers v w }
+    {
+        self.registers.points_at(v, w)
+    }
+
+    /// Whether a node is in a mutual pair. Two looks.
+    pub fn married(&self, v: Node) -> bool
+        requires { IsTrue (network.present self.now.state.network v) }
+        ensures { result ≡ state.married self.now.state v }
+    {
+        self.registers.married(v)
+    }
+}

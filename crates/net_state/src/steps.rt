@@ -1,0 +1,109 @@
+//! The steps of which disturbances are made, and those that are one step.
+
+ghost use Rattle.std.specs.Prelude.{◌≡◌, ◌≤◌, IfErr, IfSome, IsTrue, None, OnOk, [], false, slice_set};
+ghost use Rattle.rule_machine.specs.Network.{present, linked, neighbours, without_edge};
+ghost use Rattle.rule_machine.specs.State.{IsState, flag, points};
+ghost use Rattle.rule_machine.specs.Disturbance.{after_link, after_point, after_flag, after_join};
+ghost use Rattle.graph_store.specs.Fault.{link_fault, Explains};
+ghost use Rattle.graph_store.specs.Graph.{HasRoomFor};
+ghost use Rattle.graph_store.specs.Ends.{end_at};
+ghost use Rattle.net_state.specs.Held.{without_place};
+
+use crate::NetState;
+use graph_store::{End, GraphFault};
+use rule_machine::Node;
+
+impl NetState {
+    /// Makes room for the edge between two nodes, so that `link_reserved` of them takes no memory: a look-up by halves, and the
+    /// growth of at most two neighbour lists. `UnknownNode`, `SelfLoop`, `AlreadyLinked`, `TooManyEdges`, `Memory`, in that
+    /// order; the state stays.
+    pub fn reserve_link(&mut self, a: Node, b: Node) -> Result<(), GraphFault>
+        ensures ok { OnOk result ((link_fault self.old.state.network a b ≡ None) × HasRoomFor self.new.room a b) }
+        ensures fault { IfErr result (λ fault. Explains (link_fault self.old.state.network a b) fault) }
+        ensures kept { self.new.state ≡ self.old.state }
+        ensures ends { self.new.ends ≡ self.old.ends }
+    {
+        self.store.reserve_link(a, b)
+    }
+
+    /// Adds the edge between two nodes for which there is room: a look-up by halves and a shift in two neighbour lists. Takes no
+    /// memory.
+    pub fn link_reserved(&mut self, a: Node, b: Node)
+        requires free { link_fault self.old.state.network a b ≡ None }
+        requires room { HasRoomFor self.old.room a b }
+        ensures state { self.new.state ≡ after_link self.old.state a b }
+        ensures ends { self.new.ends ≡ self.old.ends }
+        ensures sound { IsState self.new.state }
+    {
+        self.store.link_reserved(a, b);
+    }
+
+    /// Removes an edge that no pointer crosses: a shift in two neighbour lists. Takes no memory.
+    pub fn take_out(&mut self, a: Node, b: Node)
+        requires linked { IsTrue (linked self.old.state.network a b) }
+        requires not_there { points self.old.state.registers a b ≡ false }
+        requires not_back { points self.old.state.registers b a ≡ false }
+        ensures state { self.new.state ≡ record self.old.state { network = without_edge self.old.state.network a b } }
+        ensures ends { self.new.ends ≡ self.old.ends }
+        ensures sound { IsState self.new.state }
+    {
+        self.store.unlink(a, b).unwrap();
+    }
+
+    /// Writes a node's pointer, to null or to a neighbour. One write.
+    #[inline(always)]
+    pub fn set_pointer(&mut self, v: Node, target: Option<Node>)
+        requires present { IsTrue (present self.old.state.network v) }
+        requires near { IfSome target (λ w. IsTrue (linked self.old.state.network v w)) }
+        ensures value { self.new ≡ record self.old { state = after_point self.old.state v target } }
+        ensures sound { IsState self.new.state }
+    {
+        self.registers.set_pointer(v, target);
+    }
+
+    /// Writes a node's flag. One write.
+    #[inline(always)]
+    pub fn set_flag(&mut self, v: Node, value: bool)
+        requires { IsTrue (present self.old.state.network v) }
+        ensures value { self.new ≡ record self.old { state = after_flag self.old.state v value } }
+        ensures sound { IsState self.new.state }
+    {
+        self.registers.set_flag(v, value);
+    }
+
+    /// Makes a name a node, with no edge, a null pointer and its flag false. Takes no memory.
+    pub fn join(&mut self, v: Node)
+        requires within { v ≤ self.old.state.network.size }
+        requires absent { present self.old.state.network v ≡ false }
+        ensures state { self.new.state ≡ after_join self.old.state v }
+        ensures ends { self.new.ends ≡ self.old.ends }
+        ensures sound { IsState self.new.state }
+    {
+        prove!(v.name() >= 1);
+        self.store.join(v).unwrap();
+    }
+
+    /// Frees the name of a node that has no edge and whose flag is false. Takes no memory.
+    pub fn free_name(&mut self, v: Node)
+        requires present { IsTrue (present self.old.state.network v) }
+        requires alone { neighbours self.old.state.network v ≡ [] }
+        requires unflagged { flag self.old.state v ≡ false }
+        ensures state { self.new.state ≡ without_place self.old.state v }
+        ensures ends { self.new.ends ≡ self.old.ends }
+        ensures sound { IsState self.new.state }
+    {
+        self.store.part(v);
+    }
+
+    /// Says what a name makes of the edges at it from now on, where at first each name shuts them: one look where that was said
+    /// before, else one at each neighbour. Takes no memory.
+    pub fn turn(&mut self, v: Node, end: End)
+        requires { v ≤ self.old.state.network.size }
+        ensures told { end_at self.new.ends v ≡ end }
+        ensures ends { self.new.ends ≡ slice_set self.old.ends v end }
+        ensures state { self.new.state ≡ self.old.state }
+        ensures room { self.new.room ≡ self.old.room }
+    {
+        self.store.turn(v, end);
+    }
+}
