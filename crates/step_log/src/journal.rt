@@ -9,6 +9,7 @@ ghost use Rattle.step_log.specs.declared.fault.NoEntry.TheVariants.{Forgotten, B
 ghost use Rattle.step_log.specs.Epochs.{AreEpochs, IsBounded};
 ghost use Rattle.rule_machine.specs.Base.{dropped};
 ghost use Rattle.rule_machine.specs.Network.{node_count, edge_count};
+ghost use Rattle.rule_machine.specs.Stable.{IsStable};
 ghost use Rattle.step_log.specs.Log.{max_entries, IsLog, empty_log, empty_log_with};
 ghost use Rattle.step_log.specs.Kept.{IsKept, last_number, whole, kept_with, next_receipt};
 ghost use Rattle.step_log.specs.Held.{IsReady, kept_of, log_of};
@@ -145,6 +146,16 @@ impl<R: Rules> Journal<R> {
         ensures upheld { Upholds R.table R.NODE_WEIGHT (kept_of self.now) }
     {
         &self.net
+    }
+
+    /// The charge: no more moves than this can come before the next accepted disturbance, and where it is zero the network is
+    /// stable. By the looks of `Net::charge`.
+    pub fn charge(&mut self) -> u32
+        ensures charge { result ≡ R.table.charge self.old.state }
+        ensures settled { result ≡ 0 → IsStable R.table.flags self.old.state }
+        ensures kept { self.new ≡ self.old }
+    {
+        self.net.charge()
     }
 
     /// The moves since the last accepted disturbance, or since the start. With the charge they are at most twice the

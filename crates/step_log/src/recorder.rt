@@ -4,6 +4,7 @@ ghost use Rattle.std.specs.Prelude.{◌≡◌, ◌<◌, ◌≤◌, ◌+◌, ◌*
 ghost use Rattle.graph_store.specs.Fault.{nodes_fault, Explains};
 ghost use Rattle.rule_machine.specs.declared.event.Event.TheVariants.{Step};
 ghost use Rattle.rule_machine.specs.Network.{node_count, edge_count};
+ghost use Rattle.rule_machine.specs.Stable.{IsStable};
 ghost use Rattle.rule_machine.specs.Answer.{Answers};
 ghost use Rattle.rule_machine.specs.Least.{reply_of};
 ghost use Rattle.rule_engine.specs.Choosing.{verdicts_of};
@@ -103,6 +104,16 @@ impl<R: Rules> Recorder<R> {
         ensures spent { result.now.spent ≡ self.now.spent }
     {
         &self.net
+    }
+
+    /// The charge: no more moves than this can come before the next accepted disturbance, and where it is zero the network is
+    /// stable. By the looks of `Net::charge`.
+    pub fn charge(&mut self) -> u32
+        ensures charge { result ≡ R.table.charge self.old.state }
+        ensures settled { result ≡ 0 → IsStable R.table.flags self.old.state }
+        ensures kept { self.new ≡ self.old }
+    {
+        self.net.charge()
     }
 
     /// The moves since the last accepted disturbance, or since the start. With the charge they are at most twice the
