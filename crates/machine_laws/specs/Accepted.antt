@@ -25,11 +25,11 @@ use Rattle.machine_laws.specs.LeastMoves.{IsTable, step_keeps}
 -- ---- refusals
 
 -- where no reason is given, the test before it did not fail
-cond_none : {X : Type 0} (b : Bool) (x : X) (o : Option X) → cond b (Some x) o ≡ None → (b ≡ false) × (o ≡ None)
+pub cond_none : {X : Type 0} (b : Bool) (x : X) (o : Option X) → cond b (Some x) o ≡ None → (b ≡ false) × (o ≡ None)
 cond_none true x o e = absurd (none-some x (sym e))
 cond_none false x o e = (refl, e)
 
-none_cond : {X : Type 0} (b : Bool) (x : X) → cond b None (Some x) ≡ None → b ≡ true
+pub none_cond : {X : Type 0} (b : Bool) (x : X) → cond b None (Some x) ≡ None → b ≡ true
 none_cond true x e = refl
 none_cond false x e = absurd (none-some x (sym e))
 
@@ -37,7 +37,7 @@ option_or_none : {X : Type 0} (o p : Option X) → option_or o p ≡ None → (o
 option_or_none None p e = (refl, e)
 option_or_none (Some x) p e = absurd (none-some x (sym e))
 
-true_from_not : (b : Bool) → not b ≡ false → b ≡ true
+pub true_from_not : (b : Bool) → not b ≡ false → b ≡ true
 true_from_not true e = refl
 true_from_not false e = absurd (true≢false e)
 

@@ -101,7 +101,7 @@ pointer_was s v (w ∷ others) x y e =
     without_pointer_was s.registers v w x y (without_pointer_was (without_pointer s.registers v w) w v x y (pointer_was (after_unlink s v w) v others x y e))
 
 -- a pointer of another node, or one that is elsewhere, stays
-without_pointer_stays : (r : Registers) (a b x : ℕ) → (x ≡ a → is_at (pointer_of r x) b ≡ false) → pointer_of (without_pointer r a b) x ≡ pointer_of r x
+pub without_pointer_stays : (r : Registers) (a b x : ℕ) → (x ≡ a → is_at (pointer_of r x) b ≡ false) → pointer_of (without_pointer r a b) x ≡ pointer_of r x
 without_pointer_stays r a b x h =
     ⊎_elim
     (λ (same : x ≡ a). go (points r a b) (ap (λ z. is_at (pointer_of r z) b) (sym same) ∙ h same))

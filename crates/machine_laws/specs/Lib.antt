@@ -17,6 +17,7 @@ pub mod AscendingMoves
 pub mod Passes
 pub mod Pairs
 pub mod Laws
+pub mod Half
 pub mod Leaves
 pub mod Parted
 pub mod Determined

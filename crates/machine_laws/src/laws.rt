@@ -1,9 +1,10 @@
 //! Laws of the definitions: each function does nothing, and its contract is the law.
 
-ghost use Rattle.std.specs.Prelude.{◌≡◌, ℕ, Bool, Some, IfSome, IsTrue, All, Contains};
+ghost use Rattle.std.specs.Prelude.{◌≡◌, ℕ, ◌*◌, ◌≤◌, Bool, List, length, Some, IfSome, IsTrue, All, Contains};
 ghost use Rattle.std.specs.FinMap as map;
 ghost use Rattle.rule_machine.specs.Base.{base_of};
-ghost use Rattle.rule_machine.specs.Network.{present};
+ghost use Rattle.rule_machine.specs.Network.{Network, present};
+ghost use Rattle.machine_laws.specs.Half.{IsMatching};
 ghost use Rattle.rule_machine.specs.Run.{Moment};
 ghost use Rattle.rule_machine.specs.State.{State, IsState, pointer, flag, married};
 ghost use Rattle.rule_machine.specs.Stable.{IsStable, IsMaximalMatching, ShareAnEnd, mutual_pairs};
@@ -28,4 +29,14 @@ pub fn maximal_is_stable()
 /// For names up to the same size a base is that of one moment: its nodes and edges tell the state.
 pub fn base_tells()
     ensures { (number : ℕ) (m o : Moment) → IsState m.state → IsState o.state → m.state.network.size ≡ o.state.network.size → base_of number m ≡ base_of number o → m ≡ o }
+{}
+
+/// No matching has more than twice as many edges as a maximal one: a maximal matching is at least half of the best.
+pub fn maximal_is_half()
+    ensures { (net : Network) (maximal other : List (ℕ × ℕ)) → IsMaximalMatching net maximal → IsMatching net other → length other ≤ 2 * length maximal }
+{}
+
+/// Where a network is stable its mutual pairs are at least half as many as the edges of any matching.
+pub fn stable_is_half()
+    ensures { (uses_flags : Bool) (s : State) → IsState s → IsStable uses_flags s → (other : List (ℕ × ℕ)) → IsMatching s.network other → length other ≤ 2 * length (mutual_pairs s) }
 {}

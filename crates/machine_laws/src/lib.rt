@@ -4,4 +4,7 @@
 
 mod laws;
 
-pub use laws::{base_tells, maximal_is_stable, mutual_pairs_apart, stable_is_maximal};
+pub use laws::{
+    base_tells, maximal_is_half, maximal_is_stable, mutual_pairs_apart, stable_is_half,
+    stable_is_maximal,
+};

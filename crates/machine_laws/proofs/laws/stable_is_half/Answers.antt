@@ -1,0 +1,5 @@
+use Rattle.machine_laws.specs.Half as half
+use Rattle.machine_laws.proofs.laws.stable_is_half.Goals as goal
+
+pub returns : goal.returns
+returns c = half.stable_is_half
