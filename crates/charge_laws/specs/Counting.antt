@@ -96,7 +96,7 @@ open_falls closed closed' xs stays =
     one false false h = omega arith
 
 -- the list without one of its elements
-abbrev without : {X : Type 0} (xs : List X) (y : X) → IsIn y xs → List X
+abbrev pub without : {X : Type 0} (xs : List X) (y : X) → IsIn y xs → List X
 without [] y h = absurd h
 without (x ∷ xs) y (inl same) = xs
 without (x ∷ xs) y (inr there) = x ∷ without xs y there
@@ -111,7 +111,7 @@ count_without p (x ∷ xs) y (inr there) passes =
     let rest = count_without p xs y there passes in
     omega (arith, whole, part, rest)
 
-in_without : {X : Type 0} (xs : List X) (y : X) (h : IsIn y xs) (z : X) → IsIn z xs → (y ≡ z → ⊥) → IsIn z (without xs y h)
+pub in_without : {X : Type 0} (xs : List X) (y : X) (h : IsIn y xs) (z : X) → IsIn z xs → (y ≡ z → ⊥) → IsIn z (without xs y h)
 in_without [] y h z at apart = absurd h
 in_without (x ∷ xs) y (inl same) z (inl here) apart = absurd (apart (sym same ∙ here))
 in_without (x ∷ xs) y (inl same) z (inr at) apart = at

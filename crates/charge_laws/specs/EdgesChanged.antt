@@ -37,7 +37,7 @@ count_with p s k absent =
     ∙ count_put p k (map.entries s) (ap is_some (sym (map.get-entries s k)) ∙ absent)
 
 -- a pair that is taken out is there no longer
-taken_out : (s : PairSet) (k : ℕ × ℕ) → map.contains_key (map.remove s k) k ≡ false
+pub taken_out : (s : PairSet) (k : ℕ × ℕ) → map.contains_key (map.remove s k) k ≡ false
 taken_out s k = contains-remove s k k ∙ ap (λ b. not b && map.contains_key s k) ((eq_by_cmp_equiv pair_total).refl k)
 
 -- what is taken out and put in again was there before

@@ -85,7 +85,7 @@ closed_is s a b good h =
     )
     (or_cases (married s a || married s b || awaits s a b || awaits s b a) (is_courted s a && is_courted s b) h)
 
-closed_from : (s : State) (a b : ℕ) → IsState s → IsClosed (pointer s) a b → IsTrue (hsu_huang_closed s (a, b))
+pub closed_from : (s : State) (a b : ℕ) → IsState s → IsClosed (pointer s) a b → IsTrue (hsu_huang_closed s (a, b))
 closed_from s a b good closed = by_reason closed
   where
     ends : Bool

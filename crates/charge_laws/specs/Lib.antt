@@ -21,3 +21,12 @@ pub mod Runs
 pub mod Epochs
 pub mod Begun
 pub mod ClosedByPointers
+pub mod Degrees
+pub mod StableCharge
+pub mod Touched
+pub mod Costs
+pub mod HsuHuangCosts
+pub mod HsuHuangEdits
+pub mod CostsOfRuns
+pub mod ManneCosts
+pub mod ManneStableCharge

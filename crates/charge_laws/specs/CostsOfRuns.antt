@@ -1,0 +1,202 @@
+-- What the moves of a run cost, disturbances included: they are paid by the charge at its start and by what the disturbances add.
+use Rattle.std.proofs.Common.{◌≡◌, ℕ, ◌+◌, ◌*◌, ◌≤◌, true, false, not, ◌&&◌, List, [], ◌∷◌, length, map, nat_eq, nat_le, Option, None, Some, IsTrue, refl, sym, ap, ◌∙◌, subst, arith, leb-true, eq-eqb}
+use Rattle.std.proofs.lemmas.Bool.{true≢false, and_parts}
+use Rattle.std.proofs.lemmas.Option.{same_Some, none-some}
+use Rattle.std.proofs.lemmas.List.Sums.{sum_by-cons}
+use Rattle.rule_machine.specs.declared.event.Event.{Event}
+use Rattle.rule_machine.specs.declared.event.Event.TheVariants.{Link, Unlink, Point, Flag, Step, Show, Enabled, Matching, Status, Join, Leave}
+use Rattle.rule_machine.specs.declared.refusal.Refusal.{Refusal}
+use Rattle.rule_machine.specs.declared.refusal.Refusal.TheVariants.{UnknownNode, SelfLoop, AlreadyLinked, AlreadyPresent, NotNeighbour}
+use Rattle.rule_machine.specs.declared.reply.Reply.{Reply}
+use Rattle.rule_machine.specs.declared.reply.Reply.TheVariants.{Accepted, Refused, Moves, Shown, EnabledAre, Pairs, Counts}
+use Rattle.rule_machine.specs.Network.{node_count, present, linked}
+use Rattle.rule_machine.specs.State.{State, IsState}
+use Rattle.rule_machine.specs.RuleTable.{RuleTable}
+use Rattle.rule_machine.specs.HsuHuang.{hsu_huang}
+use Rattle.rule_machine.specs.Manne.{manne}
+use Rattle.rule_machine.specs.Refuse.{both_present, refusal_of}
+use Rattle.rule_machine.specs.Stable.{IsStable, mutual_pairs}
+use Rattle.rule_machine.specs.Answer.{Does, AnswersBy, Answers, spent_after}
+use Rattle.rule_machine.specs.Run.{Entry, Moment, Run}
+use Rattle.machine_laws.specs.Accepted.{cond_none, none_cond, true_from_not}
+use Rattle.machine_laws.specs.LeastMoves.{IsTable}
+use Rattle.machine_laws.specs.Runs.{answers_keep, runs_end_in_states}
+use Rattle.charge_laws.specs.Charged.{IsCharged, IsUndisturbed, moves_of, moves_in}
+use Rattle.charge_laws.specs.Runs.{answer_lowers}
+use Rattle.charge_laws.specs.Epochs.{IsPath}
+use Rattle.charge_laws.specs.Costs.{hsu_huang_cost, manne_cost, cost_of, costs_of, end_of, log_of}
+use Rattle.charge_laws.specs.Tables.{hsu_huang_table, manne_table}
+use Rattle.charge_laws.specs.Laws.{hsu_huang_charged, manne_charged, moves_are_paid}
+use Rattle.charge_laws.specs.StableCharge.{hsu_huang_stable_is_zero}
+use Rattle.charge_laws.specs.HsuHuangCosts.{point_costs}
+use Rattle.charge_laws.specs.ManneCosts as of_manne
+use Rattle.charge_laws.specs.ManneStableCharge.{unmarried_charge, married_are_pairs, manne_stable_charge}
+use Rattle.charge_laws.specs.HsuHuangEdits.{link_costs, join_costs, unlink_costs, leave_costs}
+
+-- an accepted disturbance adds its cost at most
+abbrev pub IsCosted : RuleTable → (State → Event → ℕ) → Type 0
+IsCosted t cost =
+    (s : State) → IsState s → (n : ℕ) (event : Event) (s' : State) → refusal_of t s event ≡ None → Does t s n event Accepted s' → t.charge s' ≤ t.charge s + cost s event
+
+-- what an event that is not refused has
+pub link_parts : (t : RuleTable) (s : State) (a b : ℕ) → refusal_of t s (Link a b) ≡ None → IsTrue (present s.network a) × IsTrue (present s.network b) × (a ≡ b → ⊥) × (linked s.network a b ≡ false)
+link_parts t s a b e =
+    let first = cond_none (not (both_present s.network a b)) UnknownNode _ e in
+    let second = cond_none (nat_eq a b) SelfLoop _ first.1 in
+    let third = cond_none (linked s.network a b) AlreadyLinked _ second.1 in
+    let both = and_parts (present s.network a) (present s.network b) (true_from_not (both_present s.network a b) first.0) in
+    (both.0, both.1, (λ same. true≢false (sym (eq-eqb a b same) ∙ second.0)), third.0)
+
+pub point_parts : (t : RuleTable) (s : State) (v : ℕ) (target : Option ℕ) → refusal_of t s (Point v target) ≡ None → IsTrue (present s.network v) × ((x : ℕ) → target ≡ Some x → IsTrue (linked s.network v x))
+point_parts t s v None e = (none_cond (present s.network v) UnknownNode e, λ x same. absurd (none-some x same))
+point_parts t s v (Some w) e =
+    let first = cond_none (not (both_present s.network v w)) UnknownNode _ e in
+    let near = none_cond (linked s.network v w) NotNeighbour first.1 in
+    let both = and_parts (present s.network v) (present s.network w) (true_from_not (both_present s.network v w) first.0) in
+    (both.0, λ x same. subst (λ y. IsTrue (linked s.network v y)) (same_Some w x same) near)
+
+pub join_low : (t : RuleTable) (s : State) (v : ℕ) → refusal_of t s (Join v) ≡ None → 1 ≤ v
+join_low t s v e =
+    let first = cond_none (not (nat_le 1 v && nat_le v s.network.size)) UnknownNode _ e in
+    leb-true 1 v (and_parts (nat_le 1 v) (nat_le v s.network.size) (true_from_not (nat_le 1 v && nat_le v s.network.size) first.0)).0
+
+pub leave_has : (t : RuleTable) (s : State) (v : ℕ) → refusal_of t s (Leave v) ≡ None → IsTrue (present s.network v)
+leave_has t s v e = none_cond (present s.network v) UnknownNode e
+
+-- ---- one answer
+
+-- the moves of an answer and the charge that is left are paid by the charge before it and what a disturbance adds
+pub answer_costs : (t : RuleTable) (weight : ℕ) (cost : State → Event → ℕ) → IsCharged t weight → IsCosted t cost → (s : State) → IsState s → (n : ℕ) (event : Event) (reply : Reply) (s' : State) → Answers t s n event reply s' → moves_of reply + t.charge s' ≤ t.charge s + cost_of (cost s event) reply
+answer_costs t weight cost charged costed s good n event Accepted s' answers = let more = accepted (refusal_of t s event) refl answers in omega (arith, more)
+  where
+    accepted : (r : Option Refusal) → refusal_of t s event ≡ r → AnswersBy t s n event r Accepted s' → t.charge s' ≤ t.charge s + cost s event
+    accepted None e does = costed s good n event s' e does
+    accepted (Some refusal) e does = let other = does.0 in absurd cc
+answer_costs t weight cost charged costed s good n event (Refused refusal) s' answers = let less = (answer_lowers t weight charged s good n event (Refused refusal) s' answers (λ e. cc)).0 in omega (arith, less)
+answer_costs t weight cost charged costed s good n event (Moves moves) s' answers = let less = (answer_lowers t weight charged s good n event (Moves moves) s' answers (λ e. cc)).0 in omega (arith, less)
+answer_costs t weight cost charged costed s good n event (Shown target) s' answers = let less = (answer_lowers t weight charged s good n event (Shown target) s' answers (λ e. cc)).0 in omega (arith, less)
+answer_costs t weight cost charged costed s good n event (EnabledAre nodes) s' answers = let less = (answer_lowers t weight charged s good n event (EnabledAre nodes) s' answers (λ e. cc)).0 in omega (arith, less)
+answer_costs t weight cost charged costed s good n event (Pairs pairs) s' answers = let less = (answer_lowers t weight charged s good n event (Pairs pairs) s' answers (λ e. cc)).0 in omega (arith, less)
+answer_costs t weight cost charged costed s good n event (Counts counts) s' answers = let less = (answer_lowers t weight charged s good n event (Counts counts) s' answers (λ e. cc)).0 in omega (arith, less)
+
+-- ---- a run
+
+-- From any state: the moves of a run, and the charge that is left, are paid by the charge at its start and what its disturbances add.
+pub path_costs : (t : RuleTable) (weight : ℕ) (cost : State → Event → ℕ) → IsTable t → IsCharged t weight → IsCosted t cost → (start : Moment) → IsState start.state → (path : List (Entry × State)) → IsPath t start path → moves_in (log_of path) + t.charge (end_of start.state path) ≤ t.charge start.state + costs_of cost start.state path
+path_costs t weight cost table charged costed start good [] is = omega arith
+path_costs t weight cost table charged costed start good (((event, reply), s) ∷ path) (answers, is) =
+    let first = answer_costs t weight cost charged costed start.state good start.spent event reply s answers in
+    let rest = path_costs t weight cost table charged costed (record { state = s; spent = spent_after start.spent reply }) (answers_keep t table start.state good start.spent event reply s answers) path is in
+    let whole = sum_by-cons (λ (e : Entry). moves_of e.1) (event, reply) (map (λ step. step.0) path) in
+    omega (arith, first, rest, whole)
+
+-- ---- Hsu and Huang
+
+pub hsu_huang_costed : IsCosted hsu_huang hsu_huang_cost
+hsu_huang_costed s good n (Link a b) s' e does =
+    let parts = link_parts hsu_huang s a b e in
+    let more = link_costs s a b good parts.0 parts.1 parts.2 parts.3 in
+    let is = ap hsu_huang.charge does in
+    omega (arith, more, is)
+hsu_huang_costed s good n (Unlink a b) s' e does = let more = unlink_costs s a b good in let is = ap hsu_huang.charge does in omega (arith, more, is)
+hsu_huang_costed s good n (Point v target) s' e does =
+    let parts = point_parts hsu_huang s v target e in
+    let more = point_costs s v target good parts.0 parts.1 in
+    let is = ap hsu_huang.charge does in
+    omega (arith, more, is)
+hsu_huang_costed s good n (Flag v value) s' e does = absurd cc
+hsu_huang_costed s good n (Join v) s' e does = let more = join_costs s v good (join_low hsu_huang s v e) in let is = ap hsu_huang.charge does in omega (arith, more, is)
+hsu_huang_costed s good n (Leave v) s' e does = let more = leave_costs s v good (leave_has hsu_huang s v e) in let is = ap hsu_huang.charge does in omega (arith, more, is)
+hsu_huang_costed s good n (Step items) s' e does = absurd does
+hsu_huang_costed s good n (Show v) s' e does = absurd does
+hsu_huang_costed s good n Enabled s' e does = absurd does
+hsu_huang_costed s good n Matching s' e does = absurd does
+hsu_huang_costed s good n Status s' e does = absurd does
+
+pub hsu_huang_path_costs : (start : Moment) → IsState start.state → (path : List (Entry × State)) → IsPath hsu_huang start path → moves_in (log_of path) + hsu_huang.charge (end_of start.state path) ≤ hsu_huang.charge start.state + costs_of hsu_huang_cost start.state path
+hsu_huang_path_costs start good path is = path_costs hsu_huang 1 hsu_huang_cost hsu_huang_table hsu_huang_charged hsu_huang_costed start good path is
+
+-- From a stable state the disturbances pay for all moves.
+pub hsu_huang_stable_costs : (start : Moment) → IsState start.state → IsStable false start.state → (path : List (Entry × State)) → IsPath hsu_huang start path → moves_in (log_of path) ≤ costs_of hsu_huang_cost start.state path
+hsu_huang_stable_costs start good stable path is =
+    let paid = hsu_huang_path_costs start good path is in
+    let zero = hsu_huang_stable_is_zero start.state good stable in
+    omega (arith, paid, zero)
+
+-- ---- Manne and others
+
+-- a name that joins was not there
+join_absent : (s : State) (v : ℕ) → refusal_of manne s (Join v) ≡ None → present s.network v ≡ false
+join_absent s v e =
+    let first = cond_none (not (nat_le 1 v && nat_le v s.network.size)) UnknownNode _ e in
+    (cond_none (present s.network v) AlreadyPresent None first.1).0
+
+pub manne_costed : IsCosted manne manne_cost
+manne_costed s good n (Link a b) s' e does =
+    let parts = link_parts manne s a b e in
+    let more = of_manne.link_costs s a b good parts.0 parts.1 parts.2 parts.3 in
+    let is = ap manne.charge does in
+    omega (arith, more, is)
+manne_costed s good n (Unlink a b) s' e does = let more = of_manne.unlink_costs s a b good in let is = ap manne.charge does in omega (arith, more, is)
+manne_costed s good n (Point v target) s' e does =
+    let parts = point_parts manne s v target e in
+    let more = of_manne.point_costs s v target good parts.0 parts.1 in
+    let is = ap manne.charge does in
+    omega (arith, more, is)
+manne_costed s good n (Flag v value) s' e does = let more = of_manne.flag_costs s v value good (none_cond (present s.network v) UnknownNode e) in let is = ap manne.charge does in omega (arith, more, is)
+manne_costed s good n (Join v) s' e does = let more = of_manne.join_costs s v good (join_low manne s v e) (join_absent s v e) in let is = ap manne.charge does in omega (arith, more, is)
+manne_costed s good n (Leave v) s' e does = let more = of_manne.leave_costs s v good (leave_has manne s v e) in let is = ap manne.charge does in omega (arith, more, is)
+manne_costed s good n (Step items) s' e does = absurd does
+manne_costed s good n (Show v) s' e does = absurd does
+manne_costed s good n Enabled s' e does = absurd does
+manne_costed s good n Matching s' e does = absurd does
+manne_costed s good n Status s' e does = absurd does
+
+pub manne_path_costs : (start : Moment) → IsState start.state → (path : List (Entry × State)) → IsPath manne start path → moves_in (log_of path) + manne.charge (end_of start.state path) ≤ manne.charge start.state + costs_of manne_cost start.state path
+manne_path_costs start good path is = path_costs manne 3 manne_cost manne_table manne_charged manne_costed start good path is
+
+-- ---- pairs that are gained
+
+-- a run goes from state to state
+pub path_keeps : (t : RuleTable) → IsTable t → (start : Moment) → IsState start.state → (path : List (Entry × State)) → IsPath t start path → IsState (end_of start.state path)
+path_keeps t table start good [] is = good
+path_keeps t table start good (((event, reply), s) ∷ path) (answers, is) =
+    path_keeps t table (record { state = s; spent = spent_after start.spent reply }) (answers_keep t table start.state good start.spent event reply s answers) path is
+
+-- From a stable state the disturbances, the pairs that were gained and the nodes that were lost pay for all moves.
+pub manne_stable_costs : (start : Moment) → IsState start.state → IsStable true start.state → (path : List (Entry × State)) → IsPath manne start path → moves_in (log_of path) + 2 * length (mutual_pairs start.state) + node_count (end_of start.state path).network ≤ costs_of manne_cost start.state path + 2 * length (mutual_pairs (end_of start.state path)) + node_count start.state.network
+manne_stable_costs start good stable path is =
+    let paid = manne_path_costs start good path is in
+    let before = manne_stable_charge start.state good stable in
+    let left = unmarried_charge (end_of start.state path) in
+    let after = married_are_pairs (end_of start.state path) (path_keeps manne manne_table start good path is) in
+    omega (arith, paid, before, left, after)
+
+-- ---- one disturbance
+
+pub hsu_huang_disturbed : (s : State) → IsState s → (spent : ℕ) (event : Event) (after : State) → Answers hsu_huang s spent event Accepted after → hsu_huang.charge after ≤ hsu_huang.charge s + hsu_huang_cost s event
+hsu_huang_disturbed s good spent event after answers =
+    let more = answer_costs hsu_huang 1 hsu_huang_cost hsu_huang_charged hsu_huang_costed s good spent event Accepted after answers in omega (arith, more)
+
+pub manne_disturbed : (s : State) → IsState s → (spent : ℕ) (event : Event) (after : State) → Answers manne s spent event Accepted after → manne.charge after ≤ manne.charge s + manne_cost s event
+manne_disturbed s good spent event after answers =
+    let more = answer_costs manne 3 manne_cost manne_charged manne_costed s good spent event Accepted after answers in omega (arith, more)
+
+-- one disturbance of a stable state pays for all moves up to the next
+pub hsu_huang_one : (s : State) → IsState s → IsStable false s → (spent : ℕ) (event : Event) (after : State) → Answers hsu_huang s spent event Accepted after → (log : List Entry) (end : Moment) → Run hsu_huang (record { state = after; spent = 0 }) log end → IsUndisturbed log → moves_in log ≤ hsu_huang_cost s event
+hsu_huang_one s good stable spent event after answers log end run calm =
+    let good' = answers_keep hsu_huang hsu_huang_table s good spent event Accepted after answers in
+    let paid = moves_are_paid hsu_huang 1 hsu_huang_table hsu_huang_charged (record { state = after; spent = 0 }) good' log end run calm in
+    let more = hsu_huang_disturbed s good spent event after answers in
+    let zero = hsu_huang_stable_is_zero s good stable in
+    omega (arith, paid, more, zero)
+
+pub manne_one : (s : State) → IsState s → IsStable true s → (spent : ℕ) (event : Event) (after : State) → Answers manne s spent event Accepted after → (log : List Entry) (end : Moment) → Run manne (record { state = after; spent = 0 }) log end → IsUndisturbed log → moves_in log + 2 * length (mutual_pairs s) + node_count end.state.network ≤ manne_cost s event + 2 * length (mutual_pairs end.state) + node_count s.network
+manne_one s good stable spent event after answers log end run calm =
+    let good' = answers_keep manne manne_table s good spent event Accepted after answers in
+    let paid = moves_are_paid manne 3 manne_table manne_charged (record { state = after; spent = 0 }) good' log end run calm in
+    let more = manne_disturbed s good spent event after answers in
+    let before = manne_stable_charge s good stable in
+    let left = unmarried_charge end.state in
+    let pairs = married_are_pairs end.state (runs_end_in_states manne manne_table (record { state = after; spent = 0 }) good' log end run) in
+    omega (arith, paid, more, before, left, pairs)

@@ -1,0 +1,47 @@
+-- What the charge is where the network is stable.
+use Rattle.std.proofs.Common.{◌≡◌, ℕ, Bool, false, not, count_by, Some, IsTrue, ap, ◌∙◌, ⊎_elim, arith}
+use Rattle.std.proofs.lemmas.Bool.{not_from_true}
+use Rattle.rule_machine.specs.Network.{linked, names, edge_list}
+use Rattle.rule_machine.specs.State.{State, IsState, pointer, is_unanswered}
+use Rattle.rule_machine.specs.Charge.{hsu_huang_closed, hsu_huang_charge}
+use Rattle.rule_machine.specs.Stable.{IsStable}
+use Rattle.machine_laws.specs.Neighbours.{option_cases, linked_pair}
+use Rattle.machine_laws.specs.Pointers.{if_some}
+use Rattle.charge_laws.specs.Counting.{IsIn}
+use Rattle.charge_laws.specs.Members.{edges_contain}
+use Rattle.charge_laws.specs.Stances.{Standing, standing, free, waiting, paired, stance, is_waiting, is_paired, unanswered_is, paired_from}
+use Rattle.charge_laws.specs.Degrees.{none_count}
+use Rattle.charge_laws.specs.HsuHuangTurns.{low_paired, high_paired}
+use Rattle.charge_laws.specs.HsuHuangFalls.{closed_from}
+
+answer_of : (uses_flags : Bool) (s : State) → IsStable uses_flags s → (v w : ℕ) → pointer s v ≡ Some w → pointer s w ≡ Some v
+answer_of uses_flags s stable v w e = if_some (pointer s v) (λ x. pointer s x ≡ Some v) w e (stable.answered v)
+
+-- no pointer is unanswered
+pub none_unanswered : (uses_flags : Bool) (s : State) → IsStable uses_flags s → count_by (is_unanswered s) (names s.network) ≡ 0
+none_unanswered uses_flags s stable = none_count (is_unanswered s) (names s.network) (λ v there. unanswered_is s v ∙ by_stance v (standing (pointer s) v))
+  where
+    by_stance : (v : ℕ) → Standing (pointer s) v → is_waiting (stance (pointer s) v) ≡ false
+    by_stance v (free null is) = ap is_waiting is
+    by_stance v (waiting w at alone is) = absurd (alone (answer_of uses_flags s stable v w at))
+    by_stance v (paired w at back is) = ap is_waiting is
+
+-- each edge has an end that is paired
+pub an_end_paired : (uses_flags : Bool) (s : State) → IsState s → IsStable uses_flags s → (e : ℕ × ℕ) → IsIn e (edge_list s.network) → (P : Type 0) → (IsTrue (is_paired (stance (pointer s) e.0)) → P) → (IsTrue (is_paired (stance (pointer s) e.1)) → P) → P
+an_end_paired uses_flags s good stable e there P low high =
+    let at = edges_contain s.network e there in
+    let near : IsTrue (linked s.network e.0 e.1) = linked_pair s.network e.0 e.1 (good.is_network.low_first e.0 e.1 at) ∙ at in
+    ⊎_elim
+    (λ null. ⊎_elim
+    (λ other. absurd (stable.covered e.0 e.1 near null other))
+    (λ some. high (ap is_paired (paired_from (pointer s) e.1 some.0 some.1 (answer_of uses_flags s stable e.1 some.0 some.1))))
+    (option_cases (pointer s e.1)))
+    (λ some. low (ap is_paired (paired_from (pointer s) e.0 some.0 some.1 (answer_of uses_flags s stable e.0 some.0 some.1))))
+    (option_cases (pointer s e.0))
+
+-- Hsu and Huang: nothing is left
+pub hsu_huang_stable_is_zero : (s : State) → IsState s → IsStable false s → hsu_huang_charge s ≡ 0
+hsu_huang_stable_is_zero s good stable =
+    let unanswered = none_unanswered false s stable in
+    let open_edges = none_count (λ e. not (hsu_huang_closed s e)) (edge_list s.network) (λ e there. not_from_true (hsu_huang_closed s e) (an_end_paired false s good stable e there (IsTrue (hsu_huang_closed s e)) (λ h. closed_from s e.0 e.1 good (low_paired h)) (λ h. closed_from s e.0 e.1 good (high_paired h)))) in
+    omega (arith, unanswered, open_edges)
