@@ -31,6 +31,15 @@ moves_of reply = 0
 abbrev pub moves_in : List Entry → ℕ
 moves_in log = sum_by (λ entry. moves_of entry.1) log
 
+-- whether a reply is that of an accepted step: 1 or 0
+abbrev pub steps_of : Reply → ℕ
+steps_of (Moves moves) = 1
+steps_of reply = 0
+
+-- the accepted steps of a log
+abbrev pub steps_in : List Entry → ℕ
+steps_in log = sum_by (λ entry. steps_of entry.1) log
+
 -- no entry of the log is an accepted disturbance
 abbrev pub IsUndisturbed : List Entry → Type 0
 IsUndisturbed log = All (λ entry. entry.1 ≢ Accepted) log

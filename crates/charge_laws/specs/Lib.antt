@@ -18,6 +18,7 @@ pub mod ManneFalls
 pub mod Zero
 pub mod Tables
 pub mod Runs
+pub mod Steps
 pub mod Epochs
 pub mod Begun
 pub mod ClosedByPointers

@@ -1,15 +1,16 @@
 //! The bounds on moves, as laws of all runs.
 
-ghost use Rattle.std.specs.Prelude.{ℕ, ◌+◌, ◌*◌, ◌≤◌, List, All, true, false};
+ghost use Rattle.std.specs.Prelude.{ℕ, ◌+◌, ◌*◌, ◌≤◌, List, length, All, true, false};
 ghost use Rattle.rule_machine.specs.declared.base.Base.{Base};
 ghost use Rattle.rule_machine.specs.Base.{base_of, IsBegun};
 ghost use Rattle.rule_machine.specs.Network.{node_count, edge_count};
 ghost use Rattle.rule_machine.specs.State.{State, IsState, opening_with};
 ghost use Rattle.rule_machine.specs.HsuHuang.{hsu_huang};
 ghost use Rattle.rule_machine.specs.Manne.{manne};
-ghost use Rattle.rule_machine.specs.Stable.{IsStable};
+ghost use Rattle.rule_machine.specs.Stable.{IsStable, mutual_pairs};
 ghost use Rattle.rule_machine.specs.Run.{Entry, Moment, Run, beginning_with, epoch_at, epochs_from};
-ghost use Rattle.charge_laws.specs.Charged.{charge_bound, moves_in, IsUndisturbed};
+ghost use Rattle.machine_laws.specs.Half.{IsMatching};
+ghost use Rattle.charge_laws.specs.Charged.{charge_bound, moves_in, steps_in, IsUndisturbed};
 ghost use Rattle.charge_laws.specs.Epochs.{IsPath, IsBounded};
 
 /// Between two disturbances, from whatever state and whatever the daemon chooses: at most 2m + n moves by the rules of Hsu and
@@ -39,6 +40,23 @@ pub fn enough_moves_settle()
         → hsu_huang.charge start.state ≤ moves_in log → IsStable false end.state }
     ensures manne { (start : Moment) → IsState start.state → (log : List Entry) (end : Moment) → Run manne start log end → IsUndisturbed log
         → manne.charge start.state ≤ moves_in log → IsStable true end.state }
+{}
+
+/// So does one that has as many accepted steps: each of them makes a move at least.
+pub fn enough_steps_settle()
+    ensures hsu_huang { (start : Moment) → IsState start.state → (log : List Entry) (end : Moment) → Run hsu_huang start log end → IsUndisturbed log
+        → hsu_huang.charge start.state ≤ steps_in log → IsStable false end.state }
+    ensures manne { (start : Moment) → IsState start.state → (log : List Entry) (end : Moment) → Run manne start log end → IsUndisturbed log
+        → manne.charge start.state ≤ steps_in log → IsStable true end.state }
+{}
+
+/// A run without a disturbance that has as many moves as the charge was at its start ends with at least half as many mutual pairs as
+/// any matching has edges.
+pub fn enough_moves_give_half()
+    ensures hsu_huang { (start : Moment) → IsState start.state → (log : List Entry) (end : Moment) → Run hsu_huang start log end → IsUndisturbed log
+        → hsu_huang.charge start.state ≤ moves_in log → (other : List (ℕ × ℕ)) → IsMatching end.state.network other → length other ≤ 2 * length (mutual_pairs end.state) }
+    ensures manne { (start : Moment) → IsState start.state → (log : List Entry) (end : Moment) → Run manne start log end → IsUndisturbed log
+        → manne.charge start.state ≤ moves_in log → (other : List (ℕ × ℕ)) → IsMatching end.state.network other → length other ≤ 2 * length (mutual_pairs end.state) }
 {}
 
 /// At the end of every run from the opening state, disturbances included: the moves since the last accepted one and the charge

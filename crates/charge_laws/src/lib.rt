@@ -10,6 +10,6 @@ pub use cost::{
     stable_moves_are_paid,
 };
 pub use law::{
-    enough_moves_settle, epochs_are_bounded, moves_are_bounded, moves_are_paid, runs_may_begin,
-    runs_may_go_on, spending_is_bounded,
+    enough_moves_give_half, enough_moves_settle, enough_steps_settle, epochs_are_bounded,
+    moves_are_bounded, moves_are_paid, runs_may_begin, runs_may_go_on, spending_is_bounded,
 };

@@ -1,0 +1,45 @@
+-- An accepted step has a move at least, so a run has no more accepted steps than moves.
+use Rattle.std.proofs.Common.{◌≢◌, ℕ, ◌≤◌, List, [], ◌∷◌, length, Option, None, Some, refl, arith}
+use Rattle.std.proofs.lemmas.List.Sums.{sum_by-cons}
+use Rattle.rule_machine.specs.declared.event.Event.{Event}
+use Rattle.rule_machine.specs.declared.event.Event.TheVariants.{Step}
+use Rattle.rule_machine.specs.declared.moved.Moved.{Moved}
+use Rattle.rule_machine.specs.declared.refusal.Refusal.{Refusal}
+use Rattle.rule_machine.specs.declared.reply.Reply.{Reply}
+use Rattle.rule_machine.specs.declared.reply.Reply.TheVariants.{Accepted, Refused, Moves, Shown, EnabledAre, Pairs, Counts}
+use Rattle.rule_machine.specs.State.{State}
+use Rattle.rule_machine.specs.RuleTable.{RuleTable}
+use Rattle.rule_machine.specs.Refuse.{refusal_of}
+use Rattle.rule_machine.specs.Answer.{Does, AnswersBy, Answers, spent_after}
+use Rattle.rule_machine.specs.Run.{Entry, Moment, Run}
+use Rattle.charge_laws.specs.Charged.{moves_of, moves_in, steps_of, steps_in}
+
+does_moves : (t : RuleTable) (s : State) (n : ℕ) (event : Event) (moves : List Moved) (s' : State) → Does t s n event (Moves moves) s' → moves ≢ []
+does_moves t s n (Step items) moves s' does = does.some
+does_moves t s n event moves s' does = absurd does
+
+answers_moves : (t : RuleTable) (s : State) (n : ℕ) (event : Event) (r : Option Refusal) (moves : List Moved) (s' : State) → AnswersBy t s n event r (Moves moves) s' → moves ≢ []
+answers_moves t s n event None moves s' does = does_moves t s n event moves s' does
+answers_moves t s n event (Some refusal) moves s' does = let other = does.0 in absurd cc
+
+some_moves : (moves : List Moved) → moves ≢ [] → 1 ≤ length moves
+some_moves [] some = absurd (some refl)
+some_moves (m ∷ moves) some = omega arith
+
+step_moves : (t : RuleTable) (s : State) (n : ℕ) (event : Event) (reply : Reply) (s' : State) → Answers t s n event reply s' → steps_of reply ≤ moves_of reply
+step_moves t s n event (Moves moves) s' answers = some_moves moves (answers_moves t s n event (refusal_of t s event) moves s' answers)
+step_moves t s n event Accepted s' answers = omega arith
+step_moves t s n event (Refused refusal) s' answers = omega arith
+step_moves t s n event (Shown target) s' answers = omega arith
+step_moves t s n event (EnabledAre nodes) s' answers = omega arith
+step_moves t s n event (Pairs pairs) s' answers = omega arith
+step_moves t s n event (Counts counts) s' answers = omega arith
+
+pub steps_are_moves : (t : RuleTable) (start : Moment) (log : List Entry) (end : Moment) → Run t start log end → steps_in log ≤ moves_in log
+steps_are_moves t start [] end run = omega arith
+steps_are_moves t start (entry ∷ log) end (next, answers, run) =
+    let first = step_moves t start.state start.spent entry.0 entry.1 next answers in
+    let rest = steps_are_moves t (record { state = next; spent = spent_after start.spent entry.1 }) log end run in
+    let steps = sum_by-cons (λ (e : Entry). steps_of e.1) entry log in
+    let moves = sum_by-cons (λ (e : Entry). moves_of e.1) entry log in
+    omega (arith, first, rest, steps, moves)
