@@ -1,16 +1,16 @@
 -- What the moves of a run cost, disturbances included: they are paid by the charge at its start and by what the disturbances add.
-use Rattle.std.proofs.Common.{◌≡◌, ℕ, ◌+◌, ◌*◌, ◌≤◌, true, false, not, ◌&&◌, List, [], ◌∷◌, length, map, nat_eq, nat_le, Option, None, Some, IsTrue, refl, sym, ap, ◌∙◌, subst, arith, leb-true, eq-eqb}
+use Rattle.std.proofs.Common.{◌≡◌, ℕ, ◌+◌, ◌-◌, ◌*◌, ◌≤◌, true, false, cond, not, ◌&&◌, List, [], ◌∷◌, length, map, nat_eq, nat_le, Option, None, Some, IsTrue, refl, sym, ap, ap₂, ◌∙◌, subst, ⊎_elim, arith, leb-true, eq-eqb}
 use Rattle.std.proofs.lemmas.Bool.{true≢false, and_parts}
 use Rattle.std.proofs.lemmas.Option.{same_Some, none-some}
 use Rattle.std.proofs.lemmas.List.Sums.{sum_by-cons}
 use Rattle.rule_machine.specs.declared.event.Event.{Event}
 use Rattle.rule_machine.specs.declared.event.Event.TheVariants.{Link, Unlink, Point, Flag, Step, Show, Enabled, Matching, Status, Join, Leave}
 use Rattle.rule_machine.specs.declared.refusal.Refusal.{Refusal}
-use Rattle.rule_machine.specs.declared.refusal.Refusal.TheVariants.{UnknownNode, SelfLoop, AlreadyLinked, AlreadyPresent, NotNeighbour}
+use Rattle.rule_machine.specs.declared.refusal.Refusal.TheVariants.{UnknownNode, SelfLoop, AlreadyLinked, NotLinked, AlreadyPresent, NotNeighbour}
 use Rattle.rule_machine.specs.declared.reply.Reply.{Reply}
 use Rattle.rule_machine.specs.declared.reply.Reply.TheVariants.{Accepted, Refused, Moves, Shown, EnabledAre, Pairs, Counts}
 use Rattle.rule_machine.specs.Network.{node_count, present, linked}
-use Rattle.rule_machine.specs.State.{State, IsState}
+use Rattle.rule_machine.specs.State.{State, IsState, points, pointer, is_mutual, partner, is_unanswered}
 use Rattle.rule_machine.specs.RuleTable.{RuleTable}
 use Rattle.rule_machine.specs.HsuHuang.{hsu_huang}
 use Rattle.rule_machine.specs.Manne.{manne}
@@ -24,7 +24,7 @@ use Rattle.machine_laws.specs.Runs.{answers_keep, runs_end_in_states}
 use Rattle.charge_laws.specs.Charged.{IsCharged, IsUndisturbed, moves_of, moves_in}
 use Rattle.charge_laws.specs.Runs.{answer_lowers}
 use Rattle.charge_laws.specs.Epochs.{IsPath}
-use Rattle.charge_laws.specs.Costs.{hsu_huang_cost, manne_cost, cost_of, costs_of, end_of, log_of}
+use Rattle.charge_laws.specs.Costs.{hsu_huang_cost, manne_leave_cost, manne_cost, cost_of, costs_of, end_of, log_of}
 use Rattle.charge_laws.specs.Tables.{hsu_huang_table, manne_table}
 use Rattle.charge_laws.specs.Laws.{hsu_huang_charged, manne_charged, moves_are_paid}
 use Rattle.charge_laws.specs.StableCharge.{hsu_huang_stable_is_zero}
@@ -32,6 +32,11 @@ use Rattle.charge_laws.specs.HsuHuangCosts.{point_costs}
 use Rattle.charge_laws.specs.ManneCosts as of_manne
 use Rattle.charge_laws.specs.ManneStableCharge.{unmarried_charge, married_are_pairs, manne_stable_charge}
 use Rattle.charge_laws.specs.HsuHuangEdits.{link_costs, join_costs, unlink_costs, leave_costs}
+use Rattle.charge_laws.specs.DegreesLeft.{first_end, second_end, degree_without_edge, degree_without_node, degree_left_at}
+use Rattle.charge_laws.specs.Stances.{is_waiting, unanswered_is, paired_from}
+use Rattle.machine_laws.specs.Neighbours.{option_cases}
+use Rattle.machine_laws.specs.Pointers.{pointer_linked, partner_some}
+use Rattle.rule_machine.specs.Disturbance.{after_leave}
 
 -- an accepted disturbance adds its cost at most
 abbrev pub IsCosted : RuleTable → (State → Event → ℕ) → Type 0
@@ -59,6 +64,12 @@ pub join_low : (t : RuleTable) (s : State) (v : ℕ) → refusal_of t s (Join v)
 join_low t s v e =
     let first = cond_none (not (nat_le 1 v && nat_le v s.network.size)) UnknownNode _ e in
     leb-true 1 v (and_parts (nat_le 1 v) (nat_le v s.network.size) (true_from_not (nat_le 1 v && nat_le v s.network.size) first.0)).0
+
+pub unlink_has : (t : RuleTable) (s : State) (a b : ℕ) → refusal_of t s (Unlink a b) ≡ None → IsTrue (linked s.network a b)
+unlink_has t s a b e =
+    let first = cond_none (not (both_present s.network a b)) UnknownNode _ e in
+    let second = cond_none (nat_eq a b) SelfLoop _ first.1 in
+    none_cond (linked s.network a b) NotLinked second.1
 
 pub leave_has : (t : RuleTable) (s : State) (v : ℕ) → refusal_of t s (Leave v) ≡ None → IsTrue (present s.network v)
 leave_has t s v e = none_cond (present s.network v) UnknownNode e
@@ -98,7 +109,13 @@ hsu_huang_costed s good n (Link a b) s' e does =
     let more = link_costs s a b good parts.0 parts.1 parts.2 parts.3 in
     let is = ap hsu_huang.charge does in
     omega (arith, more, is)
-hsu_huang_costed s good n (Unlink a b) s' e does = let more = unlink_costs s a b good in let is = ap hsu_huang.charge does in omega (arith, more, is)
+hsu_huang_costed s good n (Unlink a b) s' e does =
+    let near = unlink_has hsu_huang s a b e in
+    let more = unlink_costs s a b good in
+    let is = ap hsu_huang.charge does in
+    let at_first = ap {B = ℕ} (λ d. cond (points s.registers b a) d 0) (degree_without_edge s a b a good near (first_end a b)) in
+    let at_second = ap {B = ℕ} (λ d. cond (points s.registers a b) d 0) (degree_without_edge s a b b good near (second_end a b)) in
+    omega (arith, more, is, at_first, at_second)
 hsu_huang_costed s good n (Point v target) s' e does =
     let parts = point_parts hsu_huang s v target e in
     let more = point_costs s v target good parts.0 parts.1 in
@@ -106,7 +123,12 @@ hsu_huang_costed s good n (Point v target) s' e does =
     omega (arith, more, is)
 hsu_huang_costed s good n (Flag v value) s' e does = absurd cc
 hsu_huang_costed s good n (Join v) s' e does = let more = join_costs s v good (join_low hsu_huang s v e) in let is = ap hsu_huang.charge does in omega (arith, more, is)
-hsu_huang_costed s good n (Leave v) s' e does = let more = leave_costs s v good (leave_has hsu_huang s v e) in let is = ap hsu_huang.charge does in omega (arith, more, is)
+hsu_huang_costed s good n (Leave v) s' e does =
+    let has = leave_has hsu_huang s v e in
+    let more = leave_costs s v good has in
+    let left = degree_left_at s v good has in
+    let is = ap hsu_huang.charge does in
+    omega (arith, more, left, is)
 hsu_huang_costed s good n (Step items) s' e does = absurd does
 hsu_huang_costed s good n (Show v) s' e does = absurd does
 hsu_huang_costed s good n Enabled s' e does = absurd does
@@ -131,13 +153,34 @@ join_absent s v e =
     let first = cond_none (not (nat_le 1 v && nat_le v s.network.size)) UnknownNode _ e in
     (cond_none (present s.network v) AlreadyPresent None first.1).0
 
+-- what a node that goes leaves to its partner, by its pointer
+parted_within : (s : State) (v : ℕ) → IsState s → IsTrue (present s.network v) → of_manne.parted_cost (after_leave s v).network (partner s v) ≤ manne_leave_cost s.network (is_unanswered s v) (pointer s v)
+parted_within s v good has =
+    ⊎_elim
+    (λ (single : partner s v ≡ None). let none = ap (of_manne.parted_cost (after_leave s v).network) single in omega (arith, none))
+    (λ pair.
+    let both = partner_some s v pair.0 pair.1 in
+    let answered = unanswered_is s v ∙ ap is_waiting (paired_from (pointer s) v pair.0 both.0 both.1) in
+    let told = ap (of_manne.parted_cost (after_leave s v).network) pair.1 in
+    let cost = ap₂ (manne_leave_cost s.network) answered both.0 in
+    let left = degree_without_node s v pair.0 good has (pointer_linked s v pair.0 good both.0) in
+    omega (arith, told, cost, left))
+    (option_cases (partner s v))
+
 pub manne_costed : IsCosted manne manne_cost
 manne_costed s good n (Link a b) s' e does =
     let parts = link_parts manne s a b e in
     let more = of_manne.link_costs s a b good parts.0 parts.1 parts.2 parts.3 in
     let is = ap manne.charge does in
     omega (arith, more, is)
-manne_costed s good n (Unlink a b) s' e does = let more = of_manne.unlink_costs s a b good in let is = ap manne.charge does in omega (arith, more, is)
+manne_costed s good n (Unlink a b) s' e does =
+    let near = unlink_has manne s a b e in
+    let more = of_manne.unlink_costs s a b good in
+    let is = ap manne.charge does in
+    let at_first = degree_without_edge s a b a good near (first_end a b) in
+    let at_second = degree_without_edge s a b b good near (second_end a b) in
+    let both = ap₂ {C = ℕ} (λ d c. cond (is_mutual s a b) (2 * (d + c) + 4) 0) at_first at_second in
+    omega (arith, more, is, both)
 manne_costed s good n (Point v target) s' e does =
     let parts = point_parts manne s v target e in
     let more = of_manne.point_costs s v target good parts.0 parts.1 in
@@ -145,7 +188,12 @@ manne_costed s good n (Point v target) s' e does =
     omega (arith, more, is)
 manne_costed s good n (Flag v value) s' e does = let more = of_manne.flag_costs s v value good (none_cond (present s.network v) UnknownNode e) in let is = ap manne.charge does in omega (arith, more, is)
 manne_costed s good n (Join v) s' e does = let more = of_manne.join_costs s v good (join_low manne s v e) (join_absent s v e) in let is = ap manne.charge does in omega (arith, more, is)
-manne_costed s good n (Leave v) s' e does = let more = of_manne.leave_costs s v good (leave_has manne s v e) in let is = ap manne.charge does in omega (arith, more, is)
+manne_costed s good n (Leave v) s' e does =
+    let has = leave_has manne s v e in
+    let more = of_manne.leave_costs s v good has in
+    let cost = parted_within s v good has in
+    let is = ap manne.charge does in
+    omega (arith, more, cost, is)
 manne_costed s good n (Step items) s' e does = absurd does
 manne_costed s good n (Show v) s' e does = absurd does
 manne_costed s good n Enabled s' e does = absurd does

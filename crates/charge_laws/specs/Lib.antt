@@ -28,6 +28,7 @@ pub mod Touched
 pub mod Costs
 pub mod HsuHuangCosts
 pub mod HsuHuangEdits
+pub mod DegreesLeft
 pub mod CostsOfRuns
 pub mod ManneCosts
 pub mod ManneStableCharge

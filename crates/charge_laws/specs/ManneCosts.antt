@@ -22,7 +22,7 @@ use Rattle.charge_laws.specs.EdgesChanged.{count_with, taken_out}
 use Rattle.charge_laws.specs.Stances.{Standing, standing, free, waiting, paired, stance, is_waiting, is_paired, paired_from, paired_is, married_is, waiting_is, unanswered_is}
 use Rattle.charge_laws.specs.Inside.{pointer_present}
 use Rattle.charge_laws.specs.Degrees.{degree, none_count, count_grows, once, edges_at, at_either, at_linked}
-use Rattle.charge_laws.specs.Costs.{manne_point_cost, manne_leave_cost}
+use Rattle.charge_laws.specs.Costs.{manne_point_cost}
 use Rattle.charge_laws.specs.Touched.{IsTouching, IsWithin, WaitsOnly, unanswered_grow, ends_apart}
 use Rattle.charge_laws.specs.HsuHuangCosts.{written_at, either_node, either_apart, apart_either, point_touches, point_waits, null_waits, waiting_waits, two_marked, same_network}
 use Rattle.charge_laws.specs.HsuHuangEdits.{unlink_stays, unlink_waits, unlink_within, leaver_or, apart_leaver, leave_stays, leave_touches, leave_waits, leave_within}
@@ -368,16 +368,21 @@ leave_unpaired s v good has alone =
     let edges = none_count (λ (e : ℕ × ℕ). false) (edge_list (after_leave s v).network) (λ e there. refl) in
     omega (arith, grows, none, edges)
 
-pub leave_costs : (s : State) (v : ℕ) → IsState s → IsTrue (present s.network v) → manne_charge (after_leave s v) ≤ manne_charge s + manne_leave_cost (after_leave s v).network (partner s v)
+-- where a node of a pair goes, its partner lets go of the edges that are left to it
+abbrev pub parted_cost : Network → Option ℕ → ℕ
+parted_cost net None = 0
+parted_cost net (Some u) = 2 * degree net u + 2
+
+pub leave_costs : (s : State) (v : ℕ) → IsState s → IsTrue (present s.network v) → manne_charge (after_leave s v) ≤ manne_charge s + parted_cost (after_leave s v).network (partner s v)
 leave_costs s v good has =
     ⊎_elim
     (λ (single : partner s v ≡ None).
     let none = leave_unpaired s v good has (λ w there back. none-some w (sym single ∙ partner_from s v w good there back)) in
-    let at = ap (manne_leave_cost (after_leave s v).network) single in
+    let at = ap (parted_cost (after_leave s v).network) single in
     omega (arith, none, at))
     (λ pair.
     let less = leave_paired s v pair.0 good has (partner_some s v pair.0 pair.1).0 in
-    let at = ap (manne_leave_cost (after_leave s v).network) pair.1 in
+    let at = ap (parted_cost (after_leave s v).network) pair.1 in
     omega (arith, less, at))
     (option_cases (partner s v))
 

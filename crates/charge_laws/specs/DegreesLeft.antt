@@ -1,0 +1,64 @@
+-- How many edges are left at a node when one of them goes, or a neighbour with all of its own.
+use Rattle.std.proofs.Common.{◌≡◌, ℕ, ◌+◌, ◌-◌, ◌≤◌, false, cond, not, ◌&&◌, ◌||◌, count_by, nat_eq, Option, None, Some, IsTrue, refl, sym, ap, ◌∙◌, ⊎_elim, arith}
+use Rattle.std.proofs.lemmas.Bool.{cases_Bool, and_from, not_from_false, or_left, or_right, or_cases, eq-eqb, eqb-true}
+use Rattle.rule_machine.specs.Network.{edge, is_end, linked, present, edge_list}
+use Rattle.rule_machine.specs.State.{State, IsState, pointer}
+use Rattle.rule_machine.specs.Disturbance.{after_unlink, after_leave}
+use Rattle.machine_laws.specs.Neighbours.{linked_back}
+use Rattle.machine_laws.specs.Pointers.{pointer_linked}
+use Rattle.machine_laws.specs.Edges.{left_was}
+use Rattle.machine_laws.specs.Keeps.{unlink_keeps, leave_keeps}
+use Rattle.charge_laws.specs.Counting.{count_into}
+use Rattle.charge_laws.specs.Members.{edges_contain, edge_either}
+use Rattle.charge_laws.specs.EdgesByNodes.{edges_without_repeats}
+use Rattle.charge_laws.specs.EdgesChanged.{count_without}
+use Rattle.charge_laws.specs.Degrees.{degree, degree_at, edges_at, at_one}
+use Rattle.charge_laws.specs.HsuHuangEdits.{leave_within}
+
+pub first_end : (a b : ℕ) → IsTrue (is_end a (edge a b))
+first_end a b =
+    edge_either (λ e. IsTrue (is_end a e)) a b
+    (or_left (nat_eq a a) (nat_eq b a) (eq-eqb a a refl))
+    (or_right (nat_eq b a) (nat_eq a a) (eq-eqb a a refl))
+
+pub second_end : (a b : ℕ) → IsTrue (is_end b (edge a b))
+second_end a b =
+    edge_either (λ e. IsTrue (is_end b e)) a b
+    (or_right (nat_eq a b) (nat_eq b b) (eq-eqb b b refl))
+    (or_left (nat_eq b b) (nat_eq a b) (eq-eqb b b refl))
+
+-- an end of an edge that goes has one edge less
+pub degree_without_edge : (s : State) (a b v : ℕ) → IsState s → IsTrue (linked s.network a b) → IsTrue (is_end v (edge a b)) → degree (after_unlink s a b).network v ≡ degree s.network v - 1
+degree_without_edge s a b v good near end =
+    let before = edges_at s.network good.is_network v in
+    let after = edges_at (after_unlink s a b).network (unlink_keeps s a b good).is_network v in
+    let count = count_without (is_end v) s.network.edges (edge a b) near in
+    let one = ap {B = ℕ} (λ t. cond t 1 0) end in
+    omega (arith, before, after, count, one)
+
+-- and so has a neighbour of a node that goes
+pub degree_without_node : (s : State) (v u : ℕ) → IsState s → IsTrue (present s.network v) → IsTrue (linked s.network v u) → degree (after_leave s v).network u ≤ degree s.network u - 1
+degree_without_node s v u good has near =
+    let after = edges_at (after_leave s v).network (leave_keeps s v good).is_network u in
+    let into = count_into (is_end u) (edge_list (after_leave s v).network) (λ (e : ℕ × ℕ). e) (λ e. is_end u e && not (is_end v e)) (edge_list s.network) (edges_without_repeats (after_leave s v).network) (record {
+      lands = λ e there h. (leave_within s v good has).edges e there;
+      passes = λ e there h. let left = left_was s.network.edges v e.0 e.1 (edges_contain (after_leave s v).network e there) in and_from (is_end u e) (not (is_end v e)) h (not_from_false (is_end v e) (elsewhere e left.0 left.1));
+      apart = λ x y there also h k same. same;
+    }) in
+    let others = at_one s.network good.is_network u v (linked_back s.network u v ∙ near) in
+    omega (arith, after, into, others)
+  where
+    elsewhere : (e : ℕ × ℕ) → (e.0 ≡ v → ⊥) → (e.1 ≡ v → ⊥) → is_end v e ≡ false
+    elsewhere e low high =
+        ⊎_elim
+        (λ is. absurd (⊎_elim (λ here. low (eqb-true e.0 v here)) (λ there. high (eqb-true e.1 v there)) (or_cases (nat_eq e.0 v) (nat_eq e.1 v) is)))
+        (λ free. free)
+        (cases_Bool (is_end v e))
+
+-- the same at the node where the pointer of the one that goes was, if it was anywhere
+pub degree_left_at : (s : State) (v : ℕ) → IsState s → IsTrue (present s.network v) → degree_at (after_leave s v).network (pointer s v) ≤ degree_at s.network (pointer s v) - 1
+degree_left_at s v good has = go (pointer s v) refl
+  where
+    go : (o : Option ℕ) → pointer s v ≡ o → degree_at (after_leave s v).network o ≤ degree_at s.network o - 1
+    go None at = omega arith
+    go (Some u) at = degree_without_node s v u good has (pointer_linked s v u good at)
