@@ -4,7 +4,9 @@
 mod local;
 mod rules;
 mod standing;
+mod touched;
 
 pub use local::Local;
 pub use rules::{BadTarget, Rules};
 pub use standing::Standing;
+pub use touched::Touched;

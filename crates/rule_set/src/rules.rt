@@ -4,6 +4,10 @@ ghost use Rattle.std.specs.Prelude.{◌≡◌, ℕ, ◌+◌, ◌*◌, ◌≤◌,
 ghost use Rattle.std.specs.Result.{result_ok};
 ghost use Rattle.rule_machine.specs.declared.act.Act.{Act};
 ghost use Rattle.rule_machine.specs.declared.act.Act.TheVariants.{Update};
+ghost use Rattle.rule_machine.specs.declared.event.Event.{Event};
+ghost use Rattle.rule_machine.specs.declared.reply.Reply.TheVariants.{Accepted};
+ghost use Rattle.rule_machine.specs.Answer.{Answers};
+ghost use Rattle.rule_machine.specs.Refuse.{refusal_of};
 ghost use Rattle.rule_machine.specs.declared.choice.Item.{Item};
 ghost use Rattle.rule_machine.specs.declared.moved.Moved.{Moved};
 ghost use Rattle.rule_machine.specs.State.{State, IsState, pointer, is_unanswered};
@@ -17,8 +21,8 @@ ghost use Rattle.rule_set.specs.Near.{SameAt};
 ghost use Rattle.rule_set.specs.Standing.{IsStanding, IsSameStanding};
 ghost use Rattle.rule_set.specs.Target.{target_at, takes_target};
 
-use crate::{Local, Standing};
-use rule_machine::{Act, Node};
+use crate::{Local, Standing, Touched};
+use rule_machine::{Act, Event, Node};
 use thiserror::Error;
 
 /// The wish is no target that the node's rule allows.
@@ -46,6 +50,9 @@ pub trait Rules {
 
     /// What a node adds to the charge, beside 1 where its pointer is not answered.
     ghost adds: { State → ℕ → ℕ };
+
+    /// What an accepted disturbance may add to the charge.
+    ghost cost: { State → Event → ℕ };
 
     /// Whether its daemon is central, so that one node moves at a time.
     const CENTRAL: bool;
@@ -89,6 +96,13 @@ pub trait Rules {
     /// What a node adds to the charge, beside 1 where its pointer is not answered.
     fn node_charge(node: &Standing) -> u8
         ensures { (s : State) → IsStanding s node.now → result ≡ adds s node.now.node };
+
+    /// What an event that is not refused may add to the charge: 0 where it is no disturbance, and else a sum of degrees of the nodes
+    /// that it touches.
+    fn cost<T: Touched>(touched: &T, event: &Event) -> u32
+        requires state { IsState (T.state touched.now) }
+        requires accepted { refusal_of table (T.state touched.now) event.now ≡ None }
+        ensures { result ≡ cost (T.state touched.now) event.now };
 
     /// The table says of the daemon what the constant says.
     ghost is_central: { table.central ≡ CENTRAL };
@@ -148,4 +162,7 @@ pub trait Rules {
 
     /// Where it is zero the network is stable.
     ghost no_charge_is_stable: { (s : State) → IsState s → table.charge s ≡ 0 → IsStable table.flags s };
+
+    /// An accepted disturbance adds its cost at most.
+    ghost disturbances_cost: { (s : State) → IsState s → (spent : ℕ) (event : Event) (after : State) → Answers table s spent event Accepted after → table.charge after ≤ table.charge s + cost s event };
 }

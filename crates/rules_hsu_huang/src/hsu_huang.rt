@@ -1,7 +1,8 @@
 //! The rules of Hsu and Huang.
 
-use rule_machine::{Act, Node};
-use rule_set::{BadTarget, Local, Rules, Standing};
+use crate::cost::{leave_cost, point_cost, unlink_cost};
+use rule_machine::{Act, Event, Node};
+use rule_set::{BadTarget, Local, Rules, Standing, Touched};
 
 /// Hsu and Huang's algorithm of 1992: one node moves at a time, and no flags are used.
 #[derive(Clone, Copy, Debug, PartialEq, Eq)]
@@ -10,6 +11,8 @@ pub struct HsuHuang;
 impl Rules for HsuHuang {
     ghost use Rattle.std.specs.Prelude.{true, false, refl};
     ghost use Rattle.charge_laws.specs.ClosedByPointers.{hsu_huang_closes};
+    ghost use Rattle.charge_laws.specs.Costs.{hsu_huang_cost};
+    ghost use Rattle.charge_laws.specs.CostsOfRuns.{hsu_huang_disturbed};
     ghost use Rattle.charge_laws.specs.Laws.{hsu_huang_charged};
     ghost use Rattle.charge_laws.specs.Tables.{hsu_huang_flagless};
     ghost use Rattle.rule_machine.specs.HsuHuang.{hsu_huang};
@@ -33,6 +36,8 @@ impl Rules for HsuHuang {
     ghost closes = { hsu_huang_closes };
 
     ghost adds = { nothing };
+
+    ghost cost = { hsu_huang_cost };
 
     const CENTRAL: bool = true;
 
@@ -86,6 +91,19 @@ impl Rules for HsuHuang {
         0
     }
 
+    #[tactic(auto, using(crate::proofs::Present::first_present, crate::proofs::Present::second_present, crate::proofs::Present::pointer_present, crate::proofs::Present::leaver_present))]
+    fn cost<T: Touched>(touched: &T, event: &Event) -> u32 {
+        match event {
+            Event::Link(_, _) => 2,
+            Event::Unlink(a, b) => unlink_cost(touched, *a, *b),
+            Event::Point(v, _) => point_cost(touched, *v),
+            Event::Leave(v) => leave_cost(touched, *v),
+            Event::Flag(_, _) | Event::Join(_) => 0,
+            Event::Step(_) | Event::Show(_) => 0,
+            Event::Enabled | Event::Matching | Event::Status => 0,
+        }
+    }
+
     ghost is_central = { refl };
 
     ghost uses_flags = { refl };
@@ -123,4 +141,6 @@ impl Rules for HsuHuang {
     ghost charge_is_bounded = { hsu_huang_charged.bounded };
 
     ghost no_charge_is_stable = { hsu_huang_charged.zero_is_stable };
+
+    ghost disturbances_cost = { hsu_huang_disturbed };
 }

@@ -7,8 +7,9 @@ ghost use Rattle.rule_machine.specs.State.{IsState, is_at, suits, first_suitor};
 ghost use Rattle.rule_machine.specs.RuleTable.{last_open_above};
 ghost use Rattle.rules_manne.specs.Target.{is_free};
 
-use rule_machine::{Act, Node};
-use rule_set::{BadTarget, Local, Rules, Standing};
+use crate::cost::{flag_cost, leave_cost, point_cost, unlink_cost};
+use rule_machine::{Act, Event, Node};
+use rule_set::{BadTarget, Local, Rules, Standing, Touched};
 
 /// The algorithm of Manne, Mjelde, Pilard and Tixeuil of 2009: any set of enabled nodes moves at once, and a node's flag
 /// tells its neighbours whether it is married.
@@ -18,6 +19,8 @@ pub struct Manne;
 impl Rules for Manne {
     ghost use Rattle.std.specs.Prelude.{true, false, refl};
     ghost use Rattle.charge_laws.specs.ClosedByPointers.{manne_closes};
+    ghost use Rattle.charge_laws.specs.Costs.{manne_cost};
+    ghost use Rattle.charge_laws.specs.CostsOfRuns.{manne_disturbed};
     ghost use Rattle.charge_laws.specs.Laws.{manne_charged};
     ghost use Rattle.charge_laws.specs.Tables.{manne_flagless};
     ghost use Rattle.rule_machine.specs.Manne.{manne};
@@ -42,6 +45,8 @@ impl Rules for Manne {
     ghost closes = { manne_closes };
 
     ghost adds = { manne_node_charge };
+
+    ghost cost = { manne_cost };
 
     const CENTRAL: bool = false;
 
@@ -99,6 +104,20 @@ impl Rules for Manne {
         }
     }
 
+    #[tactic(auto, using(crate::proofs::Present::first_present, crate::proofs::Present::second_present, crate::proofs::Present::pointer_present, crate::proofs::Present::flagged_present, crate::proofs::Present::leaver_present))]
+    fn cost<T: Touched>(touched: &T, event: &Event) -> u32 {
+        match event {
+            Event::Link(_, _) => 2,
+            Event::Unlink(a, b) => unlink_cost(touched, *a, *b),
+            Event::Point(v, _) => point_cost(touched, *v),
+            Event::Flag(v, value) => flag_cost(touched, *v, *value),
+            Event::Join(_) => 1,
+            Event::Leave(v) => leave_cost(touched, *v),
+            Event::Step(_) | Event::Show(_) => 0,
+            Event::Enabled | Event::Matching | Event::Status => 0,
+        }
+    }
+
     ghost is_central = { refl };
 
     ghost uses_flags = { refl };
@@ -136,6 +155,8 @@ impl Rules for Manne {
     ghost charge_is_bounded = { manne_charged.bounded };
 
     ghost no_charge_is_stable = { manne_charged.zero_is_stable };
+
+    ghost disturbances_cost = { manne_disturbed };
 }
 
 // Whether the node may marry or seduce: it points nowhere, so it is unmarried, and its flag says so.

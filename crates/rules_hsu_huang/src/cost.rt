@@ -1,0 +1,72 @@
+//! What a disturbance may add to the charge, from the degrees of the nodes that it touches.
+
+ghost use Rattle.std.specs.Prelude.{◌≡◌, ◌+◌, ◌-◌, ◌*◌, ◌≤◌, cond, IsTrue};
+ghost use Rattle.rule_machine.specs.Network.{present};
+ghost use Rattle.rule_machine.specs.State.{IsState, points, pointer, has_suitor, is_unanswered};
+ghost use Rattle.charge_laws.specs.Degrees.{degree, degree_at};
+ghost use Rattle.charge_laws.specs.Costs.{hsu_huang_point_cost};
+
+use rule_machine::Node;
+use rule_set::Touched;
+
+/// Whether a node points at another.
+fn points_at<T: Touched>(touched: &T, v: Node, w: Node) -> bool
+    requires { IsTrue (present (T.state touched.now).network v) }
+    ensures { result ≡ points (T.state touched.now).registers v w }
+{
+    match touched.pointer(v) {
+        Some(target) => target == w,
+        None => false,
+    }
+}
+
+/// How many other edges are at the second node, where the first one points at it.
+fn other_edges<T: Touched>(touched: &T, v: Node, w: Node) -> u32
+    requires from { IsTrue (present (T.state touched.now).network v) }
+    requires to { IsTrue (present (T.state touched.now).network w) }
+    ensures value { result ≡ cond (points (T.state touched.now).registers v w) (degree (T.state touched.now).network w - 1) 0 }
+    ensures few { result ≤ 65535 }
+{
+    if points_at(touched, v, w) {
+        touched.degree(w).saturating_sub(1)
+    } else {
+        0
+    }
+}
+
+/// Of an edge that goes.
+pub(crate) fn unlink_cost<T: Touched>(touched: &T, a: Node, b: Node) -> u32
+    requires first { IsTrue (present (T.state touched.now).network a) }
+    requires second { IsTrue (present (T.state touched.now).network b) }
+    ensures { result ≡ 2 * (cond (points (T.state touched.now).registers a b) (degree (T.state touched.now).network b - 1) 0 + cond (points (T.state touched.now).registers b a) (degree (T.state touched.now).network a - 1) 0) }
+{
+    2 * (other_edges(touched, a, b) + other_edges(touched, b, a))
+}
+
+/// Of a pointer that is written.
+#[tactic(auto, using(crate::proofs::Present::target_present))]
+pub(crate) fn point_cost<T: Touched>(touched: &T, v: Node) -> u32
+    requires state { IsState (T.state touched.now) }
+    requires present { IsTrue (present (T.state touched.now).network v) }
+    ensures { result ≡ hsu_huang_point_cost (T.state touched.now).network v (is_unanswered (T.state touched.now) v) (has_suitor (T.state touched.now) v) (pointer (T.state touched.now) v) }
+{
+    match touched.pointer(v) {
+        None if touched.has_suitor(v) => 2 * touched.degree(v),
+        None => 1,
+        Some(u) if points_at(touched, u, v) => 2 * (touched.degree(v) + touched.degree(u)),
+        Some(u) => 2 * touched.degree(u),
+    }
+}
+
+/// Of a node that goes.
+#[tactic(auto, using(crate::proofs::Present::target_present))]
+pub(crate) fn leave_cost<T: Touched>(touched: &T, v: Node) -> u32
+    requires state { IsState (T.state touched.now) }
+    requires present { IsTrue (present (T.state touched.now).network v) }
+    ensures { result ≡ 2 * (degree_at (T.state touched.now).network (pointer (T.state touched.now) v) - 1) }
+{
+    match touched.pointer(v) {
+        Some(u) => 2 * touched.degree(u).saturating_sub(1),
+        None => 0,
+    }
+}
