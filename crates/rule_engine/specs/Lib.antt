@@ -5,3 +5,4 @@ pub mod Marks
 pub mod Refused
 pub mod Applied
 pub mod Prepared
+pub mod Costs

@@ -16,10 +16,12 @@ ghost use Rattle.rule_machine.specs.declared.event.Event.TheVariants.{Link, Step
 ghost use Rattle.rule_machine.specs.declared.reply.Reply.TheVariants.{Accepted};
 ghost use Rattle.rule_engine.specs.Kept.{guard_at, IsAnswered};
 ghost use Rattle.rule_engine.specs.Applied.{Prepares, told};
+ghost use Rattle.rule_engine.specs.Costs.{cost_of};
 ghost use Rattle.rule_engine.specs.Prepared.{HasRoomTo};
 ghost use Rattle.rule_engine.specs.Choosing.{verdict_of, verdicts_of};
 
 use crate::charge::totals_of;
+use crate::cost::cost_of;
 use crate::edits::{
     put, put_edit, refusal_of, refused_flag, refused_join, refused_leave, refused_point,
     refused_unlink,
@@ -123,6 +125,13 @@ impl<R: Rules> Engine<R> {
         ensures only_stable { IsAnswered R.table.flags self.now.state → IsMaximalMatching self.now.state.network (mutual_pairs self.now.state) → IsTrue result }
     {
         self.enabled.count() == 0
+    }
+
+    /// What an event may add to the charge, where it would be accepted; else 0.
+    pub(crate) fn cost_of(&self, event: &Event) -> u32
+        ensures { result ≡ cost_of R.table R.cost self.now.state event.now }
+    {
+        cost_of(&self.state, event)
     }
 
     /// The rule that is enabled at a node, if any is; none at an absent one. What the guard asks about all neighbours is

@@ -3,6 +3,7 @@
 
 mod charge;
 mod climbing;
+mod cost;
 mod edits;
 mod engine;
 mod guard;

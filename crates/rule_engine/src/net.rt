@@ -1,21 +1,24 @@
 //! A network under a rule set.
 
-ghost use Rattle.std.specs.Prelude.{◌≡◌, ◌<◌, ◌≤◌, ◌+◌, ◌*◌, ◌↔◌, ℕ, [], IfOk, IfErr, IfSome, OnOk, OnErr, IsTrue, None, length, zip, slice_get};
+ghost use Rattle.std.specs.Prelude.{◌≡◌, ◌<◌, ◌≤◌, ◌+◌, ◌*◌, ◌↔◌, ℕ, List, [], IfOk, IfErr, IfSome, OnOk, OnErr, IsTrue, None, length, zip, slice_get};
 ghost use Rattle.enabled_set.specs.Members.{members};
 ghost use Rattle.graph_store.specs.Fault.{nodes_fault, Explains};
 ghost use Rattle.rule_machine.specs.Base.{base_of};
 ghost use Rattle.rule_machine.specs.Network.{node_count, edge_count};
-ghost use Rattle.rule_machine.specs.State.{IsState};
+ghost use Rattle.rule_machine.specs.State.{State, IsState};
 ghost use Rattle.rule_machine.specs.RuleTable.{enabled_names};
 ghost use Rattle.rule_machine.specs.Refuse.{refusal_of};
 ghost use Rattle.rule_machine.specs.Least.{reply_of, replies_of};
 ghost use Rattle.rule_machine.specs.Stable.{IsStable, IsMaximalMatching, mutual_pairs};
 ghost use Rattle.rule_machine.specs.Run.{Run, beginning, beginning_with, moment_after};
 ghost use Rattle.rule_machine.specs.Answer.{Answers};
+ghost use Rattle.rule_machine.specs.declared.reply.Reply.TheVariants.{Accepted};
+ghost use Rattle.machine_laws.specs.Half.{IsMatching};
 ghost use Rattle.rule_machine.specs.declared.event.Event.TheVariants.{Step};
 ghost use Rattle.rule_engine.specs.Kept.{guard_at, IsAnswered};
 ghost use Rattle.rule_engine.specs.Applied.{StopsAt, moment_after_all, takes_memory};
 ghost use Rattle.rule_engine.specs.Choosing.{verdict_of, verdicts_of};
+ghost use Rattle.rule_engine.specs.Costs.{cost_of};
 ghost use Rattle.rule_engine.specs.Prepared.{IsPrepared, moment_of};
 
 use crate::charge::spent_after;
@@ -104,12 +107,13 @@ impl<R: Rules> Net<R> {
     }
 
     /// Whether no rule is enabled, which is one look. That is so exactly where the network is stable, and then its
-    /// mutual pairs are a maximal matching; and where every pointer is null or answered and the flags are right, they
-    /// are one only if the network is stable.
+    /// mutual pairs are a maximal matching, half as many at least as the edges of any other matching; and where every pointer is null or
+    /// answered and the flags are right, they are a maximal matching only if the network is stable.
     pub fn is_quiet(&self) -> bool
         ensures quiet { IsTrue result ↔ (enabled_names R.table self.now.state ≡ []) }
         ensures stable { IsTrue result ↔ IsStable R.table.flags self.now.state }
         ensures matching { IsTrue result → IsMaximalMatching self.now.state.network (mutual_pairs self.now.state) }
+        ensures half { IsTrue result → (other : List (ℕ × ℕ)) → IsMatching self.now.state.network other → length other ≤ 2 * length (mutual_pairs self.now.state) }
         ensures only_stable { IsAnswered R.table.flags self.now.state → IsMaximalMatching self.now.state.network (mutual_pairs self.now.state) → IsTrue result }
     {
         self.engine.is_quiet()
@@ -140,6 +144,17 @@ impl<R: Rules> Net<R> {
         ensures kept { self.new ≡ self.old }
     {
         self.engine.charge()
+    }
+
+    /// What an event would cost if it came now: by how much it would let the charge grow at most, and with it the moves that may come
+    /// before the next disturbance. 0 for one that would be refused, for a step and for a question. It is told from the pointers and the
+    /// degrees of the nodes that the event touches, whatever the size of the network, and nothing changes.
+    pub fn cost_of(&self, event: &Event) -> u32
+        ensures cost { result ≡ cost_of R.table R.cost self.now.state event.now }
+        ensures grows { (after : State) → Answers R.table self.now.state self.now.spent event.now Accepted after → R.table.charge after ≤ R.table.charge self.now.state + result }
+    {
+        let _ = self.engine.registers();
+        self.engine.cost_of(event)
     }
 
     /// The base at which the network stands where so many entries led there: what is spent, each node with its registers, and the

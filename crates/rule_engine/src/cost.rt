@@ -1,0 +1,85 @@
+//! What a disturbance would cost.
+
+ghost use Rattle.std.specs.Prelude.{◌≡◌, is_none};
+ghost use Rattle.rule_machine.specs.Refuse.{link_refusal};
+ghost use Rattle.rule_engine.specs.Costs.{disturbs, cost_of};
+
+use crate::edits::{refused_flag, refused_join, refused_leave, refused_point, refused_unlink};
+use graph_store::{EdgeStore, MAX_EDGES};
+use indexed_state::IndexedState;
+use rule_machine::{Event, Node, Refusal};
+use rule_set::{Local, Rules, Touched};
+
+/// A state, of which the nodes are shown that a disturbance touches.
+#[derive(Drop)]
+struct TouchedNodes<'a, R: Rules> {
+    state: &'a IndexedState<R>,
+}
+
+impl<R: Rules> Touched for TouchedNodes<'_, R> {
+    ghost state = { λ t. t.state.now.state };
+
+    fn pointer(&self, v: Node) -> Option<Node> {
+        let state = self.state;
+        let _ = state.store();
+        state.registers().pointer(v)
+    }
+
+    #[tactic(auto, using(crate::proofs::Counted::few_neighbours))]
+    fn degree(&self, v: Node) -> u32 {
+        let state = self.state;
+        state.store().neighbours(v).len() as u32
+    }
+
+    fn has_suitor(&self, v: Node) -> bool {
+        let state = self.state;
+        state.at(v).has_suitor()
+    }
+}
+
+/// Why an edge is not put in, if it is not.
+fn refused_link(store: &EdgeStore, a: Node, b: Node) -> Option<Refusal>
+    ensures { result ≡ link_refusal store.now.network a b }
+{
+    if !store.has(a) || !store.has(b) {
+        Some(Refusal::UnknownNode)
+    } else if a == b {
+        Some(Refusal::SelfLoop)
+    } else if store.linked(a, b) {
+        Some(Refusal::AlreadyLinked)
+    } else if store.edges() >= MAX_EDGES {
+        Some(Refusal::TooManyEdges)
+    } else {
+        None
+    }
+}
+
+/// Whether an event is a disturbance that is not refused.
+fn is_disturbance<R: Rules>(state: &IndexedState<R>, event: &Event) -> bool
+    ensures { result ≡ disturbs R.table state.now.state event.now }
+{
+    let store = state.store();
+    match event {
+        Event::Link(a, b) => refused_link(store, *a, *b).is_none(),
+        Event::Unlink(a, b) => refused_unlink(store, *a, *b).is_none(),
+        Event::Point(v, target) => refused_point(store, *v, *target).is_none(),
+        Event::Flag(v, _) => refused_flag::<R>(store, *v).is_none(),
+        Event::Join(v) => refused_join(store, *v).is_none(),
+        Event::Leave(v) => refused_leave(store, *v).is_none(),
+        Event::Step(_) | Event::Show(_) => false,
+        Event::Enabled | Event::Matching | Event::Status => false,
+    }
+}
+
+/// What an event may add to the charge, where it would be accepted; else 0.
+#[tactic(auto, using(crate::proofs::Costed::not_refused))]
+pub(crate) fn cost_of<R: Rules>(state: &IndexedState<R>, event: &Event) -> u32
+    ensures { result ≡ cost_of R.table R.cost state.now.state event.now }
+{
+    let _ = state.registers();
+    if is_disturbance(state, event) {
+        R::cost(&TouchedNodes { state }, event)
+    } else {
+        0
+    }
+}
