@@ -1,0 +1,57 @@
+// Lines of a plot as paths. A line holds each value until the next entry; where many entries share a pixel it is their mean, and
+// a band behind it goes from their least to their greatest.
+
+// so many pixels has a column that stands for several entries
+const COLUMN = 2;
+
+/** Steps of 1, 2 or 5 times a power of ten, of which at most `most` fit. */
+export function stepOf(range, most) {
+  const least = Math.max(1, range / Math.max(1, most));
+  const power = 10 ** Math.floor(Math.log10(least));
+  return [1, 2, 5, 10].map((factor) => factor * power).find((step) => step >= least);
+}
+
+/** So many entries share a column of a plot that has places for 0 to `last`, and is so wide; 1 where each has its own. */
+export function strideOf(last, width) {
+  return last + 1 <= width ? 1 : Math.ceil(((last + 1) * COLUMN) / width);
+}
+
+/** The least, the greatest and the mean of each `stride` of the values of 0 to `last`, with the middle of their places. */
+export function columnsOf(valueAt, last, stride) {
+  const columns = [];
+  for (let from = 0; from <= last; from += stride) {
+    const to = Math.min(last, from + stride - 1);
+    let [least, most, sum] = [Infinity, -Infinity, 0];
+    for (let k = from; k <= to; k += 1) {
+      const value = valueAt(k);
+      least = Math.min(least, value);
+      most = Math.max(most, value);
+      sum += value;
+    }
+    columns.push({ middle: (from + to) / 2, least, most, mean: sum / (to - from + 1) });
+  }
+  return columns;
+}
+
+/** A line through the values of 0 to `last`, each held until the next. */
+export function stepPath(valueAt, last, xOf, yOf) {
+  const parts = [`M${xOf(0).toFixed(1)} ${yOf(valueAt(0)).toFixed(1)}`];
+  for (let k = 1; k <= last; k += 1) {
+    if (valueAt(k) !== valueAt(k - 1)) {
+      parts.push(`H${xOf(k).toFixed(1)}V${yOf(valueAt(k)).toFixed(1)}`);
+    }
+  }
+  return `${parts.join("")}H${xOf(last).toFixed(1)}`;
+}
+
+/** A line through the means of columns. */
+export function meanPath(columns, xOf, yOf) {
+  return `M${columns.map(({ middle, mean }) => `${xOf(middle).toFixed(1)} ${yOf(mean).toFixed(1)}`).join("L")}`;
+}
+
+/** The band between the least and the greatest of columns. */
+export function bandPath(columns, xOf, yOf) {
+  const over = columns.map(({ middle, most }) => `${xOf(middle).toFixed(1)} ${yOf(most).toFixed(1)}`);
+  const under = columns.map(({ middle, least }) => `${xOf(middle).toFixed(1)} ${yOf(least).toFixed(1)}`).reverse();
+  return `M${[...over, ...under].join("L")}Z`;
+}
