@@ -1,0 +1,67 @@
+// What a hand does on an element: it hovers, taps, drags, or moves two fingers. Places are pixels of the window.
+
+// so many pixels may a finger stray that taps
+const SLACK = 6;
+
+function middle([one, other = one]) {
+  return { x: (one.x + other.x) / 2, y: (one.y + other.y) / 2 };
+}
+
+function spread([one, other]) {
+  return Math.max(1, Math.hypot(one.x - other.x, one.y - other.y));
+}
+
+export class Gestures {
+  /** `handlers` are `hover(place)`, `leave()`, `tap(place)`, `drag(from, to)` and `pinch(factor, from, to)`. */
+  constructor(element, handlers) {
+    Object.assign(this, { element, handlers, held: new Map(), start: null, strayed: false });
+    element.addEventListener("pointerdown", (event) => this.press(event));
+    element.addEventListener("pointermove", (event) => this.move(event));
+    element.addEventListener("pointerup", (event) => this.release(event));
+    element.addEventListener("pointercancel", (event) => this.held.delete(event.pointerId));
+    element.addEventListener("pointerleave", () => this.held.size === 0 && handlers.leave());
+    // two fingers are the element's own, and the page does not scroll under them
+    for (const kind of ["touchstart", "touchmove"]) {
+      element.addEventListener(kind, (event) => event.touches.length > 1 && event.preventDefault(), { passive: false });
+    }
+  }
+
+  press(event) {
+    if (event.button !== 0) {
+      return;
+    }
+    this.strayed = this.held.size > 0;
+    this.start = { x: event.clientX, y: event.clientY };
+    this.held.set(event.pointerId, this.start);
+    this.element.setPointerCapture(event.pointerId);
+  }
+
+  move(event) {
+    const place = { x: event.clientX, y: event.clientY };
+    if (!this.held.has(event.pointerId)) {
+      if (event.pointerType === "mouse" && this.held.size === 0) {
+        this.handlers.hover(place);
+      }
+      return;
+    }
+    this.strayed ||= Math.hypot(place.x - this.start.x, place.y - this.start.y) > SLACK;
+    if (!this.strayed) {
+      return;
+    }
+    const before = [...this.held.values()].slice(0, 2);
+    this.held.set(event.pointerId, place);
+    const behind = [...this.held.values()].slice(0, 2);
+    if (before.length === 1) {
+      this.handlers.drag(before[0], behind[0]);
+    } else {
+      this.handlers.pinch(spread(behind) / spread(before), middle(before), middle(behind));
+    }
+  }
+
+  release(event) {
+    const known = this.held.delete(event.pointerId);
+    if (known && !this.strayed && this.held.size === 0) {
+      this.handlers.tap({ x: event.clientX, y: event.clientY });
+    }
+  }
+}
