@@ -1,36 +1,10 @@
 // Replays a transcript once, keeps what the plots show of every entry, and a snapshot here and there to go back to.
 import { Machine, RULE_SETS } from "./machine.mjs";
+import { carryOut, changes, isPossible } from "./entries.mjs";
 import { movesOf, wordsOf } from "./transcript.mjs";
 
 const SNAPSHOT_BYTES = 64 << 20;
 const LEAST_SPACING = 200;
-
-/** Carries out an accepted entry on the machine. */
-export function carryOut(machine, entry) {
-  if (entry.kind === "step") {
-    machine.step(movesOf(entry));
-    return;
-  }
-  const [node, other] = wordsOf(entry).map((word) => (word === "-" ? 0 : Number(word)));
-  switch (entry.kind) {
-    case "link":
-      return machine.link(node, other);
-    case "unlink":
-      return machine.unlink(node, other);
-    case "point":
-      return machine.write(node, other, machine.flag[node]);
-    case "flag":
-      return machine.write(node, machine.pointer[node], other);
-    case "join":
-      return machine.join(node);
-    case "leave":
-      return machine.leave(node);
-  }
-}
-
-function changes(entry) {
-  return entry.disturbs || (entry.kind === "step" && !entry.refused);
-}
 
 export class Replay {
   constructor(transcript) {
@@ -44,6 +18,7 @@ export class Replay {
     const places = transcript.length + 1;
     this.series = Object.fromEntries(["charge", "spent", "nodes", "edges", "pairs", "enabled"].map((name) => [name, new Int32Array(places)]));
     this.disturbances = [];
+    this.moves = 0;
     this.union = new Map();
     this.snapshots = [];
     this.playOnce();
@@ -63,8 +38,7 @@ export class Replay {
       }
       const entry = this.transcript.entry(number);
       if (changes(entry)) {
-        carryOut(this.machine, entry);
-        spent = entry.disturbs ? 0 : spent + movesOf(entry).length;
+        spent = this.change(entry, spent);
       }
       if (entry.disturbs) {
         this.disturbances.push(number);
@@ -75,6 +49,17 @@ export class Replay {
       this.note(number, spent);
     }
     this.at = last;
+  }
+
+  /** Carries out an entry for the first time; what is spent then. */
+  change(entry, spent) {
+    if (!isPossible(this.machine, entry)) {
+      throw this.transcript.fault(entry.number, "is nothing that the machine does there");
+    }
+    carryOut(this.machine, entry);
+    const moves = entry.disturbs ? 0 : movesOf(entry).length;
+    this.moves += moves;
+    return entry.disturbs ? 0 : spent + moves;
   }
 
   /** So many entries lie between two snapshots that all of them fit in memory, and take less time than the entries. */
@@ -108,6 +93,11 @@ export class Replay {
 
   get edgesEver() {
     return [...this.union.values()];
+  }
+
+  /** What `audit` says of an accepted transcript, by this replay's own counts. */
+  get verdict() {
+    return `accepted: ${this.transcript.length} entries, ${this.disturbances.length + 1} epochs, ${this.moves} moves`;
   }
 
   bound(number) {

@@ -1,10 +1,32 @@
-// Reads a transcript that `console audit` has accepted: so each line has its one spelling, and nothing is checked twice.
+// Reads a transcript. `console audit` has judged what it says; that each line has the form of one is looked at here once more,
+// so that any text at all is either a transcript or a fault with its line.
 
 const CHANGES = new Set(["link", "unlink", "point", "flag", "join", "leave"]);
-const HEADER = /^matching (hh|manne) (\d+)(?: (\d+))?\n/;
-const BASE = /matching2 (hh|manne) (\d+)\n(base (\d+) spent=(\d+) nodes=(\d+) edges=(\d+))\n/y;
-const PLACE = /^node (\d+) (\d+|-) ([01])$/;
-const EDGE = /^edge (\d+) (\d+)$/;
+const MOST_NAMES = 65535;
+const HEADER = /matching (hh|manne) (\d{1,5})(?: (\d{1,5}))?\n/y;
+const BASE = /matching2 (hh|manne) (\d{1,5})\n(base (\d{1,8}) spent=(\d{1,10}) nodes=(\d{1,5}) edges=(\d{1,10}))\n/y;
+const PLACE = /node (\d{1,5}) (\d{1,5}|-) ([01])\n/y;
+const EDGE = /edge (\d{1,5}) (\d{1,5})\n/y;
+const REFUSED = "refused \\d+ [a-z-]+";
+const MOVE = "\\d+:(?:update|abandon|(?:marry|seduce)>\\d+)";
+const FIGURES = ["nodes", "edges", "pairs", "enabled", "charge", "spent"].map((name) => `${name}=\\d+`).join(" ");
+const EVENTS = [
+  `(?:(?:link|unlink) \\d+ \\d+|point \\d+ (?:\\d+|-)|flag \\d+ [01]|(?:join|leave) \\d+) = (?:ok|${REFUSED})`,
+  `step(?: \\d+(?:>\\d+)?)* = (?:${MOVE}(?: ${MOVE})*|${REFUSED})`,
+  `show \\d+ = (?:\\d+|-|${REFUSED})`,
+  "enabled = (?:none|\\d+:[a-z]+(?: \\d+:[a-z]+)*)",
+  "matching = (?:none|\\d+-\\d+(?: \\d+-\\d+)*)",
+  `status = ${FIGURES}`,
+];
+const ENTRY = new RegExp(`[1-9]\\d{0,7} (?:${EVENTS.join("|")})\\n`, "y");
+
+/** Where a text is no transcript: its first line, counted from 1, that is wrong. */
+export class TranscriptFault extends Error {
+  constructor(line, wrong) {
+    super(`line ${line} ${wrong}`);
+    this.line = line;
+  }
+}
 
 /** One line of a transcript, such as `3 step 1 = 1:seduce>2`. */
 export function readEntry(line) {
@@ -42,54 +64,66 @@ export function nodesOf(entry) {
   return named.map((word) => Number(word.split(">")[0]));
 }
 
-/** Where the line behind this one begins. */
-function behindLine(text, at) {
-  const end = text.indexOf("\n", at);
-  return end < 0 ? text.length : end + 1;
+function lineAt(text, at) {
+  return text.slice(0, at).split("\n").length;
 }
 
-/** The base whose lines begin at a place: its numbers, and where its nodes begin and its edges end. */
+/** The groups of a line that has to stand at a place. */
+function match(pattern, text, at) {
+  pattern.lastIndex = at;
+  const found = pattern.exec(text);
+  if (!found) {
+    throw new TranscriptFault(lineAt(text, at), "is none of a transcript");
+  }
+  return found;
+}
+
+/** The numbers of a line, none of which is above `most`; `-` is 0. */
+function numbersOf(words, most, text, at) {
+  const numbers = words.map((word) => (word === "-" ? 0 : Number(word)));
+  if (numbers.some((number) => number > most)) {
+    throw new TranscriptFault(lineAt(text, at), "has a name that is none of this network");
+  }
+  return numbers;
+}
+
+/** The base whose lines begin at a place: its numbers, the state that they tell, as a machine loads it, and where they end. */
 function readBase(text, at) {
-  BASE.lastIndex = at;
-  const [head, rules, names, line, ...numbers] = BASE.exec(text);
+  const [head, rules, capacity, line, ...numbers] = match(BASE, text, at);
+  const [names] = numbersOf([capacity], MOST_NAMES, text, at);
   const [number, spent, nodes, edges] = numbers.map(Number);
-  const begin = at + head.length;
-  let end = begin;
-  for (let left = nodes + edges; left > 0; left -= 1) {
-    end = behindLine(text, end);
+  const [pointers, flags, here] = [new Int32Array(names + 1), new Uint8Array(names + 1), new Uint8Array(names + 1)];
+  const ends = [];
+  let end = at + head.length;
+  for (let left = nodes; left > 0; left -= 1) {
+    const [place, node, pointer, flag] = match(PLACE, text, end);
+    const [v, target] = numbersOf([node, pointer], names, text, end);
+    [here[v], pointers[v], flags[v]] = [1, target, Number(flag)];
+    end += place.length;
   }
-  return { rules, names: Number(names), line, number, spent, nodes, edges, begin, end };
-}
-
-/** The state that the lines of a base tell, as a machine loads it. */
-function stateOf(text, { names, nodes, edges, begin, end }) {
-  const lines = text.slice(begin, end).split("\n");
-  const state = { here: new Uint8Array(names + 1), pointers: new Int32Array(names + 1), flags: new Uint8Array(names + 1), ends: new Int32Array(2 * edges) };
-  for (let at = 0; at < nodes; at += 1) {
-    const [, node, pointer, flag] = PLACE.exec(lines[at]);
-    state.here[node] = 1;
-    state.pointers[node] = pointer === "-" ? 0 : Number(pointer);
-    state.flags[node] = Number(flag);
+  for (let left = edges; left > 0; left -= 1) {
+    const [edge, ...both] = match(EDGE, text, end);
+    const [low, high] = numbersOf(both, names, text, end);
+    if (low >= high || !here[low] || !here[high]) {
+      throw new TranscriptFault(lineAt(text, end), "is no edge of two nodes");
+    }
+    ends.push(low, high);
+    end += edge.length;
   }
-  for (let at = 0; at < edges; at += 1) {
-    const [, low, high] = EDGE.exec(lines[nodes + at]);
-    state.ends.set([Number(low), Number(high)], 2 * at);
-  }
-  return state;
+  return { rules, names, line, number, spent, nodes, end, state: { here, pointers, flags, ends: Int32Array.from(ends) } };
 }
 
 /** A header and entries numbered from 1, or a base and entries numbered behind it: `first` is the number at which it opens, `last`
  * that of its last entry, and `length` how many it has. An entry is read from its line when it is asked for. Names are 1 to `nodes`.
  * Behind a header the first are present at the start, `present` of them; a base has a `state`. `bases` are the lines that tell the
- * numbers of bases further down, each by the entry behind which it stands. */
+ * numbers of bases, each by the entry behind which it stands. A text that is none is a `TranscriptFault`. */
 export class Transcript {
   constructor(text) {
     this.text = text;
     this.starts = [];
     this.bases = new Map();
     let at = text.startsWith("matching2 ") ? this.openAtBase() : this.openAtHeader();
-    const end = text.lastIndexOf("\n") + 1;
-    while (at < end) {
+    while (at < text.length) {
       at = text[at] === "m" ? this.passBase(at) : this.passEntry(at);
     }
     this.length = this.starts.length;
@@ -97,30 +131,45 @@ export class Transcript {
   }
 
   openAtHeader() {
-    const [header, rules, nodes, present] = HEADER.exec(this.text);
-    Object.assign(this, { rules, nodes: Number(nodes), present: Number(present ?? nodes), first: 0, spent: 0, state: null });
+    const [header, rules, ...words] = match(HEADER, this.text, 0);
+    const [nodes, present] = numbersOf(words.filter(Boolean), MOST_NAMES, this.text, 0);
+    numbersOf(words.slice(1).filter(Boolean), nodes, this.text, 0);
+    Object.assign(this, { rules, nodes, present: present ?? nodes, first: 0, spent: 0, state: null });
     return header.length;
   }
 
   openAtBase() {
     const base = readBase(this.text, 0);
-    Object.assign(this, { rules: base.rules, nodes: base.names, present: base.nodes, first: base.number, spent: base.spent, state: stateOf(this.text, base) });
+    Object.assign(this, { rules: base.rules, nodes: base.names, present: base.nodes, first: base.number, spent: base.spent, state: base.state });
+    this.opening = base.line;
     return base.end;
   }
 
   passBase(at) {
     const base = readBase(this.text, at);
+    if (base.rules !== this.rules || base.names !== this.nodes || base.number !== this.first + this.starts.length) {
+      throw new TranscriptFault(lineAt(this.text, at), "begins another base than that of the entries before it");
+    }
     this.bases.set(base.number, base.line);
     return base.end;
   }
 
   passEntry(at) {
+    const [line] = match(ENTRY, this.text, at);
+    if (Number.parseInt(line, 10) !== this.first + this.starts.length + 1) {
+      throw new TranscriptFault(lineAt(this.text, at), "has another number than the next entry");
+    }
     this.starts.push(at);
-    return behindLine(this.text, at);
+    return at + line.length;
   }
 
   entry(number) {
     const at = this.starts[number - this.first - 1];
     return readEntry(this.text.slice(at, this.text.indexOf("\n", at)));
+  }
+
+  /** What is wrong with an entry, as a fault of its line. */
+  fault(number, wrong) {
+    return new TranscriptFault(lineAt(this.text, this.starts[number - this.first - 1]), wrong);
   }
 }

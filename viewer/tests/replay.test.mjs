@@ -3,19 +3,11 @@ import assert from "node:assert/strict";
 import test from "node:test";
 import { readFileSync } from "node:fs";
 import { picturesOfCases, transcriptsOfCases, transcriptsOfExamples } from "./cases.mjs";
+import { baseAt, enabledOf, pairsOf } from "./states.mjs";
 import { Machine } from "../src/machine.mjs";
-import { carryOut, Replay } from "../src/replay.mjs";
+import { carryOut } from "../src/entries.mjs";
+import { Replay } from "../src/replay.mjs";
 import { readEntry, Transcript } from "../src/transcript.mjs";
-
-function enabledOf(machine) {
-  const found = machine.rule.flatMap((rule, v) => (rule ? [`${v}:${rule}`] : []));
-  return found.join(" ") || "none";
-}
-
-function pairsOf(machine) {
-  const found = machine.edges().filter(([v, w]) => machine.partner(v) === w);
-  return found.sort((a, b) => a[0] - b[0]).map((pair) => pair.join("-")).join(" ") || "none";
-}
 
 /** The reply to a question, as the machine has it. */
 function answer(replay, entry) {
@@ -31,19 +23,6 @@ function answer(replay, entry) {
       return String(machine.pointer[Number(entry.event.slice(5))] || "-");
   }
   return null;
-}
-
-/** The lines of the base at which a replay stands after so many entries. */
-function baseAt(replay, number) {
-  const machine = replay.goTo(number);
-  const present = Array.from({ length: machine.nodes }, (_, at) => at + 1).filter((v) => machine.here[v]);
-  const edges = machine.edges().sort((a, b) => a[0] - b[0] || a[1] - b[1]);
-  return [
-    `matching2 ${machine.rules} ${machine.nodes}`,
-    `base ${number} spent=${replay.valueAt("spent", number)} nodes=${present.length} edges=${edges.length}`,
-    ...present.map((v) => `node ${v} ${machine.pointer[v] || "-"} ${machine.flag[v]}`),
-    ...edges.map((edge) => `edge ${edge.join(" ")}`),
-  ];
 }
 
 const replays = [...transcriptsOfCases(), ...transcriptsOfExamples()].map((found) => ({ ...found, replay: new Replay(new Transcript(found.text)) }));
@@ -75,8 +54,9 @@ for (const { name, text, audited, replay } of replays) {
       assert.ok(value + spent[place] <= replay.bound(replay.transcript.first + place), `place ${place}`);
       moves += place > 0 && spent[place] > spent[place - 1] ? spent[place] - spent[place - 1] : 0;
     });
+    assert.equal(replay.moves, moves);
     if (audited) {
-      assert.equal(`accepted: ${replay.transcript.length} entries, ${replay.disturbances.length + 1} epochs, ${moves} moves`, audited);
+      assert.equal(replay.verdict, audited);
     }
   });
 }
@@ -105,9 +85,16 @@ for (const { name, text, replay } of replays.filter((found) => found.replay.tran
   });
 }
 
+/** The lines up to that of an entry, which all that comes behind it changes nothing of. */
+function upTo(text, entry) {
+  const lines = text.split("\n");
+  const at = lines.findIndex((line) => line.startsWith(`${entry} `));
+  return at < 0 ? text : `${lines.slice(0, at + 1).join("\n")}\n`;
+}
+
 for (const { name, entry, text, picture } of picturesOfCases()) {
   test(`the picture of ${name}`, () => {
-    const replay = new Replay(new Transcript(text));
+    const replay = new Replay(new Transcript(upTo(text, entry)));
     const machine = replay.goTo(Number(entry ?? replay.transcript.last));
     const lines = ["graph matching {"];
     for (let v = 1; v <= machine.nodes; v += 1) {

@@ -1,6 +1,6 @@
 import assert from "node:assert/strict";
 import test from "node:test";
-import { movesOf, nodesOf, readEntry, Transcript, wordsOf } from "../src/transcript.mjs";
+import { movesOf, nodesOf, readEntry, Transcript, TranscriptFault, wordsOf } from "../src/transcript.mjs";
 
 test("an entry in its parts", () => {
   assert.deepEqual(readEntry("12 step 2>3 4 = 2:seduce>3 4:update"), {
@@ -76,10 +76,21 @@ test("a transcript that begins with a base", () => {
   assert.deepEqual([new Transcript(`${BASE.join("\n")}\n`).length, new Transcript("matching2 hh 0\nbase 7 spent=0 nodes=0 edges=0\n").last], [0, 7]);
 });
 
-test("what no audit accepts is refused by the same error at a header and at a base", () => {
-  const bases = BASE.map((line, at) => [...BASE.slice(0, at), `${line} 1 1`, ...BASE.slice(at + 1), ""].join("\n"));
-  const cut = BASE.map((_, at) => `${BASE.slice(0, at).join("\n")}\n`);
-  for (const text of ["", "matching hh\n", "matching hh 2", "1 show 1 = -\n", ...bases, ...cut, `matching hh 2\n${BASE[0]}\n1 show 1 = -\n`]) {
-    assert.throws(() => new Transcript(text), TypeError, JSON.stringify(text));
+test("what is no transcript is a fault of its first wrong line", () => {
+  const bases = BASE.map((line, at) => [at === 0 ? 1 : at + 1, [...BASE.slice(0, at), `${line} 1 1`, ...BASE.slice(at + 1), ""].join("\n")]);
+  const cut = BASE.map((_, at) => [at < 2 ? 1 : at + 1, `${BASE.slice(0, at).join("\n")}\n`]);
+  const texts = [
+    ...bases.slice(2), ...cut, [1, ""], [1, "matching hh\n"], [1, "matching hh 2"], [1, "1 show 1 = -\n"], [1, "matching hh 65536\n"], [1, "matching hh 3 4\n"],
+    [2, `matching hh 2\n${BASE[0]}\n1 show 1 = -\n`], [2, `matching hh 2\n${BASE.join("\n")}\n`], [2, "matching hh 2\n2 show 1 = -\n"], [2, "matching hh 2\n1 show 1 = -"],
+    [3, "matching hh 2\n1 show 1 = -\n</script>\n"], [2, "matching hh 2\n1 show 1 = <b>\n"], [2, "matching hh 2\n1 status = nodes=2\n"], [2, "matching hh 2\n1 link 1 2 = ok\r\n"],
+    [3, "matching2 hh 2\nbase 0 spent=0 nodes=9 edges=9\nnode 3 - 0\n"], [6, [...BASE.slice(0, 5), "edge 2 1", "edge 1 4", ""].join("\n")],
+  ];
+  for (const [line, text] of texts) {
+    assert.throws(() => new Transcript(text), (wrong) => wrong instanceof TranscriptFault && wrong.line === line && wrong.message.startsWith(`line ${line} `), JSON.stringify(text));
   }
+});
+
+test("the line of an entry that is no fault of its form", () => {
+  const transcript = new Transcript([...BASE, "3 show 2 = 1", ...BASE.slice(0, 1), "base 3 spent=0 nodes=0 edges=0", "4 show 2 = 2", ""].join("\n"));
+  assert.equal(transcript.fault(4, "is wrong").message, "line 11 is wrong");
 });

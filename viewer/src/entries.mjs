@@ -1,0 +1,64 @@
+// What an entry does to a machine.
+import { movesOf, wordsOf } from "./transcript.mjs";
+
+/** Whether an entry changes the state: an accepted edit or fault, or a step. */
+export function changes(entry) {
+  return entry.disturbs || (entry.kind === "step" && !entry.refused);
+}
+
+function namesOf(entry) {
+  return wordsOf(entry).map((word) => (word === "-" ? 0 : Number(word)));
+}
+
+/** Whether the moves of a step may be made at once: each by the rule that is enabled, at a target that it allows. */
+function mayStep(machine, moves) {
+  const nodes = new Set(moves.map((move) => move.node));
+  return nodes.size === moves.length && (machine.flags || moves.length === 1) && moves.every(({ node, rule, target }) => machine.mayMove(node, rule, target));
+}
+
+/** Whether the machine may accept an entry that changes the state. */
+export function isPossible(machine, entry) {
+  if (entry.kind === "step") {
+    return mayStep(machine, movesOf(entry));
+  }
+  const [node, other] = namesOf(entry);
+  const here = machine.here[node] === 1;
+  switch (entry.kind) {
+    case "link":
+      return here && node !== other && machine.here[other] === 1 && !machine.neighbours[node].has(other);
+    case "unlink":
+      return here && machine.neighbours[node].has(other);
+    case "point":
+      return here && (other === 0 || machine.neighbours[node].has(other));
+    case "flag":
+      return here && machine.flags;
+    case "join":
+      return machine.here[node] === 0 && node > 0;
+    case "leave":
+      return here;
+  }
+  return false;
+}
+
+/** Carries out an accepted entry on the machine. */
+export function carryOut(machine, entry) {
+  if (entry.kind === "step") {
+    machine.step(movesOf(entry));
+    return;
+  }
+  const [node, other] = namesOf(entry);
+  switch (entry.kind) {
+    case "link":
+      return machine.link(node, other);
+    case "unlink":
+      return machine.unlink(node, other);
+    case "point":
+      return machine.write(node, other, machine.flag[node]);
+    case "flag":
+      return machine.write(node, machine.pointer[node], other);
+    case "join":
+      return machine.join(node);
+    case "leave":
+      return machine.leave(node);
+  }
+}
