@@ -141,6 +141,23 @@ class Browser:
         self.call("Input.dispatchMouseEvent", type="mousePressed", buttons=1, **words)
         self.call("Input.dispatchMouseEvent", type="mouseReleased", **words)
 
+    def move(self, x, y):
+        """Moves the mouse, no button held."""
+        self.call("Input.dispatchMouseEvent", type="mouseMoved", x=x, y=y)
+
+    def touch(self, kind, *places):
+        """What fingers do: `Start`, `Move` or `End`, with the places of all that touch then."""
+        points = [{"x": x, "y": y, "id": number} for number, (x, y) in enumerate(places)]
+        self.call("Input.dispatchTouchEvent", type=f"touch{kind}", touchPoints=points)
+
+    def fingers(self, wanted):
+        """Whether the window is one that is touched."""
+        self.call("Emulation.setTouchEmulationEnabled", enabled=wanted, maxTouchPoints=2)
+
+    def save_into(self, folder):
+        """What pages save from now on goes into a folder."""
+        self.call("Browser.setDownloadBehavior", behavior="allow", downloadPath=folder)
+
     def window(self, width, height, dark=False):
         self.call("Emulation.setDeviceMetricsOverride", width=width, height=height, deviceScaleFactor=1, mobile=False)
         scheme = {"name": "prefers-color-scheme", "value": "dark" if dark else "light"}

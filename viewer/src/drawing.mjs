@@ -52,7 +52,7 @@ export class Drawing {
       this.angles[v].push(angle);
       this.angles[w].push(angle > 0 ? angle - Math.PI : angle + Math.PI);
     }
-    this.layers = Object.fromEntries(["edges", "pairs", "pointers", "nodes", "changes"].map((name) => [name, add(svg, "g", { class: name })]));
+    this.layers = Object.fromEntries(["edges", "pairs", "picks", "pointers", "nodes", "changes"].map((name) => [name, add(svg, "g", { class: name })]));
     svg.classList.toggle("dense", edgesEver.length > DENSE * nodes);
     this.edges = new Map();
     this.pointers = new Map();
@@ -79,7 +79,7 @@ export class Drawing {
     add(group, "circle", { class: "halo", r: RADIUS + 5 });
     add(group, "circle", { class: "body", r: RADIUS });
     add(group, "text", { class: "name", "font-size": nameSize(v), dy: "0.36em" }, String(v));
-    return { group, title: add(group, "title"), classes: "node", mark: null, flag: null };
+    return { group, classes: "node", mark: null, flag: null };
   }
 
   edge(low, high) {
@@ -181,16 +181,25 @@ export class Drawing {
     this.pointers.set(v, { line, target });
   }
 
-  /** Writes what a node is into its title, once a pointing device is on it. */
-  describe(machine, v) {
-    const rule = machine.rule[v];
-    const words = [
-      `node ${v}`,
-      machine.pointer[v] === 0 ? "points nowhere" : `points at ${machine.pointer[v]}`,
-      machine.isMarried(v) ? "married" : "not married",
-      machine.flags && `flag ${machine.flag[v]}`,
-      rule ? `enabled: ${rule}` : "not enabled",
-    ];
-    this.shapes[v].title.textContent = words.filter(Boolean).join(", ");
+  /** How many nodes that are there touch the box between two places; each has this radius. */
+  countIn(from, to, radius) {
+    const { x, y } = this.layout;
+    const isIn = (v) => x[v] > from.x - radius && x[v] < to.x + radius && y[v] > from.y - radius && y[v] < to.y + radius;
+    return this.shapes.filter((shape, v) => shape && !shape.classes.includes("absent") && isIn(v)).length;
+  }
+
+  /** Marks a node or an edge; null marks none. */
+  pick(thing) {
+    this.layers.picks.replaceChildren();
+    if (thing === null) {
+      return;
+    }
+    if (thing.node) {
+      const [cx, cy] = this.place(thing.node);
+      add(this.layers.picks, "circle", { class: "pick", cx, cy, r: RADIUS + 8 });
+      return;
+    }
+    const [[x1, y1], [x2, y2]] = [this.place(thing.low), this.place(thing.high)];
+    add(this.layers.picks, "line", { class: "pick", x1, y1, x2, y2 });
   }
 }

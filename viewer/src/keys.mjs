@@ -14,18 +14,23 @@ const KEYS = {
   "=": "zoom-in",
   "-": "zoom-out",
   0: "zoom-fit",
+  f: "find",
+  e: "edge",
+  Escape: "let-go",
 };
+// keys of the drawing alone, where it has the focus
+const DRAWING_KEYS = { ArrowUp: "node-before", ArrowDown: "node-behind" };
 
 function takesKey(target, key) {
-  if (target.id === "go") {
-    return key !== "n" && key !== "p";
+  if (target.type === "number") {
+    return key.length > 1 ? key !== "Escape" : /[-+0-9]/.test(key);
   }
   return target.tagName === "SELECT" || (target.tagName === "BUTTON" && key === " ") || (target.tagName === "SUMMARY" && key === " ");
 }
 
 export function listen(actions) {
   document.addEventListener("keydown", (event) => {
-    const action = actions[KEYS[event.key]];
+    const action = actions[KEYS[event.key] ?? (event.target.id === "graph" && DRAWING_KEYS[event.key])];
     if (!action || event.ctrlKey || event.metaKey || event.altKey || takesKey(event.target, event.key)) {
       return;
     }

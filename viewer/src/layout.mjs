@@ -8,6 +8,10 @@ const ROUND_RING = 60;
 // so many chords a node may a ring have
 const CHORDS = 0.25;
 const PACKED_WIDTH_RATIO = 1.5;
+// a small drawing is spread until it fills this box
+const LEAST_WIDTH = 440;
+const LEAST_HEIGHT = 280;
+const MOST_SPREAD = 4;
 
 function neighbourLists(nodes, edges) {
   const lists = Array.from({ length: nodes + 1 }, () => []);
@@ -165,4 +169,17 @@ export function layOut(nodes, edges) {
     });
   }
   return { x, y, width, height };
+}
+
+/** The same drawing in a box that is not smaller than a page can show well: a smaller one is spread there, so that nodes keep
+ * their size and come to stand farther apart. */
+export function fill({ x, y, width, height }) {
+  const wide = width > SPACING ? (LEAST_WIDTH - SPACING) / (width - SPACING) : Infinity;
+  const high = height > SPACING ? (LEAST_HEIGHT - SPACING) / (height - SPACING) : Infinity;
+  const by = Math.max(1, Math.min(wide, high, MOST_SPREAD));
+  const spreadTo = (size) => (size - SPACING) * by + SPACING;
+  const [wholeWidth, wholeHeight] = [Math.max(LEAST_WIDTH, spreadTo(width)), Math.max(LEAST_HEIGHT, spreadTo(height))];
+  const [padX, padY] = [(wholeWidth - spreadTo(width)) / 2, (wholeHeight - spreadTo(height)) / 2];
+  const along = (places, pad) => places.map((at) => (at - SPACING / 2) * by + SPACING / 2 + pad);
+  return { x: along(x, padX), y: along(y, padY), width: wholeWidth, height: wholeHeight };
 }

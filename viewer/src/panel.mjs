@@ -1,11 +1,21 @@
 // What stands beside the drawing: the entry with its reply, the entries near it, and the state in numbers.
-import { byId, spaced } from "./svg.mjs";
+import { counted, grouped } from "./numbers.mjs";
+import { byId } from "./svg.mjs";
 
 const NEAR = 4;
 const LONGEST = 400;
 
 function cut(text) {
-  return text.length > LONGEST ? `${text.slice(0, LONGEST)} … (${spaced(text.length)} characters)` : text;
+  return text.length > LONGEST ? `${text.slice(0, LONGEST)} … (${grouped(text.length)} characters)` : text;
+}
+
+/** What stands before the first entry: nothing, or the entries that led to a base. */
+function openingOf(transcript) {
+  if (!transcript.state) {
+    return { kind: "", event: "the opening state", reply: "no entry yet" };
+  }
+  const before = transcript.first === 0 ? "no entry" : counted(transcript.first, "entry", "entries");
+  return { kind: "base", event: transcript.opening, reply: `the state that ${before} led to` };
 }
 
 function item(transcript, number, current) {
@@ -14,7 +24,7 @@ function item(transcript, number, current) {
   const entry = number === transcript.first ? null : transcript.entry(number);
   button.type = "button";
   button.dataset.entry = number;
-  button.textContent = entry ? cut(`${entry.number} ${entry.event} = ${entry.reply}`) : `${number} the opening state`;
+  button.textContent = entry ? cut(`${entry.number} ${entry.event} = ${entry.reply}`) : transcript.state ? `${number} the base` : `${number} the opening state`;
   button.tabIndex = -1;
   made.classList.toggle("refused", Boolean(entry?.refused));
   made.classList.toggle("disturbs", Boolean(entry?.disturbs));
@@ -58,24 +68,24 @@ export class Panel {
       spent,
       sum: spent + machine.charge,
       bound: machine.bound,
-      epoch: epoch.start ?? `≤ ${this.replay.transcript.first}`,
+      epoch: epoch.start === null ? `≤ ${grouped(this.replay.transcript.first)}` : epoch.start,
     };
     for (const [name, value] of Object.entries(figures)) {
       const place = byId(name);
-      place.textContent = spaced(value);
-      place.dataset.value = value;
+      place.textContent = typeof value === "number" ? grouped(value) : value;
     }
     byId("quiet").textContent = machine.enabledCount === 0 ? "stable" : "not stable";
     byId("quiet").classList.toggle("stable", machine.enabledCount === 0);
   }
 
   showEntry(number, entry) {
-    byId("number").textContent = number;
-    byId("event").textContent = entry ? cut(entry.event) : "the opening state";
-    byId("reply").textContent = entry ? cut(entry.reply) : "no entry yet";
+    const { kind, event, reply } = entry ?? openingOf(this.replay.transcript);
+    byId("number").textContent = grouped(number);
+    byId("event").textContent = cut(event);
+    byId("reply").textContent = cut(reply);
     byId("entry").classList.toggle("refused", Boolean(entry?.refused));
     byId("entry").classList.toggle("disturbs", Boolean(entry?.disturbs));
-    byId("kind").textContent = entry?.refused ? "⊘ refused" : entry?.disturbs ? "↯ disturbance" : "";
+    byId("kind").textContent = entry?.refused ? "⊘ refused" : entry?.disturbs ? "↯ disturbance" : kind === "base" ? kind : "";
   }
 
   showNear(number) {

@@ -1,13 +1,18 @@
 // Where the page stands in the transcript: slider, buttons, keys, and playing on by itself.
+import { grouped } from "./numbers.mjs";
 import { byId } from "./svg.mjs";
 
 const FAR = 10;
 
 export class Player {
-  /** `show` draws an entry; `replay` knows where disturbances are. */
+  /** `show` draws an entry; `replay` knows where disturbances are. What is told to `moved` is where somebody went. */
   constructor(replay, show) {
-    const { first, last } = replay.transcript;
-    Object.assign(this, { replay, show, first, last, at: first, since: null });
+    const { first, last, state } = replay.transcript;
+    Object.assign(this, { replay, show, first, last, at: first, since: null, moved: () => {} });
+    if (state) {
+      byId("first").title = "the base (Home)";
+      byId("first").setAttribute("aria-label", "the base");
+    }
     byId("slider").max = byId("go").max = last;
     byId("slider").min = byId("go").min = first;
     byId("slider").addEventListener("input", () => this.goTo(Number(byId("slider").value)));
@@ -37,10 +42,11 @@ export class Player {
   move(number) {
     this.at = Math.min(this.last, Math.max(this.first, Math.round(number) || 0));
     byId("slider").value = byId("go").value = this.at;
-    byId("slider").setAttribute("aria-valuetext", `entry ${this.at} of ${this.last}`);
+    byId("slider").setAttribute("aria-valuetext", `entry ${grouped(this.at)} of ${grouped(this.last)}`);
     byId("first").disabled = byId("back").disabled = byId("previous").disabled = this.at === this.first;
     byId("last").disabled = byId("forward").disabled = byId("next").disabled = this.at === this.last;
     this.show(this.at);
+    this.moved(this.at);
   }
 
   get speed() {

@@ -11,11 +11,14 @@ export function add(parent, name, attributes = {}, text = "") {
   return made;
 }
 
-export function byId(id) {
-  return document.getElementById(id);
+/** A new HTML element with this text, as the last child of `parent`. */
+export function addText(parent, name, text) {
+  const made = document.createElement(name);
+  made.textContent = text;
+  parent.append(made);
+  return made;
 }
 
-/** A number with thin spaces between thousands. */
-export function spaced(number) {
-  return String(number).replace(/\B(?=(\d{3})+$)/g, "\u202f");
+export function byId(id) {
+  return document.getElementById(id);
 }

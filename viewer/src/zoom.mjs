@@ -1,49 +1,78 @@
-// Which part of the drawing is seen: by buttons, by the wheel, and by dragging.
+// Shows a part of a drawing, which buttons, keys, the wheel and fingers choose.
+import { View } from "./view.mjs";
 
-const MOST = 20;
-// a small graph is not drawn larger than one that fills this box
-const LEAST_WIDTH = 560;
-const LEAST_HEIGHT = 400;
 // names smaller than so many pixels are left out: nobody reads them, and they are what takes time to draw
 const NAME_SIZE = 10;
 const LEAST_NAME = 4;
+// so many units a pixel, and a name can still be read
+const READABLE = 1.6;
 
 export class Zoom {
-  constructor(svg, width, height) {
-    const [padX, padY] = [Math.max(0, LEAST_WIDTH - width) / 2, Math.max(0, LEAST_HEIGHT - height) / 2];
-    Object.assign(this, { svg, left: -padX, top: -padY, width: width + 2 * padX, height: height + 2 * padY });
-    this.fit();
+  /** `changed` is called whenever another part is seen. */
+  constructor(svg, width, height, changed = () => {}) {
+    Object.assign(this, { svg, changed, view: new View(width, height) });
+    this.apply();
     new ResizeObserver(() => this.apply()).observe(svg);
     svg.addEventListener("wheel", (event) => this.turn(event), { passive: false });
-    svg.addEventListener("pointerdown", (event) => this.grip(event));
-    svg.addEventListener("pointermove", (event) => this.drag(event));
-    svg.addEventListener("pointerup", () => (this.held = null));
-    svg.addEventListener("pointercancel", () => (this.held = null));
   }
 
   fit() {
-    Object.assign(this, { scale: 1, x: this.left + this.width / 2, y: this.top + this.height / 2 });
+    this.view.fit();
     this.apply();
   }
 
   by(factor) {
-    this.scale = Math.min(MOST, Math.max(1, this.scale * factor));
+    this.view.by(factor);
     this.apply();
   }
 
+  /** Moves so that a place of the drawing is seen, nearer than before where its names can't be read. */
+  reveal(x, y) {
+    if (this.unit > READABLE) {
+      this.view.by(this.unit);
+    }
+    if (!this.view.sees(x, y, NAME_SIZE * 2)) {
+      this.view.moveTo(x, y);
+    }
+    this.apply();
+  }
+
+  drag(from, to) {
+    if (this.view.scale > 1) {
+      this.view.drag((to.x - from.x) * this.unit, (to.y - from.y) * this.unit);
+      this.apply();
+    }
+  }
+
+  /** Two fingers moved from one place to another, and apart by a factor. */
+  pinch(factor, from, to) {
+    const { x, y } = this.placeAt(from);
+    this.view.by(factor, x, y);
+    this.apply();
+    this.drag(from, to);
+  }
+
   apply() {
-    const [width, height] = [this.width / this.scale, this.height / this.scale];
-    this.x = Math.min(this.left + this.width - width / 2, Math.max(this.left + width / 2, this.x));
-    this.y = Math.min(this.top + this.height - height / 2, Math.max(this.top + height / 2, this.y));
-    this.svg.setAttribute("viewBox", [this.x - width / 2, this.y - height / 2, width, height].map((n) => n.toFixed(2)).join(" "));
-    this.svg.classList.toggle("zoomed", this.scale > 1);
-    const pixels = Math.min(this.svg.clientWidth / width, this.svg.clientHeight / height);
-    this.svg.classList.toggle("nameless", NAME_SIZE * pixels < LEAST_NAME);
+    const { view, svg } = this;
+    svg.setAttribute("viewBox", view.box.map((n) => n.toFixed(2)).join(" "));
+    svg.classList.toggle("zoomed", view.scale > 1);
+    const pixels = Math.min(svg.clientWidth / view.width, svg.clientHeight / view.height);
+    svg.classList.toggle("nameless", NAME_SIZE * pixels < LEAST_NAME);
+    this.changed();
   }
 
   /** So many units of the drawing a pixel. */
   get unit() {
     return 1 / this.svg.getScreenCTM().a;
+  }
+
+  /** The place of the drawing at a place of the window, and the other way round. */
+  placeAt({ x, y }) {
+    return new DOMPoint(x, y).matrixTransform(this.svg.getScreenCTM().inverse());
+  }
+
+  pixelAt(x, y) {
+    return new DOMPoint(x, y).matrixTransform(this.svg.getScreenCTM());
   }
 
   turn(event) {
@@ -52,27 +81,8 @@ export class Zoom {
       return;
     }
     event.preventDefault();
-    const before = new DOMPoint(event.clientX, event.clientY).matrixTransform(this.svg.getScreenCTM().inverse());
-    this.by(event.deltaY < 0 ? 1.25 : 0.8);
-    const after = new DOMPoint(event.clientX, event.clientY).matrixTransform(this.svg.getScreenCTM().inverse());
-    this.x += before.x - after.x;
-    this.y += before.y - after.y;
+    const { x, y } = this.placeAt({ x: event.clientX, y: event.clientY });
+    this.view.by(event.deltaY < 0 ? 1.25 : 0.8, x, y);
     this.apply();
-  }
-
-  grip(event) {
-    if (this.scale > 1 && event.button === 0) {
-      this.held = { x: event.clientX, y: event.clientY };
-      this.svg.setPointerCapture(event.pointerId);
-    }
-  }
-
-  drag(event) {
-    if (this.held) {
-      this.x -= (event.clientX - this.held.x) * this.unit;
-      this.y -= (event.clientY - this.held.y) * this.unit;
-      this.held = { x: event.clientX, y: event.clientY };
-      this.apply();
-    }
   }
 }

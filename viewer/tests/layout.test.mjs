@@ -1,8 +1,7 @@
 import assert from "node:assert/strict";
 import test from "node:test";
 import { freeAngles } from "../src/drawing.mjs";
-import { layOut, ringOf, SPACING } from "../src/layout.mjs";
-import { linePath, stepOf } from "../src/plots.mjs";
+import { fill, layOut, ringOf, SPACING } from "../src/layout.mjs";
 
 const ring = (nodes) => Array.from({ length: nodes }, (_, at) => [at + 1, ((at + 1) % nodes) + 1]);
 const path = (nodes) => ring(nodes).slice(0, -1);
@@ -78,18 +77,24 @@ test("marks stand where there is room: in one wide gap, else in the two widest",
   near(freeAngles([0, Math.PI / 2, Math.PI, -Math.PI / 2]), [-Math.PI / 4, Math.PI / 4]);
 });
 
-test("steps of an axis", () => {
-  assert.deepEqual([stepOf(1, 4), stepOf(9, 4), stepOf(10, 4), stepOf(120, 4), stepOf(1500, 4), stepOf(90_000, 10)], [1, 5, 5, 50, 500, 10_000]);
+test("a small drawing fills the box: its nodes come to stand farther apart, and keep their places to one another", () => {
+  for (const [nodes, edges] of [[2, [[1, 2]]], [5, ring(5)], [9, path(9)], [12, scattered(12, 20)]]) {
+    const small = layOut(nodes, edges);
+    const { x, y, width, height } = fill(small);
+    assert.ok(width >= 400 && height >= 260, `${nodes} nodes: ${width} by ${height}`);
+    const [wide, high] = [x, y].map((places) => Math.max(...places.slice(1)) - Math.min(...places.slice(1)));
+    assert.ok(wide > 0.6 * width || high > 0.8 * height, `${nodes} nodes: ${wide} by ${high} of ${width} by ${height}`);
+    const share = (x[2] - x[1]) / (small.x[2] - small.x[1]);
+    for (let v = 1; v <= nodes; v += 1) {
+      assert.ok(Math.abs(x[v] - x[1] - share * (small.x[v] - small.x[1])) < 1e-6 && Math.abs(y[v] - y[1] - share * (small.y[v] - small.y[1])) < 1e-6);
+      assert.ok(x[v] >= SPACING / 2 - 1e-6 && x[v] <= width - SPACING / 2 + 1e-6 && y[v] >= SPACING / 2 - 1e-6 && y[v] <= height - SPACING / 2 + 1e-6);
+    }
+  }
 });
 
-test("a line holds each value until the next entry", () => {
-  const values = [1, 3, 2];
-  const path = linePath((k) => values[k], 2, (k) => 10 * k, (value) => -value, 100);
-  assert.equal(path, "M0.0 -1.0V-1.0H10.0V-3.0H20.0V-2.0H20.0");
-});
-
-test("where entries share a pixel, the line goes from their least to their greatest", () => {
-  const path = linePath((k) => (k === 57 ? 9 : 0), 99, (k) => k, (value) => value, 10);
-  assert.ok(path.includes("H50.0V0.0V9.0V0.0"), path);
-  assert.ok(path.length < 400);
+test("one node stands in the middle of the box, and a large drawing is left as it is", () => {
+  const { x, y, width, height } = fill(layOut(1, []));
+  assert.deepEqual([x[1], y[1]], [width / 2, height / 2]);
+  const large = layOut(300, ring(300));
+  assert.deepEqual(fill(large), large);
 });

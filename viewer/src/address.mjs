@@ -1,0 +1,33 @@
+// The entry's number in the page's address, so that an address leads back to it.
+
+// browsers refuse more than some hundred changes of an address in half a minute
+const LEAST_GAP = 400;
+
+export class Address {
+  /** `goTo` is called where somebody writes another number there. */
+  constructor(goTo) {
+    Object.assign(this, { written: -Infinity, timer: null, number: null });
+    addEventListener("hashchange", () => goTo(this.entry));
+    addEventListener("pagehide", () => this.write());
+  }
+
+  /** The number that stands there, 0 where there is none. */
+  get entry() {
+    return Number(location.hash.slice(1)) || 0;
+  }
+
+  /** Writes a number soon: the last of those that come at once. */
+  show(number) {
+    this.number = number;
+    this.timer ??= setTimeout(() => this.write(), Math.max(0, this.written + LEAST_GAP - performance.now()));
+  }
+
+  write() {
+    clearTimeout(this.timer);
+    this.timer = null;
+    if (this.number !== null && this.number !== this.entry) {
+      this.written = performance.now();
+      history.replaceState(history.state, "", `#${this.number}`);
+    }
+  }
+}

@@ -1,0 +1,101 @@
+// What is under the pointer, or was picked by tap, key or number: it is marked in the drawing, and a card tells what it holds.
+import { explain } from "./explain.mjs";
+import { bestBox } from "./placing.mjs";
+import { addText, byId } from "./svg.mjs";
+
+function isSame(one, other) {
+  return one === other || (one && other && one.node === other.node && one.low === other.low && one.high === other.high);
+}
+
+export class Inspector {
+  /** `machine()` is the state that is shown. `stage` marks a thing (`pick`) and says where it is seen (`pixelOf`); null where
+   * nothing is drawn. */
+  constructor(machine, stage) {
+    Object.assign(this, { machine, stage, picked: null, under: null });
+    byId("card-close").addEventListener("click", () => this.pick(null));
+  }
+
+  /** What is told of: what lies under the pointer, else what was picked. */
+  get thing() {
+    return this.under ?? this.picked;
+  }
+
+  hover(thing) {
+    if (!isSame(this.under, thing)) {
+      this.under = thing;
+      this.show();
+    }
+  }
+
+  pick(thing) {
+    this.picked = thing;
+    this.under = null;
+    this.show();
+  }
+
+  /** Picks a thing, or lets go of it where it is picked already. */
+  toggle(thing) {
+    this.pick(isSame(this.picked, thing) ? null : thing);
+  }
+
+  /** Picks the node by this number of steps farther on among those that are there; where none is picked the first or the last. */
+  stepNode(step) {
+    const machine = this.machine();
+    const from = this.picked?.node ?? this.picked?.low ?? (step > 0 ? 0 : machine.nodes + 1);
+    for (let v = from + step; v >= 1 && v <= machine.nodes; v += step) {
+      if (machine.here[v]) {
+        this.pick({ node: v });
+        return;
+      }
+    }
+  }
+
+  /** Picks the next edge of the picked node, or of the end from which its edges are gone through. */
+  stepEdge() {
+    const machine = this.machine();
+    const end = this.picked?.node ?? this.end ?? 0;
+    const others = [...(machine.neighbours[end] ?? [])].sort((a, b) => a - b);
+    const at = this.picked?.node ? -1 : others.findIndex((w) => w === this.picked?.low || w === this.picked?.high);
+    const other = others[at + 1] ?? others[0];
+    if (other) {
+      this.end = end;
+      this.pick({ low: Math.min(end, other), high: Math.max(end, other) });
+    }
+  }
+
+  /** Shows the card anew: the state, the thing or the view has changed. */
+  show() {
+    const { thing } = this;
+    const card = byId("card");
+    card.hidden = thing === null;
+    card.classList.toggle("picked", this.under === null);
+    this.stage?.pick(thing);
+    if (thing === null) {
+      return;
+    }
+    const { heading, rule, rows } = explain(this.machine(), thing);
+    byId("card-heading").textContent = heading;
+    byId("card-rule").textContent = rule ?? "";
+    byId("card-rows").replaceChildren();
+    for (const [term, said] of rows) {
+      const row = addText(byId("card-rows"), "div", "");
+      addText(row, "dt", term);
+      addText(row, "dd", said);
+    }
+    this.place();
+  }
+
+  /** Puts the card near what it tells of, where it covers little. */
+  place() {
+    const { thing, stage } = this;
+    if (thing === null || !stage) {
+      return;
+    }
+    const card = byId("card");
+    const whole = card.parentElement.getBoundingClientRect();
+    const size = { width: card.offsetWidth, height: card.offsetHeight };
+    const { left, top } = bestBox(stage.pixelOf(thing), stage.svg.getBoundingClientRect(), size, (box) => stage.countIn(box));
+    card.style.left = `${(left - whole.left).toFixed(0)}px`;
+    card.style.top = `${(top - whole.top).toFixed(0)}px`;
+  }
+}

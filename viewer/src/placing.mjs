@@ -1,0 +1,41 @@
+// Where a card stands in a room: near what it tells of, where it covers little.
+
+const GAP = 22;
+const BORDER = 4;
+// places that are tried, across and down
+const ACROSS = 16;
+const DOWN = 12;
+// so many pixels farther away is worth one thing less that is covered
+const WORTH = 100;
+
+/** How far a place is from a box; 0 inside. */
+function distanceToBox({ x, y }, { left, top, width, height }) {
+  const beyond = (at, from, size) => Math.max(from - at, 0, at - from - size);
+  return Math.hypot(beyond(x, left, width), beyond(y, top, height));
+}
+
+/** Boxes of a size in a room: right and left of a place, and all over the room. */
+function boxes(place, room, { width, height }) {
+  const [left, right] = [room.left + BORDER, Math.max(room.left + BORDER, room.right - width - BORDER)];
+  const [top, bottom] = [room.top + BORDER, Math.max(room.top + BORDER, room.bottom - height - BORDER)];
+  const level = Math.max(top, Math.min(bottom, place.y - height / 3));
+  const beside = [place.x + GAP, place.x - GAP - width].filter((at) => at >= left && at <= right).map((at) => ({ left: at, top: level, width, height }));
+  const share = (from, to, at, steps) => from + ((to - from) * at) / (steps - 1);
+  const over = Array.from({ length: ACROSS * DOWN }, (_, at) => ({
+    left: share(left, right, at % ACROSS, ACROSS),
+    top: share(top, bottom, Math.floor(at / ACROSS), DOWN),
+    width,
+    height,
+  }));
+  return [...beside, ...over];
+}
+
+/** The best box of a size for what lies at a place of the room; `countIn` tells how many things a box covers. */
+export function bestBox(place, room, size, countIn) {
+  const cost = (box) => {
+    const far = distanceToBox(place, box);
+    return WORTH * countIn(box) + far + (far < GAP - 1 ? 10 * WORTH : 0);
+  };
+  const costs = boxes(place, room, size).map((box) => ({ box, cost: cost(box) }));
+  return costs.reduce((best, next) => (next.cost < best.cost ? next : best)).box;
+}

@@ -1,0 +1,65 @@
+// The stage: the drawing of a network with its zoom, and the hands on it.
+import { Drawing, RADIUS } from "./drawing.mjs";
+import { Gestures } from "./gestures.mjs";
+import { thingAt } from "./hit.mjs";
+import { fill, layOut } from "./layout.mjs";
+import { Zoom } from "./zoom.mjs";
+
+// so many pixels from an edge is on it
+const REACH = 7;
+
+export class Stage {
+  /** The names 1 to `nodes`, with places for all edges that ever are. */
+  constructor(svg, nodes, edgesEver) {
+    this.svg = svg;
+    this.layout = fill(layOut(nodes, edgesEver));
+    this.drawing = new Drawing(svg, this.layout, nodes, edgesEver);
+    this.zoom = new Zoom(svg, this.layout.width, this.layout.height, () => this.moved?.());
+  }
+
+  /** Lets hands in: what they point at is told to the inspector, and what they drag moves what is seen. */
+  listen(inspector, machine) {
+    const under = (place) => {
+      const { x, y } = this.zoom.placeAt(place);
+      return thingAt(this.layout, machine(), x, y, RADIUS, REACH * this.zoom.unit);
+    };
+    this.moved = () => inspector.place();
+    new Gestures(this.svg, {
+      hover: (place) => inspector.hover(under(place)),
+      leave: () => inspector.hover(null),
+      tap: (place) => inspector.toggle(under(place)),
+      drag: (from, to) => this.zoom.drag(from, to),
+      pinch: (factor, from, to) => this.zoom.pinch(factor, from, to),
+    });
+  }
+
+  show(machine, entry, lit) {
+    this.drawing.show(machine, entry, lit);
+  }
+
+  /** Marks a node or an edge; null marks none. */
+  pick(thing) {
+    this.drawing.pick(thing);
+  }
+
+  /** Where a node or the middle of an edge is in the drawing. */
+  placeOf(thing) {
+    const { x, y } = this.layout;
+    const [low, high] = thing.node ? [thing.node, thing.node] : [thing.low, thing.high];
+    return [(x[low] + x[high]) / 2, (y[low] + y[high]) / 2];
+  }
+
+  pixelOf(thing) {
+    return this.zoom.pixelAt(...this.placeOf(thing));
+  }
+
+  /** How many present nodes are seen in a box of the window. */
+  countIn({ left, top, width, height }) {
+    const [from, to] = [this.zoom.placeAt({ x: left, y: top }), this.zoom.placeAt({ x: left + width, y: top + height })];
+    return this.drawing.countIn(from, to, RADIUS);
+  }
+
+  reveal(thing) {
+    this.zoom.reveal(...this.placeOf(thing));
+  }
+}
