@@ -309,7 +309,7 @@ def judges(pages, browser):
     """The foot of a page names its judge; text that a false judge lets in runs nothing, and is told to be no transcript."""
     browser.open(pages.write(RING))
     foot = browser.value("document.getElementById('judged').textContent")
-    pages.expect("the judge that was named", (foot.startswith(f"Judged before by {pages.program} audit, which was named"), "counts otherwise" in foot), (True, False))
+    pages.expect("the judge that was named", (foot.startswith(f"Judged by {pages.program} audit, which whoever made this page named"), "counts otherwise" in foot), (True, False))
     verdict = pages.run([pages.program, "audit"], RING)[1].decode().strip()
     pages.expect("its verdict", verdict in foot, True)
     folder = os.path.join(pages.folder, "<script>document.title = 'ran'<")

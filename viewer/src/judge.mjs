@@ -1,11 +1,13 @@
 // Who judged the transcript before it came into the page, and what was said of it.
 import { byId } from "./svg.mjs";
 
-/** Whether the judge is the repository's own program, and what the page's foot says: `counted` is what the page itself counts. */
+const REPLAYED = "What is shown is replayed by this page, which is tested and not proved.";
+
+/** What the foot of the page says of the judge, and whether its verdict is in doubt; `counted` is what the page itself counts. */
 export function judgement({ program, own, verdict }, counted) {
-  const judge = own ? `${program} audit, the program of this repository` : `${program} audit, which was named where the page was made; nothing more is known of it here`;
+  const judge = own ? `Rudekpi's ${program} audit` : `${program} audit, which whoever made this page named, and of which nothing is known here`;
   const doubt = verdict === counted ? "" : ` This page counts otherwise: ${counted}.`;
-  return { doubtful: doubt !== "", text: `Judged before by ${judge}. It said: ${verdict}.${doubt}` };
+  return { doubtful: doubt !== "", text: `Judged by ${judge}: ${verdict}.${doubt} ${REPLAYED}` };
 }
 
 export function showJudge(judge, counted) {

@@ -73,7 +73,7 @@ function match(pattern, text, at) {
   pattern.lastIndex = at;
   const found = pattern.exec(text);
   if (!found) {
-    throw new TranscriptFault(lineAt(text, at), "is none of a transcript");
+    throw new TranscriptFault(lineAt(text, at), "is no line of a transcript");
   }
   return found;
 }

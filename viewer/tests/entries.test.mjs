@@ -38,8 +38,9 @@ test("what the machine may do: any allowed target, many at once, names that come
 test("the foot of the page tells who judged, and where the counts differ", () => {
   const verdict = "accepted: 3 entries, 3 epochs, 0 moves";
   const own = judgement({ program: "console", own: true, verdict }, verdict);
-  assert.deepEqual(own, { doubtful: false, text: `Judged before by console audit, the program of this repository. It said: ${verdict}.` });
+  assert.equal(own.doubtful, false);
+  assert.ok(own.text.startsWith(`Judged by Rudekpi's console audit: ${verdict}. What is shown`), own.text);
   const foreign = judgement({ program: "</script>", own: false, verdict }, "accepted: 3 entries, 2 epochs, 0 moves");
   assert.equal(foreign.doubtful, true);
-  assert.match(foreign.text, /^Judged before by <\/script> audit, which was named where the page was made; .* It said: accepted: 3 entries, 3 epochs, 0 moves\. This page counts otherwise: .*2 epochs/);
+  assert.match(foreign.text, /^Judged by <\/script> audit, which whoever made this page named, .*: accepted: 3 entries, 3 epochs, 0 moves\. This page counts otherwise: accepted: 3 entries, 2 epochs/);
 });
