@@ -273,7 +273,7 @@ def saved(folder, name, seconds=20):
 
 
 def saves(pages, browser):
-    """The picture is saved as an SVG file that needs no page, and as a PNG twice as fine."""
+    """The picture is saved as an SVG file that needs no page, with all names, and as a PNG that is finer than the page."""
     browser.save_into(pages.folder)
     browser.open(pages.write(RING))
     browser.key("End", "End", 35)
@@ -286,7 +286,14 @@ def saves(pages, browser):
     pages.expect("filled nodes, and no style sheet", ({"rgb(0, 102, 166)", "rgb(255, 255, 255)"} <= fills_of, b"class" in ElementTree.tostring(picture)), (True, False))
     pages.expect("the title of the SVG", picture.find(f"{SVG}title").text, "hh: 5 nodes, 8 entries: after entry 8")
     width, height, colours = colours_of(saved(pages.folder, "matching-hh-5-entry-8.png"))
-    pages.expect("the PNG", (width, height, colours > 20), (2 * int(picture.get("width")), 2 * int(picture.get("height")), True))
+    wide, high = (float(number) for number in picture.get("viewBox").split(" ")[2:])
+    pages.expect("the PNG", (width >= 1600, round(width / height, 1), colours > 20), (True, round(wide / high, 1), True))
+    links = "".join(f"{v} link {v} {v + 1} = ok\n" for v in range(1, 900))
+    browser.open(pages.write(f"matching hh 900\n{links}".encode()))
+    pages.expect("names that are too small to be read", browser.value("getComputedStyle(document.querySelector('.name')).display"), "none")
+    browser.click(*place(browser, "#save-svg"))
+    picture = ElementTree.fromstring(saved(pages.folder, "matching-hh-900-entry-0.svg"))
+    pages.expect("stand in the SVG", len(list(picture.iter(f"{SVG}text"))), 900)
     pages.expect("complaints of saving", browser.complaints, [])
 
 

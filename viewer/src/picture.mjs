@@ -1,14 +1,30 @@
 // The drawing as a file of its own, as it is seen: SVG, or PNG that the browser makes of it.
 import { byId } from "./svg.mjs";
 
-const STYLES = ["fill", "stroke", "stroke-width", "stroke-dasharray", "stroke-linecap", "opacity", "font-size", "font-weight", "font-family", "text-anchor"];
+const TEXT_STYLES = ["fill", "font-size", "font-weight", "font-family", "text-anchor"];
+const SHAPE_STYLES = ["fill", "stroke", "stroke-width", "stroke-dasharray", "stroke-linecap", "opacity"];
+// what an element has where nothing is said
+const PLAIN = { stroke: "none", "stroke-width": "1px", "stroke-dasharray": "none", "stroke-linecap": "butt", opacity: "1" };
 const DROPPED = /^(class|tabindex|role|aria-.*|data-.*)$/;
+// a PNG is twice as fine as what is seen, and at least so many pixels wide or high
 const PNG_SCALE = 2;
+const PNG_PIXELS = 1600;
 const MOST_PIXELS = 8192;
 
 function isSeen(element) {
   const style = getComputedStyle(element);
   return style.display !== "none" && style.visibility !== "hidden";
+}
+
+/** Writes how an element looks into a copy of it. */
+function writeStyles(element, copy) {
+  const style = getComputedStyle(element);
+  for (const name of element.localName === "text" ? TEXT_STYLES : SHAPE_STYLES) {
+    const value = style.getPropertyValue(name);
+    if (value !== PLAIN[name]) {
+      copy.setAttribute(name, value);
+    }
+  }
 }
 
 /** A copy of an element with all that is seen in it, which needs no style sheet. */
@@ -17,9 +33,8 @@ function copyOf(element, always) {
   for (const { name } of [...element.attributes].filter(({ name }) => DROPPED.test(name))) {
     made.removeAttribute(name);
   }
-  const style = getComputedStyle(element);
   if (element.children.length === 0) {
-    STYLES.forEach((name) => made.setAttribute(name, style.getPropertyValue(name)));
+    writeStyles(element, made);
   }
   for (const child of element.childNodes) {
     if (child.nodeType === Node.TEXT_NODE) {
@@ -31,9 +46,18 @@ function copyOf(element, always) {
   return made;
 }
 
+/** A copy of the drawing, names that are too small to be read on the page included. */
+function drawingOf(svg) {
+  const nameless = svg.classList.contains("nameless");
+  svg.classList.remove("nameless");
+  const made = copyOf(svg, false);
+  svg.classList.toggle("nameless", nameless);
+  return made;
+}
+
 /** The text of an SVG file that shows what an SVG element of the page shows, on the page's paper. */
 export function standalone(svg, title) {
-  const made = copyOf(svg, false);
+  const made = drawingOf(svg);
   const [left, top, width, height] = svg.getAttribute("viewBox").split(" ");
   const paper = document.createElementNS(svg.namespaceURI, "rect");
   const colour = getComputedStyle(document.body).backgroundColor;
@@ -48,12 +72,13 @@ export function standalone(svg, title) {
   return `${new XMLSerializer().serializeToString(made)}\n`;
 }
 
-/** The PNG of an SVG text, twice as fine as it is seen. */
+/** The PNG of an SVG text. */
 async function pngOf(text) {
   const image = new Image();
   image.src = `data:image/svg+xml;charset=utf-8,${encodeURIComponent(text)}`;
   await image.decode();
-  const scale = Math.min(PNG_SCALE, MOST_PIXELS / Math.max(image.width, image.height));
+  const size = Math.max(image.width, image.height);
+  const scale = Math.min(Math.max(PNG_SCALE, PNG_PIXELS / size), MOST_PIXELS / size);
   const canvas = document.createElement("canvas");
   [canvas.width, canvas.height] = [Math.round(image.width * scale), Math.round(image.height * scale)];
   canvas.getContext("2d").drawImage(image, 0, 0, canvas.width, canvas.height);
