@@ -120,6 +120,7 @@ function start() {
     play(replay);
   } catch (wrong) {
     if (!(wrong instanceof TranscriptFault)) {
+      byId("title").textContent = `This page fails: ${wrong.message}`;
       throw wrong;
     }
     refuse(wrong);

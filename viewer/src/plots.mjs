@@ -88,6 +88,7 @@ export class Plot {
         add(this.svg, "rect", { class: "epoch", x: x.toFixed(1), y: top, width: width.toFixed(1), height });
       }
     }
+    this.svg.parentElement.classList.toggle("unbanded", this.svg.querySelector(".epoch") === null);
   }
 
   drawAxes() {
