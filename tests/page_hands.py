@@ -239,10 +239,13 @@ def tells(pages, browser):
     browser.key("End", "End", 35)
     browser.value("document.getElementById('graph').focus()")
     walked = []
-    for key, code, number, text in [("ArrowDown", "ArrowDown", 40, ""), ("ArrowDown", "ArrowDown", 40, ""), ("e", "KeyE", 69, "e"), ("e", "KeyE", 69, "e"), ("ArrowUp", "ArrowUp", 38, "")]:
+    for key, code, number, text in [("ArrowDown", "ArrowDown", 40, ""), ("ArrowDown", "ArrowDown", 40, ""), *[("e", "KeyE", 69, "e")] * 3, ("ArrowUp", "ArrowUp", 38, "")]:
         browser.key(key, code, number, text)
         walked.append(browser.value(CARD)[0])
-    pages.expect("from node to node and to its edges by keys", walked, ["Node 1", "Node 2", "Edge 1 – 2", "Edge 2 – 3", "Node 1"])
+    pages.expect("from node to node and to its edges by keys", walked, ["Node 1", "Node 2", "Edge 1 – 2", "Edge 2 – 3", "Edge 1 – 2", "Node 1"])
+    browser.click(*edge_place(browser, 4, 5))
+    browser.key("e", "KeyE", 69, "e")
+    pages.expect("the next edge of a clicked edge's lower end", browser.value(CARD)[0], "Edge 3 – 4")
     browser.open(pages.write(PAIR))
     browser.key("End", "End", 35)
     type_number(browser, "2")

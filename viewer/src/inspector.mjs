@@ -11,7 +11,7 @@ export class Inspector {
   /** `machine()` is the state that is shown. `stage` marks a thing (`pick`) and says where it is seen (`pixelOf`); null where
    * nothing is drawn. */
   constructor(machine, stage) {
-    Object.assign(this, { machine, stage, picked: null, under: null });
+    Object.assign(this, { machine, stage, picked: null, under: null, end: 0 });
     byId("card-close").addEventListener("click", () => this.pick(null));
   }
 
@@ -41,7 +41,7 @@ export class Inspector {
   /** Picks the node by this number of steps farther on among those that are there; where none is picked the first or the last. */
   stepNode(step) {
     const machine = this.machine();
-    const from = this.picked?.node ?? this.picked?.low ?? (step > 0 ? 0 : machine.nodes + 1);
+    const from = this.hub || (step > 0 ? 0 : machine.nodes + 1);
     for (let v = from + step; v >= 1 && v <= machine.nodes; v += step) {
       if (machine.here[v]) {
         this.pick({ node: v });
@@ -50,16 +50,21 @@ export class Inspector {
     }
   }
 
-  /** Picks the next edge of the picked node, or of the end from which its edges are gone through. */
+  /** The node whose edges are gone through: the picked one, or the end of the picked edge from which that began. */
+  get hub() {
+    const { picked } = this;
+    return picked === null ? 0 : picked.node ?? (this.end === picked.high ? picked.high : picked.low);
+  }
+
+  /** Picks the next edge of that node, and the first behind its last. */
   stepEdge() {
-    const machine = this.machine();
-    const end = this.picked?.node ?? this.end ?? 0;
-    const others = [...(machine.neighbours[end] ?? [])].sort((a, b) => a - b);
-    const at = this.picked?.node ? -1 : others.findIndex((w) => w === this.picked?.low || w === this.picked?.high);
+    const { hub, picked } = this;
+    const others = [...this.machine().neighbours[hub]].sort((a, b) => a - b);
+    const at = picked?.node ? -1 : others.findIndex((w) => w === picked?.low || w === picked?.high);
     const other = others[at + 1] ?? others[0];
     if (other) {
-      this.end = end;
-      this.pick({ low: Math.min(end, other), high: Math.max(end, other) });
+      this.end = hub;
+      this.pick({ low: Math.min(hub, other), high: Math.max(hub, other) });
     }
   }
 

@@ -1,5 +1,6 @@
 // The machine of the page beside the program, state by state, on scripts that are drawn by chance: after each command the program
-// writes a base, in which all registers and edges stand, and is asked what is enabled, for the pairs and for the status.
+// writes a base, in which all registers and edges stand, and is asked what is enabled, for the pairs and for the status. The
+// program is the repository's as it is built, or the one that CONSOLE names.
 import assert from "node:assert/strict";
 import { spawnSync } from "node:child_process";
 import { existsSync } from "node:fs";
