@@ -99,7 +99,7 @@ export class Inspector {
     const card = byId("card");
     const whole = card.parentElement.getBoundingClientRect();
     const size = { width: card.offsetWidth, height: card.offsetHeight };
-    const { left, top } = bestBox(stage.pixelOf(thing), stage.svg.getBoundingClientRect(), size, (box) => stage.countIn(box));
+    const { left, top } = bestBox(stage.pixelOf(thing), stage.svg.getBoundingClientRect(), size, (box) => stage.shareIn(box));
     card.style.left = `${(left - whole.left).toFixed(0)}px`;
     card.style.top = `${(top - whole.top).toFixed(0)}px`;
   }

@@ -5,8 +5,8 @@ const BORDER = 4;
 // places that are tried, across and down
 const ACROSS = 16;
 const DOWN = 12;
-// so many pixels farther away is worth one thing less that is covered
-const WORTH = 100;
+// so many pixels farther away is it worth that nothing is covered where all would be
+const WORTH = 500;
 
 /** How far a place is from a box; 0 inside. */
 function distanceToBox({ x, y }, { left, top, width, height }) {
@@ -30,11 +30,11 @@ function boxes(place, room, { width, height }) {
   return [...beside, ...over];
 }
 
-/** The best box of a size for what lies at a place of the room; `countIn` tells how many things a box covers. */
-export function bestBox(place, room, size, countIn) {
+/** The best box of a size for what lies at a place of the room; `shareIn` tells which share of all things a box covers. */
+export function bestBox(place, room, size, shareIn) {
   const cost = (box) => {
     const far = distanceToBox(place, box);
-    return WORTH * countIn(box) + far + (far < GAP - 1 ? 10 * WORTH : 0);
+    return WORTH * shareIn(box) + far + (far < GAP - 1 ? 2 * WORTH : 0);
   };
   const costs = boxes(place, room, size).map((box) => ({ box, cost: cost(box) }));
   return costs.reduce((best, next) => (next.cost < best.cost ? next : best)).box;

@@ -53,10 +53,10 @@ export class Stage {
     return this.zoom.pixelAt(...this.placeOf(thing));
   }
 
-  /** How many present nodes are seen in a box of the window. */
-  countIn({ left, top, width, height }) {
+  /** Which share of the nodes that are drawn lies in a box of the window. */
+  shareIn({ left, top, width, height }) {
     const [from, to] = [this.zoom.placeAt({ x: left, y: top }), this.zoom.placeAt({ x: left + width, y: top + height })];
-    return this.drawing.countIn(from, to, RADIUS);
+    return this.drawing.countIn(from, to, RADIUS) / this.drawing.nodes;
   }
 
   reveal(thing) {
