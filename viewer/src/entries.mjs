@@ -10,10 +10,25 @@ function namesOf(entry) {
   return wordsOf(entry).map((word) => (word === "-" ? 0 : Number(word)));
 }
 
+/** Whether a node may move by this rule, at this target (0 where the rule takes none). */
+function mayMove(machine, { node, rule, target }) {
+  if (machine.rule[node] !== rule) {
+    return false;
+  }
+  if (rule === "marry") {
+    return machine.pointer[target] === node;
+  }
+  if (rule === "seduce") {
+    const open = machine.openNeighbours(node);
+    return machine.flags ? open.at(-1) === target : open.includes(target);
+  }
+  return target === 0;
+}
+
 /** Whether the moves of a step may be made at once: each by the rule that is enabled, at a target that it allows. */
 function mayStep(machine, moves) {
   const nodes = new Set(moves.map((move) => move.node));
-  return nodes.size === moves.length && (machine.flags || moves.length === 1) && moves.every(({ node, rule, target }) => machine.mayMove(node, rule, target));
+  return nodes.size === moves.length && (machine.flags || moves.length === 1) && moves.every((move) => mayMove(machine, move));
 }
 
 /** Whether the machine may accept an entry that changes the state. */

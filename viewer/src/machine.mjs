@@ -110,21 +110,6 @@ export class Machine {
     return [...this.neighbours[v]].filter((w) => this.isOpenTo(w, v)).sort((a, b) => a - b);
   }
 
-  /** Whether v may move by this rule, at this target (0 where the rule takes none). */
-  mayMove(v, rule, target) {
-    if (this.rule[v] !== rule) {
-      return false;
-    }
-    if (rule === "marry") {
-      return this.pointer[target] === v;
-    }
-    if (rule === "seduce") {
-      const open = this.openNeighbours(v);
-      return this.flags ? open.at(-1) === target : open.includes(target);
-    }
-    return target === NOBODY;
-  }
-
   isCourted(w) {
     return this.pointer[w] === NOBODY && this.suitors[w] > 0;
   }
