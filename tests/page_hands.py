@@ -8,6 +8,8 @@ import time
 import xml.etree.ElementTree as ElementTree
 import zlib
 
+from browser import PageFault
+
 RING = b"""matching hh 5
 1 link 1 2 = ok
 2 link 2 3 = ok
@@ -344,6 +346,9 @@ def judges(pages, browser):
 
 
 def use(pages, browser):
-    """All of it."""
+    """All of it; where one part breaks off, the others go on."""
     for part in [fills, titles, long_one, phone, addresses, pinches, tells, saves, judges]:
-        part(pages, browser)
+        try:
+            part(pages, browser)
+        except PageFault as wrong:
+            pages.expect(f"hands: {part.__name__}", [str(wrong), *browser.complaints], "an end")
