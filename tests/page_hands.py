@@ -102,17 +102,17 @@ def titles(pages, browser):
 
 def long_one(pages, browser):
     """Of many entries the plots are lines of means with a band, and digits are grouped in one way."""
-    script = "".join(f"link {v} {v % 60 + 1}\n" for v in range(1, 61)) + "".join(f"scramble {k} 7\ndrive {k} 900\n" for k in range(1, 500))
+    script = "".join(f"link {v} {v % 60 + 1}\n" for v in range(1, 61)) + "".join(f"scramble {k} 7\ndrive {k} 900\n" for k in range(1, 1500))
     text = pages.run([pages.program, "run", "--rules", "hh", "--nodes", "60"], script.encode())[1]
     browser.open(pages.write(text))
     entries = text.count(b"\n") - 1
-    pages.expect("there are many entries", entries > 8_000, True)
+    pages.expect("there are many entries", entries > 20_000, True)
     shapes = browser.value("""["line", "range"].map((kind) => [...document.querySelectorAll(`#budget .${kind}`)].map((path) => path.getAttribute("d").split(/[LHV]/).length))""")
     pages.expect("lines and bands are short", [max(counts) <= 1_300 and len(counts) == 3 for counts in shapes], [True, True])
     bands = browser.value("[document.querySelectorAll('#budget .epoch').length, getComputedStyle(document.querySelector('.key.epoch')).display]")
     pages.expect("no bands of epochs that can't be told apart", bands, [0, "none"])
     said = browser.value("document.querySelector('.shared').textContent")
-    pages.expect("what a line is", bool(re.fullmatch(r"mean and range of \d+ entries", said)), True)
+    pages.expect("what a line is", bool(re.fullmatch(r"mean and range of [\d,]+ entries", said)), True)
     browser.value("document.getElementById('last').click()")
     pages.expect("digits that are grouped otherwise", browser.value(UNGROUPED), [])
     pages.expect("the number of the last entry", browser.value("document.getElementById('number').textContent"), f"{entries:,}")

@@ -2,7 +2,7 @@
 import { counted, grouped } from "./numbers.mjs";
 import { byId } from "./svg.mjs";
 
-const NEAR = 4;
+const NEAR = 3;
 const LONGEST = 400;
 
 function cut(text) {
