@@ -120,17 +120,19 @@ def long_one(pages, browser):
 
 def phone(pages, browser):
     """On a phone the bar covers nothing of the entry and the figures, and all can be scrolled to."""
+    tools = "[...document.querySelectorAll('.tools input, .tools button')].map((part) => Math.round(part.getBoundingClientRect().top))"
     path = pages.write(RING)
-    for width, height in [(360, 640), (390, 844), (640, 360)]:
+    for width, height in [(320, 568), (360, 640), (390, 844), (640, 360)]:
         browser.window(width, height, width == 390)
         browser.open(path)
         browser.value("document.getElementById('last').click()")
-        if height > 400:
+        if height >= 640:
             pages.expect(f"what the bar covers, {width} by {height}", browser.value(COVERED), [])
         for part in ["#figures", "#judged", "#counts"]:
             browser.value(f"document.querySelector('{part}').scrollIntoView({{ block: 'end' }})")
             lowest = browser.value(f"document.querySelector('{part}').getBoundingClientRect().bottom <= document.querySelector('nav').getBoundingClientRect().top + 1")
             pages.expect(f"{part} above the bar, {width} by {height}", lowest, True)
+        pages.expect(f"the tools in one row, {width} by {height}", max(found := browser.value(tools)) - min(found) < 6, True)
         pages.expect(f"nothing is wider, {width} by {height}", browser.value("document.documentElement.scrollWidth"), width)
     browser.window(1280, 900)
 
