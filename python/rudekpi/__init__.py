@@ -16,18 +16,20 @@ The program is the argument `program`, else the environment's RUDEKPI_CONSOLE, e
 (`bin/console` in it), else that of the repository in which the package lies. A network is for one thread. A transcript is kept in memory as long as its network.
 """
 
-from .audits import audit, epochs, replay
+from .audits import audit, epochs
 from .batch import Batch, Pending
 from .errors import Damaged, Ended, Garbled, PastBound, Refused, RudekpiError, WrongChoice
 from .network import Network
 from .replies import (
     Accepted, Base, Enabled, Epoch, Fault, Matching, Move, Moves, Registers, Settled, Shown, Status, Summary, Turns, Wish,
 )
+from .replays import replay
+from .storms import storm
 
 __version__ = "0.1.0"
 
 __all__ = [
     "Accepted", "Base", "Batch", "Damaged", "Enabled", "Ended", "Epoch", "Fault", "Garbled", "Matching", "Move", "Moves",
     "Network", "PastBound", "Pending", "Refused", "Registers", "RudekpiError", "Settled", "Shown", "Status", "Summary", "Turns",
-    "Wish", "WrongChoice", "audit", "epochs", "replay",
+    "Wish", "WrongChoice", "audit", "epochs", "replay", "storm",
 ]

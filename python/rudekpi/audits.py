@@ -1,98 +1,64 @@
-"""Transcripts: judged, and gone on with."""
+"""Transcripts, judged by the program."""
 
 from __future__ import annotations
 
-import itertools
 import re
 import subprocess
-from typing import Any, Iterable, Iterator, Optional
+from typing import Any, Optional, Union
 
-from .base_lines import BASE, CHECKPOINT
-from .errors import Damaged, Ended, Garbled, text_of
-from .network import Network, own_names
+from .errors import VERDICT, Damaged, Ended, Garbled, text_of
+from .numbers import number_within
 from .program import Program, found_program
-from .reading import MOVE, numbers_of, numbers_of_base, numbers_of_line
-from .replies import Epoch, Name, Summary
+from .reading import numbers_of
+from .replies import Epoch, Summary
 
 
-def audit(transcript: str, *, program: Program = None) -> Summary:
+Text = Union[str, bytes, bytearray]
+
+
+def audit(transcript: Text, *, program: Program = None) -> Summary:
     """Judges a transcript: what it has where it is that of a run of the rules; else raises `Damaged`, or `Ended`."""
-    return Summary(*_judged("audit", transcript, program, r"accepted: ([0-9]+) entries, ([0-9]+) epochs, ([0-9]+) moves\n")[0])
+    return Summary(*numbers_judged("audit", transcript, program, r"accepted: ([0-9]+) entries, ([0-9]+) epochs, ([0-9]+) moves\n")[0])
 
 
-def epochs(transcript: str, *, program: Program = None) -> list[Epoch]:
+def epochs(transcript: Text, *, program: Program = None) -> list[Epoch]:
     """The epochs of a transcript, each with its bound. Raises `Damaged` where `audit` refuses it, or `Ended`."""
     row = ",".join(["([0-9]+|-)", *["([0-9]+)"] * 4]) + "\n"
-    return [Epoch(*numbers) for numbers in _judged("epochs", transcript, program, row, "start,moves,edges,nodes,bound\n")]
+    return [Epoch(*numbers) for numbers in numbers_judged("epochs", transcript, program, row, "start,moves,edges,nodes,bound\n")]
 
 
-def _judged(word: str, transcript: str, program: Program, line: str, head: str = "") -> list[tuple[Any, ...]]:
-    """The numbers in each line that the program says of a transcript, below a head; None where a `-` stands."""
-    done = subprocess.run([found_program(program), word], input=transcript.encode(), stdout=subprocess.PIPE, stderr=subprocess.PIPE)
+def picture(transcript: Text, entry: Optional[int] = None, *, program: Program = None) -> str:
+    """The network of a transcript behind an entry, or behind all, for Graphviz.
+
+    Raises `Damaged` where `audit` refuses the transcript, `ValueError` where it has no such entry, or `Ended`.
+    """
+    words = ["picture"] if entry is None else ["picture", "--entry", str(number_within(entry, 2**32 - 1, "an entry"))]
+    try:
+        said = judged(words, transcript, program)
+    except Ended as ended:
+        if ended.last_line.startswith("! no entry "):
+            raise ValueError(ended.last_line[2:]) from None
+        raise
+    if not said.startswith("graph ") and not said.startswith("digraph "):
+        raise Garbled(f"{said[:200]!r} is no picture")
+    return said
+
+
+def judged(words: list[str], transcript: Text, program: Program) -> str:
+    """What the program says of a transcript that it accepts."""
+    given = transcript.encode() if isinstance(transcript, str) else transcript
+    done = subprocess.run([found_program(program), *words], input=given, stdout=subprocess.PIPE, stderr=subprocess.PIPE)
     said = text_of(done.stdout)
-    found = re.fullmatch(r"line ([0-9]+): (.*)\n", said)
-    if done.returncode == 1 and found:
-        raise Damaged(int(found[1]), found[2])
+    if done.returncode == 1 and VERDICT.fullmatch(said):
+        raise Damaged.read(said)
     if done.returncode:
         raise Ended(done.returncode, done.stderr)
+    return said
+
+
+def numbers_judged(word: str, transcript: Text, program: Program, line: str, head: str = "") -> list[tuple[Any, ...]]:
+    """The numbers in each line that the program says of a transcript, below a head; None where a `-` stands."""
+    said = judged([word], transcript, program)
     if not re.fullmatch(f"{head}(?:{line})+", said):
         raise Garbled(f"{said[:200]!r} is no answer to {word}")
     return [numbers_of(found) for found in re.finditer(line, said)]
-
-
-def replay(transcript: str, *, names: Optional[Iterable[Name]] = None, program: Program = None) -> Network:
-    """A network that stands where a transcript ends, so that it can go on; raises `Damaged` where `audit` refuses it.
-
-    Its own transcript is the one that was given. Where that took other targets than the least, its steps have them as
-    wishes. Where that begins with a base, at which no run can begin, edits and faults lead there: so the numbers are other
-    ones, and what was spent before is not counted. `names` are the caller's, in the order of the numbers.
-    """
-    audit(transcript, program=program)
-    head, *parts = _parts_of(transcript)
-    _, rules, count, *rest = head[0].split(" ")
-    present, edits = _edits_to(head) if len(head) > 1 else (int((rest or [count])[0]), [])
-    nodes: Any = int(count) if names is None else own_names(names)
-    if names is not None and len(nodes) != int(count):
-        raise ValueError(f"{len(nodes)} names for {count} nodes")
-    entries = [(CHECKPOINT, "") if len(part) > 1 else tuple(part[0].split(" ", 1)[1].split(" = ")) for part in parts]
-    net = Network(rules, nodes, present=present, program=program)
-    if len(head) == 1:
-        if net._played(event for event, _ in entries) == transcript:
-            return net
-        net.close()
-        net = Network(rules, nodes, present=present, program=program)
-    net._played([*edits, *(_wished(event, reply) for event, reply in entries)])
-    return net
-
-
-def _parts_of(transcript: str) -> Iterator[list[str]]:
-    """The lines of each part of an accepted transcript: its header, an entry, or a base."""
-    lines = iter(transcript.splitlines())
-    for line in lines:
-        part = [line]
-        if line.startswith("matching2 "):
-            part.append(next(lines))
-            _, _, nodes, edges = numbers_of_line(BASE, part[1])
-            part.extend(itertools.islice(lines, nodes + edges))
-        yield part
-
-
-def _edits_to(base: list[str]) -> tuple[int, list[str]]:
-    """How many nodes are present at the start of a run that leads to a base, and the edits and faults of that run."""
-    _, places, edges = numbers_of_base(base)
-    # numbers rise, so those that are as great as their places are the first
-    present = sum(number == place for place, (number, _, _) in enumerate(places, 1))
-    joins = [f"join {number}" for number, _, _ in places[present:]]
-    links = [f"link {a} {b}" for a, b in edges]
-    points = [f"point {number} {pointer}" for number, pointer, _ in places if pointer is not None]
-    flags = [f"flag {number} 1" for number, _, flag in places if flag]
-    return present, [*joins, *links, *points, *flags]
-
-
-def _wished(event: str, reply: str) -> str:
-    """A step that was carried out, with its targets as wishes; any other event as it is."""
-    if not event.startswith("step ") or reply.startswith("refused "):
-        return event
-    targets = {found[1]: found[4] for found in map(MOVE.fullmatch, reply.split(" ")) if found and found[4]}
-    items = (item.split(">")[0] for item in event.split(" ")[1:])
-    return " ".join(["step", *(f"{item}>{targets[item]}" if item in targets else item for item in items)])

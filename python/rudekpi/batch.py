@@ -2,9 +2,10 @@
 
 from __future__ import annotations
 
-from typing import TYPE_CHECKING, Any, Generic, Optional
+from typing import TYPE_CHECKING, Any, Generic, Optional, Sequence
 
-from .base_lines import CHECKPOINT, BaseLines
+from .answers import CHECKPOINT
+from .choices import items_of
 from .errors import Refused
 from .numbers import MOST_SEED, MOST_TURNS, number_within
 from .reading import (
@@ -13,24 +14,27 @@ from .reading import (
 from .replies import Accepted, Base, Choice, Enabled, Fault, Matching, Moves, Name, Reply, Shown, Status, Turns
 
 if TYPE_CHECKING:
-    from .network import Network
+    from .session import Session
 
 
 class Pending(Generic[Reply]):
     """The answer to a command of a batch, which may still be under way."""
 
-    __slots__ = ("_net", "_event", "_read", "_entry", "_text", "_turns", "_base", "_refusals")
-    def __init__(self, net: Network, event: str, read: Reader, refusals: Optional[list[Refused]], has_turns: bool = False):
-        self._net, self._event, self._read, self._refusals = net, event.encode(), read, refusals
+    __slots__ = ("_session", "_ahead", "_event", "_read", "_entry", "_text", "_turns", "_is_base", "_refusals")
+    def __init__(self, session: Session, event: str, read: Reader, refusals: Optional[list[Refused]] = None, ahead: bytes = b""):
+        # what the program is told ahead of the event, whose entries then stand in front of that event's
+        self._session, self._ahead, self._event, self._read, self._refusals = session, ahead, event.encode(), read, refusals
+        self._is_base = event == CHECKPOINT
         # no entry yet; a base's is 0 where it is made in front of all entries
-        self._entry, self._text = -1, b""
-        self._turns: Optional[list[bytes]] = [] if has_turns else None
-        self._base: Optional[BaseLines] = BaseLines() if event == CHECKPOINT else None
+        self._entry = -1
+        self._text: bytes
+        self._turns: Sequence[bytes]
 
     def result(self) -> Reply:
         """The reply, waited for; raises `Refused` where the event was refused."""
-        self._net._wait(self)
-        reply: Reply = self._net._reply(self)
+        if self._entry < 0:
+            self._session.wait(self)
+        reply: Reply = self._session.reply(self)
         return reply
 
 
@@ -41,8 +45,8 @@ class Batch:
     other commands were carried out, and `refusals` has all that were refused. With `raises=False` none is raised.
     """
 
-    def __init__(self, net: Network, raises: bool = True, keeps: bool = True) -> None:
-        self._net, self._raises, self._number = net, raises, net.number_of
+    def __init__(self, session: Session, raises: bool = True, keeps: bool = True) -> None:
+        self._session, self._raises, self._number = session, raises, session.names.number_of
         self.refusals: list[Refused] = []
         self._kept = self.refusals if keeps else None
         self._last: Optional[Pending[Any]] = None
@@ -51,21 +55,19 @@ class Batch:
         return self
     def __exit__(self, kind: Any, *_: Any) -> None:
         if self._last and not kind:
-            self._net._wait(self._last)
+            self._session.wait(self._last)
             if self._raises and self.refusals:
                 raise self.refusals[0]
 
-    def _put(self, pending: Pending[Any], line: str) -> Pending[Any]:
-        self._net._put(pending, line)
+    def _ask(self, read: Reader, event: str, ahead: bytes = b"") -> Pending[Any]:
+        pending: Pending[Any] = Pending(self._session, event, read, self._kept, ahead)
+        self._session.ask(pending)
         self._last = pending
         return pending
 
-    def _ask(self, read: Reader, event: str) -> Pending[Any]:
-        return self._put(Pending(self._net, event, read, self._kept), event)
-
     def _turns(self, read: Reader, word: str, seed: int, turns: int) -> Pending[Any]:
         line = f"{word} {number_within(seed, MOST_SEED, 'a seed')} {number_within(turns, MOST_TURNS, 'a number of turns')}"
-        return self._put(Pending(self._net, "status", read, None, has_turns=True), f"{line}\nstatus")
+        return self._ask(read, "status", f"{line}\n".encode())
 
     def link(self, a: Name, b: Name) -> Pending[Accepted]:
         return self._ask(read_accepted, f"link {self._number(a)} {self._number(b)}")
@@ -80,7 +82,7 @@ class Batch:
     def leave(self, node: Name) -> Pending[Accepted]:
         return self._ask(read_accepted, f"leave {self._number(node)}")
     def step(self, choice: Choice) -> Pending[Moves]:
-        return self._ask(read_moves, " ".join(["step", *self._net._items(choice)]))
+        return self._ask(read_moves, " ".join(["step", *items_of(choice, self._number)]))
     def show(self, node: Name) -> Pending[Shown]:
         return self._ask(read_shown, f"show {self._number(node)}")
     def enabled(self) -> Pending[Enabled]:

@@ -1,6 +1,11 @@
-"""What the client raises."""
+"""What the client raises. Each error can be pickled, so that it leaves a process pool as it is."""
 
 from __future__ import annotations
+
+import re
+from typing import Any
+
+VERDICT = re.compile(r"line ([0-9]+): (.*)\n")
 
 
 def text_of(said: bytes) -> str:
@@ -17,12 +22,18 @@ class Refused(RudekpiError):
         super().__init__(f"{event}: refused {number} {text} (entry {entry})")
         self.event, self.number, self.text, self.entry = event, number, text, entry
 
+    def __reduce__(self) -> Any:
+        return type(self), (self.event, self.number, self.text, self.entry)
+
 
 class Ended(RudekpiError):
     """The program has ended: its exit status, and the last line that it wrote to standard error."""
     def __init__(self, status: int, told: bytes) -> None:
         self.status, self.last_line = status, text_of(told).rstrip("\n").rpartition("\n")[2]
         super().__init__(f"the program ended with status {status}: {self.last_line or '(it said nothing)'}")
+
+    def __reduce__(self) -> Any:
+        return type(self), (self.status, self.last_line.encode())
 
 
 class Garbled(RudekpiError):
@@ -34,6 +45,17 @@ class Damaged(RudekpiError):
     def __init__(self, line: int, why: str) -> None:
         super().__init__(f"line {line}: {why}")
         self.line, self.why = line, why
+
+    def __reduce__(self) -> Any:
+        return type(self), (self.line, self.why)
+
+    @classmethod
+    def read(cls, verdict: str) -> Damaged:
+        """What a verdict says; raises `ValueError` where it says nothing of the kind."""
+        found = VERDICT.fullmatch(verdict)
+        if not found:
+            raise ValueError(verdict)
+        return cls(int(found[1]), found[2])
 
 
 class WrongChoice(RudekpiError):

@@ -35,3 +35,13 @@ def found_program(program: Program = None) -> str:
         return os.fspath(given)
     beside = os.path.join(PACKAGE, "bin", "console")
     return beside if os.path.isfile(beside) else repository_program()
+
+
+def page_maker() -> str:
+    """The script that makes pages of transcripts: the package's, else the repository's."""
+    tops = [os.path.join(PACKAGE, "page"), os.path.dirname(os.path.dirname(PACKAGE))]
+    paths = [os.path.join(top, "scripts", "play") for top in tops]
+    for path in paths:
+        if os.path.isfile(path):
+            return path
+    raise FileNotFoundError(f"nothing that makes pages, at {' or '.join(paths)}")

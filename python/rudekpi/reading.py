@@ -3,14 +3,13 @@
 from __future__ import annotations
 
 import re
-from types import MappingProxyType
 from typing import TYPE_CHECKING, Any, Callable
 
-from .base_lines import BASE
-from .replies import Accepted, Base, Enabled, Fault, Matching, Move, Moves, Name, Registers, Shown, Status
+from .answers import BASE
+from .replies import Accepted, Base, Enabled, Fault, Fixed, Matching, Move, Moves, Name, Registers, Shown, Status
 
 if TYPE_CHECKING:
-    from .network import Network
+    from .names import Names
 
 MOVE = re.compile(r"([0-9]+):(?:(update|abandon)|(marry|seduce)>([0-9]+))")
 FAULT = re.compile(r"(?:point ([0-9]+) ([0-9]+|-)|flag ([0-9]+) ([01]))")
@@ -18,64 +17,64 @@ STATUS = re.compile(r"nodes=([0-9]+) edges=([0-9]+) pairs=([0-9]+) enabled=([0-9
 PLACE = re.compile(r"node ([0-9]+) ([0-9]+|-) ([01])")
 EDGE = re.compile(r"edge ([0-9]+) ([0-9]+)")
 
-# reads a reply, out of its network, the entry's number, its event and its reply
-Reader = Callable[["Network", int, str, str], Any]
+# reads a reply, out of the network's names, the entry's number, its event and its reply
+Reader = Callable[["Names", int, str, str], Any]
 
 
-def read_accepted(net: Network, entry: int, event: str, text: str) -> Accepted:
+def read_accepted(names: Names, entry: int, event: str, text: str) -> Accepted:
     if text != "ok":
         raise ValueError
     return Accepted(entry)
 
 
-def read_moves(net: Network, entry: int, event: str, text: str) -> Moves:
+def read_moves(names: Names, entry: int, event: str, text: str) -> Moves:
     moves = []
     for word in text.split(" "):
         found = MOVE.fullmatch(word)
         if not found or not event.startswith("step "):
             raise ValueError
-        target = net.name_of(int(found[4])) if found[4] else None
-        moves.append(Move(net.name_of(int(found[1])), found[2] or found[3], target))
+        target = names.name_of(int(found[4])) if found[4] else None
+        moves.append(Move(names.name_of(int(found[1])), found[2] or found[3], target))
     return Moves(tuple(moves), entry)
 
 
-def read_shown(net: Network, entry: int, event: str, text: str) -> Shown:
-    node = net.name_of(int(event.split(" ")[1]))
-    return Shown(entry, node, None if text == "-" else net.name_of(int(text)))
+def read_shown(names: Names, entry: int, event: str, text: str) -> Shown:
+    node = names.name_of(int(event.split(" ")[1]))
+    return Shown(entry, node, None if text == "-" else names.name_of(int(text)))
 
 
-def read_enabled(net: Network, entry: int, event: str, text: str) -> Enabled:
+def read_enabled(names: Names, entry: int, event: str, text: str) -> Enabled:
     rules = {}
     for word in text.split(" ") if text != "none" else []:
         number, rule = word.split(":")
-        rules[net.name_of(int(number))] = rule
-    return Enabled(entry, MappingProxyType(rules))
+        rules[names.name_of(int(number))] = rule
+    return Enabled(entry, Fixed(rules))
 
 
-def read_matching(net: Network, entry: int, event: str, text: str) -> Matching:
+def read_matching(names: Names, entry: int, event: str, text: str) -> Matching:
     pairs: list[tuple[Name, Name]] = []
     partners: dict[Name, Name] = {}
     for word in text.split(" ") if text != "none" else []:
-        a, b = (net.name_of(int(number)) for number in word.split("-"))
+        a, b = (names.name_of(int(number)) for number in word.split("-"))
         pairs.append((a, b))
         partners[a], partners[b] = b, a
-    return Matching(entry, tuple(pairs), MappingProxyType(partners))
+    return Matching(entry, tuple(pairs), Fixed(partners))
 
 
-def read_status(net: Network, entry: int, event: str, text: str) -> Status:
+def read_status(names: Names, entry: int, event: str, text: str) -> Status:
     found = STATUS.fullmatch(text)
     if not found:
         raise ValueError
     return Status(entry, *map(int, found.groups()))
 
 
-def read_fault(net: Network, entry: int, event: str, text: str) -> Fault:
+def read_fault(names: Names, entry: int, event: str, text: str) -> Fault:
     found = FAULT.fullmatch(event)
     if not found or text != "ok":
         raise ValueError
     if found[3]:
-        return Fault(entry, net.name_of(int(found[3])), "flag", found[4] == "1")
-    return Fault(entry, net.name_of(int(found[1])), "pointer", None if found[2] == "-" else net.name_of(int(found[2])))
+        return Fault(entry, names.name_of(int(found[3])), "flag", found[4] == "1")
+    return Fault(entry, names.name_of(int(found[1])), "pointer", None if found[2] == "-" else names.name_of(int(found[2])))
 
 
 def numbers_of(found: re.Match[str]) -> tuple[Any, ...]:
@@ -105,9 +104,9 @@ def numbers_of_base(lines: list[str]) -> tuple[int, list[Any], list[Any]]:
     return spent, places, edges
 
 
-def read_base(net: Network, entry: int, event: str, text: str) -> Base:
+def read_base(names: Names, entry: int, event: str, text: str) -> Base:
     spent, places, edges = numbers_of_base(text.split("\n"))
     nodes = {}
     for node, pointer, flag in places:
-        nodes[net.name_of(node)] = Registers(None if pointer is None else net.name_of(pointer), flag == 1)
-    return Base(entry, spent, MappingProxyType(nodes), tuple((net.name_of(a), net.name_of(b)) for a, b in edges))
+        nodes[names.name_of(node)] = Registers(None if pointer is None else names.name_of(pointer), flag == 1)
+    return Base(entry, spent, Fixed(nodes), tuple((names.name_of(a), names.name_of(b)) for a, b in edges))

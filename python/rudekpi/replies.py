@@ -4,11 +4,25 @@ from __future__ import annotations
 
 from collections import abc
 from dataclasses import dataclass, field
-from typing import Any, Generic, Iterable, Iterator, Mapping, Optional, TypeVar, Union
+from typing import Any, Dict, Generic, Iterable, Iterator, Mapping, NoReturn, Optional, TypeVar, Union
 
 # A node's name: a number from 1 in a network of so many nodes, else what the caller named it; anything hashable but None.
 Name = Any
 Reply = TypeVar("Reply")
+Key = TypeVar("Key")
+Value = TypeVar("Value")
+
+
+class Fixed(Dict[Key, Value]):
+    """A dictionary that does not change."""
+
+    def refuse(self, *_: Any, **__: Any) -> NoReturn:
+        raise TypeError("a reply does not change")
+
+    __setitem__ = __delitem__ = clear = pop = popitem = setdefault = update = __ior__ = refuse  # type: ignore[assignment]
+
+    def __reduce__(self) -> Any:
+        return type(self), (dict(self),)
 
 
 @dataclass(frozen=True)

@@ -1,96 +1,174 @@
-"""A program's pipes."""
+"""A program's pipes, in such a way that an interrupt at any moment loses none of their bytes.
+
+An exception out of a signal's handler, as `KeyboardInterrupt`, may come behind any instruction: also between the return of
+`os.write` and the store of what it returned. So each call that moves bytes, or takes an exit status, is made by `list.extend` of
+a `map`: one call of C, which has put the result into a list when the next instruction may be interrupted. What was written, read
+or waited for is told by these lists alone. A lock or a thread would cost each answer more than the answer itself, and to block
+signals would not help where another thread takes them.
+"""
 
 from __future__ import annotations
 
+import atexit
+import contextlib
+import functools
 import os
 import select
+import signal
 import subprocess
 import tempfile
-from typing import Any, Callable, Optional
+import time
+import weakref
+from typing import Any, Optional
 
 from .errors import Ended
 
-# how much is written before the program has to take some of it, and how much is read at once
-UNSENT, READ = 1 << 16, 1 << 20
+# how much is read at once, which is what a pipe holds
+READ = 1 << 16
+# how many seconds a program may take to end behind the end of its text
+LAST_SECONDS = 10
+TALKS: weakref.WeakSet[Talk] = weakref.WeakSet()
 
 
 class Talk:
-    """A program's two pipes. It never waits for one of them while the other could go on, so no reply is too large."""
+    """A program that runs in a session of its own, so that Ctrl-C at a terminal does not reach it, with the bytes under way to it. It is
+    ended where nobody refers to it any more, and with this process."""
 
-    def __init__(self, words: list[str], take: Callable[[bytes], None]) -> None:
-        self.take, self.said, self.rest, self.unsent = take, bytearray(), b"", bytearray()
-        self.ended: Optional[Ended] = None
-        pipe = subprocess.PIPE
+    # of one that is not wholly made
+    ended: Optional[Ended] = None
+    owner = 0
+    to: Any = None
+    of: Any = None
+
+    def __init__(self, words: list[str]) -> None:
+        self.is_deaf = False
+        # the bytes that are written now, of each write how many the program took, and how many commands they end with
+        self.writing: tuple[bytes, list[int], int] = (b"", [], 0)
+        self.runs: list[subprocess.Popen[bytes]] = []
+        self.statuses: list[tuple[int, int]] = []
         self.told = tempfile.TemporaryFile()
+        self.owner = os.getpid()
         try:
-            self.run = subprocess.Popen(words, stdin=pipe, stdout=pipe, stderr=self.told, bufsize=0)
-        except OSError:
-            self.told.close()
+            self.start(words)
+        except BaseException:
+            self.kill()
             raise
-        self.to, self.of = self.run.stdin, self.run.stdout  # type: Any, Any
-        os.set_blocking(self.to.fileno(), False)
 
-    def put(self, line: bytes) -> None:
-        """Takes a line to be written; waits only where much is unsent."""
-        self.unsent += line + b"\n"
-        while len(self.unsent) > UNSENT and not self.ended:
-            self.exchange()
+    def start(self, words: list[str]) -> None:
+        pipe = subprocess.PIPE
+        start: Any = functools.partial(subprocess.Popen, stdin=pipe, stdout=pipe, stderr=self.told, bufsize=0, start_new_session=True)
+        self.runs.extend(map(start, (words,)))
+        run = self.runs[0]
+        # the pipes are closed with this object, whatever becomes of that one
+        self.to, self.of, run.stdin, run.stdout = run.stdin, run.stdout, None, None
+        self.to_number, self.of_number = self.to.fileno(), self.of.fileno()  # type: ignore[union-attr]
+        os.set_blocking(self.to_number, False)
+        TALKS.add(self)
 
-    def exchange(self) -> None:
-        """Writes what the program takes at once; where it takes nothing, waits until it does, or has written something."""
-        if self.unsent and self.is_sent():
-            return
-        ready = select.poll()
-        ready.register(self.of, select.POLLIN)
-        if self.unsent:
-            ready.register(self.to, select.POLLOUT)
-        if any(end == self.of.fileno() for end, _ in ready.poll()):
-            self.receive()
+    def __del__(self) -> None:
+        self.kill()
 
-    def is_sent(self) -> bool:
+    def has_unsent(self) -> bool:
+        """Whether the program has yet to take bytes, and still may."""
+        data, counts, _ = self.writing
+        return sum(counts) < len(data) and not self.is_deaf
+
+    def write(self) -> bool:
         """Whether the program took some of what is unsent."""
+        data, counts, _ = self.writing
+        at = sum(counts)
         try:
-            del self.unsent[: os.write(self.to.fileno(), self.unsent)]
+            counts.extend(map(os.write, (self.to_number,), (memoryview(data)[at:] if at else data,)))
             return True
         except BlockingIOError:
             return False
         except BrokenPipeError:
             # it reads no more: that it has ended is seen where its text ends
-            self.unsent.clear()
+            self.is_deaf = True
             return False
 
-    def receive(self) -> None:
-        part = os.read(self.of.fileno(), READ)
-        if not part:
-            return self.end()
-        self.said += part
-        *lines, self.rest = (self.rest + part).split(b"\n")
-        for line in lines:
-            self.take(line)
+    def is_read_first(self) -> bool:
+        """Waits until the program takes bytes, or has written some; whether it has written some."""
+        ready = select.poll()
+        ready.register(self.of_number, select.POLLIN)
+        ready.register(self.to_number, select.POLLOUT)
+        return any(end == self.of_number for end, _ in ready.poll())
+
+    def read(self, came: list[bytes]) -> None:
+        """Waits until the program has written something, or has ended, and puts it behind what came: nothing, at the end."""
+        came.extend(map(os.read, (self.of_number,), (READ,)))
+
+    def close_input(self) -> None:
+        """Tells the program that its script is at its end."""
+        self.to.close()
 
     def close(self) -> None:
-        """Tells the program that its script is at its end, once all of it is written, and reads on until its text ends."""
-        while self.unsent and not self.ended:
-            self.exchange()
-        self.to.close()
-        while not self.ended:
-            self.exchange()
+        """Lets go of the pipes."""
+        for end in (self.to, self.of):
+            if end:
+                with contextlib.suppress(OSError):
+                    end.close()
 
     def end(self) -> None:
-        """Waits for the program, whose text is at its end, and keeps its status and last line."""
+        """Waits for the program, whose text is at its end, and keeps its status and last line. Where it was cut short it is done again."""
         if self.ended:
             return
-        self.to.close()
-        self.of.close()
-        try:
-            status = self.run.wait(10)
-        except subprocess.TimeoutExpired:
-            self.run.kill()
-            status = self.run.wait()
+        self.close()
+        status = self.status() if self.runs else 0
+        for run in self.runs:
+            run.returncode = status
         self.told.seek(0)
         self.ended = Ended(status, self.told.read())
         self.told.close()
 
+    def status(self) -> int:
+        """The program's exit status, waited for; a program that takes too long is killed."""
+        last, pause = time.monotonic() + LAST_SECONDS, 0.0001
+        while not self.has_status():
+            if time.monotonic() > last:
+                self.signal_end()
+            try:
+                self.statuses.extend(map(os.waitpid, (self.runs[0].pid,), (os.WNOHANG,)))
+            except ChildProcessError:
+                return 0  # this process has its children waited for by the system
+            if not self.has_status():
+                time.sleep(pause)
+                pause = min(2 * pause, 0.02)
+        return os.waitstatus_to_exitcode(self.statuses[-1][1])
+
+    def has_status(self) -> bool:
+        return bool(self.statuses) and self.statuses[-1][0] != 0
+
+    def signal_end(self) -> None:
+        """Kills the program and what it started, which are a session."""
+        if self.runs and not self.has_status():
+            with contextlib.suppress(ProcessLookupError, PermissionError):
+                os.killpg(self.runs[0].pid, signal.SIGKILL)
+
     def kill(self) -> None:
-        self.run.kill()
-        self.end()
+        """Ends the program at once. Does nothing where it has ended, or in a process that did not start it."""
+        if not self.ended and self.owner == os.getpid():
+            self.signal_end()
+            self.end()
+
+    def leave(self) -> None:
+        """In a child of this process: lets go of the pipes, so that the program still sees where they end."""
+        self.ended = Ended(0, b"the network belongs to another process, of which this one is a child")
+        self.close()
+        self.told.close()
+
+
+def leave_all() -> None:
+    for talk in list(TALKS):
+        if not talk.ended:
+            talk.leave()
+
+
+@atexit.register
+def kill_all() -> None:
+    for talk in list(TALKS):
+        talk.kill()
+
+
+if hasattr(os, "register_at_fork"):
+    os.register_at_fork(after_in_child=leave_all)

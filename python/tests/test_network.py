@@ -106,7 +106,7 @@ class WrongArguments(Timed):
             with net.batch() as batch:
                 batch.link(1, 2)
                 raise KeyError
-        self.assertIsNotNone(net._talk.run.poll())
+        self.assertIsNotNone(net._session.talk.runs[0].poll())
 
 
 class Batches(Timed):

@@ -22,6 +22,11 @@ def some(drawn):
     return lambda enabled: [node for node in enabled if drawn.random() < 0.5] or [drawn.choice(list(enabled))]
 
 
+def bare(graph):
+    """The nodes and edges of a graph, without what they carry."""
+    return networkx.from_dict_of_lists(networkx.to_dict_of_lists(graph))
+
+
 @unittest.skipUnless(networkx, "no networkx")
 class Graphs(Timed):
     def test_random_networks_settle_in_maximal_matchings(self):
@@ -41,7 +46,7 @@ class Graphs(Timed):
                     graph.remove_edge(a, b)
                 net.drive(seed, 1_000_000)
                 self.assertTrue(networkx.is_maximal_matching(graph, set(net.matching())))
-                self.assertTrue(networkx.utils.graphs_equal(net.to_networkx(), graph))
+                self.assertTrue(networkx.utils.graphs_equal(bare(net.to_networkx()), graph))
 
     def test_names_that_are_tuples(self):
         graph = networkx.grid_2d_graph(5, 6)
@@ -69,6 +74,17 @@ class Graphs(Timed):
             net.link(4, 1)
             graph = net.to_networkx()
         self.assertEqual((sorted(graph.nodes), list(graph.edges)), ([1, 3, 4], [(1, 4)]))
+
+    def test_pairs_and_registers_are_carried(self):
+        with Network("manne", ["ann", "bob", "cleo"]) as net:
+            net.link("ann", "bob")
+            net.link("bob", "cleo")
+            net.settle(list)
+            graph = net.to_networkx()
+        # by hand: 1 and 2 seduce, 3 marries 2, 2 and 3 update, and 1 abandons
+        held = {"ann": (None, False), "bob": ("cleo", True), "cleo": ("bob", True)}
+        self.assertEqual({node: (it["pointer"], it["flag"]) for node, it in graph.nodes(data=True)}, held)
+        self.assertEqual({(a, b): it["pair"] for a, b, it in graph.edges(data=True)}, {("ann", "bob"): False, ("bob", "cleo"): True})
 
     def test_graphs_that_are_none(self):
         loop = networkx.Graph([(1, 2), (2, 2)])

@@ -1,0 +1,39 @@
+"""What daemons choose."""
+
+from __future__ import annotations
+
+from collections import abc
+from typing import Callable
+
+from .errors import WrongChoice
+from .numbers import MOST_NODES
+from .replies import Choice, Enabled, Name, Wish
+
+Daemon = Callable[[Enabled], Choice]
+
+
+def items_of(choice: Choice, number_of: Callable[[Name], int]) -> list[str]:
+    """The texts of a choice's items; those of a set by number, so that the same set is the same step."""
+    items = []
+    for item in choice:
+        wish = f">{number_of(item.target)}" if isinstance(item, Wish) else ""
+        items.append((number_of(item.node if isinstance(item, Wish) else item), wish))
+    if isinstance(choice, abc.Set):
+        items.sort()
+    if len(items) > MOST_NODES:
+        raise ValueError(f"{len(items)} items are more than a step takes, which is {MOST_NODES}")
+    return [f"{number}{wish}" for number, wish in items]
+
+
+def checked_choice(choice: Choice, enabled: Enabled) -> Choice:
+    """A daemon's choice, where it has somebody and only who is enabled."""
+    if isinstance(choice, (str, bytes, Wish)) or not isinstance(choice, abc.Iterable):
+        raise WrongChoice(f"a daemon gives a list of nodes, and not {choice!r}")
+    items = choice if isinstance(choice, abc.Set) else list(choice)
+    if not items:
+        raise WrongChoice(f"the daemon chose nobody while {len(enabled)} nodes are enabled")
+    for item in items:
+        node = item.node if isinstance(item, Wish) else item
+        if node not in enabled:
+            raise WrongChoice(f"the daemon chose {node!r}, which is not enabled")
+    return items

@@ -1,0 +1,119 @@
+"""Daemons by name: who decides, step by step, which of the enabled nodes move. Each is given to `Network.settle`.
+
+    net.settle(daemons.ByName())            # the least enabled node
+    net.settle(daemons.named("greedy", 7))  # by its word, with a seed
+
+Each is a value that can be compared, pickled and used again: it begins anew in every network that it settles, so the same daemon
+makes the same run. What the literature calls them, after Dubois and Tixeuil, "A taxonomy of daemons in self-stabilization", 2011:
+
+- `Synchronous`: the synchronous daemon; under `manne` alone, since Hsu and Huang's rules take one node at a time;
+- `ByName`: a central daemon with fixed priorities, which is unfair;
+- `ByAge`: a central round-robin daemon, which is fair: whoever moved longest ago, and first those who have not;
+- `Seeded`: a randomised daemon, central under `hh` and distributed under `manne`: the program's own, `drive`;
+- `Greedy`: a central adversary (`Greedy()`, the enabled node and target of which the move lets the charge fall least) or helper
+  (`Greedy(most=True)`), that sees the whole state.
+
+A function from the enabled nodes to those that move is a daemon too.
+"""
+
+from __future__ import annotations
+
+import itertools
+from dataclasses import dataclass
+from typing import TYPE_CHECKING, Callable, Union
+
+from . import rules
+from .numbers import MOST_TURNS
+from .replies import Choice, Enabled, Name, Settled, Wish
+
+if TYPE_CHECKING:
+    from .choices import Daemon
+    from .network import Network
+
+__all__ = ["WORDS", "ByAge", "ByName", "Greedy", "Seeded", "Synchronous", "named"]
+
+
+@dataclass(frozen=True)
+class Synchronous:
+    """All enabled nodes move at once; `begin` raises `ValueError` where the rules are `hh`."""
+
+    def begin(self, net: Network) -> Daemon:
+        if net.rules == "hh":
+            raise ValueError("the synchronous daemon wants the rules 'manne': those of Hsu and Huang take one node at a time")
+        return list
+
+
+@dataclass(frozen=True)
+class ByName:
+    """The enabled node of the least number, or of the greatest."""
+    greatest: bool = False
+
+    def begin(self, net: Network) -> Daemon:
+        choose = max if self.greatest else min
+        return lambda enabled: [choose(enabled, key=net.number_of)]
+
+
+@dataclass(frozen=True)
+class ByAge:
+    """The enabled node that moved longest ago; those that have not moved come first, by their numbers."""
+
+    def begin(self, net: Network) -> Daemon:
+        moved: dict[Name, int] = {}
+        turns = itertools.count()
+
+        def choose(enabled: Enabled) -> Choice:
+            node = min(enabled, key=lambda name: (moved.get(name, -1), net.number_of(name)))
+            moved[node] = next(turns)
+            return [node]
+        return choose
+
+
+@dataclass(frozen=True)
+class Seeded:
+    """The program's own daemon of chance with this seed, 0 to 2^64 - 1: one enabled node under `hh`; under `manne` each with the chance
+    of a half, and one at least. A run costs one command, not two a step."""
+    seed: int = 0
+
+    def settle(self, net: Network) -> Settled:
+        charge, steps, moves, seed = net.status().charge, 0, 0, self.seed
+        while True:
+            driven = net.drive(seed, MOST_TURNS)
+            steps, moves = steps + len(driven), moves + sum(map(len, driven))
+            if not driven.status.enabled:
+                return Settled(steps, moves, charge)
+            seed = (seed + 1) % 2**64
+
+
+@dataclass(frozen=True)
+class Greedy:
+    """The enabled node, and its target, of which the move lets the charge fall least; or most. Each step looks at every enabled node
+    and at the edges near it."""
+    most: bool = False
+
+    def begin(self, net: Network) -> Daemon:
+        follower, sign = net.follower(), -1 if self.most else 1
+
+        def choose(enabled: Enabled) -> Choice:
+            state, found = follower.state(), []
+            for name, rule in enabled.items():
+                node = net.number_of(name)
+                for target in rules.targets(state, node, rule) or [0]:
+                    found.append((sign * rules.fall(state, node, rule, target), node, target))
+            _, node, target = min(found)
+            return [Wish(net.name_of(node), net.name_of(target)) if target else net.name_of(node)]
+        return choose
+
+
+AnyDaemon = Union[Synchronous, ByName, ByAge, Seeded, Greedy]
+# each daemon's word, and what it is made of
+WORDS: dict[str, Callable[[int], AnyDaemon]] = {
+    "synchronous": lambda seed: Synchronous(), "least": lambda seed: ByName(), "greatest": lambda seed: ByName(greatest=True),
+    "age": lambda seed: ByAge(), "seeded": Seeded, "greedy": lambda seed: Greedy(), "helpful": lambda seed: Greedy(most=True),
+}
+
+
+def named(word: str, seed: int = 0) -> AnyDaemon:
+    """The daemon that a word stands for, one of `WORDS`; the seed is that of `seeded`."""
+    if word not in WORDS:
+        raise ValueError(f"no daemon has the name {word!r}: they are {', '.join(WORDS)}")
+    return WORDS[word](seed)

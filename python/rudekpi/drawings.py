@@ -1,0 +1,67 @@
+"""Small drawings of networks, and pages that play their transcripts."""
+
+from __future__ import annotations
+
+import html
+import math
+import os
+import subprocess
+import sys
+from typing import Union
+
+from .errors import Damaged, Ended, text_of
+from .names import Names
+from .program import Program, found_program, page_maker
+from .state import State
+
+# how many nodes a drawing has at most; names are written up to fewer
+MOST_DRAWN, MOST_NAMED, SIZE = 200, 40, 260
+
+
+def places(nodes: list[int]) -> dict[int, tuple[float, float]]:
+    """A place on a ring for each node."""
+    radius, turn = SIZE / 2 - 20, 2 * math.pi / max(1, len(nodes))
+    return {node: (SIZE / 2 + radius * math.sin(at * turn), SIZE / 2 - radius * math.cos(at * turn)) for at, node in enumerate(nodes)}
+
+
+def edge_line(state: State, a: int, b: int, at: dict[int, tuple[float, float]]) -> str:
+    """An edge: thick where it joins a pair, orange where one end points along it and is not answered."""
+    along = (state.pointers.get(a) == b) + (state.pointers.get(b) == a)
+    width, colour = ((1, "#bbb"), (1.5, "#e69f00"), (4, "#0072b2"))[along]
+    (x, y), (u, v) = at[a], at[b]
+    return f'<line x1="{x:.1f}" y1="{y:.1f}" x2="{u:.1f}" y2="{v:.1f}" stroke="{colour}" stroke-width="{width}"/>'
+
+
+def node_sign(state: State, node: int, names: Names, at: dict[int, tuple[float, float]]) -> str:
+    """A node: filled where it is paired, with its name where there is room."""
+    (x, y), name = at[node], html.escape(str(names.name_of(node)))
+    fill = "#0072b2" if state.partner(node) else "#fff"
+    sign = f'<circle cx="{x:.1f}" cy="{y:.1f}" r="5" fill="{fill}" stroke="#333"><title>{name}</title></circle>'
+    if len(state.neighbours) > MOST_NAMED:
+        return sign
+    return sign + f'<text x="{x:.1f}" y="{y - 8:.1f}" font-size="9" text-anchor="middle">{name}</text>'
+
+
+def html_of(title: str, state: State, names: Names) -> str:
+    """A line of text, and below it the network, where it is small enough."""
+    head = f"<div>{html.escape(title)}</div>"
+    nodes = sorted(state.neighbours)
+    if len(nodes) > MOST_DRAWN:
+        return head
+    at = places(nodes)
+    lines = [edge_line(state, a, b, at) for a, b in state.edges()]
+    signs = [node_sign(state, node, names, at) for node in nodes]
+    return f'{head}<svg xmlns="http://www.w3.org/2000/svg" width="{SIZE}" height="{SIZE}">{"".join(lines + signs)}</svg>'
+
+
+def write_page(transcript: str, path: Union[str, os.PathLike[str]], program: Program) -> None:
+    """Writes a page that plays a transcript. Raises `Damaged` where `audit` refuses that, and `FileNotFoundError` where what
+    makes pages is not there."""
+    words = [sys.executable, page_maker(), "--program", found_program(program)]
+    done = subprocess.run(words, input=transcript.encode(), stdout=subprocess.PIPE, stderr=subprocess.PIPE)
+    if done.returncode == 1:
+        raise Damaged.read(text_of(done.stderr))
+    if done.returncode:
+        raise Ended(done.returncode, done.stderr)
+    with open(path, "wb") as file:
+        file.write(done.stdout)

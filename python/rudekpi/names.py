@@ -1,0 +1,62 @@
+"""The names of a network's nodes, and the numbers that a transcript has for them."""
+
+from __future__ import annotations
+
+import re
+from operator import index
+from typing import Any, Iterable, Optional, Union
+
+from .numbers import MOST_NODES, number_within
+from .replies import Name
+
+NUMBER = re.compile(r"(?<=[ >])[0-9]+")
+
+
+def own_names(nodes: Iterable[Name]) -> list[Name]:
+    """The caller's names, of which each is there once, and none is None."""
+    names = list(nodes)
+    if isinstance(nodes, (str, bytes)) or None in names:
+        raise ValueError("nodes are a number or a list of names, of which none is None")
+    if len(set(names)) != len(names):
+        raise ValueError(f"two nodes have the name {next(name for name in names if names.count(name) > 1)!r}")
+    return names
+
+
+class Names:
+    """The numbers 1 to a count as names, or the caller's own names with the numbers 1, 2, .. in their order."""
+
+    def __init__(self, nodes: Union[int, Iterable[Name]]) -> None:
+        self.own: Optional[list[Name]] = None if hasattr(nodes, "__index__") else own_names(nodes)
+        self.numbers = {name: number for number, name in enumerate(self.own or [], 1)}
+        self.count = number_within(nodes if self.own is None else len(self.own), MOST_NODES, "a number of nodes")
+
+    def all(self) -> list[Name]:
+        return list(range(1, self.count + 1)) if self.own is None else list(self.own)
+
+    def number_of(self, name: Name) -> int:
+        if self.own is None:
+            number = int(index(name))
+            if not 0 < number <= MOST_NODES:
+                raise ValueError(f"a node's name is 1 to {MOST_NODES}, and not {number}")
+            return number
+        try:
+            return self.numbers[name]
+        except KeyError:
+            raise ValueError(f"no node has the name {name!r}") from None
+
+    def name_of(self, number: int) -> Name:
+        if not 0 < number <= self.count:
+            raise ValueError(f"no node has the number {number}")
+        return number if self.own is None else self.own[number - 1]
+
+    def told(self, event: str) -> str:
+        """An event with the caller's own names."""
+        if self.own is None:
+            return event
+        # the second number of a flag is no node's
+        most = int(event.startswith("flag "))
+        return NUMBER.sub(lambda found: repr(self.name_of(int(found[0]))), event, count=most)
+
+    def named(self, given: Any) -> Any:
+        """A node's name out of its number, None out of None."""
+        return None if given is None else self.name_of(given)

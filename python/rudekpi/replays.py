@@ -1,0 +1,73 @@
+"""Networks that go on where a transcript ends."""
+
+from __future__ import annotations
+
+import itertools
+from typing import Any, Iterable, Iterator, Optional
+
+from .answers import BASE, CHECKPOINT
+from .audits import Text, audit
+from .names import own_names
+from .network import Network
+from .program import Program
+from .reading import MOVE, numbers_of_base, numbers_of_line
+from .replies import Name
+
+
+def replay(transcript: Text, *, names: Optional[Iterable[Name]] = None, program: Program = None) -> Network:
+    """A network that stands where a transcript ends, so that it can go on; raises `Damaged` where `audit` refuses it.
+
+    Its own transcript is the one that was given. Where that took other targets than the least, its steps have them as
+    wishes. Where that begins with a base, at which no run can begin, edits and faults lead there: so the numbers are other
+    ones, and what was spent before is not counted. `names` are the caller's, in the order of the numbers.
+    """
+    audit(transcript, program=program)
+    transcript = transcript if isinstance(transcript, str) else bytes(transcript).decode()
+    head, *parts = parts_of(transcript)
+    _, rules, count, *rest = head[0].split(" ")
+    present, edits = edits_to(head) if len(head) > 1 else (int((rest or [count])[0]), [])
+    nodes: Any = int(count) if names is None else own_names(names)
+    if names is not None and len(nodes) != int(count):
+        raise ValueError(f"{len(nodes)} names for {count} nodes")
+    entries = [(CHECKPOINT, "") if len(part) > 1 else tuple(part[0].split(" ", 1)[1].split(" = ")) for part in parts]
+    net = Network(rules, nodes, present=present, program=program)
+    if len(head) == 1:
+        if net._played(event for event, _ in entries) == transcript:
+            return net
+        net.close()
+        net = Network(rules, nodes, present=present, program=program)
+    net._played([*edits, *(wished(event, reply) for event, reply in entries)])
+    return net
+
+
+def parts_of(transcript: str) -> Iterator[list[str]]:
+    """The lines of each part of an accepted transcript: its header, an entry, or a base."""
+    lines = iter(transcript.splitlines())
+    for line in lines:
+        part = [line]
+        if line.startswith("matching2 "):
+            part.append(next(lines))
+            _, _, nodes, edges = numbers_of_line(BASE, part[1])
+            part.extend(itertools.islice(lines, nodes + edges))
+        yield part
+
+
+def edits_to(base: list[str]) -> tuple[int, list[str]]:
+    """How many nodes are present at the start of a run that leads to a base, and the edits and faults of that run."""
+    _, places, edges = numbers_of_base(base)
+    # numbers rise, so those that are as great as their places are the first
+    present = sum(number == place for place, (number, _, _) in enumerate(places, 1))
+    joins = [f"join {number}" for number, _, _ in places[present:]]
+    links = [f"link {a} {b}" for a, b in edges]
+    points = [f"point {number} {pointer}" for number, pointer, _ in places if pointer is not None]
+    flags = [f"flag {number} 1" for number, _, flag in places if flag]
+    return present, [*joins, *links, *points, *flags]
+
+
+def wished(event: str, reply: str) -> str:
+    """A step that was carried out, with its targets as wishes; any other event as it is."""
+    if not event.startswith("step ") or reply.startswith("refused "):
+        return event
+    targets = {found[1]: found[4] for found in map(MOVE.fullmatch, reply.split(" ")) if found and found[4]}
+    items = (item.split(">")[0] for item in event.split(" ")[1:])
+    return " ".join(["step", *(f"{item}>{targets[item]}" if item in targets else item for item in items)])

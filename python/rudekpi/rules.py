@@ -1,0 +1,107 @@
+"""The rules and the charge of both rule sets, on a state that is followed: what daemons and searches ask for before a move.
+
+Nothing here judges a run: what it foretells, the program plays and `audit` accepts. Sources: Hsu and Huang, "A self-stabilizing
+algorithm for maximal matching", 1992; Manne, Mjelde, Pilard and Tixeuil, "A new self-stabilizing maximal matching algorithm", 2009.
+"""
+
+from __future__ import annotations
+
+from typing import Iterable, Optional
+
+from .state import State
+
+# the bound of the moves between two disturbances is twice the edges, and this weight for each node that is present
+WEIGHTS = {"hh": 1, "manne": 3}
+
+
+def bound(rules: str, edges: int, nodes: int) -> int:
+    """The most moves between two disturbances."""
+    return 2 * edges + WEIGHTS[rules] * nodes
+
+
+def suitors(state: State, node: int) -> list[int]:
+    """The neighbours that point at a node, ascending."""
+    return sorted(other for other in state.neighbours[node] if state.pointers.get(other) == node)
+
+
+def is_wooed(state: State, node: int) -> bool:
+    """Whether a neighbour points at a node."""
+    return any(state.pointers.get(other) == node for other in state.neighbours[node])
+
+
+def may_court(state: State, node: int) -> list[int]:
+    """The neighbours at which a node may begin to point, ascending; under `manne` the greatest alone."""
+    null = [other for other in state.neighbours[node] if other not in state.pointers]
+    if state.rules == "hh":
+        return sorted(null)
+    return sorted(other for other in null if other > node and other not in state.flags)[-1:]
+
+
+def rule_at(state: State, node: int) -> Optional[str]:
+    """The rule that is enabled at a node that is present, or None."""
+    other = state.pointers.get(node)
+    if state.rules == "manne" and (node in state.flags) != (state.partner(node) is not None):
+        return "update"
+    if other is None:
+        if is_wooed(state, node):
+            return "marry"
+        return "seduce" if may_court(state, node) else None
+    back = state.pointers.get(other)
+    if state.rules == "hh":
+        return "abandon" if back is not None and back != node else None
+    return "abandon" if back != node and (other in state.flags or other <= node) else None
+
+
+def targets(state: State, node: int, rule: str) -> list[int]:
+    """The targets that a rule allows a node, ascending; none where the rule takes none."""
+    if rule == "marry":
+        return suitors(state, node)
+    return may_court(state, node) if rule == "seduce" else []
+
+
+def enabled(state: State) -> dict[int, str]:
+    """The enabled nodes with their rules, ascending."""
+    found = ((node, rule_at(state, node)) for node in sorted(state.neighbours))
+    return {node: rule for node, rule in found if rule}
+
+
+def is_open(state: State, a: int, b: int) -> bool:
+    """Whether the edge of a lower and a higher node is open, so that it counts twice in the charge."""
+    if state.partner(a) or state.partner(b):
+        return False
+    pointers = state.pointers
+    if state.rules == "manne":
+        return not (pointers.get(a) == b and b not in state.flags)
+    null_a, null_b = a not in pointers, b not in pointers
+    awaited = (pointers.get(a) == b and null_b) or (pointers.get(b) == a and null_a)
+    return not (awaited or (null_a and null_b and is_wooed(state, a) and is_wooed(state, b)))
+
+
+def share(state: State, node: int) -> int:
+    """What a node adds to the charge beside its edges."""
+    married = state.partner(node) is not None
+    unanswered = int(node in state.pointers and not married)
+    if state.rules == "hh":
+        return unanswered
+    flag = node in state.flags
+    return unanswered + (int(not flag) if married else 1 + int(flag))
+
+
+def charge(state: State, nodes: Optional[Iterable[int]] = None) -> int:
+    """The most moves that can come from here; or what these nodes and the edges at them have of it."""
+    nodes = set(state.neighbours if nodes is None else nodes)
+    edges = {(min(node, other), max(node, other)) for node in nodes for other in state.neighbours[node]}
+    return 2 * sum(is_open(state, a, b) for a, b in edges) + sum(share(state, node) for node in nodes)
+
+
+def fall(state: State, node: int, rule: str, target: Optional[int]) -> int:
+    """By how much the charge falls where a node alone moves so."""
+    before, flags = state.pointers.get(node), node in state.flags
+    touched = {node} | {other for other in (before, target, state.pointers.get(node)) if other}
+    # whether an edge is open depends on what its ends are, and by Hsu and Huang's rules on who points at them
+    charged = charge(state, touched)
+    state.move(node, rule, target)
+    left = charge(state, touched)
+    state.point(node, before or 0)
+    state.flag(node, flags)
+    return charged - left

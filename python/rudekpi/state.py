@@ -1,0 +1,138 @@
+"""Where a network stands, followed through the lines of a transcript; nodes go by their numbers."""
+
+from __future__ import annotations
+
+import re
+from typing import TYPE_CHECKING, Iterable, Optional
+
+from .reading import MOVE
+
+if TYPE_CHECKING:
+    from .session import Session
+
+WORDS = {"link": 2, "unlink": 2, "point": 2, "flag": 2, "join": 1, "leave": 1}
+ENTRY = re.compile(r"[0-9]+ ((\w+)(?: [^=]*)?) = (.*)")
+
+
+class State:
+    """The nodes that are present with their neighbours, pointers and flags. A pointer that is null has no item."""
+
+    def __init__(self, rules: str = "manne", count: int = 0, present: Iterable[int] = ()) -> None:
+        self.rules, self.count = rules, count
+        self.neighbours: dict[int, set[int]] = {node: set() for node in present}
+        self.pointers: dict[int, int] = {}
+        self.flags: set[int] = set()
+        self.entry = 0
+
+    def follow(self, lines: Iterable[str]) -> None:
+        """Goes through lines of a transcript that `audit` accepts; at a base, the state is what that says."""
+        for line in lines:
+            if line[:1].isdigit():
+                self.entry += 1
+                found = ENTRY.fullmatch(line)
+                if not found:
+                    raise ValueError(f"{line[:80]!r} is no entry")
+                self.follow_entry(found[2], found[1], found[3])
+            else:
+                self.follow_head(line.split(" "))
+
+    def follow_entry(self, word: str, event: str, reply: str) -> None:
+        if word == "step" and not reply.startswith("refused "):
+            for move in reply.split(" "):
+                self.follow_move(move)
+        elif word in WORDS and reply == "ok":
+            numbers = [0 if text == "-" else int(text) for text in event.split(" ")[1:]]
+            getattr(self, word)(*numbers)
+
+    def follow_move(self, move: str) -> None:
+        found = MOVE.fullmatch(move)
+        if not found:
+            raise ValueError(f"{move[:80]!r} is no move")
+        self.move(int(found[1]), found[2] or found[3], int(found[4]) if found[4] else None)
+
+    def follow_head(self, words: list[str]) -> None:
+        """A line of a header or a base."""
+        if words[0] == "matching":
+            self.__init__(words[1], int(words[2]), range(1, int(words[-1]) + 1))  # type: ignore[misc]
+        elif words[0] == "matching2":
+            self.__init__(words[1], int(words[2]))  # type: ignore[misc]
+        elif words[0] == "base":
+            self.entry = int(words[1])
+        elif words[0] == "node":
+            self.join(int(words[1]))
+            self.point(int(words[1]), 0 if words[2] == "-" else int(words[2]))
+            self.flag(int(words[1]), int(words[3]))
+        elif words[0] == "edge":
+            self.link(int(words[1]), int(words[2]))
+
+    def move(self, node: int, rule: str, target: Optional[int]) -> None:
+        """A move of a step; that of another node in the same step does not change what it does."""
+        if rule == "update":
+            # it is enabled where the flag is wrong
+            self.flags ^= {node}
+        else:
+            self.point(node, target or 0)
+
+    def link(self, a: int, b: int) -> None:
+        self.neighbours[a].add(b)
+        self.neighbours[b].add(a)
+
+    def unlink(self, a: int, b: int) -> None:
+        for node, other in ((a, b), (b, a)):
+            self.neighbours[node].remove(other)
+            if self.pointers.get(node) == other:
+                del self.pointers[node]
+
+    def point(self, node: int, target: int) -> None:
+        if target:
+            self.pointers[node] = target
+        else:
+            self.pointers.pop(node, None)
+
+    def flag(self, node: int, value: int) -> None:
+        if value:
+            self.flags.add(node)
+        else:
+            self.flags.discard(node)
+
+    def join(self, node: int) -> None:
+        self.neighbours[node] = set()
+
+    def leave(self, node: int) -> None:
+        for other in list(self.neighbours[node]):
+            self.unlink(node, other)
+        self.flags.discard(node)
+        del self.neighbours[node]
+
+    def edges(self) -> list[tuple[int, int]]:
+        """The edges, ascending, each with its lower end first."""
+        return sorted((node, other) for node, near in self.neighbours.items() for other in near if node < other)
+
+    def partner(self, node: int) -> Optional[int]:
+        """With whom a node is paired, or None."""
+        other = self.pointers.get(node)
+        return other if other is not None and self.pointers.get(other) == node else None
+
+
+class Follower:
+    """The state of a session's network, which goes on with what the session has kept since it was last asked for."""
+
+    def __init__(self, session: Session) -> None:
+        self.session = session
+        # the state at a place of what is kept
+        self.followed: Optional[tuple[bytearray, int, State]] = None
+
+    def state(self) -> State:
+        """Where the network stands once all commands are carried out. Raises `Garbled` where the program answered amiss."""
+        session = self.session
+        session.wait_for_all()
+        if session.answers.wrong:
+            raise session.answers.wrong
+        # one that is cut short by an interrupt begins again at the start
+        said, followed, self.followed = session.answers.said, self.followed, None
+        if followed is None or followed[0] is not said:
+            followed = (said, 0, State())
+        end = said.rfind(b"\n", 0, session.answers.said_size) + 1
+        followed[2].follow(said[followed[1] : end].decode().splitlines())
+        self.followed = (said, end, followed[2])
+        return followed[2]

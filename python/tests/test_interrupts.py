@@ -1,0 +1,327 @@
+"""Interrupts at any moment: each instruction of the client in turn, thousands of signals at random times, and Ctrl-C at a
+terminal; networks that nobody closes; children of this process."""
+
+import gc
+import os
+import pty
+import random
+import select
+import signal
+import subprocess
+import sys
+import threading
+import time
+import unittest
+
+import rudekpi
+from rudekpi import Ended, Network, audit
+from support import TOP, Timed
+
+PACKAGE = os.path.dirname(rudekpi.__file__)
+
+
+class Cut(BaseException):
+    """What the interrupts of these tests raise."""
+
+
+class At:
+    """Raises `Cut` in front of the instruction of the package that has a number, counted from the entry of a `with`."""
+
+    def __init__(self, number):
+        self.left = number
+
+    def trace(self, frame, event, _):
+        if not frame.f_code.co_filename.startswith(PACKAGE):
+            return None
+        frame.f_trace_opcodes, frame.f_trace_lines = True, False
+        if event == "opcode":
+            self.left -= 1
+            if self.left < 0:
+                sys.settrace(None)
+                raise Cut
+        return self.trace
+
+    def __enter__(self):
+        self.before = sys.gettrace()
+        sys.settrace(self.trace)
+        return self
+
+    def __exit__(self, kind, *_):
+        sys.settrace(self.before)
+        return kind is Cut
+
+
+class EachInstruction(Timed):
+    seconds = 120
+
+    def cut_everywhere(self, call, after, step=1, made=lambda: Network("manne", 4)):
+        """Cuts a call short in front of each of its instructions, until it comes to its end, and looks at what is left."""
+        for number in range(0, 1_000_000, step):
+            net = made()
+            with At(number) as at:
+                call(net)
+            with self.subTest(instruction=number):
+                after(net)
+            if at.left >= 0:
+                return number
+        raise AssertionError("no end")
+
+    def expect_usable(self, net):
+        net.unlink(1, 2) if (1, 2) in net.edges else None
+        self.assertEqual(net.link(1, 2).entry, net.status().entry - 1)
+        self.assertEqual(net.show(1).target, None)
+        net.close()
+        self.assertEqual(net.audit().entries, net.transcript().count(" = "))
+
+    def test_of_an_answer(self):
+        net = Network("hh", 3)
+        made = lambda: net
+        self.cut_everywhere(lambda net: net.show(2), lambda net: self.assertEqual((net.show(1).node, net.status().edges), (1, 0)), made=made)
+        shown = net.transcript().count("show 2 = -\n")
+        net.close()
+        self.assertGreater(shown, 100, "some were cut in front of what asks, and some behind it")
+        audit(net.transcript())
+
+    def test_of_a_link(self):
+        self.cut_everywhere(lambda net: net.link(1, 2), self.expect_usable, step=7)
+
+    def test_of_a_batch_with_all_kinds_of_answers(self):
+        def play(net):
+            with net.batch(raises=False) as batch:
+                batch.link(1, 2)
+                batch.link(1, 2)
+                batch.drive(7, 5)
+                batch.checkpoint()
+                batch.scramble(7, 2)
+                batch.show(9)
+
+        def look(net):
+            said = net.transcript()
+            self.assertEqual(audit(said).entries, net.status().entry - 1)
+            net.close()
+
+        self.cut_everywhere(play, look, step=37)
+
+    def test_of_a_close(self):
+        def look(net):
+            net.close()
+            self.assertEqual((net._session.talk.ended.status, net.transcript()), (0, "matching manne 4\n"))
+
+        self.cut_everywhere(Network.close, look, step=3)
+
+    def test_of_what_is_kept_from_a_checkpoint_on(self):
+        def look(net):
+            self.assertEqual(net.link(3, 4).entry, len(net.edges))
+            self.assertIn((3, 4), net.edges)
+            audit(net.transcript())
+            net.close()
+
+        def play(net):
+            net.link(1, 2)
+            net.checkpoint()
+            net.link(2, 3)
+
+        self.cut_everywhere(play, look, step=53, made=lambda: Network("manne", 4, keep=False))
+
+    def test_of_the_making_of_one(self):
+        before = set(children())
+        # what is cut in a finalizer is told there, and not raised
+        self.addCleanup(setattr, sys, "unraisablehook", sys.unraisablehook)
+        sys.unraisablehook = lambda told: self.assertIs(told.exc_type, Cut)
+        for number in range(0, 100_000, 41):
+            with At(number) as at:
+                Network("hh", 2).close()
+            if at.left >= 0:
+                break
+        gc.collect()
+        wait_until(lambda: set(children()) <= before)
+        self.assertLessEqual(set(children()), before)
+
+
+class RandomTimes(Timed):
+    seconds = 120
+
+    def cut_at_random(self, times, play):
+        """Lets another thread send this one signals, `times` of them, while it plays; answers how many came while it did."""
+        main, drawn = threading.get_ident(), random.Random(7)
+        is_armed, is_done, came = [False], [False], [0]
+
+        def handler(*_):
+            if is_armed[0]:
+                is_armed[0] = False
+                came[0] += 1
+                raise Cut
+
+        def send():
+            for _ in range(times):
+                time.sleep(drawn.random() * 0.0006)
+                signal.pthread_kill(main, signal.SIGUSR1)
+            is_done[0] = True
+
+        before = signal.signal(signal.SIGUSR1, handler)
+        self.addCleanup(signal.signal, signal.SIGUSR1, before)
+        sender = threading.Thread(target=send)
+        sender.start()
+        while not is_done[0]:
+            try:
+                is_armed[0] = True
+                play()
+            except Cut:
+                pass
+            finally:
+                is_armed[0] = False
+        sender.join()
+        return came[0]
+
+    def test_three_thousand_in_a_loop_of_show(self):
+        with Network("hh", 3) as net:
+            net.link(1, 2)
+
+            def play():
+                while True:
+                    shown = net.show(2)
+                    if (shown.node, shown.target) != (2, None):
+                        raise AssertionError(shown)
+
+            came = self.cut_at_random(3000, play)
+            self.assertGreater(came, 2000)
+            self.assertEqual(net.status().edges, 1)
+        audit(net.transcript())
+
+    def test_in_batches(self):
+        with Network("hh", 3000) as net:
+            def play():
+                with net.batch(raises=False) as batch:
+                    for node in range(1, 3000):
+                        batch.link(node, node + 1)
+                    shown = batch.show(7)
+                if shown.result().node != 7:
+                    raise AssertionError(shown.result())
+
+            self.assertGreater(self.cut_at_random(300, play), 200)
+            self.assertEqual(net.status().nodes, 3000)
+        audit(net.transcript())
+
+    def test_by_a_timer(self):
+        drawn = random.Random(3)
+
+        def handler(*_):
+            raise Cut
+
+        self.addCleanup(signal.signal, signal.SIGVTALRM, signal.signal(signal.SIGVTALRM, handler))
+        with Network("manne", 3) as net:
+            cut = 0
+            for _ in range(300):
+                try:
+                    signal.setitimer(signal.ITIMER_VIRTUAL, 1e-4 + drawn.random() * 1e-3)
+                    while True:
+                        net.status()
+                except Cut:
+                    cut += 1
+            self.assertEqual((cut, net.status().nodes), (300, 3))
+
+
+def children():
+    """The processes that this one has started, ended ones that nobody has waited for among them."""
+    with open(f"/proc/self/task/{threading.get_native_id()}/children") as file:
+        return [int(word) for word in file.read().split()]
+
+
+def wait_until(is_so, seconds=5):
+    last = time.monotonic() + seconds
+    while not is_so() and time.monotonic() < last:
+        gc.collect()
+        subprocess._cleanup()
+        time.sleep(0.01)
+
+
+TERMINAL = """
+import sys, rudekpi
+net = rudekpi.Network("hh", 3)
+print("ready", flush=True)
+try:
+    while True: net.status()
+except KeyboardInterrupt:
+    print("cut", flush=True)
+print(net.link(1, 2), flush=True)
+net.close()
+print("closed", net.audit().entries == net.transcript().count(" = "), flush=True)
+"""
+
+
+class Sessions(Timed):
+    def test_an_interrupt_at_a_terminal_does_not_reach_the_program(self):
+        pid, end = pty.fork()
+        if pid == 0:
+            os.execve(sys.executable, [sys.executable, "-c", TERMINAL], dict(os.environ, PYTHONPATH=os.path.join(TOP, "python")))
+        said = b""
+        while b"closed True" not in said:
+            if not select.select([end], [], [], 20)[0]:
+                break
+            try:
+                part = os.read(end, 1000)
+            except OSError:
+                break
+            said += part
+            if b"ready" in part:
+                time.sleep(0.1)
+                os.write(end, b"\x03")
+        os.close(end)
+        os.waitpid(pid, 0)
+        self.assertIn(b"Accepted(entry=", said)
+        self.assertIn(b"closed True", said)
+
+    def test_a_network_that_nobody_closes(self):
+        before = set(children())
+        net = Network("hh", 2)
+        batch = net.batch()
+        batch.link(1, 2)
+        pid = net._session.talk.runs[0].pid
+        self.assertIn(pid, children())
+        del net
+        self.assertIn(pid, children(), "the batch still refers to it")
+        del batch
+        gc.collect()
+        self.assertEqual(set(children()), before)
+
+    def test_one_that_is_dropped_is_ended_at_once(self):
+        before = set(children())
+        net = Network("hh", 2)
+        net.link(1, 2)
+        net.settle(lambda enabled: [min(enabled)])
+        gc.disable()
+        self.addCleanup(gc.enable)
+        del net
+        self.assertEqual(set(children()), before)
+
+    def test_at_the_end_of_the_process(self):
+        uses = "import rudekpi; net = rudekpi.Network('hh', 2); net.link(1, 2); print(net._session.talk.runs[0].pid)"
+        words = [sys.executable, "-X", "dev", "-W", "error", "-c", uses]
+        done = subprocess.run(words, env=dict(os.environ, PYTHONPATH=os.path.join(TOP, "python")), capture_output=True, text=True)
+        self.assertEqual((done.returncode, done.stderr), (0, ""))
+        self.assertFalse(os.path.exists(f"/proc/{int(done.stdout)}"))
+
+    def test_a_child_of_this_process_holds_no_pipe(self):
+        with Network("hh", 2) as net:
+            go, come = os.pipe()
+            child = os.fork()
+            if child == 0:
+                try:
+                    net.status()
+                    told = b"answered"
+                except Ended as ended:
+                    told = ended.last_line.encode()
+                os.write(come, told)
+                time.sleep(30)
+                os._exit(0)
+            self.addCleanup(os.waitpid, child, 0)
+            self.addCleanup(os.kill, child, signal.SIGKILL)
+            self.assertIn(b"belongs to another process", os.read(go, 200))
+            self.assertEqual(net.link(1, 2).entry, 1)
+        self.assertEqual(net._session.talk.ended.status, 0, "it saw where its script ends, while the child is there")
+        os.close(go)
+        os.close(come)
+
+
+if __name__ == "__main__":
+    unittest.main()
