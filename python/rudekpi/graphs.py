@@ -152,6 +152,8 @@ def simple(title: str, nodes: Iterable[Name], edges: Iterable[tuple[Name, Name]]
     order = {node: place for place, node in enumerate(dict.fromkeys(nodes))}
     if any(len(edge) != 2 for edge in once):
         raise ValueError(f"{title}: an edge joins a node with itself")
+    if any(node not in order for edge in once for node in edge):
+        raise ValueError(f"{title}: an edge names a node that is not there")
     return Graph(title, tuple(order), tuple((*sorted(edge, key=order.__getitem__),) for edge in once))  # type: ignore[misc]
 
 

@@ -1,0 +1,151 @@
+"""Sweeps: rows that transcripts stand behind, in any executor; workers that die, interrupts, tables."""
+
+import collections
+import concurrent.futures
+import io
+import os
+import signal
+import unittest
+
+from rudekpi import Network, WrongChoice, audits, daemons, graphs, sweeps
+from rudekpi.sweeps import Disturbance, sweep
+from support import Timed
+
+try:
+    import pandas
+except ImportError:
+    pandas = None
+
+RING = graphs.ring(12)
+
+
+def without_time(rows):
+    return sorted(str(vars(row) | {"seconds": 0}) for row in rows)
+
+
+def greatest(enabled):
+    """A daemon of the caller's own."""
+    return [max(enabled)]
+
+
+def wrong(enabled):
+    return []
+
+
+def dies_once(enabled):
+    """Kills its process the first time that it is asked, as the file that it leaves tells."""
+    try:
+        os.close(os.open(os.environ["RUDEKPI_TEST_DEATH"], os.O_CREAT | os.O_EXCL))
+    except FileExistsError:
+        return [min(enabled)]
+    os.kill(os.getpid(), signal.SIGKILL)
+
+
+def dies(enabled):
+    os.kill(os.getpid(), signal.SIGKILL)
+
+
+class Rows(Timed):
+    def test_of_all_that_is_asked(self):
+        hits = [0, Disturbance(20), Disturbance(9, "pointer"), Disturbance(9, "flag", joins=2, leaves=3)]
+        made = list(sweep([RING, graphs.grid(3, 3)], ["manne"], ["seeded", "synchronous", "greedy"], range(2), hits))
+        self.assertEqual(len(made), 2 * 3 * 2 * 4)
+        self.assertEqual(len({(row.graph, row.daemon, row.seed, row.disturbance) for row in made}), 48)
+        for row in made:
+            with self.subTest(row=row):
+                self.assertTrue(0 <= row.moves <= row.charge <= row.bound == 2 * row.m + 3 * row.n)
+                self.assertTrue(row.steps <= row.moves and row.seconds > 0 and row.rules == "manne")
+                gone = 3 if "leaves" in row.disturbance else 0
+                self.assertEqual(row.n, (12 if row.graph == "ring:12" else 9) - gone)
+                self.assertGreater(3 * row.pairs + 2 + gone, row.n // 2)
+        start = [row for row in made if row.disturbance == "start" and row.graph == "ring:12"]
+        self.assertTrue(all(row.m == 12 and row.moves >= 12 for row in start))
+        self.assertEqual({row.disturbance for row in made}, {"start", "20 faults", "9 faults of pointers", "9 faults of flags, 2 joins, 3 leaves"})
+
+    def test_as_a_network_of_ones_own(self):
+        [row] = sweep([RING], ["hh"], ["least"], [3])
+        with Network("hh", 12) as net:
+            with net.batch() as batch:
+                for a, b in RING.edges:
+                    batch.link(a, b)
+            settled = net.settle(daemons.ByName())
+            self.assertEqual((row.steps, row.moves, row.charge, row.pairs), (settled.steps, settled.moves, settled.charge, len(net.matching())))
+            self.assertEqual(row.bound, audits.epochs(net.transcript())[-1].bound)
+
+    def test_the_same_in_every_executor(self):
+        words = ([RING, graphs.star(5)], ["hh", "manne"], ["seeded", "least", "synchronous", greatest], range(4), [0, 7])
+        wanted = without_time(sweep(*words))
+        self.assertEqual(len(wanted), 2 * 4 * 2 * (3 + 4), "no synchronous daemon under hh")
+        with concurrent.futures.ThreadPoolExecutor(3) as executor:
+            self.assertEqual(without_time(sweep(*words, executor=executor)), wanted)
+        with concurrent.futures.ProcessPoolExecutor(2) as executor:
+            self.assertEqual(without_time(sweep(*words, executor=executor)), wanted)
+
+    def test_of_nothing(self):
+        self.assertEqual(list(sweep([])), [])
+        [row] = sweep([graphs.path(0)], faults=[5])
+        self.assertEqual((row.n, row.m, row.moves, row.bound), (0, 0, 0, 0))
+        for words in [dict(faults=-1), dict(registers="x"), dict(joins=-1)]:
+            self.assertRaises(ValueError, Disturbance, **words)
+
+    def test_errors_of_an_experiment_are_raised(self):
+        self.assertRaises(WrongChoice, list, sweep([RING], ["hh"], [wrong]))
+        self.assertRaises(ValueError, list, sweep([RING], ["hh"], ["fair"]))
+        self.assertRaises(ValueError, list, sweep([RING], ["x"]))
+        self.assertRaises(FileNotFoundError, list, sweep([RING], program="/no/such/program"))
+
+    def test_csv(self):
+        made = list(sweep([RING], ["hh", "manne"], ["seeded"], range(3)))
+        file = io.StringIO()
+        self.assertEqual(list(sweeps.write_csv(made, file)), made)
+        self.assertEqual(file.getvalue().splitlines()[0], "graph,rules,n,m,daemon,seed,disturbance,steps,moves,charge,bound,pairs,seconds")
+        file.seek(0)
+        self.assertEqual(sweeps.read_csv(file), made)
+        self.assertRaises(ValueError, sweeps.read_csv, io.StringIO("a,b\n1,2\n"))
+
+    @unittest.skipUnless(pandas, "no pandas")
+    def test_frames(self):
+        made = list(sweep([RING], ["hh"], ["seeded"], range(3)))
+        frame = sweeps.frame_of(made)
+        self.assertEqual(list(frame.columns), list(sweeps.COLUMNS))
+        self.assertEqual(list(frame["moves"]), [row.moves for row in made])
+
+
+class Workers(Timed):
+    def test_one_that_dies_costs_its_task_which_is_tried_again(self):
+        os.environ["RUDEKPI_TEST_DEATH"] = os.path.join(self.folder(), "died")
+        self.addCleanup(os.environ.pop, "RUDEKPI_TEST_DEATH")
+        made = list(sweep([RING], ["hh"], ["seeded", dies_once], range(12)))
+        self.assertTrue(os.path.exists(os.environ["RUDEKPI_TEST_DEATH"]))
+        self.assertEqual(collections.Counter(row.daemon for row in made), {"seeded": 12, "dies_once": 12})
+
+    def test_a_task_of_which_the_workers_die_twice_is_lost_alone(self):
+        made = []
+        with self.assertRaisesRegex(sweeps.Lost, "1 experiments are lost.*dies seed 0") as caught:
+            for row in sweep([RING], ["hh"], [dies, "seeded", "least"], range(1)):
+                made.append(row)
+        self.assertEqual(sorted(row.daemon for row in made), ["least", "seeded"])
+        self.assertEqual(len(caught.exception.experiments), 1)
+
+    def test_an_interrupt_leaves_the_rows_so_far(self):
+        made = []
+        with self.assertRaises(KeyboardInterrupt):
+            for row in sweep([graphs.grid(10, 10)], ["manne"], ["least"], range(500)):
+                made.append(row)
+                if len(made) == 5:
+                    signal.raise_signal(signal.SIGINT)
+        self.assertGreaterEqual(len(made), 5)
+        self.assertLess(len(made), 500)
+
+    def test_tasks_take_about_a_second(self):
+        handing = sweeps.Handing([], None)
+        self.addCleanup(handing.executor.shutdown)
+        self.assertEqual(handing.size(), 1)
+        handing.count, handing.seconds = 100, 2.0
+        self.assertEqual(handing.size(), 50)
+        handing.count, handing.seconds = 3, 20.0
+        self.assertEqual(handing.size(), 1)
+
+
+if __name__ == "__main__":
+    unittest.main()
