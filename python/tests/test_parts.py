@@ -1,0 +1,102 @@
+"""Transcripts that are audited in parts: the verdicts are those of the whole, of right and of damaged ones."""
+
+import concurrent.futures
+import pathlib
+import random
+import unittest
+
+from rudekpi import Damaged, Network, audit, parts
+from rudekpi.parts import audit_parts
+from support import Timed
+
+
+def transcript(seed, turns=12, nodes=12):
+    """A run with a base behind each of some turns."""
+    drawn = random.Random(seed)
+    with Network(drawn.choice(["hh", "manne"]), nodes, present=nodes - 2) as net:
+        with net.batch(raises=False) as batch:
+            for _ in range(turns):
+                for _ in range(8):
+                    batch.link(*drawn.sample(range(1, nodes + 1), 2))
+                batch.join(drawn.randint(1, nodes))
+                batch.drive(seed, 12)
+                batch.scramble(seed, 4)
+                batch.checkpoint()
+        return net.transcript()
+
+
+def verdict(judge, *words, **more):
+    try:
+        return judge(*words, **more)
+    except Damaged as damaged:
+        return damaged.line, damaged.why
+
+
+class Parts(Timed):
+    seconds = 120
+
+    def test_they_meet_at_bases(self):
+        text = transcript(1).encode()
+        found = list(parts.parts_of(text, 300))
+        self.assertGreater(len(found), 5)
+        self.assertEqual((found[0][0], found[-1][1]), (0, len(text)))
+        for (start, end), (following, _) in zip(found, found[1:]):
+            self.assertTrue(start < following < end)
+            shared = text[following:end].decode().splitlines()
+            self.assertTrue(shared[0].startswith("matching2 ") and shared[1].startswith("base "))
+            numbers = dict(word.split("=") for word in shared[1].split(" ")[2:])
+            self.assertEqual(len(shared), 2 + int(numbers["nodes"]) + int(numbers["edges"]))
+
+    def test_right_ones(self):
+        for seed in range(5):
+            text = transcript(seed)
+            bases = [at for at in range(len(text)) if text.startswith("matching2 ", at)]
+            for whole in (text, text[bases[0] :], text[bases[5] :], text[: bases[3]]):
+                with self.subTest(seed=seed, length=len(whole)):
+                    self.assertEqual(audit_parts(whole, size=200), audit(whole))
+        for whole in ("matching hh 3\n", "matching hh 0\nmatching2 hh 0\nbase 0 spent=0 nodes=0 edges=0\n"):
+            self.assertEqual(audit_parts(whole, size=0), audit(whole))
+
+    def test_damaged_ones(self):
+        drawn, whys = random.Random(5), set()
+        text = transcript(3)
+        lines = text.splitlines(keepends=True)
+        bases = [at for at, line in enumerate(lines) if line.startswith("base ")]
+        for turn in range(120):
+            held = list(lines)
+            at = drawn.choice(bases) + drawn.randint(-1, 3) if turn % 2 else drawn.randrange(len(held))
+            change = drawn.randrange(4)
+            if change == 0:
+                del held[at]
+            elif change == 1:
+                held.insert(at, held[at])
+            elif change == 2:
+                place = drawn.randrange(len(held[at]))
+                held[at] = held[at][:place] + drawn.choice("0123456789 =-\n") + held[at][place + 1 :]
+            else:
+                held = [*held[:at], held[at][: drawn.randrange(len(held[at]))]]
+            damaged = "".join(held)
+            with self.subTest(turn=turn, line=at + 1, change=change):
+                wanted = verdict(audit, damaged)
+                whys.add(wanted[1] if isinstance(wanted, tuple) else "")
+                self.assertEqual(verdict(audit_parts, damaged, size=100), wanted)
+        self.assertGreaterEqual(whys, {"bad base", "not a transcript line", "out of order", "not the machine's reply"})
+
+    def test_of_files_and_in_processes(self):
+        text = transcript(2)
+        path = pathlib.Path(self.folder(), "transcript")
+        path.write_text(text)
+        self.assertEqual(audit_parts(path, size=500), audit(text))
+        with concurrent.futures.ProcessPoolExecutor(2) as executor:
+            self.assertEqual(audit_parts(text.encode(), executor, size=500), audit(text))
+            with self.assertRaises(Damaged):
+                audit_parts(text[:-1], executor, size=500)
+        for wrong in ("", "x", "matching2 hh 3\nbase 0 spent=0 nodes=1 edges=0\n"):
+            path.write_text(wrong)
+            self.assertEqual(verdict(audit_parts, path), verdict(audit, wrong))
+            self.assertEqual(verdict(audit_parts, wrong), verdict(audit, wrong))
+        self.assertRaises(FileNotFoundError, audit_parts, pathlib.Path("/no/such/transcript"))
+
+
+if __name__ == "__main__":
+    unittest.main()
