@@ -1,0 +1,229 @@
+"""The longest schedules there are: the most moves that a daemon can draw out of a network, from any state.
+
+In a small network every state and every choice is looked at, targets among them: since each move lowers the charge, no state comes
+twice, and the longest schedule from a state is that from the best of the next ones. In a larger one it is the best that a search has
+found, and so is told.
+"""
+
+from __future__ import annotations
+
+import itertools
+import random
+import time
+from dataclasses import dataclass
+from typing import Callable, Iterator, Sequence
+
+from . import rules as rule_sets
+from .audits import epochs
+from .graphs import Graph
+from .network import Network
+from .program import Program
+from .replies import Name, Wish
+from .state import State
+
+# how many states a network has at most in which all are looked at
+MOST_STATES = 400_000
+
+
+@dataclass(frozen=True)
+class Longest:
+    """A schedule: the registers at its start, and who moves in each step. `is_proved` where all states and choices were looked at, so
+    that there is no longer one; else it is the best that was found."""
+    graph: Graph
+    rules: str
+    moves: int
+    bound: int
+    is_proved: bool
+    states: int
+    pointers: tuple[tuple[Name, Name], ...]
+    flags: tuple[Name, ...]
+    steps: tuple[tuple[Wish, ...], ...]
+
+    def script(self) -> str:
+        """The schedule as a script: the edges, the faults that lead to its start, its steps and two questions."""
+        number = {node: place for place, node in enumerate(self.graph.nodes, 1)}
+        lines = [f"link {number[a]} {number[b]}" for a, b in self.graph.edges]
+        lines += [f"point {number[a]} {number[b]}" for a, b in self.pointers] + [f"flag {number[node]} 1" for node in self.flags]
+        items = [[f"{number[it.node]}>{number[it.target]}" if it.target is not None else f"{number[it.node]}" for it in step] for step in self.steps]
+        return "".join(f"{line}\n" for line in [*lines, "status", *(" ".join(["step", *step]) for step in items), "enabled", "status"])
+
+    def play(self, *, program: Program = None) -> str:
+        """The transcript of the script, which `audit` accepts and whose last epoch has the moves; raises what went wrong."""
+        with Network(self.rules, len(self.graph.nodes), program=program) as net:
+            transcript = net._played(self.script().splitlines())
+        played = epochs(transcript, program=program)[-1].moves
+        if played != self.moves:
+            raise AssertionError(f"{self.graph.title}: {played} moves are played, and {self.moves} foretold")
+        return transcript
+
+
+class Search:
+    """All states of a small network by numbers: a digit for each node, its pointer's place among its neighbours and, under `manne`,
+    its flag. A move changes the digit of its node alone, so the moves of a step add up."""
+
+    def __init__(self, graph: Graph, rules: str) -> None:
+        number = {node: place for place, node in enumerate(graph.nodes, 1)}
+        self.graph, self.rules = graph, rules
+        self.state = State(rules, len(number), range(1, len(number) + 1))
+        for a, b in graph.edges:
+            self.state.link(number[a], number[b])
+        # null first
+        self.pointers = {node: [0, *sorted(near)] for node, near in self.state.neighbours.items()}
+        self.flags = 2 if rules == "manne" else 1
+        self.weights: dict[int, int] = {}
+        self.size = 1
+        for node, places in self.pointers.items():
+            self.weights[node] = self.size
+            self.size *= len(places) * self.flags
+        self.best: bytearray = bytearray()
+
+    def digit(self, node: int, pointer: int, flag: bool) -> int:
+        return (self.pointers[node].index(pointer) * self.flags + flag) * self.weights[node]
+
+    def set_to(self, code: int) -> None:
+        """Makes the state that of a number."""
+        for node, places in self.pointers.items():
+            code, digit = divmod(code, len(places) * self.flags)
+            self.state.point(node, places[digit // self.flags])
+            self.state.flag(node, digit % self.flags)
+
+    def moves_at(self, code: int) -> list[list[tuple[int, int, str, int]]]:
+        """For each enabled node its moves: what the number of the state changes by, the node, its rule and its target or 0."""
+        self.set_to(code)
+        state, found = self.state, []
+        for node, rule in rule_sets.enabled(state).items():
+            pointer, flag = state.pointers.get(node, 0), node in state.flags
+            before, moves = self.digit(node, pointer, flag), []
+            for target in rule_sets.targets(state, node, rule) or [0]:
+                after = self.digit(node, pointer, not flag) if rule == "update" else self.digit(node, target, flag)
+                moves.append((after - before, node, rule, target))
+            found.append(moves)
+        return found
+
+    def steps_at(self, code: int) -> Iterator[tuple[tuple[int, int, str, int], ...]]:
+        """The steps that a daemon may take: one move under `hh`; under `manne` those of any of the enabled nodes, one at least."""
+        moves = self.moves_at(code)
+        if self.rules == "hh":
+            return ((move,) for of_node in moves for move in of_node)
+        most = len(moves)
+        sets = (chosen for count in range(1, most + 1) for chosen in itertools.combinations(moves, count))
+        return (step for chosen in sets for step in itertools.product(*chosen))
+
+    def nexts_of(self, code: int) -> list[tuple[int, int]]:
+        """The states that one step leads to, each with the step's moves."""
+        moves = self.moves_at(code)
+        if self.rules == "hh":
+            return [(code + move[0], 1) for of_node in moves for move in of_node]
+        sums = [(code, 0)]
+        for of_node in moves:
+            sums += [(after + move[0], count + 1) for after, count in sums for move in of_node]
+        return sums[1:]
+
+    def run(self) -> tuple[int, int]:
+        """Looks at all states; the most moves, and the number of a state from which there are so many."""
+        unknown = 255
+        best = self.best = bytearray([unknown]) * self.size
+        for start in range(self.size):
+            waiting = [(start, self.nexts_of(start))] if best[start] == unknown else []
+            while waiting:
+                code, nexts = waiting[-1]
+                ahead = next((after for after, _ in nexts if best[after] == unknown), None)
+                if ahead is None:
+                    best[code] = max((count + best[after] for after, count in nexts), default=0)
+                    waiting.pop()
+                else:
+                    waiting.append((ahead, self.nexts_of(ahead)))
+        most = max(best)
+        return most, best.index(most)
+
+    def schedule(self, code: int) -> Iterator[tuple[tuple[int, int, str, int], ...]]:
+        """The steps of a longest schedule from a state."""
+        while self.best[code]:
+            step = max(self.steps_at(code), key=lambda step: (len(step) + self.best[code + sum(move[0] for move in step)], -len(step)))
+            yield step
+            code += sum(move[0] for move in step)
+
+
+def longest(graph: Graph, rules: str, *, seconds: float = 10.0, seed: int = 0) -> Longest:
+    """The longest schedule of a network under `hh` or `manne`: of all, where it has at most 400,000 states, which takes some 50
+    microseconds a state; else the best that a search with this seed finds in so many seconds."""
+    if rules not in rule_sets.WEIGHTS:
+        raise ValueError(f"rules are 'hh' or 'manne', and not {rules!r}")
+    search = Search(graph, rules)
+    if search.size > MOST_STATES:
+        return best_found(search, seconds, random.Random(seed))
+    moves, start = search.run()
+    steps = [[move[1:] for move in step] for step in search.schedule(start)]
+    search.set_to(start)
+    return told(search, moves, True, search.size, steps)
+
+
+def told(search: Search, moves: int, is_proved: bool, states: int, steps: Sequence[Sequence[tuple[int, str, int]]]) -> Longest:
+    """A schedule from the state of the search, by the graph's names."""
+    graph, state = search.graph, search.state
+    name: Callable[[int], Name] = lambda number: graph.nodes[number - 1]
+    pointers = tuple((name(node), name(target)) for node, target in sorted(state.pointers.items()))
+    played = tuple(tuple(Wish(name(node), name(target) if target else None) for node, _, target in sorted(step)) for step in steps)
+    bound = rule_sets.bound(search.rules, len(graph.edges), len(graph.nodes))
+    flags = tuple(name(node) for node in sorted(state.flags))
+    return Longest(graph, search.rules, moves, bound, is_proved, states, pointers, flags, played)
+
+
+def best_found(search: Search, seconds: float, drawn: random.Random) -> Longest:
+    """The best of greedy schedules from states by chance, until the time is over; one at least."""
+    last, tried = time.monotonic() + seconds, 0
+    best: list[tuple[int, str, int]] = []
+    best_start = 0
+    while not tried or time.monotonic() < last:
+        start = drawn.randrange(search.size)
+        steps = greedy_from(search, start, drawn)
+        tried += 1
+        if len(steps) > len(best):
+            best, best_start = steps, start
+    search.set_to(best_start)
+    return told(search, len(best), False, tried, [[move] for move in best])
+
+
+def greedy_from(search: Search, code: int, drawn: random.Random) -> list[tuple[int, str, int]]:
+    """The moves from a state of which each lets the charge fall least; by chance where several do."""
+    steps: list[tuple[int, str, int]] = []
+    while True:
+        moves = [move for of_node in search.moves_at(code) for move in of_node]
+        if not moves:
+            return steps
+        change, node, rule, target = min(moves, key=lambda move: (rule_sets.fall(search.state, *move[1:]), drawn.random()))
+        steps.append((node, rule, target))
+        code += change
+
+
+def connected_graphs(n: int) -> Iterator[Graph]:
+    """Each connected graph of so many nodes once, up to the names of its nodes."""
+    pairs = list(itertools.combinations(range(1, n + 1), 2))
+    place = {pair: at for at, pair in enumerate(pairs)}
+    renamings = [[place[tuple(sorted((new[a - 1], new[b - 1])))] for a, b in pairs] for new in itertools.permutations(range(1, n + 1))]  # type: ignore[index]
+    seen = bytearray(1 << len(pairs))
+    for mask in range(1 << len(pairs)):
+        if seen[mask]:
+            continue
+        held = [at for at in range(len(pairs)) if mask >> at & 1]
+        for renaming in renamings:
+            seen[sum(1 << renaming[at] for at in held)] = 1
+        if is_connected(n, [pairs[at] for at in held]):
+            yield Graph(f"{n} nodes: " + " ".join(f"{a}-{b}" for a, b in (pairs[at] for at in held)), tuple(range(1, n + 1)), tuple(pairs[at] for at in held))
+
+
+def is_connected(n: int, edges: Sequence[tuple[int, int]]) -> bool:
+    reached = {1}
+    for _ in range(n):
+        reached |= {b for edge in edges for a, b in (edge, edge[::-1]) if a in reached}
+    return len(reached) == n
+
+
+def renamed(graph: Graph) -> Iterator[Graph]:
+    """A graph of the nodes 1 to n with its nodes' numbers in every order that makes another graph: under `manne` they matter."""
+    seen = set()
+    for new in itertools.permutations(graph.nodes):
+        edges = tuple(sorted((min(new[a - 1], new[b - 1]), max(new[a - 1], new[b - 1])) for a, b in graph.edges))
+        if edges not in seen:
+            seen.add(edges)
+            yield Graph(graph.title.partition(":")[0] + ": " + " ".join(f"{a}-{b}" for a, b in edges), graph.nodes, edges)

@@ -1,0 +1,106 @@
+"""The longest schedules: of small networks looked at by another search beside, and played."""
+
+import itertools
+import unittest
+
+from rudekpi import audit, epochs, graphs
+from rudekpi.longest import connected_graphs, longest, renamed
+from support import Timed
+
+
+def allowed(rules, near, pointers, flags, node):
+    """The moves of a node, written from the tables of the rules: what its pointer and flag become."""
+    def suits(other):
+        return pointers[other] == node
+    married = pointers[node] is not None and pointers[pointers[node]] == node
+    if rules == "manne" and flags[node] != married:
+        return [(pointers[node], married)]
+    if pointers[node] is None:
+        suitors = [other for other in near[node] if suits(other)]
+        if suitors:
+            return [(other, flags[node]) for other in suitors]
+        if rules == "hh":
+            return [(other, flags[node]) for other in near[node] if pointers[other] is None]
+        open_ones = [other for other in near[node] if pointers[other] is None and not flags[other] and other > node]
+        return [(max(open_ones), flags[node])] if open_ones else []
+    other = pointers[node]
+    if rules == "hh":
+        leaves = pointers[other] is not None and pointers[other] != node
+    else:
+        leaves = pointers[other] != node and (flags[other] or other < node)
+    return [(None, flags[node])] if leaves else []
+
+
+def longest_by_recursion(graph, rules):
+    """The most moves from any state, each choice tried, one after another and without the package."""
+    near = {node: sorted(b if a == node else a for a, b in graph.edges if node in (a, b)) for node in graph.nodes}
+    known = {}
+
+    def most(state):
+        if state not in known:
+            pointers = {node: held[0] for node, held in zip(graph.nodes, state)}
+            flags = {node: held[1] for node, held in zip(graph.nodes, state)}
+            stays = [[held, *allowed(rules, near, pointers, flags, node)] for node, held in zip(graph.nodes, state)]
+            steps = (after for after in itertools.product(*stays) if after != state)
+            counts = ((after, sum(one != other for one, other in zip(state, after))) for after in steps)
+            known[state] = max((count + most(after) for after, count in counts if rules == "manne" or count == 1), default=0)
+        return known[state]
+
+    places = [[(pointer, flag) for pointer in (None, *near[node]) for flag in ((False, True) if rules == "manne" else (False,))] for node in graph.nodes]
+    return max(map(most, itertools.product(*places)))
+
+
+class Longest(Timed):
+    seconds = 120
+
+    def test_as_another_search_finds_them(self):
+        for n in (1, 2, 3, 4):
+            for graph in connected_graphs(n):
+                with self.subTest(graph.title):
+                    self.assertEqual(longest(graph, "hh").moves, longest_by_recursion(graph, "hh"))
+        for graph in [graphs.path(2), graphs.path(3), graphs.complete(3), graphs.star(4), graphs.ring(4)]:
+            with self.subTest(graph.title):
+                self.assertEqual(longest(graph, "manne").moves, longest_by_recursion(graph, "manne"))
+
+    def test_they_are_played_and_accepted(self):
+        for graph in [graphs.path(1), graphs.path(4), graphs.ring(4), graphs.star(4), graphs.complete(3), graphs.ring(5)]:
+            for rules in ("hh", "manne"):
+                found = longest(graph, rules)
+                with self.subTest(graph=graph.title, rules=rules):
+                    said = found.play()
+                    audit(said)
+                    last = epochs(said)[-1]
+                    self.assertEqual((last.moves, last.bound), (found.moves, found.bound))
+                    self.assertIn("\n%d enabled = none\n" % (said.count(" = ") - 1), said)
+                    self.assertTrue(found.is_proved)
+                    self.assertEqual(sum(map(len, found.steps)), found.moves)
+
+    def test_a_ring_of_four_reaches_its_bound(self):
+        found = max((longest(graph, "manne") for graph in renamed(graphs.ring(4))), key=lambda it: it.moves)
+        self.assertEqual((found.moves, found.bound), (2 * 4 + 3 * 4, 20))
+        self.assertEqual(epochs(found.play())[-1].moves, 20)
+
+    def test_how_many_graphs_there_are(self):
+        # the numbers of connected graphs of n nodes, and of such with numbered nodes: A001349 and A001187 of the OEIS
+        self.assertEqual([len(list(connected_graphs(n))) for n in range(1, 6)], [1, 1, 2, 6, 21])
+        self.assertEqual([sum(len(list(renamed(graph))) for graph in connected_graphs(n)) for n in range(1, 6)], [1, 1, 4, 38, 728])
+
+    def test_the_best_that_is_found(self):
+        graph = graphs.ring(30)
+        found = longest(graph, "hh", seconds=0.5, seed=3)
+        self.assertFalse(found.is_proved)
+        self.assertTrue(20 < found.moves <= found.bound)
+        self.assertEqual(epochs(found.play())[-1].moves, found.moves)
+        again = longest(graph, "manne", seconds=0)
+        self.assertEqual((again.states, again), (1, longest(graph, "manne", seconds=0)))
+        self.assertEqual(epochs(again.play())[-1].moves, again.moves)
+        self.assertRaises(ValueError, longest, graph, "x")
+
+    def test_by_the_callers_names(self):
+        found = longest(graphs.Graph("mine", ("bob", "ann", "cleo"), (("cleo", "ann"), ("bob", "ann"))), "hh")
+        self.assertEqual(found.moves, 4)
+        self.assertEqual(epochs(found.play())[-1].moves, 4)
+
+
+if __name__ == "__main__":
+    unittest.main()
