@@ -7,33 +7,48 @@ import subprocess
 import sys
 from typing import Optional, Sequence
 
-from .errors import Ended
+from .errors import Ended, RudekpiError
 from .program import found_program
 
-# the bench's commands, by the module that has the function of that name
-COMMANDS: dict[str, str] = {}
+COMMANDS = ("sweep", "compare", "worst", "check", "shell", "json")
 HELP = """\
 usage: rudekpi COMMAND ..
 
-The program's commands: run, audit, picture, epochs, storm; `rudekpi COMMAND --help` tells of each.
+Of the bench:        sweep, compare, worst, check, shell, json
+Of the program:      run, audit, picture, epochs, storm, --help, --version
+
+`rudekpi COMMAND --help` tells of each.
 """
-BAD_WORDS, NO_PROGRAM = 2, 3
+FAILED, BAD_WORDS, NO_PROGRAM, INTERRUPTED = 1, 2, 3, 130
 
 
 def handed_on(words: Sequence[str]) -> int:
     """Becomes the program, with these words; or waits for it where nothing can become another program."""
+    program = found_program()
+    if os.name == "posix":
+        sys.stdout.flush()
+        try:
+            os.execvp(program, [program, *words])
+        except OSError as error:
+            raise OSError(error.errno, error.strerror, program) from None
+    return subprocess.run([program, *words]).returncode
+
+
+def told(words: Sequence[str]) -> int:
+    """Does what the words of the bench say."""
+    from . import commands
     try:
-        program = found_program()
-        if os.name == "posix":
-            sys.stdout.flush()
-            os.execv(program, [program, *words])
-        return subprocess.run([program, *words]).returncode
-    except OSError as error:
-        print(f"! {error}", file=sys.stderr)
+        return commands.run(words)
+    except BrokenPipeError:
+        # whoever reads has gone, as `head` does; the rest is written nowhere
+        os.dup2(os.open(os.devnull, os.O_WRONLY), sys.stdout.fileno())
         return NO_PROGRAM
-    except Ended as error:
+    except (RudekpiError, ValueError, ImportError) as error:
         print(f"! {error}", file=sys.stderr)
-        return NO_PROGRAM
+        return BAD_WORDS if isinstance(error, ValueError) else FAILED
+    except KeyboardInterrupt:
+        print("! cut short", file=sys.stderr)
+        return INTERRUPTED
 
 
 def main(words: Optional[Sequence[str]] = None) -> int:
@@ -42,7 +57,11 @@ def main(words: Optional[Sequence[str]] = None) -> int:
     if not words:
         print(HELP, end="", file=sys.stderr)
         return BAD_WORDS
-    return handed_on(words)
+    try:
+        return told(words) if words[0] in COMMANDS else handed_on(words)
+    except (OSError, Ended) as error:
+        print(f"! {error}", file=sys.stderr)
+        return NO_PROGRAM
 
 
 if __name__ == "__main__":

@@ -1,0 +1,206 @@
+"""The bench's commands: `python3 -m rudekpi sweep`, `compare`, `worst`, `check`, `shell` and `json`."""
+
+from __future__ import annotations
+
+import argparse
+import contextlib
+import statistics
+import sys
+from concurrent.futures import ProcessPoolExecutor
+from typing import Any, Iterable, Iterator, Optional, Sequence
+
+from . import daemons, json_lines, script_words, shell, sweeps
+from .audits import audit
+from .errors import Damaged
+from .graphs import Graph, graph_of
+from .longest import longest
+from .network import Network
+from .progress import shown
+from .sweeps import Disturbance, Row
+
+DONE, FAILED, BAD_WORDS, INTERRUPTED = 0, 1, 2, 130
+MADE = "a file (edge list, .col, .metis, .graphml, .json), or path:N ring:N star:N complete:N grid:RxC gnp:N,P,SEED regular:N,D,SEED disk:N,R,SEED"
+
+
+def opened(path: Optional[str], mode: str, otherwise: Any = None) -> Any:
+    """A file to be used in a `with`, or what is used where no path, or `-`, is given."""
+    return open(path, mode, newline="" if mode == "w" else None) if path not in (None, "-") else contextlib.nullcontext(otherwise)  # type: ignore[arg-type]
+
+
+def listed(text: str) -> list[str]:
+    return [word for word in text.split(",") if word]
+
+
+def graph_given(text: str) -> Graph:
+    try:
+        return graph_of(text)
+    except (OSError, ValueError, ImportError) as error:
+        raise argparse.ArgumentTypeError(str(error)) from None
+
+
+def words_of_sweep(parser: argparse.ArgumentParser, rules: str) -> None:
+    """What `sweep` and `compare` are told."""
+    parser.add_argument("--graph", action="append", required=True, type=graph_given, help=f"{MADE}; may be given again")
+    parser.add_argument("--rules", type=listed, default=rules, help="hh,manne or one of them (%(default)s)")
+    parser.add_argument("--daemon", type=listed, default="seeded", help=f"some of {','.join(daemons.WORDS)} (%(default)s)")
+    parser.add_argument("--seeds", type=int, default=10, help="how many seeds (%(default)s)")
+    parser.add_argument("--first-seed", type=int, default=0)
+    parser.add_argument("--faults", type=listed, default="0", help="numbers of faults; 0: from the start (%(default)s)")
+    parser.add_argument("--registers", choices=sweeps.REGISTERS, default="any", help="which registers faults hit")
+    parser.add_argument("--joins", type=int, default=0)
+    parser.add_argument("--leaves", type=int, default=0)
+    parser.add_argument("--csv", help="a file for the rows, each as it comes (standard output)")
+    parser.add_argument("--plot", help="a file for a plot: .svg, .png or .pdf; wants matplotlib")
+    parser.add_argument("--processes", type=int, help="how many (one a processor)")
+    parser.add_argument("--dask", metavar="tcp://HOST:PORT", help="a scheduler of Dask, whose workers then play; wants distributed")
+    parser.add_argument("--program", help="the program that plays")
+
+
+@contextlib.contextmanager
+def executor_of(given: argparse.Namespace) -> Iterator[Any]:
+    """What plays: a cluster, so many processes, or whatever is the default."""
+    if given.dask:
+        try:
+            import distributed
+        except ImportError:
+            raise ImportError("--dask wants distributed, which is not there") from None
+        with distributed.Client(given.dask) as client:  # type: ignore[no-untyped-call]
+            yield client.get_executor()
+    elif given.processes:
+        with ProcessPoolExecutor(given.processes, initializer=sweeps.ignore_interrupts) as pool:
+            yield pool
+    else:
+        yield None
+
+
+def rows_of(given: argparse.Namespace, rows: list[Row], file: Any) -> int:
+    """Plays a sweep, and adds its rows as they come; returns the exit status."""
+    seeds = range(given.first_seed, given.first_seed + given.seeds)
+    hits = [Disturbance(int(count), given.registers, given.joins, given.leaves) for count in given.faults]
+    words = (given.graph, given.rules, given.daemon, seeds, hits)
+    total = len(sweeps.experiments_of(*words))
+    with executor_of(given) as executor:
+        found = sweeps.sweep(*words, executor=executor, program=given.program)
+        written: Iterable[Row] = sweeps.write_csv(found, file) if file else found
+        try:
+            rows.extend(shown(written, total))
+        except KeyboardInterrupt:
+            print(f"! cut short: {len(rows)} of {total} rows are there", file=sys.stderr)
+            return INTERRUPTED
+    return DONE
+
+
+def run_sweep(given: argparse.Namespace) -> int:
+    rows: list[Row] = []
+    with opened(given.csv, "w", sys.stdout) as file:
+        status = rows_of(given, rows, file)
+    plot_rows(given, rows)
+    return status
+
+
+def plot_rows(given: argparse.Namespace, rows: list[Row]) -> None:
+    if given.plot and rows:
+        from . import plots
+        plots.of_rows(rows, given.plot)
+
+
+def run_compare(given: argparse.Namespace) -> int:
+    rows: list[Row] = []
+    with opened(given.csv, "w") as file:
+        status = rows_of(given, rows, file)
+    print("\n".join(table_of(rows)))
+    plot_rows(given, rows)
+    return status
+
+
+def table_of(rows: Sequence[Row]) -> list[str]:
+    """The moves of each graph, daemon and disturbance under both rule sets, beside the bound, as the lines of a table."""
+    groups: dict[tuple[str, ...], list[Row]] = {}
+    for row in rows:
+        groups.setdefault((row.graph, row.disturbance, row.daemon, row.rules), []).append(row)
+    lines: list[tuple[str, ...]] = [("graph", "disturbance", "daemon", "rules", "runs", "min", "mean", "median", "95th", "max", "bound")]
+    for key, group in sorted(groups.items()):
+        moves = sorted(row.moves for row in group)
+        figures = [min(moves), f"{statistics.mean(moves):.1f}", f"{statistics.median(moves):g}", moves[(len(moves) * 95 + 99) // 100 - 1], max(moves)]
+        lines.append((*key, *map(str, [len(moves), *figures, max(row.bound for row in group)])))
+    widths = [max(map(len, column)) for column in zip(*lines)]
+    return ["  ".join(text.ljust(width) if at < 4 else text.rjust(width) for at, (text, width) in enumerate(zip(line, widths))) for line in lines]
+
+
+def run_worst(given: argparse.Namespace) -> int:
+    """The longest schedule, as a script that was played and judged."""
+    found = longest(given.graph, given.rules, seconds=given.seconds, seed=given.seed)
+    transcript = found.play(program=given.program)
+    known = f"the longest of all, in {found.states} states" if found.is_proved else f"the longest found, in {found.states} tries"
+    print(f"{found.graph.title}, {found.rules}: {found.moves} moves, {known}; the bound is {found.bound}", file=sys.stderr)
+    with opened(given.output, "w", sys.stdout) as file:
+        file.write(transcript if given.transcript else found.script())
+    return DONE
+
+
+def run_check(given: argparse.Namespace) -> int:
+    """Each line that is no command, and why."""
+    with opened(given.script, "rb", sys.stdin.buffer) as file:
+        script = file.read()
+    count = 0
+    for count, (number, why) in enumerate(script_words.faults_of(script), 1):
+        print(f"line {number}: {why}")
+    if not count:
+        print(f"each of {script.count(10) + (not script.endswith(b'%c' % 10) and bool(script))} lines is a command, or empty")
+    return FAILED if count else DONE
+
+
+def run_shell(given: argparse.Namespace) -> int:
+    with Network(given.rules, given.nodes, present=given.present, program=given.program) as net:
+        return shell.talk(net)
+
+
+def run_json(given: argparse.Namespace) -> int:
+    with opened(given.transcript, "rb", sys.stdin.buffer) as file:
+        transcript = file.read()
+    try:
+        audit(transcript, program=given.program)
+    except Damaged as damaged:
+        print(damaged, file=sys.stderr)
+        return FAILED
+    for line in json_lines.lines_of(transcript.decode()):
+        print(line)
+    return DONE
+
+
+def parser_of() -> argparse.ArgumentParser:
+    parser = argparse.ArgumentParser(prog="rudekpi", description=__doc__)
+    commands = parser.add_subparsers(dest="command", required=True)
+
+    def command(name: str, run: Any, text: str) -> argparse.ArgumentParser:
+        made = commands.add_parser(name, help=text, description=text)
+        made.set_defaults(run=run)
+        return made
+
+    words_of_sweep(command("sweep", run_sweep, "plays networks by the thousand, a CSV row each"), "manne")
+    words_of_sweep(command("compare", run_compare, "a table of the moves under both rule sets, beside the bound"), "hh,manne")
+    worst = command("worst", run_worst, "the longest schedule of a network, as a script")
+    worst.add_argument("--graph", required=True, type=graph_given, help=MADE)
+    worst.add_argument("--rules", choices=("hh", "manne"), default="manne")
+    worst.add_argument("--seconds", type=float, default=10.0, help="for a search, where there are too many states to look at all (%(default)s)")
+    worst.add_argument("--seed", type=int, default=0)
+    worst.add_argument("--transcript", action="store_true", help="writes the transcript, and not the script")
+    worst.add_argument("--output", help="a file (standard output)")
+    worst.add_argument("--program")
+    check = command("check", run_check, "why lines of a script are no commands")
+    check.add_argument("script", nargs="?", default="-", help="a file (standard input)")
+    session = command("shell", run_shell, "a session at a terminal that forgives typing errors")
+    session.add_argument("--rules", choices=("hh", "manne"), default="manne")
+    session.add_argument("--nodes", type=int, required=True)
+    session.add_argument("--present", type=int)
+    session.add_argument("--program")
+    objects = command("json", run_json, "a transcript as JSON Lines, an object an entry")
+    objects.add_argument("transcript", nargs="?", default="-", help="a file (standard input)")
+    objects.add_argument("--program")
+    return parser
+
+
+def run(words: Optional[Sequence[str]] = None) -> int:
+    given = parser_of().parse_args(words)
+    status: int = given.run(given)
+    return status

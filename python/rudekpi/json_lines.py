@@ -1,0 +1,75 @@
+"""Transcripts as JSON Lines: an object for the header, for each entry and for each base."""
+
+from __future__ import annotations
+
+import json
+from dataclasses import asdict
+from typing import Any, Callable, Iterator
+
+from .names import Names
+from .reading import read_base, read_enabled, read_matching, read_moves, read_status
+from .replays import parts_of
+
+
+def objects_of(transcript: str) -> Iterator[dict[str, Any]]:
+    """The objects of a transcript that `audit` accepts."""
+    names = Names(0)
+    for part in parts_of(transcript):
+        words = part[0].split(" ")
+        if words[0] in ("matching", "matching2"):
+            names = Names(int(words[2]))
+        if words[0] == "matching":
+            yield {"header": words[1], "nodes": names.count, "present": int(words[-1])}
+        elif words[0] == "matching2":
+            yield base_of(part, names, words[1])
+        else:
+            yield entry_of(part[0], names)
+
+
+def base_of(part: list[str], names: Names, rules: str) -> dict[str, Any]:
+    base = read_base(names, 0, "", "\n".join(part))
+    nodes = [{"node": node, "pointer": held.pointer, "flag": held.flag} for node, held in base.nodes.items()]
+    number = int(part[1].split(" ")[1])
+    return {"base": number, "rules": rules, "names": names.count, "spent": base.spent, "nodes": nodes, "edges": base.edges}
+
+
+def entry_of(line: str, names: Names) -> dict[str, Any]:
+    """An entry: its number, the event's word and what is behind it, and what the reply says."""
+    head, _, reply = line.partition(" = ")
+    entry, word, *rest = head.split(" ")
+    made: dict[str, Any] = {"entry": int(entry), "event": word}
+    if word == "step":
+        made["choice"] = [choice_of(item) for item in rest]
+    elif rest:
+        made["words"] = [None if text == "-" else int(text) for text in rest]
+    if reply.startswith("refused "):
+        number, _, text = reply[len("refused ") :].partition(" ")
+        return {**made, "refused": int(number), "text": text}
+    return {**made, **told(word, names, head.partition(" ")[2], reply)}
+
+
+def choice_of(item: str) -> dict[str, int]:
+    node, wish, target = item.partition(">")
+    return {"node": int(node), "target": int(target)} if wish else {"node": int(node)}
+
+
+def told(word: str, names: Names, event: str, reply: str) -> dict[str, Any]:
+    """What a reply says that is no refusal."""
+    if word == "show":
+        return {"target": None if reply == "-" else int(reply)}
+    if word == "enabled":
+        return {"enabled": [{"node": node, "rule": rule} for node, rule in read_enabled(names, 0, event, reply).items()]}
+    if word == "matching":
+        return {"pairs": list(read_matching(names, 0, event, reply))}
+    if word == "step":
+        return {"moves": [asdict(move) for move in read_moves(names, 0, event, reply)]}
+    if word == "status":
+        status = asdict(read_status(names, 0, event, reply))
+        del status["entry"]
+        return {"status": status}
+    return {"reply": reply}
+
+
+def lines_of(transcript: str) -> Iterator[str]:
+    dumped: Callable[[Any], str] = json.JSONEncoder(separators=(",", ":")).encode
+    return (dumped(it) for it in objects_of(transcript))

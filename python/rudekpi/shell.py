@@ -1,0 +1,122 @@
+"""A session at a terminal that forgives typing errors: a line that is no command is told why, and not sent."""
+
+from __future__ import annotations
+
+import contextlib
+import os
+import sys
+from typing import Optional
+
+from .batch import Pending
+from .errors import RudekpiError
+from .network import Network
+from .reading import read_accepted
+from .script_words import COMMANDS, why_no_command
+
+HISTORY = "~/.rudekpi_history"
+OWN = {
+    "help": "this text", "picture": "[FILE]: the network, for Graphviz", "transcript": "[FILE]: all that was written so far",
+    "audit": "what the transcript has", "play": "FILE: a page that plays the transcript", "quit": "ends the session, as Ctrl-D does",
+}
+
+
+class Shell:
+    """A network that is talked to line by line."""
+
+    def __init__(self, net: Network) -> None:
+        self.net, self.shown = net, 0
+
+    def answer(self, line: str) -> str:
+        """What a line is answered; raises `EOFError` where it ends the session."""
+        word, _, rest = line.partition(" ")
+        if word in ("quit", "exit"):
+            raise EOFError
+        if word in OWN:
+            return self.own(word, rest.strip())
+        why = why_no_command(line.encode())
+        if why:
+            return f"not sent: {why}\n"
+        if not line:
+            return ""
+        self.net._session.ask(pending_of(self.net, line))
+        return self.new_lines()
+
+    def new_lines(self) -> str:
+        """What the transcript has beyond what was shown."""
+        said = self.net.transcript()
+        new, self.shown = said[self.shown :], len(said)
+        return new
+
+    def own(self, word: str, path: str) -> str:
+        if word == "help":
+            own = "".join(f"{name} {text}\n" for name, text in OWN.items())
+            return "".join(f"{name} {', '.join(kinds)}".rstrip() + "\n" for name, kinds in COMMANDS.items()) + "\n" + own
+        if word == "audit":
+            found = self.net.audit()
+            return f"accepted: {found.entries} entries, {found.epochs} epochs, {found.moves} moves\n"
+        if word == "play":
+            if not path:
+                return "play wants a file's name, as in: play page.html\n"
+            self.net.play(path)
+            return f"written: {path}\n"
+        text = self.net.picture() if word == "picture" else self.net.transcript()
+        if not path:
+            return text
+        with open(path, "w") as file:
+            file.write(text)
+        return f"written: {path}\n"
+
+
+def pending_of(net: Network, line: str) -> Pending[object]:
+    """A command; behind one that writes several entries stands a question that ends them."""
+    if line.startswith(("drive ", "scramble ")):
+        return Pending(net._session, "status", read_accepted, None, f"{line}\n".encode())
+    return Pending(net._session, line, read_accepted)
+
+
+def prepare() -> None:
+    """Gives a terminal history and completion, where the library for it is there."""
+    try:
+        import readline
+    except ImportError:
+        return
+    words = sorted([*COMMANDS, *OWN])
+
+    def complete(text: str, place: int) -> Optional[str]:
+        found = [f"{word} " for word in words if word.startswith(text)]
+        return found[place] if place < len(found) and readline.get_begidx() == 0 else None
+
+    readline.set_completer(complete)
+    readline.parse_and_bind("tab: complete")
+    with contextlib.suppress(OSError):
+        readline.read_history_file(os.path.expanduser(HISTORY))
+
+
+def leave() -> None:
+    with contextlib.suppress(ImportError, OSError):
+        import readline
+        readline.write_history_file(os.path.expanduser(HISTORY))
+
+
+def talk(net: Network) -> int:
+    """Reads lines until their end, or `quit`; returns the exit status."""
+    is_terminal = sys.stdin.isatty()
+    if is_terminal:
+        prepare()
+    shell = Shell(net)
+    print(shell.new_lines(), end="")
+    while True:
+        try:
+            print(shell.answer(input("> " if is_terminal else "").strip("\r")), end="", flush=True)
+        except EOFError:
+            break
+        except KeyboardInterrupt:
+            print("\ncut short; `quit` or Ctrl-D ends the session" if is_terminal else "")
+        except (OSError, ValueError, RudekpiError) as error:
+            print(f"! {error}")
+            if net._session.talk.ended:
+                return 1
+    if is_terminal:
+        print()
+        leave()
+    return 0

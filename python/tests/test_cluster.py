@@ -1,0 +1,101 @@
+"""Sweeps and audits on a cluster: a scheduler of Dask and two workers as processes of this machine, one of them killed in the
+middle. Skipped where distributed is not there."""
+
+import importlib.util
+import logging
+import os
+import signal
+import subprocess
+import sys
+import time
+import unittest
+
+from rudekpi import Network, audit, graphs
+from rudekpi.parts import audit_parts
+from rudekpi.sweeps import sweep
+from support import TOP, Timed
+
+# nobody waits for a worker that is dead for as long as for one far away; set before distributed reads it, here and in the processes
+os.environ["DASK_DISTRIBUTED__COMM__TIMEOUTS__CONNECT"] = "2s"
+HAS_DISTRIBUTED = importlib.util.find_spec("distributed") is not None
+
+
+@unittest.skipUnless(HAS_DISTRIBUTED, "no distributed")
+class Cluster(Timed):
+    seconds = 120
+
+    def start(self, module, *words):
+        folder = os.path.join(TOP, "python")
+        run = subprocess.Popen(
+            [sys.executable, "-m", module, *words], env=dict(os.environ, PYTHONPATH=f"{folder}:{folder}/tests"),
+            stdout=subprocess.DEVNULL, stderr=subprocess.DEVNULL, cwd=self.folder(),
+        )
+        self.addCleanup(run.wait)
+        self.addCleanup(run.kill)
+        return run
+
+    def setUp(self):
+        super().setUp()
+        import distributed
+        # that a worker is gone is what these tests are about
+        logging.getLogger("distributed").setLevel(logging.CRITICAL)
+        logging.getLogger("distributed.client").setLevel(logging.CRITICAL)
+        self.file = os.path.join(self.folder(), "scheduler.json")
+        self.start("distributed.cli.dask_scheduler", "--host", "127.0.0.1", "--port", "0", "--no-dashboard", "--scheduler-file", self.file)
+        words = ["--scheduler-file", self.file, "--nthreads", "1", "--no-nanny", "--no-dashboard"]
+        self.workers = [self.start("distributed.cli.dask_worker", *words) for _ in range(2)]
+        last = time.monotonic() + 60
+        while not os.path.exists(self.file) and time.monotonic() < last:
+            time.sleep(0.05)
+        self.client = distributed.Client(scheduler_file=self.file, set_as_default=False)
+        self.addCleanup(self.client.close)
+        self.client.wait_for_workers(2, timeout=60)
+
+    def test_the_same_rows_where_a_worker_dies(self):
+        words = ([graphs.grid(6, 6)], ["hh", "manne"], ["seeded", "least"], range(20), [0, 30])
+
+        def named(rows):
+            return sorted(str(vars(row) | {"seconds": 0}) for row in rows)
+
+        wanted, made = named(sweep(*words)), []
+        for row in sweep(*words, executor=self.client.get_executor()):
+            made.append(row)
+            if len(made) == 20:
+                os.kill(self.workers[0].pid, signal.SIGKILL)
+        self.assertEqual(named(made), wanted)
+        self.assertIsNotNone(self.workers[0].wait(20))
+        self.assertIsNone(self.workers[1].poll())
+
+    def test_the_same_verdict_where_a_worker_dies(self):
+        with Network("hh", 30) as net:
+            with net.batch() as batch:
+                for node in range(1, 30):
+                    batch.link(node, node + 1)
+                for turn in range(40):
+                    batch.scramble(turn, 20)
+                    batch.drive(turn, 100)
+                    batch.checkpoint()
+        text = net.transcript().encode()
+        executor = self.client.get_executor()
+        self.assertEqual(audit_parts(text, executor, size=500), audit(text))
+        os.kill(self.workers[1].pid, signal.SIGKILL)
+        self.assertEqual(audit_parts(text, executor, size=500), audit(text))
+
+    def test_by_the_command_line(self):
+        import json
+        with open(self.file) as file:
+            address = json.load(file)["address"]
+        words = [sys.executable, "-m", "rudekpi", "sweep", "--graph", "ring:9", "--seeds", "6", "--dask", address]
+        done = subprocess.run(words, env=dict(os.environ, PYTHONPATH=os.path.join(TOP, "python")), capture_output=True, text=True)
+        self.assertEqual((done.returncode, len(done.stdout.splitlines())), (0, 7), done.stderr)
+
+
+class WithoutDistributed(Timed):
+    def test_it_is_told(self):
+        hides = "import sys; sys.modules['distributed'] = None; import rudekpi.__main__ as it; sys.exit(it.main(['sweep', '--graph', 'ring:5', '--dask', 'tcp://127.0.0.1:1']))"
+        done = subprocess.run([sys.executable, "-c", hides], env=dict(os.environ, PYTHONPATH=os.path.join(TOP, "python")), capture_output=True, text=True)
+        self.assertEqual((done.returncode, done.stderr.splitlines()[-1]), (1, "! --dask wants distributed, which is not there"))
+
+
+if __name__ == "__main__":
+    unittest.main()

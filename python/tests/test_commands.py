@@ -1,0 +1,234 @@
+"""The command line of the package: the bench's commands, and the program's that are handed on; why lines are no commands."""
+
+import json
+import os
+import pathlib
+import pty
+import random
+import select
+import signal
+import subprocess
+import sys
+import time
+import unittest
+
+from rudekpi import script_words, sweeps
+from support import TOP, Timed
+
+try:
+    import matplotlib
+except ImportError:
+    matplotlib = None
+
+PAIR = "link 1 2\nenabled\nstep 1\nenabled\nstep 2\nmatching\nstatus\n"
+ENVIRONMENT = dict(os.environ, PYTHONPATH=os.path.join(TOP, "python"))
+
+
+def rudekpi(*words, given="", **more):
+    return subprocess.run([sys.executable, "-m", "rudekpi", *words], input=given, env=ENVIRONMENT, capture_output=True, text=True, **more)
+
+
+def said(*words, given=""):
+    """What the command line writes to standard output, where it ends well."""
+    done = rudekpi(*words, given=given)
+    if done.returncode:
+        raise AssertionError(f"{words}: {done.returncode}: {done.stderr}")
+    return done.stdout
+
+
+class HandedOn(Timed):
+    def test_what_the_program_does(self):
+        text = pathlib.Path(TOP, "examples", "pair.transcript").read_text()
+        self.assertEqual(said("run", "--rules", "hh", "--nodes", "2", given=pathlib.Path(TOP, "examples", "pair.script").read_text()), text)
+        self.assertTrue(said("audit", given=text).startswith("accepted: 7 entries"))
+        self.assertEqual(said("epochs", given=text).splitlines()[0], "start,moves,edges,nodes,bound")
+        console = [os.environ["RUDEKPI_CONSOLE"]]
+        for words in (["--help"], ["--version"], ["run", "--help"], ["foo"], ["run"]):
+            done, wanted = rudekpi(*words), subprocess.run(console + words, capture_output=True, text=True)
+            self.assertEqual((done.returncode, done.stdout, done.stderr), (wanted.returncode, wanted.stdout, wanted.stderr))
+
+    def test_without_words_and_without_a_program(self):
+        done = rudekpi()
+        self.assertEqual((done.returncode, done.stdout), (2, ""))
+        self.assertIn("sweep, compare, worst, check, shell, json", done.stderr)
+        without = dict(ENVIRONMENT, RUDEKPI_CONSOLE="/no/such/program")
+        for words in (["run", "--rules", "hh"], ["sweep", "--graph", "ring:5"], ["shell", "--nodes", "2"]):
+            done = subprocess.run([sys.executable, "-m", "rudekpi", *words], env=without, capture_output=True, text=True)
+            self.assertEqual(done.returncode, 3, done.stderr)
+            self.assertIn("/no/such/program", done.stderr)
+            self.assertNotIn("Traceback", done.stderr)
+
+
+class Bench(Timed):
+    def test_sweep(self):
+        folder = self.folder()
+        edges, rows = os.path.join(folder, "edges.txt"), os.path.join(folder, "out.csv")
+        pathlib.Path(edges).write_text("1 2\n2 3\n3 4\n4 1\n")
+        words = ["--graph", edges, "--graph", "path:6", "--rules", "hh,manne", "--daemon", "seeded,synchronous,greedy", "--seeds", "3", "--faults", "0,5"]
+        self.assertEqual(said("sweep", *words, "--csv", rows, "--processes", "2"), "")
+        with open(rows) as file:
+            made = sweeps.read_csv(file)
+        self.assertEqual(len(made), 2 * 3 * 2 * (2 + 3))
+        self.assertEqual({row.graph for row in made}, {edges, "path:6"})
+        self.assertEqual(len(said("sweep", "--graph", "ring:5", "--seeds", "2").splitlines()), 3)
+
+    def test_compare(self):
+        table = said("compare", "--graph", "ring:8", "--seeds", "5", "--daemon", "seeded").splitlines()
+        self.assertEqual(table[0].split(), "graph disturbance daemon rules runs min mean median 95th max bound".split())
+        for line, rules, bound in zip(table[1:], ("hh", "manne"), ("24", "40")):
+            words = line.split()
+            self.assertEqual((words[:5], words[-1]), (["ring:8", "start", "seeded", rules, "5"], bound))
+            least, mean, median, most_of, most = map(float, words[5:10])
+            self.assertTrue(0 < least <= median <= most_of <= most <= float(bound) and least <= mean <= most)
+
+    def test_worst(self):
+        done = rudekpi("worst", "--graph", "ring:4", "--rules", "manne")
+        self.assertEqual(done.stderr, "ring:4, manne: 20 moves, the longest of all, in 1296 states; the bound is 20\n")
+        played = said("run", "--rules", "manne", "--nodes", "4", given=done.stdout)
+        self.assertEqual(played, said("worst", "--graph", "ring:4", "--transcript"))
+        self.assertIn("the longest found", rudekpi("worst", "--graph", "ring:40", "--rules", "hh", "--seconds", "0").stderr)
+
+    def test_bad_words(self):
+        for words in (
+            ["sweep"], ["sweep", "--graph", "ring:2"], ["sweep", "--graph", "/no/such/file"], ["sweep", "--graph", "ring:5", "--daemon", "fair"],
+            ["sweep", "--graph", "ring:5", "--faults", "x"], ["sweep", "--graph", "ring:5", "--rules", "x"], ["shell"], ["worst", "--graph", "ring:x"],
+        ):
+            done = rudekpi(*words)
+            self.assertEqual((done.returncode, done.stdout.count("\n") <= 1), (2, True), (words, done.stderr))
+            self.assertNotIn("Traceback", done.stderr)
+
+    @unittest.skipUnless(matplotlib, "no matplotlib")
+    def test_plots(self):
+        folder = self.folder()
+        for words in (["--graph", "ring:6", "--graph", "ring:9"], ["--graph", "ring:6", "--daemon", "seeded,least"]):
+            paths = [os.path.join(folder, f"out{number}.svg") for number in range(2)]
+            for path in paths:
+                said("sweep", *words, "--seeds", "2", "--plot", path, "--processes", "1")
+            texts = [pathlib.Path(path).read_text() for path in paths]
+            self.assertIn("<svg", texts[0])
+        script = pathlib.Path(TOP, "examples", "broken_ring.transcript")
+        from rudekpi import plots
+        path = os.path.join(folder, "run.png")
+        plots.of_run(script.read_text(), path)
+        self.assertGreater(os.path.getsize(path), 5000)
+
+    def test_the_charge_over_a_run(self):
+        from rudekpi import plots
+        text = said("run", "--rules", "hh", "--nodes", "2", given="link 1 2\nstatus\nstep 1\nstatus\nstep 2\nstatus\n")
+        self.assertEqual(plots.charges_of(text), [(0, 2, True), (1, 1, False), (2, 0, False)])
+        self.assertEqual([line.split("charge=")[1].split(" ")[0] for line in text.splitlines() if "charge" in line], ["2", "1", "0"])
+
+    def test_an_interrupt_leaves_the_rows_so_far(self):
+        path = os.path.join(self.folder(), "out.csv")
+        words = [sys.executable, "-m", "rudekpi", "sweep", "--graph", "grid:12x12", "--daemon", "least", "--seeds", "3000", "--csv", path]
+        with subprocess.Popen(words, env=ENVIRONMENT, stderr=subprocess.PIPE, text=True) as run:
+            last = time.monotonic() + 30
+            while time.monotonic() < last and not (os.path.exists(path) and pathlib.Path(path).read_text().count("\n") > 3):
+                time.sleep(0.05)
+            run.send_signal(signal.SIGINT)
+            told = run.communicate()[1]
+        self.assertEqual(run.returncode, 130, told)
+        with open(path) as file:
+            made = sweeps.read_csv(file)
+        self.assertTrue(2 < len(made) < 3000)
+        self.assertIn(f"! cut short: {len(made)} of 3000 rows are there", told)
+
+    def test_progress_at_a_terminal(self):
+        pid, end = pty.fork()
+        if pid == 0:
+            words = [sys.executable, "-m", "rudekpi", "sweep", "--graph", "ring:5", "--seeds", "4", "--csv", os.devnull]
+            os.execve(sys.executable, words, ENVIRONMENT)
+        shown = b""
+        while select.select([end], [], [], 30)[0]:
+            try:
+                part = os.read(end, 1000)
+            except OSError:
+                break
+            shown += part
+        os.close(end)
+        self.assertEqual(os.waitstatus_to_exitcode(os.waitpid(pid, 0)[1]), 0)
+        self.assertTrue(b"4 of 4" in shown or b"4/4" in shown, shown)
+
+
+class Lines(Timed):
+    def test_json(self):
+        script = PAIR + "link 1 2\ncheckpoint\nshow 1\npoint 1 -\nstep 2>1 1\nscramble 3 1\n"
+        text = said("run", "--rules", "hh", "--nodes", "3", "--present", "2", given=script)
+        made = [json.loads(line) for line in said("json", given=text).splitlines()]
+        self.assertEqual(made[0], {"header": "hh", "nodes": 3, "present": 2})
+        self.assertEqual(made[1], {"entry": 1, "event": "link", "words": [1, 2], "reply": "ok"})
+        self.assertEqual(made[2]["enabled"], [{"node": 1, "rule": "seduce"}, {"node": 2, "rule": "seduce"}])
+        self.assertEqual((made[3]["choice"], made[3]["moves"]), ([{"node": 1}], [{"node": 1, "rule": "seduce", "target": 2}]))
+        self.assertEqual((made[6]["pairs"], made[7]["status"]["pairs"]), ([[1, 2]], 1))
+        self.assertEqual((made[8]["refused"], made[8]["text"]), (3, "already-linked"))
+        base = {"base": 8, "rules": "hh", "names": 3, "spent": 2, "edges": [[1, 2]]}
+        self.assertEqual(made[9], {**base, "nodes": [{"node": 1, "pointer": 2, "flag": False}, {"node": 2, "pointer": 1, "flag": False}]})
+        self.assertEqual((made[10]["target"], made[11]["words"], made[12]["choice"]), (2, [1, None], [{"node": 2, "target": 1}, {"node": 1}]))
+        self.assertEqual(len(made), text.count(" = ") + 2)
+        done = rudekpi("json", given=text.replace("seduce", "marry", 1))
+        self.assertEqual((done.returncode, done.stdout, done.stderr), (1, "", "line 3: not the machine's reply\n"))
+
+    def test_check(self):
+        self.assertEqual(said("check", given=PAIR), "each of 7 lines is a command, or empty\n")
+        for line, why in [
+            ("link 1 2\r", "CRLF"), ("\ufefflink 1 2", "byte order mark"), ("link 01 2", "leading zeros: `1`"), ("lnik 1 2", "`link` may be meant"),
+            ("LINK 1 2", "small letters: `link`"), ("link 1", "takes a node and a node, and not 1"), ("link 1  2", "two spaces"), (" link 1 2", "beginning"),
+            ("link\t1 2", "tab"), ("# a", "comments"), ("1 link 1 2 = ok", "of a transcript"), ("link 0 1", "1 to 65535"), ("link a 1", "not a node"),
+            ("flag 1 2", "0 or 1"), ("step 1>2>3", "A>B"), ("drive 1 1000001", "number of turns"), ("link 1 \u00fc", "0xc3"), ("connect 1 2", "`link` may"),
+            ("step 0", "1 to 65535"), ("status 1", "takes nothing"), ("link -1 2", "not a node"),
+        ]:
+            with self.subTest(line):
+                path = pathlib.Path(self.folder(), "script")
+                path.write_bytes(f"status\n\n{line}\nstatus\n".encode())
+                done = rudekpi("check", str(path))
+                self.assertEqual((done.returncode, done.stdout.count("\n")), (1, 1), done.stdout)
+                self.assertTrue(done.stdout.startswith("line 3: ") and why in done.stdout, done.stdout)
+
+    def test_what_is_no_command_is_none_to_the_program(self):
+        drawn = random.Random(9)
+        words = [*script_words.COMMANDS, "1", "2", "07", "0", "-", "1>2", "1>02", "3>", ">", "65535", "65536", "x", "1000000", "18446744073709551615", "18446744073709551616", ""]
+        lines = {" ".join(drawn.choices(words, k=drawn.randint(0, 3))) for _ in range(150)} | {f"{word} 1 2" for word in words} | {f"{word} 1" for word in words} | set(words)
+        seen = set()
+        for line in sorted(lines):
+            why = script_words.why_no_command(line.encode())
+            done = subprocess.run([os.environ["RUDEKPI_CONSOLE"], "run", "--rules", "manne", "--nodes", "2"], input=f"{line}\n".encode(), capture_output=True)
+            with self.subTest(line, why=why):
+                self.assertEqual(done.returncode, 2 if why else 0, done.stderr)
+            seen.add(bool(why))
+        self.assertEqual(seen, {True, False})
+
+    def test_a_session(self):
+        page = os.path.join(self.folder(), "page.html")
+        given = f"link 1 2\nlnik 1 2\nlink 1 2\ndrive 7 9\n\ncheckpoint\npicture\naudit\nplay {page}\nplay\nhelp\nquit\nstatus\n"
+        lines = said("shell", "--nodes", "2", "--rules", "hh", given=given)
+        for text in ("matching hh 2\n1 link 1 2 = ok\nnot sent: `lnik` is no command: `link` may be meant\n2 link 1 2 = refused 3 already-linked\n",
+                     "base 5 spent=2", "accepted: 5 entries", f"written: {page}", "play wants a file's name", "quit ends the session", "graph"):
+            self.assertIn(text, lines)
+        self.assertNotIn("6 status", lines)
+        self.assertTrue(os.path.exists(page))
+
+    def test_a_session_at_a_terminal(self):
+        pid, end = pty.fork()
+        if pid == 0:
+            words = [sys.executable, "-m", "rudekpi", "shell", "--nodes", "3"]
+            os.execve(sys.executable, words, dict(ENVIRONMENT, HOME=self.folder(), TERM="dumb"))
+        shown = b""
+        for typed in (b"lin\t1 2\n", b"\x03", b"lnik\n", b"status\n", b"\x04"):
+            wanted = time.monotonic() + 20
+            while not shown.endswith(b"> ") and time.monotonic() < wanted and select.select([end], [], [], 20)[0]:
+                shown += os.read(end, 4096)
+            os.write(end, typed)
+            shown += b"|"
+        try:
+            while select.select([end], [], [], 20)[0]:
+                shown += os.read(end, 4096)
+        except OSError:
+            pass
+        os.close(end)
+        self.assertEqual(os.waitstatus_to_exitcode(os.waitpid(pid, 0)[1]), 0)
+        for text in (b"1 link 1 2 = ok", b"cut short", b"`link` may be meant", b"2 status = nodes=3 edges=1"):
+            self.assertIn(text, shown)
+
+
+if __name__ == "__main__":
+    unittest.main()
