@@ -4,6 +4,7 @@ kept, and storms."""
 import copy
 import dataclasses
 import multiprocessing
+import json
 import os
 import pathlib
 import pickle
@@ -134,7 +135,7 @@ class Questions(Timed):
         with Network("hh", 2) as net:
             net.link(1, 2)
             net.play(path)
-            self.assertIn(net.transcript(), path.read_text())
+            self.assertIn(json.dumps(net.transcript()), path.read_text())
         self.assertIn("<html", path.read_text().lower())
 
 
