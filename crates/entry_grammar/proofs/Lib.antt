@@ -18,3 +18,4 @@ pub mod NextLines
 pub mod BaseLists
 pub mod BaseBreaks
 pub mod BaseOnce
+pub mod EntryLengths

@@ -1,6 +1,6 @@
 //! What holds of all lines of a transcript.
 
-ghost use Rattle.std.specs.Prelude.{◌≡◌, ◌++◌, ℕ, List};
+ghost use Rattle.std.specs.Prelude.{◌≡◌, ◌≤◌, ◌++◌, ℕ, List, length};
 ghost use Rattle.rule_machine.specs.declared.base.Base.{Base};
 ghost use Rattle.rule_machine.specs.declared.event.Event.{Event};
 ghost use Rattle.rule_machine.specs.declared.reply.Reply.{Reply};
@@ -24,4 +24,10 @@ pub fn one_base()
         → IsShaped a → IsShaped b → bytes ≡ base_lines a ++ x → bytes ≡ base_lines b ++ y → (a ≡ b) × (x ≡ y) }
     ensures line { (bytes : List ℕ) (k l : ℕ) → BreaksAt bytes k → BreaksAt bytes l → k ≡ l }
     ensures whole { (bytes : List ℕ) (base : Base) (rest : List ℕ) (k : ℕ) → IsShaped base → bytes ≡ base_lines base ++ rest → BreaksAt bytes k → ⊥ }
+{}
+
+/// No entry has a line of more than 2,031,600 bytes, which is less than 2 MiB (2,097,152): the longest are those of a step of 65,535
+/// items, each with its wish, and as many moves, each with its target, as the last entries of a full log.
+pub fn entry_lines_are_short()
+    ensures { (line : List ℕ) (number : ℕ) (entry : Event × Reply) → SpellsEntry line number entry → length line ≤ 2031600 }
 {}

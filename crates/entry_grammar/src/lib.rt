@@ -22,5 +22,5 @@ pub use base_reader::read_base;
 pub use entry::{entry_text, read_entry};
 pub use fault::{BaseFault, EntryFault};
 pub use header::{header_text, read_header};
-pub use law::{one_base, one_spelling};
+pub use law::{entry_lines_are_short, one_base, one_spelling};
 pub use lines::split_line;

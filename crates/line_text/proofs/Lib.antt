@@ -7,3 +7,4 @@ pub mod Spaces
 pub mod Digits
 pub mod ItemsOnce
 pub mod EventsOnce
+pub mod EventLengths

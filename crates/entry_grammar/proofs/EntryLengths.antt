@@ -1,0 +1,196 @@
+-- How long the text of an entry is: that of its event, and that of a reply of its kind.
+use Rattle.std.proofs.Common.{◌≡◌, ℕ, ◌+◌, ◌*◌, ◌<◌, ◌≤◌, true, false, nat_le, ◌&&◌, List, [], ◌∷◌, ◌++◌, Option, None, Some, IfSome, IsTrue, length, codes, sym, ap, length-append, leb-true, arith}
+use Rattle.std.specs.List.{AllByRecursion, list_all}
+use Rattle.std.proofs.lemmas.Bool.{and_parts, true≢false}
+use Rattle.std.proofs.lemmas.Fmt.{length-decimal-le}
+use Rattle.rule_machine.specs.declared.act.Act.{Act}
+use Rattle.rule_machine.specs.declared.act.Act.TheVariants.{Update, Marry, Seduce, Abandon}
+use Rattle.rule_machine.specs.declared.counts.Counts.{Counts}
+use Rattle.rule_machine.specs.declared.moved.Moved.{Moved}
+use Rattle.rule_machine.specs.declared.event.Event.{Event}
+use Rattle.rule_machine.specs.declared.event.Event.TheVariants.{Step, Enabled, Matching}
+use Rattle.rule_machine.specs.declared.refusal.Refusal.{Refusal}
+use Rattle.rule_machine.specs.declared.refusal.Refusal.TheVariants.{UnknownNode, SelfLoop, AlreadyLinked, NotLinked, TooManyEdges, NotNeighbour, NoFlag, EmptyChoice, NotCentral, ChosenTwice, NotEnabled, BadTarget, AlreadyPresent}
+use Rattle.rule_machine.specs.declared.reply.Reply.{Reply}
+use Rattle.rule_machine.specs.declared.reply.Reply.TheVariants.{Accepted, Refused, Moves, Shown, EnabledAre, Pairs}
+use Rattle.rule_machine.specs.declared.reply.Reply.TheVariants as reply_is
+use Rattle.rule_machine.specs.Refuse.{refusal_number, refusal_text}
+use Rattle.line_text.specs.Words.{number_text, IsName, marked_text, spaced, joined, joined_or}
+use Rattle.line_text.specs.EventText.{event_text, IsEvent}
+use Rattle.line_text.specs.ReplyText.{act_word, enabled_text, move_text, mutual_text, refusal_words, field_text, counts_text, reply_text, IsMoved, IsEnabled, IsPair, IsCount, IsCounts, IsReply}
+use Rattle.line_text.specs.EntryText.{entry_text}
+use Rattle.line_text.proofs.EventLengths.{name_short, target_short, event_short}
+use Rattle.log_entry.specs.Kinds.{is_move, are_moves, fits}
+use Rattle.entry_grammar.specs.Spelling.{SpellsEntry}
+
+-- ---- one item of a reply
+
+act_short : (act : Act) → length (act_word act) ≤ 7
+act_short Update = omega arith
+act_short Marry = omega arith
+act_short Seduce = omega arith
+act_short Abandon = omega arith
+
+-- a rule with its target, where it takes one
+deed_short : (node : ℕ) (act : Act) (target : Option ℕ) → IfSome target IsName → IsTrue (is_move (record { node = node; act = act; target = target })) → length (act_word act ++ marked_text (codes ">") target) ≤ 12
+deed_short node act None h is = omega (arith, act_short act, length-append (act_word act) [])
+deed_short node Marry (Some w) h is = omega (arith, name_short w h, length-append (codes "marry") (codes ">" ++ number_text w), length-append (codes ">") (number_text w))
+deed_short node Seduce (Some w) h is = omega (arith, name_short w h, length-append (codes "seduce") (codes ">" ++ number_text w), length-append (codes ">") (number_text w))
+deed_short node Update (Some w) h is = absurd (true≢false (sym is))
+deed_short node Abandon (Some w) h is = absurd (true≢false (sym is))
+
+-- a move as a reply may tell it
+abbrev IsTold : Moved → Type 0
+IsTold m = IsMoved m × IsTrue (is_move m)
+
+move_short : (m : Moved) → IsTold m → length (move_text m) ≤ 18
+move_short m h =
+    let deed = deed_short m.node m.act m.target h.0.1 h.1 in
+    omega (
+      arith,
+      name_short m.node h.0.0,
+      deed,
+      length-append (number_text m.node) (codes ":"),
+      length-append (number_text m.node ++ codes ":") (act_word m.act),
+      length-append (number_text m.node ++ codes ":" ++ act_word m.act) (marked_text (codes ">") m.target),
+      length-append (act_word m.act) (marked_text (codes ">") m.target),
+    )
+
+enabled_short : (e : ℕ × Act) → IsEnabled e → length (enabled_text e) ≤ 18
+enabled_short e h =
+    omega (arith, name_short e.0 h, act_short e.1, length-append (number_text e.0) (codes ":"), length-append (number_text e.0 ++ codes ":") (act_word e.1))
+
+mutual_short : (p : ℕ × ℕ) → IsPair p → length (mutual_text p) ≤ 18
+mutual_short p h =
+    omega (arith, name_short p.0 h.0, name_short p.1 h.1, length-append (number_text p.0) (codes "-"), length-append (number_text p.0 ++ codes "-") (number_text p.1))
+
+-- ---- lists
+
+spaced_short : {X : Type 0} (text : X → List ℕ) (P : X → Type 0) → ((x : X) → P x → length (text x) ≤ 18) → (xs : List X) → AllByRecursion P xs → length (spaced text xs) ≤ 19 * length xs
+spaced_short text P short [] all = omega arith
+spaced_short text P short (x ∷ xs) all =
+    omega (arith, short x all.0, spaced_short text P short xs all.1, length-append (codes " ") (text x), length-append (codes " " ++ text x) (spaced text xs))
+
+joined_short : {X : Type 0} (text : X → List ℕ) (P : X → Type 0) → ((x : X) → P x → length (text x) ≤ 18) → (xs : List X) → AllByRecursion P xs → length xs ≤ 65535 → length (joined text xs) ≤ 1245164
+joined_short text P short [] all few = omega arith
+joined_short text P short (x ∷ xs) all few =
+    omega (arith, few, short x all.0, spaced_short text P short xs all.1, length-append (text x) (spaced text xs))
+
+listed_short : {X : Type 0} (text : X → List ℕ) (P : X → Type 0) → ((x : X) → P x → length (text x) ≤ 18) → (xs : List X) → AllByRecursion P xs → length xs ≤ 65535 → length (joined_or (codes "none") text xs) ≤ 1245164
+listed_short text P short [] all few = omega arith
+listed_short text P short (x ∷ xs) all few = joined_short text P short (x ∷ xs) all few
+
+-- ---- a reply that fits its event
+
+fits_moves : (e : Event) (moves : List Moved) → IsTrue (fits e (Moves moves)) → IsTrue (are_moves moves)
+fits_moves (Step items) moves h = h
+fits_moves e moves h = absurd (true≢false (sym h))
+
+fits_enabled : (e : Event) (nodes : List (ℕ × Act)) → IsTrue (fits e (EnabledAre nodes)) → IsTrue (nat_le (length nodes) 65535)
+fits_enabled Enabled nodes h = h
+fits_enabled e nodes h = absurd (true≢false (sym h))
+
+fits_pairs : (e : Event) (pairs : List (ℕ × ℕ)) → IsTrue (fits e (Pairs pairs)) → IsTrue (nat_le (length pairs) 65535)
+fits_pairs Matching pairs h = h
+fits_pairs e pairs h = absurd (true≢false (sym h))
+
+all_told : (moves : List Moved) → AllByRecursion IsMoved moves → IsTrue (list_all is_move moves) → AllByRecursion IsTold moves
+all_told [] named are = tt
+all_told (m ∷ moves) named are =
+    let parts = and_parts (is_move m) (list_all is_move moves) are in ((named.0, parts.0), all_told moves named.1 parts.1)
+
+moves_short : (moves : List Moved) → AllByRecursion IsMoved moves → IsTrue (are_moves moves) → length (joined move_text moves) ≤ 1245164
+moves_short moves named are =
+    let parts = and_parts (nat_le 1 (length moves) && nat_le (length moves) 65535) (list_all is_move moves) are in
+    let few = and_parts (nat_le 1 (length moves)) (nat_le (length moves) 65535) parts.0 in
+    joined_short move_text IsTold move_short moves (all_told moves named parts.1) (leb-true (length moves) 65535 few.1)
+
+-- ---- the other replies
+
+number_small : (refusal : Refusal) → refusal_number refusal ≤ 13
+number_small UnknownNode = omega arith
+number_small SelfLoop = omega arith
+number_small AlreadyLinked = omega arith
+number_small NotLinked = omega arith
+number_small TooManyEdges = omega arith
+number_small NotNeighbour = omega arith
+number_small NoFlag = omega arith
+number_small EmptyChoice = omega arith
+number_small NotCentral = omega arith
+number_small ChosenTwice = omega arith
+number_small NotEnabled = omega arith
+number_small BadTarget = omega arith
+number_small AlreadyPresent = omega arith
+
+text_short : (refusal : Refusal) → length (refusal_text refusal) ≤ 15
+text_short UnknownNode = omega arith
+text_short SelfLoop = omega arith
+text_short AlreadyLinked = omega arith
+text_short NotLinked = omega arith
+text_short TooManyEdges = omega arith
+text_short NotNeighbour = omega arith
+text_short NoFlag = omega arith
+text_short EmptyChoice = omega arith
+text_short NotCentral = omega arith
+text_short ChosenTwice = omega arith
+text_short NotEnabled = omega arith
+text_short BadTarget = omega arith
+text_short AlreadyPresent = omega arith
+
+refusal_short : (refusal : Refusal) → length (codes "refused " ++ refusal_words refusal) ≤ 26
+refusal_short refusal =
+    let number : length (number_text (refusal_number refusal)) ≤ 2 = let small = number_small refusal in length-decimal-le 2 (refusal_number refusal) (omega arith) (omega (arith, small)) (omega (arith, small)) in
+    omega (
+      arith,
+      number,
+      text_short refusal,
+      length-append (codes "refused ") (refusal_words refusal),
+      length-append (number_text (refusal_number refusal)) (codes " "),
+      length-append (number_text (refusal_number refusal) ++ codes " ") (refusal_text refusal),
+    )
+
+-- a number behind its name, and the space before it
+field_short : (name : List ℕ) (n : ℕ) → length name ≤ 8 → IsCount n → length (field_text (name, n)) ≤ 18
+field_short name n short h =
+    let digits : length (number_text n) ≤ 10 = length-decimal-le 10 n (omega arith) (omega (arith, h)) (omega (arith, h)) in
+    omega (arith, short, digits, length-append name (number_text n))
+
+abbrev IsField : List ℕ × ℕ → Type 0
+IsField f = (length f.0 ≤ 8) × IsCount f.1
+
+counts_short : (c : Counts) → IsCounts c → length (counts_text c) ≤ 1245164
+counts_short c h =
+    joined_short field_text IsField (λ f is. field_short f.0 f.1 is.0 is.1)
+    ((codes "nodes=", c.nodes) ∷ (codes "edges=", c.edges) ∷ (codes "pairs=", c.pairs) ∷ (codes "enabled=", c.enabled) ∷ (codes "charge=", c.charge) ∷ (codes "spent=", c.spent) ∷ [])
+    ((omega arith, h.0), ((omega arith, h.1), ((omega arith, h.2), ((omega arith, h.3), ((omega arith, h.4), ((omega arith, h.5), tt))))))
+    (omega arith)
+
+reply_short : (e : Event) (reply : Reply) → IsReply reply → IsTrue (fits e reply) → length (reply_text reply) ≤ 1245164
+reply_short e Accepted is h = omega arith
+reply_short e (Refused refusal) is h = omega (arith, refusal_short refusal)
+reply_short e (Moves moves) is h = moves_short moves is (fits_moves e moves h)
+reply_short e (Shown target) is h = omega (arith, target_short target is)
+reply_short e (EnabledAre nodes) is h = listed_short enabled_text IsEnabled enabled_short nodes is (leb-true (length nodes) 65535 (fits_enabled e nodes h))
+reply_short e (Pairs pairs) is h = listed_short mutual_text IsPair mutual_short pairs is (leb-true (length pairs) 65535 (fits_pairs e pairs h))
+reply_short e (reply_is.Counts counts) is h = counts_short counts is
+
+-- ---- the whole line
+
+pub entry_short : (line : List ℕ) (number : ℕ) (entry : Event × Reply) → SpellsEntry line number entry → length line ≤ 2031600
+entry_short line number entry spells =
+    let digits : length (number_text number) ≤ 8 = let most = spells.numbered.1 in length-decimal-le 8 number (omega arith) (omega (arith, most)) (omega (arith, most)) in
+    let told = event_short entry.0 spells.event in
+    let given = reply_short entry.0 entry.1 spells.reply spells.fits in
+    let is : length line ≡ length (entry_text number entry.0 entry.1) = ap length spells.is in
+    let front : List ℕ = number_text number ++ codes " " in
+    omega (
+      arith,
+      digits,
+      told,
+      given,
+      is,
+      length-append (number_text number) (codes " "),
+      length-append front (event_text entry.0),
+      length-append (front ++ event_text entry.0) (codes " = "),
+      length-append (front ++ event_text entry.0 ++ codes " = ") (reply_text entry.1),
+    )

@@ -1,0 +1,58 @@
+-- How long the text of an event is.
+use Rattle.std.proofs.Common.{ℕ, ◌+◌, ◌*◌, ◌<◌, ◌≤◌, Bool, true, false, List, [], ◌∷◌, ◌++◌, Option, None, Some, IfSome, length, codes, ap, length-append, arith}
+use Rattle.std.specs.List.{AllByRecursion}
+use Rattle.std.proofs.lemmas.Fmt.{length-decimal-le}
+use Rattle.rule_machine.specs.declared.choice.Item.{Item}
+use Rattle.rule_machine.specs.declared.event.Event.{Event}
+use Rattle.rule_machine.specs.declared.event.Event.TheVariants.{Link, Unlink, Point, Flag, Step, Show, Enabled, Matching, Status, Join, Leave}
+use Rattle.line_text.specs.Words.{number_text, IsName, marked_text, spaced}
+use Rattle.line_text.specs.EventText.{IsItem, IsEvent, pair_text, target_text, bool_text, flag_text, point_text, item_text, event_text}
+
+pub name_short : (n : ℕ) → IsName n → length (number_text n) ≤ 5
+name_short n h = length-decimal-le 5 n (omega arith) (omega (arith, h.1)) (omega (arith, h.1))
+
+pub mark_short : (wish : Option ℕ) → IfSome wish IsName → length (marked_text (codes ">") wish) ≤ 6
+mark_short None h = omega arith
+mark_short (Some n) h = omega (arith, name_short n h, length-append (codes ">") (number_text n))
+
+pub item_short : (item : Item) → IsItem item → length (item_text item) ≤ 11
+item_short item h =
+    omega (arith, name_short item.node h.0, mark_short item.wish h.1, length-append (number_text item.node) (marked_text (codes ">") item.wish))
+
+pub items_short : (items : List Item) → AllByRecursion IsItem items → length (spaced item_text items) ≤ 12 * length items
+items_short [] h = omega arith
+items_short (item ∷ items) h =
+    let behind : List ℕ = spaced item_text items in
+    omega (arith, item_short item h.0, items_short items h.1, length-append (codes " ") (item_text item), length-append (codes " " ++ item_text item) behind)
+
+pub two_short : (x y : List ℕ) (m n : ℕ) → length x ≤ m → length y ≤ n → length (x ++ codes " " ++ y) ≤ m + n + 1
+two_short x y m n p q =
+    omega (arith, p, q, length-append x (codes " "), length-append (x ++ codes " ") y)
+
+pub pair_short : (a b : ℕ) → IsName a → IsName b → length (pair_text a b) ≤ 11
+pair_short a b p q = two_short (number_text a) (number_text b) 5 5 (name_short a p) (name_short b q)
+
+pub target_short : (w : Option ℕ) → IfSome w IsName → length (target_text w) ≤ 5
+target_short None h = omega arith
+target_short (Some n) h = name_short n h
+
+pub bool_short : (b : Bool) → length (bool_text b) ≤ 1
+bool_short true = omega arith
+bool_short false = omega arith
+
+pub event_short : (e : Event) → IsEvent e → length (event_text e) ≤ 786424
+event_short (Link a b) h = omega (arith, pair_short a b h.0 h.1, length-append (codes "link ") (pair_text a b))
+event_short (Unlink a b) h = omega (arith, pair_short a b h.0 h.1, length-append (codes "unlink ") (pair_text a b))
+event_short (Point v w) h =
+    let told : length (point_text v w) ≤ 11 = two_short (number_text v) (target_text w) 5 5 (name_short v h.0) (target_short w h.1) in
+    omega (arith, told, length-append (codes "point ") (point_text v w))
+event_short (Flag v b) h =
+    let told : length (flag_text v b) ≤ 11 = let p = two_short (number_text v) (bool_text b) 5 1 (name_short v h) (bool_short b) in omega (arith, p) in
+    omega (arith, told, length-append (codes "flag ") (flag_text v b))
+event_short (Join v) h = omega (arith, name_short v h, length-append (codes "join ") (number_text v))
+event_short (Leave v) h = omega (arith, name_short v h, length-append (codes "leave ") (number_text v))
+event_short (Step items) h = omega (arith, items_short items h.1, h.0, length-append (codes "step") (spaced item_text items))
+event_short (Show v) h = omega (arith, name_short v h, length-append (codes "show ") (number_text v))
+event_short Enabled h = omega arith
+event_short Matching h = omega arith
+event_short Status h = omega arith
