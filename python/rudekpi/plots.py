@@ -34,14 +34,23 @@ def groups_of(rows: Iterable[Row]) -> dict[tuple[str, str], list[Row]]:
 
 
 def over_sizes(rows: Sequence[Row], path: Path) -> None:
-    """The moves of each experiment over the number of nodes, a colour a daemon, and the bounds as lines."""
+    """The moves of each experiment (none as one) over the number of nodes, a colour a daemon, beside one another; the bounds as lines."""
     figure, axes = figure_of("moves until silence, beside their bounds", "nodes", "moves")
-    for colour, ((rules, daemon), group) in zip(COLOURS * len(rows), groups_of(rows).items()):
-        axes.scatter([row.n for row in group], [row.moves for row in group], s=12, alpha=0.6, color=colour, label=f"{daemon}, {rules}")
+    groups = groups_of(rows)
+    for place, ((rules, daemon), group) in enumerate(groups.items()):
+        aside = 1 + 0.04 * (place - (len(groups) - 1) / 2)
+        colour = COLOURS[place % len(COLOURS)]
+        at = [row.n * aside for row in group], [max(row.moves, 1) for row in group]
+        axes.scatter(*at, s=12, alpha=0.6, color=colour, label=f"{daemon}, {rules}")
     for rules, style in (("hh", "--"), ("manne", "-")):
-        bounds = sorted({(row.n, row.bound) for row in rows if row.rules == rules})
+        bounds = sorted({(row.n, max(row.bound, 1)) for row in rows if row.rules == rules})
         if bounds:
             axes.plot(*zip(*bounds), style, color="#999", label=f"bound, {rules}")
+    axes.set_xscale("log")
+    axes.set_yscale("log")
+    sizes = sorted({row.n for row in rows})
+    axes.set_xticks(sizes, map(str, sizes))
+    axes.tick_params(axis="x", which="minor", bottom=False, labelbottom=False)
     axes.legend(fontsize="small")
     figure.savefig(path, metadata=date_of(path))
 

@@ -144,32 +144,38 @@ class RandomTimes(Timed):
     def cut_at_random(self, times, play):
         """Lets another thread send this one signals, `times` of them, while it plays; answers how many came while it did."""
         main, drawn = threading.get_ident(), random.Random(7)
-        is_armed, is_done, came = [False], [False], [0]
+        is_armed, is_done, came, handled = [False], [False], [0], [0]
 
         def handler(*_):
+            handled[0] += 1
             if is_armed[0]:
                 is_armed[0] = False
                 came[0] += 1
                 raise Cut
 
         def send():
-            for _ in range(times):
+            for number in range(times):
                 time.sleep(drawn.random() * 0.0006)
+                while not is_armed[0]:
+                    time.sleep(0.00002)
+                is_done[0] = number == times - 1
                 signal.pthread_kill(main, signal.SIGUSR1)
-            is_done[0] = True
+                # two that wait to be handled would be one
+                while handled[0] <= number:
+                    time.sleep(0.00002)
 
         before = signal.signal(signal.SIGUSR1, handler)
         self.addCleanup(signal.signal, signal.SIGUSR1, before)
-        sender = threading.Thread(target=send)
+        sender = threading.Thread(target=send, daemon=True)
         sender.start()
         while not is_done[0]:
+            # the handler disarms itself, so that none comes where it is not caught
             try:
                 is_armed[0] = True
                 play()
+                is_armed[0] = False
             except Cut:
                 pass
-            finally:
-                is_armed[0] = False
         sender.join()
         return came[0]
 
@@ -184,7 +190,7 @@ class RandomTimes(Timed):
                         raise AssertionError(shown)
 
             came = self.cut_at_random(3000, play)
-            self.assertGreater(came, 2000)
+            self.assertGreater(came, 2700)
             self.assertEqual(net.status().edges, 1)
         audit(net.transcript())
 
@@ -198,7 +204,7 @@ class RandomTimes(Timed):
                 if shown.result().node != 7:
                     raise AssertionError(shown.result())
 
-            self.assertGreater(self.cut_at_random(300, play), 200)
+            self.assertGreater(self.cut_at_random(300, play), 250)
             self.assertEqual(net.status().nodes, 3000)
         audit(net.transcript())
 
