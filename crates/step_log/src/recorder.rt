@@ -1,6 +1,6 @@
 //! A network whose entries are numbered.
 
-ghost use Rattle.std.specs.Prelude.{◌≡◌, ◌<◌, ◌≤◌, ◌+◌, ◌*◌, ◌↔◌, min, IfOk, IfErr, OnOk, OnErr, IsErrOf, IsTrue};
+ghost use Rattle.std.specs.Prelude.{◌≡◌, ◌<◌, ◌≤◌, ◌+◌, ◌++◌, ◌*◌, ◌↔◌, min, IfOk, IfErr, OnOk, OnErr, IsErrOf, IsTrue};
 ghost use Rattle.graph_store.specs.Fault.{nodes_fault, Explains};
 ghost use Rattle.rule_machine.specs.declared.event.Event.TheVariants.{Step};
 ghost use Rattle.rule_machine.specs.Network.{node_count, edge_count};
@@ -8,10 +8,13 @@ ghost use Rattle.rule_machine.specs.Stable.{IsStable};
 ghost use Rattle.rule_machine.specs.Answer.{Answers};
 ghost use Rattle.rule_machine.specs.Least.{reply_of};
 ghost use Rattle.rule_engine.specs.Choosing.{verdicts_of};
+ghost use Rattle.line_text.specs.EntryText.{entry_line};
+ghost use Rattle.line_text.specs.EventText.{event_text};
 ghost use Rattle.step_log.specs.declared.fault.RecordFault.TheVariants.{LogFull};
 ghost use Rattle.step_log.specs.Recording.{max_entries, opening_recording, opening_recording_with, entered};
 
 use crate::{Answer, RecordFault};
+use line_text::{put_entry, put_entry_of_line};
 use rule_engine::{Choice, Event, GraphFault, Net, Reply, Rules, Verdict};
 use std::alloc::Global;
 use std::marker::Model;
@@ -145,6 +148,69 @@ impl<R: Rules> Recorder<R> {
         self.net.apply_into(event, &mut answer.reply)?;
         self.len += 1;
         answer.seq = self.len;
+        Ok(())
+    }
+
+    /// The same, and adds the text of the entry, with its LF, to a text: at a fault that has not changed either, so that no entry is
+    /// lost where there was memory for its reply and none for its text. Takes the memory of the two and no other.
+    #[inline(always)]
+    pub fn log_entry(
+        &mut self,
+        event: &Event,
+        answer: &mut Answer,
+        text: &mut Vec<u8>,
+    ) -> Result<(), RecordFault>
+        ensures number { OnOk result (answer.new.seq ≡ self.old.len + 1) }
+        ensures reply { OnOk result (answer.new.reply ≡ reply_of R.table self.old.state self.old.spent event.now) }
+        ensures below { OnOk result (self.old.len < self.old.limit) }
+        ensures recording { OnOk result (self.new ≡ entered R.table self.old event.now) }
+        ensures text { OnOk result (text.new.items ≡ text.old.items ++ entry_line (self.old.len + 1) event.now (reply_of R.table self.old.state self.old.spent event.now)) }
+        ensures full { self.old.len ≡ self.old.limit → IsErrOf result LogFull }
+        ensures not_full { IsErrOf result LogFull → self.old.len ≡ self.old.limit }
+        ensures kept { OnErr result (self.new ≡ self.old) }
+        ensures kept_text { OnErr result (text.new.items ≡ text.old.items) }
+    {
+        if self.is_full() {
+            return Err(RecordFault::LogFull);
+        }
+        let reply = self.net.prepare(event)?;
+        put_entry(text, self.len + 1, event, &reply)?;
+        self.net.commit(event, &reply);
+        self.len += 1;
+        answer.seq = self.len;
+        answer.reply = reply;
+        Ok(())
+    }
+
+    /// The same for an event whose text is a line that is at hand, which is copied.
+    #[inline(always)]
+    pub fn log_line(
+        &mut self,
+        event: &Event,
+        line: &[u8],
+        answer: &mut Answer,
+        text: &mut Vec<u8>,
+    ) -> Result<(), RecordFault>
+        requires { line.now ≡ event_text event.now }
+        ensures number { OnOk result (answer.new.seq ≡ self.old.len + 1) }
+        ensures reply { OnOk result (answer.new.reply ≡ reply_of R.table self.old.state self.old.spent event.now) }
+        ensures below { OnOk result (self.old.len < self.old.limit) }
+        ensures recording { OnOk result (self.new ≡ entered R.table self.old event.now) }
+        ensures text { OnOk result (text.new.items ≡ text.old.items ++ entry_line (self.old.len + 1) event.now (reply_of R.table self.old.state self.old.spent event.now)) }
+        ensures full { self.old.len ≡ self.old.limit → IsErrOf result LogFull }
+        ensures not_full { IsErrOf result LogFull → self.old.len ≡ self.old.limit }
+        ensures kept { OnErr result (self.new ≡ self.old) }
+        ensures kept_text { OnErr result (text.new.items ≡ text.old.items) }
+    {
+        if self.is_full() {
+            return Err(RecordFault::LogFull);
+        }
+        let reply = self.net.prepare(event)?;
+        put_entry_of_line(text, self.len + 1, line, &reply)?;
+        self.net.commit(event, &reply);
+        self.len += 1;
+        answer.seq = self.len;
+        answer.reply = reply;
         Ok(())
     }
 

@@ -1,0 +1,30 @@
+use Rattle.std.proofs.Common.{◌≡◌, ◌<◌, ◌+◌, ◌∙◌, ◌++◌, ◌∷◌, [], List, ℕ, ap, subst, arith}
+use Rattle.rule_machine.specs.declared.reply.Reply.{Reply}
+use Rattle.rule_machine.specs.Least.{reply_of}
+use Rattle.rule_machine.specs.Run.{Moment, moment_after}
+use Rattle.machine_laws.specs.LeastMoves.{IsTable}
+use Rattle.line_text.specs.EntryText.{entry_line, numbered_text}
+use Rattle.step_log.specs.Recording.{Recording}
+use Rattle.step_log.proofs.Recording.{entered_is_recording}
+use Rattle.step_log.proofs.recorder.Recorder.log_line.Goals as goal
+
+pub invariant_of-self-2 : goal.invariant_of-self-2
+invariant_of-self-2 g c =
+    let laws = g.met.R.Rules in
+    let t = g.R.Rules.table in
+    let table : IsTable t = record { allowed_is_neighbour = laws.allowed_is_neighbour; allowed_takes_target = laws.allowed_takes_target; has_target = laws.has_target } in
+    let inside = c.self.inside in
+    let before : Recording = record { state = inside.net.state; spent = inside.net.spent; len = inside.len; limit = inside.limit; first = inside.first } in
+    let after : Moment = record { state = c.commit.new.self.state; spent = c.commit.new.self.spent } in
+    let below : inside.len < inside.limit = grind arith in
+    entered_is_recording t table before c.self.invariant below c.args.event.now after (c.commit.ensures.state ∙ ap (λ (m : Moment). moment_after t m c.args.event.now) c.in_ok-reply.ensures.kept)
+
+pub returns-clause-text : goal.returns-clause-text
+returns-clause-text g c =
+    let inside = c.self.inside in
+    let t = g.R.Rules.table in
+    let event = c.args.event.now in
+    let text = c.args.text.now.items in
+    subst (λ (r : Recording). c.put_entry_of_line.new.out.items ≡ text ++ entry_line (r.len + 1) event (reply_of t r.state r.spent event)) c.self.view_is
+    (c.in_ok-put_entry_of_line.ensures.ok ∙ ap (λ (line : List ℕ). text ++ (numbered_text (inside.len + 1) line c.in_ok-reply.reply ++ 10 ∷ [])) c.requires
+    ∙ ap (λ (reply : Reply). text ++ entry_line (inside.len + 1) event reply) c.in_ok-reply.ensures.reply)
