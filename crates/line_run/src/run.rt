@@ -1,0 +1,177 @@
+//! A run under one set of rules.
+
+ghost use Rattle.std.specs.Prelude.{◌≡◌, ◌≤◌, IfOk, IsTrue, min};
+ghost use Rattle.line_text.specs.EventText.{event_text};
+ghost use Rattle.rule_machine.specs.Least.{reply_of};
+ghost use Rattle.script_text.specs.Command.{Says};
+ghost use Rattle.seeded_turns.specs.Drawn.{seeded_stream, drawn_step, drawn_fault};
+ghost use Rattle.line_run.specs.Beginning.{beginning};
+ghost use Rattle.line_run.specs.Line.{progress, EventEnds, TurnsEnd, CommandEnds, LineEnds};
+
+use crate::stop::Stop;
+use line_text::put_header;
+use rule_machine::{Event, RuleSet, Want};
+use rule_set::Rules;
+use script_text::{Command, Turns, read_line_into};
+use seeded_turns::{DaemonTurns, EventSource, FaultTurns};
+use std::alloc::{AllocError, Global};
+use step_log::{Answer, RecordFault, Recorder};
+
+/// The rule set by its name, a network whose entries are numbered, and their text, as far as the caller has not taken it away.
+#[derive(Drop)]
+pub struct Run<R: Rules> {
+    pub rules: RuleSet,
+    pub recorder: Recorder<R>,
+    pub text: Vec<u8>,
+}
+
+impl<R: Rules> Run<R> {
+    /// The run of a new network of the names 1 to `nodes`, of which 1 to `present` are there, with the text of its header; there may
+    /// be so many entries, and 16,777,216 where more are said. `Want` if memory runs out. Takes some fifty bytes a name.
+    pub fn new(
+        alloc: Global,
+        rules: RuleSet,
+        nodes: u32,
+        present: u32,
+        limit: u32,
+    ) -> Result<Run<R>, Want>
+        requires few { nodes ≤ 65535 }
+        requires within { present ≤ nodes }
+        ensures begins { IfOk result (λ run. progress run.rules run.recorder run.text.items ≡ beginning rules nodes present) }
+        ensures limit { IfOk result (λ run. run.recorder.limit ≡ min limit 16777216) }
+    {
+        let Ok(recorder) = Recorder::with_present(alloc, nodes, present, limit) else {
+            return Err(AllocError);
+        };
+        let mut text = Vec::new(alloc);
+        put_header(&mut text, rules, nodes, present)?;
+        Ok(Run {
+            rules,
+            recorder,
+            text,
+        })
+    }
+
+    /// Carries out an event, puts the number of its entry and the reply to it where the caller keeps its answers, and adds the
+    /// entry's text; false where the log is full. At want of memory, and where the log is full, nothing has changed but the answer.
+    #[inline(always)]
+    pub fn log(&mut self, event: &Event, answer: &mut Answer) -> Result<bool, Want>
+        ensures ends { EventEnds R.table self.old.recorder.limit event.now (progress self.old.rules self.old.recorder self.old.text.items) (progress self.new.rules self.new.recorder self.new.text.items) result }
+        ensures reply { IfOk result (λ done. IsTrue done → answer.new.reply ≡ reply_of R.table self.old.recorder.state self.old.recorder.spent event.now) }
+        ensures number { IfOk result (λ done. IsTrue done → answer.new.seq ≡ self.new.recorder.len) }
+        ensures limit { self.new.recorder.limit ≡ self.old.recorder.limit }
+    {
+        match self.recorder.log_entry(event, answer, &mut self.text) {
+            Ok(()) => Ok(true),
+            Err(RecordFault::LogFull) => Ok(false),
+            Err(RecordFault::Memory) => Err(AllocError),
+        }
+    }
+
+    // The same for an event that was read from a line, which is its text: so that text is copied. It stands in line with what reads
+    // the event, as all that lies between does.
+    #[inline(always)]
+    fn log_line(&mut self, event: &Event, line: &[u8]) -> Result<bool, Want>
+        requires { line.now ≡ event_text event.now }
+        ensures ends { EventEnds R.table self.old.recorder.limit event.now (progress self.old.rules self.old.recorder self.old.text.items) (progress self.new.rules self.new.recorder self.new.text.items) result }
+        ensures limit { self.new.recorder.limit ≡ self.old.recorder.limit }
+    {
+        let mut answer = Answer::none();
+        match self
+            .recorder
+            .log_line(event, line, &mut answer, &mut self.text)
+        {
+            Ok(()) => Ok(true),
+            Err(RecordFault::LogFull) => Ok(false),
+            Err(RecordFault::Memory) => Err(AllocError),
+        }
+    }
+
+    // Carries out the events of so many turns, or of those up to one that has none; false where a turn meets a full log, before
+    // it is asked for. At want of memory some first turns were taken, whole.
+    fn take_turns<S: EventSource>(&mut self, source: &mut S, count: u32) -> Result<bool, Want>
+        ensures ends { TurnsEnd S.draws R.table self.old.recorder.limit count (S.stream source.old) (progress self.old.rules self.old.recorder self.old.text.items) (progress self.new.rules self.new.recorder self.new.text.items) result }
+        ensures unasked { self.old.recorder.len ≡ self.old.recorder.limit → S.stream source.new ≡ S.stream source.old }
+        ensures limit { self.new.recorder.limit ≡ self.old.recorder.limit }
+    {
+        for _ in 0..count {
+            if self.recorder.is_full() {
+                return Ok(false);
+            }
+            let Some(event) = source.next_event(self.recorder.net())? else {
+                return Ok(true);
+            };
+            let mut answer = Answer::none();
+            if !self.log(&event, &mut answer)? {
+                return Ok(false);
+            }
+        }
+        Ok(true)
+    }
+
+    /// Steps of a daemon that draws its choices from the generator with this seed, up to one that finds no node enabled; false where
+    /// a turn meets a full log, before the daemon is asked. At want of memory some first turns were taken, whole.
+    pub fn drive(&mut self, alloc: Global, turns: Turns) -> Result<bool, Want>
+        ensures ends { TurnsEnd drawn_step R.table self.old.recorder.limit turns.count (seeded_stream turns.seed) (progress self.old.rules self.old.recorder self.old.text.items) (progress self.new.rules self.new.recorder self.new.text.items) result }
+        ensures limit { self.new.recorder.limit ≡ self.old.recorder.limit }
+    {
+        let mut daemon = DaemonTurns::new(alloc, turns.seed);
+        self.take_turns(&mut daemon, turns.count)
+    }
+
+    /// Register faults that are drawn from the generator with this seed, none where the network has no node; false where a turn
+    /// meets a full log. At want of memory some first turns were taken, whole.
+    pub fn scramble(&mut self, turns: Turns) -> Result<bool, Want>
+        ensures ends { TurnsEnd drawn_fault R.table self.old.recorder.limit turns.count (seeded_stream turns.seed) (progress self.old.rules self.old.recorder self.old.text.items) (progress self.new.rules self.new.recorder self.new.text.items) result }
+        ensures limit { self.new.recorder.limit ≡ self.old.recorder.limit }
+    {
+        let mut injector = FaultTurns::new(turns.seed);
+        self.take_turns(&mut injector, turns.count)
+    }
+
+    /// Follows a command, which a line says; false where it, or a turn of it, meets a full log. At want of memory nothing has
+    /// changed, or some first turns of the command were taken, whole, and their text is there.
+    #[inline(always)]
+    pub fn follow(&mut self, alloc: Global, command: &Command, line: &[u8]) -> Result<bool, Want>
+        requires { Says line.now command.now }
+        ensures ends { CommandEnds R.table self.old.recorder.limit command.now (progress self.old.rules self.old.recorder self.old.text.items) (progress self.new.rules self.new.recorder self.new.text.items) result }
+        ensures limit { self.new.recorder.limit ≡ self.old.recorder.limit }
+    {
+        match command {
+            Command::Tell(event) => self.log_line(event, line),
+            Command::Drive(turns) => self.drive(alloc, *turns),
+            Command::Scramble(turns) => self.scramble(*turns),
+            Command::Checkpoint => {
+                self.checkpoint()?;
+                Ok(true)
+            }
+        }
+    }
+
+    /// Carries out the line with this number, which has no LF: what in it stops the run, if anything does. A bad line changes
+    /// nothing; at a full log what a line's turns have done before stays. At want of memory nothing has changed, or some first
+    /// turns of the line were taken, whole, and their text is there: the run goes on from where it stands.
+    #[inline(always)]
+    pub fn carry_out(
+        &mut self,
+        alloc: Global,
+        number: u64,
+        line: &[u8],
+    ) -> Result<Option<Stop>, Want>
+        ensures ends { LineEnds R.table self.old.recorder.limit number line.now (progress self.old.rules self.old.recorder self.old.text.items) (progress self.new.rules self.new.recorder self.new.text.items) result }
+        ensures limit { self.new.recorder.limit ≡ self.old.recorder.limit }
+    {
+        if line.is_empty() {
+            return Ok(None);
+        }
+        let mut command = Command::Checkpoint;
+        if !read_line_into(alloc, line, &mut command)? {
+            return Ok(Some(Stop::BadLine { line: number }));
+        }
+        match self.follow(alloc, &command, line) {
+            Ok(true) => Ok(None),
+            Ok(false) => Ok(Some(Stop::LogFull)),
+            Err(want) => Err(want),
+        }
+    }
+}
