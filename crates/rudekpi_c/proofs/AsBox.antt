@@ -1,0 +1,29 @@
+-- A session's box, at whose types the parts and the handle of a session own what it owns.
+use mir.Syntax.{impl, tnil, dnil}
+use mathlib.Core.List.{[]}
+use denote.Signature.{Slot, plain}
+use Rattle.std_alloc.proofs.BoxSteps.Form.{Bx}
+use Rattle.std_heap.specs.contracts.Global as heap
+use Rattle.std_heap.specs.contracts.GlobalAllocator.TheImpl.{ghosts, dict}
+use Rattle.std_heap.proofs.Global.TheLaws as heap_laws
+use Rattle.rudekpi_c.specs.contracts.session.Session as session
+use Rattle.rudekpi_c.proofs.session.Session.TheLaws as session_laws
+use Rattle.rudekpi_c.specs.contracts.parts.Parts as parts
+use Rattle.rudekpi_c.specs.contracts.handle.Handle as handle
+
+abbrev pub session_box : Bx
+session_box = record {
+  row = session.the_row;
+  laws = session_laws.the_row_laws;
+  al = record { row = heap.the_row; laws = heap_laws.the_row_laws; g = ghosts; d = dict; drops = impl [] tnil dnil };
+}
+
+-- what a function takes that is given the parts, the handle, an allocator
+abbrev pub takes_parts : Slot 0
+takes_parts = plain (λ _. parts.the_row session.the_row heap.the_row ghosts)
+
+abbrev pub takes_handle : Slot 0
+takes_handle = plain (λ _. handle.the_row)
+
+abbrev pub takes_allocator : Slot 0
+takes_allocator = plain (λ _. heap.the_row)

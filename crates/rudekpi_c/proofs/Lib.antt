@@ -1,0 +1,5 @@
+mod AsBox
+mod Walks
+pub mod Feeding
+pub mod Handing
+pub mod Judging

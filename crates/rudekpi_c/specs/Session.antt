@@ -1,0 +1,50 @@
+-- Where a session stands, and what is done to it.
+use Rattle.std.specs.Prelude.{◌≡◌, ℕ, Bool, true, false, List, [], Option, Result}
+use Rattle.rule_machine.specs.declared.rules.RuleSet.{RuleSet}
+use Rattle.rule_machine.specs.declared.rules.RuleSet.TheVariants as rules
+use Rattle.rule_machine.specs.Tables.{table_of}
+use Rattle.script_text.specs.Script.{Progress}
+use Rattle.line_run.specs.Line.{progress, LineEnds}
+use Rattle.line_run.specs.declared.stop.Stop.{Stop}
+use Rattle.rudekpi_c.specs.declared.session.Machine.{Machine}
+use Rattle.rudekpi_c.specs.declared.session.Machine.TheVariants.{Hh, Manne}
+use Rattle.rudekpi_c.specs.declared.session.Session.{Session}
+
+abbrev pub stands_at : Machine → Progress
+stands_at (Hh run) = progress run.rules run.recorder run.text.items
+stands_at (Manne run) = progress run.rules run.recorder run.text.items
+
+-- where it stands: the network, how many entries led there, and their text that was not taken
+abbrev pub stands : Session → Progress
+stands s = stands_at s.machine
+
+abbrev pub rules_at : Machine → RuleSet
+rules_at (Hh run) = rules.Hh
+rules_at (Manne run) = rules.Manne
+
+-- the rules that it plays by
+abbrev pub rules_of : Session → RuleSet
+rules_of s = rules_at s.machine
+
+abbrev pub limit_at : Machine → ℕ
+limit_at (Hh run) = run.recorder.limit
+limit_at (Manne run) = run.recorder.limit
+
+-- how many entries it may have
+abbrev pub limit_of : Session → ℕ
+limit_of s = limit_at s.machine
+
+-- with its text where a transcript is kept, with none where not
+abbrev pub shown : Bool → Progress → Progress
+shown true at = at
+shown false at = record at { text = [] }
+
+-- the rules, the limit, and whether a transcript is kept stay
+pub record GoesOn (s t : Session) : Type 0 where
+  pub rules : rules_of t ≡ rules_of s
+  pub limit : limit_of t ≡ limit_of s
+  pub keeps : t.keeps ≡ s.keeps
+
+-- by these rules
+abbrev pub LineEnded : {E : Type 0} → RuleSet → ℕ → ℕ → List ℕ → Progress → Progress → Result (Option Stop) E → Type 0
+LineEnded r = LineEnds (table_of r)

@@ -1,0 +1,95 @@
+-- What the calls of C do to a session that C keeps, status by status.
+use Rattle.std.specs.Prelude.{◌≡◌, ◌≤◌, ◌<◌, ◌⊎◌, ◌+◌, ◌-◌, ◌^◌, ℕ, true, false, min, zero, suc, List, length, take, Option, None, Some, Result, Ok, Err}
+use Rattle.rule_machine.specs.declared.rules.RuleSet.{RuleSet}
+use Rattle.rule_machine.specs.declared.rules.RuleSet.TheVariants.{Hh, Manne}
+use Rattle.rule_machine.specs.Tables.{table_of}
+use Rattle.script_text.specs.Script.{Progress, LineDoes, IsBadLine, MeetsFullLog}
+use Rattle.line_run.specs.Beginning.{beginning}
+use Rattle.line_run.specs.Line.{LineBegins}
+use Rattle.line_run.specs.declared.stop.Stop.{Stop}
+use Rattle.line_run.specs.declared.stop.Stop.TheVariants.{BadLine, LogFull}
+use Rattle.rudekpi_c.specs.Session.{stands, rules_of, limit_of, shown, GoesOn}
+use Rattle.rudekpi_c.specs.declared.session.Session.{Session}
+
+-- 0 names the rules of Hsu and Huang, any other number those of Manne and others
+abbrev pub named : ℕ → RuleSet
+named zero = Hh
+named (suc n) = Manne
+
+-- there are two rule sets, at most 65,535 names, and no more nodes than names
+abbrev pub IsWanted : ℕ → ℕ → ℕ → Type 0
+IsWanted rules nodes present = (rules ≤ 1) × (nodes ≤ 65535) × (present ≤ nodes)
+
+-- a session at the beginning of a run, which keeps its transcript
+pub record IsBegun (rules nodes present : ℕ) (new : Option Session) : Type 0 where
+  pub session : Session
+  pub is : new ≡ Some session
+  pub stands_is : stands session ≡ beginning (named rules) nodes present
+  pub rules_is : rules_of session ≡ named rules
+  pub limit_is : limit_of session ≡ 16777216
+  pub lines_is : session.lines ≡ 0
+  pub keeps_is : session.keeps ≡ true
+
+-- 0: it began; 3: memory was refused, and there is none; 5: what was asked for is out of its range, and there is none
+abbrev pub Begun : ℕ → ℕ → ℕ → ℕ → Option Session → Type 0
+Begun rules nodes present status new =
+    (IsWanted rules nodes present × (status ≡ 0) × IsBegun rules nodes present new)
+    ⊎ (IsWanted rules nodes present × (status ≡ 3) × (new ≡ None))
+    ⊎ ((IsWanted rules nodes present → ⊥) × (status ≡ 5) × (new ≡ None))
+
+-- a line that was fed: it was the session's next, whatever it was
+pub record IsNext (number : ℕ) (s t : Session) : Type 0 where
+  pub number_is : number ≡ t.lines
+  pub lines_is : t.lines ≡ min (s.lines + 1) (2 ^ 64 - 1)
+  pub goes_on : GoesOn s t
+
+-- how a line ended, as C is told
+abbrev pub line_status : {E : Type 0} → Result (Option Stop) E → ℕ
+line_status (Ok None) = 0
+line_status (Ok (Some (BadLine n))) = 1
+line_status (Ok (Some LogFull)) = 2
+line_status (Err want) = 3
+
+-- 0: it has done what the machine does; 1: it is neither empty nor a command, and nothing was done; 2: it met a full log; 3: memory was
+-- refused, and it was begun at the most
+abbrev pub Does : List ℕ → ℕ → Session → Progress → Type 0
+Does line status s after =
+    ((status ≡ 0) × LineDoes (table_of (rules_of s)) (limit_of s) line (stands s) after)
+    ⊎ ((status ≡ 1) × IsBadLine line × (after ≡ stands s))
+    ⊎ ((status ≡ 2) × MeetsFullLog (table_of (rules_of s)) (limit_of s) line (stands s) after)
+    ⊎ ((status ≡ 3) × LineBegins (table_of (rules_of s)) (limit_of s) line (stands s) after)
+
+pub record IsFed (line : List ℕ) (status number : ℕ) (old new : Option Session) : Type 0 where
+  pub s : Session
+  pub t : Session
+  pub was : old ≡ Some s
+  pub is : new ≡ Some t
+  pub next : IsNext number s t
+  pub after : Progress
+  pub does : Does line status s after
+  pub stands_is : stands t ≡ shown t.keeps after
+
+-- there was none
+abbrev pub IsNobody : ℕ → Option Session → Option Session → Type 0
+IsNobody status old new = (status ≡ 4) × (old ≡ None) × (new ≡ None)
+
+-- a line was given to the session, or there was none
+abbrev pub Fed : List ℕ → ℕ → ℕ → Option Session → Option Session → Type 0
+Fed line status number old new = IsFed line status number old new ⊎ IsNobody status old new
+
+-- how many bytes of text there are
+abbrev pub text_length : Option Session → ℕ
+text_length None = 0
+text_length (Some s) = length (stands s).text
+
+-- where there is room for the text it begins what was written, and the session goes on with none; else nothing has changed
+pub record IsHanded (out : List ℕ) (n : ℕ) (s : Session) (new : Option Session) : Type 0 where
+  pub t : Session
+  pub is : new ≡ Some t
+  pub goes_on : GoesOn s t
+  pub all : n ≤ length out → (take n out ≡ (stands s).text) × (stands t ≡ shown false (stands s))
+  pub none : length out < n → t ≡ s
+
+abbrev pub Handed : List ℕ → ℕ → Option Session → Option Session → Type 0
+Handed out n None new = (n ≡ 0) × (new ≡ None)
+Handed out n (Some s) new = (n ≡ length (stands s).text) × IsHanded out n s new

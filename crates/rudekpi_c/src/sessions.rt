@@ -1,0 +1,126 @@
+//! Sessions that are told lines of a script.
+
+ghost use Rattle.std.specs.Prelude.{◌≡◌, None};
+ghost use Rattle.rudekpi_c.specs.Slot.{Begun, Fed, Handed, line_status, named, text_length};
+
+use crate::session::Session;
+use crate::slot::Slot;
+use crate::status::{BAD_ARGUMENT, BAD_LINE, DONE, LOG_FULL, MEMORY, NO_SESSION};
+use line_run::Stop;
+use rule_machine::{RuleSet, Want};
+use std::alloc::Global;
+
+/// The most names of a network.
+const MAX_NODES: u32 = 65_535;
+
+// The rules with this number.
+fn rules_named(rules: u32) -> RuleSet
+    ensures { result ≡ named rules }
+{
+    match rules {
+        0 => RuleSet::Hh,
+        _ => RuleSet::Manne,
+    }
+}
+
+/// Begins a session of a new network, in the place of what the slot had: rules 0 are those of Hsu and Huang, 1 those of Manne and
+/// others. 5 for other rules, more than 65,535 names, or more nodes than names; 3 if memory runs out: the slot is empty then.
+#[unsafe(no_mangle)]
+pub extern "C" fn rudekpi_session_new(
+    alloc: Global,
+    rules: u32,
+    nodes: u32,
+    present: u32,
+    slot: &mut Slot,
+) -> u32
+    ensures { Begun rules nodes present result slot.new.handle.value }
+{
+    drop(slot.take(alloc));
+    if rules > 1 || nodes > MAX_NODES || present > nodes {
+        return BAD_ARGUMENT;
+    }
+    let Ok(session) = Session::new(alloc, rules_named(rules), nodes, present) else {
+        return MEMORY;
+    };
+    let Ok(session) = Box::new(alloc, session) else {
+        return MEMORY;
+    };
+    slot.put(session);
+    DONE
+}
+
+/// Carries out the next line of the session, without its LF, and tells its number. 1 where it is neither empty nor a command, and
+/// nothing was done; 2 where it met a full log; 3 if memory runs out: at most some first turns of the line were taken, and the
+/// session goes on from there.
+#[unsafe(no_mangle)]
+pub extern "C" fn rudekpi_session_feed(
+    alloc: Global,
+    slot: &mut Slot,
+    line: &[u8],
+    number: &mut u64,
+) -> u32
+    ensures { Fed line.now result number.new slot.old.handle.value slot.new.handle.value }
+{
+    let Some(mut session) = slot.take(alloc) else {
+        return NO_SESSION;
+    };
+    let done = session.feed(alloc, line);
+    session.settle();
+    *number = session.lines;
+    slot.put(session);
+    status_of(done)
+}
+
+/// How many bytes of text there are; 0 where there is no session.
+#[unsafe(no_mangle)]
+pub extern "C" fn rudekpi_session_length(alloc: Global, slot: &mut Slot) -> usize
+    ensures kept { slot.new.handle.value ≡ slot.old.handle.value }
+    ensures len { result ≡ text_length slot.old.handle.value }
+{
+    let Some(session) = slot.take(alloc) else {
+        return 0;
+    };
+    let len = session.text().len();
+    slot.put(session);
+    len
+}
+
+/// Copies the text to the start of `out` and forgets it, if there is room for all of it. How many bytes it has.
+#[unsafe(no_mangle)]
+pub extern "C" fn rudekpi_session_read(alloc: Global, slot: &mut Slot, out: &mut [u8]) -> usize
+    ensures { Handed out.new result slot.old.handle.value slot.new.handle.value }
+{
+    let Some(mut session) = slot.take(alloc) else {
+        return 0;
+    };
+    let text = session.text();
+    let len = text.len();
+    if len > out.len() {
+        slot.put(session);
+        return len;
+    }
+    out[..len].copy_from_slice(text);
+    session.forget_text();
+    slot.put(session);
+    len
+}
+
+/// Ends the session, if there is one.
+#[unsafe(no_mangle)]
+pub extern "C" fn rudekpi_session_free(alloc: Global, slot: &mut Slot)
+    ensures { slot.new.handle.value ≡ None }
+{
+    drop(slot.take(alloc));
+}
+
+// How a line ended, as C is told.
+fn status_of(done: Result<Option<Stop>, Want>) -> u32
+    ensures { result ≡ line_status done }
+{
+    match done {
+        Ok(None) => DONE,
+        Ok(Some(Stop::BadLine { line: _ })) => BAD_LINE,
+        Ok(Some(Stop::LogFull)) => LOG_FULL,
+        Err(_) => MEMORY,
+    }
+}

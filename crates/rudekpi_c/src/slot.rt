@@ -1,0 +1,45 @@
+//! Where C keeps a session.
+
+ghost use Rattle.std.specs.Prelude.{◌≡◌, ◌↔◌, None, Some, IsTrue, IsNone, IfSome};
+
+use crate::handle::Handle;
+use crate::parts::Parts;
+use crate::session::Session;
+use std::alloc::Global;
+use std::mem::replace;
+
+/// A session of C, or none: that is what a slot of bytes that are all 0 says.
+#[repr(C)]
+#[derive(Drop)]
+pub struct Slot {
+    pub handle: Handle,
+    pub full: bool,
+    ghost says: { IsTrue full ↔ (handle.value ≡ None → ⊥) },
+}
+
+impl Slot {
+    /// Takes the session out.
+    pub(crate) fn take(&mut self, alloc: Global) -> Option<Box<Session>>
+        ensures left { self.new.handle.value ≡ None }
+        ensures none { IsNone result → self.old.handle.value ≡ None }
+        ensures some { IfSome result (λ session. self.old.handle.value ≡ Some session.value) }
+    {
+        let empty = Slot {
+            handle: Handle::empty(alloc),
+            full: false,
+        };
+        let old = replace(self, empty);
+        if !old.full {
+            return None;
+        }
+        Some(old.handle.into_parts().into_box())
+    }
+
+    /// Puts a session in the place of what was there.
+    pub(crate) fn put(&mut self, session: Box<Session>)
+        ensures { self.new.handle.value ≡ Some session.value }
+    {
+        let handle = Handle::of_parts(Parts::of(session));
+        *self = Slot { handle, full: true };
+    }
+}

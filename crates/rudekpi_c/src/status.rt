@@ -1,0 +1,19 @@
+//! What a call answers.
+
+/// It was done.
+pub(crate) const DONE: u32 = 0;
+
+/// The line is neither empty nor a command.
+pub(crate) const BAD_LINE: u32 = 1;
+
+/// An entry was wanted when there were as many as there may be.
+pub(crate) const LOG_FULL: u32 = 2;
+
+/// A growth of memory was refused.
+pub(crate) const MEMORY: u32 = 3;
+
+/// There is no session.
+pub(crate) const NO_SESSION: u32 = 4;
+
+/// What was asked for is out of its range.
+pub(crate) const BAD_ARGUMENT: u32 = 5;
