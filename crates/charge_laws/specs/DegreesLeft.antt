@@ -1,5 +1,5 @@
 -- How many edges are left at a node when one of them goes, or a neighbour with all of its own.
-use Rattle.std.proofs.Common.{◌≡◌, ℕ, ◌+◌, ◌-◌, ◌≤◌, false, cond, not, ◌&&◌, ◌||◌, count_by, nat_eq, Option, None, Some, IsTrue, refl, sym, ap, ◌∙◌, ⊎_elim, arith}
+use Rattle.std.proofs.Common.{◌≡◌, ℕ, ◌-◌, ◌≤◌, false, cond, not, ◌&&◌, nat_eq, Option, None, Some, IsTrue, refl, ap, ◌∙◌, ⊎_elim, arith}
 use Rattle.std.proofs.lemmas.Bool.{cases_Bool, and_from, not_from_false, or_left, or_right, or_cases, eq-eqb, eqb-true}
 use Rattle.rule_machine.specs.Network.{edge, is_end, linked, present, edge_list}
 use Rattle.rule_machine.specs.State.{State, IsState, pointer}

@@ -1,5 +1,5 @@
 -- How long the text of an entry is: that of its event, and that of a reply of its kind.
-use Rattle.std.proofs.Common.{◌≡◌, ℕ, ◌+◌, ◌*◌, ◌<◌, ◌≤◌, true, false, nat_le, ◌&&◌, List, [], ◌∷◌, ◌++◌, Option, None, Some, IfSome, IsTrue, length, codes, sym, ap, length-append, leb-true, arith}
+use Rattle.std.proofs.Common.{◌≡◌, ℕ, ◌*◌, ◌≤◌, nat_le, ◌&&◌, List, [], ◌∷◌, ◌++◌, Option, None, Some, IfSome, IsTrue, length, codes, sym, ap, length-append, leb-true, arith}
 use Rattle.std.specs.List.{AllByRecursion, list_all}
 use Rattle.std.proofs.lemmas.Bool.{and_parts, true≢false}
 use Rattle.std.proofs.lemmas.Fmt.{length-decimal-le}
@@ -16,7 +16,7 @@ use Rattle.rule_machine.specs.declared.reply.Reply.TheVariants.{Accepted, Refuse
 use Rattle.rule_machine.specs.declared.reply.Reply.TheVariants as reply_is
 use Rattle.rule_machine.specs.Refuse.{refusal_number, refusal_text}
 use Rattle.line_text.specs.Words.{number_text, IsName, marked_text, spaced, joined, joined_or}
-use Rattle.line_text.specs.EventText.{event_text, IsEvent}
+use Rattle.line_text.specs.EventText.{event_text}
 use Rattle.line_text.specs.ReplyText.{act_word, enabled_text, move_text, mutual_text, refusal_words, field_text, counts_text, reply_text, IsMoved, IsEnabled, IsPair, IsCount, IsCounts, IsReply}
 use Rattle.line_text.specs.EntryText.{entry_text}
 use Rattle.line_text.proofs.EventLengths.{name_short, target_short, event_short}
