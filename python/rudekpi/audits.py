@@ -2,8 +2,11 @@
 
 from __future__ import annotations
 
+import contextlib
+import os
 import re
 import subprocess
+import tempfile
 from typing import Any, Optional, Union
 
 from .errors import VERDICT, Damaged, Ended, Garbled, text_of
@@ -47,13 +50,31 @@ def picture(transcript: Text, entry: Optional[int] = None, *, program: Program =
 def judged(words: list[str], transcript: Text, program: Program) -> str:
     """What the program says of a transcript that it accepts."""
     given = transcript.encode() if isinstance(transcript, str) else transcript
-    done = subprocess.run([found_program(program), *words], input=given, stdout=subprocess.PIPE, stderr=subprocess.PIPE)
-    said = text_of(done.stdout)
-    if done.returncode == 1 and VERDICT.fullmatch(said):
+    status, out, told = fed([found_program(program), *words], given)
+    said = text_of(out)
+    if status == 1 and VERDICT.fullmatch(said):
         raise Damaged.read(said)
-    if done.returncode:
-        raise Ended(done.returncode, done.stderr)
+    if status:
+        raise Ended(status, told)
     return said
+
+
+def fed(words: list[str], given: Union[bytes, bytearray]) -> tuple[int, bytes, bytes]:
+    """Runs a program on these bytes: its status, what it writes and what it tells. Pieces as large as the pipe takes go at once, which
+    `subprocess.run` does not do."""
+    with tempfile.TemporaryFile() as out, tempfile.TemporaryFile() as told:
+        with subprocess.Popen(words, stdin=subprocess.PIPE, stdout=out, stderr=told, bufsize=0) as run:
+            try:
+                with contextlib.suppress(BrokenPipeError), run.stdin as pipe:  # type: ignore[union-attr]
+                    left = memoryview(given)
+                    while left:
+                        left = left[os.write(pipe.fileno(), left) :]
+            except BaseException:
+                run.kill()
+                raise
+        for file in (out, told):
+            file.seek(0)
+        return run.returncode, out.read(), told.read()
 
 
 def numbers_judged(word: str, transcript: Text, program: Program, line: str, head: str = "") -> list[tuple[Any, ...]]:

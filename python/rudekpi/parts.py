@@ -50,8 +50,14 @@ def audit_each(text: Bytes, executor: Optional[Executor], program: Program, size
 
 def verdict_of(text: Bytes, executor: Executor, program: Program, size: int) -> Summary:
     """What the parts' verdicts say of the whole."""
-    parts = list(parts_of(text, size))
-    under_way = [executor.submit(audit, text[start:end], program=program) for start, end in parts]
+    parts, under_way = [], []
+    for start, end in parts_of(text, size):
+        parts.append((start, end))
+        # a thread takes its part out of the whole when its turn comes
+        if isinstance(executor, ThreadPoolExecutor):
+            under_way.append(executor.submit(audit_slice, text, start, end, program))
+        else:
+            under_way.append(executor.submit(audit, text[start:end], program=program))
     entries = moves = 0
     epochs = 1
     try:
@@ -65,6 +71,10 @@ def verdict_of(text: Bytes, executor: Executor, program: Program, size: int) -> 
         for future in under_way:
             future.cancel()
     return Summary(entries, epochs, moves)
+
+
+def audit_slice(text: Bytes, start: int, end: int, program: Program) -> Summary:
+    return audit(text[start:end], program=program)
 
 
 def lines_before(text: Bytes, end: int) -> int:
