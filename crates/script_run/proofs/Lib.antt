@@ -1,4 +1,3 @@
-pub mod Turning
 pub mod Shifting
 pub mod Running
 pub mod Placing

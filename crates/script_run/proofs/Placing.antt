@@ -10,8 +10,8 @@ use Rattle.script_text.specs.Script.{Progress, LinesDo, IsLine, IsBadLine, lines
 use Rattle.script_text.proofs.Ending.{GoesOn, goes_on, line_joined, lines_of-ended, lines_of-last}
 use Rattle.script_text.proofs.Lengths.{long_says_nothing}
 use Rattle.byte_streams.specs.Beginning.{AppendsBeginning, AppendsLess}
-use Rattle.script_run.specs.declared.stop.Stop.{Stop}
-use Rattle.script_run.specs.declared.stop.Stop.TheVariants.{BadLine, LogFull}
+use Rattle.line_run.specs.declared.stop.Stop.{Stop}
+use Rattle.line_run.specs.declared.stop.Stop.TheVariants.{BadLine, LogFull}
 use Rattle.script_run.specs.declared.stop.End.{End}
 use Rattle.script_run.specs.declared.stop.End.TheVariants.{Whole, Stopped, Unread, Memory}
 use Rattle.script_run.specs.Outcome.{StopsAt, LeadsTo}

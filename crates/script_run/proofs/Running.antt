@@ -10,8 +10,8 @@ use Rattle.script_text.specs.declared.command.Command.{Command}
 use Rattle.script_text.specs.Command.{Says}
 use Rattle.script_text.specs.Script.{Progress, CommandDoes, LineDoes, LinesDo}
 use Rattle.byte_streams.specs.Beginning.{AppendsBeginning, AppendsLess}
-use Rattle.script_run.specs.declared.stop.Stop.{Stop}
-use Rattle.script_run.specs.declared.stop.Stop.TheVariants.{BadLine, LogFull}
+use Rattle.line_run.specs.declared.stop.Stop.{Stop}
+use Rattle.line_run.specs.declared.stop.Stop.TheVariants.{BadLine, LogFull}
 use Rattle.script_run.specs.declared.stop.End.{End}
 use Rattle.script_run.specs.declared.stop.End.TheVariants.{Whole, Stopped, Unread, Memory}
 use Rattle.script_run.specs.Outcome.{Ends, LeadsTo, Reaches}

@@ -1,5 +1,6 @@
 -- What a line adds to the text of a run, it adds to any text.
-use Rattle.std.proofs.Common.{◌≡◌, ◌∙◌, ℕ, zero, suc, ◌+◌, List, [], ◌∷◌, ◌++◌, Option, None, Some, inl, inr, refl, sym, ap, subst, append_assoc, append-nil}
+use Rattle.std.proofs.Common.{◌≡◌, ◌∙◌, ℕ, zero, suc, ◌+◌, List, [], ◌∷◌, ◌++◌, Option, None, Some, Bool, true, false, Result, Ok, Err, inl, inr, refl, sym, ap, subst, append_assoc, append-nil, length, take}
+use Rattle.std.proofs.Math.Seq.{take-append_seam}
 use Rattle.rand_core.specs.Stream.{Stream}
 use Rattle.rule_machine.specs.declared.event.Event.{Event}
 use Rattle.rule_machine.specs.declared.rules.RuleSet.{RuleSet}
@@ -12,6 +13,10 @@ use Rattle.line_text.specs.BaseText.{base_text}
 use Rattle.script_text.specs.declared.command.Command.{Command}
 use Rattle.script_text.specs.declared.command.Command.TheVariants.{Tell, Drive, Scramble, Checkpoint}
 use Rattle.seeded_turns.specs.Drawn.{Draws, seeded_stream, drawn_step, drawn_fault}
+use Rattle.line_run.specs.Line.{TurnsBegin, CommandBegins, CommandEnds, LineBegins, LineEnds as LineRunEnds}
+use Rattle.line_run.specs.declared.stop.Stop.{Stop}
+use Rattle.line_run.specs.declared.stop.Stop.TheVariants.{BadLine, LogFull}
+use Rattle.script_run.specs.Line.{Grows, CommandGrows, LineEnds}
 use Rattle.script_text.specs.Script.{Progress, IsEntry, IsFull, EventDoes, TurnDoes, TurnsDo, TurnFills, TurnsFill, checkpointed, CommandDoes, CommandFills, LineDoes, MeetsFullLog}
 
 -- where a run stands
@@ -124,3 +129,44 @@ line_adds t limit (b ∷ line) r r' s s' n n' old new (command, says, does) =
 pub meeting_adds : (t : RuleTable) (limit : ℕ) (line : List ℕ) (r r' : RuleSet) (s s' : Moment) (n n' : ℕ) (old new : List ℕ) → MeetsFullLog t limit line (at_line r s n old) (at_line r' s' n' new) → Adds (MeetsFullLog t limit line) r r' s s' n n' old new
 meeting_adds t limit line r r' s s' n n' old new (command, says, fills) =
     let a = command_fills_add t limit command r r' s s' n n' old new fills in record { more = a.more; grown = a.grown; leads = λ text. (command, says, a.leads text) }
+
+-- ---- what was begun of a line at want of memory has added to the text
+
+-- nothing was added
+same_grows : (before after : Progress) → after ≡ before → Grows before.text after.text
+same_grows before after same = ([], ap (λ (p : Progress). p.text) same ∙ sym (append-nil before.text))
+
+turns_begun : (draws : Draws) (t : RuleTable) (limit turns : ℕ) (stream : Stream) (before after : Progress) → TurnsBegin draws t limit turns stream before after → Grows before.text after.text
+turns_begun draws t limit turns stream before after (n, few, does) =
+    let a = turns_add draws t limit n stream before.rules after.rules before.moment after.moment before.count after.count before.text after.text does in (a.more, a.grown)
+
+pub command_begun : (t : RuleTable) (limit : ℕ) (c : Command) (before after : Progress) → CommandBegins t limit c before after → Grows before.text after.text
+command_begun t limit (Tell event) before after same = same_grows before after same
+command_begun t limit (Drive turns) before after begun = turns_begun drawn_step t limit turns.count (seeded_stream turns.seed) before after begun
+command_begun t limit (Scramble turns) before after begun = turns_begun drawn_fault t limit turns.count (seeded_stream turns.seed) before after begun
+command_begun t limit Checkpoint before after same = same_grows before after same
+
+pub command_grows : {E : Type 0} (t : RuleTable) (limit : ℕ) (c : Command) (before after : Progress) (result : Result Bool E) → CommandEnds t limit c before after result → CommandGrows t limit c before after result
+command_grows t limit c before after (Ok true) does = does
+command_grows t limit c before after (Ok false) fills = fills
+command_grows t limit c before after (Err want) begun = command_begun t limit c before after begun
+
+line_begun : (t : RuleTable) (limit : ℕ) (line : List ℕ) (before after : Progress) → LineBegins t limit line before after → Grows before.text after.text
+line_begun t limit line before after (inl same) = same_grows before after same
+line_begun t limit line before after (inr (command, says, begun)) = command_begun t limit command before after begun
+
+-- a line that was carried out, or stops the run
+pub line_done : {E : Type 0} (t : RuleTable) (limit number : ℕ) (line : List ℕ) (before after : Progress) (stop : Option Stop) (result : Result (Option Stop) E) → LineRunEnds t limit number line before after result → result ≡ Ok stop
+    → LineEnds {E = E} t limit number line before after (Ok stop)
+line_done {E} t limit number line before after None result ends is = subst (LineRunEnds t limit number line before after) is ends
+line_done {E} t limit number line before after (Some (BadLine n)) result ends is = subst (LineRunEnds t limit number line before after) is ends
+line_done {E} t limit number line before after (Some LogFull) result ends is = subst (LineRunEnds t limit number line before after) is ends
+
+pub line_grows : {E : Type 0} (t : RuleTable) (limit number : ℕ) (line : List ℕ) (before after : Progress) (want : E) (result : Result (Option Stop) E) → LineRunEnds t limit number line before after result → result ≡ Err want
+    → Grows before.text after.text
+line_grows t limit number line before after want result ends is = line_begun t limit line before after (subst (LineRunEnds t limit number line before after) is ends)
+
+-- a text that has grown is cut back to what it was
+pub cut_back : (old new cut : List ℕ) (n : ℕ) → Grows old new → n ≡ length old → cut ≡ take n new → cut ≡ old
+cut_back old new cut n (more, grown) long is =
+    is ∙ ap (λ k. take k new) long ∙ ap (take (length old)) grown ∙ take-append_seam old more

@@ -1,46 +1,27 @@
--- How one line ends, and its parts.
+-- How one line ends where a run's text is written as it grows.
 use Rattle.std.specs.Prelude.{◌≡◌, ℕ, Bool, true, false, List, ◌++◌, Option, None, Some, Result, Ok, Err}
-use Rattle.rand_core.specs.Stream.{Stream}
 use Rattle.rule_machine.specs.declared.event.Event.{Event}
-use Rattle.rule_machine.specs.declared.rules.RuleSet.{RuleSet}
 use Rattle.rule_machine.specs.RuleTable.{RuleTable}
-use Rattle.rule_machine.specs.Run.{Moment}
-use Rattle.step_log.specs.Recording.{Recording}
 use Rattle.script_text.specs.declared.command.Command.{Command}
-use Rattle.seeded_turns.specs.Drawn.{Draws}
-use Rattle.script_text.specs.Script.{Progress, EventDoes, TurnsDo, TurnsFill, CommandDoes, CommandFills, LineDoes, IsBadLine, MeetsFullLog}
-use Rattle.script_run.specs.declared.stop.Stop.{Stop}
-use Rattle.script_run.specs.declared.stop.Stop.TheVariants.{BadLine, LogFull}
-
--- the state of a recording, and what is spent
-abbrev pub moment_of : Recording → Moment
-moment_of r = record { state = r.state; spent = r.spent }
-
--- where a run stands: its rule set, how far its recording has come, and a text
-abbrev pub progress : RuleSet → Recording → List ℕ → Progress
-progress rules r text = record { rules = rules; moment = moment_of r; count = r.len; text = text }
+use Rattle.script_text.specs.Script.{Progress, EventDoes, CommandDoes, CommandFills, LineDoes, IsBadLine, MeetsFullLog}
+use Rattle.line_run.specs.declared.stop.Stop.{Stop}
+use Rattle.line_run.specs.declared.stop.Stop.TheVariants.{BadLine, LogFull}
 
 -- a text has grown
 abbrev pub Grows : List ℕ → List ℕ → Type 0
 Grows old new = (more : List ℕ) × (new ≡ old ++ more)
 
--- the event is an entry; or the log was full, and nothing was done; at want of memory no text was added
-abbrev pub EventEnds : {E : Type 0} → RuleTable → ℕ → Event → Progress → Progress → Result Bool E → Type 0
-EventEnds t limit event before after (Ok true) = EventDoes t limit event before after
-EventEnds t limit event before after (Ok false) = (before.count ≡ limit) × (after ≡ before)
-EventEnds t limit event before after (Err want) = after.text ≡ before.text
-
--- the turns were taken, or one of them met a full log; at want of memory the text of some was added
-abbrev pub TurnsEnd : {E : Type 0} → Draws → RuleTable → ℕ → ℕ → Stream → Progress → Progress → Result Bool E → Type 0
-TurnsEnd draws t limit turns stream before after (Ok true) = TurnsDo draws t limit turns stream before after
-TurnsEnd draws t limit turns stream before after (Ok false) = TurnsFill draws t limit turns stream before after
-TurnsEnd draws t limit turns stream before after (Err want) = Grows before.text after.text
+-- the step is an entry; or the log was full, and nothing was done; at want of memory no text was added
+abbrev pub StepEnds : {E : Type 0} → RuleTable → ℕ → Event → Progress → Progress → Result Bool E → Type 0
+StepEnds t limit event before after (Ok true) = EventDoes t limit event before after
+StepEnds t limit event before after (Ok false) = (before.count ≡ limit) × (after ≡ before)
+StepEnds t limit event before after (Err want) = after.text ≡ before.text
 
 -- the command was followed, or met a full log; at want of memory some text was added
-abbrev pub CommandEnds : {E : Type 0} → RuleTable → ℕ → Command → Progress → Progress → Result Bool E → Type 0
-CommandEnds t limit command before after (Ok true) = CommandDoes t limit command before after
-CommandEnds t limit command before after (Ok false) = CommandFills t limit command before after
-CommandEnds t limit command before after (Err want) = Grows before.text after.text
+abbrev pub CommandGrows : {E : Type 0} → RuleTable → ℕ → Command → Progress → Progress → Result Bool E → Type 0
+CommandGrows t limit command before after (Ok true) = CommandDoes t limit command before after
+CommandGrows t limit command before after (Ok false) = CommandFills t limit command before after
+CommandGrows t limit command before after (Err want) = Grows before.text after.text
 
 -- the line with this number was carried out, or it is bad, or it meets a full log; at want of memory it has added no text
 abbrev pub LineEnds : {E : Type 0} → RuleTable → ℕ → ℕ → List ℕ → Progress → Progress → Result (Option Stop) E → Type 0

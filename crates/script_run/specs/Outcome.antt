@@ -3,18 +3,12 @@ use Rattle.std.specs.Prelude.{◌≡◌, ℕ, ◌+◌, ◌⊎◌, List, ◌∷�
 use Rattle.std.specs.Io.KnownBytes.{Appends}
 use Rattle.rule_machine.specs.declared.rules.RuleSet.{RuleSet}
 use Rattle.rule_machine.specs.RuleTable.{RuleTable}
-use Rattle.rule_machine.specs.Run as run
 use Rattle.rule_machine.specs.Tables.{table_of}
-use Rattle.line_text.specs.EntryText.{header_line}
 use Rattle.script_text.specs.Script.{Progress, LinesDo, IsBadLine, MeetsFullLog, lines_of}
+use Rattle.line_run.specs.Beginning.{beginning}
 use Rattle.byte_streams.specs.Beginning.{AppendsBeginning}
 use Rattle.script_run.specs.declared.fault.RunFault.{RunFault}
 use Rattle.script_run.specs.declared.fault.RunFault.TheVariants.{BadLine, LogFull, Read, Write, Memory, Pool}
-
--- where every run begins: the opening state with so many names, the first of them present, nothing spent, no entry, and the header
-abbrev pub beginning : RuleSet → ℕ → ℕ → Progress
-beginning rules nodes present =
-    record { rules = rules; moment = run.beginning_with nodes present; count = 0; text = header_line rules nodes present }
 
 -- the lines before the one with this number lead to the end, and it comes next
 pub record StopsAt (t : RuleTable) (limit : ℕ) (lines : List (List ℕ)) (start : Progress) (n : ℕ) (line : List ℕ) (end : Progress) : Type 0 where

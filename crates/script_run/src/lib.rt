@@ -1,7 +1,6 @@
 //! The run of a script: bytes in, transcript out.
 #![tactic(auto)]
 
-mod checkpoint;
 mod fault;
 mod options;
 mod paying;

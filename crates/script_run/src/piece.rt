@@ -4,14 +4,16 @@ ghost use Rattle.std.specs.Prelude.{◌≡◌, ◌<◌, ◌≤◌, ◌+◌, ◌^
 ghost use Rattle.script_text.specs.Script.{Progress, lines_of};
 ghost use Rattle.script_run.specs.declared.stop.End.TheVariants.{Whole, Unread};
 ghost use Rattle.script_run.specs.Halted.{Halts, Hands};
-ghost use Rattle.script_run.specs.Line.{progress, LineEnds};
+ghost use Rattle.line_run.specs.Line.{progress};
+ghost use Rattle.script_run.specs.Line.{LineEnds};
 ghost use Rattle.script_run.specs.Place.{Stands, PieceEnds};
 
 use crate::place::Place;
 use crate::runner::Run;
-use crate::stop::{End, Stop};
+use crate::stop::End;
 use crate::writing::hand_over;
 use byte_streams::OutputFault;
+use line_run::Stop;
 use rule_machine::Want;
 use rule_set::Rules;
 use script_text::{MAX_LINE, ended_line};
@@ -30,8 +32,8 @@ impl<R: Rules + Sync> Run<R> {
         end: &[u8],
     ) -> Result<Option<Stop>, Want>
         requires { place.old.lines + 1 < 2 ^ 64 }
-        ensures ends { LineEnds R.table self.old.recorder.limit (place.old.lines + 1) (place.old.begun.items ++ end.now) (progress self.old.rules self.old.recorder self.old.text.items) (progress self.new.rules self.new.recorder self.new.text.items) result }
-        ensures limit { self.new.recorder.limit ≡ self.old.recorder.limit }
+        ensures ends { LineEnds R.table self.old.line.recorder.limit (place.old.lines + 1) (place.old.begun.items ++ end.now) (progress self.old.line.rules self.old.line.recorder self.old.line.text.items) (progress self.new.line.rules self.new.line.recorder self.new.line.text.items) result }
+        ensures limit { self.new.line.recorder.limit ≡ self.old.line.recorder.limit }
         ensures lines { OnOk result (place.new.lines ≡ place.old.lines + 1) }
         ensures begun { OnOk result (place.new.begun.items ≡ []) }
     {
@@ -58,12 +60,12 @@ impl<R: Rules + Sync> Run<R> {
     ) -> Result<Option<End>, OutputFault>
         requires { place.old.lines + length place.old.begun.items + length piece.now < 2 ^ 64 }
         ensures piece { (start : Progress) (old : Option (List ℕ)) (read : List ℕ)
-            → Stands R.table self.old.recorder.limit start old read place.old.begun.items piece.now place.old.lines (progress self.old.rules self.old.recorder self.old.text.items) (Out.contents writer.old)
-            → PieceEnds R.table self.old.recorder.limit start old read place.new.begun.items place.new.lines (progress self.new.rules self.new.recorder self.new.text.items) (Out.contents writer.new) result }
+            → Stands R.table self.old.line.recorder.limit start old read place.old.begun.items piece.now place.old.lines (progress self.old.line.rules self.old.line.recorder self.old.line.text.items) (Out.contents writer.old)
+            → PieceEnds R.table self.old.line.recorder.limit start old read place.new.begun.items place.new.lines (progress self.new.line.rules self.new.line.recorder self.new.line.text.items) (Out.contents writer.new) result }
         ensures stops { IfOk result (λ end. IfSome end (λ how. how ≡ Whole → ⊥)) }
         ensures reads { IfOk result (λ end. IfSome end (λ how. how ≡ Unread → ⊥)) }
         ensures room { IfOk result (λ end. IsNone end → place.new.lines + length place.new.begun.items ≤ place.old.lines + length place.old.begun.items + length piece.now) }
-        ensures limit { self.new.recorder.limit ≡ self.old.recorder.limit }
+        ensures limit { self.new.line.recorder.limit ≡ self.old.line.recorder.limit }
     {
         let mut rest = piece;
         while let Some((end, behind)) = ended_line(rest) {
@@ -72,7 +74,7 @@ impl<R: Rules + Sync> Run<R> {
                 Ok(Some(stop)) => return Ok(Some(End::Stopped(stop))),
                 Err(_) => return Ok(Some(End::Memory)),
             }
-            hand_over(writer, &mut self.text)?;
+            hand_over(writer, &mut self.line.text)?;
             rest = behind;
         }
         if place.begun.len() + rest.len() > MAX_LINE {
@@ -95,9 +97,9 @@ impl<R: Rules + Sync> Run<R> {
         requires { place.now.lines + 1 < 2 ^ 64 }
         ensures reads { result ≡ Unread → ⊥ }
         ensures last { (start : Progress) (old known : Option (List ℕ)) (read : List ℕ)
-            → Stands R.table self.old.recorder.limit start old read place.now.begun.items [] place.now.lines (progress self.old.rules self.old.recorder self.old.text.items) known
-            → Halts R.table self.old.recorder.limit (lines_of read) start result (λ text. Hands old known text self.new.text.items) }
-        ensures limit { self.new.recorder.limit ≡ self.old.recorder.limit }
+            → Stands R.table self.old.line.recorder.limit start old read place.now.begun.items [] place.now.lines (progress self.old.line.rules self.old.line.recorder self.old.line.text.items) known
+            → Halts R.table self.old.line.recorder.limit (lines_of read) start result (λ text. Hands old known text self.new.line.text.items) }
+        ensures limit { self.new.line.recorder.limit ≡ self.old.line.recorder.limit }
     {
         if place.begun.is_empty() {
             return End::Whole;

@@ -3,7 +3,8 @@
 ghost use Rattle.std.specs.Prelude.{◌≡◌, ◌<◌, IsOk, IsTrue};
 ghost use Rattle.rule_machine.specs.declared.event.Event.TheVariants.{Step};
 ghost use Rattle.line_text.specs.EventText.{event_text};
-ghost use Rattle.script_run.specs.Line.{progress, EventEnds};
+ghost use Rattle.line_run.specs.Line.{progress};
+ghost use Rattle.script_run.specs.Line.{StepEnds};
 
 use crate::paying_workers;
 use crate::runner::Run;
@@ -36,21 +37,21 @@ impl<R: Rules + Sync> Run<R> {
         line: &[u8],
     ) -> Result<bool, Want>
         requires { line.now ≡ event_text (Step choice.now) }
-        ensures ends { EventEnds R.table self.old.recorder.limit (Step choice.now) (progress self.old.rules self.old.recorder self.old.text.items) (progress self.new.rules self.new.recorder self.new.text.items) result }
-        ensures full { self.old.recorder.len ≡ self.old.recorder.limit → IsOk result }
-        ensures limit { self.new.recorder.limit ≡ self.old.recorder.limit }
+        ensures ends { StepEnds R.table self.old.line.recorder.limit (Step choice.now) (progress self.old.line.rules self.old.line.recorder self.old.line.text.items) (progress self.new.line.rules self.new.line.recorder self.new.line.text.items) result }
+        ensures full { self.old.line.recorder.len ≡ self.old.line.recorder.limit → IsOk result }
+        ensures limit { self.new.line.recorder.limit ≡ self.old.line.recorder.limit }
     {
-        if self.recorder.is_full() {
+        if self.line.recorder.is_full() {
             return Ok(false);
         }
-        let net = self.recorder.net();
+        let net = self.line.recorder.net();
         let workers = paying_workers(self.workers, choice.items().len());
         let Ok(verdicts) = evaluate(rt, alloc, net, choice, workers, &NoGate) else {
             return Err(AllocError);
         };
-        match self.recorder.log_step(choice, &verdicts) {
+        match self.line.recorder.log_step(choice, &verdicts) {
             Ok(answer) => {
-                put_entry_of_line(&mut self.text, answer.seq, line, &answer.reply)?;
+                put_entry_of_line(&mut self.line.text, answer.seq, line, &answer.reply)?;
                 Ok(true)
             }
             Err(RecordFault::LogFull) => Ok(false),

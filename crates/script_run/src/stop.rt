@@ -1,18 +1,10 @@
-//! What ends the run of a script.
+//! How far a script is carried out.
 
 ghost use Rattle.std.specs.Prelude.{◌≡◌};
 ghost use Rattle.script_run.specs.Halted.{ended};
 
 use crate::RunFault;
-
-/// What in a script ends its run.
-#[derive(Clone, Copy)]
-pub enum Stop {
-    /// The line with this number, from 1, is neither empty nor a command.
-    BadLine { line: u64 },
-    /// A command came when there were as many entries as there may be.
-    LogFull,
-}
+use line_run::Stop;
 
 /// How far a script was carried out.
 #[derive(Clone, Copy)]

@@ -3,8 +3,9 @@ use Rattle.std.specs.Io.KnownBytes.{Appends}
 use Rattle.script_text.specs.Script.{Progress, lines_of}
 use Rattle.byte_streams.specs.Beginning.{AppendsBeginning}
 use Rattle.script_run.specs.Halted.{Hands, Halts, ended, answered}
-use Rattle.script_run.specs.Line.{progress}
-use Rattle.script_run.specs.Outcome.{Ends, LeadsTo, beginning}
+use Rattle.line_run.specs.Beginning.{beginning}
+use Rattle.line_run.specs.Line.{progress}
+use Rattle.script_run.specs.Outcome.{Ends, LeadsTo}
 use Rattle.script_run.proofs.Running.{WritesPart, WritesPart-none, WritesPart-begun, WritesPart-halted, Ends-failed, Ends-finished, for_any, for_known}
 use Rattle.script_run.proofs.runner.run_on.Goals as goal
 
@@ -18,7 +19,7 @@ returns-in_default-clause-outcome g c =
 pub returns-in_err-end-clause-outcome : goal.returns-in_err-end-clause-outcome
 returns-in_err-end-clause-outcome g c =
     let options = c.args.options.now in
-    let run = c.in-Ok.run' in
+    let run = c.in-Ok.run'.line in
     let old = g.Out.Write.contents c.args.writer.now in
     let new = g.Out.Write.contents c.carry_out_all.new.writer in
     let begun = progress run.rules run.recorder run.text.items in
@@ -33,11 +34,11 @@ returns-in_err-end-clause-outcome g c =
 pub returns-in_err-finish-clause-outcome : goal.returns-in_err-finish-clause-outcome
 returns-in_err-finish-clause-outcome g c =
     let options = c.args.options.now in
-    let run = c.in-Ok.run' in
+    let run = c.in-Ok.run'.line in
     let old = g.Out.Write.contents c.args.writer.now in
     let known = g.Out.Write.contents c.carry_out_all.new.writer in
     let new = g.Out.Write.contents c.finish.new.writer in
-    let held = c.carry_out_all.new.self.text.items in
+    let held = c.carry_out_all.new.self.line.text.items in
     let begun = progress run.rules run.recorder run.text.items in
     let first = beginning options.rules options.nodes options.present in
     let part = subst (AppendsBeginning known new) c.deref.ensures.value c.in_err-finish.ensures.fault in
@@ -51,11 +52,11 @@ returns-in_err-finish-clause-outcome g c =
 pub returns-clause-outcome : goal.returns-clause-outcome
 returns-clause-outcome g c =
     let options = c.args.options.now in
-    let run = c.in-Ok.run' in
+    let run = c.in-Ok.run'.line in
     let old = g.Out.Write.contents c.args.writer.now in
     let known = g.Out.Write.contents c.carry_out_all.new.writer in
     let new = g.Out.Write.contents c.finish.new.writer in
-    let held = c.carry_out_all.new.self.text.items in
+    let held = c.carry_out_all.new.self.line.text.items in
     let begun = progress run.rules run.recorder run.text.items in
     let first = beginning options.rules options.nodes options.present in
     for_known (g.In.Read.remaining c.args.reader.now)

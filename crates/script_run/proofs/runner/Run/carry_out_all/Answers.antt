@@ -8,14 +8,14 @@ use Rattle.script_run.specs.declared.stop.End.{End}
 use Rattle.script_run.specs.declared.stop.End.TheVariants.{Unread, Memory}
 use Rattle.script_run.specs.Outcome.{LeadsTo}
 use Rattle.script_run.specs.Halted.{Hands, Halts}
-use Rattle.script_run.specs.Line.{progress}
+use Rattle.line_run.specs.Line.{progress}
 use Rattle.script_run.proofs.Running.{OnErr-holds}
 use Rattle.script_run.proofs.Placing.{refilled, take_short, known_read, moved_on, Stands-none, Stands-handed, Stands-began, Stands-unread, Stands-memory, piece_read, last_at, piece_goes_on, piece_stops, piece_fails}
 use Rattle.script_run.proofs.runner.Run.carry_out_all.Goals as goal
 
 pub returns-in_default-clause-ok : goal.returns-in_default-clause-ok
 returns-in_default-clause-ok g c =
-    let run = c.args.self.now in
+    let run = c.args.self.now.line in
     let start = progress run.rules run.recorder run.text.items in
     let old = g.Out.Write.contents c.args.writer.now in
     let left = g.In.Read.remaining c.args.reader.now in
@@ -24,7 +24,7 @@ returns-in_default-clause-ok g c =
 
 pub loop-init : goal.loop-init
 loop-init g c =
-    let run = c.args.self.now in
+    let run = c.args.self.now.line in
     let place = c.new-place.result in
     let start = progress run.rules run.recorder run.text.items in
     let old = g.Out.Write.contents c.args.writer.now in
@@ -37,8 +37,8 @@ loop-init g c =
 
 pub returns-in_err-hand_over_all-clause-fault : goal.returns-in_err-hand_over_all-clause-fault
 returns-in_err-hand_over_all-clause-fault g c =
-    let begun = c.args.self.now in
-    let run = c.loop.self in
+    let begun = c.args.self.now.line in
+    let run = c.loop.self.line in
     let start = progress begun.rules begun.recorder begun.text.items in
     let old = g.Out.Write.contents c.args.writer.now in
     let known = g.Out.Write.contents c.hand_over_all.new.writer in
@@ -50,8 +50,8 @@ returns-in_err-hand_over_all-clause-fault g c =
 
 pub returns-in_default-read_on-clause-ok : goal.returns-in_default-read_on-clause-ok
 returns-in_default-read_on-clause-ok g c =
-    let begun = c.args.self.now in
-    let run = c.loop.self in
+    let begun = c.args.self.now.line in
+    let run = c.loop.self.line in
     let start = progress begun.rules begun.recorder begun.text.items in
     let old = g.Out.Write.contents c.args.writer.now in
     let known = g.Out.Write.contents c.hand_over_all.new.writer in
@@ -64,10 +64,10 @@ returns-in_default-read_on-clause-ok g c =
 
 pub returns-then-len-eq0-clause-ok : goal.returns-then-len-eq0-clause-ok
 returns-then-len-eq0-clause-ok g c =
-    let begun = c.args.self.now in
-    let run = c.loop.self in
+    let begun = c.args.self.now.line in
+    let run = c.loop.self.line in
     let place = c.loop.place in
-    let after = c.carry_out_last.new.self in
+    let after = c.carry_out_last.new.self.line in
     let end = c.carry_out_last.result in
     let start = progress begun.rules begun.recorder begun.text.items in
     let old = g.Out.Write.contents c.args.writer.now in
@@ -83,10 +83,10 @@ returns-then-len-eq0-clause-ok g c =
 
 pub returns-in_err-end-clause-fault : goal.returns-in_err-end-clause-fault
 returns-in_err-end-clause-fault g c =
-    let begun = c.args.self.now in
-    let run = c.loop.self in
+    let begun = c.args.self.now.line in
+    let run = c.loop.self.line in
     let place = c.loop.place in
-    let after = c.carry_out_piece.new.self in
+    let after = c.carry_out_piece.new.self.line in
     let later = c.carry_out_piece.new.place in
     let start = progress begun.rules begun.recorder begun.text.items in
     let old = g.Out.Write.contents c.args.writer.now in
@@ -105,10 +105,10 @@ returns-in_err-end-clause-fault g c =
 
 pub returns-in-Some-clause-ok : goal.returns-in-Some-clause-ok
 returns-in-Some-clause-ok g c =
-    let begun = c.args.self.now in
-    let run = c.loop.self in
+    let begun = c.args.self.now.line in
+    let run = c.loop.self.line in
     let place = c.loop.place in
-    let after = c.carry_out_piece.new.self in
+    let after = c.carry_out_piece.new.self.line in
     let later = c.carry_out_piece.new.place in
     let start = progress begun.rules begun.recorder begun.text.items in
     let old = g.Out.Write.contents c.args.writer.now in
@@ -126,10 +126,10 @@ returns-in-Some-clause-ok g c =
 
 pub loop-preserved : goal.loop-preserved
 loop-preserved g c =
-    let begun = c.args.self.now in
-    let run = c.loop.self in
+    let begun = c.args.self.now.line in
+    let run = c.loop.self.line in
     let place = c.loop.place in
-    let after = c.carry_out_piece.new.self in
+    let after = c.carry_out_piece.new.self.line in
     let later = c.carry_out_piece.new.place in
     let start = progress begun.rules begun.recorder begun.text.items in
     let old = g.Out.Write.contents c.args.writer.now in
@@ -153,8 +153,8 @@ loop-preserved g c =
 
 pub returns-clause-ok : goal.returns-clause-ok
 returns-clause-ok g c =
-    let begun = c.args.self.now in
-    let run = c.loop.self in
+    let begun = c.args.self.now.line in
+    let run = c.loop.self.line in
     let start = progress begun.rules begun.recorder begun.text.items in
     let old = g.Out.Write.contents c.args.writer.now in
     let known = g.Out.Write.contents c.loop.writer in

@@ -1,13 +1,13 @@
 use Rattle.std.proofs.Common.{◌≡◌, ◌≤◌, ◌+◌, ◌*◌, ℕ, List, [], length}
 use Rattle.std.specs.Io.KnownBytes.{Consumes}
-use Rattle.script_run.specs.Line.{progress}
+use Rattle.line_run.specs.Line.{progress}
 use Rattle.script_run.specs.Place.{Stands}
 use Rattle.script_run.proofs.runner.Run.carry_out_all.Given as goal
 
 abbrev pub invariant-loop : goal.invariant-loop
 invariant-loop g l =
-    let begun = l.fn.self in
-    let run = l.self in
+    let begun = l.fn.self.line in
+    let run = l.self.line in
     let left = g.In.Read.remaining in record {
       limit : run.recorder.limit ≡ begun.recorder.limit;
       stands : (read : List ℕ) × Consumes (left l.fn.reader) (left l.reader) read

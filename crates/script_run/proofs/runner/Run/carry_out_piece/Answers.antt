@@ -1,14 +1,15 @@
 use Rattle.std.proofs.Common.{◌≡◌, ◌∙◌, ◌+◌, ◌++◌, ℕ, [], length, refl, ap, subst, arith}
-use Rattle.script_run.specs.Line.{progress, LineEnds}
+use Rattle.line_run.specs.Line.{progress}
+use Rattle.script_run.specs.Line.{LineEnds}
 use Rattle.script_run.proofs.Placing.{moved_on, Stands-line, Stands-handed, Stands-failed, Stands-stopped, Stands-memory, Stands-long, PieceEnds-failed}
 use Rattle.script_run.proofs.runner.Run.carry_out_piece.Goals as goal
 
 pub returns-in-Ok-Some-clause-piece : goal.returns-in-Ok-Some-clause-piece
 returns-in-Ok-Some-clause-piece g c start old read h =
-    let limit = c.args.self.now.recorder.limit in
-    let run = c.loop-end.self in
+    let limit = c.args.self.now.line.recorder.limit in
+    let run = c.loop-end.self.line in
     let place = c.loop-end.place in
-    let after = c.carry_out_ended.new.self in
+    let after = c.carry_out_ended.new.self.line in
     let line = place.begun.items ++ c.in-Some.end.now in
     let ends = subst (λ (k : ℕ). LineEnds g.R.Rules.table k (place.lines + 1) line (progress run.rules run.recorder run.text.items) (progress after.rules after.recorder after.text.items) c.carry_out_ended.result) c.loop-end.invariant.limit c.carry_out_ended.ensures.ends in
     Stands-stopped g.R.Rules.table limit start old read place.begun.items c.in-Some.end.now c.in-Some.behind.now c.loop-end.rest.now place.lines (progress run.rules run.recorder run.text.items) (progress after.rules after.recorder after.text.items) (g.Out.Write.contents c.loop-end.writer) c.in-Ok-Some.stop c.carry_out_ended.result
@@ -16,21 +17,21 @@ returns-in-Ok-Some-clause-piece g c start old read h =
 
 pub returns-in-Err-clause-piece : goal.returns-in-Err-clause-piece
 returns-in-Err-clause-piece g c start old read h =
-    let limit = c.args.self.now.recorder.limit in
-    let run = c.loop-end.self in
+    let limit = c.args.self.now.line.recorder.limit in
+    let run = c.loop-end.self.line in
     let place = c.loop-end.place in
-    let after = c.carry_out_ended.new.self in
+    let after = c.carry_out_ended.new.self.line in
     let line = place.begun.items ++ c.in-Some.end.now in
     let kept = subst (LineEnds g.R.Rules.table run.recorder.limit (place.lines + 1) line (progress run.rules run.recorder run.text.items) (progress after.rules after.recorder after.text.items)) c.in-Err.is c.carry_out_ended.ensures.ends in
     Stands-memory g.R.Rules.table limit start old read place.begun.items c.loop-end.rest.now place.lines (progress run.rules run.recorder run.text.items) (g.Out.Write.contents c.loop-end.writer) after.text.items (c.loop-end.invariant.stands start old read h) kept
 
 pub returns-in_err-hand_over-clause-piece : goal.returns-in_err-hand_over-clause-piece
 returns-in_err-hand_over-clause-piece g c start old read h =
-    let limit = c.args.self.now.recorder.limit in
-    let run = c.loop-end.self in
+    let limit = c.args.self.now.line.recorder.limit in
+    let run = c.loop-end.self.line in
     let place = c.loop-end.place in
     let later = c.carry_out_ended.new.place in
-    let after = c.carry_out_ended.new.self in
+    let after = c.carry_out_ended.new.self.line in
     let before = progress run.rules run.recorder run.text.items in
     let carried = progress after.rules after.recorder after.text.items in
     let known = g.Out.Write.contents c.loop-end.writer in
@@ -40,11 +41,11 @@ returns-in_err-hand_over-clause-piece g c start old read h =
 
 pub loop-end-preserved : goal.loop-end-preserved
 loop-end-preserved g c =
-    let limit = c.args.self.now.recorder.limit in
-    let run = c.loop-end.self in
+    let limit = c.args.self.now.line.recorder.limit in
+    let run = c.loop-end.self.line in
     let place = c.loop-end.place in
     let later = c.carry_out_ended.new.place in
-    let after = c.carry_out_ended.new.self in
+    let after = c.carry_out_ended.new.self.line in
     let before = progress run.rules run.recorder run.text.items in
     let carried = progress after.rules after.recorder after.text.items in
     let known = g.Out.Write.contents c.loop-end.writer in
@@ -61,14 +62,14 @@ loop-end-preserved g c =
 
 pub returns-then-len-rest-gt-MAX_LINE-clause-piece : goal.returns-then-len-rest-gt-MAX_LINE-clause-piece
 returns-then-len-rest-gt-MAX_LINE-clause-piece g c start old read h =
-    let run = c.loop-end.self in
+    let run = c.loop-end.self.line in
     let place = c.loop-end.place in
-    Stands-long g.R.Rules.table c.args.self.now.recorder.limit start old read place.begun.items c.loop-end.rest.now place.lines (progress run.rules run.recorder run.text.items) (g.Out.Write.contents c.loop-end.writer)
+    Stands-long g.R.Rules.table c.args.self.now.line.recorder.limit start old read place.begun.items c.loop-end.rest.now place.lines (progress run.rules run.recorder run.text.items) (g.Out.Write.contents c.loop-end.writer)
     (c.loop-end.invariant.stands start old read h) c.in_default.ensures.line (grind arith)
 
 pub returns-in-Err-extend_from_slice-clause-piece : goal.returns-in-Err-extend_from_slice-clause-piece
 returns-in-Err-extend_from_slice-clause-piece g c start old read h =
-    let run = c.loop-end.self in
+    let run = c.loop-end.self.line in
     let place = c.loop-end.place in
-    Stands-memory g.R.Rules.table c.args.self.now.recorder.limit start old read place.begun.items c.loop-end.rest.now place.lines (progress run.rules run.recorder run.text.items) (g.Out.Write.contents c.loop-end.writer) run.text.items
+    Stands-memory g.R.Rules.table c.args.self.now.line.recorder.limit start old read place.begun.items c.loop-end.rest.now place.lines (progress run.rules run.recorder run.text.items) (g.Out.Write.contents c.loop-end.writer) run.text.items
     (c.loop-end.invariant.stands start old read h) refl

@@ -1,15 +1,15 @@
 use Rattle.std.proofs.Common.{◌≡◌, ◌≤◌, ◌+◌, ℕ, List, Option, length}
 use Rattle.script_text.specs.Script.{Progress}
-use Rattle.script_run.specs.Line.{progress}
+use Rattle.line_run.specs.Line.{progress}
 use Rattle.script_run.specs.Place.{Stands}
 use Rattle.script_run.proofs.runner.Run.carry_out_piece.Given as goal
 
 abbrev pub invariant-loop-end : goal.invariant-loop-end
 invariant-loop-end g l =
     let known = g.Out.Write.contents in
-    let begun = l.fn.self in
+    let begun = l.fn.self.line in
     let from = l.fn.place in
-    let run = l.self in record {
+    let run = l.self.line in record {
       limit : run.recorder.limit ≡ begun.recorder.limit;
       stands : (start : Progress) (old : Option (List ℕ)) (read : List ℕ)
           → Stands g.R.Rules.table begun.recorder.limit start old read from.begun.items l.piece from.lines (progress begun.rules begun.recorder begun.text.items) (known l.fn.writer)
