@@ -2,7 +2,7 @@
 import os
 import re
 
-HEAD = re.compile(r"( *)(?:pub(?:\([^)]*\))? )?(?:const )?fn (\w+)")
+HEAD = re.compile(r'( *)(?:pub(?:\([^)]*\))? )?(?:const )?(?:extern "C" )?fn (\w+)')
 CYCLE = re.compile(r" *#\[cycle\((\w+)\)\]$")
 TYPE = re.compile(r"(?m)^(?:pub(?:\([^)]*\))? )?(?:struct|enum) (\w+)")
 HOLDER = re.compile(r"(?:impl\b|(?:pub(?:\([^)]*\))? )?trait )")
