@@ -45,11 +45,18 @@ def version():
 
 
 def beside(name):
-    """A file of the repository: beside the package in a source archive, else one folder above."""
+    """A file or folder of the repository: beside the package in a source archive, else one folder above."""
     for folder in (HERE, HERE.parent):
-        if (folder / name).is_file():
+        if (folder / name).exists():
             return folder / name
     raise FileNotFoundError(f"{name} lies neither in {HERE} nor above it: build in the repository, by pip 21.3 or later")
+
+
+def page_maker():
+    """The files that make pages of transcripts, by their names in the repository."""
+    viewer = beside("viewer")
+    shown = sorted(path for path in viewer.rglob("*") if path.suffix in (".html", ".css", ".mjs") and "tests" not in path.parts)
+    return {"scripts/play": beside("scripts/play"), **{f"viewer/{path.relative_to(viewer).as_posix()}": path for path in shown}}
 
 
 def program():
@@ -67,9 +74,14 @@ def runs_here():
 
 
 def sources():
-    """The files of the package, by their names in a wheel."""
+    """The files of the package, by their names."""
     names = sorted(path for path in PACKAGE.rglob("*") if path.suffix == ".py" or path.name == "py.typed")
     return {path.relative_to(HERE).as_posix(): path.read_bytes() for path in names}
+
+
+def contents():
+    """The files of a wheel, without the program: the package, and in it what makes pages."""
+    return {**sources(), **{f"rudekpi/page/{name}": path.read_bytes() for name, path in page_maker().items()}}
 
 
 def recorded(files, record):
@@ -103,8 +115,8 @@ def write_wheel(folder, tag, files):
 def make_wheel(folder, has_program):
     """Writes the wheel of the package, and gives its name."""
     if has_program:
-        return write_wheel(folder, WITH_PROGRAM, {**sources(), PROGRAM: program()})
-    return write_wheel(folder, WITHOUT, sources())
+        return write_wheel(folder, WITH_PROGRAM, {**contents(), PROGRAM: program()})
+    return write_wheel(folder, WITHOUT, contents())
 
 
 def build_wheel(wheel_directory, config_settings=None, metadata_directory=None):
@@ -125,6 +137,7 @@ def build_sdist(sdist_directory, config_settings=None):
     files = {**sources(), "PKG-INFO": METADATA.format(version=version()).encode()}
     files.update({name: (HERE / name).read_bytes() for name in ("pyproject.toml", "wheel_builder.py")})
     files.update({name: beside(name).read_bytes() for name in ("LICENSE", "release/console", "release/MADE_FROM")})
+    files.update({name: path.read_bytes() for name, path in page_maker().items()})
     with tarfile.open(os.path.join(sdist_directory, f"{top}.tar.gz"), "w:gz") as archive:
         for name, content in files.items():
             entry = tarfile.TarInfo(f"{top}/{name}")
