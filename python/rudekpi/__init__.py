@@ -16,20 +16,24 @@ The program is the argument `program`, else the environment's RUDEKPI_CONSOLE, e
 (`bin/console` in it), else that of the repository in which the package lies. A network is for one thread. A transcript is kept in memory as long as its network.
 """
 
+from . import daemons, graphs
 from .audits import audit, epochs
 from .batch import Batch, Pending
 from .errors import Damaged, Ended, Garbled, PastBound, Refused, RudekpiError, WrongChoice
 from .network import Network
+from .parts import audit_parts
 from .replies import (
     Accepted, Base, Enabled, Epoch, Fault, Matching, Move, Moves, Registers, Settled, Shown, Status, Summary, Turns, Wish,
 )
 from .replays import replay
+from .schedules import longest
 from .storms import storm
+from .sweeps import sweep
 
 __version__ = "0.1.0"
 
 __all__ = [
     "Accepted", "Base", "Batch", "Damaged", "Enabled", "Ended", "Epoch", "Fault", "Garbled", "Matching", "Move", "Moves",
     "Network", "PastBound", "Pending", "Refused", "Registers", "RudekpiError", "Settled", "Shown", "Status", "Summary", "Turns",
-    "Wish", "WrongChoice", "audit", "epochs", "replay", "storm",
+    "Wish", "WrongChoice", "audit", "audit_parts", "daemons", "epochs", "graphs", "longest", "replay", "storm", "sweep",
 ]

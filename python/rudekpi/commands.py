@@ -13,7 +13,7 @@ from . import daemons, json_lines, script_words, shell, sweeps
 from .audits import audit
 from .errors import Damaged
 from .graphs import Graph, graph_of
-from .longest import longest
+from .schedules import longest
 from .network import Network
 from .progress import shown
 from .sweeps import Disturbance, Row

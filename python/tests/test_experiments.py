@@ -9,7 +9,7 @@ import sys
 import unittest
 
 from rudekpi import commands
-from rudekpi.longest import connected_graphs, longest, renamed
+from rudekpi.schedules import connected_graphs, longest, renamed
 from support import TOP, Timed
 
 try:

@@ -4,7 +4,7 @@ import itertools
 import unittest
 
 from rudekpi import audit, epochs, graphs
-from rudekpi.longest import connected_graphs, longest, renamed
+from rudekpi.schedules import connected_graphs, longest, renamed
 from support import Timed
 
 
