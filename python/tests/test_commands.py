@@ -217,6 +217,8 @@ class Lines(Timed):
             wanted = time.monotonic() + 20
             while not shown.endswith(b"> ") and time.monotonic() < wanted and select.select([end], [], [], 20)[0]:
                 shown += os.read(end, 4096)
+            # readline waits for keys only a moment after it has shown its prompt, and a signal in between tells it nothing
+            time.sleep(0.3)
             os.write(end, typed)
             shown += b"|"
         try:
