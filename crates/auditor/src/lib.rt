@@ -1,4 +1,20 @@
 //! The auditor: accepts bytes that are the transcript of a run of the rule machine, and names the first damage of others.
+//!
+//! It reads a text part by part, an entry through `entry_grammar` and the `judge`, a base by comparing it with where the run stands, and
+//! keeps what is not whole yet alone. It accepts exactly the texts of runs, with the counts of their entries, epochs and moves; of every
+//! other text it names the first line that fails and the first check that it fails. A text is the transcript of one run at most and has
+//! one damage at most: laws of their own. It stands on the definitions and on no guard of the engine, so it judges transcripts that other
+//! programs wrote, too.
+//!
+//! `state_after` gives the state behind an entry, `epochs_of` what each disturbance cost, beside its bound.
+//!
+//! ```rust
+//! match audit(alloc, &mut reader) {
+//!     Ok(summary) => ..,                                            // entries, epochs, moves
+//!     Err(AuditFault::NotTheMachines { line }) => ..,
+//!     Err(_) => ..,
+//! }
+//! ```
 #![tactic(auto)]
 
 mod check;

@@ -1,4 +1,16 @@
 //! Bytes in and out: the whole of what a reader gives, and bytes for a writer, of which nothing is tried twice.
+//!
+//! All that the program writes goes through `write_whole` and `finish`: the writer has got exactly the bytes, or at the first write that
+//! fails a beginning of them, and none is written again. So it can be said of each fault what stands in the file. A write that was
+//! interrupted is a failed one: std's `write_all` would try it once more.
+//!
+//! `read_whole` reads to the end in pieces of 65,536 bytes and keeps them all; who reads line by line, as a run and an audit do, reads
+//! itself.
+//!
+//! ```rust
+//! let bytes = read_whole(alloc, &mut reader)?;      // `InputFault`: `Read` or `Memory`
+//! finish(&mut writer, &bytes)?;                     // written and flushed, or `OutputFault`
+//! ```
 #![tactic(auto)]
 
 mod input_fault;

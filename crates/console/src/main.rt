@@ -1,5 +1,15 @@
-//! Runs the script on standard input and writes its transcript to standard output, judges or shows a transcript, or plays
-//! scripts from files at once.
+//! Runs the script on standard input and writes its transcript to standard output, judges or shows a transcript, or plays scripts from
+//! files at once.
+//!
+//! The program is this crate's `main` alone, which hands the process's words and streams to `command_line::start`, or a storm's files to
+//! `storm_call::storm`, and exits with the status that it is told. All that can be said of what is written is said there: `main` has no
+//! contract but that it is safe and returns.
+//!
+//! It is one small crate since a check of a program links the code of all libraries below it before it proves anything.
+//!
+//! ```text
+//! ./console run --rules hh --nodes 2 < examples/pair.script
+//! ```
 #![tactic(auto)]
 
 use command_line::{end_words, network_options, start, tell_bad_present, tell_no_words};

@@ -1,4 +1,16 @@
 //! A judge of replies: whether the rule machine may give one, found by looks at the nodes that its event is about.
+//!
+//! A `Judge` keeps the state of a run and says of each reply whether the machine may give it there, whatever allowed targets it took; a
+//! right one is carried out, a wrong one changes nothing. Its guards, targets and counts are written from the tables alone and share none
+//! with the rule sets of the engine, whose mistakes it would else repeat; the state (`net_state`) they share.
+//!
+//! A disturbance and a `Show` cost look-ups, a step looks at the neighbours of its nodes. The first question about a state counts all
+//! names at once and later ones look at what their replies list. It also begins at a base (`at_base`) and tells where it stands (`base`).
+//!
+//! ```rust
+//! let mut judge = Judge::new(alloc, 2)?;
+//! let right = judge.replay(RuleSet::Hh, 0, &Event::Link(a, b), &Reply::Accepted)?;
+//! ```
 #![tactic(auto)]
 
 mod bases;
