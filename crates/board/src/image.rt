@@ -88,7 +88,8 @@ impl Image {
         }
     }
 
-    /// The same at any place. `None` where there is no such place.
+    /// The pointer that is held at a place, and the node at which it is if that one points back, whether or not there is a node.
+    /// `None` where there is no such place.
     fn held(&self, place: usize) -> Option<(Option<Node>, Option<Node>)>
         ensures { result ≡ held_in self.now.row place }
     {

@@ -47,7 +47,8 @@ pub fn pass_in_16(counts: &[u16], to_pass: u32) -> Spot
     Spot { place: 15, left }
 }
 
-/// The same from a stretch on, among the first eight. Each of them is summed, so that no jump has to be guessed.
+/// Passes the stretches from `from` on that have no more members than are to pass: among the next eight there is one that has
+/// more, and the scan stands before it. Each of the eight is summed, so that no jump has to be guessed.
 #[inline(always)]
 pub fn pass_in_8(counts: &[u16], from: usize, to_pass: u32) -> Spot
     requires room { from + 8 ≤ length counts.now }

@@ -19,7 +19,8 @@ pub fn cut(bytes: &[u8], mark: u8) -> Option<(&[u8], &[u8])>
     None
 }
 
-/// The same where the mark may be far: many bytes are looked at at once.
+/// What stands before the first byte that is the mark, and what stands behind it, where that may be far: many bytes are looked
+/// at at once. `None` where no byte is.
 pub fn cut_far(bytes: &[u8], mark: u8) -> Option<(&[u8], &[u8])>
     ensures { MatchOption result
         (IsFree mark bytes.now)

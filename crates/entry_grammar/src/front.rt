@@ -57,8 +57,8 @@ pub(crate) fn digits_in_front(bytes: &[u8]) -> (usize, u32)
     (bytes.len(), number)
 }
 
-/// The same for a name: no more than six digits are counted, and of six it is not told whether more follow. Where there are six
-/// bytes no digit needs a test for the end.
+/// The length of the run of digits in front of a name, and their number where they are at most five. No more than six digits are
+/// counted, and of six it is not told whether more follow. Where there are six bytes no digit needs a test for the end.
 #[inline(always)]
 fn name_digits(bytes: &[u8]) -> (usize, u32)
     ensures within { result.0 ≤ length bytes.now }

@@ -230,7 +230,7 @@ impl EdgeStore {
         find_gap(&self.rows[v.place()], w)
     }
 
-    // The same by two looks, where it is the last place that was found.
+    // The place where `w` belongs among the neighbours of `v`: by two looks, where it is the last place that was found.
     fn guess_gap(&self, v: Node, w: Node) -> usize
         requires present { IsTrue (present self.now.network v) }
         requires apart { linked self.now.network v w ≡ false }

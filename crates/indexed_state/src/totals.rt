@@ -95,7 +95,8 @@ impl<R: Rules> IndexedState<R> {
         closing
     }
 
-    /// The same: no search where none points at the node, or one.
+    /// How many neighbours of a node point at it and close the edge by that, which its ends leave open. No search where none
+    /// points at the node, or one.
     fn closing_at(&self, node: &Standing) -> u16
         requires present { IsTrue (present self.now.state.network node.now.node) }
         requires standing { IsStanding self.now.state node.now }

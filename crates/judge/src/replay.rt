@@ -47,7 +47,8 @@ impl Judge {
         Judge::with_present(alloc, nodes, nodes)
     }
 
-    /// The same for names up to `nodes`, of which the first are present, as many as `present`.
+    /// A judge of the replies to come, at the names 1 to `nodes`, of which 1 to `present` are nodes: without an edge, all
+    /// pointers null and all flags false. Takes some forty bytes a name.
     pub fn with_present(alloc: Global, nodes: u32, present: u32) -> Result<Judge, Want>
         requires few { nodes ≤ 65535 }
         requires within { present ≤ nodes }

@@ -86,7 +86,8 @@ fn hsu_huang_share(net: &NetState, v: Node, courted: &Courted) -> Share
     }
 }
 
-/// The same where it points nowhere: it is enabled where it has a suitor, or a neighbour that it may seduce.
+/// The share of a name that points nowhere, under Hsu and Huang's rules: it is enabled where it has a suitor, or a neighbour
+/// that it may seduce.
 #[inline(always)]
 fn hsu_huang_single(net: &NetState, v: Node, courted: &Courted) -> Share
     requires null { pointer net.now.state v ≡ None }
@@ -147,7 +148,8 @@ fn manne_share(net: &NetState, v: Node, courted: &Courted) -> Share
     }
 }
 
-/// The same where it points nowhere: it is enabled where it has a suitor, or a neighbour that it may seduce.
+/// The share of a name that points nowhere, under the rules of Manne and others: it is enabled where it has a suitor, or a
+/// neighbour that it may seduce.
 #[inline(always)]
 fn manne_single(net: &NetState, v: Node, courted: &Courted) -> Share
     requires null { pointer net.now.state v ≡ None }

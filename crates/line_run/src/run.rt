@@ -68,8 +68,8 @@ impl<R: Rules> Run<R> {
         }
     }
 
-    // The same for an event that was read from a line, which is its text: so that text is copied. It stands in line with what reads
-    // the event, as all that lies between does.
+    // Carries out an event that was read from a line, which is its text: so that text is copied into the entry. It stands in
+    // line with what reads the event, as all that lies between does.
     #[inline(always)]
     fn log_line(&mut self, event: &Event, line: &[u8]) -> Result<bool, Want>
         requires { line.now ≡ event_text event.now }

@@ -141,7 +141,8 @@ pub fn read_command_into(alloc: Global, line: &[u8], event: &mut Event) -> Resul
     Ok(put(event, None))
 }
 
-/// The same; gives the command, `None` where the line is none.
+/// Reads the command that a line is; `None` where it is none. Memory is for the items of a step alone, and a line that is no
+/// command wants none.
 pub fn read_command(alloc: Global, line: &[u8]) -> Result<Option<Event>, Want>
     ensures command { IfOk result
         (λ found. MatchOption found (NotACommand line.now) (λ event. Spells line.now event)) }

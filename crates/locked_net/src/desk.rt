@@ -124,7 +124,7 @@ impl<R: Rules> Desk<R> {
         Ok(finish(&mut self.journal, &mut self.board, rt, prepared)?)
     }
 
-    /// The same for a step, from the verdicts of its items.
+    /// Carries out a step from the verdicts of its items, records it and publishes its entry. At a fault nothing has changed.
     pub(crate) fn record_step<W: Wait>(
         &mut self,
         rt: &W,

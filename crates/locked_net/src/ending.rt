@@ -43,8 +43,9 @@ pub fn settle<R: Rules, W: Wait>(
     settle_journal(alloc, net.into_journal(rt), &clerks)
 }
 
-/// The same for clerks of which each has called this network, or nobody: what each one's note tells is then a beginning of the whole
-/// log, of which the journal keeps the part above its base.
+/// Takes the journal out of a network that nobody calls any more, and settles its clerks against it, of whom each has called
+/// this network, or nobody: what each one's note tells is then a beginning of the whole log, of which the journal keeps the part
+/// above its base. All else, faults too, as `settle` says.
 pub fn settle_own<R: Rules, W: Wait>(
     rt: &W,
     net: LockedNet<R>,
@@ -79,7 +80,7 @@ fn all_meet(clerks: &[Clerk], last: &Note)
     }
 }
 
-/// The same of one clerk.
+/// A clerk keeps what its type says, and what its note tells is of one log with the last one.
 fn meet(clerk: &Clerk, last: &Note)
     requires { IsOfBook last.now.book clerk.now }
     ensures { IsClerk clerk.now × AreComparable (noted clerk.now.note) last.now.log }

@@ -45,7 +45,8 @@ impl<R: Rules> LockedNet<R> {
         LockedNet::with_limit(alloc, rt, nodes, MAX_ENTRIES)
     }
 
-    /// The same with a limit on the entries; a limit above 16,777,216 counts as that.
+    /// A new network of the nodes 1 to `nodes`, whose log may hold `limit` entries; a limit above 16,777,216 counts as that.
+    /// `TooManyNodes` above 65,535 nodes, and `Memory` if memory runs out.
     pub fn with_limit<W: Wait>(
         alloc: Global,
         rt: &W,
@@ -61,7 +62,9 @@ impl<R: Rules> LockedNet<R> {
         LockedNet::with_present(alloc, rt, nodes, nodes, limit)
     }
 
-    /// The same with the nodes 1 to `present` alone; the names from there to `nodes` are absent.
+    /// A new network of the names 1 to `nodes`, of which 1 to `present` are nodes and those from there on absent, whose log may
+    /// hold `limit` entries; a limit above 16,777,216 counts as that. `TooManyNodes` above 65,535 names, and `Memory` if memory
+    /// runs out.
     pub fn with_present<W: Wait>(
         alloc: Global,
         rt: &W,

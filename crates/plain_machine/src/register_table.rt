@@ -36,7 +36,7 @@ impl RegisterTable {
         Ok(RegisterTable { pointers, flags })
     }
 
-    /// The same registers once more.
+    /// A copy of the registers. `Err` if memory runs out.
     pub fn copy(&self, alloc: Global) -> Result<RegisterTable, Want>
         ensures { IfOk result (λ r. r ≡ self.now) }
     {

@@ -184,8 +184,8 @@ impl<R: Rules> Net<R> {
     }
 
     /// The reply that `apply` would give to an event, with all the memory had that carrying it out takes: `commit` does that, and
-    /// can't fail. The state stays. Want of memory comes after every refusal; `Unlink`, `Point`, `Flag`, `Show` and `Status` take
-    /// none. It costs what `apply` costs but for the writes and the looks after them.
+    /// can't fail. The state stays. Want of memory comes after every refusal; `Unlink`, `Point`, `Flag`, `Join`, `Leave`,
+    /// `Show` and `Status` take none. It costs what `apply` costs but for the writes and the looks after them.
     #[inline(always)]
     pub fn prepare(&mut self, event: &Event) -> Result<Reply, Want>
         ensures reply { IfOk result (λ reply. reply ≡ reply_of R.table self.old.state self.old.spent event.now) }
@@ -198,7 +198,8 @@ impl<R: Rules> Net<R> {
         Ok(reply)
     }
 
-    /// The same with the reply put where the caller keeps it.
+    /// Puts the reply that `apply` would give to an event where the caller keeps it, with all the memory had that carrying it
+    /// out takes, as `prepare` does.
     #[inline(always)]
     fn prepare_into(&mut self, event: &Event, reply: &mut Reply) -> Result<(), Want>
         ensures reply { OnOk result (reply.new ≡ reply_of R.table self.old.state self.old.spent event.now) }
@@ -209,7 +210,9 @@ impl<R: Rules> Net<R> {
         self.engine.prepare(event, self.spent, reply)
     }
 
-    /// The same for a step, from the verdicts of its items, without a second look at a guard.
+    /// The reply that `apply` would give to a step, from the verdicts of its items, without a second look at a guard, with all
+    /// the memory had that carrying it out takes: `commit` of the step does that, and can't fail. The state stays. Want of memory
+    /// comes after every refusal.
     pub fn prepare_step(&mut self, choice: &Choice, verdicts: &[Verdict]) -> Result<Reply, Want>
         requires { verdicts.now ≡ verdicts_of R.table self.old.state choice.now }
         ensures reply { IfOk result (λ reply. reply ≡ reply_of R.table self.old.state self.old.spent (Step choice.now)) }
@@ -234,9 +237,9 @@ impl<R: Rules> Net<R> {
 
     /// Carries out an event: a refusal, the change of the network, the moves of a step in which each free target is
     /// the least allowed one, or an answer. Want of memory comes after every refusal and changes nothing; `Unlink`,
-    /// `Point`, `Flag`, `Show` and `Status` take no memory. `Link` and `Unlink` look again at the guards of their two ends, a
-    /// write of registers at that of its node, of those who point at it, and of a pointer's old and new target where they
-    /// point nowhere; where the node is open then and was not, or was and is not, the counts of its neighbours that point
+    /// `Point`, `Flag`, `Join`, `Leave`, `Show` and `Status` take no memory. `Link` and `Unlink` look again at the guards of
+    /// their two ends, a write of registers at that of its node, of those who point at it, and of a pointer's old and new
+    /// target where they point nowhere; where the node is open then and was not, or was and is not, the counts of its neighbours that point
     /// nowhere tell whose guards else. A step costs one look at each chosen node beside that, and a sort of its moves where
     /// they don't ascend. `Matching` and `Status` look again at the nodes whose share in the answer may have changed since either was
     /// last asked, and at the neighbours of those that make something else of their edges or that several point at.
@@ -252,8 +255,8 @@ impl<R: Rules> Net<R> {
         Ok(reply)
     }
 
-    /// The same with the reply put where the caller keeps it, so that none is moved: it may be any before, and at want of memory
-    /// nothing is said of it.
+    /// Carries out an event as `apply` does, and puts the reply where the caller keeps it, so that none is moved: it may be any
+    /// before, and at want of memory nothing is said of it.
     #[inline(always)]
     pub fn apply_into(&mut self, event: &Event, reply: &mut Reply) -> Result<(), Want>
         ensures reply { OnOk result (reply.new ≡ reply_of R.table self.old.state self.old.spent event.now) }

@@ -59,7 +59,8 @@ impl Options {
         })
     }
 
-    /// The same where the names 1 to `present` are present at the start; a number above that of the names counts as that.
+    /// These options, with the names 1 to `present` present at the start and the others absent; a number above that of the names
+    /// counts as that.
     pub fn with_present(self, present: u32) -> Options
         ensures { asked_of result ≡ record (asked_of self) { present = min present self.nodes } }
     {
@@ -74,7 +75,7 @@ impl Options {
         }
     }
 
-    /// The same with at most `limit` entries; a number above `MAX_ENTRIES` counts as that.
+    /// These options, with at most `limit` entries; a number above `MAX_ENTRIES` counts as that.
     pub fn with_limit(self, limit: u32) -> Options
         ensures { asked_of result ≡ record (asked_of self) { limit = min limit 16777216 } }
     {
@@ -89,7 +90,7 @@ impl Options {
         }
     }
 
-    /// The same with so many workers for each step: 0 counts as 1, and a number above 64 as 64.
+    /// These options, with so many workers for each step: 0 counts as 1, and a number above 64 as 64.
     pub fn with_workers(self, workers: u32) -> Options
         ensures { asked_of result ≡ record (asked_of self) { workers = min (max workers 1) 64 } }
     {
@@ -104,7 +105,7 @@ impl Options {
         }
     }
 
-    /// The same where so many workers roam the network of a storm, each for so many turns; a number of workers above 64
+    /// These options, with so many workers who roam the network of a storm, each for so many turns; a number of workers above 64
     /// counts as 64, and one of turns above 1,000,000 as that.
     pub fn with_roam(self, workers: u32, turns: u32) -> Options
         ensures { asked_of result ≡ record (asked_of self) { roamers = min workers 64; turns = min turns 1000000 } }

@@ -64,7 +64,7 @@ pub fn read_line_into(alloc: Global, line: &[u8], command: &mut Command) -> Resu
     Ok(true)
 }
 
-/// The same; gives the command, `None` where the line is none.
+/// Reads the command that a line is; `None` where it is none. Memory is for the items of a step alone.
 pub fn read_line(alloc: Global, line: &[u8]) -> Result<Option<Command>, Want>
     ensures { IfOk result (λ found. MatchOption found (SaysNothing line.now) (λ command. Says line.now command)) }
 {

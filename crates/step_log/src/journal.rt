@@ -77,7 +77,8 @@ impl<R: Rules> Journal<R> {
         Journal::with_limit(alloc, nodes, MAX_ENTRIES)
     }
 
-    /// The same with a limit on the entries; a limit above 16,777,216 counts as that.
+    /// The journal of a new network of the nodes 1 to `nodes`, which may hold `limit` entries; a limit above 16,777,216 counts
+    /// as that. `TooManyNodes` above 65,535 nodes, and `Memory` if memory runs out.
     pub fn with_limit(alloc: Global, nodes: u32, limit: u32) -> Result<Journal<R>, GraphFault>
         ensures ok { IfOk result (λ journal. kept_of journal ≡ whole (empty_log nodes (min limit max_entries))) }
         ensures small { OnOk result (nodes ≤ 65535) }
@@ -86,7 +87,9 @@ impl<R: Rules> Journal<R> {
         Journal::with_present(alloc, nodes, nodes, limit)
     }
 
-    /// The same where the names 1 to `present` are present at the start, and those above, up to `nodes`, are not.
+    /// The journal of a new network of the names 1 to `nodes`, of which 1 to `present` are nodes at the start, which may hold
+    /// `limit` entries; a limit above 16,777,216 counts as that. `TooManyNodes` above 65,535 names, and `Memory` if memory runs
+    /// out.
     pub fn with_present(
         alloc: Global,
         nodes: u32,
@@ -201,7 +204,9 @@ impl<R: Rules> Journal<R> {
         Ok(Prepared::new(seq, event, reply)?)
     }
 
-    /// The same for a step, from the verdicts of its items, without a second look at a guard.
+    /// The entry that `record_step` would add for a step, from the verdicts of its items and without a second look at a guard,
+    /// with its receipt and all the memory that recording them takes: `commit` does that, and can't fail. The log and the
+    /// network stay. `LogFull` exactly where `len` is the limit, which comes before all else; `Memory` if memory runs out.
     pub fn prepare_step(
         &mut self,
         choice: Choice,
@@ -247,8 +252,9 @@ impl<R: Rules> Journal<R> {
         Ok(self.commit(prepared))
     }
 
-    /// The same for a step, from the verdicts of its items: what `record` of the step would do, without a second look
-    /// at a guard.
+    /// Carries out a step from the verdicts of its items and adds it to the log with its reply: what `record` of the step would
+    /// do, without a second look at a guard. `LogFull` exactly where `len` is the limit, which comes before all else; `Memory`
+    /// if memory runs out. At a fault nothing has changed.
     pub fn record_step(
         &mut self,
         choice: Choice,

@@ -56,7 +56,8 @@ impl<R: Rules> Recorder<R> {
         Recorder::with_limit(alloc, nodes, MAX_ENTRIES)
     }
 
-    /// The same with a limit on the entries; a limit above 16,777,216 counts as that.
+    /// The recorder of a new network of the nodes 1 to `nodes`, which may give `limit` entries; a limit above 16,777,216 counts
+    /// as that. `TooManyNodes` above 65,535 nodes, and `Memory` if memory runs out.
     pub fn with_limit(alloc: Global, nodes: u32, limit: u32) -> Result<Recorder<R>, GraphFault>
         ensures ok { IfOk result (λ recorder. recorder ≡ opening_recording nodes (min limit max_entries)) }
         ensures small { OnOk result (nodes ≤ 65535) }
@@ -65,7 +66,9 @@ impl<R: Rules> Recorder<R> {
         Recorder::with_present(alloc, nodes, nodes, limit)
     }
 
-    /// The same where the names 1 to `present` are present at the start, and those above, up to `nodes`, are not.
+    /// The recorder of a new network of the names 1 to `nodes`, of which 1 to `present` are nodes at the start, which may give
+    /// `limit` entries; a limit above 16,777,216 counts as that. `TooManyNodes` above 65,535 names, and `Memory` if memory runs
+    /// out.
     pub fn with_present(
         alloc: Global,
         nodes: u32,
@@ -151,8 +154,9 @@ impl<R: Rules> Recorder<R> {
         Ok(())
     }
 
-    /// The same, and adds the text of the entry, with its LF, to a text: at a fault that has not changed either, so that no entry is
-    /// lost where there was memory for its reply and none for its text. Takes the memory of the two and no other.
+    /// Carries out an event as `log` does, and adds the text of the entry, with its LF, to a text: at a fault that has not
+    /// changed either, so that no entry is lost where there was memory for its reply and none for its text. Takes the memory of
+    /// the two and no other.
     #[inline(always)]
     pub fn log_entry(
         &mut self,
@@ -182,7 +186,8 @@ impl<R: Rules> Recorder<R> {
         Ok(())
     }
 
-    /// The same for an event whose text is a line that is at hand, which is copied.
+    /// Carries out an event as `log` does, and adds the text of the entry, with its LF, to a text, where the event's text is a
+    /// line that is at hand, which is copied. At a fault neither the network nor the text has changed.
     #[inline(always)]
     pub fn log_line(
         &mut self,
@@ -214,8 +219,8 @@ impl<R: Rules> Recorder<R> {
         Ok(())
     }
 
-    /// The same for a step, from the verdicts of its items: what `log` of the step would do, without a second look at a
-    /// guard. Gives the answer.
+    /// Carries out a step from the verdicts of its items, and gives the number of its entry and the reply: what `log` of the
+    /// step would do, without a second look at a guard. `LogFull` and `Memory` as there; at a fault nothing has changed.
     pub fn log_step(&mut self, choice: &Choice, verdicts: &[Verdict]) -> Result<Answer, RecordFault>
         requires { verdicts.now ≡ verdicts_of R.table self.old.state choice.now }
         ensures number { IfOk result (λ answer. answer.seq ≡ self.old.len + 1) }

@@ -44,7 +44,7 @@ fn put_edges_at(out: &mut Vec<u8>, judge: &Judge, v: Node) -> Result<(), Want>
     Ok(())
 }
 
-// The same, where the node is present.
+// The edges of a node to those above it, where the node is present.
 #[tactic(auto, using(crate::proofs::Names::drawn, crate::proofs::Names::left_out))]
 fn put_edges_if_present(out: &mut Vec<u8>, judge: &Judge, v: Node) -> Result<(), Want>
     ensures { OnOk result (out.new.items ≡ out.old.items

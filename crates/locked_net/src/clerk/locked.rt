@@ -100,8 +100,9 @@ impl Clerk {
         answer
     }
 
-    /// The same for a register fault that an injector draws, which is accepted; `None` exactly where the network has no node then.
-    /// `Behind` and `LogFull` come before a fault is drawn.
+    /// Lets an injector draw a register fault, carries it out, keeps a receipt of it, and answers the reply, which accepts it;
+    /// `None` exactly where the network has no node then, and nothing is logged. Fault and record are made under one hold of the
+    /// network's lock, for which it waits. The faults are those of `call`; `Behind` and `LogFull` come before a fault is drawn.
     pub fn fault_with<R: Rules, W: Wait, G: Rng>(
         &mut self,
         rt: &W,
