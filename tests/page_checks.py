@@ -82,7 +82,7 @@ def definitions(top):
     """What is said of the files of definitions that PROMISES.md and DEFINITIONS.md name: each is there."""
     for page, column in ((top / "docs/PROMISES.md", 1), (top / "docs/DEFINITIONS.md", 2)):
         for number, cells in rows(page):
-            if len(cells) != 4 or cells[column] in ("defined in", "file"):
+            if len(cells) <= column or (column == 1 and len(cells) != 4) or cells[column] in ("defined in", "file"):
                 continue
             for name in itertools.chain.from_iterable(spread(quoted) for quoted in QUOTED.findall(cells[column])):
                 places = [top / "crates" / name.removeprefix("crates/"), top / "crates/rule_machine/specs" / name]
