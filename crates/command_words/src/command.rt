@@ -6,9 +6,10 @@ ghost use Rattle.clap.specs.declared.builder.command.Command.TheViews.{out-Comma
 ghost use Rattle.command_words.specs.Wanted.{AreRules, Names, console_app, entry_rule, judging_app, network_app, nodes_rule, picture_app, present_rule, roam_rule, rules_rule, run_app, script_rule, showing_app, storm_app, top_app, turns_rule, valued_rule, workers_rule};
 
 use crate::help::{
-    ABOUT, AUDIT_ABOUT, AUDIT_NOTES, ENTRY_HELP, EPOCHS_ABOUT, EPOCHS_NOTES, EXAMPLES, NODES_HELP,
-    PICTURE_ABOUT, PICTURE_NOTES, PRESENT_HELP, ROAM_HELP, RULES_HELP, RUN_ABOUT, RUN_NOTES,
-    STORM_ABOUT, STORM_NOTES, TURNS_HELP, WORKERS_HELP,
+    ABOUT, AUDIT_ABOUT, AUDIT_NOTES, AUDIT_USAGE, ENTRY_HELP, EPOCHS_ABOUT, EPOCHS_NOTES,
+    EPOCHS_USAGE, EXAMPLES, NODES_HELP, PICTURE_ABOUT, PICTURE_NOTES, PICTURE_USAGE, PRESENT_HELP,
+    ROAM_HELP, RULES_HELP, RUN_ABOUT, RUN_NOTES, STORM_ABOUT, STORM_NOTES, TURNS_HELP,
+    WORKERS_HELP,
 };
 use clap::{Arg, Command, value_parser};
 use std::alloc::{AllocError, Global};
@@ -72,6 +73,20 @@ fn told_command<'a>(alloc: Global, name: &'a str, about: &'a str, notes: &'a str
     Command::new(alloc, name).about(about).after_help(notes)
 }
 
+// A subcommand that reads a transcript, as its usage says.
+fn reading_command<'a>(
+    alloc: Global,
+    name: &'a str,
+    about: &'a str,
+    notes: &'a str,
+    usage: &'a str,
+) -> Command<'a>
+    ensures app { app_of result ≡ new_app name.entry.now }
+    ensures local { (fields_of result).has_globals ≡ false }
+{
+    told_command(alloc, name, about, notes).override_usage(usage)
+}
+
 // A subcommand that has a network: a rule set, a number of nodes, one of those present at the start, and one of workers.
 fn network_command<'a>(
     alloc: Global,
@@ -113,7 +128,14 @@ fn picture_command<'a>(alloc: Global) -> Result<Command<'a>, AllocError>
     ensures app { IfOk result (λ picture. app_of picture ≡ picture_app) }
     ensures local { IfOk result (λ picture. (fields_of picture).has_globals ≡ false) }
 {
-    told_command(alloc, "picture", PICTURE_ABOUT, PICTURE_NOTES).arg(entry_arg(alloc))
+    reading_command(
+        alloc,
+        "picture",
+        PICTURE_ABOUT,
+        PICTURE_NOTES,
+        PICTURE_USAGE,
+    )
+    .arg(entry_arg(alloc))
 }
 
 // `--roam`, whose value is a number from 0 to 64.
@@ -177,7 +199,7 @@ fn judging_command<'a>(alloc: Global, names: &'a [&'a str]) -> Result<Command<'a
 {
     top_command(alloc)
         .subcommand(run_command(alloc, names)?)?
-        .subcommand(told_command(alloc, "audit", AUDIT_ABOUT, AUDIT_NOTES))
+        .subcommand(reading_command(alloc, "audit", AUDIT_ABOUT, AUDIT_NOTES, AUDIT_USAGE))
 }
 
 // The command with these, and with the subcommands that show.
@@ -186,7 +208,7 @@ fn showing_command<'a>(alloc: Global, names: &'a [&'a str]) -> Result<Command<'a
 {
     judging_command(alloc, names)?
         .subcommand(picture_command(alloc)?)?
-        .subcommand(told_command(alloc, "epochs", EPOCHS_ABOUT, EPOCHS_NOTES))
+        .subcommand(reading_command(alloc, "epochs", EPOCHS_ABOUT, EPOCHS_NOTES, EPOCHS_USAGE))
 }
 
 /// The command: `run` with `--rules`, `--nodes`, `--present` and `--workers`, `audit`, `picture` with `--entry`, `epochs`, and
