@@ -9,7 +9,7 @@ ghost use Rattle.clap.specs.Words.{kind_of};
 ghost use Rattle.byte_streams.specs.Beginning.{AppendsBeginning};
 ghost use Rattle.command_line.specs.FaultText.{bad_present_line, fault_line, no_words_line};
 ghost use Rattle.command_line.specs.Ended.{TellsBadPresent, TellsOutcome, TellsCheck, Does};
-ghost use Rattle.command_line.specs.Status.{IsRunStatus, IsStatus, status_of, no_words_status, words_status};
+ghost use Rattle.command_line.specs.Status.{IsMistake, IsRunStatus, IsStatus, status_of, no_words_status, words_status};
 
 use crate::fault_line::write_fault;
 use crate::once::write_text;
@@ -156,7 +156,8 @@ pub fn end_words<Out: Write, Faults: Write>(
     writer: &mut Out,
     faults: &mut Faults,
 ) -> u8
-    ensures { (result ≡ words_status (kind_of error)) ⊎ (result ≡ 0) ⊎ (result ≡ 3) }
+    ensures mistake { IsMistake (kind_of error) → result ≡ words_status (kind_of error) }
+    ensures shown { (IsMistake (kind_of error) → ⊥) → (result ≡ 0) ⊎ (result ≡ 3) }
 {
     if error.use_stderr() {
         return refuse(error, faults);
