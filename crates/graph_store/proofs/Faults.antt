@@ -1,20 +1,19 @@
 -- Which fault a call has, and the row that a call reads.
-use Rattle.std.proofs.Common.{◌≡◌, ℕ, ◌<◌, ◌≤◌, min, max, Bool, true, false, cond, not, ◌&&◌, List, length, get_or, Option, None, Some, eqb, sym, refl, ap, ◌∙◌, arith}
+use Rattle.std.proofs.Common.{◌≡◌, ◌≢◌, ℕ, ◌<◌, ◌≤◌, min, max, Bool, true, false, cond, not, ◌&&◌, List, length, get_or, None, Some, eqb, sym, refl, ap, ◌∙◌, arith}
 use Rattle.std.specs.Prelude.{nat_le}
 use Rattle.std.specs.declared.vec.Vec.{Vec}
 use Rattle.std.specs.declared.alloc.Global.{Global}
 use Rattle.std.specs.FinMap as map
-use Rattle.std.proofs.lemmas.Bool.{leb-false}
+use Rattle.std.proofs.lemmas.Bool.{leb-false, true≢false}
 use Rattle.rule_machine.specs.Network.{Network, present, linked, edge, edge_count}
 use Rattle.rule_machine.specs.Refuse.{max_edges}
-use Rattle.graph_store.specs.declared.fault.GraphFault.{GraphFault}
-use Rattle.graph_store.specs.declared.fault.GraphFault.TheVariants.{UnknownNode, SelfLoop, AlreadyLinked, NotLinked, TooManyEdges}
-use Rattle.graph_store.specs.Fault.{ends_fault, link_fault, unlink_fault}
+use Rattle.graph_store.specs.declared.fault.GraphFault.TheVariants.{UnknownNode, SelfLoop, AlreadyLinked, TooManyEdges}
+use Rattle.graph_store.specs.Fault.{ends_fault, link_fault}
 use Rattle.graph_store.specs.Rows.{contents, row_at, has, network_of, IsRows, IsPlaceOf, IsGapFor}
 use Rattle.graph_store.proofs.PairOrder.{count-some}
 use Rattle.graph_store.proofs.Contents.{row_read, length_contents}
 use Rattle.graph_store.proofs.Rising.{there_at_place, absent_at_gap}
-use Rattle.graph_store.proofs.Store.{present_bounds, linked_by}
+use Rattle.graph_store.proofs.Store.{present_bounds, linked_by, linked_present}
 
 -- what is known of two ends where none of their tests fails
 good_ends : (p q e : Bool) → cond (not (p && q)) (Some UnknownNode) (cond e (Some SelfLoop) None) ≡ None → (p ≡ true) × (q ≡ true) × (e ≡ false)
@@ -23,24 +22,9 @@ good_ends true false e h = absurd cc
 good_ends true true true h = absurd cc
 good_ends true true false h = (refl, refl, refl)
 
--- the fault of two ends comes before all that follows
-bad_ends : (p q e : Bool) (fault : GraphFault) (rest : Option GraphFault) → cond (not (p && q)) (Some UnknownNode) (cond e (Some SelfLoop) None) ≡ Some fault → cond (not (p && q)) (Some UnknownNode) (cond e (Some SelfLoop) rest) ≡ Some fault
-bad_ends false q e fault rest h = h
-bad_ends true false e fault rest h = h
-bad_ends true true true fault rest h = h
-bad_ends true true false fault rest h = absurd cc
-
 -- two names that may be ends are nodes, and different
 pub ends_known : (net : Network) (a b : ℕ) → ends_fault net a b ≡ None → (present net a ≡ true) × (present net b ≡ true) × (eqb a b ≡ false)
 ends_known net a b h = good_ends (present net a) (present net b) (eqb a b) h
-
--- the fault of two ends is the fault of the call
-pub link_fault_ends : (net : Network) (a b : ℕ) (fault : GraphFault) → ends_fault net a b ≡ Some fault → link_fault net a b ≡ Some fault
-link_fault_ends net a b fault h = bad_ends (present net a) (present net b) (eqb a b) fault _ h
-
--- likewise where an edge is taken out
-pub unlink_fault_ends : (net : Network) (a b : ℕ) (fault : GraphFault) → ends_fault net a b ≡ Some fault → unlink_fault net a b ≡ Some fault
-unlink_fault_ends net a b fault h = bad_ends (present net a) (present net b) (eqb a b) fault _ h
 
 -- what is known of two names that an edge may join
 pub record MayLink (net : Network) (a b : ℕ) : Type 0 where
@@ -85,11 +69,6 @@ pub link_fault_is : (net : Network) (a b : ℕ) (l m : Bool) → present net a �
 link_fault_is net a b l m p q e is_l is_m =
     λ i. cond (not (p i && q i)) (Some UnknownNode) (cond (e i) (Some SelfLoop) (cond (is_l i) (Some AlreadyLinked) (cond (is_m i) (Some TooManyEdges) None)))
 
--- an edge that may be taken out, or not, likewise
-pub unlink_fault_is : (net : Network) (a b : ℕ) (l : Bool) → present net a ≡ true → present net b ≡ true → eqb a b ≡ false → linked net a b ≡ l → unlink_fault net a b ≡ cond l None (Some NotLinked)
-unlink_fault_is net a b l p q e is_l =
-    λ i. cond (not (p i && q i)) (Some UnknownNode) (cond (e i) (Some SelfLoop) (cond (is_l i) None (Some NotLinked)))
-
 -- a node is one of a store's names
 pub known : (size : ℕ) (roll : List Bool) (rows : List (List ℕ)) (net : Network) (v : ℕ) → network_of size roll rows ≡ net → present net v ≡ true → present (network_of size roll rows) v ≡ true
 known size roll rows net v seen here =
@@ -121,6 +100,23 @@ apart_at_gap size roll rows net a b i row seen good is gap =
 pub linked_back : (size : ℕ) (roll : List Bool) (rows : List (List ℕ)) (net : Network) (a b : ℕ) → network_of size roll rows ≡ net → IsRows size roll rows → linked net a b ≡ linked net b a
 linked_back size roll rows net a b seen good =
     sym (linked_by size roll rows net a b seen good) ∙ good.mutual_in a b ∙ linked_by size roll rows net b a seen good
+
+-- what is known of two names that are linked
+pub record AreJoined (net : Network) (a b : ℕ) : Type 0 where
+  pub here : present net a ≡ true
+  pub there : present net b ≡ true
+  pub apart : a ≢ b
+  pub back : linked net b a ≡ true
+
+pub are_joined : (size : ℕ) (roll : List Bool) (rows : List (List ℕ)) (net : Network) (a b : ℕ) → network_of size roll rows ≡ net → IsRows size roll rows → linked net a b ≡ true → AreJoined net a b
+are_joined size roll rows net a b seen good joined =
+    let both = linked_present size roll rows a b good (ap (λ n. linked n a b) seen ∙ joined) in
+    record {
+      here = ap (λ n. present n a) (sym seen) ∙ both.0;
+      there = ap (λ n. present n b) (sym seen) ∙ both.1;
+      apart = λ same. true≢false (sym (linked_by size roll rows net a b seen good ∙ joined) ∙ ap (has (row_at rows a)) (sym same) ∙ good.apart a);
+      back = linked_back size roll rows net b a seen good ∙ joined;
+    }
 
 -- where two names are linked there is an edge
 pub some_edge : (net : Network) (a b : ℕ) → linked net a b ≡ true → 1 ≤ edge_count net

@@ -1,11 +1,11 @@
 //! The edges of a network.
 
-ghost use Rattle.std.specs.Prelude.{◌≡◌, ◌≤◌, false, length, [], slice_get, slice_set, IfOk, IfErr, OnOk, OnErr, MatchOption, IsTrue, All, None, Some};
+ghost use Rattle.std.specs.Prelude.{◌≡◌, ◌≢◌, ◌≤◌, false, length, [], slice_get, slice_set, IfOk, IfErr, OnOk, OnErr, IsTrue, All, None, Some};
 ghost use Rattle.rule_machine.specs.Network.{Network, edgeless, edgeless_with, with_node, without_node, names, node_count, edge_count, edge_list, present, linked, neighbours, with_edge, without_edge};
-ghost use Rattle.graph_store.specs.Fault.{nodes_fault, ends_fault, join_fault, leave_fault, link_fault, unlink_fault, Explains};
+ghost use Rattle.graph_store.specs.Fault.{nodes_fault, ends_fault, join_fault, link_fault, Explains};
 ghost use Rattle.graph_store.specs.Ends.{end_at, open_edges};
 ghost use Rattle.graph_store.specs.Graph.{HasRoomFor};
-ghost use Rattle.graph_store.specs.Rows.{IsGapFor};
+ghost use Rattle.graph_store.specs.Rows.{IsGapFor, IsPlaceOf};
 ghost use Rattle.graph_store.specs.declared.fault.GraphFault.TheVariants.{Memory};
 
 use crate::ends::{are_open, shut_ends, turn_end};
@@ -137,6 +137,7 @@ impl EdgeStore {
     pub fn linked(&self, a: Node, b: Node) -> bool
         ensures value { result ≡ linked self.now.network a b }
         ensures present { IsTrue result → IsTrue (present self.now.network a) × IsTrue (present self.now.network b) }
+        ensures apart { IsTrue result → a ≢ b }
     {
         match self.rows.get(a.place()) {
             Some(row) => find_place(row, b).is_ok(),
@@ -219,6 +220,13 @@ impl EdgeStore {
             return Err(GraphFault::TooManyEdges);
         }
         Ok(place)
+    }
+
+    /// Why `link` would not put in an edge between two names, but for want of memory; by a look-up by halves.
+    pub fn link_fault(&self, a: Node, b: Node) -> Option<GraphFault>
+        ensures { result ≡ link_fault self.now.network a b }
+    {
+        self.check_link(a, b).err()
     }
 
     // The place where `w` belongs among the neighbours of `v`.
@@ -307,25 +315,28 @@ impl EdgeStore {
         self.put_edge(a, place_in_a, b, place_in_b);
     }
 
-    /// Takes out the edge between two nodes, as `link` puts it in; takes no memory.
-    /// `UnknownNode` where an end is no node of the graph, then `SelfLoop`, then `NotLinked`. No fault changes anything.
-    pub fn unlink(&mut self, a: Node, b: Node) -> Result<(), GraphFault>
-        ensures ok { OnOk result ((unlink_fault self.old.network a b ≡ None) × (self.new.network ≡ without_edge self.old.network a b)) }
-        ensures fault { IfErr result (λ fault. unlink_fault self.old.network a b ≡ Some fault) }
-        ensures unchanged { OnErr result (self.new.network ≡ self.old.network) }
+    // The place of `w` among the neighbours of `v`, which has it for one.
+    fn find_edge(&self, v: Node, w: Node) -> usize
+        requires { IsTrue (linked self.now.network v w) }
+        ensures { IsPlaceOf (neighbours self.now.network v) w result }
+    {
+        match find_place(&self.rows[v.place()], w) {
+            Ok(place) => place,
+            Err(gap) => gap,
+        }
+    }
+
+    /// Takes out an edge: by a look-up by halves and a shift in the rows of its two ends; takes no memory.
+    pub fn take_out(&mut self, a: Node, b: Node)
+        requires { IsTrue (linked self.old.network a b) }
+        ensures network { self.new.network ≡ without_edge self.old.network a b }
         ensures ends { self.new.ends ≡ self.old.ends }
     {
-        self.check_ends(a, b)?;
-        let Ok(place_in_a) = find_place(&self.rows[a.place()], b) else {
-            return Err(GraphFault::NotLinked);
-        };
-        let Ok(place_in_b) = find_place(&self.rows[b.place()], a) else {
-            return Err(GraphFault::NotLinked);
-        };
+        let place_in_a = self.find_edge(a, b);
+        let place_in_b = self.find_edge(b, a);
         take_both(&mut self.rows, a, place_in_a, b, place_in_b);
         self.edges -= 1;
         self.open_edges -= u32::from(are_open(&self.ends, a, b));
-        Ok(())
     }
 
     /// Makes a name a node without neighbours, by a write of a bit and of its counts; takes no memory. `UnknownNode` above the
@@ -343,33 +354,6 @@ impl EdgeStore {
             return Err(GraphFault::AlreadyPresent);
         }
         self.here.insert(v);
-        Ok(())
-    }
-
-    // The last neighbour of a node, so that the edge to it may be taken out.
-    fn last_neighbour(&self, v: Node) -> Option<Node>
-        requires { IsTrue (present self.now.network v) }
-        ensures { MatchOption result (neighbours self.now.network v ≡ []) (λ w. unlink_fault self.now.network v w ≡ None) }
-    {
-        self.rows[v.place()].last().copied()
-    }
-
-    /// Takes a node out, with the edges that it still has; takes no memory. For each of its neighbours a look-up by halves in
-    /// two rows and a shift in the neighbour's row. `UnknownNode` where it is no node of the graph, which changes nothing.
-    pub fn leave(&mut self, v: Node) -> Result<(), GraphFault>
-        ensures ok { OnOk result ((leave_fault self.old.network v ≡ None) × (self.new.network ≡ without_node self.old.network v)) }
-        ensures fault { IfErr result (λ fault. leave_fault self.old.network v ≡ Some fault) }
-        ensures unchanged { OnErr result (self.new.network ≡ self.old.network) }
-        ensures ends { self.new.ends ≡ self.old.ends }
-    {
-        if !self.has(v) {
-            return Err(GraphFault::UnknownNode);
-        }
-        // From the end, so that the node's own row never shifts.
-        while let Some(w) = self.last_neighbour(v) {
-            self.unlink(v, w).unwrap();
-        }
-        self.part(v);
         Ok(())
     }
 

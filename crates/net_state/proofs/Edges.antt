@@ -1,17 +1,19 @@
 -- What a new edge says of its ends, and pointers that do not cross.
-use Rattle.std.proofs.Common.{◌≡◌, ℕ, Bool, true, false, cond, not, ◌&&◌, Some, None, IsTrue, nat_eq, nat_le, refl, sym, ap, ◌∙◌}
-use Rattle.std.proofs.lemmas.Bool.{true≢false, false_from_ne_true, ne_eqb}
+use Rattle.std.proofs.Common.{◌≡◌, ℕ, Bool, true, false, cond, not, ◌&&◌, Some, None, Result, Ok, Err, OnOk, OnErr, IsTrue, nat_eq, nat_le, refl, sym, ap, subst, ◌∙◌}
+use Rattle.std.proofs.lemmas.Bool.{true≢false, false_from_ne_true, eq-eqb, ne_eqb}
 use Rattle.std.proofs.lemmas.Option.{none-some}
 use Rattle.rule_machine.specs.declared.refusal.Refusal.TheVariants.{UnknownNode, SelfLoop, AlreadyLinked, NotLinked, TooManyEdges}
-use Rattle.rule_machine.specs.Network.{Network, IsNetwork, present, linked, edge_count}
-use Rattle.rule_machine.specs.State.{Registers, points, pointer_of, with_pointer}
+use Rattle.rule_machine.specs.Network.{Network, IsNetwork, present, linked, edge_count, with_edge}
+use Rattle.rule_machine.specs.State.{Registers, IsState, points, pointer_of, with_pointer}
 use Rattle.rule_machine.specs.Disturbance.{without_pointer}
 use Rattle.rule_machine.specs.Refuse.{both_present, link_refusal, unlink_refusal, max_edges}
+use Rattle.machine_laws.specs.Keeps.{link_keeps}
 use Rattle.machine_laws.specs.Neighbours.{linked_back, linked_apart, linked_present}
 use Rattle.machine_laws.specs.Search.{cond-none}
 use Rattle.machine_laws.specs.Writes.{some_from_is_at, without_pointer_was, without_pointer_gone}
 use Rattle.graph_store.specs.Fault.{link_fault}
 use Rattle.graph_store.specs.declared.fault.GraphFault.TheVariants as fault
+use Rattle.net_state.specs.Held.{state_of}
 
 -- what two names are that an edge may be put between
 pub record IsNewEdge (net : Network) (a b : ℕ) : Type 0 where
@@ -52,6 +54,13 @@ new_edge net a b none =
       upper = ends.1;
       apart = p.apart;
     }
+
+-- where an edge is put in, or nothing changes, a state stays one
+pub linked_sound : {T E : Type 0} (result : Result T E) (net after : Network) (r : Registers) (a b : ℕ) → OnOk result ((link_fault net a b ≡ None) × (after ≡ with_edge net a b)) → OnErr result (after ≡ net) → IsState (state_of net r) → IsState (state_of after r)
+linked_sound (Ok x) net after r a b done kept good =
+    let ends = new_edge net a b done.0 in
+    subst (λ (n : Network). IsState (state_of n r)) (sym done.1) (link_keeps (state_of net r) a b good ends.lower ends.upper (λ same. true≢false (sym (eq-eqb a b same) ∙ ends.apart)))
+linked_sound (Err e) net after r a b done kept good = subst (λ (n : Network). IsState (state_of n r)) (sym kept) good
 
 -- without a pointer that does not cross, nothing changes
 pub stays : (r : Registers) (v w : ℕ) → points r v w ≡ false → without_pointer r v w ≡ r

@@ -1,6 +1,6 @@
 //! The steps of which disturbances are made, and those that are one step.
 
-ghost use Rattle.std.specs.Prelude.{◌≡◌, ◌≤◌, IfErr, IfSome, IsTrue, None, OnOk, [], false, slice_set};
+ghost use Rattle.std.specs.Prelude.{◌≡◌, ◌≤◌, IfErr, IfSome, IsTrue, None, OnErr, OnOk, [], false, slice_set};
 ghost use Rattle.rule_machine.specs.Network.{present, linked, neighbours, without_edge};
 ghost use Rattle.rule_machine.specs.State.{IsState, flag, points};
 ghost use Rattle.rule_machine.specs.Disturbance.{after_link, after_point, after_flag, after_join};
@@ -14,6 +14,18 @@ use graph_store::{End, GraphFault};
 use rule_machine::Node;
 
 impl NetState {
+    /// Adds the edge between two nodes: a look-up by halves and a shift in two neighbour lists. `UnknownNode`, `SelfLoop`,
+    /// `AlreadyLinked`, `TooManyEdges`, `Memory`, in that order; no fault changes anything.
+    pub fn link(&mut self, a: Node, b: Node) -> Result<(), GraphFault>
+        ensures ok { OnOk result ((link_fault self.old.state.network a b ≡ None) × (self.new.state ≡ after_link self.old.state a b)) }
+        ensures fault { IfErr result (λ fault. Explains (link_fault self.old.state.network a b) fault) }
+        ensures kept { OnErr result (self.new.state ≡ self.old.state) }
+        ensures ends { self.new.ends ≡ self.old.ends }
+        ensures sound { IsState self.new.state }
+    {
+        self.store.link(a, b)
+    }
+
     /// Makes room for the edge between two nodes, so that `link_reserved` of them takes no memory: a look-up by halves, and the
     /// growth of at most two neighbour lists. `UnknownNode`, `SelfLoop`, `AlreadyLinked`, `TooManyEdges`, `Memory`, in that
     /// order; the state stays.
@@ -47,7 +59,7 @@ impl NetState {
         ensures ends { self.new.ends ≡ self.old.ends }
         ensures sound { IsState self.new.state }
     {
-        self.store.unlink(a, b).unwrap();
+        self.store.take_out(a, b);
     }
 
     /// Writes a node's pointer, to null or to a neighbour. One write.

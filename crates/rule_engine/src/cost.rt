@@ -1,13 +1,11 @@
 //! What a disturbance would cost.
 
-ghost use Rattle.std.specs.Prelude.{◌≡◌, is_none};
-ghost use Rattle.rule_machine.specs.Refuse.{link_refusal};
+ghost use Rattle.std.specs.Prelude.{◌≡◌};
 ghost use Rattle.rule_engine.specs.Costs.{disturbs, cost_of};
 
-use crate::edits::{refused_flag, refused_join, refused_leave, refused_point, refused_unlink};
-use graph_store::{EdgeStore, MAX_EDGES};
+use crate::edits::{refused_flag, refused_join, refused_leave, refused_point};
 use indexed_state::IndexedState;
-use rule_machine::{Event, Node, Refusal};
+use rule_machine::{Event, Node};
 use rule_set::{Local, Rules, Touched};
 
 /// A state, of which the nodes are shown that a disturbance touches.
@@ -37,31 +35,14 @@ impl<R: Rules> Touched for TouchedNodes<'_, R> {
     }
 }
 
-/// Why an edge is not put in, if it is not.
-fn refused_link(store: &EdgeStore, a: Node, b: Node) -> Option<Refusal>
-    ensures { result ≡ link_refusal store.now.network a b }
-{
-    if !store.has(a) || !store.has(b) {
-        Some(Refusal::UnknownNode)
-    } else if a == b {
-        Some(Refusal::SelfLoop)
-    } else if store.linked(a, b) {
-        Some(Refusal::AlreadyLinked)
-    } else if store.edges() >= MAX_EDGES {
-        Some(Refusal::TooManyEdges)
-    } else {
-        None
-    }
-}
-
 /// Whether an event is a disturbance that is not refused.
 fn is_disturbance<R: Rules>(state: &IndexedState<R>, event: &Event) -> bool
     ensures { result ≡ disturbs R.table state.now.state event.now }
 {
     let store = state.store();
     match event {
-        Event::Link(a, b) => refused_link(store, *a, *b).is_none(),
-        Event::Unlink(a, b) => refused_unlink(store, *a, *b).is_none(),
+        Event::Link(a, b) => store.link_fault(*a, *b).is_none(),
+        Event::Unlink(a, b) => store.linked(*a, *b),
         Event::Point(v, target) => refused_point(store, *v, *target).is_none(),
         Event::Flag(v, _) => refused_flag::<R>(store, *v).is_none(),
         Event::Join(v) => refused_join(store, *v).is_none(),

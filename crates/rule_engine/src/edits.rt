@@ -17,7 +17,6 @@ pub(crate) fn refusal_of(fault: GraphFault) -> Option<Refusal>
         GraphFault::UnknownNode => Some(Refusal::UnknownNode),
         GraphFault::SelfLoop => Some(Refusal::SelfLoop),
         GraphFault::AlreadyLinked => Some(Refusal::AlreadyLinked),
-        GraphFault::NotLinked => Some(Refusal::NotLinked),
         GraphFault::TooManyEdges => Some(Refusal::TooManyEdges),
         GraphFault::AlreadyPresent => Some(Refusal::AlreadyPresent),
         GraphFault::TooManyNodes | GraphFault::Memory => None,
@@ -43,16 +42,16 @@ pub(crate) fn put(reply: &mut Reply, found: Result<Reply, Want>) -> Result<(), W
     Ok(())
 }
 
-/// Why an edge is not taken out, if it is not.
+/// Why an edge is not taken out, if it is not: one look-up where it is there.
 pub(crate) fn refused_unlink(store: &EdgeStore, a: Node, b: Node) -> Option<Refusal>
     ensures { result ≡ unlink_refusal store.now.network a b }
 {
-    if !store.has(a) || !store.has(b) {
+    if store.linked(a, b) {
+        None
+    } else if !store.has(a) || !store.has(b) {
         Some(Refusal::UnknownNode)
     } else if a == b {
         Some(Refusal::SelfLoop)
-    } else if store.linked(a, b) {
-        None
     } else {
         Some(Refusal::NotLinked)
     }

@@ -5,6 +5,7 @@ use Rattle.rule_machine.specs.Network.{linked, present}
 use Rattle.graph_store.specs.Graph.{Graph}
 use Rattle.graph_store.specs.Rows.{contents, has}
 use Rattle.graph_store.proofs.Contents.{row_read, row_past, found}
+use Rattle.graph_store.proofs.Faults.{are_joined}
 use Rattle.graph_store.proofs.Store.{linked_by, linked_present}
 use Rattle.graph_store.proofs.edge_store.EdgeStore.linked.Goals as goal
 
@@ -29,6 +30,10 @@ pub returns-in-Some-clause-present : goal.returns-in-Some-clause-present
 returns-in-Some-clause-present c h =
     let both = linked_present c.self.inside.nodes c.self.inside.here (contents c.self.inside.rows.items) c.args.a c.args.b c.self.invariant.0.is_rows (ap (λ net. linked net c.args.a c.args.b) (ap (λ (g : Graph). g.network) c.self.view_is) ∙ sym (returns-in-Some-clause-value c) ∙ h) in
     subst (λ net. IsTrue (present net c.args.a) × IsTrue (present net c.args.b)) (ap (λ (g : Graph). g.network) c.self.view_is) both
+
+pub returns-in-Some-clause-apart : goal.returns-in-Some-clause-apart
+returns-in-Some-clause-apart c h =
+    (are_joined c.self.inside.nodes c.self.inside.here (contents c.self.inside.rows.items) c.args.self.now.network c.args.a c.args.b (ap (λ (g : Graph). g.network) c.self.view_is) c.self.invariant.0.is_rows (sym (returns-in-Some-clause-value c) ∙ h)).apart
 
 pub returns-in-None-clause-value : goal.returns-in-None-clause-value
 returns-in-None-clause-value c =

@@ -2,7 +2,6 @@ use Rattle.std.proofs.Common.{◌≡◌, None, OnOk, sym, ap, subst, ◌∙◌}
 use Rattle.rule_machine.specs.Network.{Network, without_edge}
 use Rattle.rule_machine.specs.State.{Registers, IsState, points}
 use Rattle.rule_machine.specs.Disturbance.{without_pointer}
-use Rattle.graph_store.specs.Fault.{unlink_fault}
 use Rattle.machine_laws.specs.Keeps.{unlink_keeps}
 use Rattle.net_state.specs.Held.{Held, state_of}
 use Rattle.net_state.proofs.Edges.{stays}
@@ -12,12 +11,10 @@ pub invariant_of-self : goal.invariant_of-self
 invariant_of-self c =
     let net : Network = c.self.inside.store.network in
     let r : Registers = c.self.inside.registers in
-    let done : (unlink_fault net c.args.a c.args.b ≡ None) × (c.unlink.new.self.network ≡ without_edge net c.args.a c.args.b) =
-    subst (λ o. OnOk o ((unlink_fault net c.args.a c.args.b ≡ None) × (c.unlink.new.self.network ≡ without_edge net c.args.a c.args.b))) c.unwrap.ensures c.unlink.ensures.ok in
     let there = ap (λ (n : Held). points n.state.registers c.args.a c.args.b) c.self.view_is ∙ c.requires.not_there in
     let back = ap (λ (n : Held). points n.state.registers c.args.b c.args.a) c.self.view_is ∙ c.requires.not_back in
     let same : without_pointer (without_pointer r c.args.a c.args.b) c.args.b c.args.a ≡ r = ap (λ q. without_pointer q c.args.b c.args.a) (stays r c.args.a c.args.b there) ∙ stays r c.args.b c.args.a back in
-    subst (λ (n : Network). IsState (state_of n r)) (sym done.1) (subst (λ (q : Registers). IsState (state_of (without_edge net c.args.a c.args.b) q)) same (unlink_keeps (state_of net r) c.args.a c.args.b c.self.invariant))
+    subst (λ (n : Network). IsState (state_of n r)) (sym c.take_out.ensures.network) (subst (λ (q : Registers). IsState (state_of (without_edge net c.args.a c.args.b) q)) same (unlink_keeps (state_of net r) c.args.a c.args.b c.self.invariant))
 
 pub returns-clause-sound : goal.returns-clause-sound
 returns-clause-sound c = invariant_of-self c
