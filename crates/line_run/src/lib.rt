@@ -17,7 +17,6 @@
 //! ```
 #![tactic(auto)]
 
-mod checkpoint;
 mod run;
 mod stop;
 

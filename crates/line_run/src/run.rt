@@ -1,21 +1,22 @@
 //! A run under one set of rules.
 
-ghost use Rattle.std.specs.Prelude.{◌≡◌, ◌≤◌, IfOk, IsTrue, min};
+ghost use Rattle.std.specs.Prelude.{◌≡◌, ◌≤◌, IfOk, IfSome, IsTrue, OnErr, OnOk, min};
 ghost use Rattle.line_text.specs.EventText.{event_text};
 ghost use Rattle.rule_machine.specs.Least.{reply_of};
 ghost use Rattle.script_text.specs.Command.{Says};
+ghost use Rattle.script_text.specs.Script.{checkpointed};
 ghost use Rattle.seeded_turns.specs.Drawn.{seeded_stream, drawn_step, drawn_fault};
 ghost use Rattle.line_run.specs.Beginning.{beginning};
 ghost use Rattle.line_run.specs.Line.{progress, EventEnds, TurnsEnd, CommandEnds, LineEnds};
 
 use crate::stop::Stop;
-use line_text::put_header;
-use rule_machine::{Event, RuleSet, Want};
+use line_text::{put_base, put_header};
+use rule_machine::{Event, Reply, RuleSet, Want};
 use rule_set::Rules;
 use script_text::{Command, Turns, read_line_into};
 use seeded_turns::{DaemonTurns, EventSource, FaultTurns};
 use std::alloc::{AllocError, Global};
-use step_log::{Answer, RecordFault, Recorder};
+use step_log::{RecordFault, Recorder};
 
 /// The rule set by its name, a network whose entries are numbered, and their text, as far as the caller has not taken it away.
 #[derive(Drop)]
@@ -52,35 +53,23 @@ impl<R: Rules> Run<R> {
         })
     }
 
-    /// Carries out an event, puts the number of its entry and the reply to it where the caller keeps its answers, and adds the
-    /// entry's text; false where the log is full. At want of memory, and where the log is full, nothing has changed but the answer.
+    /// Carries out an event, puts the reply to it where the caller keeps it, and adds the entry's text, in which the event's own is
+    /// copied where it is at hand; false where the log is full. The number of the entry is the recorder's `len` then. At want of
+    /// memory, and where the log is full, nothing has changed but the reply.
+    // It stands in line with what reads an event from a line, as all that lies between does.
     #[inline(always)]
-    pub fn log(&mut self, event: &Event, answer: &mut Answer) -> Result<bool, Want>
+    pub fn log(
+        &mut self,
+        event: &Event,
+        line: Option<&[u8]>,
+        reply: &mut Reply,
+    ) -> Result<bool, Want>
+        requires { IfSome line (λ line. line.now ≡ event_text event.now) }
         ensures ends { EventEnds R.table self.old.recorder.limit event.now (progress self.old.rules self.old.recorder self.old.text.items) (progress self.new.rules self.new.recorder self.new.text.items) result }
-        ensures reply { IfOk result (λ done. IsTrue done → answer.new.reply ≡ reply_of R.table self.old.recorder.state self.old.recorder.spent event.now) }
-        ensures number { IfOk result (λ done. IsTrue done → answer.new.seq ≡ self.new.recorder.len) }
+        ensures reply { IfOk result (λ done. IsTrue done → reply.new ≡ reply_of R.table self.old.recorder.state self.old.recorder.spent event.now) }
         ensures limit { self.new.recorder.limit ≡ self.old.recorder.limit }
     {
-        match self.recorder.log_entry(event, answer, &mut self.text) {
-            Ok(()) => Ok(true),
-            Err(RecordFault::LogFull) => Ok(false),
-            Err(RecordFault::Memory) => Err(AllocError),
-        }
-    }
-
-    // Carries out an event that was read from a line, which is its text: so that text is copied into the entry. It stands in
-    // line with what reads the event, as all that lies between does.
-    #[inline(always)]
-    fn log_line(&mut self, event: &Event, line: &[u8]) -> Result<bool, Want>
-        requires { line.now ≡ event_text event.now }
-        ensures ends { EventEnds R.table self.old.recorder.limit event.now (progress self.old.rules self.old.recorder self.old.text.items) (progress self.new.rules self.new.recorder self.new.text.items) result }
-        ensures limit { self.new.recorder.limit ≡ self.old.recorder.limit }
-    {
-        let mut answer = Answer::none();
-        match self
-            .recorder
-            .log_line(event, line, &mut answer, &mut self.text)
-        {
+        match self.recorder.log_entry(event, line, reply, &mut self.text) {
             Ok(()) => Ok(true),
             Err(RecordFault::LogFull) => Ok(false),
             Err(RecordFault::Memory) => Err(AllocError),
@@ -101,8 +90,7 @@ impl<R: Rules> Run<R> {
             let Some(event) = source.next_event(self.recorder.net())? else {
                 return Ok(true);
             };
-            let mut answer = Answer::none();
-            if !self.log(&event, &mut answer)? {
+            if !self.log(&event, None, &mut Reply::Accepted)? {
                 return Ok(false);
             }
         }
@@ -129,6 +117,18 @@ impl<R: Rules> Run<R> {
         self.take_turns(&mut injector, turns.count)
     }
 
+    /// Adds the lines of the base that the network is now. No log is kept, so there are no entries to be dropped. At want of
+    /// memory nothing has changed. A look at each name and at both ends of each edge; takes the base and its text.
+    pub fn checkpoint(&mut self) -> Result<(), Want>
+        ensures ok { OnOk result (progress self.new.rules self.new.recorder self.new.text.items ≡ checkpointed (progress self.old.rules self.old.recorder self.old.text.items)) }
+        ensures err { OnErr result (progress self.new.rules self.new.recorder self.new.text.items ≡ progress self.old.rules self.old.recorder self.old.text.items) }
+        ensures limit { self.new.recorder.limit ≡ self.old.recorder.limit }
+    {
+        let net = self.recorder.net();
+        let base = net.base(self.recorder.len())?;
+        put_base(&mut self.text, self.rules, net.store().capacity(), &base)
+    }
+
     /// Follows a command, which a line says; false where it, or a turn of it, meets a full log. At want of memory nothing has
     /// changed, or some first turns of the command were taken, whole, and their text is there.
     #[inline(always)]
@@ -138,7 +138,7 @@ impl<R: Rules> Run<R> {
         ensures limit { self.new.recorder.limit ≡ self.old.recorder.limit }
     {
         match command {
-            Command::Tell(event) => self.log_line(event, line),
+            Command::Tell(event) => self.log(event, Some(line), &mut Reply::Accepted),
             Command::Drive(turns) => self.drive(alloc, *turns),
             Command::Scramble(turns) => self.scramble(*turns),
             Command::Checkpoint => {

@@ -7,6 +7,9 @@ use crate::kinds::fits;
 use rule_machine::{Event, Reply};
 use std::marker::Model;
 
+/// The most entries that a log holds, and so the greatest number of one.
+pub const MAX_ENTRIES: u32 = 16_777_216;
+
 /// An event and the reply to it, which is of the event's kind: seen in contracts as the pair of both.
 #[derive(Debug, Drop, PartialEq, Eq)]
 pub struct Entry {

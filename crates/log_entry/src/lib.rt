@@ -17,6 +17,6 @@ mod events;
 mod kinds;
 mod replies;
 
-pub use entry::Entry;
+pub use entry::{Entry, MAX_ENTRIES};
 pub use events::same_event;
 pub use replies::same_reply;

@@ -198,10 +198,10 @@ impl<R: Rules> Net<R> {
         Ok(reply)
     }
 
-    /// Puts the reply that `apply` would give to an event where the caller keeps it, with all the memory had that carrying it
-    /// out takes, as `prepare` does.
+    /// Puts the reply that `apply` would give to an event where the caller keeps it, so that none is moved, with all the memory
+    /// had that carrying it out takes, as `prepare` does. The reply may be any before; at want of memory nothing is said of it.
     #[inline(always)]
-    fn prepare_into(&mut self, event: &Event, reply: &mut Reply) -> Result<(), Want>
+    pub fn prepare_into(&mut self, event: &Event, reply: &mut Reply) -> Result<(), Want>
         ensures reply { OnOk result (reply.new ≡ reply_of R.table self.old.state self.old.spent event.now) }
         ensures prepared { OnOk result (IsPrepared R.table self.new event.now reply.new) }
         ensures kept { moment_of self.new ≡ moment_of self.old }

@@ -15,7 +15,6 @@
 //! ```
 #![tactic(auto)]
 
-mod answer;
 mod checkpoint;
 mod epoch;
 mod fault;
@@ -25,12 +24,11 @@ mod prepared;
 mod receipt;
 mod recorder;
 
-pub use answer::Answer;
 pub use epoch::Epoch;
 pub use fault::{NoEntry, RecordFault};
 pub use journal::Journal;
 pub use law::{beginnings_lead_somewhere, budgets_by_name, epochs_by_name};
-pub use log_entry::Entry;
+pub use log_entry::{Entry, MAX_ENTRIES};
 pub use prepared::Prepared;
-pub use receipt::Receipt;
-pub use recorder::{MAX_ENTRIES, Recorder};
+pub use receipt::{Answer, Receipt};
+pub use recorder::Recorder;

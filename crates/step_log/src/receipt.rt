@@ -1,4 +1,4 @@
-//! What a caller keeps of a recorded event.
+//! What a caller is told of an event.
 
 use rule_machine::{Event, Reply};
 
@@ -9,6 +9,15 @@ pub struct Receipt {
     pub seq: u32,
     /// What was asked.
     pub event: Event,
+    /// What was answered.
+    pub reply: Reply,
+}
+
+/// The number of the event's entry, and the reply to it.
+#[derive(Debug, Drop, PartialEq, Eq)]
+pub struct Answer {
+    /// The number of the entry, 1 to 16,777,216.
+    pub seq: u32,
     /// What was answered.
     pub reply: Reply,
 }

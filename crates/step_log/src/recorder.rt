@@ -1,6 +1,6 @@
 //! A network whose entries are numbered.
 
-ghost use Rattle.std.specs.Prelude.{◌≡◌, ◌<◌, ◌≤◌, ◌+◌, ◌++◌, ◌*◌, ◌↔◌, min, IfOk, IfErr, OnOk, OnErr, IsErrOf, IsTrue};
+ghost use Rattle.std.specs.Prelude.{◌≡◌, ◌<◌, ◌≤◌, ◌+◌, ◌++◌, ◌*◌, ◌↔◌, min, IfOk, IfErr, IfSome, OnOk, OnErr, IsErrOf, IsTrue};
 ghost use Rattle.graph_store.specs.Fault.{nodes_fault, Explains};
 ghost use Rattle.rule_machine.specs.declared.event.Event.TheVariants.{Step};
 ghost use Rattle.rule_machine.specs.Network.{node_count, edge_count};
@@ -13,14 +13,11 @@ ghost use Rattle.line_text.specs.EventText.{event_text};
 ghost use Rattle.step_log.specs.declared.fault.RecordFault.TheVariants.{LogFull};
 ghost use Rattle.step_log.specs.Recording.{max_entries, opening_recording, opening_recording_with, entered};
 
-use crate::{Answer, RecordFault};
+use crate::{Answer, MAX_ENTRIES, RecordFault};
 use line_text::{put_entry, put_entry_of_line};
-use rule_engine::{Choice, Event, GraphFault, Net, Reply, Rules, Verdict};
+use rule_engine::{Choice, Event, GraphFault, Net, Reply, Rules, Verdict, Want};
 use std::alloc::Global;
 use std::marker::Model;
-
-/// The most entries that a log may hold.
-pub const MAX_ENTRIES: u32 = 16_777_216;
 
 /// A network under the rules `R` that numbers its entries and hands them out, up to a limit. It keeps none.
 #[derive(Drop)]
@@ -131,41 +128,23 @@ impl<R: Rules> Recorder<R> {
         self.net.spent()
     }
 
-    /// Carries out an event, and puts the number of its entry, from 1, and the reply to it where the caller keeps its answers, so
-    /// that none is moved. `LogFull` exactly where there were as many entries as there may be, which comes before all else;
-    /// `Memory` if memory runs out. At a fault the network and its entries have not changed, and nothing is said of the answer.
-    /// Takes the memory of the reply and no other.
-    pub fn log(&mut self, event: &Event, answer: &mut Answer) -> Result<(), RecordFault>
-        ensures number { OnOk result (answer.new.seq ≡ self.old.len + 1) }
-        ensures reply { OnOk result (answer.new.reply ≡ reply_of R.table self.old.state self.old.spent event.now) }
-        ensures machine { OnOk result (Answers R.table self.old.state self.old.spent event.now answer.new.reply self.new.state) }
-        ensures below { OnOk result (self.old.len < self.old.limit) }
-        ensures recording { OnOk result (self.new ≡ entered R.table self.old event.now) }
-        ensures full { self.old.len ≡ self.old.limit → IsErrOf result LogFull }
-        ensures not_full { IsErrOf result LogFull → self.old.len ≡ self.old.limit }
-        ensures kept { OnErr result (self.new ≡ self.old) }
-    {
-        if self.is_full() {
-            return Err(RecordFault::LogFull);
-        }
-        self.net.apply_into(event, &mut answer.reply)?;
-        self.len += 1;
-        answer.seq = self.len;
-        Ok(())
-    }
-
-    /// Carries out an event as `log` does, and adds the text of the entry, with its LF, to a text: at a fault that has not
-    /// changed either, so that no entry is lost where there was memory for its reply and none for its text. Takes the memory of
-    /// the two and no other.
+    /// Carries out an event, puts the reply to it where the caller keeps it, so that none is moved, and adds the text of its entry, with
+    /// its LF, to a text; the event's own text is copied where it is at hand, as a line that the event was read from. The entry's number
+    /// is `len` then. `LogFull` exactly where there were as many entries as there may be, which comes before all else; `Memory` if
+    /// memory runs out. At a fault the network, its entries and the text have not changed, so that no entry is lost where there was
+    /// memory for its reply and none for its text, and nothing is said of the reply. Takes the memory of the two and no other.
     #[inline(always)]
     pub fn log_entry(
         &mut self,
         event: &Event,
-        answer: &mut Answer,
+        line: Option<&[u8]>,
+        reply: &mut Reply,
         text: &mut Vec<u8>,
     ) -> Result<(), RecordFault>
-        ensures number { OnOk result (answer.new.seq ≡ self.old.len + 1) }
-        ensures reply { OnOk result (answer.new.reply ≡ reply_of R.table self.old.state self.old.spent event.now) }
+        requires { IfSome line (λ line. line.now ≡ event_text event.now) }
+        ensures number { OnOk result (self.new.len ≡ self.old.len + 1) }
+        ensures reply { OnOk result (reply.new ≡ reply_of R.table self.old.state self.old.spent event.now) }
+        ensures machine { OnOk result (Answers R.table self.old.state self.old.spent event.now reply.new self.new.state) }
         ensures below { OnOk result (self.old.len < self.old.limit) }
         ensures recording { OnOk result (self.new ≡ entered R.table self.old event.now) }
         ensures text { OnOk result (text.new.items ≡ text.old.items ++ entry_line (self.old.len + 1) event.now (reply_of R.table self.old.state self.old.spent event.now)) }
@@ -177,50 +156,15 @@ impl<R: Rules> Recorder<R> {
         if self.is_full() {
             return Err(RecordFault::LogFull);
         }
-        let reply = self.net.prepare(event)?;
-        put_entry(text, self.len + 1, event, &reply)?;
-        self.net.commit(event, &reply);
+        self.net.prepare_into(event, reply)?;
+        put_text(text, self.len + 1, event, line, reply)?;
+        self.net.commit(event, reply);
         self.len += 1;
-        answer.seq = self.len;
-        answer.reply = reply;
         Ok(())
     }
 
-    /// Carries out an event as `log` does, and adds the text of the entry, with its LF, to a text, where the event's text is a
-    /// line that is at hand, which is copied. At a fault neither the network nor the text has changed.
-    #[inline(always)]
-    pub fn log_line(
-        &mut self,
-        event: &Event,
-        line: &[u8],
-        answer: &mut Answer,
-        text: &mut Vec<u8>,
-    ) -> Result<(), RecordFault>
-        requires { line.now ≡ event_text event.now }
-        ensures number { OnOk result (answer.new.seq ≡ self.old.len + 1) }
-        ensures reply { OnOk result (answer.new.reply ≡ reply_of R.table self.old.state self.old.spent event.now) }
-        ensures below { OnOk result (self.old.len < self.old.limit) }
-        ensures recording { OnOk result (self.new ≡ entered R.table self.old event.now) }
-        ensures text { OnOk result (text.new.items ≡ text.old.items ++ entry_line (self.old.len + 1) event.now (reply_of R.table self.old.state self.old.spent event.now)) }
-        ensures full { self.old.len ≡ self.old.limit → IsErrOf result LogFull }
-        ensures not_full { IsErrOf result LogFull → self.old.len ≡ self.old.limit }
-        ensures kept { OnErr result (self.new ≡ self.old) }
-        ensures kept_text { OnErr result (text.new.items ≡ text.old.items) }
-    {
-        if self.is_full() {
-            return Err(RecordFault::LogFull);
-        }
-        let reply = self.net.prepare(event)?;
-        put_entry_of_line(text, self.len + 1, line, &reply)?;
-        self.net.commit(event, &reply);
-        self.len += 1;
-        answer.seq = self.len;
-        answer.reply = reply;
-        Ok(())
-    }
-
-    /// Carries out a step from the verdicts of its items, and gives the number of its entry and the reply: what `log` of the
-    /// step would do, without a second look at a guard. `LogFull` and `Memory` as there; at a fault nothing has changed.
+    /// Carries out a step from the verdicts of its items, without a second look at a guard, and gives the number of its entry and
+    /// the reply; adds no text. `LogFull` and `Memory` as `log_entry` has them; at a fault nothing has changed.
     pub fn log_step(&mut self, choice: &Choice, verdicts: &[Verdict]) -> Result<Answer, RecordFault>
         requires { verdicts.now ≡ verdicts_of R.table self.old.state choice.now }
         ensures number { IfOk result (λ answer. answer.seq ≡ self.old.len + 1) }
@@ -241,5 +185,25 @@ impl<R: Rules> Recorder<R> {
             seq: self.len,
             reply,
         })
+    }
+}
+
+/// Adds the text of an entry, with its LF, to a text; the event's is copied where it is at hand. At want of memory that has not
+/// changed.
+#[inline(always)]
+fn put_text(
+    out: &mut Vec<u8>,
+    number: u32,
+    event: &Event,
+    line: Option<&[u8]>,
+    reply: &Reply,
+) -> Result<(), Want>
+    requires { IfSome line (λ line. line.now ≡ event_text event.now) }
+    ensures ok { OnOk result (out.new.items ≡ out.old.items ++ entry_line number event.now reply.now) }
+    ensures kept { OnErr result (out.new.items ≡ out.old.items) }
+{
+    match line {
+        Some(line) => put_entry_of_line(out, number, line, reply),
+        None => put_entry(out, number, event, reply),
     }
 }

@@ -1,5 +1,6 @@
 use Rattle.std.proofs.Common.{◌≡◌, ◌<◌, ◌+◌, ◌∙◌, ◌++◌, ap, subst, arith}
 use Rattle.rule_machine.specs.declared.reply.Reply.{Reply}
+use Rattle.rule_machine.specs.Answer.{Answers}
 use Rattle.rule_machine.specs.Least.{reply_of}
 use Rattle.rule_machine.specs.Run.{Moment, moment_after}
 use Rattle.machine_laws.specs.LeastMoves.{IsTable}
@@ -17,7 +18,7 @@ invariant_of-self-2 g c =
     let before : Recording = record { state = inside.net.state; spent = inside.net.spent; len = inside.len; limit = inside.limit; first = inside.first } in
     let after : Moment = record { state = c.commit.new.self.state; spent = c.commit.new.self.spent } in
     let below : inside.len < inside.limit = grind arith in
-    entered_is_recording t table before c.self.invariant below c.args.event.now after (c.commit.ensures.state ∙ ap (λ (m : Moment). moment_after t m c.args.event.now) c.in_ok-reply.ensures.kept)
+    entered_is_recording t table before c.self.invariant below c.args.event.now after (c.commit.ensures.state ∙ ap (λ (m : Moment). moment_after t m c.args.event.now) c.in_ok-prepare_into.ensures.kept)
 
 pub returns-clause-text : goal.returns-clause-text
 returns-clause-text g c =
@@ -25,5 +26,5 @@ returns-clause-text g c =
     let t = g.R.Rules.table in
     let event = c.args.event.now in
     let text = c.args.text.now.items in
-    subst (λ (r : Recording). c.put_entry.new.out.items ≡ text ++ entry_line (r.len + 1) event (reply_of t r.state r.spent event)) c.self.view_is
-    (c.in_ok-put_entry.ensures.ok ∙ ap (λ (reply : Reply). text ++ entry_line (inside.len + 1) event reply) c.in_ok-reply.ensures.reply)
+    subst (λ (r : Recording). c.put_text.new.out.items ≡ text ++ entry_line (r.len + 1) event (reply_of t r.state r.spent event)) c.self.view_is
+    (c.in_ok-put_text.ensures.ok ∙ ap (λ (reply : Reply). text ++ entry_line (inside.len + 1) event reply) c.in_ok-prepare_into.ensures.reply)
