@@ -1,5 +1,5 @@
 -- Runs that begin at a base: each moment of a run may be kept as one, and whoever goes on from it keeps within the bound.
-use Rattle.std.proofs.Common.{◌≡◌, ℕ, List, Option, None, Some, refl, sym, ap, ◌∙◌, subst}
+use Rattle.std.proofs.Common.{◌≡◌, ℕ, List, Option, None, Some, refl, sym, ◌∙◌, subst}
 use Rattle.rule_machine.specs.declared.base.Base.{Base}
 use Rattle.rule_machine.specs.Network.{Network}
 use Rattle.rule_machine.specs.State.{IsState}
@@ -41,10 +41,6 @@ runs_may_go_on t weight table charged flagless size number base start begun log 
 pub begins_in_state : (t : RuleTable) (bound : Network → ℕ) (size first : ℕ) (base : Option Base) (start : Moment) → BeginsAt t bound size first base start → IsState start.state
 begins_in_state t bound size first None start begins = subst (λ (m : Moment). IsState m.state) (sym begins) (opening_is_state size first)
 begins_in_state t bound size first (Some base) start begins = begins.is_state
-
-pub begins_with_size : (t : RuleTable) (bound : Network → ℕ) (size first : ℕ) (base : Option Base) (start : Moment) → BeginsAt t bound size first base start → start.state.network.size ≡ size
-begins_with_size t bound size first None start begins = ap (λ (m : Moment). m.state.network.size) begins
-begins_with_size t bound size first (Some base) start begins = begins.size_is
 
 pub begins_within : (t : RuleTable) (weight : ℕ) → IsCharged t weight → (size first : ℕ) (base : Option Base) (start : Moment) → BeginsAt t (charge_bound weight) size first base start → IsWithinBound t weight start
 begins_within t weight charged size first None start begins = subst (IsWithinBound t weight) (sym begins) (beginning_is_within t weight charged size first)

@@ -19,7 +19,7 @@ use Rattle.charge_laws.specs.HsuHuangFalls.{hsu_huang_falls}
 use Rattle.charge_laws.specs.ManneFalls.{manne_falls}
 use Rattle.charge_laws.specs.Zero.{hsu_huang_zero_is_stable, manne_zero_is_stable}
 use Rattle.charge_laws.specs.Tables.{hsu_huang_table, manne_table}
-use Rattle.charge_laws.specs.Runs.{run_spends, run_lowers, run_within}
+use Rattle.charge_laws.specs.Runs.{run_lowers, run_within}
 
 -- Hsu and Huang: one node moves at a time, and each node weighs 1
 pub hsu_huang_charged : IsCharged hsu_huang 1
@@ -42,13 +42,6 @@ manne_charged = record {
 -- From any state: the moves of a run without an accepted disturbance are paid by the charge at its start.
 pub moves_are_paid : (t : RuleTable) (weight : ℕ) → IsTable t → IsCharged t weight → (start : Moment) → IsState start.state → (log : List Entry) (end : Moment) → Run t start log end → IsUndisturbed log → moves_in log + t.charge end.state ≤ t.charge start.state
 moves_are_paid t weight table charged start good log end run calm = (run_lowers t weight table charged start good log end run calm).0
-
--- so is what it spends
-pub spending_is_paid : (t : RuleTable) (weight : ℕ) → IsTable t → IsCharged t weight → (start : Moment) → IsState start.state → (log : List Entry) (end : Moment) → Run t start log end → IsUndisturbed log → end.spent + t.charge end.state ≤ start.spent + t.charge start.state
-spending_is_paid t weight table charged start good log end run calm =
-    let paid = moves_are_paid t weight table charged start good log end run calm in
-    let spends = run_spends t start log end run calm in
-    omega (arith, paid, spends)
 
 -- There are no more of them than twice the edges and the weight for each node.
 pub moves_are_bounded : (t : RuleTable) (weight : ℕ) → IsTable t → IsCharged t weight → (start : Moment) → IsState start.state → (log : List Entry) (end : Moment) → Run t start log end → IsUndisturbed log → moves_in log ≤ 2 * edge_count start.state.network + weight * node_count start.state.network

@@ -20,10 +20,6 @@ RiseBy [] = Unit {0}
 RiseBy (p ∷ []) = Unit {0}
 RiseBy (p ∷ q ∷ pairs) = (pair_cmp p q ≡ Less) × RiseBy (q ∷ pairs)
 
-rise_tail : (p : ℕ × ℕ) (pairs : List (ℕ × ℕ)) → RiseBy (p ∷ pairs) → RiseBy pairs
-rise_tail p [] up = tt
-rise_tail p (q ∷ pairs) up = up.1
-
 none_of : {X : Type 0} (xs : List X) → length xs ≡ 0 → xs ≡ []
 none_of [] e = refl
 none_of (x ∷ xs) e = absurd (omega (arith, e))

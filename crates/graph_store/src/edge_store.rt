@@ -15,12 +15,9 @@ use crate::rows::{
 };
 use crate::{End, GraphFault};
 use enabled_set::EnabledSet;
-use rule_machine::{Edge, Node, Want};
+use rule_machine::{Edge, MAX_NAME, Node, Want};
 use std::alloc::Global;
 use std::marker::Model;
-
-/// The most names that a graph has, and so the most nodes.
-pub const MAX_NODES: u32 = 65_535;
 
 /// The most edges that a graph has.
 pub const MAX_EDGES: u32 = 1_048_576;
@@ -76,7 +73,7 @@ impl EdgeStore {
         ensures small { OnOk result (nodes ≤ 65535) }
         ensures fault { IfErr result (λ fault. Explains (nodes_fault nodes) fault) }
     {
-        if nodes > MAX_NODES {
+        if nodes > MAX_NAME {
             return Err(GraphFault::TooManyNodes);
         }
         let rows = empty_rows(alloc, nodes as usize + 1).map_err(|_| GraphFault::Memory)?;

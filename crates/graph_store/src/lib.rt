@@ -21,7 +21,7 @@ mod fault;
 mod roll;
 mod rows;
 
-pub use edge_store::{EdgeStore, MAX_EDGES, MAX_NODES};
+pub use edge_store::{EdgeStore, MAX_EDGES};
 pub use end::End;
 pub use fault::GraphFault;
 pub use roll::first_names;

@@ -15,13 +15,6 @@ pub record Turned (draws : Draws) (t : RuleTable) (limit count taken : ℕ) (fir
   pub does : (more : ℕ) (after : Progress) → TurnsDo draws t limit more stream now after → TurnsDo draws t limit (taken + more) first begun after
   pub fills : (more : ℕ) (after : Progress) → TurnsFill draws t limit more stream now after → TurnsFill draws t limit (taken + more) first begun after
 
-pub turned_none : (draws : Draws) (t : RuleTable) (limit count : ℕ) (first : Stream) (begun : Progress) → Turned draws t limit count 0 first first begun begun
-turned_none draws t limit count first begun = record {
-  within = omega arith;
-  does = λ more after d. let all : more ≡ 0 + more = omega arith in subst (λ n. TurnsDo draws t limit n first begun after) all d;
-  fills = λ more after f. let all : more ≡ 0 + more = omega arith in subst (λ n. TurnsFill draws t limit n first begun after) all f;
-}
-
 module _ (draws : Draws) (t : RuleTable) (limit count taken : ℕ) (first stream : Stream) (begun now : Progress) (so_far : Turned draws t limit count taken first stream begun now) where
   -- those that were taken are some first ones
   pub turned_begun : TurnsBegin draws t limit count first begun now

@@ -34,11 +34,6 @@ run_splits t start end (entry ∷ some) rest (next, answers, h) =
     let more = run_splits t (record { state = next; spent = spent_after start.spent entry.1 }) end some rest h in
     (more.0, (next, answers, more.1), more.2)
 
-pub run_joins : (t : RuleTable) (start middle end : Moment) (some rest : List Entry) → Run t start some middle → Run t middle rest end → Run t start (some ++ rest) end
-run_joins t start middle end [] rest one two = subst (λ (m : Moment). Run t m rest end) one two
-run_joins t start middle end (entry ∷ some) rest (next, answers, one) two =
-    (next, answers, run_joins t (record { state = next; spent = spent_after start.spent entry.1 }) middle end some rest one two)
-
 -- ---- the lines of a base tell the state
 
 names_of_places : (s : State) (vs : List ℕ) → map (λ p. p.node) (map (place_at s) vs) ≡ vs

@@ -1,10 +1,8 @@
 -- The last steps of a node that leaves: an edge at a time, then its flag, then its name.
-use Rattle.std.proofs.Common.{◌≡◌, ◌≢◌, ℕ, ◌-◌, ◌<◌, ◌≤◌, true, false, cond, List, [], ◌∷◌, set, length, find, Option, IsTrue, MatchOption, All, slice_get, refl, sym, ap, ◌∙◌, subst, ⊎_elim, arith}
+use Rattle.std.proofs.Common.{◌≡◌, ◌≢◌, ℕ, ◌-◌, ◌<◌, ◌≤◌, true, false, cond, [], ◌∷◌, set, length, find, IsTrue, sym, ap, ◌∙◌, subst, ⊎_elim, arith}
 use Rattle.std.specs.FinMap as map
 use Rattle.std.proofs.lemmas.Bool.{cases_lt, false_from_ne_true, true≢false}
 use Rattle.std.proofs.lemmas.List.{get_or-set_same, get_or_past, length-set, set-set}
-use Rattle.std.proofs.lemmas.List.Elements.{All-get_or}
-use Rattle.std.proofs.lemmas.Option.{slice_get-get_or}
 use Rattle.rule_machine.specs.Network.{Network, IsNetwork, linked, neighbours, edge, edge_count, without_edge, without_node}
 use Rattle.rule_machine.specs.State.{State, Registers, IsState, flag_of, with_flag}
 use Rattle.rule_machine.specs.Disturbance.{after_unlink, after_flag, after_leave, without_name}
@@ -68,15 +66,3 @@ fewer_edges net a b there =
     let none : edge_count net ≡ 0 = omega arith in
     absurd (true≢false (sym there ∙ ap (λ m. map.contains_key m (edge a b)) (map.empty_of_len net.edges none) ∙ contains-empty (edge a b))))
     (cases_lt 0 (edge_count net))
-
--- the last of some nodes, if there is one, is what they all are
-pub last_passes : (nodes : List ℕ) (o : Option ℕ) (P : ℕ → Type 0) → o ≡ slice_get nodes (length nodes - 1) → All P nodes → MatchOption o (nodes ≡ []) P
-last_passes [] o P found all = subst (λ r. MatchOption r (◌≡◌ {A = List ℕ} [] []) P) (sym found) refl
-last_passes (x ∷ xs) o P found all =
-    let i : ℕ = length (x ∷ xs) - 1 in
-    let inside : i < length (x ∷ xs) = omega arith in
-    subst (λ r. MatchOption r ((x ∷ xs) ≡ []) P) (sym (found ∙ slice_get-get_or (x ∷ xs) i 0 inside)) (All-get_or P (x ∷ xs) i 0 inside all)
-
--- what is both one thing and another
-pub all_both : (nodes : List ℕ) (P Q : ℕ → Type 0) → All P nodes → All Q nodes → All (λ w. P w × Q w) nodes
-all_both nodes P Q p q = λ i d inside. (p i d inside, q i d inside)

@@ -8,9 +8,9 @@ ghost use Rattle.rule_machine.specs.Stable.{mutual_pairs};
 ghost use Rattle.rule_set.specs.Ends.{ends_open};
 ghost use Rattle.indexed_state.specs.Shares.{node_part};
 
-use graph_store::{EdgeStore, MAX_EDGES, MAX_NODES};
+use graph_store::{EdgeStore, MAX_EDGES};
 use indexed_state::IndexedState;
-use rule_machine::Reply;
+use rule_machine::{MAX_NAME, Reply};
 use rule_set::Rules;
 
 /// What a status asks of all nodes.
@@ -55,7 +55,7 @@ pub(crate) fn spent_after<R: Rules>(store: &EdgeStore, spent: u32, reply: &Reply
     match reply {
         Reply::Accepted => 0,
         Reply::Moves(moves) => {
-            prove!(store.nodes() <= MAX_NODES && store.edges() <= MAX_EDGES);
+            prove!(store.nodes() <= MAX_NAME && store.edges() <= MAX_EDGES);
             spent + moves.as_slice().len() as u32
         }
         _ => spent,

@@ -124,10 +124,6 @@ shifted f g count xs xs' ys ys' x y more less same all =
     let now = moved count (map f xs) (map g ys') (g y) (subst (λ l. AreAllEnds count (map f xs ++ l)) from all) in
     subst (λ l. AreAllEnds count (l ++ map g ys')) (sym (to ∙ ap (λ h. map f xs ++ h ∷ []) same)) now
 
--- all that are left are of one kind
-pub all_shifted : {X Y : Type 0} → (f : X → Hold) (g : Y → Hold) (count : ℕ) (xs : List X) (ys : List Y) → ys ≡ [] → AreAllEnds count (map f xs ++ map g ys) → AreAllEnds count (map f xs)
-all_shifted f g count xs ys none all = subst (AreAllEnds count) (append-nil (map f xs)) (subst (λ l. AreAllEnds count (map f xs ++ map g l)) none all)
-
 -- what all but the last say, and what the last says
 pub but_last : {X : Type 0} → (P : X → Type 0) (xs ys : List X) (x : X) → xs ≡ ys ++ x ∷ [] → All P xs → All P ys × P x
 but_last P xs ys x is all =
@@ -215,9 +211,3 @@ halves_held k hands low high ours theirs shares first second mine other all =
 
 pub halves_judged : (P : Share → Type 0) (ours theirs shares : List Share) → All P ours → All P theirs → shares ≡ ours ++ theirs → All P shares
 halves_judged P ours theirs shares mine other all = subst (All P) (sym all) (All-append P ours theirs mine other)
-
-pub first_half : (P : Hand → Type 0) (k : ℕ) (hands low : List Hand) → low ≡ take k hands → All P hands → All P low
-first_half P k hands low is all = subst (All P) (sym is) (All-take P k hands all)
-
-pub second_half : (P : Hand → Type 0) (k : ℕ) (hands high : List Hand) → high ≡ drop k hands → All P hands → All P high
-second_half P k hands high is all = subst (All P) (sym is) (All-drop P k hands all)

@@ -1,3 +1,2 @@
 pub mod Laying
 mod EachPlace
-pub mod Callers

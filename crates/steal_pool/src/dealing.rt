@@ -12,7 +12,7 @@ use rule_engine::{Choice, Want};
 use std::alloc::Global;
 
 /// The most workers at once.
-pub(crate) const MAX_WORKERS: u32 = 64;
+pub const MAX_WORKERS: u32 = 64;
 
 /// Puts every place of the choice once on a new deque, and gives as many ends of it as there are workers, whose numbers are 0, 1, 2
 /// and so on; more than 64 count as 64, and an empty choice gives hands all the same. `ZeroWorkers` where there is no worker, which

@@ -22,7 +22,7 @@ mod hand;
 mod merging;
 mod working;
 
-pub use dealing::hands;
+pub use dealing::{MAX_WORKERS, hands};
 pub use evaluation::evaluate;
 pub use fault::PoolFault;
 pub use gate::{Gate, NoGate};

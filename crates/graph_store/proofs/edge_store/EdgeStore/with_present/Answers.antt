@@ -14,7 +14,7 @@ invariant_of-result c =
     let here = from_map_err (λ set. set ≡ first_names c.args.nodes c.args.present) c.first_names.result c.map_err-2.result c.in_ok-here.here _ c.in_ok-here.was c.map_err-2.ensures.cases c.first_names.ensures in
     let ends : c.in_ok-ends.ends.items ≡ replicate (c.args.nodes + 1) Shut = from_map_err (λ ends. ends.items ≡ replicate (c.args.nodes + 1) Shut) c.shut_ends.result c.map_err-3.result c.in_ok-ends.ends _ c.in_ok-ends.was c.map_err-3.ensures.cases c.shut_ends.ensures in (
       subst (λ roll. IsStore c.args.nodes roll 0 (contents c.in_ok-rows.rows.items)) (sym here)
-          (subst (IsStore c.args.nodes (first_names c.args.nodes c.args.present) 0) (sym rows) (empty_store c.args.nodes c.args.present c.if-nodes-gt-MAX_NODES.false)),
+          (subst (IsStore c.args.nodes (first_names c.args.nodes c.args.present) 0) (sym rows) (empty_store c.args.nodes c.args.present c.if-nodes-gt-MAX_NAME.false)),
       subst (λ l. AreCounted c.args.nodes (contents c.in_ok-rows.rows.items) l 0) (sym ends)
           (subst (λ l. AreCounted c.args.nodes l (replicate (c.args.nodes + 1) Shut) 0) (sym rows) (none_counted c.args.nodes c.args.present)),
     )
