@@ -7,8 +7,8 @@ use Rattle.std.specs.FinMap as map
 use Rattle.std.proofs.lemmas.Bool.{leb-false, true≢false}
 use Rattle.rule_machine.specs.Network.{Network, present, linked, edge, edge_count}
 use Rattle.rule_machine.specs.Refuse.{max_edges}
-use Rattle.graph_store.specs.declared.fault.GraphFault.TheVariants.{UnknownNode, SelfLoop, AlreadyLinked, TooManyEdges}
-use Rattle.graph_store.specs.Fault.{ends_fault, link_fault}
+use Rattle.graph_store.specs.declared.fault.GraphFault.TheVariants.{UnknownNode, SelfLoop, AlreadyLinked, NotLinked, TooManyEdges}
+use Rattle.graph_store.specs.Fault.{ends_fault, link_fault, unlink_fault}
 use Rattle.graph_store.specs.Rows.{contents, row_at, has, network_of, IsRows, IsPlaceOf, IsGapFor}
 use Rattle.graph_store.proofs.PairOrder.{count-some}
 use Rattle.graph_store.proofs.Contents.{row_read, length_contents}
@@ -68,6 +68,11 @@ may_link net a b free =
 pub link_fault_is : (net : Network) (a b : ℕ) (l m : Bool) → present net a ≡ true → present net b ≡ true → eqb a b ≡ false → linked net a b ≡ l → nat_le max_edges (edge_count net) ≡ m → link_fault net a b ≡ cond l (Some AlreadyLinked) (cond m (Some TooManyEdges) None)
 link_fault_is net a b l m p q e is_l is_m =
     λ i. cond (not (p i && q i)) (Some UnknownNode) (cond (e i) (Some SelfLoop) (cond (is_l i) (Some AlreadyLinked) (cond (is_m i) (Some TooManyEdges) None)))
+
+-- an edge that may be taken out, or not, likewise
+pub unlink_fault_is : (net : Network) (a b : ℕ) (l : Bool) → present net a ≡ true → present net b ≡ true → eqb a b ≡ false → linked net a b ≡ l → unlink_fault net a b ≡ cond l None (Some NotLinked)
+unlink_fault_is net a b l p q e is_l =
+    λ i. cond (not (p i && q i)) (Some UnknownNode) (cond (e i) (Some SelfLoop) (cond (is_l i) None (Some NotLinked)))
 
 -- a node is one of a store's names
 pub known : (size : ℕ) (roll : List Bool) (rows : List (List ℕ)) (net : Network) (v : ℕ) → network_of size roll rows ≡ net → present net v ≡ true → present (network_of size roll rows) v ≡ true

@@ -1,12 +1,19 @@
--- A node without neighbours that leaves.
-use Rattle.std.proofs.Common.{◌≡◌, ℕ, ◌≤◌, Bool, true, false, not, cond, ◌&&◌, List, [], eqb, leb, ltb, set, Option, None, is_some, sym, refl, ap, ◌∙◌, arith, ⊎_elim}
+-- A node that leaves: its edges go one by one from its last neighbour, and then its place.
+use Rattle.std.proofs.Common.{◌≡◌, ℕ, ◌-◌, ◌<◌, ◌≤◌, min, max, Bool, true, false, not, cond, ◌&&◌, List, [], ◌∷◌, length, eqb, leb, ltb, get_or, set, Option, None, Some, is_some, sym, refl, ap, subst, ◌∙◌, arith, ⊎_elim}
+use Rattle.std.specs.Prelude.{slice_get, MatchOption}
 use Rattle.std.specs.FinMap as map
-use Rattle.std.proofs.lemmas.Bool.{or_cases, eqb-true, true≢false}
+use Rattle.std.proofs.lemmas.Bool.{and_parts, or_cases, or_left, or_right, eqb-true, eq-eqb, ne_eqb, cases_lt, true≢false}
 use Rattle.std.proofs.lemmas.List.{get_or-set_other, length-set}
-use Rattle.rule_machine.specs.Network.{Network, PairSet, is_end, without_node}
-use Rattle.graph_store.specs.Rows.{has, row_at, edges_of, network_of, IsRows, IsStore}
-use Rattle.graph_store.proofs.PairOrder.{pair_cmp-IsAntisymmetric, same_pairs}
+use Rattle.std.proofs.lemmas.Option.{slice_get-get_or}
+use Rattle.rule_machine.specs.Network.{Network, PairSet, present, linked, neighbours, edge, edge_count, is_end, without_edge, without_node}
+use Rattle.graph_store.specs.declared.fault.GraphFault.TheVariants.{UnknownNode, SelfLoop, NotLinked}
+use Rattle.graph_store.specs.Fault.{leave_fault, unlink_fault}
+use Rattle.graph_store.specs.Rows.{has, row_at, edges_of, network_of, IsRows, IsStore, IsPlaceOf}
+use Rattle.graph_store.proofs.PairOrder.{same_pair, pair_cmp-IsAntisymmetric, has-remove, count-remove, same_pairs}
 use Rattle.graph_store.proofs.Pairs.{and-false, has-edges_of}
+use Rattle.graph_store.proofs.Rising.{there_at_place}
+use Rattle.graph_store.proofs.Store.{neighbours_by}
+use Rattle.graph_store.proofs.Faults.{linked_at_place, unlink_fault_is, some_edge}
 
 -- what is there where some pairs were kept
 is_some_kept : (b : Bool) (x : Option (Unit {0})) → is_some (cond b x None) ≡ (b && is_some x)
@@ -18,6 +25,75 @@ has-retain : (s : PairSet) (v : ℕ) (q : ℕ × ℕ) → map.contains_key (map.
 has-retain s v q =
     ap is_some (map.get-retain_keys s (λ e. not (is_end v e)) q (λ x tied. ap (λ e. not (is_end v e)) (sym (pair_cmp-IsAntisymmetric q x tied))))
     ∙ is_some_kept (not (is_end v q)) (map.get s q)
+
+-- a pair that is left out anyhow may be missing
+left_out : (e s h : Bool) → (s ≡ true → e ≡ true) → (not e && (not s && h)) ≡ (not e && h)
+left_out true s h so = refl
+left_out false true h so = absurd (true≢false (sym (so refl)))
+left_out false false h so = refl
+
+-- a name is an end of the edges at it
+ends_at : (v w a b : ℕ) → same_pair (a, b) (edge v w) ≡ true → is_end v (a, b) ≡ true
+ends_at v w a b h =
+    let both = and_parts (eqb a (min v w)) (eqb b (max v w)) h in
+    let low : a ≡ min v w = eqb-true a (min v w) both.0 in
+    let high : b ≡ max v w = eqb-true b (max v w) both.1 in
+    ⊎_elim
+    (λ (lt : v < w). or_left (eqb a v) (eqb b v) (eq-eqb a v (omega (arith, low, lt))))
+    (λ (le : w ≤ v). or_right (eqb a v) (eqb b v) (eq-eqb b v (omega (arith, high, le))))
+    (cases_lt v w)
+
+-- who leaves without an edge leaves what who leaves with it does
+pub without_edge_at : (net : Network) (v w : ℕ) → without_node (without_edge net v w) v ≡ without_node net v
+without_edge_at net v w =
+    ap (λ (s : PairSet). let gone : Network = record { size = net.size; here = set net.here v false; edges = s } in gone)
+    (same_pairs _ _ (λ a b.
+    has-retain (map.remove net.edges (edge v w)) v (a, b)
+    ∙ ap (λ t. not (is_end v (a, b)) && t) (has-remove net.edges (edge v w) (a, b))
+    ∙ left_out (is_end v (a, b)) (same_pair (a, b) (edge v w)) (map.contains_key net.edges (a, b)) (ends_at v w a b)
+    ∙ sym (has-retain net.edges v (a, b))))
+
+-- an edge less to count
+pub edge_falls : (net : Network) (v w : ℕ) → linked net v w ≡ true → edge_count (without_edge net v w) < edge_count net
+edge_falls net v w there =
+    let less : edge_count (without_edge net v w) ≡ edge_count net - 1 = count-remove net.edges (edge v w) there in
+    let some = some_edge net v w there in
+    omega (arith, less, some)
+
+-- what is known of an edge that may be taken out
+good_unlink : (p q e l : Bool) → cond (not (p && q)) (Some UnknownNode) (cond e (Some SelfLoop) (cond l None (Some NotLinked))) ≡ None → l ≡ true
+good_unlink false q e l h = absurd cc
+good_unlink true false e l h = absurd cc
+good_unlink true true true l h = absurd cc
+good_unlink true true false false h = absurd cc
+good_unlink true true false true h = refl
+
+pub may_unlink : (net : Network) (a b : ℕ) → unlink_fault net a b ≡ None → linked net a b ≡ true
+may_unlink net a b free = good_unlink (present net a) (present net b) (eqb a b) (linked net a b) free
+
+-- a node may leave
+pub may_leave : (net : Network) (v : ℕ) → present net v ≡ true → leave_fault net v ≡ None
+may_leave net v here = ap (λ t. cond t None (Some UnknownNode)) here
+
+-- the edge to the neighbour at a place may be taken out
+unlinks_at : (size : ℕ) (roll : List Bool) (rows : List (List ℕ)) (net : Network) (v w i : ℕ) (row : List ℕ) → network_of size roll rows ≡ net → IsRows size roll rows → present net v ≡ true → row ≡ row_at rows v → IsPlaceOf row w i → unlink_fault net v w ≡ None
+unlinks_at size roll rows net v w i row seen good here is place =
+    let in_row : has (row_at rows v) w ≡ true = ap (λ l. has l w) (sym is) ∙ there_at_place row w i place in
+    unlink_fault_is net v w true here
+    (ap (λ n. present n w) (sym seen) ∙ good.within v w in_row)
+    (ne_eqb v w (λ e. true≢false (sym in_row ∙ ap (has (row_at rows v)) (sym e) ∙ good.apart v)))
+    (linked_at_place size roll rows net v w i row seen good is place)
+
+-- the last neighbour, if there is one
+pub last_of : (size : ℕ) (roll : List Bool) (rows : List (List ℕ)) (net : Network) (v : ℕ) (row : List ℕ) (o : Option ℕ) → network_of size roll rows ≡ net → IsRows size roll rows → present net v ≡ true → row ≡ row_at rows v → o ≡ slice_get row (length row - 1) → MatchOption o (neighbours net v ≡ []) (λ w. unlink_fault net v w ≡ None)
+last_of size roll rows net v [] o seen good here is found =
+    subst (λ r. MatchOption r (neighbours net v ≡ []) (λ w. unlink_fault net v w ≡ None)) (sym found)
+    (sym (is ∙ neighbours_by size roll rows net v seen good))
+last_of size roll rows net v (x ∷ xs) o seen good here is found =
+    let i : ℕ = length (x ∷ xs) - 1 in
+    let inside : i < length (x ∷ xs) = omega arith in
+    subst (λ r. MatchOption r (neighbours net v ≡ []) (λ w. unlink_fault net v w ≡ None)) (sym (found ∙ slice_get-get_or (x ∷ xs) i 0 inside))
+    (unlinks_at size roll rows net v (get_or (x ∷ xs) i 0) i (x ∷ xs) seen good here is (inside, refl))
 
 -- nobody has a name in its row whose own row is empty
 nobody_has : (size : ℕ) (roll : List Bool) (rows : List (List ℕ)) (v w : ℕ) → IsRows size roll rows → row_at rows v ≡ [] → has (row_at rows w) v ≡ false

@@ -3,7 +3,7 @@ use Rattle.std.specs.Prelude.{◌≡◌, ℕ, not, Option, None, Some, if◌then
 use Rattle.rule_machine.specs.Network.{Network, present, linked, edge_count}
 use Rattle.rule_machine.specs.Refuse.{both_present, max_edges}
 use Rattle.graph_store.specs.declared.fault.GraphFault.{GraphFault}
-use Rattle.graph_store.specs.declared.fault.GraphFault.TheVariants.{TooManyNodes, UnknownNode, AlreadyPresent, SelfLoop, AlreadyLinked, TooManyEdges, Memory}
+use Rattle.graph_store.specs.declared.fault.GraphFault.TheVariants.{TooManyNodes, UnknownNode, AlreadyPresent, SelfLoop, AlreadyLinked, NotLinked, TooManyEdges, Memory}
 
 -- the most nodes that a network may have
 abbrev pub max_nodes : ℕ
@@ -23,6 +23,10 @@ abbrev pub join_fault : Network → ℕ → Option GraphFault
 join_fault net v =
     if not (nat_le v net.size) then Some UnknownNode else (if present net v then Some AlreadyPresent else None)
 
+-- why a name does not become absent
+abbrev pub leave_fault : Network → ℕ → Option GraphFault
+leave_fault net v = if present net v then None else Some UnknownNode
+
 -- why an edge is not put in, if it is not
 abbrev pub link_fault : Network → ℕ → ℕ → Option GraphFault
 link_fault net a b =
@@ -30,6 +34,13 @@ link_fault net a b =
     else (if nat_eq a b then Some SelfLoop
     else (if linked net a b then Some AlreadyLinked
     else (if nat_le max_edges (edge_count net) then Some TooManyEdges else None)))
+
+-- why an edge is not taken out, if it is not
+abbrev pub unlink_fault : Network → ℕ → ℕ → Option GraphFault
+unlink_fault net a b =
+    if not (both_present net a b) then Some UnknownNode
+    else (if nat_eq a b then Some SelfLoop
+    else (if linked net a b then None else Some NotLinked))
 
 -- an answer is the fault in the call, and want of memory only where there is none
 abbrev pub Explains : Option GraphFault → GraphFault → Type 0

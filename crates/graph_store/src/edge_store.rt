@@ -1,8 +1,8 @@
 //! The edges of a network.
 
-ghost use Rattle.std.specs.Prelude.{◌≡◌, ◌≢◌, ◌≤◌, false, length, [], slice_get, slice_set, IfOk, IfErr, OnOk, OnErr, IsTrue, All, None, Some};
+ghost use Rattle.std.specs.Prelude.{◌≡◌, ◌≢◌, ◌≤◌, false, length, [], slice_get, slice_set, IfOk, IfErr, OnOk, OnErr, MatchOption, IsTrue, All, None, Some};
 ghost use Rattle.rule_machine.specs.Network.{Network, edgeless, edgeless_with, with_node, without_node, names, node_count, edge_count, edge_list, present, linked, neighbours, with_edge, without_edge};
-ghost use Rattle.graph_store.specs.Fault.{nodes_fault, ends_fault, join_fault, link_fault, Explains};
+ghost use Rattle.graph_store.specs.Fault.{nodes_fault, ends_fault, join_fault, leave_fault, link_fault, unlink_fault, Explains};
 ghost use Rattle.graph_store.specs.Ends.{end_at, open_edges};
 ghost use Rattle.graph_store.specs.Graph.{HasRoomFor};
 ghost use Rattle.graph_store.specs.Rows.{IsGapFor, IsPlaceOf};
@@ -336,6 +336,22 @@ impl EdgeStore {
         self.open_edges -= u32::from(are_open(&self.ends, a, b));
     }
 
+    /// Takes out the edge between two nodes, as `link` puts it in; takes no memory.
+    /// `UnknownNode` where an end is no node of the graph, then `SelfLoop`, then `NotLinked`. No fault changes anything.
+    pub fn unlink(&mut self, a: Node, b: Node) -> Result<(), GraphFault>
+        ensures ok { OnOk result ((unlink_fault self.old.network a b ≡ None) × (self.new.network ≡ without_edge self.old.network a b)) }
+        ensures fault { IfErr result (λ fault. unlink_fault self.old.network a b ≡ Some fault) }
+        ensures unchanged { OnErr result (self.new.network ≡ self.old.network) }
+        ensures ends { self.new.ends ≡ self.old.ends }
+    {
+        self.check_ends(a, b)?;
+        if !self.linked(a, b) {
+            return Err(GraphFault::NotLinked);
+        }
+        self.take_out(a, b);
+        Ok(())
+    }
+
     /// Makes a name a node without neighbours, by a write of a bit and of its counts; takes no memory. `UnknownNode` above the
     /// capacity, then `AlreadyPresent`. No fault changes anything.
     pub fn join(&mut self, v: Node) -> Result<(), GraphFault>
@@ -351,6 +367,33 @@ impl EdgeStore {
             return Err(GraphFault::AlreadyPresent);
         }
         self.here.insert(v);
+        Ok(())
+    }
+
+    // The last neighbour of a node, so that the edge to it may be taken out.
+    fn last_neighbour(&self, v: Node) -> Option<Node>
+        requires { IsTrue (present self.now.network v) }
+        ensures { MatchOption result (neighbours self.now.network v ≡ []) (λ w. unlink_fault self.now.network v w ≡ None) }
+    {
+        self.rows[v.place()].last().copied()
+    }
+
+    /// Takes a node out, with the edges that it still has; takes no memory. For each of its neighbours a look-up by halves in
+    /// two rows and a shift in the neighbour's row. `UnknownNode` where it is no node of the graph, which changes nothing.
+    pub fn leave(&mut self, v: Node) -> Result<(), GraphFault>
+        ensures ok { OnOk result ((leave_fault self.old.network v ≡ None) × (self.new.network ≡ without_node self.old.network v)) }
+        ensures fault { IfErr result (λ fault. leave_fault self.old.network v ≡ Some fault) }
+        ensures unchanged { OnErr result (self.new.network ≡ self.old.network) }
+        ensures ends { self.new.ends ≡ self.old.ends }
+    {
+        if !self.has(v) {
+            return Err(GraphFault::UnknownNode);
+        }
+        // From the end, so that the node's own row never shifts.
+        while let Some(w) = self.last_neighbour(v) {
+            self.unlink(v, w).unwrap();
+        }
+        self.part(v);
         Ok(())
     }
 

@@ -8,7 +8,7 @@ pub enum GraphFault {
     /// A graph of more than 65,535 names was asked for.
     #[error("a graph has at most 65535 nodes")]
     TooManyNodes,
-    /// An end of the edge is no node of the graph; or what joins is no name of it.
+    /// An end of the edge, or what leaves, is no node of the graph; or what joins is no name of it.
     #[error("no node of the graph has this name")]
     UnknownNode,
     /// What joins is a node of the graph already. Only `join` answers so.
@@ -20,6 +20,9 @@ pub enum GraphFault {
     /// The edge is there already.
     #[error("these nodes are linked already")]
     AlreadyLinked,
+    /// The edge is not there.
+    #[error("these nodes are not linked")]
+    NotLinked,
     /// The graph has 1,048,576 edges.
     #[error("a graph has at most 1048576 edges")]
     TooManyEdges,

@@ -5,13 +5,14 @@ use Rattle.graph_store.specs.declared.fault.GraphFault.TheVariants as fault
 use Rattle.rule_machine.specs.declared.refusal.Refusal.{Refusal}
 use Rattle.rule_machine.specs.declared.reply.Reply.{Reply}
 use Rattle.rule_machine.specs.declared.reply.Reply.TheVariants.{Accepted, Refused}
-use Rattle.rule_machine.specs.declared.refusal.Refusal.TheVariants.{UnknownNode, SelfLoop, AlreadyLinked, TooManyEdges, AlreadyPresent}
+use Rattle.rule_machine.specs.declared.refusal.Refusal.TheVariants.{UnknownNode, SelfLoop, AlreadyLinked, NotLinked, TooManyEdges, AlreadyPresent}
 
 -- the refusal for which a fault stands, if it is one
 abbrev pub refused_as : GraphFault → Option Refusal
 refused_as fault.UnknownNode = Some UnknownNode
 refused_as fault.SelfLoop = Some SelfLoop
 refused_as fault.AlreadyLinked = Some AlreadyLinked
+refused_as fault.NotLinked = Some NotLinked
 refused_as fault.TooManyEdges = Some TooManyEdges
 refused_as fault.AlreadyPresent = Some AlreadyPresent
 refused_as fault.TooManyNodes = None

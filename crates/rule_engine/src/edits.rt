@@ -17,6 +17,7 @@ pub(crate) fn refusal_of(fault: GraphFault) -> Option<Refusal>
         GraphFault::UnknownNode => Some(Refusal::UnknownNode),
         GraphFault::SelfLoop => Some(Refusal::SelfLoop),
         GraphFault::AlreadyLinked => Some(Refusal::AlreadyLinked),
+        GraphFault::NotLinked => Some(Refusal::NotLinked),
         GraphFault::TooManyEdges => Some(Refusal::TooManyEdges),
         GraphFault::AlreadyPresent => Some(Refusal::AlreadyPresent),
         GraphFault::TooManyNodes | GraphFault::Memory => None,

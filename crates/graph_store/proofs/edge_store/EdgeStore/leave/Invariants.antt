@@ -1,0 +1,11 @@
+use Rattle.std.proofs.Common.{◌≡◌}
+use Rattle.std.specs.Prelude.{IsTrue}
+use Rattle.rule_machine.specs.Network.{edge_count, present, without_node}
+use Rattle.graph_store.proofs.edge_store.EdgeStore.leave.Given as goal
+
+abbrev pub invariant-loop-w : goal.invariant-loop-w
+invariant-loop-w l =
+    IsTrue (present l.self.network l.v) × (without_node l.self.network l.v ≡ without_node l.initial.self.network l.v) × (l.self.ends ≡ l.initial.self.ends)
+
+abbrev pub decreases-loop-w : goal.decreases-loop-w
+decreases-loop-w l = edge_count l.self.network
