@@ -89,3 +89,54 @@ def definitions(top):
                 there = any(place.exists() or place.with_name(place.name + ".antt").exists() for place in places)
                 # a name in parentheses is a definition in the file before it
                 yield there or f"(`{name}`)" in cells[column], f"{page.name}:{number}: no definitions in {name}"
+
+
+def anchors(top, pages):
+    """What is said of links to a heading: the page is there, and has it."""
+    for page in pages:
+        for target, anchor in re.findall(r"\]\(([^)#:]*)#([^)]+)\)", page.read_text()):
+            there = page.parent / target if target else page
+            headings = re.findall(r"^#+ (.+)$", there.read_text() if there.exists() else "", re.M)
+            slugs = [re.sub(r"[^\w -]", "", heading).lower().replace(" ", "-") for heading in headings]
+            yield anchor in slugs, f"{page.name}: {target} has no heading {anchor}"
+
+
+def constants(top):
+    """The numbers that the crates' sources give a name to."""
+    named = re.compile(r"^pub const (MAX_\w+): \w+ = ([\d_]+);", re.M)
+    texts = (path.read_text() for path in top.glob("crates/*/src/*.rt"))
+    return {name: int(number) for text in texts for name, number in named.findall(text)}
+
+
+def lines_in(top, folder):
+    """How many lines stand in one kind of folder of all crates but those of tests."""
+    paths = [path for path in top.glob(f"crates/*/{folder}/**/*") if path.suffix in (".rt", ".antt")]
+    return sum(len(path.read_bytes().splitlines()) for path in paths if not path.relative_to(top).parts[1].endswith("_tests"))
+
+
+def figures(top):
+    """What is said of names and figures: the kit, the crates, the limits, the refusals, and how many lines there are."""
+    readme, use, tree, costs = ((top / name).read_text() for name in ("README.md", "docs/USE.md", "docs/ARCHITECTURE.md", "docs/COSTS.md"))
+    kit = re.search(r"^kit (.+)$", (top / "release/MADE_FROM").read_text(), re.M)[1]
+    yield f"`{kit}`" in readme, f"README.md: the kit is {kit}"
+    named = re.findall(r"^(\w+)(?: staticlib)?:(.*)$", (top / "crates.txt").read_text(), re.M)
+    ours = {name for name, _ in named}
+    shown = set(re.findall(r"^ *(\w+)  ", tree.split("```")[1], re.M))
+    yield shown == ours, f"ARCHITECTURE.md: its crates are not those of crates.txt: {sorted(shown ^ ours)}"
+    kits = {name for _, below in named for name in below.split()} - ours - {"core", "std_alloc", "std_heap"}
+    trusted = readme.split("**Trusted**")[1].split("**Only tested**")[0]
+    yield kits == set(QUOTED.findall(trusted)), f"README.md: of the kit's crates {sorted(kits)} are used"
+    seconds = set(re.findall(r"\| (\w+) \| \d+(?= \|)", costs.split("| crate | s |")[1].split("\n\n")[0]))
+    yield seconds <= ours, f"COSTS.md: no crates: {sorted(seconds - ours)}"
+    limits = readme.split("## Limits")[1].split("\n## ")[0]
+    for name, number in constants(top).items():
+        if name not in ("MAX_NAME",):
+            yield f"{number:,}" in limits, f"README.md: the limits do not name {name}, {number:,}"
+    refusal = (top / "crates/rule_machine/src/refusal.rt").read_text()
+    numbers = dict(re.findall(r"Refusal::(\w+) => (\d+),", refusal))
+    for name, text in re.findall(r'Refusal::(\w+) => "([\w-]+)"', refusal):
+        yield f"`{numbers[name]} {text}`" in use, f"USE.md: the refusals do not name {numbers[name]} {text}"
+    told = re.search(r"`src/` has ([\d,]+) .* \(`specs/`\) have ([\d,]+), proofs \(`proofs/`\) ([\d,]+)", tree)
+    for folder, figure in zip(("src", "specs", "proofs"), told.groups()):
+        count, said = lines_in(top, folder), int(figure.replace(",", ""))
+        yield abs(count - said) * 20 < count, f"ARCHITECTURE.md: {folder}/ has {count:,} lines, and not some {said:,}"
