@@ -140,3 +140,14 @@ def figures(top):
     for folder, figure in zip(("src", "specs", "proofs"), told.groups()):
         count, said = lines_in(top, folder), int(figure.replace(",", ""))
         yield abs(count - said) * 20 < count, f"ARCHITECTURE.md: {folder}/ has {count:,} lines, and not some {said:,}"
+
+
+def help_lines(top):
+    """What is said of the help's texts: no line is wider than 80 columns, where clap's own words around them are counted."""
+    text = (top / "crates/command_words/src/help.rt").read_text()
+    around = {"RULES": 29, "WORKERS": 13, "ROAM": 13, "TURNS": 16}
+    for name, value in re.findall(r'const (\w+): &str =\s+"((?:[^"\\]|\\.)*)";', text):
+        short, kind = name.rpartition("_")[::2]
+        front = {"HELP": 19 if short == "ENTRY" else 23, "ABOUT": 11 if short else 0, "USAGE": 7}.get(kind, 0)
+        widest = max(len(line) for line in value.replace("\\\\", "\\").split("\n")) + front + around.get(short, 0) * (kind == "HELP")
+        yield widest <= 80, f"help.rt: {name} makes a line of {widest} columns"
