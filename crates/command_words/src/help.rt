@@ -12,7 +12,7 @@ pub(crate) const PRESENT_HELP: &str = "The nodes at the start, 1 to P; P from 0 
 
 pub(crate) const WORKERS_HELP: &str = "How many workers judge a step; 1 to 64";
 
-pub(crate) const ROAM_HELP: &str = "Workers who move nodes by themselves; to 64";
+pub(crate) const ROAM_HELP: &str = "Workers who move nodes themselves; 0 to 64";
 
 pub(crate) const TURNS_HELP: &str = "Turns for each of them; at most 1000000";
 
