@@ -7,6 +7,7 @@ import os
 import re
 import subprocess
 import tempfile
+from dataclasses import dataclass
 from typing import Any, Optional, Union
 
 from .errors import VERDICT, Damaged, Ended, Garbled, text_of
@@ -15,11 +16,28 @@ from .program import Program, found_program
 from .reading import numbers_of
 from .replies import Epoch, Summary
 
+Text = Union[str, bytes, bytearray, memoryview]
 
-Text = Union[str, bytes, bytearray]
+
+@dataclass(frozen=True)
+class Slice:
+    """The bytes of a file from a place to another; the file is a path, or the number of an open one."""
+    file: Union[str, int]
+    start: int
+    end: int
+
+    def send(self, pipe: int) -> None:
+        """Lets the system hand them on, without a copy in this process. A file that has become shorter has no more."""
+        at = self.start
+        with open(self.file, "rb", buffering=0, closefd=isinstance(self.file, str)) as file:
+            while at < self.end:
+                taken = os.sendfile(pipe, file.fileno(), at, self.end - at)
+                if not taken:
+                    return
+                at += taken
 
 
-def audit(transcript: Text, *, program: Program = None) -> Summary:
+def audit(transcript: Union[Text, Slice], *, program: Program = None) -> Summary:
     """Judges a transcript: what it has where it is that of a run of the rules; else raises `Damaged`, or `Ended`."""
     return Summary(*numbers_judged("audit", transcript, program, r"accepted: ([0-9]+) entries, ([0-9]+) epochs, ([0-9]+) moves\n")[0])
 
@@ -47,7 +65,7 @@ def picture(transcript: Text, entry: Optional[int] = None, *, program: Program =
     return said
 
 
-def judged(words: list[str], transcript: Text, program: Program) -> str:
+def judged(words: list[str], transcript: Union[Text, Slice], program: Program) -> str:
     """What the program says of a transcript that it accepts."""
     given = transcript.encode() if isinstance(transcript, str) else transcript
     status, out, told = fed([found_program(program), *words], given)
@@ -59,16 +77,22 @@ def judged(words: list[str], transcript: Text, program: Program) -> str:
     return said
 
 
-def fed(words: list[str], given: Union[bytes, bytearray]) -> tuple[int, bytes, bytes]:
-    """Runs a program on these bytes: its status, what it writes and what it tells. Pieces as large as the pipe takes go at once, which
-    `subprocess.run` does not do."""
+def send(given: Union[bytes, bytearray, memoryview, Slice], pipe: int) -> None:
+    """Writes all bytes to a pipe, as many at once as it takes, which `subprocess.run` does not do."""
+    if isinstance(given, Slice):
+        return given.send(pipe)
+    left = memoryview(given)
+    while left:
+        left = left[os.write(pipe, left) :]
+
+
+def fed(words: list[str], given: Union[bytes, bytearray, memoryview, Slice]) -> tuple[int, bytes, bytes]:
+    """Runs a program on these bytes: its status, what it writes and what it tells."""
     with tempfile.TemporaryFile() as out, tempfile.TemporaryFile() as told:
         with subprocess.Popen(words, stdin=subprocess.PIPE, stdout=out, stderr=told, bufsize=0) as run:
             try:
                 with contextlib.suppress(BrokenPipeError), run.stdin as pipe:  # type: ignore[union-attr]
-                    left = memoryview(given)
-                    while left:
-                        left = left[os.write(pipe.fileno(), left) :]
+                    send(given, pipe.fileno())
             except BaseException:
                 run.kill()
                 raise
@@ -77,7 +101,7 @@ def fed(words: list[str], given: Union[bytes, bytearray]) -> tuple[int, bytes, b
         return run.returncode, out.read(), told.read()
 
 
-def numbers_judged(word: str, transcript: Text, program: Program, line: str, head: str = "") -> list[tuple[Any, ...]]:
+def numbers_judged(word: str, transcript: Union[Text, Slice], program: Program, line: str, head: str = "") -> list[tuple[Any, ...]]:
     """The numbers in each line that the program says of a transcript, below a head; None where a `-` stands."""
     said = judged([word], transcript, program)
     if not re.fullmatch(f"{head}(?:{line})+", said):

@@ -5,7 +5,7 @@ from __future__ import annotations
 from operator import index
 from typing import Any
 
-MOST_NODES, MOST_TURNS, MOST_SEED = 65_535, 1_000_000, 2**64 - 1
+MOST_NODES, MOST_EDGES, MOST_TURNS, MOST_SEED = 65_535, 1_048_576, 1_000_000, 2**64 - 1
 
 
 def number_within(given: Any, most: int, what: str) -> int:

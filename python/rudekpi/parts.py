@@ -2,22 +2,57 @@
 
 from __future__ import annotations
 
-import mmap
 import os
-from concurrent.futures import Executor, ThreadPoolExecutor
+import re
+import stat
+from concurrent.futures import Executor, ProcessPoolExecutor, ThreadPoolExecutor
 from typing import Iterator, Optional, Union
 
-from .answers import BASE
-from .audits import audit
-from .errors import Damaged, text_of
+from .audits import Slice, Text, audit
+from .errors import Damaged
+from .numbers import MOST_EDGES, MOST_NODES
 from .program import Program
 from .replies import Summary
 
-Bytes = Union[bytes, mmap.mmap]
+HEAD_START = b"\nmatching2 "
+# the first lines of a base, and more bytes than they may have
+HEAD = re.compile(rb"matching2 [^\n]*\nbase [0-9]{1,10} spent=[0-9]{1,10} nodes=([0-9]{1,10}) edges=([0-9]{1,10})\n")
+HEAD_SIZE = 256
+# how many bytes are looked at at once
+PIECE = 1 << 18
+# a part has no more of what is left than one of so many parts for each thread, so that the last ones are small and all end together
+PARTS_LEFT = 2
+
+
+class Held:
+    """A transcript in memory, or in a file."""
+
+    def __init__(self, text: bytes, file: Optional[int] = None, path: str = "", is_shared: bool = False) -> None:
+        self.text, self.file, self.path, self.is_shared = text, file, path, is_shared
+        self.size = len(text) if file is None else os.fstat(file).st_size
+
+    def read(self, start: int, count: int) -> bytes:
+        """So many bytes from a place on, or fewer, where it has an end or the system gives no more."""
+        return self.text[start : start + count] if self.file is None else os.pread(self.file, count, start)
+
+    def part(self, start: int, end: int, executor: Executor) -> Union[Text, Slice]:
+        """What a worker gets: no copy where it is a thread, or may open the file itself."""
+        if self.file is None:
+            return memoryview(self.text)[start:end] if isinstance(executor, ThreadPoolExecutor) else self.text[start:end]
+        if isinstance(executor, ThreadPoolExecutor):
+            return Slice(self.file, start, end)
+        if self.is_shared or isinstance(executor, ProcessPoolExecutor):
+            return Slice(self.path, start, end)
+        return b"".join(self.read(at, min(PIECE, end - at)) for at in range(start, end, PIECE))
+
+    def lines_before(self, end: int) -> int:
+        """How many lines end in front of a place."""
+        return sum(self.read(at, min(PIECE, end - at)).count(b"\n") for at in range(0, end, PIECE))
 
 
 def audit_parts(
     transcript: Union[str, bytes, "os.PathLike[str]"], executor: Optional[Executor] = None, *, program: Program = None, size: int = 1 << 21,
+    shared: bool = False,
 ) -> Summary:
     """The verdict of `audit` on a transcript that has bases, reached in parts of about `size` bytes or more.
 
@@ -26,95 +61,92 @@ def audit_parts(
     that of the first such part, and `Damaged` has its line in the whole. A transcript with no base inside is one part.
 
     The executor is any of `concurrent.futures` or a cluster's, whose workers have this package and the program; by default a thread
-    for each processor of this machine, each of which waits for an audit. A `pathlib.Path` names a file, which is not read as a whole.
+    for each processor of this machine, each of which waits for an audit. A `pathlib.Path` names a file, which is not read as a whole:
+    its bytes go from the file to the program, where workers are threads or processes of this machine, or where it is `shared`: all
+    workers find it by this path. It is not to change meanwhile.
     """
-    if isinstance(transcript, os.PathLike):
-        return audit_file(transcript, executor, program, size)
-    text = transcript.encode() if isinstance(transcript, str) else bytes(transcript)
-    return audit_each(text, executor, program, size)
+    if not isinstance(transcript, os.PathLike):
+        return audit_held(Held(transcript.encode() if isinstance(transcript, str) else bytes(transcript)), executor, program, size)
+    with open(transcript, "rb", buffering=0) as file:
+        if not stat.S_ISREG(os.fstat(file.fileno()).st_mode):
+            return audit_held(Held(file.readall()), executor, program, size)
+        return audit_held(Held(b"", file.fileno(), os.path.abspath(transcript), shared), executor, program, size)
 
 
-def audit_file(path: "os.PathLike[str]", executor: Optional[Executor], program: Program, size: int) -> Summary:
-    if not os.path.getsize(path):
-        return audit(b"", program=program)
-    with open(path, "rb") as file, mmap.mmap(file.fileno(), 0, access=mmap.ACCESS_READ) as text:
-        return audit_each(text, executor, program, size)
-
-
-def audit_each(text: Bytes, executor: Optional[Executor], program: Program, size: int) -> Summary:
+def audit_held(held: Held, executor: Optional[Executor], program: Program, size: int) -> Summary:
     if executor is not None:
-        return verdict_of(text, executor, program, size)
-    with ThreadPoolExecutor(os.cpu_count() or 1) as threads:
-        return verdict_of(text, threads, program, size)
+        return verdict_of(held, parts_of(held, size), executor, program)
+    workers = len(os.sched_getaffinity(0)) if hasattr(os, "sched_getaffinity") else os.cpu_count() or 1
+    with ThreadPoolExecutor(workers) as threads:
+        return verdict_of(held, parts_of(held, size, PARTS_LEFT * workers), threads, program)
 
 
-def verdict_of(text: Bytes, executor: Executor, program: Program, size: int) -> Summary:
+def verdict_of(held: Held, parts: Iterator[tuple[int, int]], executor: Executor, program: Program) -> Summary:
     """What the parts' verdicts say of the whole."""
-    parts, under_way = [], []
-    for start, end in parts_of(text, size):
-        parts.append((start, end))
-        # a thread takes its part out of the whole when its turn comes
-        if isinstance(executor, ThreadPoolExecutor):
-            under_way.append(executor.submit(audit_slice, text, start, end, program))
-        else:
-            under_way.append(executor.submit(audit, text[start:end], program=program))
+    starts, under_way = [], []
+    for start, end in parts:
+        starts.append(start)
+        under_way.append(executor.submit(audit, held.part(start, end, executor), program=program))
     entries = moves = 0
     epochs = 1
     try:
-        for (start, _), future in zip(parts, under_way):
+        for start, future in zip(starts, under_way):
             found = future.result()
             # a part begins within an epoch of the one before it
             entries, moves, epochs = entries + found.entries, moves + found.moves, epochs + found.epochs - 1
     except Damaged as damaged:
-        raise Damaged(lines_before(text, start) + damaged.line, damaged.why) from None
+        raise Damaged(held.lines_before(start) + damaged.line, damaged.why) from None
     finally:
         for future in under_way:
             future.cancel()
     return Summary(entries, epochs, moves)
 
 
-def audit_slice(text: Bytes, start: int, end: int, program: Program) -> Summary:
-    return audit(text[start:end], program=program)
+def parts_of(held: Held, size: int, parts_left: int = 0) -> Iterator[tuple[int, int]]:
+    """Where parts begin and end: from a base, or the beginning, to the end of a later base, or of all.
 
-
-def lines_before(text: Bytes, end: int) -> int:
-    """How many lines end in front of a place."""
-    step = 1 << 24
-    return sum(text[at : min(at + step, end)].count(b"\n") for at in range(0, end, step))
-
-
-def parts_of(text: Bytes, size: int) -> Iterator[tuple[int, int]]:
-    """Where parts begin and end: from a base, or the beginning, to the end of a later base, or of all."""
+    Each has the size or more, and where it is said into about how many parts all that is left shall be divided, as much as that."""
     start = 0
     while True:
-        base = base_behind(text, start + size)
+        wanted = max(size, (held.size - start) // parts_left) if parts_left else size
+        base = base_behind(held, start + wanted)
         if base is None:
-            yield start, len(text)
+            yield start, held.size
             return
         yield start, base[1]
         start = base[0]
 
 
-def base_behind(text: Bytes, place: int) -> Optional[tuple[int, int]]:
+def base_behind(held: Held, place: int) -> Optional[tuple[int, int]]:
     """Where the first base behind a place begins and ends. One that does not tell its end is none, and the part that it stands in
     goes on behind it, and is refused there."""
-    at = text.find(b"\nmatching2 ", max(place, 0))
-    while at >= 0:
-        end = end_of_base(text, at + 1)
-        if end is not None:
-            return at + 1, end
-        at = text.find(b"\nmatching2 ", at + 1)
+    while place < held.size:
+        piece = held.read(place, PIECE)
+        found = piece.find(HEAD_START)
+        if found >= 0:
+            place += found + 1
+            end = end_of_base(held, place)
+            if end is not None:
+                return place, end
+        elif len(piece) < len(HEAD_START):
+            return None
+        else:
+            # its beginning may stand at the end of this piece
+            place += len(piece) - len(HEAD_START) + 1
     return None
 
 
-def end_of_base(text: Bytes, start: int) -> Optional[int]:
-    """The place behind a base's last line, or None where its second line tells no numbers, or there are fewer lines."""
-    first = text.find(b"\n", start)
-    second = text.find(b"\n", first + 1)
-    found = BASE.fullmatch(text_of(text[first + 1 : second])) if 0 <= first < second else None
-    end = second
-    for _ in range(int(found[3]) + int(found[4]) if found else 0):
-        end = text.find(b"\n", end + 1)
-        if end < 0:
+def end_of_base(held: Held, start: int) -> Optional[int]:
+    """The place behind a base's last line, or None where its second line tells no numbers that a base has, or there are fewer lines."""
+    found = HEAD.match(held.read(start, HEAD_SIZE))
+    if not found or int(found[1]) > MOST_NODES or int(found[2]) > MOST_EDGES:
+        return None
+    place, lines = start + found.end(), int(found[1]) + int(found[2])
+    while lines:
+        piece = held.read(place, PIECE)
+        if not piece:
             return None
-    return end + 1 if found else None
+        count = piece.count(b"\n")
+        place += len(piece) if count < lines else len(piece) - len(piece.split(b"\n", lines)[-1])
+        lines -= min(count, lines)
+    return place

@@ -1,12 +1,16 @@
 """Transcripts that are audited in parts: the verdicts are those of the whole, of right and of damaged ones."""
 
 import concurrent.futures
+import os
 import pathlib
 import random
+import threading
 import unittest
+import unittest.mock
 
 from rudekpi import Damaged, Network, audit, parts
-from rudekpi.parts import audit_parts
+from rudekpi.audits import Slice
+from rudekpi.parts import Held, audit_parts
 from support import Timed
 
 
@@ -37,7 +41,7 @@ class Parts(Timed):
 
     def test_they_meet_at_bases(self):
         text = transcript(1).encode()
-        found = list(parts.parts_of(text, 300))
+        found = list(parts.parts_of(Held(text), 300))
         self.assertGreater(len(found), 5)
         self.assertEqual((found[0][0], found[-1][1]), (0, len(text)))
         for (start, end), (following, _) in zip(found, found[1:]):
@@ -46,6 +50,30 @@ class Parts(Timed):
             self.assertTrue(shared[0].startswith("matching2 ") and shared[1].startswith("base "))
             numbers = dict(word.split("=") for word in shared[1].split(" ")[2:])
             self.assertEqual(len(shared), 2 + int(numbers["nodes"]) + int(numbers["edges"]))
+
+    def test_bases_are_found_wherever_they_stand(self):
+        text = transcript(4).encode()
+        bases = [at for at in range(1, len(text)) if text.startswith(b"\nmatching2 ", at - 1)]
+        self.assertEqual(len(bases), 12)
+        path = pathlib.Path(self.folder(), "transcript")
+        path.write_bytes(text)
+        # pieces in which no base has room, and in which several have
+        for size in (11, 12, 13, 50, 1000, len(text)):
+            with unittest.mock.patch.object(parts, "PIECE", size), open(path, "rb") as file:
+                for held in (Held(text), Held(b"", file.fileno(), str(path))):
+                    with self.subTest(size=size, file=held.file):
+                        found = list(parts.parts_of(held, 0))
+                        self.assertEqual([start for start, _ in found], [0, *bases])
+                        self.assertEqual(held.lines_before(bases[5]), text[: bases[5]].count(b"\n"))
+
+    def test_the_last_parts_are_the_smaller_ones(self):
+        text = transcript(6, turns=60).encode()
+        found = list(parts.parts_of(Held(text), 100, 8))
+        self.assertLess(len(found), 40)
+        for start, end in found:
+            self.assertLess(end - start, (len(text) - start) / 8 + 4000)
+        self.assertLess(found[-1][1] - found[-1][0], len(text) / 20)
+        self.assertEqual(audit_parts(text, size=100), audit(text))
 
     def test_right_ones(self):
         for seed in range(5):
@@ -87,8 +115,12 @@ class Parts(Timed):
         path = pathlib.Path(self.folder(), "transcript")
         path.write_text(text)
         self.assertEqual(audit_parts(path, size=500), audit(text))
+        self.assertEqual(audit(Slice(str(path), 0, len(text))), audit(text))
+        self.assertEqual(verdict(audit, Slice(str(path), 5, len(text) + 9)), verdict(audit, text[5:]))
+        self.assertEqual(verdict(audit_parts, pathlib.Path(os.devnull)), verdict(audit, ""))
         with concurrent.futures.ProcessPoolExecutor(2) as executor:
             self.assertEqual(audit_parts(text.encode(), executor, size=500), audit(text))
+            self.assertEqual(audit_parts(path, executor, size=500), audit(text))
             with self.assertRaises(Damaged):
                 audit_parts(text[:-1], executor, size=500)
         for wrong in ("", "x", "matching2 hh 3\nbase 0 spent=0 nodes=1 edges=0\n"):
@@ -96,6 +128,14 @@ class Parts(Timed):
             self.assertEqual(verdict(audit_parts, path), verdict(audit, wrong))
             self.assertEqual(verdict(audit_parts, wrong), verdict(audit, wrong))
         self.assertRaises(FileNotFoundError, audit_parts, pathlib.Path("/no/such/transcript"))
+
+    def test_of_a_pipe(self):
+        text, path = transcript(2), pathlib.Path(self.folder(), "pipe")
+        os.mkfifo(path)
+        writer = threading.Thread(target=path.write_text, args=(text,))
+        writer.start()
+        self.addCleanup(writer.join)
+        self.assertEqual(audit_parts(path, size=500), audit(text))
 
 
 if __name__ == "__main__":
