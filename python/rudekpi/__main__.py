@@ -2,6 +2,7 @@
 
 from __future__ import annotations
 
+import difflib
 import os
 import subprocess
 import sys
@@ -56,6 +57,11 @@ def main(words: Optional[Sequence[str]] = None) -> int:
     words = list(sys.argv[1:] if words is None else words)
     if not words:
         print(HELP, end="", file=sys.stderr)
+        return BAD_WORDS
+    if words[0] in ("--help", "-h", "help") and len(words) == 1:
+        print(HELP, flush=True)
+    elif words[0] not in COMMANDS and (near := difflib.get_close_matches(words[0], COMMANDS, 1)):
+        print(f"! no command is called {words[0]!r}; {near[0]!r} may be meant", file=sys.stderr)
         return BAD_WORDS
     try:
         return told(words) if words[0] in COMMANDS else handed_on(words)

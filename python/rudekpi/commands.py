@@ -4,10 +4,12 @@ from __future__ import annotations
 
 import argparse
 import contextlib
+import math
+import re
 import statistics
 import sys
 from concurrent.futures import ProcessPoolExecutor
-from typing import Any, Iterable, Iterator, Optional, Sequence
+from typing import Any, Callable, Iterable, Iterator, Optional, Sequence
 
 from . import daemons, json_lines, script_words, shell, sweeps
 from .audits import audit
@@ -28,7 +30,24 @@ def opened(path: Optional[str], mode: str, otherwise: Any = None) -> Any:
 
 
 def listed(text: str) -> list[str]:
-    return [word for word in text.split(",") if word]
+    """Words with commas between them, one at least."""
+    words = [word for word in text.split(",") if word]
+    if not words:
+        raise argparse.ArgumentTypeError("no word is given")
+    return words
+
+
+def least(fewest: int) -> Callable[[str], int]:
+    """A reader of numbers, of which none is below the least."""
+    def read(text: str) -> int:
+        if not (text.isascii() and text.isdigit()) or int(text) < fewest:
+            raise argparse.ArgumentTypeError(f"{text!r} is no number from {fewest} on")
+        return int(text)
+    return read
+
+
+def counts(text: str) -> list[int]:
+    return [least(0)(word) for word in listed(text)]
 
 
 def graph_given(text: str) -> Graph:
@@ -43,15 +62,15 @@ def words_of_sweep(parser: argparse.ArgumentParser, rules: str) -> None:
     parser.add_argument("--graph", action="append", required=True, type=graph_given, help=f"{MADE}; may be given again")
     parser.add_argument("--rules", type=listed, default=rules, help="hh,manne or one of them (%(default)s)")
     parser.add_argument("--daemon", type=listed, default="seeded", help=f"some of {','.join(daemons.WORDS)} (%(default)s)")
-    parser.add_argument("--seeds", type=int, default=10, help="how many seeds (%(default)s)")
-    parser.add_argument("--first-seed", type=int, default=0)
-    parser.add_argument("--faults", type=listed, default="0", help="numbers of faults; 0: from the start (%(default)s)")
-    parser.add_argument("--registers", choices=sweeps.REGISTERS, default="any", help="which registers faults hit")
-    parser.add_argument("--joins", type=int, default=0)
-    parser.add_argument("--leaves", type=int, default=0)
+    parser.add_argument("--seeds", type=least(1), default=10, help="how many seeds (%(default)s)")
+    parser.add_argument("--first-seed", type=least(0), default=0, help="the first of them (%(default)s)")
+    parser.add_argument("--faults", type=counts, default="0", help="numbers of faults, as 10,50, once it is silent; 0: from the start (%(default)s)")
+    parser.add_argument("--registers", choices=sweeps.REGISTERS, default="any", help="which registers faults hit; flags are there under manne alone (%(default)s)")
+    parser.add_argument("--joins", type=least(0), default=0, help="how many nodes come, with their edges (%(default)s)")
+    parser.add_argument("--leaves", type=least(0), default=0, help="how many nodes go (%(default)s)")
     parser.add_argument("--csv", help="a file for the rows, each as it comes (standard output)")
     parser.add_argument("--plot", help="a file for a plot: .svg, .png or .pdf; wants matplotlib")
-    parser.add_argument("--processes", type=int, help="how many (one a processor)")
+    parser.add_argument("--processes", type=least(1), help="how many (one a processor)")
     parser.add_argument("--dask", metavar="tcp://HOST:PORT", help="a scheduler of Dask, whose workers then play; wants distributed")
     parser.add_argument("--program", help="the program that plays")
 
@@ -76,9 +95,17 @@ def executor_of(given: argparse.Namespace) -> Iterator[Any]:
 def rows_of(given: argparse.Namespace, rows: list[Row], file: Any) -> int:
     """Plays a sweep, and adds its rows as they come; returns the exit status."""
     seeds = range(given.first_seed, given.first_seed + given.seeds)
-    hits = [Disturbance(int(count), given.registers, given.joins, given.leaves) for count in given.faults]
+    hits = [Disturbance(count, given.registers, given.joins, given.leaves) for count in given.faults]
     words = (given.graph, given.rules, given.daemon, seeds, hits)
     total = len(sweeps.experiments_of(*words))
+    if total < math.prod(map(len, words)):
+        why = "under hh no two nodes move at once, and there are no flags"
+        if not total:
+            raise ValueError(f"there is nothing to play: {why}")
+        print(f"! left out: {math.prod(map(len, words)) - total} experiments, since {why}", file=sys.stderr)
+    if given.plot:
+        from . import plots
+        plots.check(given.plot)
     with executor_of(given) as executor:
         found = sweeps.sweep(*words, executor=executor, program=given.program)
         written: Iterable[Row] = sweeps.write_csv(found, file) if file else found
@@ -113,13 +140,18 @@ def run_compare(given: argparse.Namespace) -> int:
     return status
 
 
+def by_number(word: str) -> list[Any]:
+    """What a word is sorted by, so that 5 stands in front of 10."""
+    return [(int(part), "") if part.isdigit() else (0, part) for part in re.split("([0-9]+)", word)]
+
+
 def table_of(rows: Sequence[Row]) -> list[str]:
     """The moves of each graph, daemon and disturbance under both rule sets, beside the bound, as the lines of a table."""
     groups: dict[tuple[str, ...], list[Row]] = {}
     for row in rows:
         groups.setdefault((row.graph, row.disturbance, row.daemon, row.rules), []).append(row)
     lines: list[tuple[str, ...]] = [("graph", "disturbance", "daemon", "rules", "runs", "min", "mean", "median", "95th", "max", "bound")]
-    for key, group in sorted(groups.items()):
+    for key, group in sorted(groups.items(), key=lambda item: [by_number(word) for word in item[0]]):
         moves = sorted(row.moves for row in group)
         figures = [min(moves), f"{statistics.mean(moves):.1f}", f"{statistics.median(moves):g}", moves[(len(moves) * 95 + 99) // 100 - 1], max(moves)]
         lines.append((*key, *map(str, [len(moves), *figures, max(row.bound for row in group)])))
@@ -182,8 +214,8 @@ def parser_of() -> argparse.ArgumentParser:
     worst = command("worst", run_worst, "the longest schedule of a network, as a script")
     worst.add_argument("--graph", required=True, type=graph_given, help=MADE)
     worst.add_argument("--rules", choices=("hh", "manne"), default="manne")
-    worst.add_argument("--seconds", type=float, default=10.0, help="for a search, where there are too many states to look at all (%(default)s)")
-    worst.add_argument("--seed", type=int, default=0)
+    worst.add_argument("--seconds", type=least(0), default=10, help="for a search, where there are too many states to look at all (%(default)s)")
+    worst.add_argument("--seed", type=least(0), default=0, help="of that search (%(default)s)")
     worst.add_argument("--transcript", action="store_true", help="writes the transcript, and not the script")
     worst.add_argument("--output", help="a file (standard output)")
     worst.add_argument("--program")

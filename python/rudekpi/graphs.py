@@ -9,7 +9,7 @@ import random
 from dataclasses import dataclass, field
 from typing import Any, Callable, Iterable, Iterator, Union
 
-from .numbers import MOST_NODES
+from .numbers import MOST_EDGES, MOST_NODES
 from .replies import Name
 
 
@@ -28,6 +28,8 @@ class Graph:
             seen.add(frozenset((a, b)))
         if len(known) != len(self.nodes) or len(known) > MOST_NODES:
             raise ValueError(f"{self.title}: nodes are there once, and {MOST_NODES} at most")
+        if len(self.edges) > MOST_EDGES:
+            raise ValueError(f"{self.title}: {len(self.edges)} edges are more than a network has, which is {MOST_EDGES}")
 
 
 def numbered(title: str, count: int, edges: Iterable[tuple[int, int]]) -> Graph:
@@ -64,6 +66,8 @@ def grid(rows: int, columns: int) -> Graph:
 
 def gnp(n: int, p: float, seed: int = 0) -> Graph:
     """Each edge is there with the chance p, after Gilbert, 1959."""
+    if not 0 <= p <= 1:
+        raise ValueError(f"a chance is 0 to 1, and not {p:g}")
     drawn = random.Random(seed)
     return numbered(f"gnp:{n},{p:g},{seed}", n, (pair for pair in pairs(n) if drawn.random() < p))
 
@@ -111,9 +115,10 @@ def pairs(n: int) -> Iterator[tuple[int, int]]:
 
 
 # what is made of the numbers behind a word and a colon, with commas or, of a grid, an x between them
-MADE: dict[str, tuple[Callable[..., Graph], tuple[Callable[[str], Any], ...]]] = {
-    "path": (path, (int,)), "ring": (ring, (int,)), "star": (star, (int,)), "complete": (complete, (int,)),
-    "grid": (grid, (int, int)), "gnp": (gnp, (int, float, int)), "regular": (regular, (int, int, int)), "disk": (unit_disk, (int, float, int)),
+MADE: dict[str, tuple[Callable[..., Graph], str, tuple[Callable[[str], Any], ...]]] = {
+    "path": (path, "N", (int,)), "ring": (ring, "N", (int,)), "star": (star, "N", (int,)), "complete": (complete, "N", (int,)),
+    "grid": (grid, "RxC", (int, int)), "gnp": (gnp, "N,P,SEED", (int, float, int)), "regular": (regular, "N,DEGREE,SEED", (int, int, int)),
+    "disk": (unit_disk, "N,RADIUS,SEED", (int, float, int)),
 }
 
 
@@ -121,15 +126,24 @@ def graph_of(words: str) -> Graph:
     """The graph that words of the command line stand for: `ring:100`, `grid:5x6`, `gnp:100,0.05,7` and so on, or a file's path."""
     word, colon, rest = words.partition(":")
     if not colon or word not in MADE:
+        if not os.path.exists(words):
+            raise FileNotFoundError(f"no file {words!r}; graphs that are made: {', '.join(f'{name}:{of}' for name, (_, of, _) in MADE.items())}")
         return read(words)
-    make, kinds = MADE[word]
+    make, of, kinds = MADE[word]
     given = rest.replace("x", ",").split(",")
     try:
-        if len(given) > len(kinds):
+        # a seed may be left out
+        if not len(kinds) - ("SEED" in of) <= len(given) <= len(kinds):
             raise ValueError
-        return make(*(kind(text) for kind, text in zip(kinds, given)))
-    except (ValueError, TypeError) as error:
-        raise ValueError(f"{words!r} makes no graph{f': {error}' if str(error) else ''}") from None
+        numbers = [kind(text) for kind, text in zip(kinds, given)]
+    except ValueError:
+        raise ValueError(f"{words!r} makes no graph: it is {word}:{of}") from None
+    try:
+        if min(numbers) < 0:
+            raise ValueError("no number is below 0")
+        return make(*numbers)
+    except ValueError as error:
+        raise ValueError(f"{words!r} makes no graph: {error}") from None
 
 
 def read(path: Union[str, "os.PathLike[str]"]) -> Graph:
@@ -138,7 +152,11 @@ def read(path: Union[str, "os.PathLike[str]"]) -> Graph:
     networkx."""
     end = os.path.splitext(path)[1].lower()
     readers = {".col": dimacs, ".dimacs": dimacs, ".metis": metis, ".graph": metis, ".graphml": by_networkx, ".json": by_networkx}
-    return readers.get(end, edge_list)(os.fspath(path))
+    try:
+        return readers.get(end, edge_list)(os.fspath(path))
+    except (ValueError, LookupError) as error:
+        text = str(error)
+        raise ValueError(text if text.startswith(f"{path}: ") else f"{path}: no graph that can be read: {text}") from None
 
 
 def lines_of(path: str, comment: str) -> list[list[str]]:
@@ -158,7 +176,8 @@ def simple(title: str, nodes: Iterable[Name], edges: Iterable[tuple[Name, Name]]
 
 
 def edge_list(path: str) -> Graph:
-    """Two names a line, and a line of one name for a node that may have no edge; `#` begins a comment."""
+    """Two names a line, and a line of one name for a node that may have no edge; further words, as weights, are not looked at. `#`
+    begins a comment."""
     lines = [line for line in lines_of(path, "#") if line]
     edges = [(line[0], line[1]) for line in lines if len(line) > 1]
     nodes = list(dict.fromkeys(name for line in lines for name in line[:2]))
@@ -182,8 +201,13 @@ def metis(path: str) -> Graph:
     if not lines or len(lines[0]) < 2 or (len(lines[0]) > 2 and int(lines[0][2])):
         raise ValueError(f"{path}: a METIS graph without weights begins with its numbers of nodes and edges")
     count = int(lines[0][0])
+    if len(lines) < count + 1:
+        raise ValueError(f"{path}: the first line tells of {count} nodes, and {len(lines) - 1} lines follow")
     near = [(int(line[place]), node) for node, line in enumerate(lines[1 : count + 1], 1) for place in range(len(line))]
-    return simple(path, range(1, count + 1), near)
+    found = simple(path, range(1, count + 1), near)
+    if len(found.edges) != int(lines[0][1]):
+        raise ValueError(f"{path}: the first line tells of {lines[0][1]} edges, and there are {len(found.edges)}")
+    return found
 
 
 def by_networkx(path: str) -> Graph:
@@ -191,9 +215,13 @@ def by_networkx(path: str) -> Graph:
         import networkx
     except ImportError:
         raise ImportError(f"{path}: GraphML and node-link JSON want networkx, which is not there") from None
-    if path.lower().endswith(".graphml"):
-        found = networkx.read_graphml(path)
-    else:
-        with open(path) as file:
-            found = networkx.node_link_graph(json.load(file))
+    try:
+        if path.lower().endswith(".graphml"):
+            found = networkx.read_graphml(path)
+        else:
+            with open(path) as file:
+                found = networkx.node_link_graph(json.load(file))
+    except (networkx.NetworkXException, SyntaxError, TypeError, AttributeError) as error:
+        # what is wrong with XML is a `SyntaxError`
+        raise ValueError(str(error)) from None
     return simple(path, found.nodes, ((a, b) for a, b, *_ in found.edges))

@@ -25,6 +25,18 @@ def figure_of(title: str, across: str, up: str) -> tuple[Any, Any]:
     return figure, axes
 
 
+def check(path: Path) -> None:
+    """That a picture can be made there, before long work for it begins: raises `ImportError` for want of matplotlib, `ValueError` for
+    an end of a name that it does not know, and `FileNotFoundError` where there is no such folder."""
+    known = figure_of("", "", "")[0].canvas.get_supported_filetypes()
+    end = os.path.splitext(path)[1][1:].lower()
+    if end not in known:
+        raise ValueError(f"{os.fspath(path)!r} is no name of a picture: it ends in one of {', '.join(sorted(known))}")
+    folder = os.path.dirname(os.path.abspath(path))
+    if not os.path.isdir(folder):
+        raise FileNotFoundError(f"there is no folder {folder}")
+
+
 def groups_of(rows: Iterable[Row]) -> dict[tuple[str, str], list[Row]]:
     """The rows of each daemon under each rules."""
     groups: dict[tuple[str, str], list[Row]] = {}

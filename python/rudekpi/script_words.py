@@ -17,11 +17,11 @@ COMMANDS: dict[str, tuple[str, ...]] = {
     "step": (ITEM,), "show": (NODE,), "enabled": (), "matching": (), "status": (), "checkpoint": (), "drive": (SEED, TURNS),
     "scramble": (SEED, TURNS),
 }
-LIMITS = {NODE: (1, MOST_NODES), BIT: (0, 1), SEED: (0, MOST_SEED), TURNS: (0, MOST_TURNS)}
+LIMITS = {NODE: (1, MOST_NODES), SEED: (0, MOST_SEED), TURNS: (0, MOST_TURNS)}
 # what people write for a command
 MEANT = {
     "add": "link", "connect": "link", "edge": "link", "remove": "unlink", "delete": "unlink", "cut": "unlink", "move": "step", "pairs": "matching",
-    "match": "matching", "fault": "point", "run": "drive", "base": "checkpoint", "save": "checkpoint", "random": "scramble", "quit": "",
+    "match": "matching", "fault": "point", "run": "drive", "base": "checkpoint", "save": "checkpoint", "random": "scramble", "settle": "drive", "quit": "",
 }
 
 
@@ -40,7 +40,9 @@ def why_no_command(line: bytes) -> Optional[str]:
     if word == "step":
         wanted = (ITEM,) * len(rest)
     if len(rest) != len(wanted):
-        return f"`{word}` takes {' and '.join(wanted) or 'nothing'}, and not {len(rest)} words"
+        if any("," in text for text in (word, *rest)):
+            return "there is a comma: words are separated by one space"
+        return f"`{word}` takes {' and '.join(wanted) or 'nothing'}, and not {len(rest)} word{'s'[len(rest) == 1 :]}"
     return next((why for text, kind in zip(rest, wanted) if (why := why_no_word(text, kind))), None)
 
 
@@ -90,6 +92,8 @@ def why_no_word(text: str, kind: str) -> Optional[str]:
         return next((why for part in parts if (why := why_no_word(part, NODE))), None)
     if text.isdigit() and text.isascii() and not NUMERAL.fullmatch(text):
         return f"`{text[:40]}` has leading zeros: `{text.lstrip('0') or '0'}`"
+    if kind == BIT:
+        return None if text in ("0", "1") else f"`{text[:40]}` is not 0 or 1"
     least, most = LIMITS[kind]
     if not NUMERAL.fullmatch(text):
         return f"`{text[:40]}` is not {kind}: a number from {least} to {most}"

@@ -18,6 +18,7 @@ from .audits import epochs
 from .errors import RudekpiError
 from .graphs import Graph
 from .network import Network
+from .numbers import MOST_SEED, MOST_TURNS, number_within
 from .program import Program, found_program
 from .replies import Name
 
@@ -86,6 +87,17 @@ class Experiment:
     disturbance: Disturbance
     program: Program = None
 
+    def __post_init__(self) -> None:
+        hit, count = self.disturbance, len(self.graph.nodes)
+        if self.rules not in ("hh", "manne"):
+            raise ValueError(f"rules are 'hh' or 'manne', and not {self.rules!r}")
+        number_within(self.seed, MOST_SEED, "a seed")
+        number_within(hit.faults, MOST_TURNS, "a number of faults")
+        if isinstance(self.daemon, str):
+            daemons.named(self.daemon, self.seed)
+        if hit.joins + hit.leaves > count:
+            raise ValueError(f"{self.graph.title}: {hit} are more than its {count} nodes")
+
     def told(self) -> str:
         return f"{self.graph.title} {self.rules} {self.daemon_word()} seed {self.seed} {self.disturbance}"
 
@@ -111,7 +123,7 @@ class Experiment:
             raise RudekpiError(f"{self.told()}: the daemon itself disturbed the network")
         return Row(
             self.graph.title, self.rules, last.nodes, last.edges, self.daemon_word(), self.seed, str(self.disturbance),
-            settled.steps, settled.moves, settled.charge, last.bound, status.pairs, time.perf_counter() - began,
+            settled.steps, settled.moves, settled.charge, last.bound, status.pairs, round(time.perf_counter() - began, 6),
         )
 
     def begin(self, net: Network, joining: set[Name]) -> None:
@@ -166,10 +178,11 @@ def experiments_of(
     graphs: Iterable[Graph], rules: Iterable[str], daemons: Iterable[Any], seeds: Iterable[int],
     disturbances: Iterable[Union[int, Disturbance]], program: Program = None,
 ) -> list[Experiment]:
-    """All experiments of a sweep. The synchronous daemon is left out under `hh`, which takes one node at a time."""
+    """All experiments of a sweep. Under `hh`, which has no flags and takes one node at a time, those of flags and of the synchronous
+    daemon are left out. Raises `ValueError` for words and numbers that none takes."""
     of = [it if isinstance(it, Disturbance) else Disturbance(it) for it in disturbances]
     every = itertools.product(graphs, rules, daemons, seeds, of)
-    lawful = (words for words in every if not (words[1] == "hh" and is_synchronous(words[2])))
+    lawful = (words for words in every if not (words[1] == "hh" and (is_synchronous(words[2]) or words[4].registers == "flag")))
     return [Experiment(graph, rule_set, daemon, seed, disturbance, program) for graph, rule_set, daemon, seed, disturbance in lawful]
 
 

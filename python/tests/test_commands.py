@@ -43,9 +43,15 @@ class HandedOn(Timed):
         self.assertTrue(said("audit", given=text).startswith("accepted: 7 entries"))
         self.assertEqual(said("epochs", given=text).splitlines()[0], "start,moves,edges,nodes,bound")
         console = [os.environ["RUDEKPI_CONSOLE"]]
-        for words in (["--help"], ["--version"], ["run", "--help"], ["foo"], ["run"]):
+        for words in (["--version"], ["run", "--help"], ["foo"], ["run"]):
             done, wanted = rudekpi(*words), subprocess.run(console + words, capture_output=True, text=True)
             self.assertEqual((done.returncode, done.stdout, done.stderr), (wanted.returncode, wanted.stdout, wanted.stderr))
+        for words in (["--help"], ["-h"], ["help"]):
+            text = said(*words)
+            self.assertIn("sweep, compare, worst, check, shell, json", text)
+            self.assertTrue(text.endswith(subprocess.run([*console, *words], capture_output=True, text=True).stdout))
+        done = rudekpi("sweeep")
+        self.assertEqual((done.returncode, done.stdout, done.stderr), (2, "", "! no command is called 'sweeep'; 'sweep' may be meant\n"))
 
     def test_without_words_and_without_a_program(self):
         done = rudekpi()
@@ -88,8 +94,23 @@ class Bench(Timed):
         self.assertEqual(played, said("worst", "--graph", "ring:4", "--transcript"))
         self.assertIn("the longest found", rudekpi("worst", "--graph", "ring:40", "--rules", "hh", "--seconds", "0").stderr)
 
+    def test_what_is_left_out_is_told(self):
+        done = rudekpi("sweep", "--graph", "ring:5", "--rules", "hh,manne", "--daemon", "synchronous", "--seeds", "2")
+        self.assertEqual((done.returncode, done.stdout.count("\n")), (0, 3))
+        self.assertEqual(done.stderr, "! left out: 2 experiments, since under hh no two nodes move at once, and there are no flags\n")
+        done = rudekpi("sweep", "--graph", "ring:5", "--rules", "hh", "--registers", "flag", "--faults", "3")
+        self.assertEqual((done.returncode, done.stdout), (2, ""))
+        self.assertIn("nothing to play", done.stderr)
+
+    def test_a_table_is_sorted_by_numbers(self):
+        lines = said("compare", "--graph", "ring:10", "--graph", "ring:9", "--seeds", "1", "--faults", "10,9").splitlines()
+        found = [line.split()[:2] for line in lines[1::2]]
+        self.assertEqual(found, [["ring:9", "9"], ["ring:9", "10"], ["ring:10", "9"], ["ring:10", "10"]])
+
     def test_bad_words(self):
+        more = ["--seeds 0", "--seeds x", "--processes 0", "--joins 9", "--leaves -1", "--faults 1.5", "--faults ,", "--rules ,", "--first-seed -1"]
         for words in (
+            *(["sweep", "--graph", "ring:5", *words.split(" ")] for words in more), ["worst", "--graph", "ring:5", "--seconds", "-1"],
             ["sweep"], ["sweep", "--graph", "ring:2"], ["sweep", "--graph", "/no/such/file"], ["sweep", "--graph", "ring:5", "--daemon", "fair"],
             ["sweep", "--graph", "ring:5", "--faults", "x"], ["sweep", "--graph", "ring:5", "--rules", "x"], ["shell"], ["worst", "--graph", "ring:x"],
         ):
@@ -106,6 +127,9 @@ class Bench(Timed):
                 said("sweep", *words, "--seeds", "2", "--plot", path, "--processes", "1")
             texts = [pathlib.Path(path).read_text() for path in paths]
             self.assertIn("<svg", texts[0])
+        for path, status in (("out.txt", 2), ("/no/such/folder/out.svg", 3)):
+            done = rudekpi("sweep", "--graph", "ring:6", "--plot", path)
+            self.assertEqual((done.returncode, done.stdout.count("\n") <= 1), (status, True), done.stderr)
         script = pathlib.Path(TOP, "examples", "broken_ring.transcript")
         from rudekpi import plots
         path = os.path.join(folder, "run.png")
@@ -175,7 +199,7 @@ class Lines(Timed):
             ("LINK 1 2", "small letters: `link`"), ("link 1", "takes a node and a node, and not 1"), ("link 1  2", "two spaces"), (" link 1 2", "beginning"),
             ("link\t1 2", "tab"), ("# a", "comments"), ("1 link 1 2 = ok", "of a transcript"), ("link 0 1", "1 to 65535"), ("link a 1", "not a node"),
             ("flag 1 2", "0 or 1"), ("step 1>2>3", "A>B"), ("drive 1 1000001", "number of turns"), ("link 1 \u00fc", "0xc3"), ("connect 1 2", "`link` may"),
-            ("step 0", "1 to 65535"), ("status 1", "takes nothing"), ("link -1 2", "not a node"),
+            ("step 0", "1 to 65535"), ("status 1", "takes nothing, and not 1 word"), ("link -1 2", "not a node"), ("link 1,2", "a comma"),
         ]:
             with self.subTest(line):
                 path = pathlib.Path(self.folder(), "script")

@@ -71,9 +71,11 @@ class Read(Timed):
         self.assertRaises(ValueError, self.read, "a.dimacs", "p edge 2 1\ne 1 3\n")
 
     def test_metis(self):
-        self.assertEqual(self.read("a.graph", "% a comment\n4 3\n2\n1 3\n2\n\n"), ((1, 2, 3, 4), ((1, 2), (2, 3))))
+        self.assertEqual(self.read("a.graph", "% a comment\n4 2\n2\n1 3\n2\n\n"), ((1, 2, 3, 4), ((1, 2), (2, 3))))
         self.assertRaisesRegex(ValueError, "without weights", self.read, "a.metis", "2 1 11\n2 1\n1 1\n")
         self.assertRaisesRegex(ValueError, "begins with", self.read, "a.metis", "")
+        self.assertRaisesRegex(ValueError, "4 nodes, and 3 lines", self.read, "a.metis", "4 2\n2\n1 3\n2\n")
+        self.assertRaisesRegex(ValueError, "3 edges, and there are 2", self.read, "a.metis", "3 3\n2\n1 3\n2\n")
 
     @unittest.skipUnless(networkx, "no networkx")
     def test_by_networkx(self):
@@ -86,6 +88,26 @@ class Read(Timed):
 
     def test_files_that_are_not_there(self):
         self.assertRaises(FileNotFoundError, graphs.graph_of, "/no/such/graph.txt")
+        self.assertRaisesRegex(FileNotFoundError, "no file 'rng:5'.* ring:N", graphs.graph_of, "rng:5")
+
+    def test_files_that_are_no_graphs(self):
+        broken = {"a.json": "{", "b.json": "[]", "c.json": "{}", "a.graphml": "<x/>", "b.graphml": "<x", "a.col": "p edge x 1\n", "a.metis": "x y\n"}
+        for name, text in broken.items():
+            with self.subTest(name):
+                if networkx or name.endswith(("col", "metis")):
+                    self.assertRaisesRegex(ValueError, name, self.read, name, text)
+        path = os.path.join(self.folder(), "a")
+        pathlib.Path(path).write_bytes(b"\xff\xfe1 2\n")
+        self.assertRaisesRegex(ValueError, f"{path}: no graph", graphs.read, path)
+
+    def test_words_that_make_no_graph(self):
+        for words, why in [
+            ("ring:x", "it is ring:N"), ("ring:2", "3 nodes or more"), ("grid:3", "it is grid:RxC"), ("grid:2x3x4", "it is"), ("path:-1", "below 0"),
+            ("gnp:5", "it is gnp:N,P,SEED"), ("gnp:5,2", "a chance"), ("regular:5,3", "no graph of 5"), ("disk:5", "it is"), ("complete:1500", "1048576"),
+            ("ring:70000", "65535"),
+        ]:
+            with self.subTest(words):
+                self.assertRaisesRegex(ValueError, why, graphs.graph_of, words)
 
 
 if __name__ == "__main__":

@@ -90,9 +90,19 @@ class Rows(Timed):
 
     def test_errors_of_an_experiment_are_raised(self):
         self.assertRaises(WrongChoice, list, sweep([RING], ["hh"], [wrong]))
-        self.assertRaises(ValueError, list, sweep([RING], ["hh"], ["fair"]))
-        self.assertRaises(ValueError, list, sweep([RING], ["x"]))
         self.assertRaises(FileNotFoundError, list, sweep([RING], program="/no/such/program"))
+
+    def test_experiments_that_are_none_are_raised_at_once(self):
+        for words in [
+            dict(daemons=["fair"]), dict(rules=["x"]), dict(seeds=[-1]), dict(seeds=[2**64]), dict(faults=[1_000_001]),
+            dict(faults=[Disturbance(joins=3, leaves=len(RING.nodes))]),
+        ]:
+            with self.subTest(words):
+                self.assertRaises(ValueError, sweep, [RING], **words)
+        left = sweeps.experiments_of([RING], ["hh", "manne"], ["seeded", "synchronous"], [0], [Disturbance(1, "flag"), Disturbance(1)])
+        self.assertEqual([(it.rules, it.daemon, it.disturbance.registers) for it in left], [
+            ("hh", "seeded", "any"), ("manne", "seeded", "flag"), ("manne", "seeded", "any"), ("manne", "synchronous", "flag"), ("manne", "synchronous", "any"),
+        ])
 
     def test_csv(self):
         made = list(sweep([RING], ["hh", "manne"], ["seeded"], range(3)))
