@@ -1,4 +1,4 @@
-"""Transcripts, judged by the program."""
+"""Transcripts, judged by the library or the program."""
 
 from __future__ import annotations
 
@@ -11,6 +11,7 @@ from dataclasses import dataclass
 from typing import Any, Optional, Union
 
 from .errors import VERDICT, Damaged, Ended, Garbled, text_of
+from .library import Library, chosen
 from .numbers import number_within
 from .program import Program, found_program
 from .reading import numbers_of
@@ -21,13 +22,21 @@ Text = Union[str, bytes, bytearray, memoryview]
 
 @dataclass(frozen=True)
 class Slice:
-    """The bytes of a file from a place to another; the file is a path, or the number of an open one."""
-    file: Union[str, int]
+    """The bytes of a file from a place to another, of which no copy is made; the file is a path, the number of an open one, or bytes."""
+    file: Union[str, int, bytes]
     start: int
     end: int
 
+    def audit(self, judge: Library) -> Summary:
+        if isinstance(self.file, bytes):
+            return judge.audit_bytes(self.file, self.start, self.end)
+        with open(self.file, "rb", buffering=0, closefd=isinstance(self.file, str)) as file:
+            return judge.audit_file(file.fileno(), self.start, self.end)
+
     def send(self, pipe: int) -> None:
-        """Lets the system hand them on, without a copy in this process. A file that has become shorter has no more."""
+        """Writes them to a pipe. A file that has become shorter has no more."""
+        if isinstance(self.file, bytes):
+            return send(memoryview(self.file)[self.start : self.end], pipe)
         at = self.start
         with open(self.file, "rb", buffering=0, closefd=isinstance(self.file, str)) as file:
             while at < self.end:
@@ -37,8 +46,14 @@ class Slice:
                 at += taken
 
 
-def audit(transcript: Union[Text, Slice], *, program: Program = None) -> Summary:
-    """Judges a transcript: what it has where it is that of a run of the rules; else raises `Damaged`, or `Ended`."""
+def audit(transcript: Union[Text, Slice], *, program: Program = None, engine: Optional[str] = None) -> Summary:
+    """Judges a transcript: what it has where it is that of a run of the rules; else raises `Damaged`. By an engine as that of a
+    `Network`; where there is no memory the library raises `MemoryError`, and the program `Ended`."""
+    judge = chosen(engine, program)
+    if judge:
+        if isinstance(transcript, Slice):
+            return transcript.audit(judge)
+        return judge.audit_bytes(transcript.encode() if isinstance(transcript, str) else bytes(transcript))
     return Summary(*numbers_judged("audit", transcript, program, r"accepted: ([0-9]+) entries, ([0-9]+) epochs, ([0-9]+) moves\n")[0])
 
 

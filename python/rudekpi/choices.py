@@ -12,17 +12,22 @@ from .replies import Choice, Enabled, Name, Wish
 Daemon = Callable[[Enabled], Choice]
 
 
-def items_of(choice: Choice, number_of: Callable[[Name], int]) -> list[str]:
-    """The texts of a choice's items; those of a set by number, so that the same set is the same step."""
+def numbers_of(choice: Choice, number_of: Callable[[Name], int]) -> list[tuple[int, int]]:
+    """The nodes of a choice's items with their targets, 0 for none; those of a set by number, so that the same set is the same step."""
     items = []
     for item in choice:
-        wish = f">{number_of(item.target)}" if isinstance(item, Wish) else ""
+        wish = number_of(item.target) if isinstance(item, Wish) else 0
         items.append((number_of(item.node if isinstance(item, Wish) else item), wish))
     if isinstance(choice, abc.Set):
         items.sort()
     if len(items) > MOST_NODES:
         raise ValueError(f"{len(items)} items are more than a step takes, which is {MOST_NODES}")
-    return [f"{number}{wish}" for number, wish in items]
+    return items
+
+
+def items_of(choice: Choice, number_of: Callable[[Name], int]) -> list[str]:
+    """The texts of a choice's items."""
+    return [f"{number}>{wish}" if wish else str(number) for number, wish in numbers_of(choice, number_of)]
 
 
 def checked_choice(choice: Choice, enabled: Enabled) -> Choice:

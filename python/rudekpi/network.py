@@ -5,16 +5,16 @@ from __future__ import annotations
 import os
 from typing import Any, Iterable, Optional, Union
 
-from . import audits, drawings
+from . import audits, drawings, library
 from .answers import Setting
-from .batch import Batch, Pending
+from .batch import Batch
 from .choices import Daemon, checked_choice
 from .daemons import AnyDaemon, Seeded
+from .direct import Direct
 from .errors import PastBound
 from .names import Names
 from .numbers import number_within
 from .program import Program, found_program
-from .reading import read_accepted
 from .replies import (
     Accepted, Base, Choice, Enabled, Fault, Matching, Moves, Name, Registers, Settled, Shown, Status, Summary, Turns,
 )
@@ -23,12 +23,16 @@ from .state import Follower, State
 
 
 class Network:
-    """A network that is played by a run of the program, one command a call.
+    """A network that is played by the library in this process, or by a run of the program, one command a call.
 
     `nodes` is how many there are, with the names 1 to that, or their names, which get the numbers 1, 2, .. in that order;
     the transcript has the numbers. Under `manne` the numbers matter: a node proposes to the greater ones. The first
     `present` of them are there at the start, all where nothing is said; others may `join`. With `keep=False` the transcript is
     kept from the last checkpoint on, and not longer.
+
+    The `engine` is "library" or "program": where nothing is said that of the environment's RUDEKPI_ENGINE, else the library where it
+    is found and no program is named. Answers and transcripts are the same. The library is that of RUDEKPI_LIBRARY, else the one in this
+    package, else `release/librudekpi.so` of the repository. Where it finds no memory it raises `MemoryError`, and the network is as it was.
 
     An interrupt (Ctrl-C) at any moment leaves it usable. The command that was cut short is carried out or was never asked:
     `status`, `edges` and the transcript tell. A network that nobody refers to any more ends its program.
@@ -36,20 +40,27 @@ class Network:
 
     def __init__(
         self, rules: str = "manne", nodes: Union[int, Iterable[Name]] = 0, *, present: Optional[int] = None,
-        program: Program = None, keep: bool = True,
+        program: Program = None, keep: bool = True, engine: Optional[str] = None,
     ) -> None:
         if rules not in ("hh", "manne"):
             raise ValueError(f"rules are 'hh' or 'manne', and not {rules!r}")
         self.rules, self._names, self._program = rules, Names(nodes), program
         count = self._names.count
         start = count if present is None else number_within(present, count, "a number of nodes that are present")
+        held = library.chosen(engine, program)
+        self.engine = "library" if held else "program"
+        self._session: Union[Direct, Session] = Direct(held, self._names, rules, start, keep) if held else self._run(start, keep)
+        self._single = self._session.batch(keeps=False)
+        self._follower = Follower(self._session)
+
+    def _run(self, start: int, keep: bool) -> Session:
+        """A run of the program."""
+        rules, count = self.rules, self._names.count
         first = [] if start == count else [str(start)]
         header = " ".join(["matching", rules, str(count), *first]).encode()
         words = ["run", "--rules", rules, "--nodes", str(count), *(["--present", *first] if first else [])]
         setting = Setting(self._names, header, f"matching2 {rules} {count}".encode(), keep)
-        self._session = Session([found_program(program), *words], setting)
-        self._single = Batch(self._session, keeps=False)
-        self._follower = Follower(self._session)
+        return Session([found_program(self._program), *words], setting)
 
     def __enter__(self) -> Network:
         return self
@@ -61,9 +72,9 @@ class Network:
 
     def __repr__(self) -> str:
         session = self._session
-        wrong = session.answers.wrong or (session.talk.ended if not session.is_closed else None)
+        wrong = session.trouble()
         stands = f", {wrong}" if wrong else ", closed" if session.is_closed else ""
-        return f"<Network {self.rules}, {self._names.count} nodes, {max(0, session.answers.entries)} entries{stands}>"
+        return f"<Network {self.rules}, {self._names.count} nodes, {session.entries} entries{stands}>"
 
     def _repr_html_(self) -> str:
         """A small drawing of the network, for notebooks."""
@@ -99,7 +110,8 @@ class Network:
 
     def partner(self, node: Name) -> Optional[Name]:
         """With whom a node that is present is paired, or None."""
-        return self._names.named(self._state().partner(self._present_number(node)))
+        number = self.number_of(node)
+        return self._names.named(self._session.partner(number) or self._state().partner(self._present_number(node)))
 
     def number_of(self, name: Name) -> int:
         """The number that the transcript has for a name. A number that is no node's is one that the network refuses."""
@@ -115,7 +127,7 @@ class Network:
 
     def batch(self, raises: bool = True) -> Batch:
         """Commands that do not wait for one another: `with net.batch() as batch:`, then `batch.link(1, 2)` and so on."""
-        return Batch(self._session, raises)
+        return self._session.batch(raises)
 
     def link(self, a: Name, b: Name) -> Accepted:
         """Adds an edge."""
@@ -191,7 +203,7 @@ class Network:
 
     def audit(self) -> Summary:
         """What `audit` says of the transcript."""
-        return audits.audit(self.transcript(), program=self._program)
+        return audits.audit(self.transcript(), program=self._program, engine=self.engine)
 
     def picture(self, entry: Optional[int] = None) -> str:
         """The network behind an entry, or behind all, for Graphviz. Raises `ValueError` where there is no such entry."""
@@ -216,13 +228,15 @@ class Network:
         return graph
 
     @classmethod
-    def from_networkx(cls, graph: Any, rules: str = "manne", *, program: Program = None, keep: bool = True) -> Network:
+    def from_networkx(
+        cls, graph: Any, rules: str = "manne", *, program: Program = None, keep: bool = True, engine: Optional[str] = None,
+    ) -> Network:
         """A network with the nodes and edges of a simple undirected `networkx.Graph`, all pointers null."""
         if graph.is_directed() or graph.is_multigraph():
             raise ValueError("a simple undirected graph is wanted: see to_undirected and networkx.Graph")
         if any(a == b for a, b in graph.edges):
             raise ValueError("an edge joins a node with itself")
-        net = cls(rules, list(graph.nodes), program=program, keep=keep)
+        net = cls(rules, list(graph.nodes), program=program, keep=keep, engine=engine)
         with net.batch() as batch:
             for a, b in graph.edges:
                 batch.link(a, b)
@@ -241,5 +255,5 @@ class Network:
     def _played(self, events: Iterable[str]) -> str:
         """The transcript once these events are carried out."""
         for event in events:
-            self._session.ask(Pending(self._session, event, read_accepted))
+            self._session.tell(event)
         return self.transcript()

@@ -8,8 +8,9 @@ import stat
 from concurrent.futures import Executor, ProcessPoolExecutor, ThreadPoolExecutor
 from typing import Iterator, Optional, Union
 
-from .audits import Slice, Text, audit
+from .audits import Slice, audit
 from .errors import Damaged
+from .library import chosen
 from .numbers import MOST_EDGES, MOST_NODES
 from .program import Program
 from .replies import Summary
@@ -35,10 +36,10 @@ class Held:
         """So many bytes from a place on, or fewer, where it has an end or the system gives no more."""
         return self.text[start : start + count] if self.file is None else os.pread(self.file, count, start)
 
-    def part(self, start: int, end: int, executor: Executor) -> Union[Text, Slice]:
+    def part(self, start: int, end: int, executor: Executor) -> Union[bytes, Slice]:
         """What a worker gets: no copy where it is a thread, or may open the file itself."""
         if self.file is None:
-            return memoryview(self.text)[start:end] if isinstance(executor, ThreadPoolExecutor) else self.text[start:end]
+            return Slice(self.text, start, end) if isinstance(executor, ThreadPoolExecutor) else self.text[start:end]
         if isinstance(executor, ThreadPoolExecutor):
             return Slice(self.file, start, end)
         if self.is_shared or isinstance(executor, ProcessPoolExecutor):
@@ -52,7 +53,7 @@ class Held:
 
 def audit_parts(
     transcript: Union[str, bytes, "os.PathLike[str]"], executor: Optional[Executor] = None, *, program: Program = None, size: int = 1 << 21,
-    shared: bool = False,
+    shared: bool = False, engine: Optional[str] = None,
 ) -> Summary:
     """The verdict of `audit` on a transcript that has bases, reached in parts of about `size` bytes or more.
 
@@ -66,27 +67,29 @@ def audit_parts(
     workers find it by this path. It is not to change meanwhile.
     """
     if not isinstance(transcript, os.PathLike):
-        return audit_held(Held(transcript.encode() if isinstance(transcript, str) else bytes(transcript)), executor, program, size)
+        text = transcript.encode() if isinstance(transcript, str) else bytes(transcript)
+        return audit_held(Held(text), executor, size, program, engine)
     with open(transcript, "rb", buffering=0) as file:
         if not stat.S_ISREG(os.fstat(file.fileno()).st_mode):
-            return audit_held(Held(file.readall()), executor, program, size)
-        return audit_held(Held(b"", file.fileno(), os.path.abspath(transcript), shared), executor, program, size)
+            return audit_held(Held(file.readall()), executor, size, program, engine)
+        return audit_held(Held(b"", file.fileno(), os.path.abspath(transcript), shared), executor, size, program, engine)
 
 
-def audit_held(held: Held, executor: Optional[Executor], program: Program, size: int) -> Summary:
+def audit_held(held: Held, executor: Optional[Executor], size: int, program: Program, engine: Optional[str]) -> Summary:
+    chosen(engine, program)
     if executor is not None:
-        return verdict_of(held, parts_of(held, size), executor, program)
+        return verdict_of(held, parts_of(held, size), executor, program, engine)
     workers = len(os.sched_getaffinity(0)) if hasattr(os, "sched_getaffinity") else os.cpu_count() or 1
     with ThreadPoolExecutor(workers) as threads:
-        return verdict_of(held, parts_of(held, size, PARTS_LEFT * workers), threads, program)
+        return verdict_of(held, parts_of(held, size, PARTS_LEFT * workers), threads, program, engine)
 
 
-def verdict_of(held: Held, parts: Iterator[tuple[int, int]], executor: Executor, program: Program) -> Summary:
+def verdict_of(held: Held, parts: Iterator[tuple[int, int]], executor: Executor, program: Program, engine: Optional[str]) -> Summary:
     """What the parts' verdicts say of the whole."""
     starts, under_way = [], []
     for start, end in parts:
         starts.append(start)
-        under_way.append(executor.submit(audit, held.part(start, end, executor), program=program))
+        under_way.append(executor.submit(audit, held.part(start, end, executor), program=program, engine=engine))
     entries = moves = 0
     epochs = 1
     try:

@@ -14,14 +14,16 @@ from .reading import MOVE, numbers_of_base, numbers_of_line
 from .replies import Name
 
 
-def replay(transcript: Text, *, names: Optional[Iterable[Name]] = None, program: Program = None) -> Network:
+def replay(
+    transcript: Text, *, names: Optional[Iterable[Name]] = None, program: Program = None, engine: Optional[str] = None,
+) -> Network:
     """A network that stands where a transcript ends, so that it can go on; raises `Damaged` where `audit` refuses it.
 
     Its own transcript is the one that was given. Where that took other targets than the least, its steps have them as
     wishes. Where that begins with a base, at which no run can begin, edits and faults lead there: so the numbers are other
     ones, and what was spent before is not counted. `names` are the caller's, in the order of the numbers.
     """
-    audit(transcript, program=program)
+    audit(transcript, program=program, engine=engine)
     transcript = transcript if isinstance(transcript, str) else bytes(transcript).decode()
     head, *parts = parts_of(transcript)
     _, rules, count, *rest = head[0].split(" ")
@@ -30,12 +32,12 @@ def replay(transcript: Text, *, names: Optional[Iterable[Name]] = None, program:
     if names is not None and len(nodes) != int(count):
         raise ValueError(f"{len(nodes)} names for {count} nodes")
     entries = [(CHECKPOINT, "") if len(part) > 1 else tuple(part[0].split(" ", 1)[1].split(" = ")) for part in parts]
-    net = Network(rules, nodes, present=present, program=program)
+    net = Network(rules, nodes, present=present, program=program, engine=engine)
     if len(head) == 1:
         if net._played(event for event, _ in entries) == transcript:
             return net
         net.close()
-        net = Network(rules, nodes, present=present, program=program)
+        net = Network(rules, nodes, present=present, program=program, engine=engine)
     net._played([*edits, *(wished(event, reply) for event, reply in entries)])
     return net
 

@@ -2,16 +2,14 @@
 
 from __future__ import annotations
 
-from typing import TYPE_CHECKING, Any
+from typing import Any, Optional
 
 from .answers import Answers, Setting, refusal
-from .errors import Garbled, text_of
-from .reading import read_status
+from .batch import Batch, Pending
+from .errors import Garbled, RudekpiError, text_of
+from .reading import read_accepted, read_status
 from .replies import Turns
 from .talk import Talk
-
-if TYPE_CHECKING:
-    from .batch import Pending
 
 # how many bytes are asked before the program has to take some of them
 UNSENT = 1 << 16
@@ -34,6 +32,36 @@ class Session:
         self.talk = Talk(words)
         while self.answers.entries < 0 or self.answers.wrong:
             self.exchange()
+
+    @property
+    def entries(self) -> int:
+        """How many entries were read."""
+        return max(0, self.answers.entries)
+
+    def trouble(self) -> Optional[RudekpiError]:
+        """What has ended the run, but a close."""
+        return self.answers.wrong or (self.talk.ended if not self.is_closed else None)
+
+    def kept(self) -> tuple[bytearray, int]:
+        """All that is kept of what the program has written, once all commands are carried out, and how many bytes of it count.
+        Raises `Garbled` where the program answered amiss."""
+        self.wait_for_all()
+        if self.answers.wrong:
+            raise self.answers.wrong
+        return self.answers.said, self.answers.said_size
+
+    def batch(self, raises: bool = True, keeps: bool = True) -> Batch:
+        return Batch(self, raises, keeps)
+
+    def partner(self, number: int) -> int:
+        """The program has no such question: 0 for all nodes."""
+        return 0
+
+    def tell(self, line: str) -> None:
+        """Carries out a line of a script; behind one that writes several entries the status is asked, which ends them."""
+        is_ended_by_status = line.startswith(("drive ", "scramble "))
+        words = ("status", read_accepted, None, f"{line}\n".encode()) if is_ended_by_status else (line, read_accepted, None, b"")
+        self.ask(Pending(self, *words))
 
     def ask(self, pending: Pending[Any]) -> None:
         """Takes a command to be written; waits only where much is unsent."""

@@ -7,10 +7,8 @@ import os
 import sys
 from typing import Optional
 
-from .batch import Pending
 from .errors import RudekpiError
 from .network import Network
-from .reading import read_accepted
 from .script_words import COMMANDS, why_no_command
 
 HISTORY = "~/.rudekpi_history"
@@ -38,7 +36,7 @@ class Shell:
             return f"not sent: {why}\n"
         if not line:
             return ""
-        self.net._session.ask(pending_of(self.net, line))
+        self.net._session.tell(line)
         return self.new_lines()
 
     def new_lines(self) -> str:
@@ -65,13 +63,6 @@ class Shell:
         with open(path, "w") as file:
             file.write(text)
         return f"written: {path}\n"
-
-
-def pending_of(net: Network, line: str) -> Pending[object]:
-    """A command; behind one that writes several entries stands a question that ends them."""
-    if line.startswith(("drive ", "scramble ")):
-        return Pending(net._session, "status", read_accepted, None, f"{line}\n".encode())
-    return Pending(net._session, line, read_accepted)
 
 
 def prepare() -> None:
@@ -114,7 +105,7 @@ def talk(net: Network) -> int:
             print("\ncut short; `quit` or Ctrl-D ends the session" if is_terminal else "")
         except (OSError, ValueError, RudekpiError) as error:
             print(f"! {error}")
-            if net._session.talk.ended:
+            if net._session.trouble():
                 return 1
     if is_terminal:
         print()

@@ -3,11 +3,12 @@
 from __future__ import annotations
 
 import re
-from typing import TYPE_CHECKING, Iterable, Optional
+from typing import TYPE_CHECKING, Iterable, Optional, Union
 
 from .reading import MOVE
 
 if TYPE_CHECKING:
+    from .direct import Direct
     from .session import Session
 
 WORDS = {"link": 2, "unlink": 2, "point": 2, "flag": 2, "join": 1, "leave": 1}
@@ -117,22 +118,19 @@ class State:
 class Follower:
     """The state of a session's network, which goes on with what the session has kept since it was last asked for."""
 
-    def __init__(self, session: Session) -> None:
+    def __init__(self, session: Union[Direct, Session]) -> None:
         self.session = session
         # the state at a place of what is kept
         self.followed: Optional[tuple[bytearray, int, State]] = None
 
     def state(self) -> State:
         """Where the network stands once all commands are carried out. Raises `Garbled` where the program answered amiss."""
-        session = self.session
-        session.wait_for_all()
-        if session.answers.wrong:
-            raise session.answers.wrong
+        said, size = self.session.kept()
         # one that is cut short by an interrupt begins again at the start
-        said, followed, self.followed = session.answers.said, self.followed, None
+        followed, self.followed = self.followed, None
         if followed is None or followed[0] is not said:
             followed = (said, 0, State())
-        end = said.rfind(b"\n", 0, session.answers.said_size) + 1
+        end = said.rfind(b"\n", 0, size) + 1
         followed[2].follow(said[followed[1] : end].decode().splitlines())
         self.followed = (said, end, followed[2])
         return followed[2]

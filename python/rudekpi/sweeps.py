@@ -202,7 +202,10 @@ def sweep(
     tried once more; where that dies too, the rest is done and `Lost` is raised at the end. An error of an experiment is raised as it
     is. Where the caller stops, nothing more is handed out.
     """
-    todo = experiments_of(graphs, rules, daemons, seeds, faults, found_program(program) if executor is None else program)
+    if executor is None:
+        # built and named once, before any worker looks for it
+        found_program(program)
+    todo = experiments_of(graphs, rules, daemons, seeds, faults, program)
     return Handing(todo, executor).rows()
 
 

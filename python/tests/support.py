@@ -6,6 +6,7 @@ import stat
 import sys
 import tempfile
 import unittest
+from unittest import mock
 
 from rudekpi import Accepted, Base, Enabled, Fault, Matching, Moves, Refused, Shown, Status, Wish
 
@@ -13,11 +14,18 @@ TOP = os.path.dirname(os.path.dirname(os.path.dirname(os.path.abspath(__file__))
 
 
 class Timed(unittest.TestCase):
-    """A test that fails where it takes longer than its seconds, so that a deadlock is a failure."""
+    """A test that fails where it takes longer than its seconds, so that a deadlock is a failure. It goes by an engine: tests/client makes
+    of each class one by each of its engines."""
 
     seconds = 60
+    engines = ("program", "library")
+    engine = "program"
 
     def setUp(self):
+        chosen = mock.patch.dict(os.environ, RUDEKPI_ENGINE=self.engine)
+        chosen.start()
+        self.addCleanup(chosen.stop)
+
         def stop(*_):
             raise AssertionError(f"no end after {self.seconds} seconds")
 
@@ -40,6 +48,12 @@ class Timed(unittest.TestCase):
             file.write(first + text)
         os.chmod(path, os.stat(path).st_mode | stat.S_IXUSR)
         return path
+
+
+def has_ended(net):
+    """Whether the run behind a network has ended well, and holds nothing any more."""
+    session = net._session
+    return not session.slot.full if net.engine == "library" else session.talk.ended is not None and session.talk.runs[0].poll() is not None
 
 
 def play(player, line, name=int):

@@ -4,6 +4,7 @@ middle. Skipped where distributed is not there."""
 import importlib.util
 import logging
 import os
+import pathlib
 import signal
 import subprocess
 import sys
@@ -78,6 +79,10 @@ class Cluster(Timed):
         text = net.transcript().encode()
         executor = self.client.get_executor()
         self.assertEqual(audit_parts(text, executor, size=500), audit(text))
+        path = pathlib.Path(self.folder(), "transcript")
+        path.write_bytes(text)
+        for shared in (False, True):
+            self.assertEqual(audit_parts(path, executor, size=500, shared=shared), audit(text))
         os.kill(self.workers[1].pid, signal.SIGKILL)
         self.assertEqual(audit_parts(text, executor, size=500), audit(text))
 

@@ -21,11 +21,14 @@ except ImportError:
     matplotlib = None
 
 PAIR = "link 1 2\nenabled\nstep 1\nenabled\nstep 2\nmatching\nstatus\n"
-ENVIRONMENT = dict(os.environ, PYTHONPATH=os.path.join(TOP, "python"))
+
+
+def environment(**more):
+    return dict(os.environ, PYTHONPATH=os.path.join(TOP, "python"), **more)
 
 
 def rudekpi(*words, given="", **more):
-    return subprocess.run([sys.executable, "-m", "rudekpi", *words], input=given, env=ENVIRONMENT, capture_output=True, text=True, **more)
+    return subprocess.run([sys.executable, "-m", "rudekpi", *words], input=given, env=environment(), capture_output=True, text=True, **more)
 
 
 def said(*words, given=""):
@@ -57,8 +60,9 @@ class HandedOn(Timed):
         done = rudekpi()
         self.assertEqual((done.returncode, done.stdout), (2, ""))
         self.assertIn("sweep, compare, worst, check, shell, json", done.stderr)
-        without = dict(ENVIRONMENT, RUDEKPI_CONSOLE="/no/such/program")
-        for words in (["run", "--rules", "hh"], ["sweep", "--graph", "ring:5"], ["shell", "--nodes", "2"]):
+        without = environment(RUDEKPI_CONSOLE="/no/such/program")
+        # the library wants none for a session
+        for words in (["run", "--rules", "hh"], ["sweep", "--graph", "ring:5"], ["shell", "--nodes", "2"])[: 3 if self.engine == "program" else 2]:
             done = subprocess.run([sys.executable, "-m", "rudekpi", *words], env=without, capture_output=True, text=True)
             self.assertEqual(done.returncode, 3, done.stderr)
             self.assertIn("/no/such/program", done.stderr)
@@ -145,7 +149,7 @@ class Bench(Timed):
     def test_an_interrupt_leaves_the_rows_so_far(self):
         path = os.path.join(self.folder(), "out.csv")
         words = [sys.executable, "-m", "rudekpi", "sweep", "--graph", "grid:12x12", "--daemon", "least", "--seeds", "3000", "--csv", path]
-        with subprocess.Popen(words, env=ENVIRONMENT, stderr=subprocess.PIPE, text=True) as run:
+        with subprocess.Popen(words, env=environment(), stderr=subprocess.PIPE, text=True) as run:
             last = time.monotonic() + 30
             while time.monotonic() < last and not (os.path.exists(path) and pathlib.Path(path).read_text().count("\n") > 3):
                 time.sleep(0.05)
@@ -161,7 +165,7 @@ class Bench(Timed):
         pid, end = pty.fork()
         if pid == 0:
             words = [sys.executable, "-m", "rudekpi", "sweep", "--graph", "ring:5", "--seeds", "4", "--csv", os.devnull]
-            os.execve(sys.executable, words, ENVIRONMENT)
+            os.execve(sys.executable, words, environment())
         shown = b""
         while select.select([end], [], [], 30)[0]:
             try:
@@ -235,7 +239,7 @@ class Lines(Timed):
         pid, end = pty.fork()
         if pid == 0:
             words = [sys.executable, "-m", "rudekpi", "shell", "--nodes", "3"]
-            os.execve(sys.executable, words, dict(ENVIRONMENT, HOME=self.folder(), TERM="dumb"))
+            os.execve(sys.executable, words, environment(HOME=self.folder(), TERM="dumb"))
         shown = b""
         for typed in (b"lin\t1 2\n", b"\x03", b"lnik\n", b"status\n", b"\x04"):
             wanted = time.monotonic() + 20

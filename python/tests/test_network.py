@@ -9,7 +9,7 @@ import unittest
 
 import rudekpi
 from rudekpi import Damaged, Move, Network, PastBound, Refused, Settled, Wish, WrongChoice, audit, epochs, replay
-from support import Timed
+from support import Timed, has_ended
 
 PAIR = "matching hh 2\n1 link 1 2 = ok\n2 step 1 = 1:seduce>2\n3 step 2 = 2:marry>1\n4 matching = 1-2\n"
 # node 2 took the greater of the two targets that it may take
@@ -106,7 +106,7 @@ class WrongArguments(Timed):
             with net.batch() as batch:
                 batch.link(1, 2)
                 raise KeyError
-        self.assertIsNotNone(net._session.talk.runs[0].poll())
+        self.assertTrue(has_ended(net))
 
 
 class Batches(Timed):

@@ -77,6 +77,7 @@ class Sizes(Timed):
 
 
 class Ends(Timed):
+    engines = ("program",)
     seconds = 60
 
     def test_while_an_answer_is_awaited(self):
@@ -170,6 +171,7 @@ for program in programs:
 class Answers(Timed):
     """Programs that answer amiss."""
 
+    engines = ("program",)
     seconds = 60
 
     def test_garbled(self):
@@ -198,6 +200,7 @@ class Answers(Timed):
 class Found(Timed):
     """Which program is called."""
 
+    engines = ("program",)
     def test_by_the_argument_and_the_environment(self):
         told = self.program("echo environment >&2; exit 7")
         with mock.patch.dict(os.environ, RUDEKPI_CONSOLE=told):

@@ -1,0 +1,327 @@
+"""A session of the library: commands that are carried out by calls of C, each before it returns."""
+
+from __future__ import annotations
+
+import ctypes
+import os
+import threading
+import weakref
+from typing import Any, Callable, Optional
+
+from .batch import Batch, Done
+from .choices import numbers_of
+from .errors import Ended, Refused, RudekpiError, text_of
+from .library import COUNTS, LOG_FULL, MOVES, NO_MEMORY, NO_SESSION, REFUSALS, REFUSED, ROW_NUMBERS, TOLD, Library, Slot
+from .names import Names
+from .numbers import MOST_SEED, MOST_TURNS, number_within
+from .reading import read_base, read_fault, read_moves
+from .replies import Accepted, Base, Choice, Enabled, Fault, Fixed, Matching, Move, Moves, Name, Shown, Status, Turns
+
+SESSIONS: weakref.WeakSet[Direct] = weakref.WeakSet()
+# a slot that no session is ever in
+NONE = Slot()
+BELONGS = b"the network belongs to another process, of which this one is a child"
+told_of, counts_of = TOLD.unpack_from, COUNTS.unpack_from
+
+
+class Direct:
+    """A session of the library. A lock is held round each call, since other threads run meanwhile.
+
+    A call of C is not cut short by an interrupt, and what is known of the session is known by single stores behind one. So a command is
+    carried out as a whole or not at all. What the session has written is taken over by one call into a buffer that stands ready."""
+
+    # of one that is not wholly made
+    owner = 0
+
+    def __init__(self, library: Library, names: Names, rules: str, present: int, keeps: bool) -> None:
+        self.library, self.names, self.keeps = library, names, keeps
+        self.lock: Any = threading.RLock()
+        self.is_closed, self.ended, self.entries = False, None, 0
+        # what was taken over, how much of it counts, and the buffer into which it is taken now, with how much came, once it has
+        self.held: tuple[bytearray, int, Any, list[int]] = (bytearray(), 0, b"", [])
+        self.told, self.counts = ctypes.create_string_buffer(TOLD.size), ctypes.create_string_buffer(COUNTS.size)
+        self.told_at, self.counts_at = ctypes.addressof(self.told), ctypes.addressof(self.counts)
+        self.slot, self.owner = Slot(), os.getpid()
+        self.at = ctypes.addressof(self.slot)
+        if library.session_new(("hh", "manne").index(rules), names.count, present, self.at):
+            raise MemoryError("no memory for a network")
+        SESSIONS.add(self)
+
+    def __del__(self) -> None:
+        if self.owner == os.getpid() and self.slot.full:
+            self.library.session_free(self.at)
+
+    def collect(self) -> None:
+        """Takes over what the session has written. Where it was cut short it goes on from there."""
+        with self.lock:
+            while True:
+                said, size, room, came = self.held
+                if came:
+                    del said[size:]
+                    said += memoryview(room)[: came[0]] if came[0] <= len(room) else b""
+                    self.held = (said, len(said), b"", [])
+                    continue
+                wanted = self.library.session_length(self.at)
+                if not wanted:
+                    return
+                room = (ctypes.c_char * wanted)()
+                came = []
+                self.held = (said, size, room, came)
+                # one call of C, which has put the result into the list when the next instruction may be interrupted
+                came.extend(map(self.library.session_read, (self.at,), (ctypes.addressof(room),), (wanted,)))
+
+    def kept(self) -> tuple[bytearray, int]:
+        """All that is kept of the transcript, and how many bytes of it count."""
+        self.collect()
+        return self.held[:2]
+
+    def text(self) -> str:
+        said, size = self.kept()
+        return text_of(said[:size])
+
+    def wait_for_all(self) -> None:
+        """All that was asked has been carried out."""
+
+    def trouble(self) -> Optional[RudekpiError]:
+        """What has ended the session, but a close."""
+        return self.ended
+
+    def raise_for(self, status: int) -> None:
+        """Raises what a status says that is neither done nor refused."""
+        if status == NO_SESSION:
+            raise self.ended or ValueError("the network is closed")
+        if status == LOG_FULL:
+            self.end(Ended(4, b"! log full"))
+            raise self.ended
+        if status == NO_MEMORY:
+            raise MemoryError("the command was not carried out, and the network is as it was")
+        raise ValueError(f"the library takes no such numbers (status {status})")
+
+    def end(self, why: Optional[Ended] = None) -> None:
+        """Ends the session. Where it was cut short it is done again."""
+        with self.lock:
+            self.collect()
+            self.ended = self.ended or why
+            self.library.session_free(self.at)
+            self.is_closed = True
+
+    def close(self) -> None:
+        if not self.is_closed:
+            self.end()
+
+    kill = close
+
+    def leave(self) -> None:
+        """In a child of this process: nothing is called any more."""
+        self.lock = threading.RLock()
+        self.ended, self.at, self.is_closed = Ended(0, BELONGS), ctypes.addressof(NONE), True
+
+    def tell(self, line: str) -> None:
+        """Carries out a line of a script; behind one that writes several entries the status is asked, as is done with a program."""
+        with self.lock:
+            for event in (line, "status") if line.startswith(("drive ", "scramble ")) else (line,):
+                number, text = ctypes.c_uint64(), event.encode()
+                status = self.library.session_feed(self.at, text, len(text), ctypes.addressof(number))
+                if status:
+                    self.raise_for(status)
+            said, size = self.kept()
+            last = said[said.rfind(b"\n", 0, size - 1) + 1 : size].split(b" ")[0]
+            self.entries = int(last) if last.isdigit() else self.entries
+
+    def partner(self, number: int) -> int:
+        """With whom a node is paired; 0 for nobody, and where it is not present."""
+        found = ctypes.c_uint32()
+        with self.lock:
+            self.library.partner(self.at, number, ctypes.addressof(found))
+        return found.value
+
+    def batch(self, raises: bool = True, keeps: bool = True) -> Batch:
+        return DirectBatch(self, raises, keeps)
+
+
+def leave_all() -> None:
+    for session in list(SESSIONS):
+        session.leave()
+
+
+if hasattr(os, "register_at_fork"):
+    os.register_at_fork(after_in_child=leave_all)
+
+
+def raise_refusal(names: Names, entry: int, given: tuple[int, str]) -> Any:
+    raise refusal_of(names, entry, given)
+
+
+def refusal_of(names: Names, entry: int, given: tuple[int, str]) -> Refused:
+    number, event = given
+    return Refused(names.told(event), number, REFUSALS[number - 1] if 0 < number <= len(REFUSALS) else "", entry)
+
+
+def accepted_of(names: Names, entry: int, _: Any) -> Accepted:
+    return Accepted(entry)
+
+
+def shown_of(names: Names, entry: int, given: tuple[int, int]) -> Shown:
+    node, target = given
+    return Shown(entry, names.name_of(node), names.name_of(target) if target else None)
+
+
+def moves_of(names: Names, entry: int, rows: list[int]) -> Moves:
+    name_of = names.name_of
+    each = zip(rows[::3], rows[1::3], rows[2::3])
+    return Moves(tuple(Move(name_of(node), MOVES[rule], name_of(other) if other else None) for node, rule, other in each), entry)
+
+
+def enabled_of(names: Names, entry: int, rows: list[int]) -> Enabled:
+    return Enabled(entry, Fixed(zip(map(names.name_of, rows[::3]), map(MOVES.__getitem__, rows[1::3]))))
+
+
+def matching_of(names: Names, entry: int, rows: list[int]) -> Matching:
+    pairs = tuple(zip(map(names.name_of, rows[::3]), map(names.name_of, rows[2::3])))
+    partners = dict(pairs)
+    partners.update((b, a) for a, b in pairs)
+    return Matching(entry, pairs, Fixed(partners))
+
+
+def status_of(names: Names, entry: int, counts: tuple[int, ...]) -> Status:
+    return Status(entry, *counts)
+
+
+def turns_of(names: Names, entry: int, given: Any) -> Turns[Any]:
+    """The turns of a `drive` or `scramble`, out of their entries' lines, with the status behind them."""
+    read, lines, counts = given
+    turns = []
+    for line in text_of(lines).splitlines():
+        number, _, rest = line.partition(" ")
+        event, _, reply = rest.partition(" = ")
+        turns.append(read(names, int(number), event, reply))
+    return Turns(tuple(turns), Status(entry, *counts))
+
+
+def base_of(names: Names, entry: int, lines: bytes) -> Base:
+    return read_base(names, entry, "", text_of(lines).rstrip("\n"))
+
+
+class DirectBatch(Batch):
+    """Commands that are carried out one by one, as they are asked: their answers are there."""
+
+    _session: Any
+
+    def __exit__(self, kind: Any, *_: Any) -> None:
+        if not kind and self._raises and self.refusals:
+            raise self.refusals[0]
+
+    def _done(self, make: Callable[..., Any], status: int, entry: int, given: Any, refusal: int, event: str) -> Done[Any]:
+        """The answer of a call; raises what its status says, where there is no answer."""
+        session = self._session
+        if status == 0:
+            session.entries = entry
+            return Done(session.names, make, entry, given)
+        if status != REFUSED:
+            session.raise_for(status)
+        session.entries = entry
+        if self._kept is not None:
+            self._kept.append(refusal_of(session.names, entry, (refusal, event)))
+        return Done(session.names, raise_refusal, entry, (refusal, event))
+
+    def _edit(self, word: str, *numbers: int) -> Done[Accepted]:
+        session = self._session
+        call = getattr(session.library, word)
+        with session.lock:
+            status = call(session.at, *numbers, session.told_at)
+            entry, refusal, _, _ = told_of(session.told)
+        if status == 0:
+            session.entries = entry
+            return Done(session.names, accepted_of, entry, None)
+        # the pointer that is null is no number in a line
+        written = [str(number) if number or word == "flag" else "-" for number in numbers]
+        return self._done(accepted_of, status, entry, None, refusal, " ".join([word, *written]))
+
+    def link(self, a: Name, b: Name) -> Done[Accepted]:
+        return self._edit("link", self._number(a), self._number(b))
+    def unlink(self, a: Name, b: Name) -> Done[Accepted]:
+        return self._edit("unlink", self._number(a), self._number(b))
+    def flag(self, node: Name, value: bool) -> Done[Accepted]:
+        return self._edit("flag", self._number(node), number_within(value, 1, "a flag"))
+    def join(self, node: Name) -> Done[Accepted]:
+        return self._edit("join", self._number(node))
+    def leave(self, node: Name) -> Done[Accepted]:
+        return self._edit("leave", self._number(node))
+
+    def point(self, node: Name, target: Optional[Name]) -> Done[Accepted]:
+        return self._edit("point", self._number(node), 0 if target is None else self._number(target))
+
+    def show(self, node: Name) -> Done[Shown]:
+        session, number = self._session, self._number(node)
+        with session.lock:
+            status = session.library.show(session.at, number, session.told_at)
+            entry, refusal, target, _ = told_of(session.told)
+        if status == 0:
+            session.entries = entry
+            return Done(session.names, shown_of, entry, (number, target))
+        return self._done(shown_of, status, entry, None, refusal, f"show {number}")
+
+    def step(self, choice: Choice) -> Done[Moves]:
+        items = numbers_of(choice, self._number)
+        flat = [number for item in items for number in item]
+        room = (ctypes.c_uint32 * len(flat))(*flat)
+        event = lambda: " ".join(["step", *(f"{node}>{wish}" if wish else str(node) for node, wish in items)])
+        return self._listed(moves_of, "step", event, ctypes.addressof(room), len(items))
+
+    def enabled(self) -> Done[Enabled]:
+        return self._listed(enabled_of, "enabled", lambda: "enabled")
+    def matching(self) -> Done[Matching]:
+        return self._listed(matching_of, "pairs", lambda: "matching")
+
+    def _listed(self, make: Callable[..., Any], call: str, event: Callable[[], str], *words: int) -> Done[Any]:
+        """A call whose answer has rows, which are fetched before another call comes."""
+        session = self._session
+        with session.lock:
+            status = getattr(session.library, call)(session.at, *words, session.told_at)
+            entry, refusal, _, count = told_of(session.told)
+            room = (ctypes.c_uint32 * (ROW_NUMBERS * count))()
+            if count:
+                session.library.rows(session.at, ctypes.addressof(room), count)
+        return self._done(make, status, entry, room[:], refusal, event() if refusal else "")
+
+    def status(self) -> Done[Status]:
+        session = self._session
+        with session.lock:
+            status = session.library.status(session.at, session.counts_at, session.told_at)
+            entry, counts = told_of(session.told)[0], counts_of(session.counts)
+        return self._done(status_of, status, entry, counts, 0, "status")
+
+    def drive(self, seed: int, turns: int) -> Done[Turns[Moves]]:
+        return self._turned("drive", read_moves, seed, turns)
+    def scramble(self, seed: int, faults: int) -> Done[Turns[Fault]]:
+        return self._turned("scramble", read_fault, seed, faults)
+
+    def _turned(self, word: str, read: Callable[..., Any], seed: int, turns: int) -> Done[Any]:
+        """Many entries, of which the turns are read from the transcript, and the status behind them."""
+        session = self._session
+        numbers = (number_within(seed, MOST_SEED, "a seed"), number_within(turns, MOST_TURNS, "a number of turns"))
+        with session.lock:
+            lines = self._written(getattr(session.library, word), *numbers)
+            status = session.library.status(session.at, session.counts_at, session.told_at)
+            entry, counts = told_of(session.told)[0], counts_of(session.counts)
+        return self._done(turns_of, status, entry, (read, lines, counts), 0, "status")
+
+    def checkpoint(self) -> Done[Base]:
+        session = self._session
+        with session.lock:
+            lines = self._written(session.library.checkpoint)
+            entry = told_of(session.told)[0]
+            if not session.keeps:
+                # another object than before, so that what is known of its places is known to be over
+                session.held = (bytearray(lines), len(lines), b"", [])
+        return self._done(base_of, 0, entry, lines, 0, "checkpoint")
+
+    def _written(self, call: Callable[..., int], *words: int) -> bytes:
+        """What a call has written; raises what its status says."""
+        session = self._session
+        before = session.kept()[1]
+        status = call(session.at, *words, session.told_at)
+        said, size = session.kept()
+        if status:
+            session.raise_for(status)
+        return bytes(said[before:size])

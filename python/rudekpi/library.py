@@ -1,0 +1,143 @@
+"""The library for C, whose engine runs in this process: where it is found, and its calls with their types."""
+
+from __future__ import annotations
+
+import ctypes
+import functools
+import mmap
+import os
+import struct
+from typing import Any, Optional
+
+from .errors import Damaged
+from .program import PACKAGE, Program
+from .replies import Summary
+
+DONE, BAD_LINE, LOG_FULL, NO_MEMORY, NO_SESSION, BAD_ARGUMENT, REFUSED = range(7)
+ENGINES = ("library", "program")
+# the refusals, by their numbers from 1 on
+REFUSALS = (
+    "unknown-node", "self-loop", "already-linked", "not-linked", "too-many-edges", "not-neighbour", "no-flag", "empty-choice", "not-central",
+    "chosen-twice", "not-enabled", "bad-target", "already-present",
+)
+MOVES = ("", "update", "marry", "seduce", "abandon")
+DAMAGES = {1: "bad header", 2: "not a transcript line", 3: "out of order", 4: "not the machine's reply", 5: "bad base"}
+
+# what rudekpi_told has: the entry, the refusal, the target and how many rows; and the sizes of it, rudekpi_counts and rudekpi_row
+TOLD = struct.Struct("@IIIN")
+COUNTS = struct.Struct("@6I")
+ROW_NUMBERS = 3
+
+
+class Slot(ctypes.Structure):
+    _fields_ = [("at", ctypes.c_void_p), ("full", ctypes.c_bool)]
+
+
+class Verdict(ctypes.Structure):
+    _fields_ = [(name, ctypes.c_uint32) for name in ("kind", "entries", "epochs")] + [(name, ctypes.c_uint64) for name in ("moves", "line")]
+
+
+# what calls take behind the slot, whose address comes first
+AT, NUMBER, LONG, SIZE, BIT = ctypes.c_void_p, ctypes.c_uint32, ctypes.c_uint64, ctypes.c_size_t, ctypes.c_bool
+CALLS: dict[str, tuple[Any, ...]] = {
+    "link": (NUMBER, NUMBER, AT), "unlink": (NUMBER, NUMBER, AT), "join": (NUMBER, AT), "leave": (NUMBER, AT), "point": (NUMBER, NUMBER, AT),
+    "flag": (NUMBER, BIT, AT), "step": (AT, SIZE, AT), "show": (NUMBER, AT), "enabled": (AT,), "pairs": (AT,), "status": (AT, AT),
+    "drive": (LONG, NUMBER, AT), "scramble": (LONG, NUMBER, AT), "checkpoint": (AT,), "partner": (NUMBER, AT), "session_feed": (ctypes.c_char_p, SIZE, AT),
+}
+SIZES: dict[str, tuple[Any, ...]] = {"rows": (AT, SIZE), "session_length": (), "session_read": (AT, SIZE)}
+
+
+class Library:
+    """The calls of a shared library by the names that they have behind `rudekpi_`; each lets other threads of Python run meanwhile.
+
+    Raises `OSError` where there is no library at the path, or one that lacks a call."""
+
+    def __init__(self, path: str) -> None:
+        self.path = path
+        try:
+            held = ctypes.CDLL(path)
+            for name, words in (*CALLS.items(), *SIZES.items()):
+                setattr(self, name, self.call(held, name, SIZE if name in SIZES else NUMBER, AT, *words))
+            self.session_new = self.call(held, "session_new", NUMBER, NUMBER, NUMBER, NUMBER, AT)
+            self.session_free = self.call(held, "session_free", None, AT)
+            self.judge = self.call(held, "audit", None, AT, SIZE, AT)
+        except AttributeError as error:
+            raise OSError(f"{path} is no library of this package: {error}") from None
+
+    @staticmethod
+    def call(held: ctypes.CDLL, name: str, answer: Any, *words: Any) -> Any:
+        made = getattr(held, f"rudekpi_{name}")
+        made.argtypes, made.restype = words, answer
+        return made
+
+    def audit(self, at: int, size: int) -> Summary:
+        """The verdict on so many bytes at an address; raises `Damaged`, or `MemoryError`."""
+        verdict = Verdict()
+        self.judge(at, size, ctypes.addressof(verdict))
+        if not verdict.kind:
+            return Summary(verdict.entries, verdict.epochs, verdict.moves)
+        if verdict.kind not in DAMAGES:
+            raise MemoryError("no memory for an audit")
+        raise Damaged(verdict.line, DAMAGES[verdict.kind])
+
+    def audit_bytes(self, text: bytes, start: int = 0, end: Optional[int] = None) -> Summary:
+        """The verdict on a part of bytes, which are not copied."""
+        at: int = ctypes.cast(ctypes.c_char_p(text), AT).value  # type: ignore[assignment]
+        return self.audit(at + start, (len(text) if end is None else end) - start)
+
+    def audit_file(self, file: int, start: int, end: int) -> Summary:
+        """The verdict on a part of a file, by the number of an open one, which is not read as a whole."""
+        end = min(end, os.fstat(file).st_size)
+        if start >= end:
+            return self.audit_bytes(b"")
+        # such a mapping may be written to, which is what ctypes wants and nobody does
+        with mmap.mmap(file, end, access=mmap.ACCESS_COPY) as held:
+            first = ctypes.c_char.from_buffer(held)
+            try:
+                return self.audit(ctypes.addressof(first) + start, end - start)
+            finally:
+                del first
+
+
+@functools.lru_cache(maxsize=None)
+def loaded(path: str) -> Library:
+    return Library(path)
+
+
+def paths() -> list[str]:
+    """Where the library may be: that of the environment's RUDEKPI_LIBRARY, or else the one in the package, then the repository's."""
+    given = os.environ.get("RUDEKPI_LIBRARY")
+    if given:
+        return [os.path.abspath(given)]
+    return [os.path.join(PACKAGE, "bin", "librudekpi.so"), os.path.join(os.path.dirname(os.path.dirname(PACKAGE)), "release", "librudekpi.so")]
+
+
+def found_library() -> Optional[Library]:
+    """The library, or None where there is none, or none that this system loads."""
+    for path in paths():
+        if os.path.isfile(path):
+            try:
+                return loaded(path)
+            except OSError:
+                return None
+    return None
+
+
+def chosen(engine: Optional[str], program: Program) -> Optional[Library]:
+    """The library, where it is the engine; None where that is a program.
+
+    With no engine it is that of the environment's RUDEKPI_ENGINE, else the library where it is found and no program is given. Raises
+    `ValueError` for an engine that is none, or the library with a program, and `OSError` where the library is wanted and not found."""
+    engine = engine or (None if program else os.environ.get("RUDEKPI_ENGINE") or None)
+    if engine is None:
+        return None if program else found_library()
+    if engine not in ENGINES:
+        raise ValueError(f"an engine is 'library' or 'program', and not {engine!r}")
+    if engine == "program":
+        return None
+    if program:
+        raise ValueError("the engine 'library' runs no program")
+    for path in paths():
+        if os.path.isfile(path):
+            return loaded(path)
+    raise FileNotFoundError(f"no library at {' or '.join(paths())}: name one by RUDEKPI_LIBRARY")
