@@ -2,7 +2,7 @@
 
 from __future__ import annotations
 
-from typing import TYPE_CHECKING, Any, Callable, Generic, Optional, Sequence
+from typing import TYPE_CHECKING, Any, Generic, Optional, Sequence
 
 from .answers import CHECKPOINT
 from .choices import items_of
@@ -14,7 +14,6 @@ from .reading import (
 from .replies import Accepted, Base, Choice, Enabled, Fault, Matching, Moves, Name, Reply, Shown, Status, Turns
 
 if TYPE_CHECKING:
-    from .names import Names
     from .session import Session
 
 
@@ -37,17 +36,6 @@ class Pending(Generic[Reply]):
             self._session.wait(self)
         reply: Reply = self._session.reply(self)
         return reply
-
-
-class Done(Pending[Reply]):
-    """The answer to a command that was carried out at once."""
-
-    __slots__ = ("_names", "_make", "_given")
-    def __init__(self, names: Names, make: Callable[..., Reply], entry: int, given: Any) -> None:
-        self._names, self._make, self._entry, self._given = names, make, entry, given
-
-    def result(self) -> Reply:
-        return self._make(self._names, self._entry, self._given)
 
 
 class Batch:

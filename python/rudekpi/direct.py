@@ -6,22 +6,21 @@ import ctypes
 import os
 import threading
 import weakref
-from typing import Any, Callable, Optional
+from typing import Any, Callable, Optional, Tuple
 
-from .batch import Batch, Done
+from .batch import Batch
 from .choices import numbers_of
 from .errors import Ended, Refused, RudekpiError, text_of
-from .library import COUNTS, LOG_FULL, MOVES, NO_MEMORY, NO_SESSION, REFUSALS, REFUSED, ROW_NUMBERS, TOLD, Library, Slot
+from .library import (
+    COUNTS, ENTRY, LOG_FULL, MOVES, NO_MEMORY, NO_SESSION, REFUSAL, REFUSALS, REFUSED, ROW_NUMBERS, TARGET, TOLD_NUMBERS, TOLD_ROWS, Library, Slot,
+)
 from .names import Names
-from .numbers import MOST_SEED, MOST_TURNS, number_within
+from .numbers import MOST_NODES, MOST_SEED, MOST_TURNS, number_within
 from .reading import read_base, read_fault, read_moves
-from .replies import Accepted, Base, Choice, Enabled, Fault, Fixed, Matching, Move, Moves, Name, Shown, Status, Turns
+from .replies import Accepted, Base, Choice, Enabled, Fixed, Matching, Move, Moves, Name, Shown, Status, Turns
 
 SESSIONS: weakref.WeakSet[Direct] = weakref.WeakSet()
-# a slot that no session is ever in
-NONE = Slot()
 BELONGS = b"the network belongs to another process, of which this one is a child"
-told_of, counts_of = TOLD.unpack_from, COUNTS.unpack_from
 
 
 class Direct:
@@ -39,10 +38,12 @@ class Direct:
         self.is_closed, self.ended, self.entries = False, None, 0
         # what was taken over, how much of it counts, and the buffer into which it is taken now, with how much came, once it has
         self.held: tuple[bytearray, int, Any, list[int]] = (bytearray(), 0, b"", [])
-        self.told, self.counts = ctypes.create_string_buffer(TOLD.size), ctypes.create_string_buffer(COUNTS.size)
-        self.told_at, self.counts_at = ctypes.addressof(self.told), ctypes.addressof(self.counts)
-        self.slot, self.owner = Slot(), os.getpid()
-        self.at = ctypes.addressof(self.slot)
+        told, self.slot, self.owner = (ctypes.c_uint32 * TOLD_NUMBERS)(), Slot(), os.getpid()
+        # what the last call has told, as numbers of 32 bits and of 64
+        self.told = memoryview(told).cast("B").cast("I")
+        self.rows = memoryview(told).cast("B").cast("Q")
+        self.counts = (ctypes.c_uint32 * COUNTS)()
+        self.at, self.told_at, self.counts_at = ctypes.byref(self.slot), ctypes.byref(told), ctypes.byref(self.counts)
         if library.session_new(("hh", "manne").index(rules), names.count, present, self.at):
             raise MemoryError("no memory for a network")
         SESSIONS.add(self)
@@ -64,11 +65,10 @@ class Direct:
                 wanted = self.library.session_length(self.at)
                 if not wanted:
                     return
-                room = (ctypes.c_char * wanted)()
-                came = []
+                room, came = (ctypes.c_char * wanted)(), []
                 self.held = (said, size, room, came)
                 # one call of C, which has put the result into the list when the next instruction may be interrupted
-                came.extend(map(self.library.session_read, (self.at,), (ctypes.addressof(room),), (wanted,)))
+                came.extend(map(self.library.session_read, (self.at,), (room,), (ctypes.c_size_t(wanted),)))
 
     def kept(self) -> tuple[bytearray, int]:
         """All that is kept of the transcript, and how many bytes of it count."""
@@ -92,7 +92,7 @@ class Direct:
             raise self.ended or ValueError("the network is closed")
         if status == LOG_FULL:
             self.end(Ended(4, b"! log full"))
-            raise self.ended
+            raise self.ended  # type: ignore[misc]
         if status == NO_MEMORY:
             raise MemoryError("the command was not carried out, and the network is as it was")
         raise ValueError(f"the library takes no such numbers (status {status})")
@@ -112,16 +112,16 @@ class Direct:
     kill = close
 
     def leave(self) -> None:
-        """In a child of this process: nothing is called any more."""
-        self.lock = threading.RLock()
-        self.ended, self.at, self.is_closed = Ended(0, BELONGS), ctypes.addressof(NONE), True
+        """In a child of this process, which has a copy of the slot: it is empty from now on, and nothing is freed."""
+        self.lock, self.slot.full = threading.RLock(), False
+        self.ended, self.is_closed = Ended(0, BELONGS), True
 
     def tell(self, line: str) -> None:
         """Carries out a line of a script; behind one that writes several entries the status is asked, as is done with a program."""
         with self.lock:
             for event in (line, "status") if line.startswith(("drive ", "scramble ")) else (line,):
-                number, text = ctypes.c_uint64(), event.encode()
-                status = self.library.session_feed(self.at, text, len(text), ctypes.addressof(number))
+                text = event.encode()
+                status = self.library.session_feed(self.at, text, ctypes.c_size_t(len(text)), ctypes.byref(ctypes.c_uint64()))
                 if status:
                     self.raise_for(status)
             said, size = self.kept()
@@ -132,7 +132,7 @@ class Direct:
         """With whom a node is paired; 0 for nobody, and where it is not present."""
         found = ctypes.c_uint32()
         with self.lock:
-            self.library.partner(self.at, number, ctypes.addressof(found))
+            self.library.partner(self.at, number, ctypes.byref(found))
         return found.value
 
     def batch(self, raises: bool = True, keeps: bool = True) -> Batch:
@@ -148,21 +148,19 @@ if hasattr(os, "register_at_fork"):
     os.register_at_fork(after_in_child=leave_all)
 
 
-def raise_refusal(names: Names, entry: int, given: tuple[int, str]) -> Any:
-    raise refusal_of(names, entry, given)
+def raise_refusal(names: Names, entry: int, number: int, event: str) -> Any:
+    raise refusal_of(names, entry, number, event)
 
 
-def refusal_of(names: Names, entry: int, given: tuple[int, str]) -> Refused:
-    number, event = given
+def refusal_of(names: Names, entry: int, number: int, event: str) -> Refused:
     return Refused(names.told(event), number, REFUSALS[number - 1] if 0 < number <= len(REFUSALS) else "", entry)
 
 
-def accepted_of(names: Names, entry: int, _: Any) -> Accepted:
+def accepted_of(names: Names, entry: int) -> Accepted:
     return Accepted(entry)
 
 
-def shown_of(names: Names, entry: int, given: tuple[int, int]) -> Shown:
-    node, target = given
+def shown_of(names: Names, entry: int, node: int, target: int) -> Shown:
     return Shown(entry, names.name_of(node), names.name_of(target) if target else None)
 
 
@@ -178,18 +176,18 @@ def enabled_of(names: Names, entry: int, rows: list[int]) -> Enabled:
 
 def matching_of(names: Names, entry: int, rows: list[int]) -> Matching:
     pairs = tuple(zip(map(names.name_of, rows[::3]), map(names.name_of, rows[2::3])))
-    partners = dict(pairs)
-    partners.update((b, a) for a, b in pairs)
+    partners = {}
+    for a, b in pairs:
+        partners[a], partners[b] = b, a
     return Matching(entry, pairs, Fixed(partners))
 
 
-def status_of(names: Names, entry: int, counts: tuple[int, ...]) -> Status:
+def status_of(names: Names, entry: int, counts: list[int]) -> Status:
     return Status(entry, *counts)
 
 
-def turns_of(names: Names, entry: int, given: Any) -> Turns[Any]:
+def turns_of(names: Names, entry: int, read: Callable[..., Any], lines: bytes, counts: list[int]) -> Turns[Any]:
     """The turns of a `drive` or `scramble`, out of their entries' lines, with the status behind them."""
-    read, lines, counts = given
     turns = []
     for line in text_of(lines).splitlines():
         number, _, rest = line.partition(" ")
@@ -202,121 +200,147 @@ def base_of(names: Names, entry: int, lines: bytes) -> Base:
     return read_base(names, entry, "", text_of(lines).rstrip("\n"))
 
 
+class Done(Tuple[Any, ...]):
+    """The answer to a command that was carried out: what makes the reply, and of what. A tuple is made in the least time."""
+
+    __slots__ = ()
+
+    def result(self) -> Any:
+        make, *given = self
+        return make(*given)
+
+
 class DirectBatch(Batch):
     """Commands that are carried out one by one, as they are asked: their answers are there."""
 
     _session: Any
 
+    def __init__(self, session: Any, raises: bool = True, keeps: bool = True) -> None:
+        super().__init__(session, raises, keeps)
+        self._names, self._has_numbers, self._show = session.names, session.names.own is None, session.library.show
+
     def __exit__(self, kind: Any, *_: Any) -> None:
         if not kind and self._raises and self.refusals:
             raise self.refusals[0]
 
-    def _done(self, make: Callable[..., Any], status: int, entry: int, given: Any, refusal: int, event: str) -> Done[Any]:
-        """The answer of a call; raises what its status says, where there is no answer."""
-        session = self._session
-        if status == 0:
-            session.entries = entry
-            return Done(session.names, make, entry, given)
+    def _refused(self, status: int, entry: int, refusal: int, event: str) -> Any:
+        """The answer of a call that was refused; raises what its status says, where there is no answer."""
         if status != REFUSED:
-            session.raise_for(status)
-        session.entries = entry
+            self._session.raise_for(status)
+        self._session.entries = entry
         if self._kept is not None:
-            self._kept.append(refusal_of(session.names, entry, (refusal, event)))
-        return Done(session.names, raise_refusal, entry, (refusal, event))
+            self._kept.append(refusal_of(self._names, entry, refusal, event))
+        return Done((raise_refusal, self._names, entry, refusal, event))
 
-    def _edit(self, word: str, *numbers: int) -> Done[Accepted]:
+    def show(self, node: Name) -> Any:
         session = self._session
-        call = getattr(session.library, word)
+        # what `_number` says of a plain number, at a third of its time
+        number = node if self._has_numbers and type(node) is int and 0 < node <= MOST_NODES else self._number(node)
+        told = session.told
+        with session.lock:
+            status = self._show(session.at, number, session.told_at)
+            entry, target = told[ENTRY], told[TARGET]
+            refusal = told[REFUSAL] if status else 0
+        if status:
+            return self._refused(status, entry, refusal, f"show {number}")
+        session.entries = entry
+        return Done((shown_of, self._names, entry, number, target))
+
+    def _edit(self, word: str, *numbers: int) -> Any:
+        session = self._session
+        call, told = getattr(session.library, word), session.told
         with session.lock:
             status = call(session.at, *numbers, session.told_at)
-            entry, refusal, _, _ = told_of(session.told)
-        if status == 0:
-            session.entries = entry
-            return Done(session.names, accepted_of, entry, None)
-        # the pointer that is null is no number in a line
-        written = [str(number) if number or word == "flag" else "-" for number in numbers]
-        return self._done(accepted_of, status, entry, None, refusal, " ".join([word, *written]))
+            entry, refusal = told[ENTRY], told[REFUSAL]
+        if status:
+            # the pointer that is null is no number in a line
+            written = [str(number) if number or word == "flag" else "-" for number in numbers]
+            return self._refused(status, entry, refusal, " ".join([word, *written]))
+        session.entries = entry
+        return Done((accepted_of, self._names, entry))
 
-    def link(self, a: Name, b: Name) -> Done[Accepted]:
+    def link(self, a: Name, b: Name) -> Any:
         return self._edit("link", self._number(a), self._number(b))
-    def unlink(self, a: Name, b: Name) -> Done[Accepted]:
+    def unlink(self, a: Name, b: Name) -> Any:
         return self._edit("unlink", self._number(a), self._number(b))
-    def flag(self, node: Name, value: bool) -> Done[Accepted]:
+    def flag(self, node: Name, value: bool) -> Any:
         return self._edit("flag", self._number(node), number_within(value, 1, "a flag"))
-    def join(self, node: Name) -> Done[Accepted]:
+    def join(self, node: Name) -> Any:
         return self._edit("join", self._number(node))
-    def leave(self, node: Name) -> Done[Accepted]:
+    def leave(self, node: Name) -> Any:
         return self._edit("leave", self._number(node))
 
-    def point(self, node: Name, target: Optional[Name]) -> Done[Accepted]:
+    def point(self, node: Name, target: Optional[Name]) -> Any:
         return self._edit("point", self._number(node), 0 if target is None else self._number(target))
 
-    def show(self, node: Name) -> Done[Shown]:
-        session, number = self._session, self._number(node)
-        with session.lock:
-            status = session.library.show(session.at, number, session.told_at)
-            entry, refusal, target, _ = told_of(session.told)
-        if status == 0:
-            session.entries = entry
-            return Done(session.names, shown_of, entry, (number, target))
-        return self._done(shown_of, status, entry, None, refusal, f"show {number}")
-
-    def step(self, choice: Choice) -> Done[Moves]:
-        items = numbers_of(choice, self._number)
-        flat = [number for item in items for number in item]
-        room = (ctypes.c_uint32 * len(flat))(*flat)
-        event = lambda: " ".join(["step", *(f"{node}>{wish}" if wish else str(node) for node, wish in items)])
-        return self._listed(moves_of, "step", event, ctypes.addressof(room), len(items))
-
-    def enabled(self) -> Done[Enabled]:
-        return self._listed(enabled_of, "enabled", lambda: "enabled")
-    def matching(self) -> Done[Matching]:
-        return self._listed(matching_of, "pairs", lambda: "matching")
-
-    def _listed(self, make: Callable[..., Any], call: str, event: Callable[[], str], *words: int) -> Done[Any]:
+    def _listed(self, make: Callable[..., Any], call: str, event: Callable[[], str], *words: Any) -> Any:
         """A call whose answer has rows, which are fetched before another call comes."""
         session = self._session
         with session.lock:
             status = getattr(session.library, call)(session.at, *words, session.told_at)
-            entry, refusal, _, count = told_of(session.told)
+            entry, refusal, count = session.told[ENTRY], session.told[REFUSAL], session.rows[TOLD_ROWS]
             room = (ctypes.c_uint32 * (ROW_NUMBERS * count))()
             if count:
-                session.library.rows(session.at, ctypes.addressof(room), count)
-        return self._done(make, status, entry, room[:], refusal, event() if refusal else "")
+                session.library.rows(session.at, room, ctypes.c_size_t(count))
+        if status:
+            return self._refused(status, entry, refusal, event())
+        session.entries = entry
+        return Done((make, self._names, entry, room[:]))
 
-    def status(self) -> Done[Status]:
+    def step(self, choice: Choice) -> Any:
+        items = numbers_of(choice, self._number)
+        room = (ctypes.c_uint32 * (2 * len(items)))(*(number for item in items for number in item))
+
+        def event() -> str:
+            return " ".join(["step", *(f"{node}>{wish}" if wish else str(node) for node, wish in items)])
+
+        return self._listed(moves_of, "step", event, room, ctypes.c_size_t(len(items)))
+
+    def enabled(self) -> Any:
+        return self._listed(enabled_of, "enabled", lambda: "enabled")
+    def matching(self) -> Any:
+        return self._listed(matching_of, "pairs", lambda: "matching")
+
+    def _standing(self) -> tuple[int, list[int]]:
+        """The entry of a `status`, and what it says."""
         session = self._session
         with session.lock:
             status = session.library.status(session.at, session.counts_at, session.told_at)
-            entry, counts = told_of(session.told)[0], counts_of(session.counts)
-        return self._done(status_of, status, entry, counts, 0, "status")
+            entry, counts = session.told[ENTRY], session.counts[:]
+        if status:
+            session.raise_for(status)
+        session.entries = entry
+        return entry, counts
 
-    def drive(self, seed: int, turns: int) -> Done[Turns[Moves]]:
+    def status(self) -> Any:
+        entry, counts = self._standing()
+        return Done((status_of, self._names, entry, counts))
+
+    def drive(self, seed: int, turns: int) -> Any:
         return self._turned("drive", read_moves, seed, turns)
-    def scramble(self, seed: int, faults: int) -> Done[Turns[Fault]]:
+    def scramble(self, seed: int, faults: int) -> Any:
         return self._turned("scramble", read_fault, seed, faults)
 
-    def _turned(self, word: str, read: Callable[..., Any], seed: int, turns: int) -> Done[Any]:
+    def _turned(self, word: str, read: Callable[..., Any], seed: int, turns: int) -> Any:
         """Many entries, of which the turns are read from the transcript, and the status behind them."""
         session = self._session
-        numbers = (number_within(seed, MOST_SEED, "a seed"), number_within(turns, MOST_TURNS, "a number of turns"))
+        numbers = ctypes.c_uint64(number_within(seed, MOST_SEED, "a seed")), number_within(turns, MOST_TURNS, "a number of turns")
         with session.lock:
             lines = self._written(getattr(session.library, word), *numbers)
-            status = session.library.status(session.at, session.counts_at, session.told_at)
-            entry, counts = told_of(session.told)[0], counts_of(session.counts)
-        return self._done(turns_of, status, entry, (read, lines, counts), 0, "status")
+            entry, counts = self._standing()
+        return Done((turns_of, self._names, entry, read, lines, counts))
 
-    def checkpoint(self) -> Done[Base]:
+    def checkpoint(self) -> Any:
         session = self._session
         with session.lock:
             lines = self._written(session.library.checkpoint)
-            entry = told_of(session.told)[0]
+            entry = session.told[ENTRY]
             if not session.keeps:
                 # another object than before, so that what is known of its places is known to be over
                 session.held = (bytearray(lines), len(lines), b"", [])
-        return self._done(base_of, 0, entry, lines, 0, "checkpoint")
+        return Done((base_of, self._names, entry, lines))
 
-    def _written(self, call: Callable[..., int], *words: int) -> bytes:
+    def _written(self, call: Callable[..., int], *words: Any) -> bytes:
         """What a call has written; raises what its status says."""
         session = self._session
         before = session.kept()[1]

@@ -6,7 +6,6 @@ import ctypes
 import functools
 import mmap
 import os
-import struct
 from typing import Any, Optional
 
 from .errors import Damaged
@@ -23,9 +22,10 @@ REFUSALS = (
 MOVES = ("", "update", "marry", "seduce", "abandon")
 DAMAGES = {1: "bad header", 2: "not a transcript line", 3: "out of order", 4: "not the machine's reply", 5: "bad base"}
 
-# what rudekpi_told has: the entry, the refusal, the target and how many rows; and the sizes of it, rudekpi_counts and rudekpi_row
-TOLD = struct.Struct("@IIIN")
-COUNTS = struct.Struct("@6I")
+# of rudekpi_told the numbers of 32 bits; its rows are one of 64 bits behind them
+TOLD_NUMBERS, TOLD_ROWS = 6, 2
+ENTRY, REFUSAL, TARGET = range(3)
+COUNTS = 6
 ROW_NUMBERS = 3
 
 
@@ -37,14 +37,14 @@ class Verdict(ctypes.Structure):
     _fields_ = [(name, ctypes.c_uint32) for name in ("kind", "entries", "epochs")] + [(name, ctypes.c_uint64) for name in ("moves", "line")]
 
 
-# what calls take behind the slot, whose address comes first
-AT, NUMBER, LONG, SIZE, BIT = ctypes.c_void_p, ctypes.c_uint32, ctypes.c_uint64, ctypes.c_size_t, ctypes.c_bool
-CALLS: dict[str, tuple[Any, ...]] = {
-    "link": (NUMBER, NUMBER, AT), "unlink": (NUMBER, NUMBER, AT), "join": (NUMBER, AT), "leave": (NUMBER, AT), "point": (NUMBER, NUMBER, AT),
-    "flag": (NUMBER, BIT, AT), "step": (AT, SIZE, AT), "show": (NUMBER, AT), "enabled": (AT,), "pairs": (AT,), "status": (AT, AT),
-    "drive": (LONG, NUMBER, AT), "scramble": (LONG, NUMBER, AT), "checkpoint": (AT,), "partner": (NUMBER, AT), "session_feed": (ctypes.c_char_p, SIZE, AT),
-}
-SIZES: dict[str, tuple[Any, ...]] = {"rows": (AT, SIZE), "session_length": (), "session_read": (AT, SIZE)}
+# the calls of a session. They are called with references and numbers below 2^31, or with numbers that are wrapped, for which ctypes
+# wants no types: to convert to them would take as long as the call
+CALLS = (
+    "session_new", "session_feed", "link", "unlink", "join", "leave", "point", "flag", "step", "show", "enabled", "pairs", "status", "drive",
+    "scramble", "checkpoint", "partner",
+)
+SIZES = ("rows", "session_length", "session_read")
+NONE = ("session_free",)
 
 
 class Library:
@@ -54,21 +54,20 @@ class Library:
 
     def __init__(self, path: str) -> None:
         self.path = path
+        held = ctypes.CDLL(path)
         try:
-            held = ctypes.CDLL(path)
-            for name, words in (*CALLS.items(), *SIZES.items()):
-                setattr(self, name, self.call(held, name, SIZE if name in SIZES else NUMBER, AT, *words))
-            self.session_new = self.call(held, "session_new", NUMBER, NUMBER, NUMBER, NUMBER, AT)
-            self.session_free = self.call(held, "session_free", None, AT)
-            self.judge = self.call(held, "audit", None, AT, SIZE, AT)
+            for names, answer in ((CALLS, ctypes.c_uint32), (SIZES, ctypes.c_size_t), (NONE, None)):
+                for name in names:
+                    made = getattr(held, f"rudekpi_{name}")
+                    made.restype = answer
+                    setattr(self, name, made)
+            self.judge = held.rudekpi_audit
         except AttributeError as error:
             raise OSError(f"{path} is no library of this package: {error}") from None
+        self.judge.argtypes, self.judge.restype = (ctypes.c_void_p, ctypes.c_size_t, ctypes.c_void_p), None
 
-    @staticmethod
-    def call(held: ctypes.CDLL, name: str, answer: Any, *words: Any) -> Any:
-        made = getattr(held, f"rudekpi_{name}")
-        made.argtypes, made.restype = words, answer
-        return made
+    def __getattr__(self, name: str) -> Any:
+        raise AttributeError(name)
 
     def audit(self, at: int, size: int) -> Summary:
         """The verdict on so many bytes at an address; raises `Damaged`, or `MemoryError`."""
@@ -82,7 +81,7 @@ class Library:
 
     def audit_bytes(self, text: bytes, start: int = 0, end: Optional[int] = None) -> Summary:
         """The verdict on a part of bytes, which are not copied."""
-        at: int = ctypes.cast(ctypes.c_char_p(text), AT).value  # type: ignore[assignment]
+        at: int = ctypes.cast(ctypes.c_char_p(text), ctypes.c_void_p).value  # type: ignore[assignment]
         return self.audit(at + start, (len(text) if end is None else end) - start)
 
     def audit_file(self, file: int, start: int, end: int) -> Summary:

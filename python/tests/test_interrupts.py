@@ -79,7 +79,7 @@ class EachInstruction(Timed):
         self.cut_everywhere(lambda net: net.show(2), lambda net: self.assertEqual((net.show(1).node, net.status().edges), (1, 0)), made=made)
         shown = net.transcript().count("show 2 = -\n")
         net.close()
-        self.assertGreater(shown, 100, "some were cut in front of what asks, and some behind it")
+        self.assertGreater(shown, 50, "some were cut in front of what asks, and some behind it")
         audit(net.transcript())
 
     def test_of_a_link(self):
