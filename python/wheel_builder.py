@@ -1,4 +1,4 @@
-"""Makes the wheel of the package `rudekpi` beside it, with the program of release/ in it: what pip calls by pyproject.toml.
+"""Makes the wheel of the package `rudekpi` beside it, with the program and the library of release/ in it: what pip calls by pyproject.toml.
 
 It stands on the standard library alone: so `pip install ./python` needs no index, where setuptools would have to be fetched, as a fresh
 environment has none. The same files make the same wheel to the byte. The program is for Linux on x86-64 with glibc 2.34 or later; where
@@ -16,7 +16,7 @@ import zipfile
 
 HERE = pathlib.Path(__file__).resolve().parent
 PACKAGE = HERE / "rudekpi"
-PROGRAM = "rudekpi/bin/console"
+PROGRAM, LIBRARY = "rudekpi/bin/console", "rudekpi/bin/librudekpi.so"
 GLIBC = (2, 34)
 WITH_PROGRAM, WITHOUT = "py3-none-manylinux_2_34_x86_64", "py3-none-any"
 METADATA = """\
@@ -67,6 +67,18 @@ def program():
     return found
 
 
+def library():
+    """The shared library of release/, whole, by its name in the package; nothing where there is none."""
+    try:
+        path, told = beside("release/librudekpi.so"), beside("release/LIBRARY_MADE_FROM").read_text()
+    except FileNotFoundError:
+        return {}
+    found = path.read_bytes()
+    if f"\nlibrudekpi.so {hashlib.sha256(found).hexdigest()}\n" not in told:
+        raise ValueError("release/librudekpi.so is not the library of which release/LIBRARY_MADE_FROM tells")
+    return {LIBRARY: found}
+
+
 def runs_here():
     libc, number = platform.libc_ver()
     is_new = libc == "glibc" and tuple(map(int, number.split(".")[:2])) >= GLIBC
@@ -115,7 +127,7 @@ def write_wheel(folder, tag, files):
 def make_wheel(folder, has_program):
     """Writes the wheel of the package, and gives its name."""
     if has_program:
-        return write_wheel(folder, WITH_PROGRAM, {**contents(), PROGRAM: program()})
+        return write_wheel(folder, WITH_PROGRAM, {**contents(), PROGRAM: program(), **library()})
     return write_wheel(folder, WITHOUT, contents())
 
 
@@ -136,7 +148,8 @@ def build_sdist(sdist_directory, config_settings=None):
     top = f"rudekpi-{version()}"
     files = {**sources(), "PKG-INFO": METADATA.format(version=version()).encode()}
     files.update({name: (HERE / name).read_bytes() for name in ("pyproject.toml", "wheel_builder.py")})
-    files.update({name: beside(name).read_bytes() for name in ("LICENSE", "release/console", "release/MADE_FROM")})
+    released = ["release/console", "release/MADE_FROM", *(["release/librudekpi.so", "release/LIBRARY_MADE_FROM"] if library() else [])]
+    files.update({name: beside(name).read_bytes() for name in ("LICENSE", *released)})
     files.update({name: path.read_bytes() for name, path in page_maker().items()})
     with tarfile.open(os.path.join(sdist_directory, f"{top}.tar.gz"), "w:gz") as archive:
         for name, content in files.items():
