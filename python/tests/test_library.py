@@ -1,0 +1,295 @@
+"""The library as an engine: where it is found, that it says what the program says, threads, interrupts between them, children of this
+process, and networks that nobody closes."""
+
+import gc
+import os
+import pathlib
+import random
+import resource
+import signal
+import subprocess
+import sys
+import threading
+import time
+import unittest
+import weakref
+from unittest import mock
+
+from rudekpi import Damaged, Ended, Network, Refused, audit, library
+from support import TOP, Timed, play, told
+
+
+class Cut(BaseException):
+    """What the interrupts of these tests raise."""
+
+
+class Chosen(Timed):
+    """Which engine plays."""
+
+    def test_by_the_argument_and_the_environment(self):
+        for engine in ("program", "library"):
+            if engine == "library" and not library.found_library():
+                continue
+            with self.subTest(engine), Network("hh", 2, engine=engine) as net:
+                self.assertEqual(net.engine, engine)
+            with mock.patch.dict(os.environ, RUDEKPI_ENGINE=engine), Network("hh", 2) as net:
+                self.assertEqual(net.engine, engine)
+        with Network("hh", 2, program=os.environ["RUDEKPI_CONSOLE"]) as net:
+            self.assertEqual(net.engine, "program")
+        with mock.patch.dict(os.environ, RUDEKPI_ENGINE=""), Network("hh", 2) as net:
+            self.assertEqual(net.engine, "library" if library.found_library() else "program")
+
+    def test_that_is_none(self):
+        self.assertRaisesRegex(ValueError, "an engine is", Network, "hh", 2, engine="pipe")
+        self.assertRaisesRegex(ValueError, "runs no program", Network, "hh", 2, engine="library", program="console")
+        self.assertRaisesRegex(ValueError, "an engine is", audit, "matching hh 2\n", engine="pipe")
+
+    def test_a_library_that_is_none(self):
+        path = pathlib.Path(self.folder(), "librudekpi.so")
+        with mock.patch.dict(os.environ, RUDEKPI_LIBRARY=str(path), RUDEKPI_ENGINE=""):
+            self.assertRaisesRegex(FileNotFoundError, str(path), Network, "hh", 2, engine="library")
+            path.write_bytes(b"no library")
+            self.assertRaises(OSError, Network, "hh", 2, engine="library")
+            with Network("hh", 2) as net:
+                self.assertEqual(net.engine, "program")
+
+    def test_a_library_that_lacks_calls(self):
+        libc = next((line.split()[-1] for line in pathlib.Path("/proc/self/maps").read_text().splitlines() if "/libc.so" in line or "/libc-" in line), None)
+        if libc is None:
+            self.skipTest("no libc.so")
+        with mock.patch.dict(os.environ, RUDEKPI_LIBRARY=libc):
+            self.assertRaisesRegex(OSError, "is no library of this package", Network, "hh", 2, engine="library")
+
+
+class Same(Timed):
+    """Both engines say the same."""
+
+    engines = ("library",)
+    seconds = 120
+
+    def lines(self, drawn, nodes):
+        """The lines of a random script."""
+        node = lambda: drawn.randint(1, nodes + 1)
+        kinds = [
+            lambda: f"link {node()} {node()}", lambda: f"link {node()} {node()}", lambda: f"unlink {node()} {node()}", lambda: f"flag {node()} {drawn.randint(0, 1)}",
+            lambda: f"point {node()} {drawn.choice(['-', node()])}", lambda: f"join {node()}", lambda: f"leave {node()}", lambda: f"show {node()}",
+            lambda: "step " + " ".join(drawn.choice([f"{node()}", f"{node()}>{node()}"]) for _ in range(drawn.randint(1, 3))),
+            lambda: "enabled", lambda: "matching", lambda: "status", lambda: "checkpoint", lambda: f"drive {drawn.randint(0, 2**64 - 1)} {drawn.randint(0, 9)}",
+            lambda: f"scramble {drawn.randint(0, 9)} {drawn.randint(0, 5)}",
+        ]
+        return [drawn.choice(kinds)() for _ in range(drawn.randint(1, 60))]
+
+    def test_random_scripts(self):
+        for seed in range(60):
+            drawn = random.Random(seed)
+            nodes, rules, keep = drawn.randint(1, 8), drawn.choice(["hh", "manne"]), drawn.random() < 0.7
+            names = drawn.choice([nodes, [f"n{number}" for number in range(nodes)]])
+            name = int if names == nodes else (lambda text: f"n{int(text) - 1}")
+            lines, found = self.lines(drawn, nodes), []
+            if names != nodes:
+                # a name that is none is told by the client itself
+                lines = [line for line in lines if str(nodes + 1) not in line.replace(">", " ").split(" ")[1:] or line.startswith(("drive", "scramble"))]
+            for engine in library.ENGINES:
+                with Network(rules, names, present=drawn.randint(0, 0) or nodes - nodes // 3, engine=engine, keep=keep) as net:
+                    said = [told(lambda: play(net, line, name)) for line in lines]
+                    found.append(([repr(it) for it in said], net.edges, net.present, [net.partner(it) for it in net.present], net.transcript()))
+            with self.subTest(seed=seed):
+                self.assertEqual(*found)
+                self.assertEqual(audit(found[0][-1]), audit(found[0][-1], engine="program"))
+
+    def test_in_batches(self):
+        for seed in range(20):
+            drawn = random.Random(seed)
+            lines, found = self.lines(drawn, 6), []
+            for engine in library.ENGINES:
+                with Network("manne", 6, engine=engine) as net:
+                    with net.batch(raises=False) as batch:
+                        asked = [play(batch, line) for line in lines]
+                    found.append(([repr(told(it.result)) for it in asked], [repr(it) for it in batch.refusals], net.transcript()))
+            with self.subTest(seed=seed):
+                self.assertEqual(*found)
+
+    def test_verdicts_on_damaged_ones(self):
+        drawn, whys = random.Random(2), set()
+        with Network("manne", 9) as net:
+            with net.batch() as batch:
+                for node in range(1, 9):
+                    batch.link(node, node + 1)
+                for turn in range(6):
+                    batch.scramble(turn, 6)
+                    batch.drive(turn, 20)
+                    batch.checkpoint()
+            whole = net.transcript().encode()
+
+        def verdict(text, engine):
+            try:
+                return audit(text, engine=engine)
+            except Damaged as damaged:
+                whys.add(damaged.why)
+                return damaged.line, damaged.why
+
+        for turn in range(150):
+            at, other = drawn.randrange(len(whole)), bytes([drawn.choice(b"0123456789 -=>:\nabe")])
+            text = whole[:at] + drawn.choice([other + whole[at + 1 :], whole[at + 1 :], other + whole[at:]])
+            with self.subTest(turn):
+                self.assertEqual(verdict(text, "library"), verdict(text, "program"))
+        self.assertEqual(whys, {"not a transcript line", "out of order", "not the machine's reply", "bad base"})
+        for text in (b"", b"x", "matching hh 2\n", bytearray(b"matching hh 2\n"), memoryview(b"matching hh 2\n1 show 1 = 2\n")):
+            self.assertEqual(verdict(text, "library"), verdict(text, "program"))
+
+
+class Threads(Timed):
+    engines = ("library",)
+
+    def in_threads(self, call, count=4):
+        """Lets threads call, each with its number, and raises what one raises."""
+        raised = []
+
+        def called(number):
+            try:
+                call(number)
+            except BaseException as error:
+                raised.append(error)
+
+        threads = [threading.Thread(target=called, args=(number,)) for number in range(count)]
+        for thread in threads:
+            thread.start()
+        for thread in threads:
+            thread.join()
+        if raised:
+            raise raised[0]
+
+    def test_each_with_a_session(self):
+        said = {}
+
+        def call(number):
+            with Network("manne", 30) as net:
+                for turn in range(20):
+                    told(lambda: net.link(1 + turn, 2 + turn))
+                    net.scramble(number, 10)
+                    net.drive(number, 50)
+                said[number] = net.transcript()
+
+        self.in_threads(call)
+        together = dict(said)
+        for number in range(4):
+            call(number)
+        self.assertEqual(said, together)
+
+    def test_one_session_of_several(self):
+        with Network("manne", 40) as net:
+            def call(number):
+                for turn in range(150):
+                    a, b = random.Random(f"{number} {turn}").sample(range(1, 41), 2)
+                    linked = told(lambda: net.link(a, b))
+                    if isinstance(linked, Refused) and linked.number != 3:
+                        raise AssertionError(linked)
+                    enabled = net.enabled()
+                    self.assertTrue(all(rule in library.MOVES for rule in enabled.values()))
+                    self.assertEqual(net.show(a).node, a)
+                    if turn % 30 == 0:
+                        self.assertEqual(len(net.scramble(number, 7)), 7)
+                        net.checkpoint()
+
+            self.in_threads(call)
+            last = net.status().entry
+        self.assertEqual(net.audit().entries, last)
+        entries = [int(line.split(" ")[0]) for line in net.transcript().splitlines() if line[0].isdigit()]
+        self.assertEqual(entries, list(range(1, last + 1)))
+
+    def test_a_lock_is_not_lost_by_interrupts(self):
+        net, is_done, count = Network("hh", 3), [False], [0]
+
+        def ask():
+            while not is_done[0]:
+                net.show(2)
+                count[0] += 1
+
+        def handler(*_):
+            raise Cut
+
+        self.addCleanup(signal.signal, signal.SIGVTALRM, signal.signal(signal.SIGVTALRM, handler))
+        other = threading.Thread(target=ask)
+        other.start()
+        drawn, cut = random.Random(3), 0
+        for _ in range(300):
+            try:
+                signal.setitimer(signal.ITIMER_VIRTUAL, 1e-4 + drawn.random() * 1e-3)
+                while True:
+                    net.show(1)
+            except Cut:
+                cut += 1
+        before = count[0]
+        last = time.monotonic() + 10
+        while count[0] < before + 10 and time.monotonic() < last:
+            time.sleep(0.01)
+        self.assertGreaterEqual(count[0], before + 10, "the other thread still gets the lock")
+        is_done[0] = True
+        other.join(10)
+        self.assertFalse(other.is_alive())
+        net.close()
+        self.assertEqual((cut, net.audit().entries), (300, net.transcript().count(" = ")))
+
+
+class Memory(Timed):
+    engines = ("library",)
+
+    def test_networks_that_nobody_closes(self):
+        before = resource.getrusage(resource.RUSAGE_SELF).ru_maxrss
+        for _ in range(150):
+            net = Network("manne", 65_535)
+            session = weakref.ref(net._session)
+            # half of them in a cycle
+            net.me = net if _ % 2 else None
+            del net
+            gc.collect() if _ % 2 else None
+            self.assertIsNone(session())
+        # a network of so many names takes some 3 MB
+        self.assertLess(resource.getrusage(resource.RUSAGE_SELF).ru_maxrss - before, 100_000)
+
+    def test_a_session_of_weeks(self):
+        with Network("hh", 3, keep=False) as net:
+            net.link(1, 2)
+            before = resource.getrusage(resource.RUSAGE_SELF).ru_maxrss
+            for turn in range(40):
+                # the turns are entries of some 15 bytes
+                net._session.tell(f"scramble {turn} 100000")
+                net.checkpoint()
+                self.assertLess(net._session.kept()[1], 1000)
+            self.assertLess(resource.getrusage(resource.RUSAGE_SELF).ru_maxrss - before, 60_000)
+            self.assertEqual(net.status().entry, 4_000_042)
+            self.assertEqual(net.audit().entries, 1)
+
+    def test_at_the_end_of_the_process(self):
+        uses = "import rudekpi; net = rudekpi.Network('hh', 2); net.link(1, 2); net.me = net; print(net.engine)"
+        environment = dict(os.environ, PYTHONPATH=os.path.join(TOP, "python"))
+        done = subprocess.run([sys.executable, "-X", "dev", "-W", "error", "-c", uses], env=environment, capture_output=True, text=True)
+        self.assertEqual((done.returncode, done.stdout, done.stderr), (0, "library\n", ""))
+
+    def test_a_child_of_this_process_asks_nothing(self):
+        with Network("hh", 2) as net:
+            batch = net.batch()
+            go, come = os.pipe()
+            child = os.fork()
+            if child == 0:
+                said = []
+                for call in (net.status, lambda: net.link(1, 2), lambda: batch.show(1), net.checkpoint, lambda: net.drive(1, 1)):
+                    try:
+                        call()
+                        said.append("answered")
+                    except Ended as ended:
+                        said.append(ended.last_line)
+                with Network("hh", 2) as own:
+                    said.append(str(own.link(1, 2).entry))
+                os.write(come, "\n".join(said).encode())
+                os._exit(0)
+            os.waitpid(child, 0)
+            belongs = "the network belongs to another process, of which this one is a child"
+            self.assertEqual(os.read(go, 1000).decode().split("\n"), [belongs] * 5 + ["1"])
+            self.assertEqual(net.link(1, 2).entry, 1)
+        os.close(go)
+        os.close(come)
+
+
+if __name__ == "__main__":
+    unittest.main()
