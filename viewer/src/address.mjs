@@ -4,11 +4,12 @@
 const LEAST_GAP = 400;
 
 export class Address {
-  /** `goTo` is called where somebody writes another number there. */
-  constructor(goTo) {
+  /** `goTo` is called where somebody writes another number there, until `signal` ends it. */
+  constructor(goTo, signal) {
     Object.assign(this, { written: -Infinity, timer: null, number: null });
-    addEventListener("hashchange", () => goTo(this.entry));
-    addEventListener("pagehide", () => this.write());
+    addEventListener("hashchange", () => goTo(this.entry), { signal });
+    addEventListener("pagehide", () => this.write(), { signal });
+    signal.addEventListener("abort", () => clearTimeout(this.timer));
   }
 
   /** The number that stands there, 0 where there is none. */

@@ -3,6 +3,10 @@
 // so many pixels may a finger stray that taps
 const SLACK = 6;
 
+function placeOf(event) {
+  return { x: event.clientX, y: event.clientY, finger: event.pointerType === "touch" };
+}
+
 function middle([one, other = one]) {
   return { x: (one.x + other.x) / 2, y: (one.y + other.y) / 2 };
 }
@@ -12,13 +16,14 @@ function spread([one, other]) {
 }
 
 export class Gestures {
-  /** `handlers` are `hover(place)`, `leave()`, `tap(place)`, `drag(from, to)` and `pinch(factor, from, to)`. */
+  /** `handlers` are `hover(place)`, `leave()`, `tap(place)`, `drag(from, to)` and `pinch(factor, from, to)`; where they are wanted,
+   * `press(place)` before a tap or drag, and `drop(place)` behind a drag by one finger. */
   constructor(element, handlers) {
     Object.assign(this, { element, handlers, held: new Map(), start: null, strayed: false });
     element.addEventListener("pointerdown", (event) => this.press(event));
     element.addEventListener("pointermove", (event) => this.move(event));
     element.addEventListener("pointerup", (event) => this.release(event));
-    element.addEventListener("pointercancel", (event) => this.held.delete(event.pointerId));
+    element.addEventListener("pointercancel", (event) => this.cancel(event));
     element.addEventListener("pointerleave", () => this.held.size === 0 && handlers.leave());
     // two fingers are the element's own, and the page does not scroll under them
     for (const kind of ["touchstart", "touchmove"]) {
@@ -34,10 +39,11 @@ export class Gestures {
     this.start = { x: event.clientX, y: event.clientY };
     this.held.set(event.pointerId, this.start);
     this.element.setPointerCapture(event.pointerId);
+    this.handlers.press?.(this.held.size === 1 ? placeOf(event) : null);
   }
 
   move(event) {
-    const place = { x: event.clientX, y: event.clientY };
+    const place = placeOf(event);
     if (!this.held.has(event.pointerId)) {
       if (event.pointerType === "mouse" && this.held.size === 0) {
         this.handlers.hover(place);
@@ -60,8 +66,18 @@ export class Gestures {
 
   release(event) {
     const known = this.held.delete(event.pointerId);
-    if (known && !this.strayed && this.held.size === 0) {
-      this.handlers.tap({ x: event.clientX, y: event.clientY });
+    if (!known || this.held.size > 0) {
+      return;
     }
+    if (this.strayed) {
+      this.handlers.drop?.(placeOf(event));
+    } else {
+      this.handlers.tap(placeOf(event));
+    }
+  }
+
+  cancel(event) {
+    this.held.delete(event.pointerId);
+    this.handlers.press?.(null);
   }
 }

@@ -3,9 +3,23 @@ import { byId } from "./svg.mjs";
 
 const REPLAYED = "What is shown is replayed by this page, which is tested and not proved.";
 
+const HERE = "the audit inside this page, which is the proved one compiled by a way of our own: tested, not proved for this target";
+
+/** Who judged: the program that the page's maker named, or the page itself where a transcript was opened in it. */
+function judgeOf({ program, own, here }) {
+  if (here) {
+    return HERE;
+  }
+  return own ? `Rudekpi's ${program} audit` : `${program} audit, which whoever made this page named, and of which nothing is known here`;
+}
+
 /** What the foot of the page says of the judge, and whether its verdict is in doubt; `counted` is what the page itself counts. */
-export function judgement({ program, own, verdict }, counted) {
-  const judge = own ? `Rudekpi's ${program} audit` : `${program} audit, which whoever made this page named, and of which nothing is known here`;
+export function judgement(judged, counted) {
+  const { verdict } = judged;
+  if (verdict === null) {
+    return { doubtful: true, text: `Nobody has judged this transcript: ask console audit. ${REPLAYED}` };
+  }
+  const judge = judgeOf(judged);
   const doubt = verdict === counted ? "" : ` This page counts otherwise: ${counted}.`;
   return { doubtful: doubt !== "", text: `Judged by ${judge}: ${verdict}.${doubt} ${REPLAYED}` };
 }
@@ -13,6 +27,6 @@ export function judgement({ program, own, verdict }, counted) {
 export function showJudge(judge, counted) {
   const { text, doubtful } = judgement(judge, counted);
   byId("judged").textContent = text;
-  byId("judged").classList.toggle("foreign", !judge.own);
+  byId("judged").classList.toggle("foreign", !judge.own && !judge.here);
   byId("judged").classList.toggle("doubtful", doubtful);
 }

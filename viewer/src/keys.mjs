@@ -1,40 +1,83 @@
-// Keys of the whole page. A field that takes typing keeps its own.
+// Keys of the page. A field that takes typing keeps its own.
 
-const KEYS = {
-  ArrowLeft: "back",
-  ArrowRight: "forward",
-  PageUp: "far-back",
-  PageDown: "far-forward",
-  Home: "first",
-  End: "last",
-  " ": "play",
-  n: "next",
-  p: "previous",
-  "+": "zoom-in",
-  "=": "zoom-in",
-  "-": "zoom-out",
-  0: "zoom-fit",
-  f: "find",
-  e: "edge",
-  Escape: "let-go",
+/** What keys do while a transcript is played: those of the whole page, and those of the drawing alone, where it has the focus. */
+export const PLAYER_KEYS = {
+  page: {
+    ArrowLeft: "back",
+    ArrowRight: "forward",
+    PageUp: "far-back",
+    PageDown: "far-forward",
+    Home: "first",
+    End: "last",
+    " ": "play",
+    n: "next",
+    p: "previous",
+    "+": "zoom-in",
+    "=": "zoom-in",
+    "-": "zoom-out",
+    0: "zoom-fit",
+    f: "find",
+    e: "edge",
+    Escape: "let-go",
+  },
+  drawing: { ArrowUp: "node-before", ArrowDown: "node-behind" },
 };
-// keys of the drawing alone, where it has the focus
-const DRAWING_KEYS = { ArrowUp: "node-before", ArrowDown: "node-behind" };
+
+/** And while a network is in hands. */
+export const LAB_KEYS = {
+  page: {
+    " ": "run",
+    ".": "step",
+    z: "undo",
+    x: "scramble",
+    a: "join",
+    1: "cut",
+    2: "link",
+    3: "point",
+    4: "flag",
+    5: "node",
+    6: "move",
+    "+": "zoom-in",
+    "=": "zoom-in",
+    "-": "zoom-out",
+    0: "zoom-fit",
+    e: "edge",
+    Escape: "let-go",
+  },
+  drawing: {
+    ArrowUp: "node-before",
+    ArrowDown: "node-behind",
+    Enter: "act",
+    "Shift+ArrowLeft": "left",
+    "Shift+ArrowRight": "right",
+    "Shift+ArrowUp": "up",
+    "Shift+ArrowDown": "down",
+  },
+};
+const TYPED = new Set(["TEXTAREA", "SELECT"]);
 
 function takesKey(target, key) {
   if (target.type === "number") {
     return key.length > 1 ? key !== "Escape" : /[-+0-9]/.test(key);
   }
-  return target.tagName === "SELECT" || (target.tagName === "BUTTON" && key === " ") || (target.tagName === "SUMMARY" && key === " ");
+  return TYPED.has(target.tagName) || ((target.tagName === "BUTTON" || target.tagName === "SUMMARY") && key === " ");
 }
 
-export function listen(actions) {
-  document.addEventListener("keydown", (event) => {
-    const action = actions[KEYS[event.key] ?? (event.target.id === "graph" && DRAWING_KEYS[event.key])];
+function nameOf(event) {
+  return event.shiftKey && event.key.length > 1 ? `Shift+${event.key}` : event.key;
+}
+
+/** Lets keys do what `actions` names, until `signal` ends it. */
+export function listen(actions, keys, signal) {
+  const onDrawing = (target) => target instanceof SVGSVGElement;
+  const heard = (event) => {
+    const name = nameOf(event);
+    const action = actions[(onDrawing(event.target) && keys.drawing[name]) || keys.page[name]];
     if (!action || event.ctrlKey || event.metaKey || event.altKey || takesKey(event.target, event.key)) {
       return;
     }
     event.preventDefault();
     action();
-  });
+  };
+  document.addEventListener("keydown", heard, { signal });
 }

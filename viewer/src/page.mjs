@@ -1,131 +1,85 @@
-// Puts the page together: the transcript that stands in it is replayed, and each part shows the entry that is gone to.
-import { Address } from "./address.mjs";
-import { MOST_DRAWN } from "./drawing.mjs";
-import { Inspector } from "./inspector.mjs";
-import { showJudge } from "./judge.mjs";
-import { listen } from "./keys.mjs";
-import { counted, grouped } from "./numbers.mjs";
-import { Panel } from "./panel.mjs";
-import { listenToSaving } from "./picture.mjs";
-import { Player } from "./player.mjs";
-import { plotsOf } from "./plots.mjs";
-import { Replay } from "./replay.mjs";
-import { Stage } from "./stage.mjs";
+// Puts the page together: a transcript that stands in it is played; else there is a network to break. Transcripts that are dropped
+// on it are judged by the engine inside, and played.
 import { byId } from "./svg.mjs";
-import { nodesOf, Transcript, TranscriptFault } from "./transcript.mjs";
+import { Playing } from "./playing.mjs";
+import { canRun, Engine } from "./playground/engine.mjs";
+import { LabPage } from "./playground/lab_page.mjs";
+import { listenToFiles } from "./playground/opening.mjs";
 
-const RULE_SET_NAMES = { hh: "Hsu and Huang", manne: "Manne, Mjelde, Pilard and Tixeuil" };
+const WITHOUT = "The engine of this page wants 64-bit WebAssembly memory, which this browser lacks: Chrome 133, Edge 133, Firefox 134 and later ones have it. Transcripts can be played here all the same: open one.";
 
-function showTitle({ nodes, length, rules, first, state }) {
-  const size = `${counted(nodes, "node")}, ${counted(length, "entry", "entries")}`;
-  const base = state ? `, from the base at entry ${grouped(first)}` : "";
-  byId("title").textContent = `${size}, rules of ${RULE_SET_NAMES[rules]}${base}`;
-  document.title = `${rules}: ${size}${base}`;
+function dataOf(id) {
+  return JSON.parse(byId(id).textContent);
 }
 
-/** The stage, or null with a word on what is there in its place. */
-function stageOf(replay) {
-  const { nodes } = replay.transcript;
-  if (nodes > 0 && nodes <= MOST_DRAWN) {
-    return new Stage(byId("graph"), nodes, replay.edgesEver);
+class Page {
+  constructor() {
+    this.playing = new Playing();
+    this.lab = null;
+    const bytes = dataOf("engine");
+    this.runs = bytes !== null && canRun();
+    // loaded once, when it is wanted first
+    this.engine = () => (this.loaded ??= Engine.load(Uint8Array.from(atob(bytes), (letter) => letter.charCodeAt(0))));
+    byId("to-lab").hidden = !this.runs;
+    byId("to-lab").addEventListener("click", () => this.openLab());
+    byId("refusal-close").addEventListener("click", () => this.refuse(null));
+    listenToFiles((bytes) => this.judge(bytes));
   }
-  document.body.classList.add("undrawn");
-  byId("undrawn").textContent =
-    nodes === 0
-      ? "No nodes: there is nothing to draw. The plots stand in the drawing's place."
-      : `${grouped(nodes)} nodes: up to ${grouped(MOST_DRAWN)} are drawn. The plots of the whole transcript stand in the drawing's place; a node that is found by its number is told of here.`;
-  return null;
-}
 
-/** What the buttons and keys of the drawing do. */
-function drawingActions(stage, inspector) {
-  const zoom = stage?.zoom;
-  return {
-    "zoom-in": () => zoom?.by(1.4),
-    "zoom-out": () => zoom?.by(1 / 1.4),
-    "zoom-fit": () => zoom?.fit(),
-    "node-before": () => inspector.stepNode(-1),
-    "node-behind": () => inspector.stepNode(1),
-    edge: () => inspector.stepEdge(),
-    "let-go": () => inspector.pick(null),
-    find: () => byId("find").select(),
-  };
-}
-
-function listenToFinding(nodes, inspector, stage) {
-  const field = byId("find");
-  field.max = nodes;
-  field.addEventListener("input", () => {
-    const node = Number(field.value);
-    const known = Number.isInteger(node) && node >= 1 && node <= nodes;
-    field.setCustomValidity(known || field.value === "" ? "" : `names are 1 to ${grouped(nodes)}`);
-    inspector.pick(known ? { node } : null);
-    if (known) {
-      stage?.reveal({ node });
+  start() {
+    const text = dataOf("transcript");
+    if (text !== null) {
+      this.play(text, dataOf("judge"));
+    } else {
+      this.openLab();
     }
-  });
-  field.addEventListener("change", () => field.reportValidity());
-}
+  }
 
-/** What a saved picture is called. */
-function pictureOf({ transcript }, number) {
-  const { rules, nodes } = transcript;
-  return { name: `matching-${rules}-${nodes}-entry-${number}`, title: `${document.title}: after entry ${grouped(number)}` };
-}
+  play(text, judge) {
+    this.lab?.leave();
+    document.body.classList.remove("lab");
+    this.playing.begin(text, judge);
+  }
 
-function play(replay) {
-  const { transcript } = replay;
-  const stage = stageOf(replay);
-  const inspector = new Inspector(() => replay.machine, stage);
-  stage?.listen(inspector, () => replay.machine);
-  const panel = new Panel(replay, (number) => player.goTo(number));
-  const plots = plotsOf(replay, (number) => player.goTo(number));
-  const address = new Address((number) => player.goTo(number));
-  const player = new Player(replay, (number) => {
-    const machine = replay.goTo(number);
-    const entry = number === transcript.first ? null : transcript.entry(number);
-    stage?.show(machine, entry, entry ? nodesOf(entry) : []);
-    panel.show(machine, number, entry);
-    plots.forEach((plot) => plot.point(number));
-    inspector.show();
-    document.body.dataset.entry = number;
-  });
-  const actions = { ...drawingActions(stage, inspector), ...player.actions };
-  ["zoom-in", "zoom-out", "zoom-fit"].forEach((name) => byId(name).addEventListener("click", actions[name]));
-  plots.forEach((plot) => plot.draw());
-  new ResizeObserver(() => plots.forEach((plot) => plot.draw())).observe(byId("plots"));
-  listenToFinding(transcript.nodes, inspector, stage);
-  listenToSaving(byId("graph"), () => pictureOf(replay, player.at));
-  listen(actions);
-  player.goTo(address.entry);
-  player.moved = (number) => address.show(number);
-}
-
-/** Says what is wrong with the text, and shows nothing else. */
-function refuse(wrong) {
-  document.body.classList.add("broken");
-  byId("title").textContent = `This is no transcript: ${wrong.message}.`;
-  document.title = "no transcript";
-}
-
-function start() {
-  const [text, judge] = ["transcript", "judge"].map((id) => JSON.parse(byId(id).textContent));
-  try {
-    const replay = new Replay(new Transcript(text));
-    const { rules } = replay.transcript;
-    document.body.classList.add(rules);
-    byId("weight").textContent = rules === "hh" ? "2m+n" : "2m+3n";
-    showTitle(replay.transcript);
-    showJudge(judge, replay.verdict);
-    play(replay);
-  } catch (wrong) {
-    if (!(wrong instanceof TranscriptFault)) {
-      byId("title").textContent = `This page fails: ${wrong.message}`;
-      throw wrong;
+  async openLab() {
+    this.playing.end();
+    document.body.classList.remove("hh", "manne", "broken", "undrawn");
+    document.body.classList.add("lab");
+    document.title = "Break a network by hand";
+    byId("title").textContent = "Each node follows a few rules and knows its neighbours alone. Whatever you break, they pair up anew.";
+    if (!this.runs) {
+      document.body.classList.add("engineless");
+      byId("hint").textContent = WITHOUT;
+      return;
     }
-    refuse(wrong);
-    showJudge(judge, "no transcript");
+    const engine = await this.engine();
+    this.lab ??= new LabPage(engine, (text) => this.judge(new TextEncoder().encode(text)));
+    this.lab.enter();
+  }
+
+  /** Has the engine judge a transcript, and plays it where it is accepted. */
+  async judge(bytes) {
+    const text = new TextDecoder().decode(bytes);
+    if (!this.runs) {
+      this.play(text, { verdict: null });
+      return;
+    }
+    const { said, accepted, line } = (await this.engine()).audit(bytes);
+    this.refuse(accepted ? null : { said, line, text });
+    if (accepted) {
+      this.play(text, { here: true, verdict: said });
+    }
+  }
+
+  /** Shows what is wrong with a transcript; null where nothing is. */
+  refuse(wrong) {
+    byId("refusal").hidden = wrong === null;
+    if (wrong !== null) {
+      const shown = wrong.text.split("\n")[wrong.line - 1] ?? "";
+      byId("refusal-said").textContent = `The transcript is refused: ${wrong.said}`;
+      byId("refusal-line").textContent = shown === "" ? "(there is no such line, or it is empty)" : shown.slice(0, 300);
+    }
   }
 }
 
-start();
+new Page().start();

@@ -88,7 +88,7 @@ function numbersOf(words, most, text, at) {
 }
 
 /** The base whose lines begin at a place: its numbers, the state that they tell, as a machine loads it, and where they end. */
-function readBase(text, at) {
+export function readBase(text, at) {
   const [head, rules, capacity, line, ...numbers] = match(BASE, text, at);
   const [names] = numbersOf([capacity], MOST_NAMES, text, at);
   const [number, spent, nodes, edges] = numbers.map(Number);

@@ -1,0 +1,95 @@
+"""The engine as a module for browsers: the LLVM module of the proved code, compiled for a 64-bit WebAssembly memory.
+
+The kit compiles no heap for that target, so this way is the repository's own: what comes out is tested, and not proved. The kit's
+build calls a compiler of its toolchain folder; given a folder whose compiler keeps what it is given, it leaves the LLVM module of
+the functions that it has just proved. That is turned to the other target and linked with viewer/wasm/heap.c.
+"""
+import os
+import pathlib
+import re
+import shutil
+import subprocess
+import tempfile
+
+TOP = pathlib.Path(__file__).resolve().parent.parent
+CRATE = TOP / "crates" / "rudekpi_c"
+BUILT = CRATE / "out" / "librudekpi_c.a"
+KEPT = CRATE / "out" / "librudekpi_c.bc"
+HEAP = TOP / "viewer" / "wasm" / "heap.c"
+TARGET = "wasm64-unknown-unknown"
+LAYOUT = "e-m:e-p:64:64-p10:8:8-p20:8:8-i64:64-i128:128-n32:64-S128-ni:1:10:20"
+# the processor's own, which the other target does not know
+PROCESSOR = re.compile(r' "(?:probe-stack|stack-probe-size|target-cpu|target-features|tune-cpu)"(?:="[^"]*")?')
+CODE = [f"--target={TARGET}", "-mcpu=lime1", "-O3", "-no-canonical-prefixes", "--no-default-config"]
+WIDE = ["-mllvm", "-expand-div-rem-bits=64", "-mllvm", "-expand-fp-convert-bits=64", "-mllvm", "-trap-unreachable"]
+LINK = ["-mwasm64", "--no-entry", "--gc-sections", "--stack-first", "-z", "stack-size=1048576", "--strip-all", "--threads=1"]
+CALLS = ["session_new", "session_feed", "session_length", "session_read", "session_free", "audit", "room", "give_back"]
+# keeps the LLVM module that it compiles
+COMPILER = """#!/bin/sh
+last=
+for word in "$@"; do
+  if [ "$last" = ir ]; then cp "$word" "{kept}"; fi
+  last=$word
+done
+exec "{clang}" "$@"
+"""
+
+
+def run(*words, **how):
+    return subprocess.run([str(word) for word in words], check=True, stdin=subprocess.DEVNULL, **how)
+
+
+def keeping_toolchain(kit, folder, kept):
+    """The kit's toolchain folder, whose compiler keeps what it compiles."""
+    theirs = pathlib.Path(kit, "toolchain")
+    (folder / "bin").mkdir(parents=True)
+    (folder / "lib").symlink_to(theirs / "lib")
+    for tool in (theirs / "bin").iterdir():
+        (folder / "bin" / tool.name).symlink_to(tool.resolve())
+    own = folder / "bin" / "clang"
+    own.unlink()
+    own.write_text(COMPILER.format(kept=kept, clang=theirs / "bin" / "clang"))
+    own.chmod(0o755)
+    return folder
+
+
+def build(rtlib):
+    """Proves and builds the library for C on the libraries below it as they lie there, and keeps its LLVM module."""
+    crate = next(it for it in rtlib.crates_below(str(TOP)) if it.name == CRATE.name)
+    BUILT.parent.mkdir(exist_ok=True)
+    with tempfile.TemporaryDirectory() as made:
+        fresh = pathlib.Path(made, "fresh.bc")
+        toolchain = keeping_toolchain(rtlib.KIT, pathlib.Path(made, "toolchain"), fresh)
+        words = [*crate.words(["--jobs", "1"], keeps=False), "--toolchain", toolchain, "--backend", "llvm"]
+        run(rtlib.RATTLE, "build", *words, "-o", BUILT, cwd=CRATE, stdout=subprocess.DEVNULL)
+        shutil.copyfile(fresh, KEPT)
+
+
+def is_older_than_a_source():
+    """Whether the kept module was built before a source that it may stand on was changed."""
+    parts = [path for part in ("src", "specs", "proofs") for path in TOP.glob(f"crates/*/{part}")]
+    found = run("find", TOP / "HANDLES", TOP / "crates.txt", *parts, "-newer", KEPT, "-print", "-quit", stdout=subprocess.PIPE)
+    return found.stdout != b""
+
+
+def turned(text):
+    """An LLVM module as text, for the other target."""
+    text = re.sub(r'^target datalayout = ".*"$', f'target datalayout = "{LAYOUT}"', text, flags=re.MULTILINE)
+    text = re.sub(r'^target triple = ".*"$', f'target triple = "{TARGET}"', text, flags=re.MULTILINE)
+    return re.sub(r"^attributes #\d+ = \{.*$", lambda line: PROCESSOR.sub("", line[0]), text, flags=re.MULTILINE)
+
+
+def module_of(rtlib):
+    """The bytes of the WebAssembly module, made of the LLVM module that was kept."""
+    tools = pathlib.Path(rtlib.KIT, "toolchain", "bin")
+    with tempfile.TemporaryDirectory() as made:
+        shutil.copyfile(KEPT, f"{made}/engine.bc")
+        shutil.copyfile(HEAP, f"{made}/heap.c")
+        run(tools / "clang", "-x", "ir", "engine.bc", "-S", "-emit-llvm", "-Xclang", "-disable-llvm-passes", "-o", "engine.ll", cwd=made)
+        text = pathlib.Path(made, "engine.ll")
+        text.write_text(turned(text.read_text(encoding="utf-8")), encoding="utf-8")
+        run(tools / "clang", *CODE, *WIDE, "-x", "ir", "-c", "engine.ll", "-o", "engine.o", cwd=made)
+        run(tools / "clang", *CODE, "-ffreestanding", "-fno-builtin", "-c", "heap.c", "-o", "heap.o", cwd=made)
+        exports = [f"--export=rudekpi_{name}" for name in CALLS]
+        run("wasm-ld", *LINK, *exports, "engine.o", "heap.o", "-o", "engine.wasm", cwd=made, executable=tools / "clang")
+        return pathlib.Path(made, "engine.wasm").read_bytes()

@@ -1,0 +1,126 @@
+// The engine inside the page: the proved code as a module for a 64-bit WebAssembly memory, called as C calls the library. Where the
+// words of include/rudekpi.h say more, they hold here too.
+
+const RULES = { hh: 0, manne: 1 };
+const SLOT_BYTES = 16;
+const VERDICT_BYTES = 32;
+const STATUSES = ["done", "not a command", "the log is full", "memory was refused", "there is no session", "out of range"];
+const VERDICTS = ["accepted", "bad header", "not a transcript line", "out of order", "not the machine's reply", "bad base"];
+// a module of nothing but a memory of 64 bits
+const WIDE = Uint8Array.of(0, 97, 115, 109, 1, 0, 0, 0, 5, 3, 1, 4, 0);
+
+/** Whether this browser has what the engine wants. */
+export function canRun() {
+  return typeof WebAssembly === "object" && WebAssembly.validate(WIDE);
+}
+
+/** What the engine did not do, and why. */
+export class EngineFault extends Error {
+  constructor(status) {
+    super(STATUSES[status]);
+    this.status = status;
+  }
+}
+
+/** Room in the module's memory that grows as it must. */
+class Room {
+  constructor(calls) {
+    Object.assign(this, { calls, at: 0n, size: 0 });
+  }
+
+  /** Where so many bytes lie. */
+  of(size) {
+    if (this.at === 0n || size > this.size) {
+      if (this.at !== 0n) {
+        this.calls.rudekpi_give_back(this.at);
+      }
+      this.size = Math.max(size, 2 * this.size, 1 << 12);
+      this.at = this.calls.rudekpi_room(BigInt(this.size));
+      if (this.at === 0n) {
+        throw new EngineFault(3);
+      }
+    }
+    return this.at;
+  }
+
+  /** The bytes there; a later call may move them. */
+  bytes(size) {
+    const at = this.of(size);
+    return new Uint8Array(this.calls.memory.buffer, Number(at), size);
+  }
+}
+
+export class Engine {
+  constructor(calls) {
+    Object.assign(this, { calls, given: new Room(calls), taken: new Room(calls) });
+  }
+
+  /** The engine of a module's bytes. */
+  static async load(bytes) {
+    const { instance } = await WebAssembly.instantiate(bytes, {});
+    return new Engine(instance.exports);
+  }
+
+  /** Hands bytes over: where they lie. */
+  give(bytes) {
+    this.given.bytes(bytes.length + 1).set(bytes);
+    return this.given.at;
+  }
+
+  /** A new network of the names 1 to `names`, the first of which are present, so many; an `EngineFault` where there is none. */
+  begin(rules, names, present) {
+    return new Session(this, RULES[rules], names, present);
+  }
+
+  /** What the audit says of a transcript: a line as the program writes it, whether it accepts, and the first wrong line, else 0. */
+  audit(bytes) {
+    const at = this.give(bytes);
+    const verdict = this.taken.of(VERDICT_BYTES);
+    this.calls.rudekpi_audit(at, BigInt(bytes.length), verdict);
+    const told = new DataView(this.calls.memory.buffer, Number(verdict), VERDICT_BYTES);
+    const [kind, entries, epochs] = [0, 4, 8].map((place) => told.getUint32(place, true));
+    const [moves, line] = [16, 24].map((place) => told.getBigUint64(place, true));
+    if (kind >= VERDICTS.length) {
+      throw new EngineFault(3);
+    }
+    const said = kind === 0 ? `accepted: ${entries} entries, ${epochs} epochs, ${moves} moves` : `line ${line}: ${VERDICTS[kind]}`;
+    return { said, accepted: kind === 0, line: Number(line) };
+  }
+}
+
+/** A network that goes along a script, line by line, and its text that was not read yet. */
+export class Session {
+  constructor(engine, rules, names, present) {
+    const { calls } = engine;
+    Object.assign(this, { engine, calls, slot: new Room(calls) });
+    this.slot.bytes(SLOT_BYTES).fill(0);
+    this.hear(calls.rudekpi_session_new(rules, names, present, this.slot.at));
+  }
+
+  hear(status) {
+    if (status !== 0) {
+      throw new EngineFault(status);
+    }
+  }
+
+  /** Carries out the next line; an `EngineFault` where it is none, or where there is no room. */
+  feed(line) {
+    const bytes = new TextEncoder().encode(line);
+    const at = this.engine.give(bytes);
+    this.hear(this.calls.rudekpi_session_feed(this.slot.at, at, BigInt(bytes.length), this.engine.taken.of(8)));
+  }
+
+  /** The text that came since it was read last. */
+  read() {
+    const size = Number(this.calls.rudekpi_session_length(this.slot.at));
+    const at = this.engine.taken.of(size + 1);
+    this.calls.rudekpi_session_read(this.slot.at, at, BigInt(size));
+    return new TextDecoder().decode(this.engine.taken.bytes(size));
+  }
+
+  /** Gives its memory back; it can't be used any more. */
+  free() {
+    this.calls.rudekpi_session_free(this.slot.at);
+    this.calls.rudekpi_give_back(this.slot.at);
+  }
+}

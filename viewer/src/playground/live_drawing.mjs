@@ -1,0 +1,80 @@
+// The drawing of a network whose nodes are moved by hand and whose edges come and go.
+import { Drawing } from "../drawing.mjs";
+import { add } from "../svg.mjs";
+
+export class LiveDrawing extends Drawing {
+  /** The names 1 to `names`, at the places of `layout`. */
+  constructor(svg, layout, names) {
+    super(svg, layout, names, []);
+    this.hanging = Array.from({ length: names + 1 }, () => new Map());
+    this.band = add(this.layers.picks, "line", { class: "band" });
+  }
+
+  show(machine, entry, lit) {
+    this.machine = machine;
+    super.show(machine, entry, lit);
+  }
+
+  edge(low, high) {
+    const known = super.edge(low, high);
+    this.hanging[low].set(high, known);
+    this.hanging[high].set(low, known);
+    return known;
+  }
+
+  /** Marks stand where the edges of now leave room. */
+  showNode(machine, v, isLit) {
+    const marked = machine.rule[v] !== null || machine.flag[v] === 1;
+    if (marked) {
+      const [x, y] = this.place(v);
+      this.angles[v] = [...machine.neighbours[v]].map((w) => Math.atan2(this.layout.y[w] - y, this.layout.x[w] - x));
+    }
+    super.showNode(machine, v, isLit);
+    if (marked) {
+      const { mark, flag } = this.shapes[v];
+      [mark, flag].forEach((sign, which) => sign?.setAttribute("transform", this.beside(v, which)));
+    }
+  }
+
+  /** Draws a node, and what hangs on it, where it lies now. */
+  replace(v) {
+    const [x, y] = this.place(v).map((at) => at.toFixed(1));
+    this.shapes[v].group.setAttribute("transform", `translate(${x} ${y})`);
+    for (const [other, { line }] of this.hanging[v]) {
+      const end = v < other ? 1 : 2;
+      line.setAttribute(`x${end}`, x);
+      line.setAttribute(`y${end}`, y);
+    }
+    this.layers.changes.replaceChildren();
+    this.layers.edges.querySelector(".change")?.remove();
+    if (this.machine) {
+      [v, ...this.machine.neighbours[v]].forEach((w) => {
+        this.turn(w);
+        this.showNode(this.machine, w, this.shapes[w].classes.includes("lit"));
+      });
+    }
+  }
+
+  /** Draws the arrow of a node anew. */
+  turn(v) {
+    this.pointers.get(v)?.line.remove();
+    this.pointers.delete(v);
+    this.showPointer(this.machine, v);
+  }
+
+  /** A line from a node to a place, as long as a hand draws it; null takes it away. */
+  stretch(node, place) {
+    this.band.classList.toggle("drawn", place !== null);
+    if (place !== null) {
+      const [x1, y1] = this.place(node);
+      Object.entries({ x1, y1, x2: place.x, y2: place.y }).forEach(([key, value]) => this.band.setAttribute(key, value));
+    }
+  }
+
+  /** Marks a node or an edge, in the way of a class; null marks none. */
+  pick(thing, as = "") {
+    super.pick(thing);
+    [...this.layers.picks.children].forEach((mark) => as && mark.classList.add(as));
+    this.layers.picks.append(this.band);
+  }
+}

@@ -1,0 +1,48 @@
+// Where nodes lie: places of a preset, or found by the layout of the transcripts' page; hands may move them, and newcomers find room.
+import { fill, layOut, SPACING } from "../layout.mjs";
+
+// a unit of a preset's places
+const UNIT = 62;
+const BORDER = SPACING / 2;
+// how many places a newcomer tries, across and down
+const ACROSS = 24;
+const DOWN = 16;
+
+/** The same places, with room for all names. */
+function forNames({ x, y, width, height }, names) {
+  const longer = (from) => {
+    const made = new Float64Array(names + 1);
+    made.set(from.subarray(0, names + 1));
+    return made;
+  };
+  return { x: longer(x), y: longer(y), width, height };
+}
+
+/** Places of a network of so many names; `places` of the first nodes where a preset has them, else they are found from `links`. */
+export function placesOf({ nodes, links, places }, names) {
+  if (!places) {
+    return forNames(fill(layOut(nodes, links)), names);
+  }
+  const [xs, ys] = [0, 1].map((axis) => places.map((place) => place[axis] * UNIT));
+  const [left, top] = [xs, ys].map((numbers) => numbers.reduce((a, b) => Math.min(a, b)));
+  const sizes = [xs, ys].map((numbers, axis) => numbers.reduce((a, b) => Math.max(a, b)) - [left, top][axis] + SPACING);
+  const along = (numbers, from) => Float64Array.from([0, ...numbers.map((at) => at - from + BORDER)]);
+  return forNames(fill({ x: along(xs, left), y: along(ys, top), width: sizes[0], height: sizes[1] }), names);
+}
+
+/** A place inside the drawing, as near as can be. */
+export function within({ width, height }, x, y) {
+  const clamp = (at, size) => Math.min(size - BORDER, Math.max(BORDER, at));
+  return [clamp(x, width), clamp(y, height)];
+}
+
+/** The place that is farthest from all nodes that are there. */
+export function freePlace(layout, here) {
+  const { x, y, width, height } = layout;
+  const candidates = Array.from({ length: ACROSS * DOWN }, (_, at) => [
+    BORDER + ((width - 2 * BORDER) * (at % ACROSS)) / (ACROSS - 1),
+    BORDER + ((height - 2 * BORDER) * Math.floor(at / ACROSS)) / (DOWN - 1),
+  ]);
+  const room = ([px, py]) => x.reduce((least, at, v) => (here[v] ? Math.min(least, Math.hypot(at - px, y[v] - py)) : least), Infinity);
+  return candidates.map((place) => ({ place, room: room(place) })).reduce((best, next) => (next.room > best.room ? next : best)).place;
+}

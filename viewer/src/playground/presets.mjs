@@ -1,0 +1,152 @@
+// Networks to begin with: their nodes are 1 to `nodes`, `links` their edges, and `places` where the nodes lie, by their names; where
+// there are none, the page finds places by itself.
+import { chanceOf } from "./chance.mjs";
+
+export const MOST_NODES = 500;
+// how much wider than high a field of nodes is
+const WIDE = 1.6;
+// distances in a field, where each node has a square of 1
+const DISK_REACH = 1.32;
+const MESH_REACH = 2.1;
+const JITTER = 0.28;
+const RACK_HOSTS = 8;
+
+function ring(nodes) {
+  const links = Array.from({ length: nodes - 1 }, (_, at) => [at + 1, at + 2]);
+  return { links: nodes > 2 ? [...links, [1, nodes]] : links };
+}
+
+function path(nodes) {
+  return { links: Array.from({ length: nodes - 1 }, (_, at) => [at + 1, at + 2]) };
+}
+
+function columnsOf(nodes) {
+  return Math.max(1, Math.round(Math.sqrt(nodes * WIDE)));
+}
+
+function grid(nodes) {
+  const columns = columnsOf(nodes);
+  const links = [];
+  for (let v = 1; v <= nodes; v += 1) {
+    if (v % columns !== 0 && v < nodes) {
+      links.push([v, v + 1]);
+    }
+    if (v + columns <= nodes) {
+      links.push([v, v + columns]);
+    }
+  }
+  const places = Array.from({ length: nodes }, (_, at) => [at % columns, Math.floor(at / columns)]);
+  return { links, places };
+}
+
+function star(nodes) {
+  const round = (at) => [(2 * Math.PI * at) / (nodes - 1) - Math.PI / 2, Math.max(1.6, nodes / 6)];
+  const places = Array.from({ length: nodes }, (_, at) => (at === 0 ? [0, 0] : [round(at)[1] * Math.cos(round(at)[0]), round(at)[1] * Math.sin(round(at)[0])]));
+  return { links: Array.from({ length: nodes - 1 }, (_, at) => [1, at + 2]), places };
+}
+
+function distance([x1, y1], [x2, y2]) {
+  return Math.hypot(x1 - x2, y1 - y2);
+}
+
+/** All pairs of places that are no farther apart than `reach`. */
+function near(places, reach) {
+  const links = [];
+  places.forEach((place, at) => {
+    for (let other = at + 1; other < places.length; other += 1) {
+      if (distance(place, places[other]) <= reach) {
+        links.push([at + 1, other + 1]);
+      }
+    }
+  });
+  return links;
+}
+
+/** Radios that lie by chance, each of which hears what is near; none lies on another, so that all can be seen. */
+function unitDisk(nodes, seed) {
+  const chance = chanceOf(seed);
+  const height = Math.sqrt(nodes / WIDE);
+  const places = [];
+  for (let apart = 0.62; places.length < nodes; apart *= 0.97) {
+    for (let tries = 0; tries < 40 && places.length < nodes; tries += 1) {
+      const place = [chance() * height * WIDE, chance() * height];
+      if (places.every((other) => distance(place, other) >= apart)) {
+        places.push(place);
+      }
+    }
+  }
+  return { links: near(places, DISK_REACH), places };
+}
+
+/** Routers and what hangs on them, on a grid that was shaken: one of three is a router, which hears the routers near it; each other
+ * node hears the two routers that are nearest. */
+function mesh(nodes, seed) {
+  const chance = chanceOf(seed);
+  const columns = columnsOf(nodes);
+  const shaken = () => (2 * chance() - 1) * JITTER;
+  const places = Array.from({ length: nodes }, (_, at) => {
+    const row = Math.floor(at / columns);
+    return [(at % columns) + (row % 2) * 0.5 + shaken(), row * 0.95 + shaken()];
+  });
+  const isRouter = (at) => ((at % columns) + 2 * Math.floor(at / columns) + (Math.floor(at / columns) >> 1)) % 3 === 1;
+  const routers = places.flatMap((_, at) => (isRouter(at) ? [at] : []));
+  const links = near(places, MESH_REACH).filter(([v, w]) => isRouter(v - 1) && isRouter(w - 1));
+  places.forEach((place, at) => {
+    if (!isRouter(at)) {
+      const nearest = [...routers].sort((v, w) => distance(place, places[v]) - distance(place, places[w]));
+      nearest.slice(0, 2).forEach((router) => links.push([Math.min(at, router) + 1, Math.max(at, router) + 1]));
+    }
+  });
+  return { links, places };
+}
+
+/** A tree that hangs together, and as many further edges as make three of two nodes. */
+function random(nodes, seed) {
+  const chance = chanceOf(seed);
+  const below = (most) => Math.floor(chance() * most);
+  const links = new Map();
+  const link = (v, w) => v !== w && links.set(Math.min(v, w) * 65536 + Math.max(v, w), [Math.min(v, w), Math.max(v, w)]);
+  for (let v = 2; v <= nodes; v += 1) {
+    link(v, 1 + below(v - 1));
+  }
+  const most = Math.min(Math.floor(nodes * 1.5), (nodes * (nodes - 1)) / 2);
+  while (links.size < most) {
+    link(1 + below(nodes), 1 + below(nodes));
+  }
+  return { links: [...links.values()] };
+}
+
+/** Hosts in racks: a partner that holds a host's copy has to stand in the rack beside it, so that no rack takes both away. */
+function racks(nodes) {
+  const hosts = Math.min(RACK_HOSTS, Math.max(2, Math.round(Math.sqrt(nodes / WIDE))));
+  const places = Array.from({ length: nodes }, (_, at) => [Math.floor(at / hosts) * 1.9, at % hosts]);
+  const links = [];
+  for (let v = 1; v + hosts <= nodes; v += 1) {
+    const [rack, place] = [Math.floor((v - 1) / hosts), (v - 1) % hosts];
+    for (const other of [place - 1, place, place + 1]) {
+      const w = (rack + 1) * hosts + other + 1;
+      if (other >= 0 && other < hosts && w <= nodes) {
+        links.push([v, w]);
+      }
+    }
+  }
+  return { links, places };
+}
+
+/** By their words in the page: how many nodes there are at first, and how they are made of a number of nodes and a seed. */
+export const PRESETS = {
+  mesh: { name: "wireless mesh", nodes: 16, make: mesh },
+  ring: { name: "ring", nodes: 12, make: ring },
+  path: { name: "path", nodes: 12, make: path },
+  grid: { name: "grid", nodes: 24, make: grid },
+  star: { name: "star", nodes: 12, make: star },
+  disk: { name: "unit disk", nodes: 30, make: unitDisk },
+  random: { name: "random", nodes: 24, make: random },
+  racks: { name: "racks of backup partners", nodes: 24, make: racks },
+};
+
+/** A network of a kind, of 2 to 500 nodes. */
+export function presetOf(kind, nodes, seed) {
+  const count = Math.min(MOST_NODES, Math.max(2, Math.round(nodes) || 2));
+  return { nodes: count, ...PRESETS[kind].make(count, seed) };
+}

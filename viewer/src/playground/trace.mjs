@@ -1,0 +1,32 @@
+// A line of how the charge went, under the bound, over what was shown last.
+import { add } from "../svg.mjs";
+
+const LENGTH = 160;
+const HEIGHT = 100;
+
+export class Trace {
+  constructor(svg) {
+    this.values = { charge: [], sum: [], bound: [] };
+    svg.setAttribute("viewBox", `0 -4 ${LENGTH} ${HEIGHT + 8}`);
+    this.paths = Object.fromEntries(["bound", "sum", "charge"].map((name) => [name, add(svg, "path", { class: `line ${name}` })]));
+  }
+
+  note(charge, sum, bound) {
+    for (const [name, value] of Object.entries({ charge, sum, bound })) {
+      const values = this.values[name];
+      values.push(value);
+      if (values.length > LENGTH) {
+        values.shift();
+      }
+    }
+    this.draw();
+  }
+
+  draw() {
+    const top = this.values.bound.reduce((a, b) => Math.max(a, b), 1);
+    for (const [name, values] of Object.entries(this.values)) {
+      const steps = values.map((value, at) => `${at} ${(HEIGHT * (1 - value / top)).toFixed(1)}H${at + 1}`);
+      this.paths[name].setAttribute("d", `M${steps.join("L")}`);
+    }
+  }
+}

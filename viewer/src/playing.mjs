@@ -1,0 +1,156 @@
+// Plays a transcript: it is replayed, and each part of the page shows the entry that is gone to.
+import { Address } from "./address.mjs";
+import { MOST_DRAWN } from "./drawing.mjs";
+import { Inspector } from "./inspector.mjs";
+import { showJudge } from "./judge.mjs";
+import { listen, PLAYER_KEYS } from "./keys.mjs";
+import { counted, grouped } from "./numbers.mjs";
+import { Panel } from "./panel.mjs";
+import { listenToSaving } from "./picture.mjs";
+import { Player } from "./player.mjs";
+import { plotsOf } from "./plots.mjs";
+import { Replay } from "./replay.mjs";
+import { Stage } from "./stage.mjs";
+import { byId } from "./svg.mjs";
+import { nodesOf, Transcript, TranscriptFault } from "./transcript.mjs";
+
+const RULE_SET_NAMES = { hh: "Hsu and Huang", manne: "Manne, Mjelde, Pilard and Tixeuil" };
+// the parts of the page in which a transcript is played
+const PARTS = ["player", "bar"];
+
+function showTitle({ nodes, length, rules, first, state }) {
+  const size = `${counted(nodes, "node")}, ${counted(length, "entry", "entries")}`;
+  const base = state ? `, from the base at entry ${grouped(first)}` : "";
+  byId("title").textContent = `${size}, rules of ${RULE_SET_NAMES[rules]}${base}`;
+  document.title = `${rules}: ${size}${base}`;
+}
+
+/** The stage, or null with a word on what is there in its place. */
+function stageOf(replay) {
+  const { nodes } = replay.transcript;
+  if (nodes > 0 && nodes <= MOST_DRAWN) {
+    return new Stage(byId("graph"), nodes, replay.edgesEver);
+  }
+  document.body.classList.add("undrawn");
+  byId("undrawn").textContent =
+    nodes === 0
+      ? "No nodes: there is nothing to draw. The plots stand in the drawing's place."
+      : `${grouped(nodes)} nodes: up to ${grouped(MOST_DRAWN)} are drawn. The plots of the whole transcript stand in the drawing's place; a node that is found by its number is told of here.`;
+  return null;
+}
+
+/** What the buttons and keys of the drawing do. */
+function drawingActions(stage, inspector) {
+  const zoom = stage?.zoom;
+  return {
+    "zoom-in": () => zoom?.by(1.4),
+    "zoom-out": () => zoom?.by(1 / 1.4),
+    "zoom-fit": () => zoom?.fit(),
+    "node-before": () => inspector.stepNode(-1),
+    "node-behind": () => inspector.stepNode(1),
+    edge: () => inspector.stepEdge(),
+    "let-go": () => inspector.pick(null),
+    find: () => byId("find").select(),
+  };
+}
+
+function listenToFinding(nodes, inspector, stage) {
+  const field = byId("find");
+  field.max = nodes;
+  field.addEventListener("input", () => {
+    const node = Number(field.value);
+    const known = Number.isInteger(node) && node >= 1 && node <= nodes;
+    field.setCustomValidity(known || field.value === "" ? "" : `names are 1 to ${grouped(nodes)}`);
+    inspector.pick(known ? { node } : null);
+    if (known) {
+      stage?.reveal({ node });
+    }
+  });
+  field.addEventListener("change", () => field.reportValidity());
+}
+
+/** What a saved picture is called. */
+function pictureOf({ transcript }, number) {
+  const { rules, nodes } = transcript;
+  return { name: `matching-${rules}-${nodes}-entry-${number}`, title: `${document.title}: after entry ${grouped(number)}` };
+}
+
+/** Plays a replay until `signal` ends it; the player. */
+function play(replay, signal) {
+  const { transcript } = replay;
+  const stage = stageOf(replay);
+  const inspector = new Inspector(() => replay.machine, stage);
+  stage?.listen(inspector, () => replay.machine);
+  const panel = new Panel(replay, (number) => player.goTo(number));
+  const plots = plotsOf(replay, (number) => player.goTo(number));
+  const address = new Address((number) => player.goTo(number), signal);
+  const player = new Player(replay, (number) => {
+    const machine = replay.goTo(number);
+    const entry = number === transcript.first ? null : transcript.entry(number);
+    stage?.show(machine, entry, entry ? nodesOf(entry) : []);
+    panel.show(machine, number, entry);
+    plots.forEach((plot) => plot.point(number));
+    inspector.show();
+    document.body.dataset.entry = number;
+  });
+  const actions = { ...drawingActions(stage, inspector), ...player.actions };
+  ["zoom-in", "zoom-out", "zoom-fit"].forEach((name) => byId(name).addEventListener("click", actions[name]));
+  plots.forEach((plot) => plot.draw());
+  new ResizeObserver(() => plots.forEach((plot) => plot.draw())).observe(byId("plots"));
+  listenToFinding(transcript.nodes, inspector, stage);
+  listenToSaving(byId("graph"), () => pictureOf(replay, player.at));
+  listen(actions, PLAYER_KEYS, signal);
+  player.goTo(address.entry);
+  player.moved = (number) => address.show(number);
+  signal.addEventListener("abort", () => player.pause());
+}
+
+
+/** Says what is wrong with the text, and shows nothing else. */
+function refuse(wrong) {
+  document.body.classList.add("broken");
+  byId("title").textContent = `This is no transcript: ${wrong.message}.`;
+  document.title = "no transcript";
+}
+
+/** Puts the transcript of a text on the page, with what its judge said of it. */
+function show(text, judge, signal) {
+  const replay = new Replay(new Transcript(text));
+  const { rules } = replay.transcript;
+  document.body.classList.add(rules);
+  byId("weight").textContent = rules === "hh" ? "2m+n" : "2m+3n";
+  showTitle(replay.transcript);
+  showJudge(judge, replay.verdict);
+  play(replay, signal);
+}
+
+/** The part of the page that plays transcripts, one after another. */
+export class Playing {
+  constructor() {
+    this.fresh = PARTS.map((id) => byId(id).cloneNode(true));
+    this.ended = null;
+  }
+
+  /** Plays a text in the place of what was played before. */
+  begin(text, judge) {
+    this.end();
+    this.ended = new AbortController();
+    document.body.classList.remove("hh", "manne", "broken", "undrawn");
+    this.fresh.forEach((part) => byId(part.id).replaceWith(part.cloneNode(true)));
+    try {
+      show(text, judge, this.ended.signal);
+    } catch (wrong) {
+      if (!(wrong instanceof TranscriptFault)) {
+        byId("title").textContent = `This page fails: ${wrong.message}`;
+        throw wrong;
+      }
+      refuse(wrong);
+      showJudge(judge, "no transcript");
+    }
+  }
+
+  /** Lets go of keys and the address. */
+  end() {
+    this.ended?.abort();
+  }
+}

@@ -1,0 +1,142 @@
+// The engine inside the playground beside the program, on scripts that are drawn by chance: the same bytes of each script, and the same
+// verdict on each transcript, whole or damaged. SCRIPTS says how many; 200 where nothing is said.
+import assert from "node:assert/strict";
+import test from "node:test";
+import { drawn, engineOfPage, program, whatIsMissing } from "./wasm.mjs";
+import { EngineFault } from "../src/playground/engine.mjs";
+import { BadLine, Lab } from "../src/playground/lab.mjs";
+import { Replay } from "../src/replay.mjs";
+import { Transcript } from "../src/transcript.mjs";
+
+const SCRIPTS = Number(process.env.SCRIPTS ?? 200);
+const LINES = 60;
+const DAMAGES = 3;
+const BAD_LINES = ["lnk 1 2", "link 1", "step 1  2", " status", "link 1 2 ", "flag 1 2", "drive 1", "link 01 2", "step \u00e9", "<img src=x>", "matching hh 2"];
+const skip = whatIsMissing();
+
+function lineOf(next, nodes) {
+  const name = () => 1 + next(nodes + 1);
+  const kinds = [
+    () => `link ${name()} ${name()}`, () => `link ${name()} ${name()}`, () => `link ${name()} ${name()}`, () => `unlink ${name()} ${name()}`,
+    () => `point ${name()} ${name()}`, () => `point ${name()} -`, () => `flag ${name()} ${next(2)}`, () => `join ${name()}`, () => `leave ${name()}`,
+    () => `step ${name()}`, () => `step ${name()} ${name()}`, () => `step ${name()}>${name()}`, () => "step", () => `show ${name()}`, () => "enabled", () => "matching",
+    () => "status", () => "checkpoint", () => "", () => `drive ${next(100000)} ${1 + next(9)}`, () => `scramble ${next(100000)} ${1 + next(5)}`,
+  ];
+  return kinds[next(kinds.length)]();
+}
+
+/** A network and a script; one of four meets a line that is no command. */
+function scriptOf(seed) {
+  const next = drawn(seed);
+  // the first of near seeds are near
+  next(2);
+  const names = 1 + next(14);
+  const lines = Array.from({ length: LINES }, () => lineOf(next, names));
+  if (next(4) === 0) {
+    lines.splice(next(LINES), 0, BAD_LINES[next(BAD_LINES.length)]);
+  }
+  return { rules: ["hh", "manne"][seed % 2], names, present: names - next(3 < names ? 3 : 1), lines, next };
+}
+
+function wordsOf({ rules, names, present }) {
+  return ["run", "--rules", rules, "--nodes", `${names}`, "--present", `${present}`];
+}
+
+/** What the engine writes of a script, and the exit status that the program would have. */
+function played(engine, { rules, names, present, lines }) {
+  const session = engine.begin(rules, names, present);
+  const parts = [session.read()];
+  let status = 0;
+  for (const line of lines) {
+    try {
+      session.feed(line);
+    } catch (wrong) {
+      assert.ok(wrong instanceof EngineFault && wrong.status === 1, `${wrong}`);
+      status = 2;
+      break;
+    }
+    parts.push(session.read());
+  }
+  session.free();
+  return { status, text: parts.join("") };
+}
+
+/** A transcript with one byte or one line otherwise than it was, or cut. */
+function damaged(text, next) {
+  const at = next(text.length);
+  const lines = text.split(/(?<=\n)/);
+  const line = next(lines.length);
+  const ways = [
+    () => text.slice(0, at) + String.fromCharCode(33 + next(90)) + text.slice(at + 1),
+    () => text.slice(0, at),
+    () => text.slice(0, at) + text.slice(at + 1),
+    () => lines.filter((_, number) => number !== line).join(""),
+    () => [...lines.slice(0, line), lines[line], ...lines.slice(line)].join(""),
+    () => `${text}1 status = ok\n`,
+    () => text.replace(" = ok", " = refused 1 absent"),
+  ];
+  return ways[next(ways.length)]();
+}
+
+test(`the engine writes what the program writes of ${SCRIPTS} scripts, and judges as it judges`, { skip }, async () => {
+  const engine = await engineOfPage();
+  let [bad, refused, accepted] = [0, 0, 0];
+  for (let seed = 1; seed <= SCRIPTS; seed += 1) {
+    const script = scriptOf(seed);
+    const theirs = program(wordsOf(script), script.lines.map((line) => `${line}\n`).join(""));
+    const ours = played(engine, script);
+    assert.deepEqual(ours, theirs, `seed ${seed}`);
+    bad += theirs.status === 2 ? 1 : 0;
+    const texts = [theirs.text, ...Array.from({ length: DAMAGES }, () => damaged(theirs.text, script.next))];
+    for (const text of texts) {
+      const verdict = program(["audit"], text);
+      const { said, accepted: isAccepted } = engine.audit(Buffer.from(text, "latin1"));
+      assert.deepEqual({ status: isAccepted ? 0 : 1, text: `${said}\n` }, verdict, `seed ${seed}: ${JSON.stringify(text)}`);
+      [refused, accepted] = [refused + verdict.status, accepted + 1 - verdict.status];
+    }
+  }
+  // what is compared is not all of one kind
+  assert.ok(bad > SCRIPTS / 10 && refused > SCRIPTS && accepted > SCRIPTS, `${bad} bad lines, ${refused} refused, ${accepted} accepted`);
+});
+
+/** A state in the words that the page shows. */
+function shown(machine, spent) {
+  const { pointer, flag, here, rule } = machine;
+  const edges = machine.edges().map(([v, w]) => v * 65536 + w).sort((a, b) => a - b);
+  const suitors = [...machine.suitors];
+  return { pointer: [...pointer], flag: [...flag], here: [...here], rule, edges, suitors, status: machine.status(spent), bound: machine.bound };
+}
+
+test("what the page shows of the engine is what its player replays, at each entry of 200 transcripts", { skip }, async () => {
+  const engine = await engineOfPage();
+  let entries = 0;
+  for (let seed = 1; seed <= 200; seed += 1) {
+    const script = scriptOf(seed + 5000);
+    const { text } = program(wordsOf(script), script.lines.map((line) => `${line}\n`).join(""));
+    const replay = new Replay(new Transcript(text));
+    const lab = new Lab(engine, script);
+    for (let number = 1; number <= replay.transcript.last; number += 1) {
+      lab.feed(replay.transcript.entry(number).event);
+      const seen = lab.look();
+      assert.deepEqual(shown(seen, seen.spent), shown(replay.goTo(number), replay.valueAt("spent", number)), `seed ${seed}, entry ${number}`);
+      entries += 1;
+    }
+    assert.equal(lab.transcript.replace(/^matching2.*\n(?:(?:base|node|edge) .*\n)*/gm, ""), text.replace(/^matching2.*\n(?:(?:base|node|edge) .*\n)*/gm, ""), `seed ${seed}`);
+    lab.free();
+  }
+  assert.ok(entries > 5000, `${entries} entries`);
+});
+
+test("a lab takes no bad line, and plays other lines from the start", { skip }, async () => {
+  const lab = new Lab(await engineOfPage(), { rules: "hh", names: 4, present: 3 });
+  ["link 1 2", "link 2 3", "step 1"].forEach((line) => lab.feed(line));
+  assert.throws(() => lab.feed("no command"), new BadLine(4, "no command"));
+  assert.equal(lab.script, "link 1 2\nlink 2 3\nstep 1\n");
+  assert.equal(lab.transcript, "matching hh 4 3\n1 link 1 2 = ok\n2 link 2 3 = ok\n3 step 1 = 1:seduce>2\n");
+  assert.equal(lab.words, "run --rules hh --nodes 4 --present 3");
+  lab.replay(["link 1 2"]);
+  assert.equal(lab.transcript, "matching hh 4 3\n1 link 1 2 = ok\n");
+  assert.deepEqual([lab.seen.told.edges, lab.seen.charge, lab.seen.enabledNodes], [1, 2, [1, 2]]);
+  assert.throws(() => lab.replay(["link 1 2", "lnk"]), new BadLine(2, "lnk"));
+  lab.free();
+});

@@ -1,0 +1,42 @@
+// The engine of the page that lies in release/, or of the page that PLAYGROUND names; and the program beside which it is tried.
+import { existsSync, readFileSync } from "node:fs";
+import { spawnSync } from "node:child_process";
+import { fileURLToPath } from "node:url";
+import { setFlagsFromString } from "node:v8";
+import { canRun, Engine } from "../src/playground/engine.mjs";
+
+// what browsers have by themselves, node has behind a flag
+setFlagsFromString("--experimental-wasm-memory64");
+
+const PAGE = process.env.PLAYGROUND ?? fileURLToPath(new URL("../../release/playground.html", import.meta.url));
+const PROGRAM = process.env.CONSOLE ?? fileURLToPath(new URL("../../crates/console/out/console", import.meta.url));
+const EMBEDDED = /<script type="application\/json" id="engine">"([A-Za-z0-9+/=]+)"<\/script>/;
+
+/** Why nothing can be tried here, or false. */
+export function whatIsMissing() {
+  if (!existsSync(PAGE)) {
+    return `no page at ${PAGE}`;
+  }
+  if (!existsSync(PROGRAM)) {
+    return `no program at ${PROGRAM}`;
+  }
+  return !canRun() && "this node has no 64-bit WebAssembly memory";
+}
+
+/** A new engine. */
+export function engineOfPage() {
+  const [, text] = EMBEDDED.exec(readFileSync(PAGE, "utf8"));
+  return Engine.load(Buffer.from(text, "base64"));
+}
+
+/** What the program answers: its exit status and its text. */
+export function program(words, input) {
+  const { status, stdout } = spawnSync(PROGRAM, words, { input, maxBuffer: 1 << 26 });
+  return { status, text: stdout.toString("latin1") };
+}
+
+/** Numbers from 0 that a seed draws (Park and Miller, 1988). */
+export function drawn(seed) {
+  let state = seed;
+  return (most) => (state = (state * 48271) % 2147483647) % most;
+}
