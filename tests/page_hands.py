@@ -336,7 +336,7 @@ def judges(pages, browser):
     for text, line in zip(HOSTILE, WRONG_LINES, strict=True):
         browser.open(pages.write(text, false))
         said = browser.value("[document.title, document.getElementById('title').textContent, document.querySelectorAll('img, script').length]")
-        pages.expect(f"what is said of {text[:40]}", (said[0], said[1].startswith(f"This is no transcript: line {line} "), said[2]), ("no transcript", True, 3))
+        pages.expect(f"what is said of {text[:40]}", (said[0], said[1].startswith(f"This is no transcript: line {line} "), said[2]), ("no transcript", True, 4))
         pages.expect(f"what {text[:40]} fetches", [url for url in browser.fetched if not url.startswith("file:///")], [])
     browser.open(pages.write(RING, false))
     foot = browser.value("document.getElementById('judged').textContent")

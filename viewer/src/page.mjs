@@ -6,6 +6,7 @@ import { canRun, Engine } from "./playground/engine.mjs";
 import { LabPage } from "./playground/lab_page.mjs";
 import { listenToFiles } from "./playground/opening.mjs";
 
+const LONGEST_SHOWN = 300;
 const WITHOUT = "The engine of this page wants 64-bit WebAssembly memory, which this browser lacks: Chrome 133, Edge 133, Firefox 134 and later ones have it. Transcripts can be played here all the same: open one.";
 
 function dataOf(id) {
@@ -53,7 +54,7 @@ class Page {
       return;
     }
     const engine = await this.engine();
-    this.lab ??= new LabPage(engine, (text) => this.judge(new TextEncoder().encode(text)));
+    this.lab ??= new LabPage(engine, (text) => this.judge(new TextEncoder().encode(text)), (wrong) => this.refuse(wrong));
     this.lab.enter();
   }
 
@@ -65,20 +66,17 @@ class Page {
       return;
     }
     const { said, accepted, line } = (await this.engine()).audit(bytes);
-    this.refuse(accepted ? null : { said, line, text });
+    this.refuse(accepted ? null : { said: `The transcript is refused: ${said}`, line: text.split("\n")[line - 1] || "(there is no such line, or it is empty)" });
     if (accepted) {
       this.play(text, { here: true, verdict: said });
     }
   }
 
-  /** Shows what is wrong with a transcript; null where nothing is. */
+  /** Shows what is wrong with what was given, and the line where it is; null where nothing is wrong. */
   refuse(wrong) {
     byId("refusal").hidden = wrong === null;
-    if (wrong !== null) {
-      const shown = wrong.text.split("\n")[wrong.line - 1] ?? "";
-      byId("refusal-said").textContent = `The transcript is refused: ${wrong.said}`;
-      byId("refusal-line").textContent = shown === "" ? "(there is no such line, or it is empty)" : shown.slice(0, 300);
-    }
+    byId("refusal-said").textContent = wrong?.said ?? "";
+    byId("refusal-line").textContent = (wrong?.line ?? "").slice(0, LONGEST_SHOWN);
   }
 }
 

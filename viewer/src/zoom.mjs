@@ -8,9 +8,9 @@ const LEAST_NAME = 4;
 const READABLE = 1.6;
 
 export class Zoom {
-  /** `changed` is called whenever another part is seen. */
-  constructor(svg, width, height, changed = () => {}) {
-    Object.assign(this, { svg, changed, view: new View(width, height) });
+  /** `changed` is called whenever another part is seen; names of fewer pixels than `leastName` are left out. */
+  constructor(svg, width, height, changed = () => {}, leastName = LEAST_NAME) {
+    Object.assign(this, { svg, changed, leastName, view: new View(width, height) });
     this.apply();
     new ResizeObserver(() => this.apply()).observe(svg);
     svg.addEventListener("wheel", (event) => this.turn(event), { passive: false });
@@ -57,7 +57,7 @@ export class Zoom {
     svg.setAttribute("viewBox", view.box.map((n) => n.toFixed(2)).join(" "));
     svg.classList.toggle("zoomed", view.scale > 1);
     const pixels = Math.min(svg.clientWidth / view.width, svg.clientHeight / view.height);
-    svg.classList.toggle("nameless", NAME_SIZE * pixels < LEAST_NAME);
+    svg.classList.toggle("nameless", NAME_SIZE * pixels < this.leastName);
     this.changed();
   }
 

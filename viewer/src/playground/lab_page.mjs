@@ -25,8 +25,10 @@ function ends(lines) {
 }
 
 export class LabPage {
-  constructor(engine, judge) {
+  /** `judge(text)` judges a transcript and plays it; `refuse(wrong)` tells what was refused. */
+  constructor(engine, judge, refuse) {
     this.play = new Playground(engine, judge);
+    this.refuse = refuse;
     for (const [kind, { name }] of Object.entries(PRESETS)) {
       byId("preset").add(new Option(name, kind));
     }
@@ -129,7 +131,7 @@ export class LabPage {
       if (!(wrong instanceof AddressFault || wrong instanceof BadLine)) {
         throw wrong;
       }
-      this.play.story.say(`The address holds no script that can be played: ${wrong.message}.`, true);
+      this.refuse({ said: `The address holds no script that can be played: ${wrong.message}.`, line: "" });
     }
   }
 }

@@ -7,6 +7,8 @@ export class LiveDrawing extends Drawing {
   constructor(svg, layout, names) {
     super(svg, layout, names, []);
     this.hanging = Array.from({ length: names + 1 }, () => new Map());
+    // by which each node's edges are known again
+    this.seen = new Float64Array(names + 1).fill(NaN);
     this.band = add(this.layers.picks, "line", { class: "band" });
   }
 
@@ -25,15 +27,25 @@ export class LiveDrawing extends Drawing {
   /** Marks stand where the edges of now leave room. */
   showNode(machine, v, isLit) {
     const marked = machine.rule[v] !== null || machine.flag[v] === 1;
-    if (marked) {
-      const [x, y] = this.place(v);
-      this.angles[v] = [...machine.neighbours[v]].map((w) => Math.atan2(this.layout.y[w] - y, this.layout.x[w] - x));
-    }
+    const turned = marked && this.turns(machine, v);
     super.showNode(machine, v, isLit);
-    if (marked) {
+    if (turned) {
       const { mark, flag } = this.shapes[v];
       [mark, flag].forEach((sign, which) => sign?.setAttribute("transform", this.beside(v, which)));
     }
+  }
+
+  /** Whether the edges of a node lie otherwise than when its marks were placed. */
+  turns(machine, v) {
+    const [x, y] = this.place(v);
+    const ends = [...machine.neighbours[v]];
+    const seen = ends.reduce((sum, w) => sum + w * (this.layout.x[w] - x) + this.layout.y[w] - y, ends.length);
+    if (this.seen[v] === seen) {
+      return false;
+    }
+    this.seen[v] = seen;
+    this.angles[v] = ends.map((w) => Math.atan2(this.layout.y[w] - y, this.layout.x[w] - x));
+    return true;
   }
 
   /** Draws a node, and what hangs on it, where it lies now. */

@@ -6,11 +6,14 @@ import { grouped } from "../numbers.mjs";
 import { byId } from "../svg.mjs";
 import { Zoom } from "../zoom.mjs";
 import { LiveDrawing } from "./live_drawing.mjs";
+import { frame } from "./places.mjs";
 import { Trace } from "./trace.mjs";
 
 // so many pixels from an edge is on it, for a mouse and for a finger
 const REACH = 8;
 const FINGER_REACH = 18;
+// names of fewer pixels are left out here, as they take longer to draw than all else
+const LEAST_NAME = 7;
 const RULE_SET_NAMES = { hh: "rules of Hsu and Huang", manne: "rules of Manne and others" };
 
 export class Pane {
@@ -26,8 +29,11 @@ export class Pane {
     root.classList.add(lab.rules);
     this.svg = this.parts.graph;
     this.svg.id = `graph-${lab.rules}`;
+    if (!layout.framed && this.svg.clientHeight > 0) {
+      frame(layout, this.svg.clientWidth / this.svg.clientHeight);
+    }
     this.drawing = new LiveDrawing(this.svg, layout, lab.names);
-    this.zoom = new Zoom(this.svg, layout.width, layout.height);
+    this.zoom = new Zoom(this.svg, layout.width, layout.height, () => {}, LEAST_NAME);
     this.trace = new Trace(part("trace"));
     new Gestures(this.svg, {
       hover: (place) => hands.point(this.under(place)),

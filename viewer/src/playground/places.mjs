@@ -30,6 +30,14 @@ export function placesOf({ nodes, links, places }, names) {
   return forNames(fill({ x: along(xs, left), y: along(ys, top), width: sizes[0], height: sizes[1] }), names);
 }
 
+/** Gives a layout the form of the picture in which it is seen, so many times wider than high: what it has stays in the middle. */
+export function frame(layout, form) {
+  const { x, y, width, height } = layout;
+  const [wide, high] = [Math.max(width, height * form), Math.max(height, width / form)];
+  [layout.x, layout.y] = [x.map((at) => at + (wide - width) / 2), y.map((at) => at + (high - height) / 2)];
+  [layout.width, layout.height, layout.framed] = [wide, high, true];
+}
+
 /** A place inside the drawing, as near as can be. */
 export function within({ width, height }, x, y) {
   const clamp = (at, size) => Math.min(size - BORDER, Math.max(BORDER, at));

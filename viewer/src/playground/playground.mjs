@@ -58,8 +58,10 @@ export class Playground {
     this.labs.forEach((lab) => lab.free());
     this.panes.forEach((pane) => pane.close());
     Object.assign(this, { labs, past: [], at: 0, stretch: false, changed: null, layout: placesOf(network, names) });
-    this.panes = labs.map((lab, at) => this.paneOf(lab, at));
+    // names that were given no place
+    this.placeless = new Set(Array.from({ length: names - network.nodes }, (_, at) => network.nodes + 1 + at));
     byId("panes").classList.toggle("two", labs.length > 1);
+    this.panes = labs.map((lab, at) => this.paneOf(lab, at));
     byId("which").hidden = labs.length < 2;
     document.body.classList.toggle("flagless", labs.every((lab) => !lab.seen.flags));
     this.texts.edit(false);
@@ -283,14 +285,14 @@ export class Playground {
   settle(node, place) {
     const [x, y] = place ? within(this.layout, place.x, place.y) : freePlace(this.layout, this.lab.seen.here);
     [this.layout.x[node], this.layout.y[node]] = [x, y];
+    this.placeless.delete(node);
     this.panes.forEach((pane) => pane.drawing.replace(node));
   }
 
   /** Nodes that nobody placed get places of their own. */
   placeNewcomers() {
     const { here } = this.lab.seen;
-    const { x, y } = this.layout;
-    here.forEach((present, v) => present && x[v] === 0 && y[v] === 0 && this.settle(v, null));
+    here.forEach((present, v) => present && this.placeless.has(v) && this.settle(v, null));
   }
 
   /** An edge that came or went is marked for a while. */

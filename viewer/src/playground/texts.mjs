@@ -3,8 +3,11 @@ import { byId } from "../svg.mjs";
 import { copy, save } from "./files.mjs";
 import { writeAddress } from "./sharing.mjs";
 
-// so many milliseconds lie between two writings of a text that grows
+// so many milliseconds lie between two writings of a text that grows; more where it is long, as a field takes long to show it
 const GAP = 300;
+const CHARACTERS_A_MILLISECOND = 15;
+// farther down than any text goes
+const BOTTOM = 1e8;
 const KINDS = ["script", "transcript"];
 
 export class Texts {
@@ -43,7 +46,7 @@ export class Texts {
 
   /** Has the text shown soon; what somebody edits is left alone. */
   show() {
-    this.timer ??= setTimeout(() => this.write(), Math.max(0, this.written + GAP - performance.now()));
+    this.timer ??= setTimeout(() => this.write(), Math.max(0, this.written + Math.max(GAP, this.field.value.length / CHARACTERS_A_MILLISECOND) - performance.now()));
   }
 
   write() {
@@ -54,7 +57,7 @@ export class Texts {
     byId("words").textContent = `./console ${this.kind === "script" ? lab.words : "audit"} < ${this.fileName}`;
     if (!this.edited) {
       this.field.value = lab[this.kind];
-      this.field.scrollTop = this.field.scrollHeight;
+      this.field.scrollTop = BOTTOM;
     }
   }
 
