@@ -338,7 +338,7 @@ def addresses(pages, browser):
     """A script in the address is played; one that is hostile is told of, and runs nothing."""
     browser.open(f"{TOP}/viewer/page.css")
     browser.open(PLAYGROUND + "#script=link+1+2;link+2+3;drive+7+100&rules=manne&nodes=4&present=3")
-    waited(browser, STATE, "✓ stable, 1 pairs")
+    waited(browser, STATE, "✓ stable, 1 pair")
     pages.expect("a script in the address", browser.value(LINES), ["link 1 2", "link 2 3", "drive 7 100"])
     agrees(pages, browser, "a script in the address", "manne")
     browser.click(*place(browser, "#text-link"))

@@ -2,7 +2,7 @@
 import { RADIUS } from "../drawing.mjs";
 import { Gestures } from "../gestures.mjs";
 import { thingAt } from "../hit.mjs";
-import { grouped } from "../numbers.mjs";
+import { counted, grouped } from "../numbers.mjs";
 import { byId } from "../svg.mjs";
 import { Zoom } from "../zoom.mjs";
 import { LiveDrawing } from "./live_drawing.mjs";
@@ -82,9 +82,14 @@ export class Pane {
     left.style.width = `${(100 * charge) / (bound || 1)}%`;
     numbers.textContent = `spent ${grouped(seen.spent)} + charge ${grouped(charge)} ≤ bound ${grouped(bound)}`;
     const quiet = seen.enabledCount === 0;
-    state.textContent = quiet ? `✓ stable, ${grouped(seen.pairCount)} pairs` : `${grouped(seen.enabledCount)} may move`;
+    state.textContent = quiet ? `✓ stable, ${counted(seen.pairCount, "pair")}` : `${grouped(seen.enabledCount)} may move`;
     state.classList.toggle("stable", quiet);
-    this.trace.note(charge, seen.spent + charge, bound);
+  }
+
+  /** Adds how it stands to the line below the picture. */
+  note() {
+    const { charge, spent, bound } = this.lab.seen;
+    this.trace.note(charge, spent + charge, bound);
   }
 
   close() {

@@ -13,6 +13,8 @@ import { Tools } from "./tools.mjs";
 
 // so many milliseconds does an edge that came or went stay marked
 const MARKED = 1600;
+// and nodes that moved lit
+const LIT = 700;
 const LAST_SEED = 999_999_999;
 
 /** The last entry of some lines of a transcript; null where there is none. */
@@ -24,7 +26,7 @@ function lastEntry(text) {
 export class Playground {
   /** `judge(text)` judges a transcript and plays it. */
   constructor(engine, judge) {
-    Object.assign(this, { engine, labs: [], panes: [], past: [], at: 0, chosen: null, seed: 0, stretch: false, changed: null, fading: null });
+    Object.assign(this, { engine, labs: [], panes: [], past: [], at: 0, chosen: null, seed: 0, stretch: false, changed: null, fading: null, calming: null });
     const acts = {
       disturb: (line) => this.disturb(line),
       move: (lab, line) => this.move(lab, line),
@@ -309,12 +311,17 @@ export class Playground {
   show(moves) {
     this.labs.forEach((lab) => lab.fed !== false && lab.look());
     this.labs.forEach((lab) => (lab.fed = false));
+    this.panes.forEach((pane) => pane.note());
     this.draw();
     const enabled = this.labs.reduce((sum, { seen }) => sum + seen.enabledCount, 0);
     this.story.goesOn(moves, enabled, this.lab.seen.pairCount);
   }
 
   draw() {
+    clearTimeout(this.calming);
+    if (this.labs.some((lab) => lab.lit?.length > 0)) {
+      this.calming = setTimeout(() => this.draw(), LIT);
+    }
     this.panes.forEach((pane) => {
       pane.show(this.changed, pane.lab.lit ?? []);
       pane.lab.lit = [];
