@@ -215,6 +215,7 @@ export class Playground {
     });
     Object.assign(this, { stretch: false, changed: null });
     this.story.open();
+    this.texts.drop();
     this.draw();
     this.story.say(`Taken back: ${counted(Math.abs(before - this.lab.lines.length), "line")} of the script.`);
   }

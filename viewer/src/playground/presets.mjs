@@ -1,5 +1,6 @@
 // Networks to begin with: their nodes are 1 to `nodes`, `links` their edges, and `places` where the nodes lie, by their names; where
 // there are none, the page finds places by itself.
+import { distanceToStretch } from "../hit.mjs";
 import { chanceOf } from "./chance.mjs";
 
 export const MOST_NODES = 500;
@@ -8,7 +9,9 @@ const WIDE = 1.6;
 // distances in a field, where each node has a square of 1
 const DISK_REACH = 1.32;
 const MESH_REACH = 2.1;
-const JITTER = 0.28;
+const JITTER = 0.24;
+// no link of a mesh comes nearer to a third node
+const CLEAR = 0.3;
 const RACK_HOSTS = 8;
 
 function ring(nodes) {
@@ -78,8 +81,13 @@ function unitDisk(nodes, seed) {
   return { links: near(places, DISK_REACH), places };
 }
 
+/** Whether a link between two places runs past all others. */
+function isClear(places, v, w) {
+  return places.every(([x, y], at) => at === v || at === w || distanceToStretch(x, y, places[v], places[w]) > CLEAR);
+}
+
 /** Routers and what hangs on them, on a grid that was shaken: one of three is a router, which hears the routers near it; each other
- * node hears the two routers that are nearest. */
+ * node hears the two routers that are nearest, of those whose links run past all others where there are any. */
 function mesh(nodes, seed) {
   const chance = chanceOf(seed);
   const columns = columnsOf(nodes);
@@ -90,11 +98,12 @@ function mesh(nodes, seed) {
   });
   const isRouter = (at) => ((at % columns) + 2 * Math.floor(at / columns) + (Math.floor(at / columns) >> 1)) % 3 === 1;
   const routers = places.flatMap((_, at) => (isRouter(at) ? [at] : []));
-  const links = near(places, MESH_REACH).filter(([v, w]) => isRouter(v - 1) && isRouter(w - 1));
+  const links = near(places, MESH_REACH).filter(([v, w]) => isRouter(v - 1) && isRouter(w - 1) && isClear(places, v - 1, w - 1));
   places.forEach((place, at) => {
     if (!isRouter(at)) {
-      const nearest = [...routers].sort((v, w) => distance(place, places[v]) - distance(place, places[w]));
-      nearest.slice(0, 2).forEach((router) => links.push([Math.min(at, router) + 1, Math.max(at, router) + 1]));
+      const nearest = [...routers].sort((v, w) => distance(place, places[v]) - distance(place, places[w])).slice(0, 4);
+      const clear = nearest.filter((router) => isClear(places, at, router));
+      (clear.length > 0 ? clear : nearest).slice(0, 2).forEach((router) => links.push([Math.min(at, router) + 1, Math.max(at, router) + 1]));
     }
   });
   return { links, places };
@@ -135,7 +144,7 @@ function racks(nodes) {
 
 /** By their words in the page: how many nodes there are at first, and how they are made of a number of nodes and a seed. */
 export const PRESETS = {
-  mesh: { name: "wireless mesh", nodes: 16, make: mesh },
+  mesh: { name: "wireless mesh", nodes: 15, make: mesh },
   ring: { name: "ring", nodes: 12, make: ring },
   path: { name: "path", nodes: 12, make: path },
   grid: { name: "grid", nodes: 24, make: grid },

@@ -1,7 +1,7 @@
 // Lets the network move by itself: so many moves a second, as long as somewhere something is enabled.
 
 // so many milliseconds of a picture may moves take
-const MOST_TIME = 12;
+const MOST_TIME = 8;
 
 export class Runner {
   /** `step()` lets each network move once, and says whether one did; `shown(count)` shows what came of so many of that. */

@@ -16,7 +16,10 @@ export class Texts {
     Object.assign(this, { lab, acts, kind: "script", written: -Infinity, timer: null, edited: false });
     this.field = byId("text");
     KINDS.forEach((kind) => byId(`show-${kind}`).addEventListener("click", () => this.turnTo(kind)));
-    this.field.addEventListener("focus", () => acts.pause());
+    this.field.addEventListener("focus", () => {
+      acts.pause();
+      this.write();
+    });
     this.field.addEventListener("input", () => this.edit(true));
     byId("text-use").addEventListener("click", () => this.use());
     byId("text-copy").addEventListener("click", () => this.copy(this.field.value, this.kind));
@@ -44,6 +47,12 @@ export class Texts {
     byId("text-use").disabled = !edited && this.kind === "script";
   }
 
+  /** Lets go of what was edited, and shows the text as it is. */
+  drop() {
+    this.edit(false);
+    this.write();
+  }
+
   /** Has the text shown soon; what somebody edits is left alone. */
   show() {
     this.timer ??= setTimeout(() => this.write(), Math.max(0, this.written + Math.max(GAP, this.field.value.length / CHARACTERS_A_MILLISECOND) - performance.now()));
@@ -66,8 +75,7 @@ export class Texts {
     if (this.kind === "transcript") {
       this.acts.judge(text);
     } else if (this.acts.play(text.split("\n").map((line) => line.trim()).filter((line) => line !== ""))) {
-      this.edit(false);
-      this.write();
+      this.drop();
     }
   }
 
