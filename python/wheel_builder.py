@@ -56,7 +56,8 @@ def page_maker():
     """The files that make pages of transcripts, by their names in the repository."""
     viewer = beside("viewer")
     shown = sorted(path for path in viewer.rglob("*") if path.suffix in (".html", ".css", ".mjs") and "tests" not in path.parts)
-    return {"scripts/play": beside("scripts/play"), **{f"viewer/{path.relative_to(viewer).as_posix()}": path for path in shown}}
+    others = ["scripts/play", "scripts/page.py", "release/playground.html"]
+    return {**{name: beside(name) for name in others}, **{f"viewer/{path.relative_to(viewer).as_posix()}": path for path in shown}}
 
 
 def program():

@@ -53,8 +53,20 @@ def keeping_toolchain(kit, folder, kept):
     return folder
 
 
+def is_wanting():
+    """Whether the library for C or its LLVM module is not there, or was built before a source that it may stand on was changed."""
+    if not BUILT.exists() or not KEPT.exists():
+        return True
+    parts = [path for part in ("src", "specs", "proofs") for path in TOP.glob(f"crates/*/{part}")]
+    found = run("find", TOP / "HANDLES", TOP / "crates.txt", *parts, "-newer", KEPT, "-print", "-quit", stdout=subprocess.PIPE)
+    return found.stdout != b""
+
+
 def build(rtlib):
-    """Proves and builds the library for C on the libraries below it as they lie there, and keeps its LLVM module."""
+    """Proves and builds the library for C on the libraries below it as they lie there, and keeps its LLVM module, where one of the two
+    is wanting."""
+    if not is_wanting():
+        return
     crate = next(it for it in rtlib.crates_below(str(TOP)) if it.name == CRATE.name)
     BUILT.parent.mkdir(exist_ok=True)
     with tempfile.TemporaryDirectory() as made:
@@ -63,13 +75,6 @@ def build(rtlib):
         words = [*crate.words(["--jobs", "1"], keeps=False), "--toolchain", toolchain, "--backend", "llvm"]
         run(rtlib.RATTLE, "build", *words, "-o", BUILT, cwd=CRATE, stdout=subprocess.DEVNULL)
         shutil.copyfile(fresh, KEPT)
-
-
-def is_older_than_a_source():
-    """Whether the kept module was built before a source that it may stand on was changed."""
-    parts = [path for part in ("src", "specs", "proofs") for path in TOP.glob(f"crates/*/{part}")]
-    found = run("find", TOP / "HANDLES", TOP / "crates.txt", *parts, "-newer", KEPT, "-print", "-quit", stdout=subprocess.PIPE)
-    return found.stdout != b""
 
 
 def turned(text):
