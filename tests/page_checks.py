@@ -151,3 +151,27 @@ def help_lines(top):
         front = {"HELP": 19 if short == "ENTRY" else 23, "ABOUT": 11 if short else 0, "USAGE": 7}.get(kind, 0)
         widest = max(len(line) for line in value.replace("\\\\", "\\").split("\n")) + front + around.get(short, 0) * (kind == "HELP")
         yield widest <= 80, f"help.rt: {name} makes a line of {widest} columns"
+
+
+def quotes(top):
+    """What is said of the mistake that README.md and PROMISES.md quote: its lines stand in the file that is linked, its clause in the source."""
+    sources = [path.read_text() for path in top.glob("crates/locked_net/src/*.rt")]
+    for page in (top / "README.md", top / "docs/PROMISES.md"):
+        text = page.read_text()
+        linked = re.search(r"\]\(([^)]+\.edit)\)", text)
+        edit = (page.parent / linked[1]).read_text() if linked else ""
+        lines = re.findall(r"^((?:function|old|new): .+|ensures .+)$", text, re.M)
+        yield len(lines) >= 3, f"{page.name}: no mistake is quoted"
+        for line in lines:
+            stands = any(f"    {line}\n" in source for source in sources) if line.startswith("ensures") else f"{line}\n" in edit
+            yield stands, f"{page.name}: this stands nowhere: {line[:60]}"
+
+
+def points(top):
+    """What is said of DECISIONS.md: no point has more than three lines."""
+    text = (top / "docs/DECISIONS.md").read_text()
+    for point in re.findall(r"^- .*(?:\n  .*)*", text, re.M):
+        yield point.count("\n") < 3, f"DECISIONS.md: more than three lines: {point[:60]}"
+
+
+OF_PAGES = (calls, definitions, figures, help_lines, quotes, points)
