@@ -184,13 +184,16 @@ impl<R: Rules> Engine<R> {
             Event::Join(v) => put_edit(reply, refused_join(self.store(), *v)),
             Event::Leave(v) => put_edit(reply, refused_leave(self.store(), *v)),
             Event::Step(choice) => self.prepare_choice(choice, reply),
-            Event::Show(v) => put(reply, Ok(self.show(*v))),
-            Event::Enabled => put(reply, self.list_enabled()),
-            Event::Matching => {
-                let pairs = self.list_pairs();
-                put(reply, pairs)
+            Event::Show(v) => {
+                self.show(*v, reply);
+                Ok(())
             }
-            Event::Status => put(reply, Ok(self.status(spent))),
+            Event::Enabled => self.prepare_enabled(reply),
+            Event::Matching => self.prepare_matching(reply),
+            Event::Status => {
+                self.status(spent, reply);
+                Ok(())
+            }
         }
     }
 
@@ -240,13 +243,28 @@ impl<R: Rules> Engine<R> {
         step_reply(refused, gathered)
     }
 
-    fn show(&self, v: Node) -> Reply
-        ensures { (spent : ℕ) → result ≡ reply_of R.table self.now.state spent (Show v) }
+    fn show(&self, v: Node, reply: &mut Reply)
+        ensures { (spent : ℕ) → reply.new ≡ reply_of R.table self.now.state spent (Show v) }
     {
         if !self.state.store().has(v) {
-            return Reply::Refused(Refusal::UnknownNode);
+            *reply = Reply::Refused(Refusal::UnknownNode);
+            return;
         }
-        Reply::Shown(self.state.registers().pointer(v))
+        *reply = Reply::Shown(self.state.registers().pointer(v));
+    }
+
+    // What lists takes a function of its own, so that the way of other events has no place for its results.
+    fn prepare_enabled(&mut self, reply: &mut Reply) -> Result<(), Want>
+        ensures { (spent : ℕ) → Prepares R.table self.old spent Enabled (told result reply.new) self.new }
+    {
+        put(reply, self.list_enabled())
+    }
+
+    fn prepare_matching(&mut self, reply: &mut Reply) -> Result<(), Want>
+        ensures { (spent : ℕ) → Prepares R.table self.old spent Matching (told result reply.new) self.new }
+    {
+        let pairs = self.list_pairs();
+        put(reply, pairs)
     }
 
     fn list_enabled(&self) -> Result<Reply, Want>
@@ -265,19 +283,19 @@ impl<R: Rules> Engine<R> {
         Ok(Reply::Pairs(Listing::from_vec(pairs)))
     }
 
-    fn status(&mut self, spent: u32) -> Reply
-        ensures reply { result ≡ reply_of R.table self.old.state spent Status }
+    fn status(&mut self, spent: u32, reply: &mut Reply)
+        ensures reply { reply.new ≡ reply_of R.table self.old.state spent Status }
         ensures state { self.new.state ≡ self.old.state }
     {
         let totals = totals_of(&mut self.state);
-        Reply::Counts(Counts {
+        *reply = Reply::Counts(Counts {
             nodes: self.state.store().nodes(),
             edges: self.state.store().edges(),
             pairs: totals.pairs,
             enabled: self.enabled.count(),
             charge: totals.charge,
             spent,
-        })
+        });
     }
 
     /// Carries out an event with the reply that was prepared for it; takes no memory.

@@ -1,9 +1,6 @@
-use Rattle.std.proofs.Common.{Result, refl, sym, subst}
+use Rattle.std.proofs.Common.{sym, subst}
 use Rattle.std.specs.declared.alloc.AllocError.{AllocError}
-use Rattle.rule_machine.specs.declared.event.Event.TheVariants.{Enabled, Matching}
-use Rattle.rule_machine.specs.declared.reply.Reply.{Reply}
 use Rattle.rule_engine.specs.Applied.{Prepares, told}
-use Rattle.rule_engine.proofs.Preparing.{asked_prepares}
 use Rattle.rule_engine.proofs.engine.Engine.prepare.Goals as goal
 
 pub returns-in-Link : goal.returns-in-Link
@@ -16,10 +13,8 @@ returns-in-Step g c =
 
 pub returns-in-Enabled : goal.returns-in-Enabled
 returns-in-Enabled g c =
-    subst (λ (r : Result Reply AllocError). Prepares {E = AllocError} g.R.Rules.table c.args.self.now c.args.spent c.args.event.now r c.args.self.now) (sym c.put-in-Enabled.ensures)
-    (subst (λ event. Prepares {E = AllocError} g.R.Rules.table c.args.self.now c.args.spent event c.list_enabled.result c.args.self.now) (sym c.in-Enabled.is) (asked_prepares g.R.Rules.table c.args.self.now c.args.self.now c.args.spent Enabled c.list_enabled.result refl refl refl (λ reply. tt) (c.list_enabled.ensures c.args.spent)))
+    subst (λ event. Prepares {E = AllocError} g.R.Rules.table c.args.self.now c.args.spent event (told c.prepare_enabled.result c.prepare_enabled.new.reply) c.prepare_enabled.new.self) (sym c.in-Enabled.is) (c.prepare_enabled.ensures c.args.spent)
 
 pub returns-in-Matching : goal.returns-in-Matching
 returns-in-Matching g c =
-    subst (λ (r : Result Reply AllocError). Prepares {E = AllocError} g.R.Rules.table c.args.self.now c.args.spent c.args.event.now r c.list_pairs-pairs.new.self) (sym c.put-in-Matching.ensures)
-    (subst (λ event. Prepares {E = AllocError} g.R.Rules.table c.args.self.now c.args.spent event c.list_pairs-pairs.result c.list_pairs-pairs.new.self) (sym c.in-Matching.is) (asked_prepares g.R.Rules.table c.args.self.now c.list_pairs-pairs.new.self c.args.spent Matching c.list_pairs-pairs.result c.list_pairs-pairs.ensures.state refl refl (λ reply. tt) (c.list_pairs-pairs.ensures.reply c.args.spent)))
+    subst (λ event. Prepares {E = AllocError} g.R.Rules.table c.args.self.now c.args.spent event (told c.prepare_matching.result c.prepare_matching.new.reply) c.prepare_matching.new.self) (sym c.in-Matching.is) (c.prepare_matching.ensures c.args.spent)
