@@ -76,8 +76,8 @@ fn judge_read<In: Read>(alloc: Global, reader: &mut In) -> Result<Summary, Audit
 /// from within its bound; and where a base comes among entries, it has to be that of the state reached. Else the first line that
 /// fails is named, by the first of these that it fails: its form, its number, its reply; of a base, that it is its line. `Memory`
 /// if memory runs out. An entry costs its line and what the judge looks at: look-ups, and the neighbours of the nodes that move;
-/// the first `enabled`, `matching` or `status` about a state a look at all names and at the neighbours of some of them, as
-/// `Judge::replay` says, and further ones what they list; a base a look at all names and edges and the memory of its text.
+/// `enabled`, `matching` and `status` what changed since the last of them and what they list, as `Judge::replay` says; a base a
+/// look at all names and edges and the memory of its text.
 pub fn audit_bytes(alloc: Global, bytes: &[u8]) -> Result<Summary, JudgeFault>
     ensures judged { IsJudged bytes.now result }
     ensures accepts_runs { (counted : Summary) → IsAccepted bytes.now counted → (result ≡ Ok counted) ⊎ (result ≡ Err Memory) }

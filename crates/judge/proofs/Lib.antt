@@ -3,10 +3,14 @@ pub mod Moving
 pub mod Listed
 pub mod Rising
 pub mod Table
-pub mod Courting
+pub mod Blocks
 pub mod Counting
 pub mod Married
-pub mod Adding
+pub mod Pairs
+pub mod Rounds
+pub mod Asking
+pub mod Told
+pub mod Summed
 pub mod Charged
 pub mod Made
 pub mod Begun

@@ -1,8 +1,5 @@
-pub mod States
 pub mod Choices
-pub mod Courting
-pub mod Charging
+pub mod Shares
 pub mod Judging
 pub mod Rising
-pub mod Surveying
 pub mod Bases

@@ -40,16 +40,17 @@ fn bound(net: &NetState, rules: RuleSet) -> u64
 }
 
 /// Whether what is spent is within the bound of the network, with the charge.
-fn is_within(net: &mut NetState, alloc: Global, rules: RuleSet, spent: u32) -> Result<bool, Want>
-    ensures within { IfOk result (λ within. within ≡ nat_le (spent + (table_of rules).charge net.old.state) (charge_bound (weight_of rules) net.old.state.network)) }
-    ensures sound { IsState net.old.state }
-    ensures kept { net.new.state ≡ net.old.state }
+fn is_within(survey: &mut Survey, rules: RuleSet, spent: u32) -> bool
+    ensures within { result ≡ nat_le (spent + (table_of rules).charge survey.old.net.state) (charge_bound (weight_of rules) survey.old.net.state.network) }
+    ensures sound { IsState survey.old.net.state }
+    ensures kept { survey.new.net.state ≡ survey.old.net.state }
 {
-    let bound = bound(net, rules);
-    let mut survey = Survey::new(alloc, net.capacity())?;
-    let charge = u64::from(survey.tally(rules, net).charge);
+    // By its contract the state is sound.
+    let _ = survey.net.registers();
+    let bound = bound(&survey.net, rules);
+    let charge = u64::from(survey.tally(rules).charge);
     // The charge alone never exceeds the bound.
-    Ok(u64::from(spent) <= bound - charge)
+    u64::from(spent) <= bound - charge
 }
 
 /// Whether the flags that are true are used by the rules.
@@ -86,15 +87,16 @@ impl Judge {
         if edges.len() > MAX_EDGES as usize {
             return Ok(None);
         }
-        let Some(mut net) = from_lines(alloc, size, nodes, edges)? else {
+        let Some(net) = from_lines(alloc, size, nodes, edges)? else {
             return Ok(None);
         };
-        if !is_within(&mut net, alloc, rules, base.spent)? {
+        let mut survey = Survey::new(alloc, net)?;
+        if !is_within(&mut survey, rules, base.spent) {
             return Ok(None);
         }
-        if !has_fit_flags(&net, rules, nodes) {
+        if !has_fit_flags(&survey.net, rules, nodes) {
             return Ok(None);
         }
-        Ok(Some(Judge::of_net(alloc, net)?))
+        Ok(Some(Judge::of_survey(alloc, survey)?))
     }
 }

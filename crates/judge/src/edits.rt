@@ -5,7 +5,7 @@ ghost use Rattle.rule_machine.specs.State.{IsState, opening_with};
 ghost use Rattle.rule_machine.specs.Refuse.{link_refusal, point_refusal};
 ghost use Rattle.rule_machine.specs.Disturbance.{after_link, after_point, after_flag};
 
-use net_state::NetState;
+use net_state::{Disturb, NetState};
 use rule_machine::{Node, Place, Want};
 use std::alloc::{AllocError, Global};
 
@@ -26,7 +26,11 @@ pub(crate) fn link(net: &mut NetState, a: Node, b: Node) -> Result<(), Want>
     requires { link_refusal net.old.state.network a b ≡ None }
     ensures ok { OnOk result (net.new.state ≡ after_link net.old.state a b) }
     ensures err { OnErr result (net.new.state ≡ net.old.state) }
+    ensures ends { net.new.ends ≡ net.old.ends }
+    ensures sound { IsState net.new.state }
 {
+    // By its contract the state is sound.
+    let _ = net.registers();
     let Ok(()) = net.reserve_link(a, b) else {
         return Err(AllocError);
     };
@@ -35,13 +39,13 @@ pub(crate) fn link(net: &mut NetState, a: Node, b: Node) -> Result<(), Want>
 }
 
 /// Writes a node's pointer.
-pub(crate) fn point(net: &mut NetState, v: Node, target: Option<Node>)
-    requires { point_refusal net.old.state.network v target ≡ None }
-    ensures { net.new.state ≡ after_point net.old.state v target }
+pub(crate) fn point<D: Disturb>(it: &mut D, v: Node, target: Option<Node>)
+    requires { point_refusal (D.state it.old).network v target ≡ None }
+    ensures { D.state it.new ≡ after_point (D.state it.old) v target }
 {
     // By its contract the state is sound.
-    let _ = net.registers();
-    net.set_pointer(v, target);
+    let _ = it.net();
+    it.set_pointer(v, target);
 }
 
 /// Writes a node's registers.

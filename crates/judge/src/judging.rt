@@ -9,9 +9,8 @@ ghost use Rattle.rule_machine.specs.Tables.{table_of};
 ghost use Rattle.machine_laws.specs.Followed.{followed, disturbed};
 ghost use Rattle.judge.specs.Choices.{Holds, IsWithin, IsReady};
 ghost use Rattle.judge.specs.Judging.{TakesMemory, is_link, items_of};
-ghost use Rattle.judge.specs.Surveying.{AreReady, IsSurvey};
 
-use crate::edits::{link, point};
+use crate::edits::point;
 use crate::questions::{are_enabled, are_mutual};
 use crate::reads::pointer;
 use crate::refusals::{
@@ -20,33 +19,32 @@ use crate::refusals::{
 use crate::replies::{is_accepted, is_refusal, is_shown};
 use crate::status::has_counts;
 use crate::steps::{is_step, step_refusal};
-use crate::{Chosen, Notes, Survey};
-use net_state::{NetState, leave, make_moves, unlink};
+use crate::{Chosen, Survey};
+use net_state::{Disturb, NetState, leave, make_moves, unlink};
 use rule_machine::{Event, Item, Refusal, Reply, RuleSet, Want};
 
 /// Whether the machine may give this reply to the event, where these moves are spent; where it may, the event is
 /// carried out as the reply says. Items of a step may stand at their nodes then.
 pub(crate) fn judge_reply(
-    net: &mut NetState,
+    survey: &mut Survey,
     rules: RuleSet,
     spent: u64,
     event: &Event,
     reply: &Reply,
-    notes: &mut Notes,
+    chosen: &mut Chosen,
 ) -> Result<bool, Want>
-    requires { AreReady net.old.state notes.old }
-    ensures right { IfOk result (λ right. IsTrue right → Answers (table_of rules) net.old.state spent event.now reply.now net.new.state) }
-    ensures wrong { IfOk result (λ right. right ≡ false → ((s : State) → Answers (table_of rules) net.old.state spent event.now reply.now s → ⊥) × (net.new.state ≡ net.old.state)) }
-    ensures err { OnErr result (net.new.state ≡ net.old.state) }
-    ensures want { OnErr result (TakesMemory (table_of rules) net.old.state event.now reply.now) }
-    ensures size { net.new.state.network.size ≡ net.old.state.network.size }
-    ensures within { IsWithin notes.new.chosen (items_of event.now) }
-    ensures len { length notes.new.chosen ≡ length notes.old.chosen }
-    ensures surveyed { IsSurvey net.new.state notes.new.survey }
+    requires { IsReady survey.old.net.state.network.size chosen.old }
+    ensures right { IfOk result (λ right. IsTrue right → Answers (table_of rules) survey.old.net.state spent event.now reply.now survey.new.net.state) }
+    ensures wrong { IfOk result (λ right. right ≡ false → ((s : State) → Answers (table_of rules) survey.old.net.state spent event.now reply.now s → ⊥) × (survey.new.net.state ≡ survey.old.net.state)) }
+    ensures err { OnErr result (survey.new.net.state ≡ survey.old.net.state) }
+    ensures want { OnErr result (TakesMemory (table_of rules) survey.old.net.state event.now reply.now) }
+    ensures size { survey.new.net.state.network.size ≡ survey.old.net.state.network.size }
+    ensures within { IsWithin chosen.new (items_of event.now) }
+    ensures len { length chosen.new ≡ length chosen.old }
 {
-    match refusal(net, rules, event, &mut notes.chosen) {
+    match refusal(&survey.net, rules, event, chosen) {
         Some(refusal) => Ok(is_refusal(reply, refusal)),
-        None => judge_accepted(net, rules, spent, event, reply, notes),
+        None => judge_accepted(survey, rules, spent, event, reply, chosen),
     }
 }
 
@@ -72,49 +70,45 @@ fn refusal(net: &NetState, rules: RuleSet, event: &Event, chosen: &mut Chosen) -
 
 /// Whether the machine may give this reply to an event that is not refused, and what the reply does.
 fn judge_accepted(
-    net: &mut NetState,
+    survey: &mut Survey,
     rules: RuleSet,
     spent: u64,
     event: &Event,
     reply: &Reply,
-    notes: &mut Notes,
+    chosen: &mut Chosen,
 ) -> Result<bool, Want>
-    requires accepted { refusal_of (table_of rules) net.old.state event.now ≡ None }
-    requires held { Holds (table_of rules) net.old.state notes.old.chosen (items_of event.now) }
-    requires surveyed { IsSurvey net.old.state notes.old.survey }
-    ensures right { IfOk result (λ right. IsTrue right → Does (table_of rules) net.old.state spent event.now reply.now net.new.state) }
-    ensures wrong { IfOk result (λ right. right ≡ false → ((s : State) → Does (table_of rules) net.old.state spent event.now reply.now s → ⊥) × (net.new.state ≡ net.old.state)) }
-    ensures err { OnErr result (net.new.state ≡ net.old.state) }
+    requires accepted { refusal_of (table_of rules) survey.old.net.state event.now ≡ None }
+    requires held { Holds (table_of rules) survey.old.net.state chosen.old (items_of event.now) }
+    ensures right { IfOk result (λ right. IsTrue right → Does (table_of rules) survey.old.net.state spent event.now reply.now survey.new.net.state) }
+    ensures wrong { IfOk result (λ right. right ≡ false → ((s : State) → Does (table_of rules) survey.old.net.state spent event.now reply.now s → ⊥) × (survey.new.net.state ≡ survey.old.net.state)) }
+    ensures err { OnErr result (survey.new.net.state ≡ survey.old.net.state) }
     ensures want { OnErr result (IsTrue (is_link event.now) × (reply.now ≡ Reply.Accepted)) }
-    ensures size { net.new.state.network.size ≡ net.old.state.network.size }
-    ensures within { IsWithin notes.new.chosen (items_of event.now) }
-    ensures len { length notes.new.chosen ≡ length notes.old.chosen }
-    ensures surveyed { IsSurvey net.new.state notes.new.survey }
+    ensures size { survey.new.net.state.network.size ≡ survey.old.net.state.network.size }
+    ensures within { IsWithin chosen.new (items_of event.now) }
+    ensures len { length chosen.new ≡ length chosen.old }
 {
-    if !may_accept(net, rules, spent, event, reply, notes) {
+    if !may_accept(survey, rules, spent, event, reply, chosen) {
         return Ok(false);
     }
-    follow(net, rules, event, reply, &mut notes.survey)?;
+    follow(survey, rules, event, reply)?;
     Ok(true)
 }
 
 /// Whether an event that is not refused may have this reply.
 fn may_accept(
-    net: &mut NetState,
+    survey: &mut Survey,
     rules: RuleSet,
     spent: u64,
     event: &Event,
     reply: &Reply,
-    notes: &mut Notes,
+    chosen: &mut Chosen,
 ) -> bool
-    requires accepted { refusal_of (table_of rules) net.old.state event.now ≡ None }
-    requires held { Holds (table_of rules) net.old.state notes.old.chosen (items_of event.now) }
-    requires surveyed { IsSurvey net.old.state notes.old.survey }
-    ensures value { IsTrue result ↔ Does (table_of rules) net.old.state spent event.now reply.now (followed net.old.state event.now reply.now) }
-    ensures kept { net.new.state ≡ net.old.state }
-    ensures within { IsWithin notes.new.chosen (items_of event.now) }
-    ensures len { length notes.new.chosen ≡ length notes.old.chosen }
-    ensures surveyed { IsSurvey net.new.state notes.new.survey }
+    requires accepted { refusal_of (table_of rules) survey.old.net.state event.now ≡ None }
+    requires held { Holds (table_of rules) survey.old.net.state chosen.old (items_of event.now) }
+    ensures value { IsTrue result ↔ Does (table_of rules) survey.old.net.state spent event.now reply.now (followed survey.old.net.state event.now reply.now) }
+    ensures kept { survey.new.net.state ≡ survey.old.net.state }
+    ensures within { IsWithin chosen.new (items_of event.now) }
+    ensures len { length chosen.new ≡ length chosen.old }
 {
     match event {
         Event::Link(_, _)
@@ -123,11 +117,11 @@ fn may_accept(
         | Event::Flag(_, _)
         | Event::Join(_)
         | Event::Leave(_) => is_accepted(reply),
-        Event::Step(choice) => may_move(net, rules, choice.items(), reply, &mut notes.chosen),
-        Event::Show(v) => is_shown(pointer(net, *v), reply),
-        Event::Enabled => are_enabled(net, rules, reply, &mut notes.survey),
-        Event::Matching => are_mutual(net, rules, reply, &mut notes.survey),
-        Event::Status => has_counts(net, rules, spent, reply, &mut notes.survey),
+        Event::Step(choice) => may_move(&survey.net, rules, choice.items(), reply, chosen),
+        Event::Show(v) => is_shown(pointer(&survey.net, *v), reply),
+        Event::Enabled => are_enabled(survey, rules, reply),
+        Event::Matching => are_mutual(survey, rules, reply),
+        Event::Status => has_counts(survey, rules, spent, reply),
     }
 }
 
@@ -151,50 +145,36 @@ fn may_move(
     }
 }
 
-/// Carries out an event as a reply says that the machine may give. What was counted is kept where the reply changes nothing.
-fn follow(
-    net: &mut NetState,
-    rules: RuleSet,
-    event: &Event,
-    reply: &Reply,
-    survey: &mut Survey,
-) -> Result<(), Want>
-    requires surveyed { IsSurvey net.old.state survey.old }
-    requires accepted { refusal_of (table_of rules) net.old.state event.now ≡ None }
-    requires right { (spent : ℕ) × Does (table_of rules) net.old.state spent event.now reply.now (followed net.old.state event.now reply.now) }
-    ensures ok { OnOk result (net.new.state ≡ followed net.old.state event.now reply.now) }
-    ensures err { OnErr result (net.new.state ≡ net.old.state) }
+/// Carries out an event as a reply says that the machine may give.
+fn follow(survey: &mut Survey, rules: RuleSet, event: &Event, reply: &Reply) -> Result<(), Want>
+    requires accepted { refusal_of (table_of rules) survey.old.net.state event.now ≡ None }
+    requires right { (spent : ℕ) × Does (table_of rules) survey.old.net.state spent event.now reply.now (followed survey.old.net.state event.now reply.now) }
+    ensures ok { OnOk result (survey.new.net.state ≡ followed survey.old.net.state event.now reply.now) }
+    ensures err { OnErr result (survey.new.net.state ≡ survey.old.net.state) }
     ensures want { OnErr result (IsTrue (is_link event.now) × (reply.now ≡ Reply.Accepted)) }
-    ensures surveyed { IsSurvey net.new.state survey.new }
 {
     match reply {
-        Reply::Accepted => disturb(net, event, survey)?,
-        Reply::Moves(moves) => {
-            survey.forget();
-            make_moves(net, moves.as_slice());
-        }
+        Reply::Accepted => disturb(survey, event)?,
+        Reply::Moves(moves) => make_moves(survey, moves.as_slice()),
         _ => {}
     }
     Ok(())
 }
 
-/// Carries out a disturbance, and forgets what was counted before it. A step and a question do nothing.
-fn disturb(net: &mut NetState, event: &Event, survey: &mut Survey) -> Result<(), Want>
-    requires surveyed { IsSurvey net.old.state survey.old }
-    requires accepted { (t : RuleTable) × (refusal_of t net.old.state event.now ≡ None) }
-    ensures ok { OnOk result (net.new.state ≡ disturbed net.old.state event.now) }
-    ensures err { OnErr result (net.new.state ≡ net.old.state) }
+/// Carries out a disturbance. A step and a question do nothing.
+fn disturb(survey: &mut Survey, event: &Event) -> Result<(), Want>
+    requires accepted { (t : RuleTable) × (refusal_of t survey.old.net.state event.now ≡ None) }
+    ensures ok { OnOk result (survey.new.net.state ≡ disturbed survey.old.net.state event.now) }
+    ensures err { OnErr result (survey.new.net.state ≡ survey.old.net.state) }
     ensures want { OnErr result (IsTrue (is_link event.now)) }
-    ensures surveyed { IsSurvey net.new.state survey.new }
 {
-    survey.forget();
     match event {
-        Event::Link(a, b) => link(net, *a, *b)?,
-        Event::Unlink(a, b) => unlink(net, *a, *b),
-        Event::Point(v, target) => point(net, *v, *target),
-        Event::Flag(v, value) => net.set_flag(*v, *value),
-        Event::Join(v) => net.join(*v),
-        Event::Leave(v) => leave(net, *v),
+        Event::Link(a, b) => survey.link(*a, *b)?,
+        Event::Unlink(a, b) => unlink(survey, *a, *b),
+        Event::Point(v, target) => point(survey, *v, *target),
+        Event::Flag(v, value) => survey.set_flag(*v, *value),
+        Event::Join(v) => survey.join(*v),
+        Event::Leave(v) => leave(survey, *v),
         Event::Step(_) | Event::Show(_) | Event::Enabled | Event::Matching | Event::Status => {}
     }
     Ok(())

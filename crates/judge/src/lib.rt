@@ -4,8 +4,8 @@
 //! right one is carried out, a wrong one changes nothing. Its guards, targets and counts are written from the tables alone and share none
 //! with the rule sets of the engine, whose mistakes it would else repeat; the state (`net_state`) they share.
 //!
-//! A disturbance and a `Show` cost look-ups, a step looks at the neighbours of its nodes. The first question about a state counts all
-//! names at once and later ones look at what their replies list. It also begins at a base (`at_base`) and tells where it stands (`base`).
+//! A disturbance and a `Show` cost look-ups, a step looks at the neighbours of its nodes, and a question at what changed since the last
+//! one and at what its reply lists. It also begins at a base (`at_base`) and tells where it stands (`base`).
 //!
 //! ```rust
 //! let mut judge = Judge::new(alloc, 2)?;
@@ -15,14 +15,12 @@
 
 mod bases;
 mod choices;
-mod courted;
 mod edits;
 mod guards;
 mod judging;
 mod lines;
 mod looks;
 mod names;
-mod notes;
 mod places;
 mod questions;
 mod reads;
@@ -30,6 +28,7 @@ mod refusals;
 mod replay;
 mod replies;
 mod scans;
+mod share;
 mod shares;
 mod status;
 mod steps;
@@ -38,7 +37,5 @@ mod tally;
 mod targets;
 
 use choices::Chosen;
-use courted::Courted;
-use notes::Notes;
 pub use replay::Judge;
 use survey::Survey;

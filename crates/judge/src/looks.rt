@@ -16,7 +16,7 @@ impl Judge {
         ensures count { result ≡ network.node_count self.now.network }
         ensures few { result ≤ 65535 }
     {
-        self.net.nodes()
+        self.survey.net.nodes()
     }
 
     /// The greatest name that a node may have, at most 65,535.
@@ -24,21 +24,21 @@ impl Judge {
         ensures size { result ≡ self.now.network.size }
         ensures few { result ≤ 65535 }
     {
-        self.net.capacity()
+        self.survey.net.capacity()
     }
 
     /// Whether a node has this name.
     pub fn has(&self, v: Node) -> bool
         ensures { result ≡ network.present self.now.network v }
     {
-        self.net.has(v)
+        self.survey.net.has(v)
     }
 
     /// How many edges there are, at most 1,048,576.
     pub fn edges(&self) -> u32
         ensures { result ≡ network.edge_count self.now.network }
     {
-        self.net.edges()
+        self.survey.net.edges()
     }
 
     /// A node's neighbours, ascending.
@@ -46,14 +46,14 @@ impl Judge {
         requires { IsTrue (network.present self.now.network v) }
         ensures { result.now ≡ network.neighbours self.now.network v }
     {
-        self.net.neighbours(v)
+        self.survey.net.neighbours(v)
     }
 
     /// Whether a node points at another.
     pub fn points(&self, v: Node, w: Node) -> bool
         ensures { result ≡ state.points self.now.registers v w }
     {
-        self.net.points(v, w)
+        self.survey.net.points(v, w)
     }
 
     /// Whether a node is in a mutual pair.
@@ -61,7 +61,7 @@ impl Judge {
         requires { IsTrue (network.present self.now.network v) }
         ensures { result ≡ state.married self.now v }
     {
-        self.net.married(v)
+        self.survey.net.married(v)
     }
 
     /// The rule that is enabled at a node, if any is. Looks at its neighbours.
@@ -69,6 +69,6 @@ impl Judge {
         requires { IsTrue (network.present self.now.network v) }
         ensures { result ≡ table.rule_at (table_of rules) self.now v }
     {
-        rule_at(&self.net, rules, v, None)
+        rule_at(&self.survey.net, rules, v)
     }
 }

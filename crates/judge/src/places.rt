@@ -14,8 +14,8 @@ impl Judge {
         ensures base { IfOk result (λ base. base ≡ base_of number (record { state = self.now; spent = spent })) }
         ensures few { IfOk result (λ base. (length base.nodes ≤ 65535) × (length base.edges ≤ 1048576)) }
     {
-        let nodes = self.net.list_places(alloc)?;
-        let edges = self.net.list_edges()?;
+        let nodes = self.survey.net.list_places(alloc)?;
+        let edges = self.survey.net.list_edges()?;
         Ok(Base {
             number,
             spent,

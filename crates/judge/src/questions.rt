@@ -4,45 +4,36 @@ ghost use Rattle.std.specs.Prelude.{◌≡◌, ◌↔◌, IsTrue, Some};
 ghost use Rattle.rule_machine.specs.RuleTable.{enabled};
 ghost use Rattle.rule_machine.specs.Stable.{mutual_pairs};
 ghost use Rattle.rule_machine.specs.Tables.{table_of};
-ghost use Rattle.judge.specs.Courting.{IsCourting};
 ghost use Rattle.judge.specs.Rising.{AreRising, pair_at, ruled_node};
-ghost use Rattle.judge.specs.Surveying.{IsSurvey};
+ghost use Rattle.judge.specs.Shares.{AreFresh};
 
-use crate::guards::rule_at;
-use crate::{Courted, Survey};
+use crate::Survey;
 use net_state::NetState;
 use rule_machine::{Act, Edge, Node, Reply, RuleSet};
 
 /// Whether a reply has the enabled nodes, each with its rule: as many as there are, and each one of them, by rising names.
-pub(crate) fn are_enabled(
-    net: &mut NetState,
-    rules: RuleSet,
-    reply: &Reply,
-    survey: &mut Survey,
-) -> bool
-    requires { IsSurvey net.old.state survey.old }
-    ensures value { IsTrue result ↔ (reply.now ≡ Reply.EnabledAre (enabled (table_of rules) net.old.state)) }
-    ensures kept { net.new.state ≡ net.old.state }
-    ensures surveyed { IsSurvey net.new.state survey.new }
+pub(crate) fn are_enabled(survey: &mut Survey, rules: RuleSet, reply: &Reply) -> bool
+    ensures value { IsTrue result ↔ (reply.now ≡ Reply.EnabledAre (enabled (table_of rules) survey.old.net.state)) }
+    ensures kept { survey.new.net.state ≡ survey.old.net.state }
 {
     let Reply::EnabledAre(listing) = reply else {
         return false;
     };
-    let tally = survey.tally(rules, net);
+    let tally = survey.tally(rules);
     let given = listing.as_slice();
-    given.len() == tally.enabled as usize && are_ruled(net, rules, given, &survey.courted)
+    given.len() == tally.enabled as usize && are_ruled(survey, given)
 }
 
 /// Whether these are enabled nodes, each with its rule, by rising names.
 #[inline(never)]
-fn are_ruled(net: &NetState, rules: RuleSet, given: &[(Node, Act)], courted: &Courted) -> bool
-    requires { IsCourting net.now.state courted.now }
-    ensures { IsTrue result ↔ AreRising (ruled_node (table_of rules) net.now.state) 0 given.now }
+fn are_ruled(survey: &Survey, given: &[(Node, Act)]) -> bool
+    requires { AreFresh survey.now.shares.touched survey.now.shares.due }
+    ensures { IsTrue result ↔ AreRising (ruled_node (table_of survey.now.rules) survey.now.net.state) 0 given.now }
 {
     let mut last = 0;
     for item in given {
         let (v, act) = *item;
-        if v.name() <= last || !has_rule(net, rules, v, act, courted) {
+        if v.name() <= last || !has_rule(survey, v, act) {
             return false;
         }
         last = v.name();
@@ -50,39 +41,29 @@ fn are_ruled(net: &NetState, rules: RuleSet, given: &[(Node, Act)], courted: &Co
     true
 }
 
-/// Whether this rule is enabled at the node of a name, if there is one. Looks at the neighbours of one that may seduce.
+/// Whether this rule is enabled at the node of a name, if there is one.
 #[inline(always)]
-fn has_rule(net: &NetState, rules: RuleSet, v: Node, act: Act, courted: &Courted) -> bool
-    requires { IsCourting net.now.state courted.now }
-    ensures { IsTrue result ↔ (ruled_node (table_of rules) net.now.state v ≡ Some (v, act)) }
+fn has_rule(survey: &Survey, v: Node, act: Act) -> bool
+    requires { AreFresh survey.now.shares.touched survey.now.shares.due }
+    ensures { IsTrue result ↔ (ruled_node (table_of survey.now.rules) survey.now.net.state v ≡ Some (v, act)) }
 {
-    if !net.has(v) {
-        return false;
-    }
-    match rule_at(net, rules, v, Some(courted)) {
+    match survey.rule_of(v) {
         Some(rule) => rule == act,
         None => false,
     }
 }
 
 /// Whether a reply has the mutual pairs: as many as there are, and each one of them, by rising lower ends.
-pub(crate) fn are_mutual(
-    net: &mut NetState,
-    rules: RuleSet,
-    reply: &Reply,
-    survey: &mut Survey,
-) -> bool
-    requires { IsSurvey net.old.state survey.old }
-    ensures value { IsTrue result ↔ (reply.now ≡ Reply.Pairs (mutual_pairs net.old.state)) }
-    ensures kept { net.new.state ≡ net.old.state }
-    ensures surveyed { IsSurvey net.new.state survey.new }
+pub(crate) fn are_mutual(survey: &mut Survey, rules: RuleSet, reply: &Reply) -> bool
+    ensures value { IsTrue result ↔ (reply.now ≡ Reply.Pairs (mutual_pairs survey.old.net.state)) }
+    ensures kept { survey.new.net.state ≡ survey.old.net.state }
 {
     let Reply::Pairs(listing) = reply else {
         return false;
     };
-    let tally = survey.tally(rules, net);
+    let tally = survey.tally(rules);
     let given = listing.as_slice();
-    given.len() == tally.pairs as usize && are_pairs(net, given)
+    given.len() == tally.pairs as usize && are_pairs(&survey.net, given)
 }
 
 /// Whether these are mutual pairs, by rising lower ends.

@@ -6,35 +6,33 @@ ghost use Rattle.rule_machine.specs.State.{State, opening, opening_with};
 ghost use Rattle.rule_machine.specs.Tables.{table_of};
 ghost use Rattle.judge.specs.Judging.{TakesMemory};
 
-use crate::Notes;
 use crate::edits::opened;
 use crate::judging::judge_reply;
-use net_state::NetState;
+use crate::{Chosen, Survey};
 use rule_machine::{Event, Reply, RuleSet, Want};
 use std::alloc::Global;
 use std::marker::Model;
 
 /// A network that judges replies, seen in contracts as a state. Guards and targets are found anew at each event from the neighbour
-/// lists and the registers; what a question asks for is counted by the first one about a state, and forgotten as the state changes,
-/// but for the edges that are open by their ends, which are counted on from one such count to the next. Beside them there are only
-/// the places of a choice's items, which are clear between two calls.
+/// lists and the registers; what a question asks for is counted on from what the last one counted. Beside that there are only the
+/// places of a choice's items, which are clear between two calls.
 #[derive(Drop)]
 pub struct Judge {
-    pub(crate) net: NetState,
-    notes: Notes,
+    pub(crate) survey: Survey,
+    chosen: Chosen,
 }
 
 impl Model for Judge {
     ghost use Rattle.rule_machine.specs.State.{State, state_code};
-    ghost use Rattle.judge.specs.Surveying.{AreReady};
+    ghost use Rattle.judge.specs.Choices.{IsReady};
 
     ghost Value = { State };
 
     ghost coded = { state_code };
 
-    ghost view = { λ j. j.net.state };
+    ghost view = { λ j. j.survey.net.state };
 
-    ghost invariant = { λ j. AreReady j.net.state j.notes };
+    ghost invariant = { λ j. IsReady j.survey.net.state.network.size j.chosen };
 }
 
 impl Judge {
@@ -55,24 +53,24 @@ impl Judge {
         ensures { IfOk result (λ judge. judge ≡ opening_with nodes present) }
     {
         let net = opened(alloc, nodes, present)?;
-        Judge::of_net(alloc, net)
+        let survey = Survey::new(alloc, net)?;
+        Judge::of_survey(alloc, survey)
     }
 
     /// The judge in the state of a network.
-    pub(crate) fn of_net(alloc: Global, net: NetState) -> Result<Judge, Want>
-        ensures { IfOk result (λ judge. judge ≡ net.state) }
+    pub(crate) fn of_survey(alloc: Global, survey: Survey) -> Result<Judge, Want>
+        ensures { IfOk result (λ judge. judge ≡ survey.net.state) }
     {
-        let nodes = net.capacity();
-        let notes = Notes::new(alloc, nodes)?;
-        Ok(Judge { net, notes })
+        let chosen = Chosen::new(alloc, survey.net.capacity())?;
+        Ok(Judge { survey, chosen })
     }
 
     /// Whether the machine may give this reply to the event, where these moves are spent since the last accepted
     /// disturbance; where it may, the event is carried out as the reply says. Where no target is wished, any allowed one
     /// is right. A wrong reply changes nothing, and neither does want of memory, which comes only where a link is rightly
-    /// accepted. A disturbance and a `Show` cost look-ups, and a step looks at the neighbours of its nodes. The first `Enabled`,
-    /// `Matching` or `Status` about a state looks at all names, at the neighbours of those that may seduce, and at the neighbours of
-    /// those whose edges count otherwise than at the last count; further ones look at what their replies list.
+    /// accepted. A disturbance and a `Show` cost look-ups, and a step looks at the neighbours of its nodes. `Enabled`, `Matching` and
+    /// `Status` look at the nodes that changed since the last of these, at the neighbours of those, at the neighbours of each that
+    /// may marry or seduce or whose edges count otherwise, and at what their replies list.
     pub fn replay(
         &mut self,
         rules: RuleSet,
@@ -85,9 +83,16 @@ impl Judge {
         ensures err { OnErr result (self.new ≡ self.old) }
         ensures want { OnErr result (TakesMemory (table_of rules) self.old event.now reply.now) }
     {
-        let right = judge_reply(&mut self.net, rules, spent, event, reply, &mut self.notes);
+        let right = judge_reply(
+            &mut self.survey,
+            rules,
+            spent,
+            event,
+            reply,
+            &mut self.chosen,
+        );
         if let Event::Step(choice) = event {
-            self.notes.chosen.clear(choice.items());
+            self.chosen.clear(choice.items());
         }
         right
     }

@@ -1,175 +1,141 @@
-//! What a status counts at one name.
+//! What each name brings to the numbers of a status, as it was when the name was last looked at.
 
-ghost use Rattle.std.specs.Prelude.{◌≡◌, ◌≤◌, None};
-ghost use Rattle.rule_machine.specs.State.{IsState, pointer};
-ghost use Rattle.judge.specs.Charging.{IsShare, nobody};
-ghost use Rattle.judge.specs.Courting.{IsCourting};
+ghost use Rattle.std.specs.Prelude.{◌≡◌, All, ℕ, ◌+◌, ◌<◌, ◌≤◌, true, false, length, replicate, slice_set, IfOk, IfSome};
+ghost use Rattle.enabled_set.specs.Members.{is_in};
+ghost use Rattle.rule_machine.specs.Network.{first_names};
+ghost use Rattle.judge.specs.Shares.{nobody, AreSummed, IsElsewhere, IsLight, IsMarked};
 
-use crate::Courted;
-use crate::scans::{first_null_among, first_to_court_among};
-use graph_store::End;
-use net_state::NetState;
-use rule_machine::{Node, RuleSet};
+use crate::names::node_above;
+use crate::share::{NO_SHARE, Share};
+use enabled_set::EnabledSet;
+use graph_store::first_names;
+use rule_machine::{Node, Want};
+use std::alloc::Global;
 
-/// The share of a name in the numbers of a status: what it adds to the charge beside its edges, whether its pointer closes one of
-/// them, and what it makes of all of them.
-#[derive(Clone, Copy)]
-pub(crate) struct Share {
+/// What each name brought when it was last looked at, with the sums. Touched names are those of which something changed since what
+/// depends on them was last marked as due; due ones have to be looked at again.
+#[derive(Drop)]
+pub(crate) struct Shares {
+    pub(crate) each: Vec<Share>,
     pub(crate) pairs: u32,
     pub(crate) enabled: u32,
     pub(crate) added: u32,
     pub(crate) closing: u32,
-    pub(crate) end: End,
+    pub(crate) touched: EnabledSet,
+    pub(crate) due: EnabledSet,
+    ghost few: { length each.items ≤ 65536 },
+    ghost light: { All IsLight each.items },
+    ghost summed: { AreSummed each.items pairs enabled added closing },
 }
 
-/// The share of a name without a node, at which there are no edges.
-#[inline(always)]
-fn no_share() -> Share
-    ensures { result ≡ nobody }
-{
-    Share {
-        pairs: 0,
-        enabled: 0,
-        added: 0,
-        closing: 0,
-        end: End::Free,
-    }
-}
-
-/// The share of a name. Looks at the registers of the name and of its target, and at the neighbours of a node that may seduce.
-#[inline(always)]
-pub(crate) fn share_of(net: &NetState, rules: RuleSet, v: Node, courted: &Courted) -> Share
-    requires within { v ≤ net.now.state.network.size }
-    requires sound { IsState net.now.state }
-    requires courting { IsCourting net.now.state courted.now }
-    ensures { IsShare rules net.now.state v result }
-{
-    match rules {
-        RuleSet::Hh => hsu_huang_share(net, v, courted),
-        RuleSet::Manne => manne_share(net, v, courted),
-    }
-}
-
-/// The share of a name under Hsu and Huang's rules.
-#[inline(always)]
-fn hsu_huang_share(net: &NetState, v: Node, courted: &Courted) -> Share
-    requires within { v ≤ net.now.state.network.size }
-    requires sound { IsState net.now.state }
-    requires courting { IsCourting net.now.state courted.now }
-    ensures { IsShare RuleSet.Hh net.now.state v result }
-{
-    let Some(w) = net.pointer(v) else {
-        return hsu_huang_single(net, v, courted);
-    };
-    match net.pointer(w) {
-        Some(back) if back == v => Share {
-            pairs: u32::from(v < w),
+impl Shares {
+    /// Nothing is brought as yet, and all names up to `nodes` are due. Takes some four bytes a name.
+    pub(crate) fn new(alloc: Global, nodes: u32) -> Result<Shares, Want>
+        requires { nodes ≤ 65535 }
+        ensures each { IfOk result (λ it. it.each.items ≡ replicate (nodes + 1) nobody) }
+        ensures touched { IfOk result (λ it. it.touched ≡ replicate (nodes + 1) false) }
+        ensures due { IfOk result (λ it. it.due ≡ first_names nodes nodes) }
+    {
+        let each = no_shares(alloc, nodes as usize + 1)?;
+        let touched = EnabledSet::new(alloc, nodes)?;
+        let due = first_names(alloc, nodes, nodes)?;
+        Ok(Shares {
+            each,
+            pairs: 0,
             enabled: 0,
             added: 0,
             closing: 0,
-            end: End::Shut,
-        },
-        Some(_) => Share {
-            pairs: 0,
-            enabled: 1,
-            added: 1,
-            closing: 0,
-            end: End::Free,
-        },
-        None => Share {
-            pairs: 0,
-            enabled: 0,
-            added: 1,
-            closing: 1,
-            end: End::Free,
-        },
+            touched,
+            due,
+        })
+    }
+
+    /// A name is touched.
+    #[inline(always)]
+    pub(crate) fn touch(&mut self, v: Node)
+        requires { v < length self.old.touched }
+        ensures kept { (self.new.each.items ≡ self.old.each.items) × (self.new.due ≡ self.old.due) }
+        ensures marked { IsMarked self.old.touched self.new.touched v }
+    {
+        mark(&mut self.touched, v);
+    }
+
+    /// A node's pointer was written: it and those that the pointer was at and is at are touched.
+    #[inline(always)]
+    pub(crate) fn touch_pointer(&mut self, v: Node, was: Option<Node>, is: Option<Node>)
+        requires node { v < length self.old.touched }
+        requires was { IfSome was (λ w. w < length self.old.touched) }
+        requires is { IfSome is (λ w. w < length self.old.touched) }
+        ensures kept { (self.new.each.items ≡ self.old.each.items) × (self.new.due ≡ self.old.due) }
+        ensures places { length self.new.touched ≡ length self.old.touched }
+        ensures marked { (w : ℕ) → is_in self.new.touched w ≡ false → (is_in self.old.touched w ≡ false) × IsElsewhere v was is w }
+    {
+        self.touch(v);
+        if let Some(w) = was {
+            self.touch(w);
+        }
+        if let Some(w) = is {
+            self.touch(w);
+        }
+    }
+
+    /// Keeps what a name brings now: it is due no longer.
+    pub(crate) fn put(&mut self, v: Node, share: Share)
+        requires share { v < length self.old.each.items }
+        requires light { IsLight share }
+        requires due { v < length self.old.due }
+        ensures each { self.new.each.items ≡ slice_set self.old.each.items v share }
+        ensures due { self.new.due ≡ slice_set self.old.due v false }
+        ensures touched { self.new.touched ≡ self.old.touched }
+    {
+        let was = self.each[v.place()];
+        self.each[v.place()] = share;
+        self.pairs = self.pairs - u32::from(was.is_lower_end) + u32::from(share.is_lower_end);
+        self.enabled = self.enabled - u32::from(was.is_enabled()) + u32::from(share.is_enabled());
+        self.added = self.added - u32::from(was.added) + u32::from(share.added);
+        self.closing = self.closing - u32::from(was.closes) + u32::from(share.closes);
+        self.due.remove(v);
+    }
+
+    /// All names up to `nodes` are due.
+    pub(crate) fn call_all(&mut self, nodes: u32)
+        requires few { nodes ≤ 65535 }
+        requires places { length self.old.due ≡ nodes + 1 }
+        ensures kept { (self.new.each.items ≡ self.old.each.items) × (self.new.touched ≡ self.old.touched) }
+        ensures places { length self.new.due ≡ nodes + 1 }
+        ensures due { (v : ℕ) → 1 ≤ v → v ≤ nodes → is_in self.new.due v ≡ true }
+    {
+        call_first(&mut self.due, nodes);
     }
 }
 
-/// The share of a name that points nowhere, under Hsu and Huang's rules: it is enabled where it has a suitor, or a neighbour
-/// that it may seduce.
-#[inline(always)]
-fn hsu_huang_single(net: &NetState, v: Node, courted: &Courted) -> Share
-    requires null { pointer net.now.state v ≡ None }
-    requires sound { IsState net.now.state }
-    requires courting { IsCourting net.now.state courted.now }
-    ensures { IsShare RuleSet.Hh net.now.state v result }
+/// So many places at which nothing is brought.
+fn no_shares(alloc: Global, places: usize) -> Result<Vec<Share>, Want>
+    requires { places ≤ 65536 }
+    ensures { IfOk result (λ each. each.items ≡ replicate places nobody) }
 {
-    if courted.has(v) {
-        return Share {
-            pairs: 0,
-            enabled: 1,
-            added: 0,
-            closing: 0,
-            end: End::Courted,
-        };
-    }
-    if !net.has(v) {
-        return no_share();
-    }
-    Share {
-        pairs: 0,
-        enabled: u32::from(first_null_among(net.neighbours(v), net).is_some()),
-        added: 0,
-        closing: 0,
-        end: End::Free,
+    vec![in alloc; NO_SHARE; places]
+}
+
+/// Makes all names up to `nodes` members.
+fn call_first(set: &mut EnabledSet, nodes: u32)
+    requires few { nodes ≤ 65535 }
+    requires places { length set.old ≡ nodes + 1 }
+    ensures places { length set.new ≡ nodes + 1 }
+    ensures members { (v : ℕ) → 1 ≤ v → v ≤ nodes → is_in set.new v ≡ true }
+{
+    for below in 0..nodes as u16 {
+        mark(set, node_above(below));
     }
 }
 
-/// The share of a name under the rules of Manne and others.
+/// Makes a name a member.
 #[inline(always)]
-fn manne_share(net: &NetState, v: Node, courted: &Courted) -> Share
-    requires within { v ≤ net.now.state.network.size }
-    requires sound { IsState net.now.state }
-    requires courting { IsCourting net.now.state courted.now }
-    ensures { IsShare RuleSet.Manne net.now.state v result }
+pub(crate) fn mark(set: &mut EnabledSet, v: Node)
+    requires { v < length set.old }
+    ensures { IsMarked set.old set.new v }
 {
-    let Some(w) = net.pointer(v) else {
-        return manne_single(net, v, courted);
-    };
-    let is_flagged = net.flag(v);
-    if net.points(w, v) {
-        let late = u32::from(!is_flagged);
-        return Share {
-            pairs: u32::from(v < w),
-            enabled: late,
-            added: late,
-            closing: 0,
-            end: End::Shut,
-        };
-    }
-    let is_vain = net.flag(w) || w <= v;
-    Share {
-        pairs: 0,
-        enabled: u32::from(is_flagged || is_vain),
-        added: 2 + u32::from(is_flagged),
-        closing: u32::from(!is_vain && !net.married(w)),
-        end: End::Free,
-    }
-}
-
-/// The share of a name that points nowhere, under the rules of Manne and others: it is enabled where it has a suitor, or a
-/// neighbour that it may seduce.
-#[inline(always)]
-fn manne_single(net: &NetState, v: Node, courted: &Courted) -> Share
-    requires null { pointer net.now.state v ≡ None }
-    requires within { v ≤ net.now.state.network.size }
-    requires sound { IsState net.now.state }
-    requires courting { IsCourting net.now.state courted.now }
-    ensures { IsShare RuleSet.Manne net.now.state v result }
-{
-    if !net.has(v) {
-        return no_share();
-    }
-    let is_flagged = net.flag(v);
-    let is_enabled = is_flagged
-        || courted.has(v)
-        || first_to_court_among(net.neighbours(v), net, v).is_some();
-    Share {
-        pairs: 0,
-        enabled: u32::from(is_enabled),
-        added: 1 + u32::from(is_flagged),
-        closing: 0,
-        end: End::Free,
+    if !set.contains(v) {
+        set.insert(v);
     }
 }

@@ -83,7 +83,7 @@ fn ruled(net: &NetState, rules: RuleSet, item: Item) -> Result<Act, Refusal>
     requires { IsTrue (present net.now.state.network item.node) }
     ensures { MatchResult result (λ act. (refuse.rule_refusal (table_of rules) net.now.state item (rule_at (table_of rules) net.now.state item.node) ≡ None) × IsRuled (table_of rules) net.now.state item act) (λ refusal. refuse.rule_refusal (table_of rules) net.now.state item (rule_at (table_of rules) net.now.state item.node) ≡ Some refusal) }
 {
-    match rule_at(net, rules, item.node, None) {
+    match rule_at(net, rules, item.node) {
         Some(act) if allows_wish(net, rules, act, item) => Ok(act),
         Some(_) => Err(Refusal::BadTarget),
         None => Err(Refusal::NotEnabled),

@@ -1,70 +1,95 @@
-//! What a look at every name finds.
+//! A network whose status is known but for what changed since it was last asked.
 
-ghost use Rattle.std.specs.Prelude.{◌≡◌, ◌+◌, ◌≤◌, IfOk, None, length};
-ghost use Rattle.judge.specs.Courting.{IsCourting};
-ghost use Rattle.judge.specs.Surveying.{IsSurvey, IsTally};
+ghost use Rattle.std.specs.Prelude.{◌≡◌, ◌≤◌, false, IfOk, IfSome, IsTrue, None, OnErr, OnOk, cond};
+ghost use Rattle.rule_machine.specs.Disturbance.{after_link, after_join};
+ghost use Rattle.rule_machine.specs.Network.{present};
+ghost use Rattle.rule_machine.specs.Refuse.{link_refusal};
+ghost use Rattle.rule_machine.specs.State.{IsState};
+ghost use Rattle.std.proofs.Props.{props};
+ghost use Rattle.judge.specs.Shares.{AreTold};
 
-use crate::Courted;
-use crate::tally::{Tally, tally_all};
-use net_state::NetState;
-use rule_machine::{RuleSet, Want};
+use crate::edits;
+use crate::shares::Shares;
+use net_state::{Disturb, NetState};
+use rule_machine::{Node, RuleSet, Want};
 use std::alloc::Global;
 
-/// The nodes that have a suitor and the tally of a state, found by the first question about it and kept until the state changes.
+/// A network with its registers, and beside it what each name brings to the numbers of a status by the rules by which it was last
+/// asked. A write touches the names of which it changes something; what depends on these is looked at again by the next question.
 #[derive(Drop)]
 pub(crate) struct Survey {
-    pub(crate) courted: Courted,
-    pub(crate) tally: Option<Tally>,
+    pub(crate) net: NetState,
+    pub(crate) rules: RuleSet,
+    pub(crate) shares: Shares,
+    ghost told: { AreTold rules net.state net.ends shares.each.items shares.touched shares.due } by { Prim.hlevel props },
 }
 
 impl Survey {
-    /// Nothing is found yet, of the names 1 to `nodes`.
-    pub(crate) fn new(alloc: Global, nodes: u32) -> Result<Survey, Want>
-        requires { nodes ≤ 65535 }
-        ensures none { IfOk result (λ survey. survey.tally ≡ None) }
-        ensures len { IfOk result (λ survey. length survey.courted ≡ nodes + 1) }
+    /// Nothing is known as yet.
+    pub(crate) fn new(alloc: Global, net: NetState) -> Result<Survey, Want>
+        ensures { IfOk result (λ survey. survey.net.state ≡ net.state) }
     {
-        let courted = Courted::new(alloc, nodes)?;
+        let shares = Shares::new(alloc, net.capacity())?;
         Ok(Survey {
-            courted,
-            tally: None,
+            net,
+            rules: RuleSet::Hh,
+            shares,
         })
     }
 
-    /// Forgets what was found, as the state changes.
-    pub(crate) fn forget(&mut self)
-        ensures none { self.new.tally ≡ None }
-        ensures kept { self.new.courted ≡ self.old.courted }
+    /// Adds the edge between two nodes.
+    pub(crate) fn link(&mut self, a: Node, b: Node) -> Result<(), Want>
+        requires { link_refusal self.old.net.state.network a b ≡ None }
+        ensures ok { OnOk result (self.new.net.state ≡ after_link self.old.net.state a b) }
+        ensures err { OnErr result (self.new.net.state ≡ self.old.net.state) }
     {
-        self.tally = None;
+        edits::link(&mut self.net, a, b)?;
+        self.shares.touch(a);
+        self.shares.touch(b);
+        Ok(())
     }
 
-    /// The tally of a network by these rules: what is kept where it is by them, and else what is found anew.
-    pub(crate) fn tally(&mut self, rules: RuleSet, net: &mut NetState) -> Tally
-        requires { IsSurvey net.old.state self.old }
-        ensures value { IsTally rules net.old.state result }
-        ensures courting { IsCourting net.old.state self.new.courted }
-        ensures kept { net.new.state ≡ net.old.state }
-        ensures surveyed { IsSurvey net.new.state self.new }
+    /// Makes a name a node, with no edge, a null pointer and its flag false.
+    pub(crate) fn join(&mut self, v: Node)
+        requires within { v ≤ self.old.net.state.network.size }
+        requires absent { present self.old.net.state.network v ≡ false }
+        ensures { self.new.net.state ≡ after_join self.old.net.state v }
     {
-        let kept = self.tally;
-        match kept {
-            Some(tally) if tally.rules == rules => tally,
-            _ => self.find(rules, net),
-        }
+        self.net.join(v);
+        self.shares.touch(v);
+    }
+}
+
+impl Disturb for Survey {
+    ghost state = { λ it. it.net.state };
+
+    fn net(&self) -> &NetState {
+        // By its contract the state is sound.
+        let _ = self.net.registers();
+        &self.net
     }
 
-    /// Finds the marks and the tally of a network anew.
-    fn find(&mut self, rules: RuleSet, net: &mut NetState) -> Tally
-        requires { length self.old.courted ≡ net.old.state.network.size + 1 }
-        ensures value { IsTally rules net.old.state result }
-        ensures courting { IsCourting net.old.state self.new.courted }
-        ensures kept { net.new.state ≡ net.old.state }
-        ensures surveyed { IsSurvey net.new.state self.new }
-    {
-        self.courted.find(net);
-        let tally = tally_all(net, rules, &self.courted);
-        self.tally = Some(tally);
-        tally
+    fn set_pointer(&mut self, v: Node, target: Option<Node>) {
+        // Each use has a copy: of a value that is passed on proofs say no more.
+        let was = self.net.pointer(v);
+        let is = target;
+        self.net.set_pointer(v, target);
+        self.shares.touch_pointer(v, was, is);
+    }
+
+    fn set_flag(&mut self, v: Node, value: bool) {
+        self.net.set_flag(v, value);
+        self.shares.touch(v);
+    }
+
+    fn take_out(&mut self, a: Node, b: Node) {
+        self.net.take_out(a, b);
+        self.shares.touch(a);
+        self.shares.touch(b);
+    }
+
+    fn free_name(&mut self, v: Node) {
+        self.net.free_name(v);
+        self.shares.touch(v);
     }
 }

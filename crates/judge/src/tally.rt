@@ -1,51 +1,204 @@
-//! What is counted at the names.
+//! What a status counts: looks at those names alone that may bring something else than when it was last counted.
 
-ghost use Rattle.std.specs.Prelude.{◌≡◌};
-ghost use Rattle.judge.specs.Courting.{IsCourting};
-ghost use Rattle.judge.specs.Surveying.{IsTally};
+ghost use Rattle.std.specs.Prelude.{◌≡◌, ◌+◌, ◌*◌, ◌<◌, ◌≤◌, ℕ, true, false, length, slice_set, IfSome, IsTrue, MatchOption, None, cond};
+ghost use Rattle.enabled_set.specs.Members.{is_in};
+ghost use Rattle.rule_machine.specs.Network.{linked, present};
+ghost use Rattle.rule_machine.specs.RuleTable as table;
+ghost use Rattle.rule_machine.specs.Tables.{table_of};
+ghost use Rattle.judge.specs.Shares.{asks, AreAsking, AreFresh, IsTally};
 
-use crate::Courted;
-use crate::names::node_above;
-use crate::shares::share_of;
+use crate::Survey;
+use crate::share::{end_at, share_of};
+use crate::shares::mark;
+use enabled_set::EnabledSet;
 use net_state::NetState;
-use rule_machine::RuleSet;
+use rule_machine::{Act, Node, RuleSet};
 
-/// What a status counts, and by which rules.
+/// What a status counts.
 #[derive(Clone, Copy)]
 pub(crate) struct Tally {
-    pub(crate) rules: RuleSet,
     pub(crate) pairs: u32,
     pub(crate) enabled: u32,
     pub(crate) charge: u32,
 }
 
-/// The tally of a network. An edge that is open by what its ends make of it adds 2 to the charge, unless a pointer closes it. Looks
-/// at every name, at the neighbours of the nodes that may seduce, and at those of the nodes whose edges count otherwise than at the
-/// last time.
-#[inline(never)]
-pub(crate) fn tally_all(net: &mut NetState, rules: RuleSet, courted: &Courted) -> Tally
-    requires courting { IsCourting net.old.state courted.now }
-    ensures value { IsTally rules net.old.state result }
-    ensures kept { net.new.state ≡ net.old.state }
+/// Whether what a node brings depends on a neighbour: it points nowhere or there.
+#[inline(always)]
+fn asks(net: &NetState, v: Node, w: Node) -> bool
+    requires present { IsTrue (present net.now.state.network v) }
+    requires linked { IsTrue (linked net.now.state.network v w) }
+    ensures { result ≡ asks net.now.state v w }
 {
-    let mut pairs = 0;
-    let mut enabled = 0;
-    let mut added = 0;
-    let mut closing = 0;
-    for below in 0..net.capacity() as u16 {
-        let v = node_above(below);
-        let share = share_of(net, rules, v, courted);
-        net.turn(v, share.end);
-        pairs += share.pairs;
-        enabled += share.enabled;
-        added += share.added;
-        closing += share.closing;
+    // By its contract the state is sound.
+    let _ = net.registers();
+    match net.pointer(v) {
+        Some(x) => x == w,
+        None => true,
     }
-    let charge = 2 * net.open_edges() + added - 2 * closing;
-    Tally {
-        rules,
-        pairs,
-        enabled,
-        charge,
+}
+
+/// Marks a name, and the neighbours of its node, if there is one, that ask for it.
+fn mark_around(net: &NetState, v: Node, due: &mut EnabledSet)
+    requires within { v ≤ net.now.state.network.size }
+    requires places { length due.old ≡ net.now.state.network.size + 1 }
+    ensures { AreAsking net.now.state v due.old due.new }
+{
+    // By its contract the state is sound.
+    let _ = net.registers();
+    mark(due, v);
+    if !net.has(v) {
+        return;
+    }
+    for &w in net.neighbours(v) {
+        if asks(net, w, v) {
+            mark(due, w);
+        }
+    }
+}
+
+impl Survey {
+    /// Marks as due what depends on a touched name, which is touched no longer then.
+    fn spread_from(&mut self, v: Node)
+        requires { v ≤ self.old.net.state.network.size }
+        ensures kept { (self.new.net.state ≡ self.old.net.state) × (self.new.rules ≡ self.old.rules) }
+        ensures touched { self.new.shares.touched ≡ slice_set self.old.shares.touched v false }
+    {
+        mark_around(&self.net, v, &mut self.shares.due);
+        self.shares.touched.remove(v);
+    }
+
+    /// The first of the 64 names of a block that is touched.
+    #[inline(always)]
+    fn first_touched(&self, block: usize) -> Option<Node>
+        requires { block ≤ 1032 }
+        ensures first { MatchOption result ((v : ℕ) → 64 * block ≤ v → v < 64 * block + 64 → is_in self.now.shares.touched v ≡ false) (λ v. is_in self.now.shares.touched v ≡ true) }
+        ensures within { IfSome result (λ v. v ≤ self.now.net.state.network.size) }
+    {
+        self.shares.touched.first_in(block)
+    }
+
+    /// The first of the 64 names of a block that is due.
+    #[inline(always)]
+    fn first_due(&self, block: usize) -> Option<Node>
+        requires { block ≤ 1032 }
+        ensures first { MatchOption result ((v : ℕ) → 64 * block ≤ v → v < 64 * block + 64 → is_in self.now.shares.due v ≡ false) (λ v. is_in self.now.shares.due v ≡ true) }
+        ensures within { IfSome result (λ v. v ≤ self.now.net.state.network.size) }
+    {
+        self.shares.due.first_in(block)
+    }
+
+    /// Marks as due what depends on the touched names of a block.
+    fn spread_in(&mut self, block: usize)
+        requires { block ≤ 1032 }
+        ensures kept { (self.new.net.state ≡ self.old.net.state) × (self.new.rules ≡ self.old.rules) }
+        ensures places { length self.new.shares.touched ≡ length self.old.shares.touched }
+        ensures fewer { (v : ℕ) → is_in self.old.shares.touched v ≡ false → is_in self.new.shares.touched v ≡ false }
+        ensures none { (v : ℕ) → 64 * block ≤ v → v < 64 * block + 64 → is_in self.new.shares.touched v ≡ false }
+    {
+        while let Some(v) = self.first_touched(block) {
+            self.spread_from(v);
+        }
+    }
+
+    /// Marks as due what depends on touched names. A look at each block, at each touched name, and at its neighbours.
+    fn spread(&mut self)
+        ensures kept { (self.new.net.state ≡ self.old.net.state) × (self.new.rules ≡ self.old.rules) }
+        ensures none { (v : ℕ) → is_in self.new.shares.touched v ≡ false }
+    {
+        for block in 0..self.shares.touched.blocks() {
+            self.spread_in(block);
+        }
+    }
+
+    /// Looks again at a name: what it brings is known then.
+    fn look_at(&mut self, v: Node)
+        requires { v ≤ self.old.net.state.network.size }
+        ensures kept { (self.new.net.state ≡ self.old.net.state) × (self.new.rules ≡ self.old.rules) }
+        ensures touched { self.new.shares.touched ≡ self.old.shares.touched }
+        ensures due { self.new.shares.due ≡ slice_set self.old.shares.due v false }
+    {
+        let share = share_of(&self.net, self.rules, v);
+        let end = end_at(&self.net, self.rules, v, share.rule);
+        self.shares.put(v, share);
+        if let Some(end) = end {
+            self.net.turn(v, end);
+        }
+    }
+
+    /// Looks again at each due name of a block.
+    fn look_in(&mut self, block: usize)
+        requires { block ≤ 1032 }
+        ensures kept { (self.new.net.state ≡ self.old.net.state) × (self.new.rules ≡ self.old.rules) }
+        ensures touched { self.new.shares.touched ≡ self.old.shares.touched }
+        ensures places { length self.new.shares.due ≡ length self.old.shares.due }
+        ensures fewer { (v : ℕ) → is_in self.old.shares.due v ≡ false → is_in self.new.shares.due v ≡ false }
+        ensures none { (v : ℕ) → 64 * block ≤ v → v < 64 * block + 64 → is_in self.new.shares.due v ≡ false }
+    {
+        while let Some(v) = self.first_due(block) {
+            self.look_at(v);
+        }
+    }
+
+    /// Looks again at each due name.
+    fn look(&mut self)
+        ensures kept { (self.new.net.state ≡ self.old.net.state) × (self.new.rules ≡ self.old.rules) }
+        ensures touched { self.new.shares.touched ≡ self.old.shares.touched }
+        ensures none { (v : ℕ) → is_in self.new.shares.due v ≡ false }
+    {
+        for block in 0..self.shares.due.blocks() {
+            self.look_in(block);
+        }
+    }
+
+    /// From now on the numbers are told by these rules.
+    fn go_by(&mut self, rules: RuleSet)
+        ensures rules { self.new.rules ≡ rules }
+        ensures kept { self.new.net.state ≡ self.old.net.state }
+    {
+        if self.rules != rules {
+            self.shares.call_all(self.net.capacity());
+            self.rules = rules;
+        }
+    }
+
+    /// What a status counts by these rules. Looks at the names that were touched since this was last asked, at the neighbours of
+    /// these that point nowhere or at them, and at the neighbours of each such name that points nowhere, or whose edges count
+    /// otherwise. An edge that is open by what its ends make of it adds 2 to the charge, unless a pointer closes it.
+    pub(crate) fn tally(&mut self, rules: RuleSet) -> Tally
+        ensures value { IsTally rules self.old.net.state result }
+        ensures kept { self.new.net.state ≡ self.old.net.state }
+        ensures rules { self.new.rules ≡ rules }
+        ensures fresh { AreFresh self.new.shares.touched self.new.shares.due }
+    {
+        self.go_by(rules);
+        self.spread();
+        self.look();
+        self.count()
+    }
+
+    /// What is counted, where no name may bring something else.
+    fn count(&self) -> Tally
+        requires { AreFresh self.now.shares.touched self.now.shares.due }
+        ensures { IsTally self.now.rules self.now.net.state result }
+    {
+        let shares = &self.shares;
+        let charge = 2 * self.net.open_edges() + shares.added - 2 * shares.closing;
+        Tally {
+            pairs: shares.pairs,
+            enabled: shares.enabled,
+            charge,
+        }
+    }
+
+    /// The rule that is enabled at the node of a name, if there is one and any is. One look.
+    #[inline(always)]
+    pub(crate) fn rule_of(&self, v: Node) -> Option<Act>
+        requires { AreFresh self.now.shares.touched self.now.shares.due }
+        ensures { result ≡ cond (present self.now.net.state.network v) (table.rule_at (table_of self.now.rules) self.now.net.state v) None }
+    {
+        match self.shares.each.get(v.place()) {
+            Some(share) => share.rule,
+            None => None,
+        }
     }
 }

@@ -14,17 +14,18 @@ same_nodes xs ys e = cc
 pub returns-then-given-tally-clause-value : goal.returns-then-given-tally-clause-value
 returns-then-given-tally-clause-value c =
     let t = table_of c.args.rules in
-    let s = c.args.net.now.state in
+    let s = c.args.survey.now.net.state in
     let given = c.as_slice-given.result.now in
     let reply = c.in-EnabledAre.is ∙ ap EnabledAre (sym c.as_slice-given.ensures) in
-    let walked = subst (λ (u : State). IsTrue c.are_ruled.result ↔ AreRising (ruled_node t u) 0 given) c.tally-tally.ensures.kept c.are_ruled.ensures in
+    let walked = subst (λ (u : State). IsTrue c.are_ruled.result ↔ AreRising (ruled_node t u) 0 given) c.tally-tally.ensures.kept
+    (subst (λ rules. IsTrue c.are_ruled.result ↔ AreRising (ruled_node (table_of rules) c.tally-tally.new.self.net.state) 0 given) c.tally-tally.ensures.rules c.are_ruled.ensures) in
     let listed = enabled_listed t s given (c.if-given-tally.true ∙ c.tally-tally.ensures.value.enabled) in
     (λ yes. reply ∙ ap EnabledAre (listed.0 (walked.0 yes)), λ same. walked.1 (listed.1 (same_nodes given (enabled t s) (sym reply ∙ same))))
 
 pub returns-else-given-tally-clause-value : goal.returns-else-given-tally-clause-value
 returns-else-given-tally-clause-value c =
     let t = table_of c.args.rules in
-    let s = c.args.net.now.state in
+    let s = c.args.survey.now.net.state in
     let given = c.as_slice-given.result.now in
     let reply = c.in-EnabledAre.is ∙ ap EnabledAre (sym c.as_slice-given.ensures) in (
       λ yes. absurd (c.if-given-tally.false (eqb-true (length given) c.tally-tally.result.enabled yes)),

@@ -11,7 +11,7 @@ same_pairs xs ys e = cc
 
 pub returns-then-given-tally-clause-value : goal.returns-then-given-tally-clause-value
 returns-then-given-tally-clause-value c =
-    let s = c.args.net.now.state in
+    let s = c.args.survey.now.net.state in
     let given = c.as_slice-given.result.now in
     let reply = c.in-Pairs.is ∙ ap Pairs (sym c.as_slice-given.ensures) in
     let walked = subst (λ (u : State). IsTrue c.are_pairs.result ↔ AreRising (pair_at u) 0 given) c.tally-tally.ensures.kept c.are_pairs.ensures in

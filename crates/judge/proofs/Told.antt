@@ -1,0 +1,117 @@
+-- What is kept of each name: at first, as what depends on a name becomes due, and after a look.
+use Rattle.std.proofs.Common.{◌≡◌, ◌≢◌, ℕ, ◌+◌, ◌<◌, ◌≤◌, Bool, true, false, cond, ◌&&◌, List, length, get_or, set, replicate, None, is_some, IsTrue, leb, sym, ap, subst, ◌∙◌, ⊎_elim, arith}
+use Rattle.std.proofs.lemmas.Bool.{cases_eq, cases_lt, le-leb, lt-leb, and_left, true≢false}
+use Rattle.std.proofs.lemmas.List.{get_or-replicate, get_or_past, get_or-set_other, get_or-set_same, length-replicate, length-set}
+use Rattle.enabled_set.specs.Members.{is_in}
+use Rattle.graph_store.specs.declared.end.End.{End}
+use Rattle.graph_store.specs.Ends.{end_at}
+use Rattle.graph_store.proofs.Present.{first_names_at, first_names_len}
+use Rattle.rule_machine.specs.declared.rules.RuleSet.{RuleSet}
+use Rattle.rule_machine.specs.Network.{first_names, present}
+use Rattle.rule_machine.specs.RuleTable.{rule_at}
+use Rattle.rule_machine.specs.Stable.{pair_above}
+use Rattle.rule_machine.specs.State.{State, IsState, partner}
+use Rattle.rule_machine.specs.Tables.{table_of}
+use Rattle.judge.specs.declared.share.Share.{Share}
+use Rattle.judge.specs.Shares.{adds, asks, closes, end_of, nobody, share_at, AreAsking, IsShare, IsToldAt, AreTold}
+
+-- what is everywhere is at each place, and past the end
+everywhere : {X : Type 0} (n v : ℕ) (d : X) → get_or (replicate n d) v d ≡ d
+everywhere n v d =
+    ⊎_elim (λ (below : v < n). get_or-replicate n v d d below) (λ (past : n ≤ v). get_or_past (replicate n d) v d (let k = length-replicate n d in omega (arith, k))) (cases_lt v n)
+
+-- of a name without a node nothing is to be told
+told_nowhere : (rules : RuleSet) (s : State) (ends : List End) (each : List Share) (v : ℕ) → present s.network v ≡ false → share_at each v ≡ nobody → IsToldAt rules s ends each v
+told_nowhere rules s ends each v absent nothing = record {
+  share = record {
+    rule = ap (λ (it : Share). it.rule) nothing ∙ sym (ap (λ b. cond b (rule_at (table_of rules) s v) None) absent);
+    is_lower_end = ap (λ (it : Share). it.is_lower_end) nothing ∙ sym (ap (λ b. is_some (cond b (pair_above v (partner s v)) None)) absent);
+    added = ap (λ (it : Share). it.added) nothing ∙ sym (ap (λ b. cond b (adds rules s v) 0) absent);
+    closes = ap (λ (it : Share). it.closes) nothing ∙ sym (ap (λ b. cond b (closes rules s v) false) absent);
+  };
+  end = λ here. absurd (true≢false (sym here ∙ absent));
+}
+
+-- where all names are due nothing is to be told
+pub told_of_none : (rules : RuleSet) (s : State) (ends : List End) (each : List Share) (touched due : List Bool) → IsState s → length each ≡ s.network.size + 1 → length touched ≡ s.network.size + 1 → length due ≡ s.network.size + 1 → share_at each 0 ≡ nobody → ((v : ℕ) → 1 ≤ v → v ≤ s.network.size → is_in due v ≡ true) → AreTold rules s ends each touched due
+told_of_none rules s ends each touched due good places touched_places due_places none all = record {
+  sound = good;
+  places = places;
+  touched_places = touched_places;
+  due_places = due_places;
+  nobody = none;
+  told = λ v fresh.
+      ⊎_elim
+      (λ (low : v < 1). let zero : v ≡ 0 = omega arith in told_nowhere rules s ends each v (and_left (leb 1 v) _ (lt-leb 1 v low)) (ap (share_at each) zero ∙ none))
+      (λ (some : 1 ≤ v).
+      ⊎_elim
+      (λ (past : s.network.size < v). told_nowhere rules s ends each v (ap (λ b. leb 1 v && (b && get_or s.network.here v false)) (lt-leb v s.network.size past) ∙ ap (λ b. b && false) (le-leb 1 v some)) (get_or_past each v nobody (omega (arith, places, past))))
+      (λ (within : v ≤ s.network.size). absurd (true≢false (sym (all v some within) ∙ fresh.not_due)))
+      (cases_lt s.network.size v))
+      (cases_lt v 1);
+}
+
+-- at first all are
+pub told_at_first : (rules : RuleSet) (s : State) (ends : List End) → IsState s → AreTold rules s ends (replicate (s.network.size + 1) nobody) (replicate (s.network.size + 1) false) (first_names s.network.size s.network.size)
+told_at_first rules s ends good =
+    let size = s.network.size in
+    told_of_none rules s ends (replicate (size + 1) nobody) (replicate (size + 1) false) (first_names size size) good (length-replicate (size + 1) nobody) (length-replicate (size + 1) false) (first_names_len size size) (everywhere (size + 1) 0 nobody)
+    (λ v low high. first_names_at size size v high ∙ ap (λ b. b && leb v size) (le-leb 1 v low) ∙ le-leb v size high)
+
+-- what depends on a name is due, and it is touched no longer
+pub told_spread : (rules : RuleSet) (s : State) (ends : List End) (each : List Share) (touched touched' due due' : List Bool) (v : ℕ) → touched' ≡ set touched v false → AreAsking s v due due' → AreTold rules s ends each touched due → AreTold rules s ends each touched' due'
+told_spread rules s ends each touched touched' due due' v cleared asking told = record {
+  sound = told.sound;
+  places = told.places;
+  touched_places = ap length cleared ∙ length-set touched v false ∙ told.touched_places;
+  due_places = asking.places ∙ told.due_places;
+  nobody = told.nobody;
+  told = λ x fresh.
+      let fact = asking.others x fresh.not_due in
+      told.told x (record {
+        not_due = fact.0;
+        untouched = λ w asked.
+            ⊎_elim
+            (λ (same : w ≡ v). absurd (true≢false (sym asked ∙ ap (asks s x) same ∙ fact.1)))
+            (λ (apart : w ≢ v). sym (ap (λ l. is_in l w) cleared ∙ get_or-set_other touched v w false false apart) ∙ fresh.untouched w asked)
+            (cases_eq w v);
+      });
+}
+
+-- name 0 has no node
+none_there : (rules : RuleSet) (s : State) (share : Share) → IsShare rules s 0 share → share ≡ nobody
+none_there rules s share is = λ i. record { rule = is.rule i; is_lower_end = is.is_lower_end i; added = is.added i; closes = is.closes i }
+
+-- a look at a name tells of it, and of the others what was told
+pub told_next : (rules : RuleSet) (s : State) (ends ends' : List End) (each each' : List Share) (touched due due' : List Bool) (v : ℕ) (share : Share) → v ≤ s.network.size → each' ≡ set each v share → due' ≡ set due v false → IsShare rules s v share → (IsTrue (present s.network v) → end_at ends' v ≡ end_of rules s v) → ((w : ℕ) → w ≢ v → end_at ends' w ≡ end_at ends w) → AreTold rules s ends each touched due → AreTold rules s ends' each' touched due'
+told_next rules s ends ends' each each' touched due due' v share within set_each set_due is end others told = record {
+  sound = told.sound;
+  places = ap length set_each ∙ length-set each v share ∙ told.places;
+  touched_places = told.touched_places;
+  due_places = ap length set_due ∙ length-set due v false ∙ told.due_places;
+  nobody =
+      ⊎_elim
+      (λ (same : v ≡ 0). ap (share_at each') (sym same) ∙ new_share ∙ none_there rules s share (subst (λ x. IsShare rules s x share) same is))
+      (λ (apart : v ≢ 0). kept_share 0 (λ e. apart (sym e)) ∙ told.nobody)
+      (cases_eq v 0);
+  told = λ w fresh.
+      ⊎_elim
+      (λ (same : w ≡ v). subst (λ x. IsToldAt rules s ends' each' x) (sym same) here)
+      (λ (apart : w ≢ v). there w apart (told.told w (record { not_due = sym (ap (λ l. is_in l w) set_due ∙ get_or-set_other due v w false false apart) ∙ fresh.not_due; untouched = fresh.untouched })))
+      (cases_eq w v);
+}
+  where
+    new_share : share_at each' v ≡ share
+    new_share = ap (λ l. share_at l v) set_each ∙ get_or-set_same each v share nobody (omega (arith, told.places))
+
+    kept_share : (w : ℕ) → w ≢ v → share_at each' w ≡ share_at each w
+    kept_share w apart = ap (λ l. share_at l w) set_each ∙ get_or-set_other each v w share nobody apart
+
+    here : IsToldAt rules s ends' each' v
+    here = record { share = subst (IsShare rules s v) (sym new_share) is; end = end }
+
+    there : (w : ℕ) → w ≢ v → IsToldAt rules s ends each w → IsToldAt rules s ends' each' w
+    there w apart was = record {
+      share = subst (IsShare rules s w) (sym (kept_share w apart)) was.share;
+      end = λ h. others w apart ∙ was.end h;
+    }

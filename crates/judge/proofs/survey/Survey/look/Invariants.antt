@@ -1,0 +1,12 @@
+use Rattle.std.proofs.Common.{◌≡◌, ◌*◌, ◌<◌, ℕ, false, length}
+use Rattle.enabled_set.specs.Members.{is_in}
+use Rattle.judge.proofs.survey.Survey.look.Given as goal
+
+abbrev pub invariant-loop-block : goal.invariant-loop-block
+invariant-loop-block l = record {
+  state : l.self.net.state ≡ l.initial.self.net.state;
+  rules : l.self.rules ≡ l.initial.self.rules;
+  places : length l.self.shares.due ≡ length l.initial.self.shares.due;
+  touched : l.self.shares.touched ≡ l.initial.self.shares.touched;
+  none : (v : ℕ) → v < 64 * l.block → is_in l.self.shares.due v ≡ false;
+}

@@ -1,0 +1,112 @@
+-- What each name brings to the numbers of a status, what it makes of the edges at it, and how long what is kept of that is right.
+use Rattle.std.specs.Prelude.{◌≡◌, ◌≢◌, ℕ, ◌+◌, ◌≤◌, Bool, false, true, cond, ◌&&◌, ◌||◌, List, length, sum_by, Option, None, is_none, is_some, nat_eq, slice_index_or, IsTrue}
+use Rattle.enabled_set.specs.Members.{is_in}
+use Rattle.rule_machine.specs.declared.rules.RuleSet.{RuleSet}
+use Rattle.rule_machine.specs.declared.rules.RuleSet.TheVariants.{Hh, Manne}
+use Rattle.rule_machine.specs.Network.{linked, present}
+use Rattle.rule_machine.specs.State.{State, IsState, is_at, is_unanswered, married, pointer, points}
+use Rattle.rule_machine.specs.Charge.{is_courted, manne_node_charge}
+use Rattle.rule_machine.specs.RuleTable.{enabled_names, rule_at}
+use Rattle.rule_machine.specs.Stable.{mutual_pairs}
+use Rattle.rule_machine.specs.Tables.{table_of}
+use Rattle.charge_laws.specs.ClosedByPointers.{hsu_huang_closes, manne_closes}
+use Rattle.graph_store.specs.declared.end.End.{End}
+use Rattle.graph_store.specs.declared.end.End.TheVariants.{Shut, Courted, Free}
+use Rattle.graph_store.specs.Ends.{end_at}
+use Rattle.judge.specs.declared.share.Share.{Share}
+use Rattle.judge.specs.declared.tally.Tally.{Tally}
+use Rattle.judge.specs.Rising.{pair_at}
+
+-- what a name makes of the edges at it
+abbrev pub end_of : RuleSet → State → ℕ → End
+end_of Hh s v = cond (married s v) Shut (cond (is_courted s v) Courted Free)
+end_of Manne s v = cond (married s v) Shut Free
+
+-- whether a node's pointer closes an edge that is open by its ends
+abbrev pub closes : RuleSet → State → ℕ → Bool
+closes Hh s v = hsu_huang_closes s v
+closes Manne s v = manne_closes s v
+
+-- what a node adds to the charge by its flag
+abbrev pub flag_charge : RuleSet → State → ℕ → ℕ
+flag_charge Hh s v = 0
+flag_charge Manne s v = manne_node_charge s v
+
+-- what it adds beside its edges
+abbrev pub adds : RuleSet → State → ℕ → ℕ
+adds rules s v = cond (is_unanswered s v) 1 0 + flag_charge rules s v
+
+-- what a name brings, where there is a node
+pub record IsShare (rules : RuleSet) (s : State) (v : ℕ) (share : Share) : Type 0 where
+  pub rule : share.rule ≡ cond (present s.network v) (rule_at (table_of rules) s v) None
+  pub is_lower_end : share.is_lower_end ≡ is_some (pair_at s v)
+  pub added : share.added ≡ cond (present s.network v) (adds rules s v) 0
+  pub closes : share.closes ≡ cond (present s.network v) (closes rules s v) false
+
+-- what a name without a node brings
+abbrev pub nobody : Share
+nobody = record { rule = None; is_lower_end = false; added = 0; closes = false }
+
+abbrev pub share_at : List Share → ℕ → Share
+share_at each v = slice_index_or each v nobody
+
+-- what it adds fits two bits
+abbrev pub IsLight : Share → Type 0
+IsLight share = share.added ≤ 3
+
+-- the sums are those of the shares
+pub record AreSummed (each : List Share) (pairs enabled added closing : ℕ) : Type 0 where
+  pub paired : pairs ≡ sum_by (λ (it : Share). cond it.is_lower_end 1 0) each
+  pub ruled : enabled ≡ sum_by (λ (it : Share). cond (is_some it.rule) 1 0) each
+  pub in_all : added ≡ sum_by (λ (it : Share). it.added) each
+  pub closed : closing ≡ sum_by (λ (it : Share). cond it.closes 1 0) each
+
+-- the numbers are those of the state by the rules
+pub record IsTally (rules : RuleSet) (s : State) (tally : Tally) : Type 0 where
+  pub pairs : tally.pairs ≡ length (mutual_pairs s)
+  pub enabled : tally.enabled ≡ length (enabled_names (table_of rules) s)
+  pub charge : tally.charge ≡ (table_of rules).charge s
+
+-- w is another node than v, and not one that its pointer was at or is at
+pub record IsElsewhere (v : ℕ) (was is : Option ℕ) (w : ℕ) : Type 0 where
+  pub other : w ≢ v
+  pub not_was : is_at was w ≡ false
+  pub not_is : is_at is w ≡ false
+
+-- the second set is the first with v
+pub record IsMarked (was is : List Bool) (v : ℕ) : Type 0 where
+  pub places : length is ≡ length was
+  pub others : (w : ℕ) → is_in is w ≡ false → (is_in was w ≡ false) × (w ≢ v)
+
+-- whether what v brings depends on w: its neighbours if it points nowhere, else its target
+abbrev pub asks : State → ℕ → ℕ → Bool
+asks s v w = nat_eq v w || (linked s.network v w && (is_none (pointer s v) || points s.registers v w))
+
+-- the second set is the first with all that ask for w
+pub record AreAsking (s : State) (w : ℕ) (was is : List Bool) : Type 0 where
+  pub places : length is ≡ length was
+  pub others : (v : ℕ) → is_in is v ≡ false → (is_in was v ≡ false) × (asks s v w ≡ false)
+
+-- nothing changed on which v depends since it was looked at
+pub record IsFresh (s : State) (touched due : List Bool) (v : ℕ) : Type 0 where
+  pub not_due : is_in due v ≡ false
+  pub untouched : (w : ℕ) → asks s v w ≡ true → is_in touched w ≡ false
+
+-- nothing changed at all
+pub record AreFresh (touched due : List Bool) : Type 0 where
+  pub none_due : (v : ℕ) → is_in due v ≡ false
+  pub none_touched : (v : ℕ) → is_in touched v ≡ false
+
+-- what is kept of a name is what it brings, and what it makes of its edges
+pub record IsToldAt (rules : RuleSet) (s : State) (ends : List End) (each : List Share) (v : ℕ) : Type 0 where
+  pub share : IsShare rules s v (share_at each v)
+  pub end : IsTrue (present s.network v) → end_at ends v ≡ end_of rules s v
+
+-- it is, of each name that is fresh
+pub record AreTold (rules : RuleSet) (s : State) (ends : List End) (each : List Share) (touched due : List Bool) : Type 0 where
+  pub sound : IsState s
+  pub places : length each ≡ s.network.size + 1
+  pub touched_places : length touched ≡ s.network.size + 1
+  pub due_places : length due ≡ s.network.size + 1
+  pub nobody : share_at each 0 ≡ nobody
+  pub told : (v : ℕ) → IsFresh s touched due v → IsToldAt rules s ends each v

@@ -1,0 +1,154 @@
+//! What a name brings to the numbers of a status.
+
+ghost use Rattle.std.specs.Prelude.{◌≡◌, ◌≤◌, IsTrue, MatchOption, None, Some, cond, false, is_some};
+ghost use Rattle.rule_machine.specs.Network.{present};
+ghost use Rattle.rule_machine.specs.RuleTable as table;
+ghost use Rattle.rule_machine.specs.State as state;
+ghost use Rattle.rule_machine.specs.Tables.{table_of};
+ghost use Rattle.judge.specs.Shares.{IsShare, closes, end_of, flag_charge};
+ghost use Rattle.judge.specs.Rising.{pair_at};
+
+use crate::guards::rule_at;
+use graph_store::End;
+use net_state::NetState;
+use rule_machine::{Act, Node, RuleSet};
+
+/// The rule that is enabled at a node, whether it is the lower end of a mutual pair, what it adds to the charge beside its edges,
+/// and whether its pointer closes an edge that is open by its ends.
+#[derive(Clone, Copy)]
+pub(crate) struct Share {
+    pub(crate) rule: Option<Act>,
+    pub(crate) is_lower_end: bool,
+    pub(crate) added: u8,
+    pub(crate) closes: bool,
+}
+
+/// What a name without a node brings.
+pub(crate) const NO_SHARE: Share = Share {
+    rule: None,
+    is_lower_end: false,
+    added: 0,
+    closes: false,
+};
+
+impl Share {
+    /// Whether a rule is enabled.
+    #[inline(always)]
+    pub(crate) fn is_enabled(&self) -> bool
+        ensures { result ≡ is_some self.now.rule }
+    {
+        self.rule.is_some()
+    }
+}
+
+/// What a name brings. Looks at the registers of the name, of its target and of that one's target, and at the neighbours of a node
+/// that points nowhere.
+pub(crate) fn share_of(net: &NetState, rules: RuleSet, v: Node) -> Share
+    requires { v ≤ net.now.state.network.size }
+    ensures share { IsShare rules net.now.state v result }
+    ensures light { result.added ≤ 3 }
+{
+    if !net.has(v) {
+        return NO_SHARE;
+    }
+    Share {
+        rule: rule_at(net, rules, v),
+        is_lower_end: is_lower_end(net, v),
+        added: u8::from(is_unanswered(net, v)) + flag_charge(net, rules, v),
+        closes: closes(net, rules, v),
+    }
+}
+
+/// Whether a node is the lower end of a mutual pair.
+#[inline(always)]
+fn is_lower_end(net: &NetState, v: Node) -> bool
+    requires { IsTrue (present net.now.state.network v) }
+    ensures { result ≡ is_some (pair_at net.now.state v) }
+{
+    // By its contract the state is sound.
+    let _ = net.registers();
+    match net.pointer(v) {
+        Some(w) => v < w && net.points(w, v),
+        None => false,
+    }
+}
+
+/// Whether a node points at one that does not point back.
+#[inline(always)]
+fn is_unanswered(net: &NetState, v: Node) -> bool
+    requires { IsTrue (present net.now.state.network v) }
+    ensures { result ≡ state.is_unanswered net.now.state v }
+{
+    match net.pointer(v) {
+        Some(w) => !net.points(w, v),
+        None => false,
+    }
+}
+
+/// What a node adds to the charge by its flag.
+#[inline(always)]
+fn flag_charge(net: &NetState, rules: RuleSet, v: Node) -> u8
+    requires { IsTrue (present net.now.state.network v) }
+    ensures value { result ≡ flag_charge rules net.now.state v }
+    ensures few { result ≤ 2 }
+{
+    match rules {
+        RuleSet::Hh => 0,
+        RuleSet::Manne if net.married(v) => u8::from(!net.flag(v)),
+        RuleSet::Manne => 1 + u8::from(net.flag(v)),
+    }
+}
+
+/// Whether a node's pointer closes an edge that is open by its ends.
+#[inline(always)]
+fn closes(net: &NetState, rules: RuleSet, v: Node) -> bool
+    requires { IsTrue (present net.now.state.network v) }
+    ensures { result ≡ closes rules net.now.state v }
+{
+    // By its contract the state is sound.
+    let _ = net.registers();
+    match (rules, net.pointer(v)) {
+        (RuleSet::Hh, Some(w)) => net.pointer(w).is_none(),
+        (RuleSet::Manne, Some(w)) => manne_closes(net, v, w),
+        (_, None) => false,
+    }
+}
+
+/// Whether a node points at a higher one that is not flagged, and neither is married.
+#[inline(always)]
+fn manne_closes(net: &NetState, v: Node, w: Node) -> bool
+    requires at { state.pointer net.now.state v ≡ Some w }
+    requires sound { state.IsState net.now.state }
+    ensures { result ≡ closes RuleSet.Manne net.now.state v }
+{
+    v < w && !net.flag(w) && !net.married(w)
+}
+
+/// What the node of a name makes of the edges at it, if there is one, whose rule this is.
+#[inline(always)]
+pub(crate) fn end_at(net: &NetState, rules: RuleSet, v: Node, rule: Option<Act>) -> Option<End>
+    requires within { v ≤ net.now.state.network.size }
+    requires rule { rule ≡ cond (present net.now.state.network v) (table.rule_at (table_of rules) net.now.state v) None }
+    ensures { MatchOption result (present net.now.state.network v ≡ false) (λ end. end ≡ end_of rules net.now.state v) }
+{
+    if !net.has(v) {
+        return None;
+    }
+    Some(end_of(net, rules, v, rule))
+}
+
+/// How the edges at a node count by what it shows, where this rule is enabled at it, if any. Who points nowhere has a suitor if it may marry.
+#[inline(always)]
+fn end_of(net: &NetState, rules: RuleSet, v: Node, rule: Option<Act>) -> End
+    requires present { IsTrue (present net.now.state.network v) }
+    requires rule { rule ≡ table.rule_at (table_of rules) net.now.state v }
+    ensures { result ≡ end_of rules net.now.state v }
+{
+    if net.married(v) {
+        return End::Shut;
+    }
+    match rules {
+        RuleSet::Hh if rule == Some(Act::Marry) => End::Courted,
+        RuleSet::Hh | RuleSet::Manne => End::Free,
+    }
+}
