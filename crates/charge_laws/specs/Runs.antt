@@ -8,7 +8,7 @@ use Rattle.rule_machine.specs.declared.event.Event.{Event}
 use Rattle.rule_machine.specs.declared.event.Event.TheVariants.{Link, Unlink, Point, Flag, Step, Show, Enabled, Matching, Status, Join, Leave}
 use Rattle.rule_machine.specs.declared.refusal.Refusal.{Refusal}
 use Rattle.rule_machine.specs.declared.reply.Reply.{Reply}
-use Rattle.rule_machine.specs.declared.reply.Reply.TheVariants.{Accepted, Refused, Moves, Shown, EnabledAre, Pairs, Counts}
+use Rattle.rule_machine.specs.declared.reply.Reply.TheVariants.{Accepted, Moves, Shown, EnabledAre, Pairs, Counts}
 use Rattle.rule_machine.specs.State.{State, IsState}
 use Rattle.rule_machine.specs.RuleTable.{RuleTable}
 use Rattle.rule_machine.specs.Step.{IsStep}
@@ -84,24 +84,6 @@ answer_within t weight table charged m good within event reply s answers = by_ef
         omega (arith, spent, most)
 
 -- ---- runs
-
-spent_undisturbed : (n : ℕ) (reply : Reply) → reply ≢ Accepted → spent_after n reply ≡ n + moves_of reply
-spent_undisturbed n Accepted calm = absurd (calm refl)
-spent_undisturbed n (Moves moves) calm = refl
-spent_undisturbed n (Refused refusal) calm = omega arith
-spent_undisturbed n (Shown target) calm = omega arith
-spent_undisturbed n (EnabledAre nodes) calm = omega arith
-spent_undisturbed n (Pairs pairs) calm = omega arith
-spent_undisturbed n (Counts counts) calm = omega arith
-
--- what an undisturbed run spends is its moves
-pub run_spends : (t : RuleTable) (start : Moment) (log : List Entry) (end : Moment) → Run t start log end → IsUndisturbed log → end.spent ≡ start.spent + moves_in log
-run_spends t start [] end run calm = let same = ap (λ m. m.spent) run in omega (arith, same)
-run_spends t start (entry ∷ log) end (next, answers, run) calm =
-    let rest = run_spends t (record { state = next; spent = spent_after start.spent entry.1 }) log end run (All-tail (λ e. e.1 ≢ Accepted) entry log calm) in
-    let here = spent_undisturbed start.spent entry.1 (All-head (λ e. e.1 ≢ Accepted) entry log calm) in
-    let whole = sum_by-cons (λ (e : Entry). moves_of e.1) entry log in
-    omega (arith, rest, here, whole)
 
 -- An undisturbed run pays its moves with the charge at its start, and keeps the network.
 pub run_lowers : (t : RuleTable) (weight : ℕ) → IsTable t → IsCharged t weight → (start : Moment) → IsState start.state → (log : List Entry) (end : Moment) → Run t start log end → IsUndisturbed log → (moves_in log + t.charge end.state ≤ t.charge start.state) × (end.state.network ≡ start.state.network)

@@ -44,11 +44,6 @@ made o items [] h is some few = absurd (let e = ap length is in omega arith)
 made None items (v ∷ chosen) h is some few = absurd (h (let e = ap length is ∙ length_plain (v ∷ chosen) in omega arith))
 made (Some x) items (v ∷ chosen) h is some few = ap (λ (y : List Item). Some y) (h.1 ∙ is)
 
--- there is none of no items
-pub made_none : (items : List Item) (chosen : List ℕ) → items ≡ plain chosen → length items ≤ 0 → None ≡ some_choice chosen
-made_none items [] is none = refl
-made_none items (v ∷ chosen) is none = absurd (let e = ap length is in omega arith)
-
 -- one list more
 unrolled : (central : Bool) (names : List ℕ) (lists : List (List ℕ)) (i : ℕ) (list : List ℕ) → i < length lists → list ≡ get_or lists i list → played central names (drop i lists) ≡ play_or (list_choice central names list) (drop (i + 1) lists) (played central names (drop (i + 1) lists))
 unrolled central names lists i list there is =

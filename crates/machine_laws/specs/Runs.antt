@@ -30,11 +30,6 @@ use Rattle.machine_laws.specs.LeastAnswers.{least_answers}
 abbrev pub spent_after_all : ℕ → List Reply → ℕ
 spent_after_all spent replies = fold spent_after spent replies
 
--- events in turn leave a state
-pub state_after_all_keeps : (t : RuleTable) → IsTable t → (s : State) → IsState s → (events : List Event) → IsState (state_after_all t s events)
-state_after_all_keeps t table s good [] = good
-state_after_all_keeps t table s good (event ∷ events) = state_after_all_keeps t table (state_after t s event) (state_after_keeps t table s good event) events
-
 -- The answers with the least targets to events in turn are a run, which spends what their replies say.
 pub least_run : (t : RuleTable) → IsTable t → (s : State) → IsState s → (events : List Event) (n : ℕ) → Run t (record { state = s; spent = n }) (zip events (replies_of t s n events)) (record { state = state_after_all t s events; spent = spent_after_all n (replies_of t s n events) })
 least_run t table s good [] n = refl

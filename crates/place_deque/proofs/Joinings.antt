@@ -103,12 +103,6 @@ back P xs x all = subst (All P) (drop-append_seam xs (x ∷ [])) (All-drop P (le
 pub same_deque : (count : ℕ) (all : List End) (o : Owner) (left rest : List End) (t : Thief) → left ≡ rest ++ end.Thief t ∷ [] → Joining count all o left → thief_deque t ≡ owner_deque o
 same_deque count all o left rest t is j = back (λ e. end_deque e ≡ owner_deque o) rest (end.Thief t) (subst (All (λ e. end_deque e ≡ owner_deque o)) is j.one)
 
-pub no_owner : (count : ℕ) (all : List End) (o : Owner) (left rest : List End) (p : Owner) → left ≡ rest ++ end.Owner p ∷ [] → Joining count all o left → ⊥
-no_owner count all o left rest p is j =
-    let none = j.owner in
-    let e : sum_by end_owners left ≡ sum_by end_owners (rest ++ end.Owner p ∷ []) = ap (sum_by end_owners) is in
-    omega (arith, sum_by_push end_owners rest (end.Owner p))
-
 pub joins : (count : ℕ) (all : List End) (o p : Owner) (left rest : List End) (t : Thief) → left ≡ rest ++ end.Thief t ∷ [] → owner_deque p ≡ owner_deque o → owner_tally p ≡ joined (owner_tally o) (thief_tally t) → Joining count all o left → Joining count all p rest
 joins count all o p left rest t is deque known j =
     let sum : (f : End → ℕ) → sum_by f left ≡ sum_by f rest + f (end.Thief t) = λ f. ap (sum_by f) is ∙ sum_by_push f rest (end.Thief t) in
