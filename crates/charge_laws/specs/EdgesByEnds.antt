@@ -1,12 +1,12 @@
 -- The edges that pass a test are counted at their higher ends, at both ends, and where only one node changes.
-use Rattle.std.proofs.Common.{◌≡◌, ℕ, ◌+◌, ◌<◌, min, max, Bool, true, false, cond, not, ◌&&◌, List, [], ◌∷◌, count_by, sum_by, nat_eq, nat_lt, IsTrue, refl, sym, ap, ap₂, ◌∙◌, subst, inl, inr, ⊎_elim, arith}
+use Rattle.std.proofs.Common.{◌≡◌, ℕ, ◌+◌, ◌<◌, min, max, Bool, true, false, cond, not, ◌&&◌, List, [], ◌∷◌, count_by, sum_by, nat_eq, nat_lt, IsTrue, refl, sym, ap, ap₂, ◌∙◌, inl, inr, ⊎_elim, arith}
 use Rattle.std.specs.FinMap as map
-use Rattle.std.proofs.lemmas.Bool.{and_parts, and_from, eq-eqb, ne_eqb, eqb-true, eqb-false, lt-ltb, le-ltb, ltb-true, cases_order}
+use Rattle.std.proofs.lemmas.Bool.{ne_eqb, eqb-false, lt-ltb, le-ltb, ltb-true, cases_order}
 use Rattle.std.proofs.lemmas.List.Sums.{sum_by-cons}
 use Rattle.rule_machine.specs.Network.{Network, IsNetwork, edge, names, present, linked, neighbours, edge_list}
-use Rattle.charge_laws.specs.Counting.{IsIn, IsInjection, count_into, count_agree, sum_add, sum_agree}
-use Rattle.charge_laws.specs.Members.{in_names, names_without_repeats, in_edges, edges_contain}
-use Rattle.charge_laws.specs.EdgesByNodes.{edges_without_repeats, by_end, count_filter, at_node, edges_by_nodes}
+use Rattle.charge_laws.specs.Counting.{IsIn, count_agree, sum_add, sum_agree}
+use Rattle.charge_laws.specs.Members.{in_names, names_without_repeats, edges_contain}
+use Rattle.charge_laws.specs.EdgesByNodes.{by_end, count_filter, at_end, at_node, edges_by_nodes}
 
 edge_down : (v w : ℕ) → w < v → edge v w ≡ (w, v)
 edge_down v w below =
@@ -14,47 +14,15 @@ edge_down v w below =
     let high : max v w ≡ v = omega arith in
     ap₂ (λ (a b : ℕ). (a, b)) low high
 
-as_entering : (p : ℕ × ℕ → Bool) (v : ℕ) (e : ℕ × ℕ) → IsTrue (nat_eq e.1 v && p e) → (e ≡ (e.0, v)) × IsTrue (p e)
-as_entering p v e h =
-    let parts = and_parts (nat_eq e.1 v) (p e) h in
-    (ap (λ (b : ℕ). (e.0, b)) (eqb-true e.1 v parts.0), parts.1)
-
-edge_reaches : (net : Network) → IsNetwork net → (p : ℕ × ℕ → Bool) (v w : ℕ) → IsTrue (map.contains_key net.edges (w, v)) → IsTrue (p (w, v)) → IsTrue (linked net v w && (nat_lt w v && p (w, v)))
-edge_reaches net good p v w at passes =
-    let below = good.low_first w v at in
-    and_from (linked net v w) (nat_lt w v && p (w, v)) (subst (λ e. IsTrue (map.contains_key net.edges e)) (sym (edge_down v w below)) at)
-    (and_from (nat_lt w v) (p (w, v)) (lt-ltb w v below) passes)
-
-reached_edge : (net : Network) (p : ℕ × ℕ → Bool) (v w : ℕ) → IsTrue (linked net v w && (nat_lt w v && p (w, v))) → IsTrue (map.contains_key net.edges (w, v)) × IsTrue (p (w, v))
-reached_edge net p v w h =
-    let parts = and_parts (linked net v w) (nat_lt w v && p (w, v)) h in
-    let more = and_parts (nat_lt w v) (p (w, v)) parts.1 in
-    (subst (λ e. IsTrue (map.contains_key net.edges e)) (edge_down v w (ltb-true w v more.0)) parts.0, more.1)
-
-to_lower : (net : Network) → IsNetwork net → (p : ℕ × ℕ → Bool) (v : ℕ) → IsInjection (λ e. nat_eq e.1 v && p e) (edge_list net) (λ e. e.0) (λ w. linked net v w && (nat_lt w v && p (w, v))) (names net)
-to_lower net good p v = record {
-  lands = λ e at passes. in_names net e.0 (good.low_present e.0 e.1 (edges_contain net e at));
-  passes = λ e at passes.
-      let is = as_entering p v e passes in
-      edge_reaches net good p v e.0 (subst (λ f. IsTrue (map.contains_key net.edges f)) is.0 (edges_contain net e at)) (subst (λ f. IsTrue (p f)) is.0 is.1);
-  apart = λ e f at also passes passes_too same.
-      (as_entering p v e passes).0 ∙ ap (λ (a : ℕ). (a, v)) same ∙ sym (as_entering p v f passes_too).0;
-}
-
-from_lower : (net : Network) (p : ℕ × ℕ → Bool) (v : ℕ) → IsInjection (λ w. linked net v w && (nat_lt w v && p (w, v))) (names net) (λ w. (w, v)) (λ e. nat_eq e.1 v && p e) (edge_list net)
-from_lower net p v = record {
-  lands = λ w at passes. in_edges net (w, v) (reached_edge net p v w passes).0;
-  passes = λ w at passes. and_from (nat_eq v v) (p (w, v)) (eq-eqb v v refl) (reached_edge net p v w passes).1;
-  apart = λ w x at also passes passes_too same. ap (λ (e : ℕ × ℕ). e.0) same;
-}
-
 -- the edges with this higher end that pass a test, counted at the node
 pub at_upper : (net : Network) → IsNetwork net → (p : ℕ × ℕ → Bool) (v : ℕ) → count_by (λ e. nat_eq e.1 v && p e) (edge_list net) ≡ count_by (λ w. nat_lt w v && p (w, v)) (neighbours net v)
-at_upper net good p v =
-    let down = count_into (λ e. nat_eq e.1 v && p e) (edge_list net) (λ e. e.0) (λ w. linked net v w && (nat_lt w v && p (w, v))) (names net) (edges_without_repeats net) (to_lower net good p v) in
-    let up = count_into (λ w. linked net v w && (nat_lt w v && p (w, v))) (names net) (λ w. (w, v)) (λ e. nat_eq e.1 v && p e) (edge_list net) (names_without_repeats net) (from_lower net p v) in
-    let among = count_filter (λ w. nat_lt w v && p (w, v)) (linked net v) (names net) in
-    omega (arith, down, up, among)
+at_upper net good p v = at_end net p v (λ e. e.1) (λ e. e.0) (λ w. (w, v)) (λ w. nat_lt w v) (record {
+  whole = λ e same. ap (λ (b : ℕ). (e.0, b)) same;
+  ended = λ w. (refl, refl);
+  ordered = λ w at. lt-ltb w v (good.low_first w v at);
+  meets = λ w side. edge_down v w (ltb-true w v side);
+  there = λ e at. good.low_present e.0 e.1 at;
+})
 
 -- The edges that pass a test are those that pass it at each node's neighbours below it.
 pub edges_by_upper : (net : Network) → IsNetwork net → (p : ℕ × ℕ → Bool) → count_by p (edge_list net) ≡ sum_by (λ v. count_by (λ w. nat_lt w v && p (w, v)) (neighbours net v)) (names net)

@@ -8,9 +8,9 @@ use Rattle.std.specs.FinMap.Entries.{is_sorted, below_all}
 use Rattle.std.proofs.lemmas.Bool.{and_parts, and_from, eq-eqb, ne_eqb, eqb-true, lt-ltb, ltb-true}
 use Rattle.std.proofs.lemmas.List.Sums.{sum_by-cons}
 use Rattle.std.proofs.lemmas.Cmp.{eq_by_cmp_equiv}
-use Rattle.rule_machine.specs.Network.{Network, IsNetwork, pair_cmp, edge, names, linked, neighbours, edge_list}
+use Rattle.rule_machine.specs.Network.{Network, IsNetwork, pair_cmp, edge, names, present, linked, neighbours, edge_list}
 use Rattle.machine_laws.specs.Edges.{pair_total}
-use Rattle.charge_laws.specs.Counting.{IsIn, IsWithoutRepeats, IsInjection, count_into, sum_add, sum_agree}
+use Rattle.charge_laws.specs.Counting.{IsIn, IsWithoutRepeats, count_into, sum_add, sum_agree}
 use Rattle.charge_laws.specs.Members.{in_names, names_without_repeats, in_edges, edges_contain}
 
 holds : (b : Bool) → T b → IsTrue b
@@ -97,47 +97,56 @@ edge_up v w below =
     let high : max v w ≡ w = omega arith in
     ap₂ (λ (a b : ℕ). (a, b)) low high
 
-as_leaving : (p : ℕ × ℕ → Bool) (v : ℕ) (e : ℕ × ℕ) → IsTrue (nat_eq e.0 v && p e) → (e ≡ (v, e.1)) × IsTrue (p e)
-as_leaving p v e h =
-    let parts = and_parts (nat_eq e.0 v) (p e) h in
-    (ap (λ (a : ℕ). (a, e.1)) (eqb-true e.0 v parts.0), parts.1)
+-- The edges with the node v at one end are told by their other end, which is beside v to that side.
+pub record IsEnd (net : Network) (v : ℕ) (end other : ℕ × ℕ → ℕ) (pair : ℕ → ℕ × ℕ) (beside : ℕ → Bool) : Type 0 where
+  pub whole : (e : ℕ × ℕ) → end e ≡ v → e ≡ pair (other e)
+  pub ended : (w : ℕ) → (end (pair w) ≡ v) × (other (pair w) ≡ w)
+  pub ordered : (w : ℕ) → IsTrue (map.contains_key net.edges (pair w)) → IsTrue (beside w)
+  pub meets : (w : ℕ) → IsTrue (beside w) → edge v w ≡ pair w
+  pub there : (e : ℕ × ℕ) → IsTrue (map.contains_key net.edges e) → IsTrue (present net (other e))
 
-edge_reaches : (net : Network) → IsNetwork net → (p : ℕ × ℕ → Bool) (v w : ℕ) → IsTrue (map.contains_key net.edges (v, w)) → IsTrue (p (v, w)) → IsTrue (linked net v w && (nat_lt v w && p (v, w)))
-edge_reaches net good p v w at passes =
-    let below = good.low_first v w at in
-    and_from (linked net v w) (nat_lt v w && p (v, w)) (subst (λ e. IsTrue (map.contains_key net.edges e)) (sym (edge_up v w below)) at)
-    (and_from (nat_lt v w) (p (v, w)) (lt-ltb v w below) passes)
+-- those of them that pass a test are counted at the node
+pub at_end : (net : Network) (p : ℕ × ℕ → Bool) (v : ℕ) (end other : ℕ × ℕ → ℕ) (pair : ℕ → ℕ × ℕ) (beside : ℕ → Bool) → IsEnd net v end other pair beside → count_by (λ e. nat_eq (end e) v && p e) (edge_list net) ≡ count_by (λ w. beside w && p (pair w)) (neighbours net v)
+at_end net p v end other pair beside is =
+    let to_others = count_into (λ e. nat_eq (end e) v && p e) (edge_list net) other reached (names net) (edges_without_repeats net) (record {
+      lands = λ e at passes. in_names net (other e) (is.there e (edges_contain net e at));
+      passes = λ e at passes. reaches (other e) (subst (λ f. IsTrue (map.contains_key net.edges f)) (as_pair e passes).0 (edges_contain net e at)) (subst (λ f. IsTrue (p f)) (as_pair e passes).0 (as_pair e passes).1);
+      apart = λ e f at also passes passes_too same. (as_pair e passes).0 ∙ ap pair same ∙ sym (as_pair f passes_too).0;
+    }) in
+    let to_edges = count_into reached (names net) pair (λ e. nat_eq (end e) v && p e) (edge_list net) (names_without_repeats net) (record {
+      lands = λ w at passes. in_edges net (pair w) (edge_of w passes).0;
+      passes = λ w at passes. and_from (nat_eq (end (pair w)) v) (p (pair w)) (eq-eqb (end (pair w)) v (is.ended w).0) (edge_of w passes).1;
+      apart = λ w x at also passes passes_too same. sym (is.ended w).1 ∙ ap other same ∙ (is.ended x).1;
+    }) in
+    let among = count_filter (λ w. beside w && p (pair w)) (linked net v) (names net) in
+    omega (arith, to_others, to_edges, among)
+  where
+    reached : ℕ → Bool
+    reached w = linked net v w && (beside w && p (pair w))
 
-reached_edge : (net : Network) (p : ℕ × ℕ → Bool) (v w : ℕ) → IsTrue (linked net v w && (nat_lt v w && p (v, w))) → IsTrue (map.contains_key net.edges (v, w)) × IsTrue (p (v, w))
-reached_edge net p v w h =
-    let parts = and_parts (linked net v w) (nat_lt v w && p (v, w)) h in
-    let more = and_parts (nat_lt v w) (p (v, w)) parts.1 in
-    (subst (λ e. IsTrue (map.contains_key net.edges e)) (edge_up v w (ltb-true v w more.0)) parts.0, more.1)
+    as_pair : (e : ℕ × ℕ) → IsTrue (nat_eq (end e) v && p e) → (e ≡ pair (other e)) × IsTrue (p e)
+    as_pair e passes = let parts = and_parts (nat_eq (end e) v) (p e) passes in (is.whole e (eqb-true (end e) v parts.0), parts.1)
 
-lower_ends : (net : Network) → IsNetwork net → (p : ℕ × ℕ → Bool) (v : ℕ) → IsInjection (λ e. nat_eq e.0 v && p e) (edge_list net) (λ e. e.1) (λ w. linked net v w && (nat_lt v w && p (v, w))) (names net)
-lower_ends net good p v = record {
-  lands = λ e at passes. in_names net e.1 (good.high_present e.0 e.1 (edges_contain net e at));
-  passes = λ e at passes.
-      let is = as_leaving p v e passes in
-      edge_reaches net good p v e.1 (subst (λ f. IsTrue (map.contains_key net.edges f)) is.0 (edges_contain net e at)) (subst (λ f. IsTrue (p f)) is.0 is.1);
-  apart = λ e f at also passes passes_too same.
-      (as_leaving p v e passes).0 ∙ ap (λ (b : ℕ). (v, b)) same ∙ sym (as_leaving p v f passes_too).0;
-}
+    reaches : (w : ℕ) → IsTrue (map.contains_key net.edges (pair w)) → IsTrue (p (pair w)) → IsTrue (reached w)
+    reaches w at passes =
+        let side = is.ordered w at in
+        and_from (linked net v w) (beside w && p (pair w)) (subst (λ e. IsTrue (map.contains_key net.edges e)) (sym (is.meets w side)) at) (and_from (beside w) (p (pair w)) side passes)
 
-higher_ends : (net : Network) (p : ℕ × ℕ → Bool) (v : ℕ) → IsInjection (λ w. linked net v w && (nat_lt v w && p (v, w))) (names net) (λ w. (v, w)) (λ e. nat_eq e.0 v && p e) (edge_list net)
-higher_ends net p v = record {
-  lands = λ w at passes. in_edges net (v, w) (reached_edge net p v w passes).0;
-  passes = λ w at passes. and_from (nat_eq v v) (p (v, w)) (eq-eqb v v refl) (reached_edge net p v w passes).1;
-  apart = λ w x at also passes passes_too same. ap (λ (e : ℕ × ℕ). e.1) same;
-}
+    edge_of : (w : ℕ) → IsTrue (reached w) → IsTrue (map.contains_key net.edges (pair w)) × IsTrue (p (pair w))
+    edge_of w passes =
+        let parts = and_parts (linked net v w) (beside w && p (pair w)) passes in
+        let more = and_parts (beside w) (p (pair w)) parts.1 in
+        (subst (λ e. IsTrue (map.contains_key net.edges e)) (is.meets w more.0) parts.0, more.1)
 
 -- the edges with this lower end that pass a test, counted at the node
 pub at_node : (net : Network) → IsNetwork net → (p : ℕ × ℕ → Bool) (v : ℕ) → count_by (λ e. nat_eq e.0 v && p e) (edge_list net) ≡ count_by (λ w. nat_lt v w && p (v, w)) (neighbours net v)
-at_node net good p v =
-    let up = count_into (λ e. nat_eq e.0 v && p e) (edge_list net) (λ e. e.1) (λ w. linked net v w && (nat_lt v w && p (v, w))) (names net) (edges_without_repeats net) (lower_ends net good p v) in
-    let down = count_into (λ w. linked net v w && (nat_lt v w && p (v, w))) (names net) (λ w. (v, w)) (λ e. nat_eq e.0 v && p e) (edge_list net) (names_without_repeats net) (higher_ends net p v) in
-    let among = count_filter (λ w. nat_lt v w && p (v, w)) (linked net v) (names net) in
-    omega (arith, up, down, among)
+at_node net good p v = at_end net p v (λ e. e.0) (λ e. e.1) (λ w. (v, w)) (λ w. nat_lt v w) (record {
+  whole = λ e same. ap (λ (a : ℕ). (a, e.1)) same;
+  ended = λ w. (refl, refl);
+  ordered = λ w at. lt-ltb v w (good.low_first v w at);
+  meets = λ w side. edge_up v w (ltb-true v w side);
+  there = λ e at. good.high_present e.0 e.1 at;
+})
 
 -- The edges that pass a test are those that pass it at each node's neighbours above it.
 pub edges_by_nodes : (net : Network) → IsNetwork net → (p : ℕ × ℕ → Bool) → count_by p (edge_list net) ≡ sum_by (λ v. count_by (λ w. nat_lt v w && p (v, w)) (neighbours net v)) (names net)

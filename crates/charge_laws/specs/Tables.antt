@@ -63,43 +63,39 @@ court_found s v good h =
         ap is_some (near_found s.network (manne.allowed s v Seduce) v g good.is_network (and_parts (linked s.network v g) (may_court s v g) passes).0
         (greatest_allowed s v g passes (λ x up near. false_from_ne_true (may_court s v x) (λ may. true≢false (sym (and_from (linked s.network v x) (may_court s v x) near may) ∙ above x up (neighbour_within s v x good near)))))).1
 
+-- only Marry and Seduce take a target
+with_target : (allowed : Act → Bool) → allowed Update ≡ false → allowed Abandon ≡ false → (act : Act) → IsTrue (allowed act) → IsTrue (takes_target act)
+with_target allowed none_up none_away Update h = absurd (true≢false (sym h ∙ none_up))
+with_target allowed none_up none_away Marry h = refl
+with_target allowed none_up none_away Seduce h = refl
+with_target allowed none_up none_away Abandon h = absurd (true≢false (sym h ∙ none_away))
+
+-- so a target is there where these two find one
+has_by : (t : RuleTable) (s : State) (v : ℕ) → (IsTrue (t.guard s v Marry) → IsSome (least_target t s v Marry)) → (IsTrue (t.guard s v Seduce) → IsSome (least_target t s v Seduce)) → (act : Act) → IsTrue (t.guard s v act) → IsTrue (takes_target act) → IsSome (least_target t s v act)
+has_by t s v marry seduce Update h taken = absurd (true≢false (sym taken))
+has_by t s v marry seduce Marry h taken = marry h
+has_by t s v marry seduce Seduce h taken = seduce h
+has_by t s v marry seduce Abandon h taken = absurd (true≢false (sym taken))
+
 pub hsu_huang_table : IsTable hsu_huang
 hsu_huang_table = record {
   allowed_is_neighbour = hsu_huang_inside.near;
-  allowed_takes_target = λ s v act w h. takes s v act w h;
-  has_target = λ s v act good h taken. has s v act good h taken;
+  allowed_takes_target = λ s v act w h. with_target (λ a. hsu_huang.allowed s v a w) refl refl act h;
+  has_target = λ s v act good h taken. has_by hsu_huang s v
+      (λ h. target_found hsu_huang s v Marry (suits s v) good (and_parts _ (has_suitor s v) h).1 (λ w near passes. and_from (linked s.network v w) (suits s v w) near passes))
+      (λ h. target_found hsu_huang s v Seduce (is_open hsu_huang_opens s) good (and_parts _ _ h).1 (λ w near passes. and_from (linked s.network v w) (is_open hsu_huang_opens s w) near passes))
+      act h taken;
 }
-  where
-    takes : (s : State) (v : ℕ) (act : Act) (w : ℕ) → IsTrue (hsu_huang.allowed s v act w) → IsTrue (takes_target act)
-    takes s v Update w h = h
-    takes s v Marry w h = refl
-    takes s v Seduce w h = refl
-    takes s v Abandon w h = h
-
-    has : (s : State) (v : ℕ) (act : Act) → IsState s → IsTrue (hsu_huang.guard s v act) → IsTrue (takes_target act) → IsSome (least_target hsu_huang s v act)
-    has s v Update good h taken = absurd (true≢false (sym taken))
-    has s v Marry good h taken = target_found hsu_huang s v Marry (suits s v) good (and_parts _ (has_suitor s v) h).1 (λ w near passes. and_from (linked s.network v w) (suits s v w) near passes)
-    has s v Seduce good h taken = target_found hsu_huang s v Seduce (is_open hsu_huang_opens s) good (and_parts _ _ h).1 (λ w near passes. and_from (linked s.network v w) (is_open hsu_huang_opens s w) near passes)
-    has s v Abandon good h taken = absurd (true≢false (sym taken))
 
 pub manne_table : IsTable manne
 manne_table = record {
   allowed_is_neighbour = manne_inside.near;
-  allowed_takes_target = λ s v act w h. takes s v act w h;
-  has_target = λ s v act good h taken. has s v act good h taken;
+  allowed_takes_target = λ s v act w h. with_target (λ a. manne.allowed s v a w) refl refl act h;
+  has_target = λ s v act good h taken. has_by manne s v
+      (λ h. target_found manne s v Marry (suits s v) good (and_parts _ (has_suitor s v) h).1 (λ w near passes. and_from (linked s.network v w) (suits s v w) near passes))
+      (λ h. court_found s v good (and_parts _ _ h).1)
+      act h taken;
 }
-  where
-    takes : (s : State) (v : ℕ) (act : Act) (w : ℕ) → IsTrue (manne.allowed s v act w) → IsTrue (takes_target act)
-    takes s v Update w h = h
-    takes s v Marry w h = refl
-    takes s v Seduce w h = refl
-    takes s v Abandon w h = h
-
-    has : (s : State) (v : ℕ) (act : Act) → IsState s → IsTrue (manne.guard s v act) → IsTrue (takes_target act) → IsSome (least_target manne s v act)
-    has s v Update good h taken = absurd (true≢false (sym taken))
-    has s v Marry good h taken = target_found manne s v Marry (suits s v) good (and_parts _ (has_suitor s v) h).1 (λ w near passes. and_from (linked s.network v w) (suits s v w) near passes)
-    has s v Seduce good h taken = court_found s v good (and_parts _ _ h).1
-    has s v Abandon good h taken = absurd (true≢false (sym taken))
 
 -- where no flags are used none is written
 pub hsu_huang_flagless : IsFlagless hsu_huang

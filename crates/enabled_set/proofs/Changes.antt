@@ -60,58 +60,48 @@ places_put len bits words v word b long there room same here others =
     let set_long = length-set bits v b in
     places_are len (set words (v / 64) word) (set bits v b) (omega arith) (λ u inside. same_put bits words v word b there room same here others u)
 
--- one member more
-pub counted_more : (bits : List Bool) (words s l : List ℕ) (total v word x y : ℕ) → IsCounted bits words s l total → v < length bits → 1 ≤ v → is_in bits v ≡ false → has_bit word (v % 64) ≡ true → ((i : ℕ) → i < 64 → i ≢ (v % 64) → has_bit word i ≡ has_bit (get_or words (v / 64) 0) i) → x ≡ get_or s (v / 512) x → y ≡ get_or l (v / 4096) y → IsCounted (set bits v true) (set words (v / 64) word) (set s (v / 512) (x + 1)) (set l (v / 4096) (y + 1)) (total + 1)
-counted_more bits words s l total v word x y good there named off here others read_x read_y =
-    let len = length-set bits v true in
+-- one member more or less, where its counts were changed so
+counted_put : (bits : List Bool) (words s l : List ℕ) (total v word x y left : ℕ) (b : Bool) → IsCounted bits words s l total → v < length bits → 1 ≤ v → has_bit word (v % 64) ≡ b → ((i : ℕ) → i < 64 → i ≢ (v % 64) → has_bit word i ≡ has_bit (get_or words (v / 64) 0) i) → IsCount (set bits v b) 512 (set s (v / 512) x) → IsCount (set bits v b) 4096 (set l (v / 4096) y) → tally (is_in (set bits v b)) (length bits) ≡ left → IsCounted (set bits v b) (set words (v / 64) word) (set s (v / 512) x) (set l (v / 4096) y) left
+counted_put bits words s l total v word x y left b good there named here others in_512 in_4096 in_all =
+    let len = length-set bits v b in
     let words_len = length-set words (v / 64) word in
-    let groups_len = length-set s (v / 512) (x + 1) in
-    let lots_len = length-set l (v / 4096) (y + 1) in
+    let groups_len = length-set s (v / 512) x in
+    let lots_len = length-set l (v / 4096) y in
     let covered = good.covered in
     record {
       few = omega (arith, good.few, len);
       covered = omega (arith, good.covered, len, words_len);
       spare = omega (arith, good.spare, len, words_len);
-      nobody = same_there bits v true 0 (λ (e : 0 ≡ v). omega arith) ∙ good.nobody;
-      same = same_put bits words v word true there (omega arith) good.same here others;
-      in_512 = count_more bits 512 s v x (omega arith) good.in_512 there off (count_read bits 512 s v x (omega arith) good.in_512 there read_x);
-      in_4096 = count_more bits 4096 l v y (omega arith) good.in_4096 there off (count_read bits 4096 l v y (omega arith) good.in_4096 there read_y);
+      nobody = same_there bits v b 0 (λ (e : 0 ≡ v). omega arith) ∙ good.nobody;
+      same = same_put bits words v word b there (omega arith) good.same here others;
+      in_512 = in_512;
+      in_4096 = in_4096;
       groups = omega (arith, good.groups, len, groups_len);
       lots = omega (arith, good.lots, lots_len);
-      in_all =
-          let put = tally_put (is_in bits) (is_in (set bits v true)) v off (on_here bits v true there) (same_there bits v true) (length bits) in
-          let all = ap (tally (is_in (set bits v true))) len in
-          let one = past_above v (length bits) there in
-          let was = good.in_all in
-          omega arith;
+      in_all = ap (tally (is_in (set bits v b))) len ∙ in_all;
     }
+
+-- one member more
+pub counted_more : (bits : List Bool) (words s l : List ℕ) (total v word x y : ℕ) → IsCounted bits words s l total → v < length bits → 1 ≤ v → is_in bits v ≡ false → has_bit word (v % 64) ≡ true → ((i : ℕ) → i < 64 → i ≢ (v % 64) → has_bit word i ≡ has_bit (get_or words (v / 64) 0) i) → x ≡ get_or s (v / 512) x → y ≡ get_or l (v / 4096) y → IsCounted (set bits v true) (set words (v / 64) word) (set s (v / 512) (x + 1)) (set l (v / 4096) (y + 1)) (total + 1)
+counted_more bits words s l total v word x y good there named off here others read_x read_y =
+    let put = tally_put (is_in bits) (is_in (set bits v true)) v off (on_here bits v true there) (same_there bits v true) (length bits) in
+    let one = past_above v (length bits) there in
+    let was = good.in_all in
+    counted_put bits words s l total v word (x + 1) (y + 1) (total + 1) true good there named here others
+    (count_more bits 512 s v x (omega arith) good.in_512 there off (count_read bits 512 s v x (omega arith) good.in_512 there read_x))
+    (count_more bits 4096 l v y (omega arith) good.in_4096 there off (count_read bits 4096 l v y (omega arith) good.in_4096 there read_y))
+    (omega arith)
 
 -- one member less
 pub counted_less : (bits : List Bool) (words s l : List ℕ) (total v word x y : ℕ) → IsCounted bits words s l total → v < length bits → is_in bits v ≡ true → has_bit word (v % 64) ≡ false → ((i : ℕ) → i < 64 → i ≢ (v % 64) → has_bit word i ≡ has_bit (get_or words (v / 64) 0) i) → x ≡ get_or s (v / 512) x → y ≡ get_or l (v / 4096) y → IsCounted (set bits v false) (set words (v / 64) word) (set s (v / 512) (x - 1)) (set l (v / 4096) (y - 1)) (total - 1)
 counted_less bits words s l total v word x y good there on here others read_x read_y =
-    let len = length-set bits v false in
-    let words_len = length-set words (v / 64) word in
-    let groups_len = length-set s (v / 512) (x - 1) in
-    let lots_len = length-set l (v / 4096) (y - 1) in
-    let named = somebody bits v good.nobody on in
-    let covered = good.covered in
-    record {
-      few = omega (arith, good.few, len);
-      covered = omega (arith, good.covered, len, words_len);
-      spare = omega (arith, good.spare, len, words_len);
-      nobody = same_there bits v false 0 (λ (e : 0 ≡ v). omega arith) ∙ good.nobody;
-      same = same_put bits words v word false there (omega arith) good.same here others;
-      in_512 = count_less bits 512 s v x (omega arith) good.in_512 there on (count_read bits 512 s v x (omega arith) good.in_512 there read_x);
-      in_4096 = count_less bits 4096 l v y (omega arith) good.in_4096 there on (count_read bits 4096 l v y (omega arith) good.in_4096 there read_y);
-      groups = omega (arith, good.groups, len, groups_len);
-      lots = omega (arith, good.lots, lots_len);
-      in_all =
-          let put = tally_put (is_in (set bits v false)) (is_in bits) v (on_here bits v false there) on (λ k apart. sym (same_there bits v false k apart)) (length bits) in
-          let all = ap (tally (is_in (set bits v false))) len in
-          let one = past_above v (length bits) there in
-          let was = good.in_all in
-          omega arith;
-    }
+    let put = tally_put (is_in (set bits v false)) (is_in bits) v (on_here bits v false there) on (λ k apart. sym (same_there bits v false k apart)) (length bits) in
+    let one = past_above v (length bits) there in
+    let was = good.in_all in
+    counted_put bits words s l total v word (x - 1) (y - 1) (total - 1) false good there (somebody bits v good.nobody on) here others
+    (count_less bits 512 s v x (omega arith) good.in_512 there on (count_read bits 512 s v x (omega arith) good.in_512 there read_x))
+    (count_less bits 4096 l v y (omega arith) good.in_4096 there on (count_read bits 4096 l v y (omega arith) good.in_4096 there read_y))
+    (omega arith)
 
 -- no member at all
 pub none_in : (n v : ℕ) → is_in (replicate n false) v ≡ false
