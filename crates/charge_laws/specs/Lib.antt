@@ -30,5 +30,6 @@ pub mod HsuHuangCosts
 pub mod HsuHuangEdits
 pub mod DegreesLeft
 pub mod CostsOfRuns
+pub mod Present
 pub mod ManneCosts
 pub mod ManneStableCharge

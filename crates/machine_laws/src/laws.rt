@@ -23,20 +23,26 @@ pub fn stable_is_maximal()
 /// Where the mutual pairs are a maximal matching, every pointer is null or answered and the flags are right where they
 /// are used, a network is stable.
 pub fn maximal_is_stable()
-    ensures { (uses_flags : Bool) (s : State) → IsState s → ((v : ℕ) → IfSome (pointer s v) (λ w. pointer s w ≡ Some v)) → (IsTrue uses_flags → (v : ℕ) → IsTrue (present s.network v) → flag s v ≡ married s v) → IsMaximalMatching s.network (mutual_pairs s) → IsStable uses_flags s }
+    ensures { (uses_flags : Bool) (s : State) → IsState s
+        → ((v : ℕ) → IfSome (pointer s v) (λ w. pointer s w ≡ Some v))
+        → (IsTrue uses_flags → (v : ℕ) → IsTrue (present s.network v) → flag s v ≡ married s v)
+        → IsMaximalMatching s.network (mutual_pairs s) → IsStable uses_flags s }
 {}
 
 /// For names up to the same size a base is that of one moment: its nodes and edges tell the state.
 pub fn base_tells()
-    ensures { (number : ℕ) (m o : Moment) → IsState m.state → IsState o.state → m.state.network.size ≡ o.state.network.size → base_of number m ≡ base_of number o → m ≡ o }
+    ensures { (number : ℕ) (m o : Moment) → IsState m.state → IsState o.state
+        → m.state.network.size ≡ o.state.network.size → base_of number m ≡ base_of number o → m ≡ o }
 {}
 
 /// No matching has more than twice as many edges as a maximal one: a maximal matching is at least half of the best.
 pub fn maximal_is_half()
-    ensures { (net : Network) (maximal other : List (ℕ × ℕ)) → IsMaximalMatching net maximal → IsMatching net other → length other ≤ 2 * length maximal }
+    ensures { (net : Network) (maximal other : List (ℕ × ℕ))
+        → IsMaximalMatching net maximal → IsMatching net other → length other ≤ 2 * length maximal }
 {}
 
 /// Where a network is stable its mutual pairs are at least half as many as the edges of any matching.
 pub fn stable_is_half()
-    ensures { (uses_flags : Bool) (s : State) → IsState s → IsStable uses_flags s → (other : List (ℕ × ℕ)) → IsMatching s.network other → length other ≤ 2 * length (mutual_pairs s) }
+    ensures { (uses_flags : Bool) (s : State) → IsState s → IsStable uses_flags s
+        → (other : List (ℕ × ℕ)) → IsMatching s.network other → length other ≤ 2 * length (mutual_pairs s) }
 {}

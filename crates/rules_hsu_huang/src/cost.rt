@@ -1,10 +1,11 @@
 //! What a disturbance may add to the charge, from the degrees of the nodes that it touches.
 
-ghost use Rattle.std.specs.Prelude.{◌≡◌, ◌+◌, ◌-◌, ◌*◌, ◌≤◌, cond, IsTrue};
+ghost use Rattle.std.specs.Prelude.{◌≡◌, ◌-◌, ◌≤◌, cond, IsTrue};
+ghost use Rattle.rule_machine.specs.declared.event.Event.TheVariants.{Unlink, Leave};
 ghost use Rattle.rule_machine.specs.Network.{present};
 ghost use Rattle.rule_machine.specs.State.{IsState, points, pointer, has_suitor, is_unanswered};
-ghost use Rattle.charge_laws.specs.Degrees.{degree, degree_at};
-ghost use Rattle.charge_laws.specs.Costs.{hsu_huang_point_cost};
+ghost use Rattle.charge_laws.specs.Degrees.{degree};
+ghost use Rattle.charge_laws.specs.Costs.{hsu_huang_cost, hsu_huang_point_cost};
 
 use rule_machine::Node;
 use rule_set::Touched;
@@ -38,17 +39,17 @@ fn other_edges<T: Touched>(touched: &T, v: Node, w: Node) -> u32
 pub(crate) fn unlink_cost<T: Touched>(touched: &T, a: Node, b: Node) -> u32
     requires first { IsTrue (present (T.state touched.now).network a) }
     requires second { IsTrue (present (T.state touched.now).network b) }
-    ensures { result ≡ 2 * (cond (points (T.state touched.now).registers a b) (degree (T.state touched.now).network b - 1) 0 + cond (points (T.state touched.now).registers b a) (degree (T.state touched.now).network a - 1) 0) }
+    ensures { result ≡ hsu_huang_cost (T.state touched.now) (Unlink a b) }
 {
     2 * (other_edges(touched, a, b) + other_edges(touched, b, a))
 }
 
 /// Of a pointer that is written.
-#[tactic(auto, using(crate::proofs::Present::target_present))]
+#[tactic(auto, using(charge_laws::specs::Present::target_present))]
 pub(crate) fn point_cost<T: Touched>(touched: &T, v: Node) -> u32
     requires state { IsState (T.state touched.now) }
     requires present { IsTrue (present (T.state touched.now).network v) }
-    ensures { result ≡ hsu_huang_point_cost (T.state touched.now).network v (is_unanswered (T.state touched.now) v) (has_suitor (T.state touched.now) v) (pointer (T.state touched.now) v) }
+    ensures { let s = T.state touched.now in result ≡ hsu_huang_point_cost s.network v (is_unanswered s v) (has_suitor s v) (pointer s v) }
 {
     match touched.pointer(v) {
         None if touched.has_suitor(v) => 2 * touched.degree(v),
@@ -59,11 +60,11 @@ pub(crate) fn point_cost<T: Touched>(touched: &T, v: Node) -> u32
 }
 
 /// Of a node that goes.
-#[tactic(auto, using(crate::proofs::Present::target_present))]
+#[tactic(auto, using(charge_laws::specs::Present::target_present))]
 pub(crate) fn leave_cost<T: Touched>(touched: &T, v: Node) -> u32
     requires state { IsState (T.state touched.now) }
     requires present { IsTrue (present (T.state touched.now).network v) }
-    ensures { result ≡ 2 * (degree_at (T.state touched.now).network (pointer (T.state touched.now) v) - 1) }
+    ensures { result ≡ hsu_huang_cost (T.state touched.now) (Leave v) }
 {
     match touched.pointer(v) {
         Some(u) => 2 * touched.degree(u).saturating_sub(1),

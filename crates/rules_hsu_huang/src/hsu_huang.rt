@@ -91,7 +91,7 @@ impl Rules for HsuHuang {
         0
     }
 
-    #[tactic(auto, using(crate::proofs::Present::first_present, crate::proofs::Present::second_present, crate::proofs::Present::pointer_present, crate::proofs::Present::leaver_present))]
+    #[tactic(auto, using(charge_laws::specs::Present::first_present, charge_laws::specs::Present::second_present, charge_laws::specs::Present::pointer_present, charge_laws::specs::Present::leaver_present))]
     fn cost<T: Touched>(touched: &T, event: &Event) -> u32 {
         match event {
             Event::Link(_, _) => 2,

@@ -1,10 +1,10 @@
 //! What a disturbance may add to the charge, from the degrees of the nodes that it touches.
 
-ghost use Rattle.std.specs.Prelude.{◌≡◌, ◌+◌, ◌-◌, ◌*◌, ◌&&◌, cond, IsTrue};
+ghost use Rattle.std.specs.Prelude.{◌≡◌, IsTrue};
+ghost use Rattle.rule_machine.specs.declared.event.Event.TheVariants.{Unlink, Flag, Leave};
 ghost use Rattle.rule_machine.specs.Network.{present};
-ghost use Rattle.rule_machine.specs.State.{IsState, points, pointer, is_mutual, has_suitor, is_unanswered};
-ghost use Rattle.charge_laws.specs.Degrees.{degree};
-ghost use Rattle.charge_laws.specs.Costs.{manne_point_cost, manne_leave_cost};
+ghost use Rattle.rule_machine.specs.State.{IsState, points, pointer, is_unanswered};
+ghost use Rattle.charge_laws.specs.Costs.{manne_cost, manne_point_cost};
 
 use rule_machine::Node;
 use rule_set::Touched;
@@ -24,7 +24,7 @@ fn points_at<T: Touched>(touched: &T, v: Node, w: Node) -> bool
 pub(crate) fn unlink_cost<T: Touched>(touched: &T, a: Node, b: Node) -> u32
     requires first { IsTrue (present (T.state touched.now).network a) }
     requires second { IsTrue (present (T.state touched.now).network b) }
-    ensures { result ≡ cond (is_mutual (T.state touched.now) a b) (2 * ((degree (T.state touched.now).network a - 1) + (degree (T.state touched.now).network b - 1)) + 4) 0 }
+    ensures { result ≡ manne_cost (T.state touched.now) (Unlink a b) }
 {
     if points_at(touched, a, b) && points_at(touched, b, a) {
         let left = touched.degree(a).saturating_sub(1) + touched.degree(b).saturating_sub(1);
@@ -35,11 +35,11 @@ pub(crate) fn unlink_cost<T: Touched>(touched: &T, a: Node, b: Node) -> u32
 }
 
 /// Of a pointer that is written.
-#[tactic(auto, using(crate::proofs::Present::target_present))]
+#[tactic(auto, using(charge_laws::specs::Present::target_present))]
 pub(crate) fn point_cost<T: Touched>(touched: &T, v: Node) -> u32
     requires state { IsState (T.state touched.now) }
     requires present { IsTrue (present (T.state touched.now).network v) }
-    ensures { result ≡ manne_point_cost (T.state touched.now).network v (is_unanswered (T.state touched.now) v) (pointer (T.state touched.now) v) }
+    ensures { let s = T.state touched.now in result ≡ manne_point_cost s.network v (is_unanswered s v) (pointer s v) }
 {
     match touched.pointer(v) {
         None => 1,
@@ -51,7 +51,7 @@ pub(crate) fn point_cost<T: Touched>(touched: &T, v: Node) -> u32
 /// Of a flag that is written.
 pub(crate) fn flag_cost<T: Touched>(touched: &T, v: Node, value: bool) -> u32
     requires { IsTrue (present (T.state touched.now).network v) }
-    ensures { result ≡ 1 + cond (value && has_suitor (T.state touched.now) v) (2 * degree (T.state touched.now).network v) 0 }
+    ensures { result ≡ manne_cost (T.state touched.now) (Flag v value) }
 {
     if value && touched.has_suitor(v) {
         1 + 2 * touched.degree(v)
@@ -61,11 +61,11 @@ pub(crate) fn flag_cost<T: Touched>(touched: &T, v: Node, value: bool) -> u32
 }
 
 /// Of a node that goes.
-#[tactic(auto, using(crate::proofs::Present::target_present))]
+#[tactic(auto, using(charge_laws::specs::Present::target_present))]
 pub(crate) fn leave_cost<T: Touched>(touched: &T, v: Node) -> u32
     requires state { IsState (T.state touched.now) }
     requires present { IsTrue (present (T.state touched.now).network v) }
-    ensures { result ≡ manne_leave_cost (T.state touched.now).network (is_unanswered (T.state touched.now) v) (pointer (T.state touched.now) v) }
+    ensures { result ≡ manne_cost (T.state touched.now) (Leave v) }
 {
     match touched.pointer(v) {
         Some(u) if points_at(touched, u, v) => 2 * touched.degree(u).saturating_sub(1) + 2,
