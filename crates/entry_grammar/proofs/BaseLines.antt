@@ -53,13 +53,6 @@ no_place line rest e none (Link edge) h = let k : 110 ≡ 101 = (cons_parts 110 
 no_place line rest e none (Place node target flag) h =
     none (node, target, flag) h.fits (append_cancel_left (codes "node ") rest (number_text node ++ codes " " ++ target_text target ++ codes " " ++ bool_text flag) (sym e ∙ h.is) ∙ place_is node target flag)
 
-pub no_link : (line rest : List ℕ) → line ≡ codes "edge " ++ rest → ((p : ℕ × ℕ) → IsPair p → rest ≡ number_text p.0 ++ 32 ∷ number_text p.1 → ⊥) → (found : BaseLine) → SpellsBaseLine line found → ⊥
-no_link line rest e none (Head rules size) h = let k : 101 ≡ 109 = (cons_parts 101 109 _ _ (sym e ∙ h.is)).0 in absurd (omega (arith, k))
-no_link line rest e none (Base number spent nodes edges) h = let k : 101 ≡ 98 = (cons_parts 101 98 _ _ (sym e ∙ h.is)).0 in absurd (omega (arith, k))
-no_link line rest e none (Place node target flag) h = let k : 101 ≡ 110 = (cons_parts 101 110 _ _ (sym e ∙ h.is)).0 in absurd (omega (arith, k))
-no_link line rest e none (Link edge) h =
-    none edge h.fits (append_cancel_left (codes "edge ") rest (pair_text edge.0 edge.1) (sym e ∙ h.is) ∙ ends_is edge.0 edge.1)
-
 pub no_base : (line rest : List ℕ) → line ≡ codes "base " ++ rest → ((q : ℕ × ℕ × ℕ × ℕ) → AreCounts q → rest ≡ joined field_text (base_fields q.0 q.1 q.2 q.3) → ⊥) → (found : BaseLine) → SpellsBaseLine line found → ⊥
 no_base line rest e none (Head rules size) h = let k : 98 ≡ 109 = (cons_parts 98 109 _ _ (sym e ∙ h.is)).0 in absurd (omega (arith, k))
 no_base line rest e none (Link edge) h = let k : 98 ≡ 101 = (cons_parts 98 101 _ _ (sym e ∙ h.is)).0 in absurd (omega (arith, k))

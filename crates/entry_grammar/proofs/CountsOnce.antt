@@ -1,5 +1,5 @@
 -- Numbers behind their names.
-use Rattle.std.proofs.Common.{◌≡◌, ℕ, List, ◌∷◌, Option, None, Some, drop, refl, sym, ap, ◌∙◌, arith}
+use Rattle.std.proofs.Common.{◌≡◌, ◌≤◌, ℕ, List, ◌∷◌, ◌++◌, Option, None, Some, drop, refl, sym, ap, ◌∙◌, arith}
 use Rattle.std.specs.Prelude.{codes}
 use Rattle.std.proofs.lemmas.List.{append-nil, append_cancel_left}
 use Rattle.std.proofs.lemmas.Fmt.{decimal_injective}
@@ -23,6 +23,11 @@ field_cut bytes name n rest f h =
 pub field_once : (name : List ℕ) (m n : ℕ) → IsCount m → IsCount n → field_text (name, m) ≡ field_text (name, n) → m ≡ n
 field_once name m n f g e =
     decimal_injective m n (omega (arith, f)) (omega (arith, g)) (append_cancel_left name (number_text m) (number_text n) e)
+
+-- a number behind its name is read as its digits are
+pub field_reads : (bytes name digits : List ℕ) (r : Option ℕ) → bytes ≡ name ++ digits → Reads (λ n. n ≤ 4294967295) number_text digits r → Reads IsCount (λ n. field_text (name, n)) bytes r
+field_reads bytes name digits None e none = λ n f is. none n (omega (arith, f)) (append_cancel_left name digits (number_text n) (sym e ∙ is))
+field_reads bytes name digits (Some n) e found = (omega (arith, found.0), e ∙ ap (λ (t : List ℕ). name ++ t) found.1)
 
 -- a field, and what follows the space behind it
 pub behind : (bytes name : List ℕ) (m n : ℕ) (rest : List ℕ) (next : List ℕ × ℕ) (more : List (List ℕ × ℕ)) → IsFree 32 name → IsCount n → FieldThen bytes name m rest → bytes ≡ joined field_text ((name, n) ∷ next ∷ more) → (m ≡ n) × (rest ≡ joined field_text (next ∷ more))

@@ -10,7 +10,7 @@ use Rattle.line_text.specs.Words.{number_text}
 use Rattle.line_text.specs.EventText.{IsEvent, event_text, Spells, SpellsStep, NotACommand}
 use Rattle.line_text.specs.ReplyText.{reply_text}
 use Rattle.line_text.proofs.EventsOnce.{spells_once}
-use Rattle.entry_grammar.specs.Spelling.{IsReply, SpellsEntry, AsksForList, has_list}
+use Rattle.entry_grammar.specs.Spelling.{IsReply, SpellsEntry, AsksForList}
 use Rattle.entry_grammar.specs.Reading.{PartsOf, suits}
 use Rattle.entry_grammar.proofs.Free.{free_number}
 use Rattle.entry_grammar.proofs.Parts.{parts_of, parts_once}
@@ -75,17 +75,6 @@ step_asks line number event reply p s = record {
   fits = s.1.0;
   listed = refl;
   is = subst (λ (z : List ℕ). line ≡ number ++ codes " " ++ z ++ codes " = " ++ reply) s.1.1 p.is;
-}
-
--- the line of an event that goes with a list
-pub event_asks : (line number event reply : List ℕ) (asked : Event) → PartsOf line number event reply → Spells event asked → IsTrue (has_list asked) → AsksForList line
-event_asks line number event reply asked p s listed = record {
-  number = number;
-  asked = asked;
-  reply = reply;
-  fits = s.0;
-  listed = listed;
-  is = subst (λ (z : List ℕ). line ≡ number ++ codes " " ++ z ++ codes " = " ++ reply) s.1 p.is;
 }
 
 -- what holds of whatever error

@@ -37,7 +37,7 @@ pub free_size : (n : ℕ) → n ≤ 65535 → IsFree 32 (number_text n)
 free_size n few = free_number 32 n (λ h. omega (arith, h.0)) (omega (arith, few))
 
 -- the number is one
-pub number_once : (back : List ℕ) (m n : ℕ) → m < 100000000 → n ≤ 65535 → back ≡ number_text m → back ≡ number_text n → m ≡ n
+pub number_once : (back : List ℕ) (m n : ℕ) → m ≤ 65535 → n ≤ 65535 → back ≡ number_text m → back ≡ number_text n → m ≡ n
 number_once back m n h k e f = decimal_injective m n (omega arith) (omega arith) (sym e ∙ f)
 
 -- where all are present, one number is said, and else two are

@@ -71,11 +71,6 @@ SoFar-no_word {X} text fits bytes words rest s none all g h =
 pub word_cut : {X : Type 0} (text : X → List ℕ) (fits : X → Type 0) → ((x : X) → fits x → IsFree 32 (text x)) → (rest behind next : List ℕ) (x : X) → TokenThen fits text rest x behind → behind ≡ 32 ∷ next → CutAt 32 rest (text x) next
 word_cut text fits free rest behind next x h e = record { free = free x h.fits; is = h.is ∙ ap (λ (z : List ℕ). text x ++ z) e }
 
--- a word in front with no space behind it is the last one
-pub word_alone : {X : Type 0} (text : X → List ℕ) (fits : X → Type 0) (rest behind : List ℕ) (x : X) → TokenThen fits text rest x behind → ((next : List ℕ) → behind ≡ 32 ∷ next → ⊥) → rest ≡ text x
-word_alone text fits rest [] x h none = h.is ∙ append-nil (text x)
-word_alone text fits rest (b ∷ behind) x h none = absurd (none behind (ap (λ (z : ℕ). z ∷ behind) h.ends))
-
 -- only an empty text and another make an empty text
 front_nil : (x y : List ℕ) → x ++ y ≡ [] → x ≡ []
 front_nil [] y e = refl

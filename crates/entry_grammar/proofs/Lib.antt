@@ -1,10 +1,8 @@
 pub mod Cutting
 pub mod Free
-pub mod Numbers
 pub mod Headers
 pub mod InFront
 pub mod Joined
-pub mod LongRuns
 pub mod Marked
 pub mod RefusalsOnce
 pub mod TokensOnce

@@ -1,5 +1,6 @@
 -- The parts of an entry's line.
-use Rattle.std.proofs.Common.{◌≡◌, ℕ, Bool, true, false, List, [], ◌∷◌, ◌++◌, Option, None, Some, refl, sym, ap, subst, ◌∙◌, append_assoc, arith}
+use Rattle.std.proofs.Common.{◌≡◌, ◌<◌, ℕ, Bool, true, false, List, [], ◌∷◌, ◌++◌, Option, None, Some, refl, sym, ap, subst, ◌∙◌, append_assoc, arith}
+use Rattle.std.specs.Int.{IsInRange}
 use Rattle.std.specs.Prelude.{IfSome, codes}
 use Rattle.std.specs.List.{AllByRecursion}
 use Rattle.std.proofs.lemmas.List.{append_cancel_left, append_cancel_right}
@@ -7,9 +8,10 @@ use Rattle.rule_machine.specs.declared.choice.Item.{Item}
 use Rattle.rule_machine.specs.declared.event.Event.{Event}
 use Rattle.rule_machine.specs.declared.event.Event.TheVariants.{Link, Unlink, Point, Flag, Step, Show, Enabled, Matching, Status, Join, Leave}
 use Rattle.line_text.specs.Words.{number_text, marked_text, IsName, spaced}
+use Rattle.line_text.specs.Reading.{NumberThen}
 use Rattle.line_text.specs.EventText.{IsItem, IsEvent, event_text, pair_text, target_text, bool_text, item_text}
 use Rattle.entry_grammar.specs.Reading.{IsFree, CutAt, PartsOf}
-use Rattle.entry_grammar.proofs.Free.{free_append, free_by, free_name, free_marked, cut_once}
+use Rattle.entry_grammar.proofs.Free.{free_append, free_by, free_number, free_name, free_marked, cut_once}
 
 -- a name has no `=`
 name_free : (n : ℕ) → IsName n → IsFree 61 (number_text n)
@@ -116,3 +118,12 @@ pub parts_once : (line a b c d e f : List ℕ) → PartsOf line a b c → PartsO
 parts_once line a b c d e f p q =
     let r = parts_cut line a (b ++ codes " = " ++ c) (b ++ 32 ∷ []) (32 ∷ c) d e f (parts_rest line a b c p) (parts_around b c p.asked) q in
     (r.0, before_once b e 32 r.1, append_cancel_left (32 ∷ []) c f r.2)
+
+-- a number that a space follows is cut off there
+pub number_cut : (bytes : List ℕ) (n : ℕ) (numbered rest : List ℕ) → NumberThen bytes n numbered → numbered ≡ 32 ∷ rest → CutAt 32 bytes (number_text n) rest
+number_cut bytes n numbered rest h e =
+    let small = h.fits in
+    record { free = free_number 32 n (λ p. omega (arith, p.0)) (omega arith); is = h.is ∙ ap (λ (z : List ℕ). number_text n ++ z) e }
+
+pub number_of_cut : (bytes : List ℕ) (n : ℕ) (rest : List ℕ) → n < 100000000 → CutAt 32 bytes (number_text n) rest → NumberThen bytes n (32 ∷ rest)
+number_of_cut bytes n rest f h = record { fits = f; ends = λ (p : IsInRange 48 57 32). omega (arith, p.0, p.1); is = h.is }

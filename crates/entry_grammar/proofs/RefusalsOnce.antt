@@ -1,5 +1,5 @@
 -- Refusals by their numbers.
-use Rattle.std.proofs.Common.{◌≡◌, ℕ, ◌<◌, List, [], ◌∷◌, ◌++◌, if◌then◌else◌, refl, sym, ap, ◌∙◌, append_assoc, arith}
+use Rattle.std.proofs.Common.{◌≡◌, ℕ, ◌≤◌, List, [], ◌∷◌, ◌++◌, if◌then◌else◌, refl, sym, ap, ◌∙◌, append_assoc, arith}
 use Rattle.std.specs.Prelude.{nat_eq}
 use Rattle.std.proofs.lemmas.Fmt.{decimal_injective}
 use Rattle.rule_machine.specs.declared.refusal.Refusal.{Refusal}
@@ -62,12 +62,12 @@ refusal_words_once r q e =
     let p = cut_once 32 (refusal_words r) (number_text (refusal_number r)) (number_text (refusal_number q)) (refusal_text r) (refusal_text q) (refusal_cut (refusal_words r) r refl) (refusal_cut (refusal_words r) q e) in
     refusal_once r q (name_once (refusal_number r) (refusal_number q) (refusal_named r) (refusal_named q) p.0)
 
--- a refusal's number has few digits
-pub refusal_small : (r : Refusal) → refusal_number r < 100000000
+-- a refusal's number fits
+pub refusal_small : (r : Refusal) → refusal_number r ≤ 4294967295
 refusal_small r = let f = refusal_named r in omega (arith, f.1)
 
 -- a refusal's number is the number that its text says
-pub number_same : (bytes : List ℕ) (r : Refusal) (n : ℕ) → n < 100000000 → bytes ≡ number_text (refusal_number r) → bytes ≡ number_text n → refusal_number r ≡ n
+pub number_same : (bytes : List ℕ) (r : Refusal) (n : ℕ) → n ≤ 4294967295 → bytes ≡ number_text (refusal_number r) → bytes ≡ number_text n → refusal_number r ≡ n
 number_same bytes r n h e f =
     let small = refusal_small r in
     decimal_injective (refusal_number r) n (omega (arith, small)) (omega (arith, h)) (sym e ∙ f)

@@ -32,10 +32,6 @@ name_first n rest b x f e = digits_first (number_text n) rest b x (name_digits n
 name_some : (n : ℕ) (rest : List ℕ) → IsName n → number_text n ++ rest ≢ []
 name_some n rest f = λ e. omega (arith, decimal_nonempty n (omega arith), ap length e, length-append (number_text n) rest)
 
--- no word of a reply is empty
-pub some_move : (m : Moved) → IsMoved m → move_text m ≢ []
-some_move m f = λ e. name_some m.node (58 ∷ deed_text m.act m.target) f.0 (sym (move_is m) ∙ e)
-
 pub some_enabled : (x : ℕ × Act) → IsEnabled x → enabled_text x ≢ []
 some_enabled x f = λ e. name_some x.0 (58 ∷ act_word x.1) f (sym (enabled_is x) ∙ e)
 

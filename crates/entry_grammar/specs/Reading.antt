@@ -1,5 +1,5 @@
 -- What the readers of an entry's parts say of the bytes that they are given.
-use Rattle.std.specs.Prelude.{◌≡◌, ◌≢◌, ℕ, ◌<◌, Bool, true, false, List, ◌∷◌, ◌++◌, Option, IfSome, IsTrue, codes, slice_index_or}
+use Rattle.std.specs.Prelude.{◌≡◌, ◌≢◌, ℕ, Bool, true, false, List, ◌∷◌, ◌++◌, Option, IfSome, IsTrue, codes, slice_index_or}
 use Rattle.std.specs.List.{AllByRecursion}
 use Rattle.rule_machine.specs.declared.act.Act.{Act}
 use Rattle.rule_machine.specs.declared.event.Event.{Event}
@@ -32,12 +32,6 @@ pub record TokenThen {X : Type 0} (Fits : X → Type 0) (text : X → List ℕ) 
   pub fits : Fits value
   pub ends : Ends rest
   pub is : bytes ≡ text value ++ rest
-
--- the bytes are a number of at most eight digits and, after its last digit, the rest
-pub record NumberThen (bytes : List ℕ) (number : ℕ) (rest : List ℕ) : Type 0 where
-  pub fits : number < 100000000
-  pub ends : NoDigit rest
-  pub is : bytes ≡ number_text number ++ rest
 
 -- the bytes are two names with a mark between them, the lower one in front, and after the last digit the rest
 pub record PairThen (mark : ℕ) (bytes : List ℕ) (pair : ℕ × ℕ) (rest : List ℕ) : Type 0 where

@@ -1,6 +1,7 @@
 //! The numbers that say where a network stands.
 
-ghost use Rattle.std.specs.Prelude.{ℕ, List, MatchOption};
+ghost use Rattle.std.specs.Prelude.{ℕ, ◌≤◌, List, MatchOption};
+ghost use Rattle.line_text.specs.Words.{number_text};
 ghost use Rattle.line_text.specs.ReplyText.{IsCount, IsCounts, counts_text, field_text};
 ghost use Rattle.line_text.specs.Reading.{Reads};
 ghost use Rattle.entry_grammar.specs.Reading.{IsFree, FieldThen};
@@ -9,6 +10,16 @@ use crate::cut::cut;
 use line_text::{after, read_number};
 use rule_machine::Counts;
 
+/// Reads a number up to a greatest one.
+pub(crate) fn read_up_to(bytes: &[u8], most: u32) -> Option<u32>
+    ensures { Reads (λ n. n ≤ most) number_text bytes.now result }
+{
+    let Some(number) = read_number(bytes, u64::from(most)) else {
+        return None;
+    };
+    Some(number as u32)
+}
+
 /// Reads a number behind its name.
 pub(crate) fn read_field(bytes: &[u8], name: &[u8]) -> Option<u32>
     ensures { Reads IsCount (λ number. field_text (name.now, number)) bytes.now result }
@@ -16,10 +27,7 @@ pub(crate) fn read_field(bytes: &[u8], name: &[u8]) -> Option<u32>
     let Some(digits) = after(bytes, name) else {
         return None;
     };
-    let Some(number) = read_number(digits, u64::from(u32::MAX)) else {
-        return None;
-    };
-    Some(number as u32)
+    read_up_to(digits, u32::MAX)
 }
 
 /// Reads a number behind its name and the space behind it, and gives what follows the space.

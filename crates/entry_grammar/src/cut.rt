@@ -1,7 +1,7 @@
-//! Texts that are cut at a byte.
+//! Texts that are cut at a byte, or at one of their ends.
 
-ghost use Rattle.std.specs.Prelude.{◌≡◌, ℕ, List, ◌++◌, MatchOption};
-ghost use Rattle.entry_grammar.specs.Reading.{IsFree, CutAt};
+ghost use Rattle.std.specs.Prelude.{◌≡◌, ℕ, ◌↔◌, List, ◌∷◌, ◌++◌, IsTrue, MatchOption};
+ghost use Rattle.entry_grammar.specs.Reading.{IsFree, CutAt, Ends};
 
 use memchr::memchr;
 
@@ -29,6 +29,27 @@ pub fn cut_far(bytes: &[u8], mark: u8) -> Option<(&[u8], &[u8])>
     match memchr(mark, bytes) {
         Some(len) => Some((&bytes[..len], &bytes[len + 1..])),
         None => None,
+    }
+}
+
+/// Whether nothing stands there, or a space in front.
+#[inline(always)]
+pub(crate) fn ends(bytes: &[u8]) -> bool
+    ensures { IsTrue result ↔ Ends bytes.now }
+{
+    bytes.get(0).copied().unwrap_or(b' ') == b' '
+}
+
+/// What stands behind the mark in front; `None` where another byte or none stands there.
+#[inline(always)]
+pub(crate) fn behind(bytes: &[u8], mark: u8) -> Option<&[u8]>
+    ensures { MatchOption result
+        ((rest : List ℕ) → bytes.now ≡ mark ∷ rest → ⊥)
+        (λ rest. bytes.now ≡ mark ∷ rest.now) }
+{
+    match bytes.split_first() {
+        Some((byte, rest)) if *byte == mark => Some(rest),
+        _ => None,
     }
 }
 

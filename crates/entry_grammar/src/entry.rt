@@ -9,12 +9,10 @@ ghost use Rattle.entry_grammar.specs.Spelling.{max_entries, AsksForList, SpellsE
 ghost use Rattle.entry_grammar.specs.Reading.{PartsOf};
 ghost use Rattle.entry_grammar.specs.declared.fault.EntryFault.TheVariants.{Memory, NotALine};
 
-use crate::cut::{before, cut_far};
+use crate::cut::{before, behind, cut_far};
 use crate::fault::EntryFault;
-use crate::front::behind;
-use crate::number::number_in_front;
 use crate::reply::read_reply;
-use line_text::{put_entry, read_command};
+use line_text::{number_in_front, put_entry, read_command};
 use log_entry::Entry;
 use rule_machine::Want;
 use std::alloc::Global;

@@ -9,15 +9,12 @@ ghost use Rattle.line_text.specs.Reading.{Reads, ReadsTwo};
 ghost use Rattle.entry_grammar.specs.Spelling.{AreSizes, SpellsHeader};
 ghost use Rattle.entry_grammar.specs.declared.fault.EntryFault.TheVariants.{NotALine};
 
+use crate::counts::read_up_to;
 use crate::cut::cut;
 use crate::fault::EntryFault;
-use crate::number::read_number;
 use line_text::{after, put_header};
-use rule_machine::{RuleSet, Want};
+use rule_machine::{MAX_NAME, RuleSet, Want};
 use std::alloc::Global;
-
-/// The most nodes that a header names.
-const MAX_NODES: u32 = 65_535;
 
 /// Reads a rule set by its word.
 pub(crate) fn read_rules(bytes: &[u8]) -> Option<RuleSet>
@@ -36,13 +33,7 @@ pub(crate) fn read_rules(bytes: &[u8]) -> Option<RuleSet>
 pub(crate) fn read_size(bytes: &[u8]) -> Option<u32>
     ensures { Reads (λ n. n ≤ 65535) number_text bytes.now result }
 {
-    let Some(size) = read_number(bytes) else {
-        return None;
-    };
-    if size > MAX_NODES {
-        return None;
-    }
-    Some(size)
+    read_up_to(bytes, MAX_NAME)
 }
 
 // Reads how many names there are, and how many of them are present at the start, which is said only where not all are.
@@ -58,7 +49,7 @@ fn read_sizes(bytes: &[u8]) -> Option<(u32, u32)>
     let Some(size) = read_size(size) else {
         return None;
     };
-    let Some(count) = read_number(count) else {
+    let Some(count) = read_up_to(count, MAX_NAME) else {
         return None;
     };
     if count >= size {

@@ -1,15 +1,37 @@
 //! Replies, which are read by the kind of the event that they answer.
 
-ghost use Rattle.std.specs.Prelude.{◌≡◌, IfOk, IsTrue, OnErr};
+ghost use Rattle.std.specs.Prelude.{◌≡◌, ⊤, IfOk, IsTrue, OnErr};
+ghost use Rattle.rule_machine.specs.declared.refusal.Refusal.{Refusal};
+ghost use Rattle.line_text.specs.ReplyText.{refusal_words};
+ghost use Rattle.line_text.specs.Reading.{Reads};
 ghost use Rattle.entry_grammar.specs.Spelling.{has_list};
 ghost use Rattle.entry_grammar.specs.Reading.{ReadsReply, is_done, is_moved, is_shown, suits};
 
-use crate::counts::read_counts;
-use crate::refusals::read_refusal;
+use crate::counts::{read_counts, read_up_to};
+use crate::cut::cut;
 use crate::words::{read_list, read_words};
 use line_text::{after, read_target};
-use rule_machine::{Event, Reply, Want};
+use rule_machine::{Event, Refusal, Reply, Want};
 use std::alloc::Global;
+
+// Reads a refusal's number and its text; `None` where they are not of one refusal.
+fn read_refusal(bytes: &[u8]) -> Option<Refusal>
+    ensures { Reads (λ (refusal : Refusal). ⊤) refusal_words bytes.now result }
+{
+    let Some((number, text)) = cut(bytes, b' ') else {
+        return None;
+    };
+    let Some(number) = read_up_to(number, u32::MAX) else {
+        return None;
+    };
+    let Some(refusal) = Refusal::from_number(number) else {
+        return None;
+    };
+    if text != refusal.text().as_bytes() {
+        return None;
+    }
+    Some(refusal)
+}
 
 // Reads whether a change was made, or why it was refused.
 fn read_done(bytes: &[u8]) -> Option<Reply>

@@ -9,9 +9,9 @@ ghost use Rattle.line_text.specs.Reading.{Reads};
 ghost use Rattle.entry_grammar.specs.Spelling.{IsMoved, IsEnabled, IsPair};
 ghost use Rattle.entry_grammar.specs.Reading.{DeedThen, PairThen, first_byte};
 
-use crate::front::{behind, ends, read_name};
+use crate::cut::{behind, ends};
 use crate::words::Token;
-use line_text::after;
+use line_text::{after, read_name};
 use rule_machine::{Act, Edge, Moved, Node};
 
 /// Reads the name that stands before the mark, and gives what stands behind the mark.

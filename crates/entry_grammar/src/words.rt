@@ -6,7 +6,7 @@ ghost use Rattle.line_text.specs.Words.{joined, joined_or};
 ghost use Rattle.line_text.specs.Reading.{Reads};
 ghost use Rattle.entry_grammar.specs.Reading.{IsFree, TokenThen};
 
-use crate::front::behind;
+use crate::cut::behind;
 use rule_machine::{Listing, Want};
 use std::alloc::Global;
 

@@ -1,10 +1,10 @@
 pub mod Decimals
 pub mod Trailing
 pub mod Windows
-pub mod Placed
 pub mod Growing
 pub mod Spaces
 pub mod Digits
+pub mod FewDigits
 pub mod ItemsOnce
 pub mod EventsOnce
 pub mod EventLengths

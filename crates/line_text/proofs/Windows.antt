@@ -1,8 +1,12 @@
--- The bytes of a number that was shifted down by whole bytes.
-use Rattle.std.proofs.Common.{◌≡◌, ℕ, zero, suc, ◌+◌, ◌-◌, ◌*◌, ◌/◌, ◌%◌, ◌^◌, ◌<◌, ◌≤◌, List, [], ◌∷◌, ◌++◌, length, take, drop, refl, ap, ◌∙◌, arith, w64, get_or, inl, inr}
-use Rattle.std.specs.Int.{byte_at, bytes_low_first, to_le_bytes, from_le_bytes}
+-- Windows: the digits in them, and where they are written.
+use Rattle.std.proofs.Common.{◌≡◌, ℕ, zero, suc, ◌+◌, ◌-◌, ◌*◌, ◌/◌, ◌%◌, ◌^◌, ◌<◌, ◌≤◌, List, [], ◌∷◌, ◌++◌, length, take, drop, refl, ap, ◌∙◌, arith, w64, get_or, inl, inr, sym}
+use Rattle.std.proofs.lemmas.Slice.{take-put_mid}
+use Rattle.std.proofs.lemmas.List.{take-take, length-take-le}
+use Rattle.std.proofs.Math.Seq.{take-append-add}
+use borrow.Rule.Slice.PartMut.{put_mid}
+use Rattle.std.specs.Int.{to_le_bytes, from_le_bytes}
 use Rattle.std.specs.Fmt.{decimal}
-use Rattle.std.proofs.Math.Nat.{div-div-eq-div-mul, pow-succ'}
+use Rattle.std.proofs.Math.Nat.{div-div-eq-div-mul}
 use Rattle.std.proofs.lemmas.Bool.{cases_lt}
 use Rattle.std.proofs.lemmas.Fmt.{decimal_digit, decimal_nonempty}
 use Rattle.std.proofs.lemmas.Nat.{le_bytes_8}
@@ -10,14 +14,13 @@ use Rattle.itoa.proofs.Decimal.{decimal_two}
 use Rattle.line_text.specs.Words.{six_digits}
 use Rattle.line_text.proofs.Decimals.{decimal_of_three, decimal_of_four, decimal_of_five, decimal_of_six}
 
--- the next byte of a number is that byte of what is left without the lowest
-byte_next : (i n : ℕ) → byte_at i (n / 256) ≡ byte_at (suc i) n
-byte_next zero n = refl
-byte_next (suc i) n = rw (div-div-eq-div-mul n 256 (256 ^ suc i), pow-succ' 256 (suc i))
-
-bytes_next : (i k n : ℕ) → bytes_low_first i k (n / 256) ≡ bytes_low_first (suc i) k n
-bytes_next i zero n = refl
-bytes_next i (suc k) n = rw (byte_next i n, bytes_next (suc i) k n)
+-- the first bytes of a part that was written over
+pub take-put_mid_part : (a k m : ℕ) (xs ys : List ℕ) → m ≤ length ys → a ≤ length xs → take (a + m) (put_mid a k xs ys) ≡ take a xs ++ take m ys
+take-put_mid_part a k m xs ys few within =
+    let whole : take (a + length ys) (put_mid a k xs ys) ≡ take a xs ++ ys = take-put_mid a k xs ys (a + length ys) refl within in
+    let len : length (take a xs) ≡ a = length-take-le a xs within in
+    let cut : take (length (take a xs) + m) (take a xs ++ ys) ≡ take a xs ++ take m ys = take-append-add (take a xs) ys m in
+    sym (take-take (a + m) (a + length ys) (put_mid a k xs ys) (omega arith)) ∙ ap (take (a + m)) whole ∙ (rw len at cut)
 
 -- the six digits without the zeros that lead them
 pub decimal_in_six : (n : ℕ) → n < 1000000 → drop (6 - length (decimal n)) (six_digits n) ≡ decimal n

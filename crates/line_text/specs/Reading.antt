@@ -1,5 +1,5 @@
 -- What the readers of a line's parts say of the bytes that they are given.
-use Rattle.std.specs.Prelude.{◌≡◌, ◌≢◌, Bool, true, false, ℕ, List, ◌++◌, length, Option, None, Some, MatchOption, slice_index, codes}
+use Rattle.std.specs.Prelude.{◌≡◌, ◌≢◌, ◌<◌, Bool, true, false, ℕ, List, ◌++◌, length, Option, None, Some, MatchOption, slice_index, codes}
 use Rattle.std.specs.Int.{IsInRange}
 use Rattle.rule_machine.specs.declared.choice.Item.{Item}
 use Rattle.line_text.specs.Words.{number_text, IsName, spaced}
@@ -23,6 +23,12 @@ pub record NameThen (bytes : List ℕ) (name : ℕ) (rest : List ℕ) : Type 0 w
   pub fits : IsName name
   pub ends : NoDigit rest
   pub is : bytes ≡ number_text name ++ rest
+
+-- the bytes are a number of at most eight digits and, after its last digit, the rest
+pub record NumberThen (bytes : List ℕ) (number : ℕ) (rest : List ℕ) : Type 0 where
+  pub fits : number < 100000000
+  pub ends : NoDigit rest
+  pub is : bytes ≡ number_text number ++ rest
 
 -- the bytes are a name, a space, and the rest
 pub record WordThen (bytes : List ℕ) (name : ℕ) (rest : List ℕ) : Type 0 where

@@ -5,6 +5,7 @@ ghost use Rattle.line_text.specs.Words.{ended};
 ghost use Rattle.line_text.specs.BaseText.{base_head, base_counts, place_text, link_text, base_text};
 ghost use Rattle.line_text.specs.Growth.{Extends};
 
+use crate::entry::whole_or_none;
 use crate::numbers::{put_name, put_name_then, put_number, put_target};
 use crate::replies::put_field;
 use rule_machine::{Base, Edge, Place, RuleSet, Want};
@@ -101,8 +102,5 @@ pub fn put_base(out: &mut Vec<u8>, rules: RuleSet, size: u32, base: &Base) -> Re
 {
     let len = out.len();
     let done = append_base(out, rules, size, base);
-    if done.is_err() {
-        out.truncate(len);
-    }
-    done
+    whole_or_none(out, len, done)
 }

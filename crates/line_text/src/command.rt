@@ -5,9 +5,8 @@ ghost use Rattle.line_text.specs.Words.{IsName, spaced};
 ghost use Rattle.line_text.specs.EventText.{IsChoice, Spells, SpellsStep, NotACommand, pair_text, point_text, flag_text, bool_text, target_text, item_text};
 ghost use Rattle.line_text.specs.Reading.{Reads, ReadsTwo, kept_if};
 
-use crate::front::after;
+use crate::front::{after, read_last, read_word};
 use crate::items::read_items;
-use crate::names::{read_last, read_word};
 use rule_machine::{Event, Node, Want};
 use std::alloc::Global;
 

@@ -132,6 +132,22 @@ fn append_line(out: &mut Vec<u8>, number: u32, line: &[u8], reply: &Reply) -> Re
     append_answer(out, reply)
 }
 
+/// Takes back what was half written behind so many bytes.
+pub(crate) fn whole_or_none(
+    out: &mut Vec<u8>,
+    len: usize,
+    done: Result<(), Want>,
+) -> Result<(), Want>
+    ensures same { result ≡ done }
+    ensures ok { OnOk done (out.new.items ≡ out.old.items) }
+    ensures err { OnErr done (out.new.items ≡ take len out.old.items) }
+{
+    if done.is_err() {
+        out.truncate(len);
+    }
+    done
+}
+
 /// Writes a transcript's header, with its LF: the rules, how many names there are and, where not all of them are present
 /// at the start, how many are. A `count` above `size` is written as `size` is.
 pub fn put_header(out: &mut Vec<u8>, rules: RuleSet, size: u32, count: u32) -> Result<(), Want>
@@ -140,10 +156,7 @@ pub fn put_header(out: &mut Vec<u8>, rules: RuleSet, size: u32, count: u32) -> R
 {
     let len = out.len();
     let done = append_header(out, rules, size, count);
-    if done.is_err() {
-        out.truncate(len);
-    }
-    done
+    whole_or_none(out, len, done)
 }
 
 /// Writes the entry with this number, with its LF: the event, and the reply to it. What was written are names, as each
@@ -155,10 +168,7 @@ pub fn put_entry(out: &mut Vec<u8>, number: u32, event: &Event, reply: &Reply) -
 {
     let len = out.len();
     let done = append_entry(out, number, event, reply);
-    if done.is_err() {
-        out.truncate(len);
-    }
-    done
+    whole_or_none(out, len, done)
 }
 
 /// Writes the entry with this number, with its LF, of an event whose script line is at hand: that line is copied, and the
@@ -175,8 +185,5 @@ pub fn put_entry_of_line(
 {
     let len = out.len();
     let done = append_line(out, number, line, reply);
-    if done.is_err() {
-        out.truncate(len);
-    }
-    done
+    whole_or_none(out, len, done)
 }

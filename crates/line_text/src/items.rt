@@ -6,8 +6,7 @@ ghost use Rattle.line_text.specs.Words.{spaced};
 ghost use Rattle.line_text.specs.EventText.{IsChoice, item_text};
 ghost use Rattle.line_text.specs.Reading.{Reads, ItemThen, SpellsChoice, HasItems};
 
-use crate::front::after;
-use crate::names::read_name;
+use crate::front::{after, read_name};
 use rule_machine::{Choice, Item, MAX_ITEMS, Want};
 use std::alloc::{AllocError, Global};
 

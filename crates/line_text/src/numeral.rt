@@ -1,33 +1,42 @@
-//! A number that is the whole of a text.
+//! Numbers in decimal.
 
-ghost use Rattle.std.specs.Prelude.{◌≡◌, ◌≤◌, ◌<◌, ◌^◌, ◌↔◌, IsTrue, length, slice_index};
+ghost use Rattle.std.specs.Prelude.{◌≤◌, ◌<◌, ◌^◌, ℕ, List, MatchOption};
 ghost use Rattle.line_text.specs.Words.{number_text};
-ghost use Rattle.line_text.specs.Reading.{Reads};
+ghost use Rattle.line_text.specs.Reading.{Reads, NumberThen};
 
-use crate::names::{FEW_DIGITS, read_digits};
+use crate::front::digits_in_front;
 use itoa::Buffer;
 use std::str;
 
-// Whether a 0 stands in front of anything.
-fn leads_with_zero(bytes: &[u8]) -> bool
-    ensures { IsTrue result ↔ ((1 < length bytes.now) × (slice_index bytes.now 0 ≡ 48)) }
+/// The most digits that are read in one pass.
+const FEW_DIGITS: usize = 8;
+
+/// Reads the number of at most eight digits in front in one pass over them, and gives what follows; `None` where there is none,
+/// or one with a leading zero.
+#[inline]
+pub fn number_in_front(bytes: &[u8]) -> Option<(u32, &[u8])>
+    ensures { MatchOption result
+        ((number : ℕ) (rest : List ℕ) → NumberThen bytes.now number rest → ⊥)
+        (λ found. NumberThen bytes.now found.0 found.1.now) }
 {
-    bytes.len() > 1 && bytes[0] == b'0'
+    let (len, number) = digits_in_front(bytes);
+    if len == 0 || len > FEW_DIGITS {
+        return None;
+    }
+    if bytes[0] == b'0' && len > 1 {
+        return None;
+    }
+    Some((number, &bytes[len..]))
 }
 
-// Reads a number of few digits in one pass.
+// Reads a number of at most eight digits.
 fn read_short(bytes: &[u8]) -> Option<u32>
-    requires { length bytes.now ≤ 8 }
-    ensures { Reads (λ n. n < 2 ^ 64) number_text bytes.now result }
+    ensures { Reads (λ n. n < 100000000) number_text bytes.now result }
 {
-    let (len, number) = read_digits(bytes);
-    if len == 0 {
+    let Some((number, rest)) = number_in_front(bytes) else {
         return None;
-    }
-    if len < bytes.len() {
-        return None;
-    }
-    if leads_with_zero(bytes) {
+    };
+    if !rest.is_empty() {
         return None;
     }
     Some(number)

@@ -2,8 +2,8 @@ use Rattle.std.proofs.Common.{◌≡◌, ◌∷◌, ◌++◌, [], arith}
 use Rattle.std.specs.Prelude.{codes}
 use Rattle.line_text.specs.Words.{number_text}
 use Rattle.entry_grammar.proofs.Free.{free_no_cut}
-use Rattle.entry_grammar.proofs.Numbers.{number_cut, number_of_cut, number_once}
-use Rattle.entry_grammar.proofs.Parts.{parts_rest, parts_rest_cut, parts_cut, parts_made}
+use Rattle.line_text.proofs.FewDigits.{number_once}
+use Rattle.entry_grammar.proofs.Parts.{number_cut, number_of_cut, parts_rest, parts_rest_cut, parts_cut, parts_made}
 use Rattle.entry_grammar.proofs.entry.parts.Goals as goal
 
 pub returns-in_default : goal.returns-in_default

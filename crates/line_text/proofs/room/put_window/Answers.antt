@@ -1,5 +1,5 @@
 use Rattle.std.proofs.Common.{◌≤◌, ◌++◌, take, length, List, ℕ, ap, ◌∙◌, arith}
-use Rattle.line_text.proofs.Placed.{take-put_mid_part}
+use Rattle.line_text.proofs.Windows.{take-put_mid_part}
 use Rattle.line_text.proofs.room.put_window.Goals as goal
 
 pub returns-clause-text : goal.returns-clause-text

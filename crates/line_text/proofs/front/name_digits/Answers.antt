@@ -1,8 +1,8 @@
 use Rattle.std.proofs.Common.{◌≡◌, ◌≤◌, ap, ◌∙◌, subst, take, length, arith}
 use Rattle.std.specs.Str.Parse.{AllDigits, digits_value}
 use Rattle.std.proofs.lemmas.List.{take-take, length-take-le}
-use Rattle.entry_grammar.proofs.LongRuns.{ends_within}
-use Rattle.entry_grammar.proofs.front.name_digits.Goals as goal
+use Rattle.line_text.proofs.Digits.{ends_within}
+use Rattle.line_text.proofs.front.name_digits.Goals as goal
 
 pub returns : goal.returns
 returns c =

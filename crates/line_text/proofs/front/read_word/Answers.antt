@@ -1,6 +1,6 @@
 use Rattle.std.proofs.Common.{◌∷◌, arith}
 use Rattle.line_text.proofs.Digits.{name_once, NameThen-word}
-use Rattle.line_text.proofs.names.read_word.Goals as goal
+use Rattle.line_text.proofs.front.read_word.Goals as goal
 
 pub returns-in_default-after : goal.returns-in_default-after
 returns-in_default-after c name rest h =

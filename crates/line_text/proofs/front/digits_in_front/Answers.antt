@@ -6,7 +6,7 @@ use Rattle.std.proofs.lemmas.List.{length-take-le}
 use Rattle.std.proofs.lemmas.Str.{digit_value_digit}
 use Rattle.std.proofs.lemmas.Str.Parse.{digits_value_short}
 use Rattle.line_text.proofs.Digits.{own}
-use Rattle.entry_grammar.proofs.front.digits_in_front.Goals as goal
+use Rattle.line_text.proofs.front.digits_in_front.Goals as goal
 
 -- the number with one digit more, of which nothing wraps
 step : (bytes : List ℕ) (i value digit : ℕ) → i < length bytes → i ≤ 8 → AllDigits 10 (take i bytes) → IsInRange 48 57 (get_or bytes i 0)

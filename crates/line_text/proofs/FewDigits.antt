@@ -1,15 +1,12 @@
 -- Numbers of at most eight digits.
-use Rattle.std.proofs.Common.{◌≡◌, ℕ, zero, suc, List, [], ◌∷◌, ◌++◌, ◌<◌, ◌≤◌, length, get_or, take, drop, sym, ap, ◌∙◌, arith}
-use Rattle.std.specs.Int.{IsInRange}
+use Rattle.std.proofs.Common.{◌≡◌, ℕ, zero, suc, List, [], ◌++◌, ◌^◌, ◌<◌, ◌≤◌, length, get_or, take, drop, sym, ap, ◌∙◌, arith}
 use Rattle.std.specs.Str.Parse.{AllDigits, digits_value}
-use Rattle.std.proofs.lemmas.Fmt.{digits_decimal, decimal-digits_value, decimal_injective, decimal_nonempty, length-decimal-le, first_decimal, decimal_digit}
+use Rattle.std.proofs.lemmas.Fmt.{digits_decimal, digits_value-decimal, decimal-digits_value, decimal_injective, decimal_nonempty, length-decimal-le, first_decimal, decimal_digit}
 use Rattle.std.proofs.lemmas.List.{append-nil, take-append-drop, length-take-le, get_or-take}
 use Rattle.std.proofs.lemmas.Str.Parse.{digits_value_short}
 use Rattle.line_text.specs.Words.{number_text}
-use Rattle.line_text.specs.Reading.{NoDigit}
+use Rattle.line_text.specs.Reading.{NoDigit, NumberThen}
 use Rattle.line_text.proofs.Digits.{own, run_once}
-use Rattle.entry_grammar.specs.Reading.{CutAt, NumberThen}
-use Rattle.entry_grammar.proofs.Free.{free_number}
 
 -- a number with a leading zero has one digit
 lead : (n : ℕ) → n < 100000000 → get_or (number_text n) 0 0 ≡ 48 → length (number_text n) ≤ 1
@@ -70,11 +67,8 @@ number_found bytes len n le some few d e lead v =
 pub number_alone : (bytes : List ℕ) (n : ℕ) → n < 100000000 → bytes ≡ number_text n → NumberThen bytes n []
 number_alone bytes n f e = record { fits = f; ends = λ h. omega (arith, h.0); is = e ∙ sym (append-nil (number_text n)) }
 
--- a number that a space follows is cut off there
-pub number_cut : (bytes : List ℕ) (n : ℕ) (numbered rest : List ℕ) → NumberThen bytes n numbered → numbered ≡ 32 ∷ rest → CutAt 32 bytes (number_text n) rest
-number_cut bytes n numbered rest h e =
-    let small = h.fits in
-    record { free = free_number 32 n (λ p. omega (arith, p.0)) (omega arith); is = h.is ∙ ap (λ (z : List ℕ). number_text n ++ z) e }
-
-pub number_of_cut : (bytes : List ℕ) (n : ℕ) (rest : List ℕ) → n < 100000000 → CutAt 32 bytes (number_text n) rest → NumberThen bytes n (32 ∷ rest)
-number_of_cut bytes n rest f h = record { fits = f; ends = λ (p : IsInRange 48 57 32). omega (arith, p.0, p.1); is = h.is }
+-- a number of few digits is small
+pub number_few : (n : ℕ) → n < 2 ^ 64 → length (number_text n) ≤ 8 → n < 100000000
+number_few n small few =
+    let said = digits_value_short own (number_text n) 8 (digits_decimal own n small) few in
+    omega (arith, said, digits_value-decimal own n small)

@@ -1,9 +1,9 @@
 use Rattle.std.proofs.Common.{sym, ◌∙◌, arith}
 use Rattle.std.proofs.lemmas.List.{take_rest}
 use Rattle.line_text.proofs.Digits.{name_facts, found_name}
-use Rattle.entry_grammar.proofs.LongRuns.{no_name}
-use Rattle.entry_grammar.proofs.front.read_name.Goals as goal
-use Rattle.entry_grammar.proofs.front.read_name.Goals.{then-len-eq0-via-then-len-eq0, then-len-eq0-via-else-len-eq0+then-len-gt-MAX_DIGITS, then-len-eq0-via-else-len-eq0+else-len-gt-MAX_DIGITS+then-bytes-eq48}
+use Rattle.line_text.proofs.Digits.{no_name}
+use Rattle.line_text.proofs.front.read_name.Goals as goal
+use Rattle.line_text.proofs.front.read_name.Goals.{then-len-eq0-via-then-len-eq0, then-len-eq0-via-else-len-eq0+then-len-gt-NAME_DIGITS, then-len-eq0-via-else-len-eq0+else-len-gt-NAME_DIGITS+then-bytes-eq48}
 
 pub returns-then-len-eq0 : goal.returns-then-len-eq0
 returns-then-len-eq0 c name rest h =
@@ -12,8 +12,8 @@ returns-then-len-eq0 c name rest h =
       | then-len-eq0-via-then-len-eq0 w ↦
           let f = name_facts c.args.bytes.now n.result.0 name rest n.ensures.within n.ensures.digits (n.ensures.ends (omega arith)) h in
           omega (arith, f.0)
-      | then-len-eq0-via-else-len-eq0+then-len-gt-MAX_DIGITS w ↦ no_name c.args.bytes.now n.result.0 name rest n.ensures.within n.ensures.digits (omega arith) h
-      | then-len-eq0-via-else-len-eq0+else-len-gt-MAX_DIGITS+then-bytes-eq48 w ↦
+      | then-len-eq0-via-else-len-eq0+then-len-gt-NAME_DIGITS w ↦ no_name c.args.bytes.now n.result.0 name rest n.ensures.within n.ensures.digits (omega arith) h
+      | then-len-eq0-via-else-len-eq0+else-len-gt-NAME_DIGITS+then-bytes-eq48 w ↦
           let f = name_facts c.args.bytes.now n.result.0 name rest n.ensures.within n.ensures.digits (n.ensures.ends (omega arith)) h in
           omega (arith, f.2)
     ]

@@ -1,8 +1,8 @@
 use Rattle.std.proofs.Common.{◌≡◌, ◌≤◌, get_or, arith}
 use Rattle.std.proofs.lemmas.List.{take_rest}
-use Rattle.entry_grammar.proofs.Numbers.{number_facts_in, number_found}
-use Rattle.entry_grammar.proofs.number.number_in_front.Goals as goal
-use Rattle.entry_grammar.proofs.number.number_in_front.Goals.{then-len-eq0-via-then-len-eq0, then-len-eq0-via-else-len-eq0+then-len-gt-MAX_DIGITS, else-bytes-eq48-via-then-bytes-eq48+else-len-gt1, else-bytes-eq48-via-else-bytes-eq48}
+use Rattle.line_text.proofs.FewDigits.{number_facts_in, number_found}
+use Rattle.line_text.proofs.numeral.number_in_front.Goals as goal
+use Rattle.line_text.proofs.numeral.number_in_front.Goals.{then-len-eq0-via-then-len-eq0, then-len-eq0-via-else-len-eq0+then-len-gt-FEW_DIGITS, else-bytes-eq48-via-then-bytes-eq48+else-len-gt1, else-bytes-eq48-via-else-bytes-eq48}
 
 pub returns-then-len-eq0 : goal.returns-then-len-eq0
 returns-then-len-eq0 c n rest h =
@@ -10,7 +10,7 @@ returns-then-len-eq0 c n rest h =
     let f = number_facts_in c.args.bytes.now d.result.0 n rest d.ensures.within d.ensures.digits d.ensures.ends h in
     elim c.then-len-eq0.branch [
       | then-len-eq0-via-then-len-eq0 w ↦ omega (arith, f.0)
-      | then-len-eq0-via-else-len-eq0+then-len-gt-MAX_DIGITS w ↦ omega (arith, f.1)
+      | then-len-eq0-via-else-len-eq0+then-len-gt-FEW_DIGITS w ↦ omega (arith, f.1)
     ]
 
 pub returns-then-len-gt1 : goal.returns-then-len-gt1

@@ -1,6 +1,6 @@
 use Rattle.std.proofs.Common.{[], arith}
 use Rattle.line_text.proofs.Digits.{name_once, NameThen-last}
-use Rattle.line_text.proofs.names.read_last.Goals as goal
+use Rattle.line_text.proofs.front.read_last.Goals as goal
 
 pub returns-in_default : goal.returns-in_default
 returns-in_default c n f e = c.in_default.ensures n [] (NameThen-last c.args.bytes.now n f e)
