@@ -1,9 +1,6 @@
 -- The names whose word is odd.
-use Rattle.std.proofs.Common.{◌≡◌, ℕ, suc, ◌+◌, ◌%◌, ◌<◌, ◌≤◌, Bool, true, false, cond, List, [], ◌∷◌, ◌++◌, length, get_or, drop, nat_eq, None, refl, sym, ap, subst, ◌∙◌, arith, ⊎_elim, append_assoc}
+use Rattle.std.proofs.Common.{◌≡◌, ℕ, suc, ◌+◌, ◌%◌, ◌<◌, ◌≤◌, Bool, true, false, cond, List, [], ◌∷◌, length, get_or, nat_eq, refl, sym, subst, ◌∙◌, arith, ⊎_elim}
 use Rattle.std.proofs.lemmas.Bool.{cases_Bool, true≢false}
-use Rattle.std.proofs.lemmas.List.{get_or_read}
-use Rattle.std.proofs.Math.Seq.{drop-cons}
-use Rattle.rule_machine.specs.declared.choice.Item.{Item}
 use Rattle.rand_core.specs.Stream.{Stream, next_u32}
 use Rattle.enabled_set.specs.Members.{is_in, members}
 use Rattle.daemon.specs.Lawful.{plain, IsLawful}

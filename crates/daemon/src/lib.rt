@@ -16,7 +16,6 @@
 
 mod choose;
 mod law;
-mod names;
 mod recorded;
 mod seeded;
 

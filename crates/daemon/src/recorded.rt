@@ -7,7 +7,7 @@ ghost use Rattle.std.specs.List.{All};
 ghost use Rattle.daemon.specs.Played.{IsMarked, named_of, list_choice, played};
 
 use crate::Daemon;
-use crate::names::list_of;
+use crate::choose::list_of;
 use enabled_set::EnabledSet;
 use rule_machine::{Choice, Item, MAX_NAME, Node, Want};
 use std::alloc::Global;
@@ -74,7 +74,8 @@ fn play(
 ) -> Result<(usize, Option<Choice>), Want>
     requires few { length names.now ≤ 65535 }
     requires inside { from ≤ length lists.now }
-    ensures played { IfOk result (λ found. (found.1, drop found.0 (map (λ list. list.items) lists.now)) ≡ played central names.now (drop from (map (λ list. list.items) lists.now))) }
+    ensures played { IfOk result (λ found. (found.1, drop found.0 (map (λ list. list.items) lists.now))
+        ≡ played central names.now (drop from (map (λ list. list.items) lists.now))) }
     ensures inside { IfOk result (λ found. found.0 ≤ length lists.now) }
 {
     for place in from..lists.len() {

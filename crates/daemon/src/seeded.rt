@@ -6,7 +6,7 @@ ghost use Rattle.daemon.specs.Lawful.{IsLawful};
 ghost use Rattle.daemon.specs.Drawn.{draw_one, draw_odd, draw_some, drawn, as_choice};
 
 use crate::Daemon;
-use crate::names::list_of;
+use crate::choose::list_of;
 use enabled_set::EnabledSet;
 use rand_core::Rng;
 use rule_machine::{Choice, Item, Node, Want};

@@ -1,7 +1,7 @@
 use Rattle.std.proofs.Common.{rules, ◌≡◌, ◌≤◌, ◌-◌, ◌<◌, length, get_or, arith, ap, ◌∙◌}
 use Rattle.daemon.proofs.Climb.{few_members}
-use Rattle.daemon.proofs.names.list_of.Goals as goal
-use Rattle.daemon.proofs.names.list_of.Goals.{then-not-is_empty+else-prove+else-prove-2, else-not-is_empty}
+use Rattle.daemon.proofs.choose.list_of.Goals as goal
+use Rattle.daemon.proofs.choose.list_of.Goals.{then-not-is_empty+else-prove+else-prove-2, else-not-is_empty}
 
 pub returns-clause-few : goal.returns-clause-few
 returns-clause-few c =
