@@ -34,7 +34,9 @@ pub fn without_bit(word: u64, at: usize) -> u64
 /// The lowest bit that a word has.
 #[inline(always)]
 pub fn first_bit(word: u64) -> Option<usize>
-    ensures { MatchOption result ((i : ℕ) → i < 64 → has_bit word i ≡ false) (λ at. (at < 64) × (has_bit word at ≡ true) × ((i : ℕ) → i < at → has_bit word i ≡ false)) }
+    ensures { MatchOption result
+        ((i : ℕ) → i < 64 → has_bit word i ≡ false)
+        (λ at. (at < 64) × (has_bit word at ≡ true) × ((i : ℕ) → i < at → has_bit word i ≡ false)) }
 {
     if word == 0 {
         return None;

@@ -2,7 +2,7 @@
 use Rattle.std.specs.Prelude.{ℕ, zero, suc, ◌+◌, ◌-◌, ◌%◌, Bool, true, false, Option, None, Some, if◌then◌else◌, nat_eq, length, slice_get, slice_index}
 use Rattle.rand_core.specs.Stream.{Stream, next_u32}
 use Rattle.rule_machine.specs.declared.event.Event.{Event}
-use Rattle.rule_machine.specs.declared.event.Event.TheVariants.{Link, Unlink, Point, Flag, Step, Show, Enabled, Matching, Status, Join, Leave}
+use Rattle.rule_machine.specs.declared.event.Event.TheVariants.{Point, Flag}
 use Rattle.rule_machine.specs.Network.{Network, names, neighbours, node_count}
 
 -- the next word of a stream
@@ -61,14 +61,6 @@ fault_words flags = if flags then 3 else 2
 
 -- whether an event writes a register of one node
 abbrev pub is_register_fault : Event → Bool
-is_register_fault (Link a b) = false
-is_register_fault (Unlink a b) = false
 is_register_fault (Point v target) = true
 is_register_fault (Flag v value) = true
-is_register_fault (Join v) = false
-is_register_fault (Leave v) = false
-is_register_fault (Step items) = false
-is_register_fault (Show v) = false
-is_register_fault Enabled = false
-is_register_fault Matching = false
-is_register_fault Status = false
+is_register_fault event = false

@@ -1,6 +1,7 @@
 -- A line says one command, and commands lead to one end.
-use Rattle.std.proofs.Common.{◌≡◌, ℕ, zero, suc, ◌+◌, ◌*◌, List, [], ◌∷◌, ◌++◌, Option, None, Some, get_or, codes, refl, sym, ap, subst, ◌∙◌, append_assoc, arith}
+use Rattle.std.proofs.Common.{◌≡◌, ℕ, zero, suc, ◌+◌, ◌*◌, Bool, true, false, ◌||◌, nat_eq, List, [], ◌∷◌, Option, None, Some, get_or, codes, refl, sym, ap, subst, ◌∙◌, append_assoc, arith}
 use Rattle.std.specs.Int.{IsInRange}
+use Rattle.std.proofs.lemmas.Bool.{true≢false}
 use Rattle.std.proofs.lemmas.List.{append_cancel_left}
 use Rattle.std.proofs.lemmas.Fmt.{digits_decimal, decimal_injective}
 use Rattle.rand_core.specs.Stream.{Stream}
@@ -41,60 +42,41 @@ turns_once a b f g e =
 abbrev head_of : List ℕ → ℕ
 head_of line = get_or line 0 0 + 256 * get_or line 1 0
 
--- the head of an event's text
-no_drive : (e : Event) (u : Turns) → event_text e ≡ codes "drive " ++ turns_text u → ⊥
-no_drive (Link a b) u e = omega (arith, ap head_of e)
-no_drive (Unlink a b) u e = omega (arith, ap head_of e)
-no_drive (Point v w) u e = omega (arith, ap head_of e)
-no_drive (Flag v b) u e = omega (arith, ap head_of e)
-no_drive (Join v) u e = omega (arith, ap head_of e)
-no_drive (Leave v) u e = omega (arith, ap head_of e)
-no_drive (Step items) u e = omega (arith, ap head_of e)
-no_drive (Show v) u e = omega (arith, ap head_of e)
-no_drive Enabled u e = omega (arith, ap head_of e)
-no_drive Matching u e = omega (arith, ap head_of e)
-no_drive Status u e = omega (arith, ap head_of e)
+-- whether a line has the head of a command that is no event
+abbrev is_own : List ℕ → Bool
+is_own line = nat_eq (head_of line) (head_of (codes "drive ")) || (nat_eq (head_of line) (head_of (codes "scramble ")) || nat_eq (head_of line) (head_of (codes "checkpoint")))
 
-no_scramble : (e : Event) (u : Turns) → event_text e ≡ codes "scramble " ++ turns_text u → ⊥
-no_scramble (Link a b) u e = omega (arith, ap head_of e)
-no_scramble (Unlink a b) u e = omega (arith, ap head_of e)
-no_scramble (Point v w) u e = omega (arith, ap head_of e)
-no_scramble (Flag v b) u e = omega (arith, ap head_of e)
-no_scramble (Join v) u e = omega (arith, ap head_of e)
-no_scramble (Leave v) u e = omega (arith, ap head_of e)
-no_scramble (Step items) u e = omega (arith, ap head_of e)
-no_scramble (Show v) u e = omega (arith, ap head_of e)
-no_scramble Enabled u e = omega (arith, ap head_of e)
-no_scramble Matching u e = omega (arith, ap head_of e)
-no_scramble Status u e = omega (arith, ap head_of e)
+-- no event's text has
+not_own : (e : Event) → is_own (event_text e) ≡ false
+not_own (Link a b) = refl
+not_own (Unlink a b) = refl
+not_own (Point v w) = refl
+not_own (Flag v b) = refl
+not_own (Join v) = refl
+not_own (Leave v) = refl
+not_own (Step items) = refl
+not_own (Show v) = refl
+not_own Enabled = refl
+not_own Matching = refl
+not_own Status = refl
 
-no_checkpoint : (e : Event) → event_text e ≡ codes "checkpoint" → ⊥
-no_checkpoint (Link a b) e = omega (arith, ap head_of e)
-no_checkpoint (Unlink a b) e = omega (arith, ap head_of e)
-no_checkpoint (Point v w) e = omega (arith, ap head_of e)
-no_checkpoint (Flag v b) e = omega (arith, ap head_of e)
-no_checkpoint (Join v) e = omega (arith, ap head_of e)
-no_checkpoint (Leave v) e = omega (arith, ap head_of e)
-no_checkpoint (Step items) e = omega (arith, ap head_of e)
-no_checkpoint (Show v) e = omega (arith, ap head_of e)
-no_checkpoint Enabled e = omega (arith, ap head_of e)
-no_checkpoint Matching e = omega (arith, ap head_of e)
-no_checkpoint Status e = omega (arith, ap head_of e)
+no_event : (e : Event) (line : List ℕ) → is_own line ≡ true → event_text e ≡ line → ⊥
+no_event e line own same = true≢false (sym own ∙ ap is_own (sym same) ∙ not_own e)
 
 -- a command has one text
 command_once : (c d : Command) → IsCommand c → IsCommand d → command_text c ≡ command_text d → c ≡ d
 command_once (Tell a) (Tell b) f g e = ap (λ (x : Event). Tell x) (spells_once (event_text a) a b (f, refl) (g, e))
 command_once (Drive a) (Drive b) f g e = ap (λ (x : Turns). Drive x) (turns_once a b f g (append_cancel_left (codes "drive ") (turns_text a) (turns_text b) e))
 command_once (Scramble a) (Scramble b) f g e = ap (λ (x : Turns). Scramble x) (turns_once a b f g (append_cancel_left (codes "scramble ") (turns_text a) (turns_text b) e))
-command_once (Tell a) (Drive b) f g e = absurd (no_drive a b e)
-command_once (Drive a) (Tell b) f g e = absurd (no_drive b a (sym e))
-command_once (Tell a) (Scramble b) f g e = absurd (no_scramble a b e)
-command_once (Scramble a) (Tell b) f g e = absurd (no_scramble b a (sym e))
+command_once (Tell a) (Drive b) f g e = absurd (no_event a (command_text (Drive b)) refl e)
+command_once (Drive a) (Tell b) f g e = absurd (no_event b (command_text (Drive a)) refl (sym e))
+command_once (Tell a) (Scramble b) f g e = absurd (no_event a (command_text (Scramble b)) refl e)
+command_once (Scramble a) (Tell b) f g e = absurd (no_event b (command_text (Scramble a)) refl (sym e))
 command_once (Drive a) (Scramble b) f g e = absurd (omega (arith, ap head_of e))
 command_once (Scramble a) (Drive b) f g e = absurd (omega (arith, ap head_of e))
 command_once Checkpoint Checkpoint f g e = refl
-command_once (Tell a) Checkpoint f g e = absurd (no_checkpoint a e)
-command_once Checkpoint (Tell b) f g e = absurd (no_checkpoint b (sym e))
+command_once (Tell a) Checkpoint f g e = absurd (no_event a (command_text Checkpoint) refl e)
+command_once Checkpoint (Tell b) f g e = absurd (no_event b (command_text Checkpoint) refl (sym e))
 command_once (Drive a) Checkpoint f g e = absurd (omega (arith, ap head_of e))
 command_once Checkpoint (Drive b) f g e = absurd (omega (arith, ap head_of e))
 command_once (Scramble a) Checkpoint f g e = absurd (omega (arith, ap head_of e))

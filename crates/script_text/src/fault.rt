@@ -41,14 +41,3 @@ pub enum TextsFault {
     #[error("out of memory")]
     Memory,
 }
-
-impl From<AllocError> for TextsFault {
-    ghost use Rattle.std.specs.Prelude.{◌≡◌};
-    ghost use Rattle.script_text.specs.declared.fault.TextsFault.TheVariants.{Memory};
-
-    ghost from_gives = { λ _ fault. fault ≡ Memory };
-
-    fn from(_: AllocError) -> TextsFault {
-        TextsFault::Memory
-    }
-}

@@ -45,8 +45,9 @@ fn read_each<In: Read + Drop>(alloc: Global, readers: Vec<In>) -> Result<Vec<Scr
         let mut reader = reader;
         number += 1;
         let script = read_from(alloc, number, &mut reader)?;
-        scripts.reserve(1)?;
-        scripts.push(script).unwrap();
+        if scripts.push(script).is_err() {
+            return Err(TextsFault::Memory);
+        }
     }
     Ok(scripts)
 }
