@@ -14,9 +14,7 @@
 //! ```
 #![tactic(auto)]
 
-mod invariant;
 mod lock;
 mod steps;
 
-pub use invariant::Invariant;
-pub use lock::{Hold, KeyedLock};
+pub use lock::{Hold, Invariant, KeyedLock};

@@ -1,9 +1,8 @@
-//! The lock.
+//! The lock, and what its value owes.
 
 ghost use Rattle.std.specs.Prelude.{◌≡◌, IfOk, IfErr};
 ghost use Rattle.keyed_lock.specs.Kept.{Waits, HasValue};
 
-use crate::Invariant;
 use crate::steps::{Arrive, Claim, Leave, OneValue};
 use atomic_table::{Refused, Seat, Table};
 use std::alloc::{AllocFailed, Global};
@@ -15,6 +14,11 @@ const TAKEN: u64 = 1;
 
 /// Taken, and a thread may sleep until it is free.
 const AWAITED: u64 = 2;
+
+/// What holds of a locked value under the key of its lock. It is a fact for contracts alone: nothing of it runs.
+pub trait Invariant<T, K> {
+    ghost holds: { K → T → Type 0 };
+}
 
 /// A lock for one value. It has a key, which contracts compare and which nothing changes; whoever takes the lock gets a
 /// value of which `I.holds` at the key, has it alone, and may give back only such a value. It is a word and a slot of
