@@ -1,5 +1,5 @@
 -- The rule of a deque of places, over what it holds and over what each pass knows.
-use Rattle.std.specs.Prelude.{◌≡◌, ℕ, ◌+◌, ◌-◌, ◌<◌, ◌≤◌, List, [], ◌∷◌, ◌++◌}
+use Rattle.std.specs.Prelude.{◌≡◌, ℕ, ◌+◌, ◌-◌, ◌<◌, ◌≤◌, List, [], ◌∷◌, ◌++◌, length}
 use Rattle.std.specs.List.{sum_by, range_with_len}
 use mathlib.Core.Option.{some}
 use lib.ListN.{get_elem?}
@@ -46,6 +46,10 @@ ArePlaces count taken = (h : ℕ → ℕ) → sum_by h taken ≤ sum_by h (place
 -- the places of these blocks were taken
 abbrev pub Takes : Tally → List Block → Tally → Type 0
 Takes v xs w = (w ≡ tally v.parts v.count (v.taken ++ places_in xs)) × ArePlaces v.count w.taken
+
+-- the block lies among the places that were put, and no more were taken than these
+abbrev pub IsWithin : Tally → Tally → Block → Type 0
+IsWithin before after block = (block.end ≤ before.count) × (length after.taken ≤ before.count)
 
 -- these are all places that were put, each once
 abbrev pub AreAllPlaces : ℕ → List ℕ → Type 0

@@ -1,7 +1,7 @@
 //! The end that puts the blocks, shares the whole out and joins it again.
 
-ghost use Rattle.std.specs.Prelude.{◌≡◌, ◌<◌, ◌≤◌, [], ◌∷◌, length, IfOk, IfSome, MatchOption};
-ghost use Rattle.place_deque.specs.Tallies.{tally, rest_of, part_of, joined, KnowsAll, Takes};
+ghost use Rattle.std.specs.Prelude.{◌≡◌, ◌<◌, [], ◌∷◌, IfOk, IfSome, MatchOption};
+ghost use Rattle.place_deque.specs.Tallies.{tally, rest_of, part_of, joined, IsWithin, KnowsAll, Takes};
 ghost use Rattle.place_deque.specs.Ends.{owner_deque, owner_tally, thief_deque, thief_tally};
 
 use crate::block::width;
@@ -45,8 +45,10 @@ impl Owner {
     /// Takes the block in front; `None` where there was none at one moment of the call.
     pub fn take(&mut self) -> Option<Block>
         ensures same { owner_deque self.new ≡ owner_deque self.old }
-        ensures taken { MatchOption result ((owner_tally self.new ≡ owner_tally self.old) × KnowsAll (owner_tally self.old)) (λ block. Takes (owner_tally self.old) (block ∷ []) (owner_tally self.new)) }
-        ensures within { IfSome result (λ block. (block.end ≤ (owner_tally self.old).count) × (length (owner_tally self.new).taken ≤ (owner_tally self.old).count)) }
+        ensures taken { MatchOption result
+            ((owner_tally self.new ≡ owner_tally self.old) × KnowsAll (owner_tally self.old))
+            (λ block. Takes (owner_tally self.old) (block ∷ []) (owner_tally self.new)) }
+        ensures within { IfSome result (IsWithin (owner_tally self.old) (owner_tally self.new)) }
     {
         self.worker.pop_as::<Took>()
     }

@@ -1,8 +1,8 @@
 //! An end that only takes.
 
-ghost use Rattle.std.specs.Prelude.{◌≡◌, ◌<◌, ◌≤◌, [], ◌∷◌, length, IfSome, MatchOption};
+ghost use Rattle.std.specs.Prelude.{◌≡◌, ◌<◌, [], ◌∷◌, IfSome, MatchOption};
 ghost use Rattle.crossbeam_deque.specs.Handles.{view, IsPassOf, stealer_deque, stealer_flavor};
-ghost use Rattle.place_deque.specs.Tallies.{KnowsAll, Takes};
+ghost use Rattle.place_deque.specs.Tallies.{IsWithin, KnowsAll, Takes};
 ghost use Rattle.place_deque.specs.Ends.{thief_deque, thief_tally};
 
 use crate::tally::{EachOnce, Tally, Took};
@@ -35,8 +35,10 @@ impl Thief {
     /// first makes it look again.
     pub fn take<W: Wait>(&mut self, rt: &W) -> Option<Block>
         ensures same { thief_deque self.new ≡ thief_deque self.old }
-        ensures taken { MatchOption result (thief_tally self.new ≡ thief_tally self.old) (λ block. Takes (thief_tally self.old) (block ∷ []) (thief_tally self.new)) }
-        ensures within { IfSome result (λ block. (block.end ≤ (thief_tally self.old).count) × (length (thief_tally self.new).taken ≤ (thief_tally self.old).count)) }
+        ensures taken { MatchOption result
+            (thief_tally self.new ≡ thief_tally self.old)
+            (λ block. Takes (thief_tally self.old) (block ∷ []) (thief_tally self.new)) }
+        ensures within { IfSome result (IsWithin (thief_tally self.old) (thief_tally self.new)) }
     {
         for _ in rt.forever() {
             match self.stealer.steal_as::<Took>(&mut self.pass) {
