@@ -16,6 +16,7 @@
 #![tactic(auto)]
 
 mod checkpoint;
+mod cost;
 mod epoch;
 mod fault;
 mod journal;
