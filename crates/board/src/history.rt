@@ -1,6 +1,6 @@
 //! The history of a board, which exists in contracts alone, and the beginnings of it that were seen.
 
-ghost use Rattle.std.specs.Prelude.{◌≡◌, ◌⊎◌, ◌+◌, ◌<◌, ◌∷◌, ◌++◌, [], None, length, IsTrue, MatchBool};
+ghost use Rattle.std.specs.Prelude.{◌≡◌, ◌⊎◌, ◌+◌, ◌<◌, ◌∷◌, ◌++◌, [], false, None, length, IsTrue, MatchBool};
 ghost use mathlib.Core.List.{IsPrefix};
 ghost use Rattle.board.specs.History.{published, shown};
 ghost use Rattle.board.specs.Kept.{head_of, max_marks};
@@ -113,6 +113,18 @@ impl Front {
         let mut both = self.seen.again();
         both.learn(&other.seen);
         self.count.saturating_sub(1) <= other.count
+    }
+
+    /// Whether this front has no more marks than the other. Where it has not, what it published begins what the other published, and
+    /// else it is the other way round.
+    pub(crate) fn begins(&self, other: &Front) -> bool
+        requires { other.now.seen.book ≡ self.now.seen.book }
+        ensures yes { IsTrue result → IsPrefix (published self.now.seen.log) (published other.now.seen.log) }
+        ensures no { result ≡ false → IsPrefix (published other.now.seen.log) (published self.now.seen.log) }
+    {
+        let mut both = self.seen.again();
+        both.learn(&other.seen);
+        self.count <= other.count
     }
 
     /// What was published here and what is shown there are of one log, and so are what both published and what both

@@ -1,6 +1,7 @@
 //! What a board tells of what it has published.
 
-ghost use Rattle.std.specs.Prelude.{◌≡◌};
+ghost use Rattle.std.specs.Prelude.{◌≡◌, false, IsTrue};
+ghost use mathlib.Core.List.{IsPrefix};
 ghost use Rattle.board.specs.OneLog.{AreComparable};
 
 use crate::history::Front;
@@ -34,6 +35,15 @@ impl Note {
         Note {
             front: self.front.again(),
         }
+    }
+
+    /// Whether what this note tells is seen to begin what another note of its board tells; where it is not, that begins what this one tells.
+    pub fn begins(&self, other: &Note) -> bool
+        requires { other.now.book ≡ self.now.book }
+        ensures yes { IsTrue result → IsPrefix self.now.log other.now.log }
+        ensures no { result ≡ false → IsPrefix other.now.log self.now.log }
+    {
+        self.front.begins(&other.front)
     }
 
     /// Of what two notes of one board tell, one begins the other. Nothing runs.
