@@ -1,7 +1,7 @@
 -- A clerk that adds the receipt of an entry behind all that it has seen, and a note of what is published then, is one.
-use Rattle.std.proofs.Common.{◌≡◌, ℕ, ◌+◌, ◌-◌, ◌<◌, ◌≤◌, Bool, true, false, List, [], ◌∷◌, ◌++◌, length, Option, None, Some, if◌then◌else◌, nat_eq, nat_lt, refl, sym, ap, ◌∙◌, subst, arith, length-append}
+use Rattle.std.proofs.Common.{◌≡◌, ℕ, ◌+◌, ◌-◌, ◌<◌, ◌≤◌, Bool, true, false, List, [], ◌∷◌, ◌++◌, length, Option, None, Some, Result, Ok, Err, OnOk, if◌then◌else◌, nat_eq, nat_lt, refl, sym, ap, ◌∙◌, subst, arith, length-append}
 use Rattle.std.specs.List.{slice_get}
-use Rattle.std.proofs.lemmas.Bool.{ltb-false}
+use Rattle.std.proofs.lemmas.Bool.{ltb-false, le-ltb}
 use Rattle.std.proofs.lemmas.Option.{none-some, slice_get-get_or}
 use Rattle.std.proofs.Math.Seq.{get_or-append_seam}
 use Rattle.rule_machine.specs.declared.event.Event.{Event}
@@ -24,15 +24,40 @@ pub seen_few : (seen : ℕ) (log : Log) → call_fault seen log ≡ None → see
 seen_few seen log none =
     ltb-false (length log.entries) seen (not_first (nat_lt (length log.entries) seen) (Behind (length log.entries) seen) (if nat_eq (length log.entries) log.limit then Some LogFull else None) none)
 
+pub ok_few : {A E : Type 0} (seen : ℕ) (log : Log) (result : Result A E) → OnOk result (call_fault seen log ≡ None) → OnOk result (seen ≤ length log.entries)
+ok_few seen log (Ok done) none = seen_few seen log none
+ok_few seen log (Err fault) none = tt
+
+-- and may call with less seen
+not_second : (b : Bool) (fault : CallFault) (other : Option CallFault) → (if b then Some fault else other) ≡ None → other ≡ None
+not_second true fault other e = absurd (none-some fault (sym e))
+not_second false fault other e = e
+
+less_seen : (less seen : ℕ) (log : Log) → less ≤ seen → call_fault seen log ≡ None → call_fault less log ≡ None
+less_seen less seen log few none =
+    let here = length log.entries in
+    let rest : Option CallFault = if nat_eq here log.limit then Some LogFull else None in
+    let all : seen ≤ here = seen_few seen log none in
+    let low : nat_lt here less ≡ false = le-ltb here less (omega (arith, few, all)) in
+    subst (λ (b : Bool). (if b then Some (Behind here less) else rest) ≡ None) (sym low) (not_second (nat_lt here seen) (Behind here seen) rest none)
+
+pub ok_less : {A E : Type 0} (less seen : ℕ) (log : Log) (result : Result A E) → less ≤ seen → OnOk result (call_fault seen log ≡ None) → OnOk result (call_fault less log ≡ None)
+ok_less less seen log (Ok done) few none = less_seen less seen log few none
+ok_less less seen log (Err fault) few none = tt
+
 -- one receipt more, with a number above the last
 rise_more : (low : ℕ) (receipts : List Receipt) (receipt : Receipt) → RiseAbove low receipts → front_from low receipts < receipt.seq → RiseAbove low (receipts ++ receipt ∷ [])
 rise_more low [] receipt rise above = (above, tt)
 rise_more low (first ∷ receipts) receipt rise above = (rise.0, rise_more first.seq receipts receipt rise.1 above)
 
 -- its number is the front then
-front_more : (low : ℕ) (receipts : List Receipt) (receipt : Receipt) → front_from low (receipts ++ receipt ∷ []) ≡ receipt.seq
+pub front_more : (low : ℕ) (receipts : List Receipt) (receipt : Receipt) → front_from low (receipts ++ receipt ∷ []) ≡ receipt.seq
 front_more low [] receipt = refl
 front_more low (first ∷ receipts) receipt = front_more first.seq receipts receipt
+
+-- so it is of who has the receipt of the next entry
+pub front_after : (t : RuleTable) (log : Log) (event : Event) (old new : List Receipt) → new ≡ old ++ receipt_of t log event ∷ [] → front_of new ≡ length log.entries + 1
+front_after t log event old new added = ap front_of added ∙ front_more 0 old (receipt_of t log event)
 
 -- ---- the last receipt
 

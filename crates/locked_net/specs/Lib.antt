@@ -8,6 +8,7 @@ pub mod Marks
 pub mod Keys
 pub mod Desks
 pub mod Nets
+pub mod Looks
 pub mod Roaming
 pub mod Roamed
 pub mod Stepping

@@ -11,7 +11,7 @@ abbrev pub front_from : ℕ → List Receipt → ℕ
 front_from front [] = front
 front_from front (receipt ∷ receipts) = front_from receipt.seq receipts
 
--- the greatest entry number that a clerk has seen: that of its last receipt, 0 where it has none
+-- the number of a clerk's last receipt, 0 where it has none
 abbrev pub front_of : List Receipt → ℕ
 front_of receipts = front_from 0 receipts
 
@@ -30,6 +30,15 @@ pub record ClerkView : Type 0 where
   pub receipts : List Receipt
   pub note : Option Told
   pub base : Option ℕ
+
+-- the number of a base, 0 where there is none
+abbrev pub base_from : Option ℕ → ℕ
+base_from None = 0
+base_from (Some number) = number
+
+-- the greatest entry number that a clerk has seen: that of its last receipt, or that which its checkpoint answered, where it is greater
+abbrev pub seen_by : ClerkView → ℕ
+seen_by clerk = max (front_of clerk.receipts) (base_from clerk.base)
 
 -- one who has called nobody
 abbrev pub fresh : ClerkView

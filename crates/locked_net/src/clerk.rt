@@ -2,7 +2,7 @@
 
 ghost use Rattle.std.specs.Prelude.{◌≡◌, None, Some, IfSome, MatchOption};
 ghost use Rattle.board.specs.OneLog.{AreComparable};
-ghost use Rattle.locked_net.specs.Receipts.{fresh, front_of, noted, IsClerk, IsOfBook, RiseAbove};
+ghost use Rattle.locked_net.specs.Receipts.{fresh, front_of, seen_by, noted, IsClerk, IsOfBook, RiseAbove};
 
 use board::Note;
 use std::alloc::Global;
@@ -54,7 +54,7 @@ impl Clerk {
         }
     }
 
-    /// The greatest entry number that this clerk has seen: that of its last receipt, 0 where it has none.
+    /// The number of this clerk's last receipt, 0 where it has none.
     pub fn front(&self) -> u32
         ensures { result ≡ front_of self.now.receipts }
     {
@@ -62,6 +62,14 @@ impl Clerk {
             Some(receipt) => receipt.seq,
             None => 0,
         }
+    }
+
+    /// The greatest entry number that this clerk has seen: that of its last receipt, or that which its `checkpoint` answered, where it
+    /// is greater; 0 where it has neither.
+    pub fn seen(&self) -> u32
+        ensures { result ≡ seen_by self.now }
+    {
+        self.front().max(self.base.unwrap_or(0))
     }
 
     /// The greatest number that this clerk's `checkpoint` answered; `None` before the first. No other call changes it. It takes no

@@ -3,8 +3,12 @@
 ghost use Rattle.std.specs.Prelude.{◌≡◌, ◌+◌, ◌≤◌, ◌↔◌, length, min, Some, IfOk, IfErr, OnOk, OnErr, IsErrOf, IsTrue};
 ghost use Rattle.graph_store.specs.Fault.{nodes_fault, Explains};
 ghost use Rattle.rule_machine.specs.declared.event.Event.TheVariants.{Step};
+ghost use Rattle.rule_machine.specs.declared.reply.Reply.TheVariants.{Accepted};
+ghost use Rattle.rule_machine.specs.Answer.{Answers};
+ghost use Rattle.rule_machine.specs.State.{State};
 ghost use Rattle.rule_machine.specs.Base.{base_of};
 ghost use Rattle.rule_engine.specs.Choosing.{verdicts_of};
+ghost use Rattle.rule_engine.specs.Costs.{cost_of};
 ghost use Rattle.step_log.specs.declared.fault.RecordFault.TheVariants.{LogFull};
 ghost use Rattle.step_log.specs.Held.{IsReady, kept_of};
 ghost use Rattle.step_log.specs.Kept.{IsKept};
@@ -13,6 +17,7 @@ ghost use Rattle.locked_net.specs.Above.{IsAbove, log_over};
 ghost use Rattle.locked_net.specs.Desks.{IsDesk};
 ghost use Rattle.locked_net.specs.Keys.{KeepsKey};
 
+use crate::SeenCost;
 use board::{Board, NoPlace, Note, Reader, Runs};
 use rule_engine::{Choice, Event, GraphFault, Net, Reply, Rules, Verdict, Want};
 use std::alloc::{AllocError, Global};
@@ -108,6 +113,19 @@ impl<R: Rules> Desk<R> {
         ensures { (result.log ≡ self.now.log.entries) × (result.book ≡ self.now.name.book) }
     {
         self.board.note()
+    }
+
+    /// What an event would cost, with a note of what is published.
+    pub(crate) fn cost_of(&self, event: &Event) -> SeenCost
+        ensures cost { result.cost ≡ cost_of R.table R.cost self.now.log.state event.now }
+        ensures grows { (after : State) → Answers R.table self.now.log.state self.now.log.spent event.now Accepted after → R.table.charge after ≤ R.table.charge self.now.log.state + result.cost }
+        ensures note { (result.note.log ≡ self.now.log.entries) × (result.note.book ≡ self.now.name.book) }
+        ensures run { IsLog R.table self.now.log }
+    {
+        SeenCost {
+            cost: self.journal.cost_of(event),
+            note: self.note(),
+        }
     }
 
     /// Carries out an event, records it and publishes its entry. At a fault nothing has changed.

@@ -7,6 +7,7 @@ ghost use Rattle.graph_store.specs.Fault.{nodes_fault, Explains};
 use crate::desk::Desk;
 use crate::key::{NetKey, OfKey};
 use crate::{BoardReader, Clerk, ReaderFault};
+use board::Note;
 use keyed_lock::{Hold, KeyedLock};
 use rule_engine::{GraphFault, Rules};
 use rule_machine::Want;
@@ -27,7 +28,8 @@ impl<R: Rules> LockedNet<R> {
     ghost use Rattle.keyed_lock.specs.Locks.{IsHoldOf};
     ghost use Rattle.locked_net.specs.Keys.{IsOfKey};
     ghost use Rattle.locked_net.specs.Above.{IsPart};
-    ghost use Rattle.locked_net.specs.Nets.{net_key_of, nodes_of, first_of, limit_of, name_of, setting_of, HasSeenLog};
+    ghost use Rattle.locked_net.specs.Looks.{IsPublished};
+    ghost use Rattle.locked_net.specs.Nets.{net_key_of, nodes_of, first_of, limit_of, book_of, name_of, setting_of, HasSeenLog};
     ghost use Rattle.locked_net.specs.Receipts.{fresh};
     ghost use Rattle.locked_net.specs.declared.read_fault.ReaderFault.TheVariants.{NoPlace};
     ghost use Rattle.step_log.specs.Held.{kept_of};
@@ -152,8 +154,21 @@ impl<R: Rules> LockedNet<R> {
         self.into_desk(rt).close(rt)
     }
 
+    /// The same with a note of all that was published in the end: just the log of which the journal keeps the part above its base.
+    pub fn into_noted<W: Wait>(self, rt: &W) -> (Journal<R>, Note)
+        ensures published { IsPublished (setting_of R.table self) (book_of self) (kept_of result.0) result.1 }
+        ensures run { IsKept R.table R.NODE_WEIGHT (kept_of result.0) }
+        ensures nodes { result.0.state.network.size ≡ nodes_of self }
+        ensures first { result.0.first ≡ first_of self }
+        ensures limit { result.0.limit ≡ limit_of self }
+    {
+        let desk = self.into_desk(rt);
+        let last = desk.note();
+        (desk.close(rt), last)
+    }
+
     /// The desk of a network that no thread shares any more, as `into_journal` takes it.
-    pub(crate) fn into_desk<W: Wait>(self, rt: &W) -> Desk<R>
+    fn into_desk<W: Wait>(self, rt: &W) -> Desk<R>
         ensures { IsOfKey (net_key_of self) result }
     {
         let LockedNet { alloc: _, lock } = self;

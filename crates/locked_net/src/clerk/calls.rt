@@ -1,8 +1,8 @@
 //! What a clerk does with a desk that it is lent.
 
-ghost use Rattle.std.specs.Prelude.{◌≡◌, ◌<◌, ◌++◌, ◌∷◌, [], length, None, Some, IfOk, IfErr, OnOk, OnErr, vec_capacity};
+ghost use Rattle.std.specs.Prelude.{◌≡◌, ◌+◌, ◌<◌, ◌≤◌, ◌++◌, ◌∷◌, [], length, None, Some, IfOk, IfErr, OnOk, OnErr, vec_capacity};
 ghost use Rattle.step_log.specs.Log.{IsLog, recorded, receipt_of};
-ghost use Rattle.locked_net.specs.Receipts.{HasNoteOf, front_of, noted};
+ghost use Rattle.locked_net.specs.Receipts.{HasNoteOf, front_of, seen_by, noted};
 ghost use Rattle.locked_net.specs.Keys.{KeepsKey};
 ghost use Rattle.locked_net.specs.Calls.{call_fault, Explains};
 ghost use Rattle.locked_net.specs.declared.call_fault.CallFault.TheVariants.{Memory};
@@ -31,11 +31,23 @@ impl Clerk {
         ensures run { IsLog R.table desk.old.log }
         ensures key { KeepsKey desk.old desk.new }
         ensures seen { OnOk result (call_fault (front_of self.old.receipts) desk.old.log ≡ None) }
-        ensures fault { IfErr result (λ fault. Explains (call_fault (front_of self.old.receipts) desk.old.log) fault) }
+        ensures above { OnOk result (seen_by self.old < front_of self.new.receipts) }
+        ensures fault { IfErr result (λ fault. Explains (call_fault (seen_by self.old) desk.old.log) fault) }
         ensures kept { OnErr result ((self.new ≡ self.old) × (desk.new ≡ desk.old)) }
     {
-        admit(desk, self.front())?;
+        self.may_call(desk)?;
         self.record_on(rt, desk, event)
+    }
+
+    /// Whether it may call: `Behind` where the log holds fewer entries than it has seen, then `LogFull`.
+    pub(super) fn may_call<R: Rules>(&self, desk: &Desk<R>) -> Result<(), CallFault>
+        ensures run { IsLog R.table desk.now.log }
+        ensures free { OnOk result (call_fault (front_of self.now.receipts) desk.now.log ≡ None) }
+        ensures few { OnOk result (seen_by self.now ≤ length desk.now.log.entries) }
+        ensures ok { OnOk result (call_fault (seen_by self.now) desk.now.log ≡ None) }
+        ensures fault { IfErr result (λ fault. call_fault (seen_by self.now) desk.now.log ≡ Some fault) }
+    {
+        admit(desk, self.seen())
     }
 
     /// Records an event for a clerk who may call, and keeps its receipt and the note of what is published then.
@@ -52,6 +64,7 @@ impl Clerk {
         ensures note { OnOk result (HasNoteOf desk.old.name.book self.new) }
         ensures base { self.new.base ≡ self.old.base }
         ensures tells { OnOk result (noted self.new.note ≡ desk.new.log.entries) }
+        ensures front { OnOk result (front_of self.new.receipts ≡ length desk.old.log.entries + 1) }
         ensures key { KeepsKey desk.old desk.new }
         ensures fault { IfErr result (λ fault. fault ≡ Memory) }
         ensures kept { OnErr result ((self.new ≡ self.old) × (desk.new ≡ desk.old)) }

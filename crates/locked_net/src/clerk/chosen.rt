@@ -1,8 +1,8 @@
 //! What a clerk does with a desk that it is lent, where somebody else chooses the event.
 
-ghost use Rattle.std.specs.Prelude.{◌≡◌, ◌≢◌, ◌↔◌, None, IsNone, IfOk, IfErr, IfSome, OnOk, OnErr, MatchOption};
+ghost use Rattle.std.specs.Prelude.{◌≡◌, ◌≢◌, ◌<◌, ◌↔◌, None, IsNone, IfOk, IfErr, IfSome, OnOk, OnErr, MatchOption};
 ghost use Rattle.rule_machine.specs.Network.{node_count};
-ghost use Rattle.locked_net.specs.Receipts.{HasNoteOf, front_of, noted};
+ghost use Rattle.locked_net.specs.Receipts.{HasNoteOf, front_of, seen_by, noted};
 ghost use Rattle.locked_net.specs.Keys.{KeepsKey};
 ghost use Rattle.fault_injector.specs.Drawn.{drawn};
 ghost use Rattle.step_log.specs.Log.{IsLog};
@@ -11,7 +11,6 @@ ghost use Rattle.locked_net.specs.Choosing.{ChoosesStep, ChoosesOn};
 ghost use Rattle.locked_net.specs.declared.call_fault.CallFault.TheVariants.{Memory};
 
 use super::Clerk;
-use super::calls::admit;
 use crate::CallFault;
 use crate::desk::Desk;
 use daemon::Daemon;
@@ -38,11 +37,12 @@ impl Clerk {
         ensures tells { IfOk result (λ told. IfSome told (λ _. noted self.new.note ≡ desk.new.log.entries)) }
         ensures key { KeepsKey desk.old desk.new }
         ensures seen { OnOk result (call_fault (front_of self.old.receipts) desk.old.log ≡ None) }
-        ensures fault { IfErr result (λ fault. Explains (call_fault (front_of self.old.receipts) desk.old.log) fault) }
+        ensures above { IfOk result (λ told. IfSome told (λ _. seen_by self.old < front_of self.new.receipts)) }
+        ensures fault { IfErr result (λ fault. Explains (call_fault (seen_by self.old) desk.old.log) fault) }
         ensures kept { OnErr result ((self.new ≡ self.old) × (desk.new ≡ desk.old)) }
         ensures unasked { IfErr result (λ fault. (fault ≢ Memory) → daemon.new ≡ daemon.old) }
     {
-        admit(desk, self.front())?;
+        self.may_call(desk)?;
         match daemon.choose(desk.net().enabled(), R::CENTRAL)? {
             Some(choice) => Ok(Some(self.record_on(rt, desk, Event::Step(choice))?)),
             None => Ok(None),
@@ -67,11 +67,12 @@ impl Clerk {
         ensures tells { IfOk result (λ told. IfSome told (λ _. noted self.new.note ≡ desk.new.log.entries)) }
         ensures key { KeepsKey desk.old desk.new }
         ensures seen { OnOk result (call_fault (front_of self.old.receipts) desk.old.log ≡ None) }
-        ensures fault { IfErr result (λ fault. Explains (call_fault (front_of self.old.receipts) desk.old.log) fault) }
+        ensures above { IfOk result (λ told. IfSome told (λ _. seen_by self.old < front_of self.new.receipts)) }
+        ensures fault { IfErr result (λ fault. Explains (call_fault (seen_by self.old) desk.old.log) fault) }
         ensures kept { OnErr result ((self.new ≡ self.old) × (desk.new ≡ desk.old)) }
         ensures unasked { IfErr result (λ fault. (fault ≢ Memory) → injector.new ≡ injector.old) }
     {
-        admit(desk, self.front())?;
+        self.may_call(desk)?;
         match injector.draw(desk.net()) {
             Some(event) => Ok(Some(self.record_on(rt, desk, event)?)),
             None => Ok(None),

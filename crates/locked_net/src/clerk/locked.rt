@@ -5,7 +5,7 @@ ghost use Rattle.rule_machine.specs.declared.event.Event.TheVariants.{Step};
 ghost use Rattle.rule_machine.specs.Network.{node_count};
 ghost use Rattle.fault_injector.specs.Drawn.{drawn};
 ghost use Rattle.locked_net.specs.Nets.{book_of, setting_of};
-ghost use Rattle.locked_net.specs.Receipts.{HasNoteOf, front_of};
+ghost use Rattle.locked_net.specs.Receipts.{HasNoteOf, front_of, seen_by};
 ghost use Rattle.locked_net.specs.Calls.{MayAnswer, Keeps, KeepsStep, KeepsFault};
 ghost use Rattle.locked_net.specs.Choosing.{ChoosesStep, TakesChoice, Refuses, RefusesStep};
 ghost use Rattle.locked_net.specs.Stepping.{MayAnswerStep};
@@ -36,8 +36,9 @@ impl Clerk {
         ensures receipt { IfOk result (λ reply. Keeps self.old.receipts self.new.receipts event reply) }
         ensures note { OnOk result (HasNoteOf (book_of net.now) self.new) }
         ensures base { self.new.base ≡ self.old.base }
-        ensures fault { IfErr result (λ fault. MayAnswer (front_of self.old.receipts) fault) }
-        ensures refused { IfErr result (Refuses (setting_of R.table net.now) (front_of self.old.receipts)) }
+        ensures above { OnOk result (seen_by self.old < front_of self.new.receipts) }
+        ensures fault { IfErr result (λ fault. MayAnswer (seen_by self.old) fault) }
+        ensures refused { IfErr result (Refuses (setting_of R.table net.now) (seen_by self.old)) }
         ensures kept { OnErr result (self.new ≡ self.old) }
     {
         let (mut desk, hold) = net.take(rt);
@@ -62,9 +63,10 @@ impl Clerk {
         ensures receipt { IfOk result (λ reply. Keeps self.old.receipts self.new.receipts (Step choice) reply) }
         ensures note { OnOk result (HasNoteOf (book_of net.now) self.new) }
         ensures base { self.new.base ≡ self.old.base }
+        ensures above { OnOk result (seen_by self.old < front_of self.new.receipts) }
         ensures some { OnOk result (0 < workers) }
-        ensures fault { IfErr result (λ fault. MayAnswerStep (front_of self.old.receipts) workers fault) }
-        ensures refused { IfErr result (RefusesStep (setting_of R.table net.now) (front_of self.old.receipts) workers) }
+        ensures fault { IfErr result (λ fault. MayAnswerStep (seen_by self.old) workers fault) }
+        ensures refused { IfErr result (RefusesStep (setting_of R.table net.now) (seen_by self.old) workers) }
         ensures kept { OnErr result (self.new ≡ self.old) }
     {
         let (mut desk, hold) = net.take(rt);
@@ -87,10 +89,11 @@ impl Clerk {
     ) -> Result<Option<Reply>, CallFault>
         ensures note { IfOk result (λ told. IfSome told (λ _. HasNoteOf (book_of net.now) self.new)) }
         ensures base { self.new.base ≡ self.old.base }
+        ensures above { IfOk result (λ told. IfSome told (λ _. seen_by self.old < front_of self.new.receipts)) }
         ensures step { IfOk result (λ told. MatchOption told (self.new ≡ self.old) (KeepsStep R.table.central self.old.receipts self.new.receipts)) }
         ensures chosen { IfOk result (TakesChoice (setting_of R.table net.now) (ChoosesStep R.table (λ names choice. D.chooses names R.table.central daemon.old choice daemon.new)) self.old.receipts self.new.receipts self.new.note) }
-        ensures fault { IfErr result (λ fault. MayAnswer (front_of self.old.receipts) fault) }
-        ensures refused { IfErr result (Refuses (setting_of R.table net.now) (front_of self.old.receipts)) }
+        ensures fault { IfErr result (λ fault. MayAnswer (seen_by self.old) fault) }
+        ensures refused { IfErr result (Refuses (setting_of R.table net.now) (seen_by self.old)) }
         ensures kept { OnErr result (self.new ≡ self.old) }
         ensures unasked { IfErr result (λ fault. (fault ≢ Memory) → daemon.new ≡ daemon.old) }
     {
@@ -112,10 +115,11 @@ impl Clerk {
         ensures none { IfOk result (λ told. TakesChoice (setting_of R.table net.now) (λ s _. IsNone told ↔ (node_count s.network ≡ 0)) self.old.receipts self.new.receipts self.new.note told) }
         ensures note { IfOk result (λ told. IfSome told (λ _. HasNoteOf (book_of net.now) self.new)) }
         ensures base { self.new.base ≡ self.old.base }
+        ensures above { IfOk result (λ told. IfSome told (λ _. seen_by self.old < front_of self.new.receipts)) }
         ensures register { IfOk result (λ told. MatchOption told (self.new ≡ self.old) (KeepsFault self.old.receipts self.new.receipts)) }
         ensures drawn { IfOk result (TakesChoice (setting_of R.table net.now) (λ s event. (event, G.stream injector.new) ≡ drawn s.network R.table.flags (G.stream injector.old)) self.old.receipts self.new.receipts self.new.note) }
-        ensures fault { IfErr result (λ fault. MayAnswer (front_of self.old.receipts) fault) }
-        ensures refused { IfErr result (Refuses (setting_of R.table net.now) (front_of self.old.receipts)) }
+        ensures fault { IfErr result (λ fault. MayAnswer (seen_by self.old) fault) }
+        ensures refused { IfErr result (Refuses (setting_of R.table net.now) (seen_by self.old)) }
         ensures kept { OnErr result (self.new ≡ self.old) }
         ensures unasked { IfErr result (λ fault. (fault ≢ Memory) → injector.new ≡ injector.old) }
     {

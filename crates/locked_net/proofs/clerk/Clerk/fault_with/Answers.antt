@@ -1,4 +1,4 @@
-use Rattle.locked_net.specs.Receipts.{front_of}
+use Rattle.locked_net.specs.Receipts.{seen_by}
 use Rattle.locked_net.specs.Nets.{setting_of}
 use Rattle.locked_net.proofs.Choosing.{refuses, begins_broken, takes, finds_none, keeps_fault}
 use Rattle.locked_net.proofs.clerk.Clerk.fault_with.Goals as goal
@@ -33,4 +33,4 @@ returns-clause-refused g c =
     let setting = setting_of g.R.Rules.table c.args.net.now in
     let key = c.take-desk.ensures.key in
     let told = c.fault_on-answer.ensures in
-    refuses setting (front_of c.args.self.now.receipts) c.take-desk.result.0.log c.fault_on-answer.result (record { run = told.run; nodes = key.nodes; first = key.first; limit = key.limit }) told.fault
+    refuses setting (seen_by c.args.self.now) c.take-desk.result.0.log c.fault_on-answer.result (record { run = told.run; nodes = key.nodes; first = key.first; limit = key.limit }) told.fault

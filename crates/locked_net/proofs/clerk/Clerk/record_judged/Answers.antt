@@ -3,7 +3,7 @@ use Rattle.rule_machine.specs.declared.event.Event.TheVariants.{Step}
 use Rattle.step_log.specs.declared.receipt.Receipt.{Receipt}
 use Rattle.locked_net.specs.Receipts.{ClerkView, front_of}
 use Rattle.locked_net.specs.Calls.{call_fault}
-use Rattle.locked_net.proofs.Adding.{is_clerk_after}
+use Rattle.locked_net.proofs.Adding.{front_after, is_clerk_after}
 use Rattle.locked_net.proofs.clerk.Clerk.record_judged.Goals as goal
 
 pub invariant_of-self-2 : goal.invariant_of-self-2
@@ -15,3 +15,10 @@ invariant_of-self-2 g c =
     let free : call_fault (front_of old) log ≡ None = subst (λ (v : ClerkView). call_fault (front_of v.receipts) log ≡ None) (sym c.self.view_is) c.requires.free in
     is_clerk_after g.R.Rules.table log c.record_step.new.self.log (Step c.args.choice) c.in_ok-recorded.recorded.note old c.keep.new.receipts.items c.keep.new.note c.self.inside.base c.self.invariant.rise free told.log told.note.0
     (c.keep.ensures.receipt ∙ ap₂ (λ rs (r : Receipt). rs ++ r ∷ []) same told.receipt) c.keep.ensures.note
+
+pub returns-clause-front : goal.returns-clause-front
+returns-clause-front g c =
+    let old = c.self.inside.receipts.items in
+    let same : c.reserve.new.self.items ≡ old = c.in_ok-reserve.ensures.items in
+    front_after g.R.Rules.table c.args.desk.now.log (Step c.args.choice) old c.keep.new.receipts.items
+    (c.keep.ensures.receipt ∙ ap₂ (λ rs (r : Receipt). rs ++ r ∷ []) same c.in_ok-recorded.ensures.receipt)

@@ -1,4 +1,4 @@
-use Rattle.locked_net.specs.Receipts.{front_of}
+use Rattle.locked_net.specs.Receipts.{seen_by}
 use Rattle.locked_net.specs.Nets.{setting_of}
 use Rattle.locked_net.proofs.Choosing.{refuses_step}
 use Rattle.locked_net.proofs.clerk.Clerk.step_with.Goals as goal
@@ -8,4 +8,4 @@ returns-clause-refused g c =
     let setting = setting_of g.R.Rules.table c.args.net.now in
     let key = c.take-desk.ensures.key in
     let told = c.step_on-answer.ensures in
-    refuses_step setting (front_of c.args.self.now.receipts) c.args.workers c.take-desk.result.0.log c.step_on-answer.result (record { run = told.run; nodes = key.nodes; first = key.first; limit = key.limit }) told.fault
+    refuses_step setting (seen_by c.args.self.now) c.args.workers c.take-desk.result.0.log c.step_on-answer.result (record { run = told.run; nodes = key.nodes; first = key.first; limit = key.limit }) told.fault

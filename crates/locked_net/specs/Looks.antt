@@ -1,0 +1,29 @@
+-- What a call tells that looks behind a network's lock and records nothing.
+use Rattle.std.specs.Prelude.{◌≡◌, ℕ, ◌+◌, ◌≤◌}
+use Rattle.rule_machine.specs.declared.event.Event.{Event}
+use Rattle.rule_machine.specs.declared.reply.Reply.TheVariants.{Accepted}
+use Rattle.rule_machine.specs.Answer.{Answers}
+use Rattle.rule_machine.specs.State.{State}
+use Rattle.rule_engine.specs.Costs.{cost_of}
+use Rattle.logbook.specs.Pages.{Book}
+use Rattle.board.specs.Views.{Told}
+use Rattle.step_log.specs.Kept.{Kept}
+use Rattle.step_log.specs.Log.{Log}
+use Rattle.locked_net.specs.Above.{IsPart}
+use Rattle.locked_net.specs.Settings.{Setting, IsLogIn}
+
+-- The log that lay behind the lock was just what the note tells, published in this history. In the state in which it ends the event costs so
+-- much, and where it is accepted the charge grows by no more.
+pub record IsCostSeen (setting : Setting) (book : Book) (weighs : State → Event → ℕ) (event : Event) (cost : ℕ) (note : Told) : Type 0 where
+  pub log : Log
+  pub own : IsLogIn setting log
+  pub published : note.log ≡ log.entries
+  pub in_book : note.book ≡ book
+  pub costs : cost ≡ cost_of setting.table weighs log.state event
+  pub grows : (after : State) → Answers setting.table log.state log.spent event Accepted after → setting.table.charge after ≤ setting.table.charge log.state + cost
+
+-- What is kept is the part above its base of just the log that the note tells, published in this history.
+pub record IsPublished (setting : Setting) (book : Book) (kept : Kept) (note : Told) : Type 0 where
+  pub part : IsPart setting kept
+  pub published : note.log ≡ part.log.entries
+  pub in_book : note.book ≡ book
