@@ -1,31 +1,9 @@
 -- What is counted at the nodes in turn.
-use Rattle.std.proofs.Common.{rules, ◌≡◌, ℕ, ◌+◌, ◌≤◌, suc, zero, Bool, true, false, cond, nat_lt, nat_le, List, [], ◌∷◌, ◌++◌, length, filter, filter_map, sum_by, Option, None, Some, is_some, refl, sym, ap, ◌∙◌, arith, add-one}
-use Rattle.std.specs.List.{range_with_len, cons_option}
-use Rattle.std.specs.Int.{from_bool}
-use Rattle.std.specs.Ordering.{is_le, is_lt, nat_cmp}
-use Rattle.std.proofs.lemmas.List.Sums.{sum_by-cons, sum_by_push, length-filter}
+use Rattle.std.proofs.Common.{rules, ◌≡◌, ℕ, ◌+◌, Bool, true, false, cond, nat_lt, List, [], ◌∷◌, length, filter, filter_map, sum_by, Option, None, Some, is_some, refl, sym, ap, ◌∙◌, arith}
+use Rattle.std.specs.List.{cons_option}
+use Rattle.std.specs.Ordering.{is_lt, nat_cmp}
+use Rattle.std.proofs.lemmas.List.Sums.{sum_by-cons, length-filter}
 use Rattle.charge_laws.specs.Counting.{sum_agree}
-
-pub bool_number : (b : Bool) → from_bool b ≡ cond b 1 0
-bool_number true = refl
-bool_number false = refl
-
-pub one_few : (b : Bool) → cond {A = ℕ} b 1 0 ≤ 1
-one_few true = omega arith
-one_few false = omega arith
-
--- a range with one more number at its end
-pub range_more : (a n : ℕ) → range_with_len a (n + 1) ≡ range_with_len a n ++ (a + n) ∷ []
-range_more a n = rw add-one (go a n) where
-  go : (a n : ℕ) → range_with_len a (suc n) ≡ range_with_len a n ++ (a + n) ∷ []
-  go a zero = ap (λ x. x ∷ []) (omega arith)
-  go a (suc n) = ap (λ rest. a ∷ rest) (go (a + 1) n ∙ ap (λ x. range_with_len (a + 1) n ++ x ∷ []) (omega arith))
-
--- what is counted at one more name
-pub sum_more : (f : ℕ → ℕ) (n v : ℕ) → v ≡ n + 1 → sum_by f (range_with_len 1 (n + 1)) ≡ sum_by f (range_with_len 1 n) + f v
-sum_more f n v is =
-    ap (sum_by f) (range_more 1 n ∙ ap (λ x. range_with_len 1 n ++ x ∷ []) (let same : 1 + n ≡ v = omega arith in same))
-    ∙ sum_by_push f (range_with_len 1 n) v
 
 longer : {Y : Type 0} (o : Option Y) (ys : List Y) → length (cons_option o ys) ≡ cond (is_some o) 1 0 + length ys
 longer None ys = omega arith
@@ -78,6 +56,3 @@ kept_count {Y = Y} p f xs =
 
 pub below_test : (v w : ℕ) → is_lt (nat_cmp v w) ≡ nat_lt v w
 below_test v w = search rules
-
-pub upto_test : (v w : ℕ) → is_le (nat_cmp v w) ≡ nat_le v w
-upto_test v w = search rules

@@ -5,7 +5,6 @@ pub mod Rising
 pub mod Table
 pub mod Blocks
 pub mod Counting
-pub mod Married
 pub mod Pairs
 pub mod Rounds
 pub mod Asking

@@ -109,17 +109,11 @@ near_apart false w c d m n vain = refl
 abbrev hsu_huang_vain : State → ℕ → ℕ → Bool
 hsu_huang_vain s v w = is_some (pointer s w) && not (points s.registers w v)
 
-hsu_huang_is : (s : State) (v : ℕ) → rule_at hsu_huang s v ≡ rule_of true (pointer s v) (has_suitor s v) (is_some (find (is_open hsu_huang_opens s) (neighbours s.network v))) (holds_at (hsu_huang_vain s v) (pointer s v))
-hsu_huang_is s v = refl
-
 abbrev manne_vain : State → ℕ → ℕ → Bool
 manne_vain s v w = not (points s.registers w v) && (flag s w || nat_le w v)
 
 abbrev settled_of : State → ℕ → Bool
 settled_of s v = cond (married s v) (flag s v) (not (flag s v))
-
-manne_is : (s : State) (v : ℕ) → rule_at manne s v ≡ rule_of (settled_of s v) (pointer s v) (has_suitor s v) (is_some (find (may_court s v) (neighbours s.network v))) (holds_at (manne_vain s v) (pointer s v))
-manne_is s v = refl
 
 hsu_huang_alike : (s u : State) (v : ℕ) → IsState s → AreSameRounds s u v → rule_at hsu_huang s v ≡ rule_at hsu_huang u v
 hsu_huang_alike s u v good rounds = go (pointer s v) refl
