@@ -326,6 +326,7 @@ def drops(pages, browser):
     dropped(browser, example)
     verdict = pages.run([pages.program, "audit"], open(example, "rb").read())[1].decode().strip()
     pages.expect("one that is accepted is played", waited(browser, f"document.getElementById('judged').textContent.includes({verdict!r})", True), True)
+    pages.expect("heads of arrows are drawn", browser.value("document.querySelector('#arrow').ownerSVGElement.getClientRects().length"), 1)
     pages.expect("the refusal is gone", browser.value("document.getElementById('refusal').hidden"), True)
     browser.key("End", "End", 35)
     entries = verdict.split(" ")[1]

@@ -107,11 +107,21 @@ export class Playground {
   /** Feeds a line to some networks: their entries. */
   feed(line, labs) {
     return labs.map((lab) => {
-      const text = lab.feed(line);
+      const text = this.feedOne(line, lab);
       lab.fed = true;
       (lab.lit ??= []).push(...text.split("\n").filter((entry) => entry.includes(" step ")).map(readEntry).flatMap(nodesOf));
       return text;
     });
+  }
+
+  feedOne(line, lab) {
+    try {
+      return lab.feed(line);
+    } catch (wrong) {
+      this.run(false);
+      this.story.say(`The engine does not go on: ${wrong.message}.`, true);
+      throw wrong;
+    }
   }
 
   /** An edit, a fault or a scramble, in all networks that have what it writes. */
