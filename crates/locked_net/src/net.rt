@@ -154,7 +154,8 @@ impl<R: Rules> LockedNet<R> {
         self.into_desk(rt).close(rt)
     }
 
-    /// The same with a note of all that was published in the end: just the log of which the journal keeps the part above its base.
+    /// Takes the journal out of a network that no thread shares any more, with a note of all that was published in the end: just the
+    /// log of which the journal keeps the part above its base.
     pub fn into_noted<W: Wait>(self, rt: &W) -> (Journal<R>, Note)
         ensures published { IsPublished (setting_of R.table self) (book_of self) (kept_of result.0) result.1 }
         ensures run { IsKept R.table R.NODE_WEIGHT (kept_of result.0) }
