@@ -89,12 +89,14 @@ class Library:
         end = min(end, os.fstat(file).st_size)
         if start >= end:
             return self.audit_bytes(b"")
+        before = start % mmap.ALLOCATIONGRANULARITY
         # such a mapping may be written to, which is what ctypes wants and nobody does
-        with mmap.mmap(file, end, access=mmap.ACCESS_COPY) as held:
+        with mmap.mmap(file, end - start + before, access=mmap.ACCESS_COPY, offset=start - before) as held:
             first = ctypes.c_char.from_buffer(held)
             try:
-                return self.audit(ctypes.addressof(first) + start, end - start)
+                return self.audit(ctypes.addressof(first) + before, end - start)
             finally:
+                # the mapping can't be closed while something refers to it
                 del first
 
 
