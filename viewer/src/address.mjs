@@ -6,8 +6,12 @@ const LEAST_GAP = 400;
 export class Address {
   /** `goTo` is called where somebody writes another number there, until `signal` ends it. */
   constructor(goTo, signal) {
-    Object.assign(this, { written: -Infinity, timer: null, number: null });
-    addEventListener("hashchange", () => goTo(this.entry), { signal });
+    Object.assign(this, { written: -Infinity, timer: null, number: null, known: location.hash });
+    const heard = () => {
+      this.known = location.hash;
+      goTo(this.entry);
+    };
+    addEventListener("hashchange", heard, { signal });
     addEventListener("pagehide", () => this.write(), { signal });
     signal.addEventListener("abort", () => clearTimeout(this.timer));
   }
@@ -26,9 +30,11 @@ export class Address {
   write() {
     clearTimeout(this.timer);
     this.timer = null;
-    if (this.number !== null && this.number !== this.entry) {
+    // what somebody has just written there is not written over, but gone to
+    if (this.number !== null && this.number !== this.entry && location.hash === this.known) {
       this.written = performance.now();
       history.replaceState(history.state, "", `#${this.number}`);
+      this.known = location.hash;
     }
   }
 }

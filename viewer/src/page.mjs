@@ -43,6 +43,9 @@ class Page {
   }
 
   async openLab() {
+    if (document.body.classList.contains("lab")) {
+      return;
+    }
     this.playing.end();
     document.body.classList.remove("hh", "manne", "broken", "undrawn");
     document.body.classList.add("lab");

@@ -133,7 +133,7 @@ export class Playground {
     }
     this.remember();
     const texts = this.feed(line, labs);
-    labs.forEach((lab) => lab.look());
+    this.look(labs);
     const refused = texts.map(lastEntry).find((entry) => entry?.refused);
     if (refused) {
       this.story.say(`${refused.event} is refused: ${refused.reply.split(" ").slice(2).join(" ")}.`, true);
@@ -318,10 +318,17 @@ export class Playground {
     }, MARKED);
   }
 
+  /** Has the engine tell of networks that have come on since it told of them last. */
+  look(labs) {
+    for (const lab of labs.filter((it) => it.fed !== false)) {
+      lab.look();
+      lab.fed = false;
+    }
+  }
+
   /** Has the engine tell of all networks, behind so many moves, and shows it. */
   show(moves) {
-    this.labs.forEach((lab) => lab.fed !== false && lab.look());
-    this.labs.forEach((lab) => (lab.fed = false));
+    this.look(this.labs);
     this.panes.forEach((pane) => pane.note());
     this.draw();
     const enabled = this.labs.reduce((sum, { seen }) => sum + seen.enabledCount, 0);
