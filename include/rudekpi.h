@@ -66,16 +66,16 @@ size_t rudekpi_session_read(struct rudekpi_slot *slot, uint8_t *out, size_t room
 void rudekpi_session_free(struct rudekpi_slot *slot);
 
 /* From here to rudekpi_checkpoint: the same without lines. Each call does what its line of a script does, down to the bytes of the
- * session's text, and answers in numbers. They count no line.
+ * session's text, and answers in numbers. These calls count no line.
  *
- * A call of one event adds one entry, also for a question and for an event that is refused. It answers
+ * One event is one entry, also a question, and an event that is refused. Such a call answers
  *   DONE          the entry is there, and its reply is no refusal;
  *   REFUSED       the entry is there, and `refusal` says why; the network is as before;
  *   LOG_FULL, NO_MEMORY, NO_SESSION, BAD_ARGUMENT   there is no entry, and nothing was done. A name is out of its range where it is 0
  *                 or above 65,535; one above the session's `nodes` is in its range, and the machine refuses it.
  * A bad argument comes before all else. All of `told` is written in each case, 0 where nothing is to be told. */
 struct rudekpi_told {
-    uint32_t entry;   /* the number of its entry, 1 to 16,777,216 */
+    uint32_t entry;   /* the number of its entry, 1 to 16,777,216; of rudekpi_drive, _scramble and _checkpoint that of the last one */
     uint32_t refusal; /* why it was refused, else 0 */
     uint32_t target;  /* where the node points that rudekpi_show asks about; 0 for null */
     size_t rows;      /* how many rows its answer has: the moves of a step, the enabled nodes, or the pairs */
@@ -152,20 +152,20 @@ struct rudekpi_row {
 };
 enum { RUDEKPI_UPDATE = 1, RUDEKPI_MARRY = 2, RUDEKPI_SEDUCE = 3, RUDEKPI_ABANDON = 4 };
 
-/* Copies all rows of the answer to the last call of one event to the start of `out`, ascending by `node`, where there is room; else
- * `out` is as before. How many there are: they were copied where that is at most `room`; 0 where there is no session, or that call added
- * no entry. The session keeps them until the next such call: it can be asked again. */
+/* Copies all rows of the last answer to the start of `out`, ascending by `node`, where there is room; else `out` is as before. How many
+ * there are: they were copied where that is at most `room`. The last answer is that of the last of these calls that found the session and
+ * no bad argument; the session keeps it, so that it can be asked for again. 0 where there is no session, or that answer has no rows. */
 size_t rudekpi_rows(struct rudekpi_slot *slot, struct rudekpi_row *out, size_t room);
 
 /* `drive seed count`, `scramble seed count`: up to so many steps of a seeded daemon, until nobody is enabled; so many seeded faults of
- * registers. Each turn adds an entry. BAD_ARGUMENT above 1,000,000 turns. DONE; LOG_FULL and NO_MEMORY, where the turns before stay;
- * NO_SESSION. `last` is the number of the session's last entry then, 0 where it has none, and at BAD_ARGUMENT. */
-uint32_t rudekpi_drive(struct rudekpi_slot *slot, uint64_t seed, uint32_t count, uint32_t *last);
-uint32_t rudekpi_scramble(struct rudekpi_slot *slot, uint64_t seed, uint32_t count, uint32_t *last);
+ * registers. Each turn adds an entry. DONE; LOG_FULL and NO_MEMORY, where the turns before stay; NO_SESSION; BAD_ARGUMENT above 1,000,000
+ * turns. */
+uint32_t rudekpi_drive(struct rudekpi_slot *slot, uint64_t seed, uint32_t count, struct rudekpi_told *told);
+uint32_t rudekpi_scramble(struct rudekpi_slot *slot, uint64_t seed, uint32_t count, struct rudekpi_told *told);
 
 /* `checkpoint`: the lines of a base, from which an audit can begin, come behind the text; they are no entry. DONE; NO_MEMORY, where
- * nothing was done; NO_SESSION. `last` as above. A look at all names and edges. */
-uint32_t rudekpi_checkpoint(struct rudekpi_slot *slot, uint32_t *last);
+ * nothing was done; NO_SESSION. A look at all names and edges. */
+uint32_t rudekpi_checkpoint(struct rudekpi_slot *slot, struct rudekpi_told *told);
 
 /* Whether the session keeps its text from here on, as it does at the start: where not, what there is is forgotten, and so is what each
  * call adds. DONE; NO_SESSION. So that a session of weeks takes the memory of its network alone: keep no text; or, to begin a
