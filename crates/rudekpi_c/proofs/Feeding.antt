@@ -22,12 +22,14 @@ pub record Turn (line : List ℕ) (number : ℕ) (E : Type 0) (old new : Option 
   pub rules : rules_of fed ≡ rules_of borrowed
   pub limit : limit_of fed ≡ limit_of borrowed
   pub keeps : fed.keeps ≡ borrowed.keeps
+  pub answer : fed.answer ≡ borrowed.answer
   pub relent : lent ≡ fed
   pub settled : stands to ≡ shown lent.keeps (stands lent)
   pub settled_rules : rules_of to ≡ rules_of lent
   pub settled_limit : limit_of to ≡ limit_of lent
   pub settled_lines : to.lines ≡ lent.lines
   pub settled_keeps : to.keeps ≡ lent.keeps
+  pub settled_answer : to.answer ≡ lent.answer
   pub number_is : number ≡ to.lines
   pub is : new ≡ Some to
 
@@ -53,6 +55,7 @@ was_fed {line} {number} {status} {E} {old} {new} {result} turn told =
           limit = turn.settled_limit ∙ ap limit_of turn.relent ∙ turn.limit ∙ ap limit_of turn.same;
           keeps = turn.settled_keeps ∙ ap (λ (s : Session). s.keeps) turn.relent ∙ turn.keeps ∙ ap (λ (s : Session). s.keeps) turn.same;
         };
+        answer_is = turn.settled_answer ∙ ap (λ (s : Session). s.answer) turn.relent ∙ turn.answer ∙ ap (λ (s : Session). s.answer) turn.same;
       };
       after = stands turn.fed;
       does = subst (λ n. Does line n turn.from (stands turn.fed)) (sym told) (does_of line turn.fed.lines turn.from (stands turn.fed) result ends);

@@ -13,12 +13,12 @@ stays s = record { rules = refl; limit = refl; keeps = refl }
 pub handed_none : (out : List ℕ) {old new : Option Session} {s : Session} {text : List ℕ} → old ≡ Some s → new ≡ Some s → text ≡ (stands s).text → length out < length text → Handed out (length text) old new
 handed_none out {new = new} {s = s} {text = text} was is same less =
     subst (λ (o : Option Session). Handed out (length text) o new) (sym was)
-    (ap length same, record { t = s; is = is; goes_on = stays s; all = λ fits. absurd (omega (arith, fits, less)); none = λ _. refl })
+    (ap length same, record { t = s; is = is; goes_on = stays s; lines_is = refl; answer_is = refl; all = λ fits. absurd (omega (arith, fits, less)); none = λ _. refl })
 
 -- there is enough, and what lies behind it is as it was
 pub handed_all : (rest : List ℕ) {old new : Option Session} {s t borrowed : Session} {text copied : List ℕ} → old ≡ Some s → new ≡ Some t → borrowed ≡ s → stands t ≡ shown false (stands borrowed)
-    → rules_of t ≡ rules_of borrowed → limit_of t ≡ limit_of borrowed → t.keeps ≡ borrowed.keeps → text ≡ (stands s).text → copied ≡ text → Handed (copied ++ rest) (length text) old new
-handed_all rest {new = new} {s = s} {t = t} {text = text} {copied = copied} was is borrow emptied rules limit keeps same copy =
+    → rules_of t ≡ rules_of borrowed → limit_of t ≡ limit_of borrowed → t.keeps ≡ borrowed.keeps → t.lines ≡ borrowed.lines → t.answer ≡ borrowed.answer → text ≡ (stands s).text → copied ≡ text → Handed (copied ++ rest) (length text) old new
+handed_all rest {new = new} {s = s} {t = t} {text = text} {copied = copied} was is borrow emptied rules limit keeps lines answer same copy =
     let begins : take (length text) (copied ++ rest) ≡ text = subst (λ (xs : List ℕ). take (length text) (xs ++ rest) ≡ text) (sym copy) (take-append_seam text rest) in
     let room : length (copied ++ rest) ≡ length copied + length rest = length-append copied rest in
     let long : length copied ≡ length text = ap length copy in
@@ -28,6 +28,8 @@ handed_all rest {new = new} {s = s} {t = t} {text = text} {copied = copied} was 
         t = t;
         is = is;
         goes_on = record { rules = rules ∙ ap rules_of borrow; limit = limit ∙ ap limit_of borrow; keeps = keeps ∙ ap (λ (x : Session). x.keeps) borrow };
+        lines_is = lines ∙ ap (λ (x : Session). x.lines) borrow;
+        answer_is = answer ∙ ap (λ (x : Session). x.answer) borrow;
         all = λ fits. (begins ∙ same, emptied ∙ ap (λ (x : Session). shown false (stands x)) borrow);
         none = λ less. absurd (omega (arith, less, room, long));
       },

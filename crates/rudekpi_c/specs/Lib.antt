@@ -1,5 +1,10 @@
 -- What the contracts cite.
+pub mod Called
+pub mod Counted
 pub mod Held
 pub mod Judged
+pub mod Looked
+pub mod Rows
 pub mod Session
 pub mod Slot
+pub mod Told

@@ -3,8 +3,9 @@ use Rattle.std.specs.Prelude.{◌≡◌, ℕ, Bool, true, false, List, [], Optio
 use Rattle.rule_machine.specs.declared.rules.RuleSet.{RuleSet}
 use Rattle.rule_machine.specs.declared.rules.RuleSet.TheVariants as rules
 use Rattle.rule_machine.specs.Tables.{table_of}
+use Rattle.script_text.specs.declared.command.Command.{Command}
 use Rattle.script_text.specs.Script.{Progress}
-use Rattle.line_run.specs.Line.{progress, LineEnds}
+use Rattle.line_run.specs.Line.{progress, LineEnds, CommandEnds}
 use Rattle.line_run.specs.declared.stop.Stop.{Stop}
 use Rattle.rudekpi_c.specs.declared.session.Machine.{Machine}
 use Rattle.rudekpi_c.specs.declared.session.Machine.TheVariants.{Hh, Manne}
@@ -48,3 +49,6 @@ pub record GoesOn (s t : Session) : Type 0 where
 -- by these rules
 abbrev pub LineEnded : {E : Type 0} → RuleSet → ℕ → ℕ → List ℕ → Progress → Progress → Result (Option Stop) E → Type 0
 LineEnded r = LineEnds (table_of r)
+
+abbrev pub CommandEnded : {E : Type 0} → RuleSet → ℕ → Command → Progress → Progress → Result Bool E → Type 0
+CommandEnded r = CommandEnds (table_of r)

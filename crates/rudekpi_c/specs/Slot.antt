@@ -1,5 +1,6 @@
 -- What the calls of C do to a session that C keeps, status by status.
 use Rattle.std.specs.Prelude.{◌≡◌, ◌≤◌, ◌<◌, ◌⊎◌, ◌+◌, ◌-◌, ◌^◌, ℕ, true, false, min, zero, suc, List, length, take, Option, None, Some, Result, Ok, Err}
+use Rattle.rule_machine.specs.declared.reply.Reply.TheVariants.{Accepted}
 use Rattle.rule_machine.specs.declared.rules.RuleSet.{RuleSet}
 use Rattle.rule_machine.specs.declared.rules.RuleSet.TheVariants.{Hh, Manne}
 use Rattle.rule_machine.specs.Tables.{table_of}
@@ -20,7 +21,7 @@ named (suc n) = Manne
 abbrev pub IsWanted : ℕ → ℕ → ℕ → Type 0
 IsWanted rules nodes present = (rules ≤ 1) × (nodes ≤ 65535) × (present ≤ nodes)
 
--- a session at the beginning of a run, which keeps its transcript
+-- a session at the beginning of a run, which keeps its transcript, and has answered nothing
 pub record IsBegun (rules nodes present : ℕ) (new : Option Session) : Type 0 where
   pub session : Session
   pub is : new ≡ Some session
@@ -29,6 +30,7 @@ pub record IsBegun (rules nodes present : ℕ) (new : Option Session) : Type 0 w
   pub limit_is : limit_of session ≡ 16777216
   pub lines_is : session.lines ≡ 0
   pub keeps_is : session.keeps ≡ true
+  pub answer_is : session.answer.reply ≡ Accepted
 
 -- 0: it began; 3: memory was refused, and there is none; 5: what was asked for is out of its range, and there is none
 abbrev pub Begun : ℕ → ℕ → ℕ → ℕ → Option Session → Type 0
@@ -42,6 +44,7 @@ pub record IsNext (number : ℕ) (s t : Session) : Type 0 where
   pub number_is : number ≡ t.lines
   pub lines_is : t.lines ≡ min (s.lines + 1) (2 ^ 64 - 1)
   pub goes_on : GoesOn s t
+  pub answer_is : t.answer ≡ s.answer
 
 -- how a line ended, as C is told
 abbrev pub line_status : {E : Type 0} → Result (Option Stop) E → ℕ
@@ -87,6 +90,8 @@ pub record IsHanded (out : List ℕ) (n : ℕ) (s : Session) (new : Option Sessi
   pub t : Session
   pub is : new ≡ Some t
   pub goes_on : GoesOn s t
+  pub lines_is : t.lines ≡ s.lines
+  pub answer_is : t.answer ≡ s.answer
   pub all : n ≤ length out → (take n out ≡ (stands s).text) × (stands t ≡ shown false (stands s))
   pub none : length out < n → t ≡ s
 

@@ -16,10 +16,17 @@
 //! ```
 #![tactic(auto)]
 
+mod asked;
+mod calls;
+mod counted;
+mod follow;
 mod handle;
 mod judged;
+mod looks;
 mod parts;
+mod row;
 mod session;
 mod sessions;
 mod slot;
 mod status;
+mod told;

@@ -2,14 +2,20 @@
 
 ghost use Rattle.std.specs.Prelude.{◌≡◌, ◌≤◌, ◌+◌, ◌^◌, ◌-◌, true, false, IfOk, min};
 ghost use Rattle.line_run.specs.Beginning.{beginning};
-ghost use Rattle.rudekpi_c.specs.Session.{stands, limit_of, rules_of, shown, LineEnded};
+ghost use Rattle.rule_machine.specs.declared.reply.Reply.TheVariants.{Accepted};
+ghost use Rattle.rule_machine.specs.State.{partner};
+ghost use Rattle.rule_machine.specs.Tables.{table_of};
+ghost use Rattle.rudekpi_c.specs.Called.{number_at, reply_kept};
+ghost use Rattle.rudekpi_c.specs.Session.{stands, limit_of, rules_of, shown, LineEnded, CommandEnded};
 
+use crate::follow::{follow, partner};
 use line_run::{Run, Stop};
-use rule_machine::{RuleSet, Want};
+use rule_machine::{Node, RuleSet, Want};
 use rules_hsu_huang::HsuHuang;
 use rules_manne::Manne;
+use script_text::Command;
 use std::alloc::Global;
-use step_log::MAX_ENTRIES;
+use step_log::{Answer, MAX_ENTRIES};
 
 /// The run under its rules.
 #[derive(Drop)]
@@ -18,12 +24,14 @@ pub(crate) enum Machine {
     Manne(Run<Manne>),
 }
 
-/// A run that goes on call by call, how many lines were fed, and whether a transcript is kept.
+/// A run that goes on call by call, how many lines were fed, whether a transcript is kept, and the answer to the last command that was
+/// no line.
 #[derive(Drop)]
 pub struct Session {
     pub(crate) machine: Machine,
     pub(crate) lines: u64,
     pub(crate) keeps: bool,
+    pub(crate) answer: Answer,
 }
 
 impl Session {
@@ -41,6 +49,7 @@ impl Session {
         ensures limit { IfOk result (λ session. limit_of session ≡ 16777216) }
         ensures lines { IfOk result (λ session. session.lines ≡ 0) }
         ensures keeps { IfOk result (λ session. session.keeps ≡ true) }
+        ensures answer { IfOk result (λ session. session.answer.reply ≡ Accepted) }
     {
         let machine = match rules {
             RuleSet::Hh => Machine::Hh(Run::new(alloc, rules, nodes, present, MAX_ENTRIES)?),
@@ -50,6 +59,7 @@ impl Session {
             machine,
             lines: 0,
             keeps: true,
+            answer: Answer::none(),
         })
     }
 
@@ -60,11 +70,38 @@ impl Session {
         ensures rules { rules_of self.new ≡ rules_of self.old }
         ensures limit { limit_of self.new ≡ limit_of self.old }
         ensures keeps { self.new.keeps ≡ self.old.keeps }
+        ensures answer { self.new.answer ≡ self.old.answer }
     {
         self.lines = self.lines.saturating_add(1);
         match &mut self.machine {
             Machine::Hh(run) => run.carry_out(alloc, self.lines, line),
             Machine::Manne(run) => run.carry_out(alloc, self.lines, line),
+        }
+    }
+
+    /// Follows a command, and keeps the answer to it.
+    pub(crate) fn follow(&mut self, alloc: Global, command: &Command) -> Result<bool, Want>
+        ensures ends { CommandEnded (rules_of self.old) (limit_of self.old) command.now (stands self.old) (stands self.new) result }
+        ensures number { self.new.answer.seq ≡ number_at command.now (stands self.new).count result }
+        ensures reply { self.new.answer.reply ≡ reply_kept (table_of (rules_of self.old)) command.now (stands self.old) result }
+        ensures rules { rules_of self.new ≡ rules_of self.old }
+        ensures limit { limit_of self.new ≡ limit_of self.old }
+        ensures lines { self.new.lines ≡ self.old.lines }
+        ensures keeps { self.new.keeps ≡ self.old.keeps }
+    {
+        match &mut self.machine {
+            Machine::Hh(run) => follow(run, alloc, command, &mut self.answer),
+            Machine::Manne(run) => follow(run, alloc, command, &mut self.answer),
+        }
+    }
+
+    /// With whom a node is paired, if it is.
+    pub(crate) fn partner(&self, v: Node) -> Option<Node>
+        ensures { result ≡ partner (stands self.now).moment.state v }
+    {
+        match &self.machine {
+            Machine::Hh(run) => partner(run, v),
+            Machine::Manne(run) => partner(run, v),
         }
     }
 
@@ -85,11 +122,37 @@ impl Session {
         ensures limit { limit_of self.new ≡ limit_of self.old }
         ensures lines { self.new.lines ≡ self.old.lines }
         ensures keeps { self.new.keeps ≡ self.old.keeps }
+        ensures answer { self.new.answer ≡ self.old.answer }
     {
         match &mut self.machine {
             Machine::Hh(run) => run.text.clear(),
             Machine::Manne(run) => run.text.clear(),
         }
+    }
+
+    /// Forgets the answer.
+    pub(crate) fn forget_answer(&mut self)
+        ensures number { self.new.answer.seq ≡ 0 }
+        ensures reply { self.new.answer.reply ≡ Accepted }
+        ensures stands { stands self.new ≡ stands self.old }
+        ensures rules { rules_of self.new ≡ rules_of self.old }
+        ensures limit { limit_of self.new ≡ limit_of self.old }
+        ensures lines { self.new.lines ≡ self.old.lines }
+        ensures keeps { self.new.keeps ≡ self.old.keeps }
+    {
+        self.answer = Answer::none();
+    }
+
+    /// Says whether a transcript is kept.
+    pub(crate) fn keep(&mut self, keeps: bool)
+        ensures keeps { self.new.keeps ≡ keeps }
+        ensures stands { stands self.new ≡ stands self.old }
+        ensures rules { rules_of self.new ≡ rules_of self.old }
+        ensures limit { limit_of self.new ≡ limit_of self.old }
+        ensures lines { self.new.lines ≡ self.old.lines }
+        ensures answer { self.new.answer ≡ self.old.answer }
+    {
+        self.keeps = keeps;
     }
 
     /// Forgets the text where no transcript is kept.
@@ -99,6 +162,7 @@ impl Session {
         ensures limit { limit_of self.new ≡ limit_of self.old }
         ensures lines { self.new.lines ≡ self.old.lines }
         ensures keeps { self.new.keeps ≡ self.old.keeps }
+        ensures answer { self.new.answer ≡ self.old.answer }
     {
         if !self.keeps {
             self.forget_text();

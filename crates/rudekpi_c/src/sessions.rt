@@ -110,7 +110,7 @@ pub extern "C" fn rudekpi_session_read(alloc: Global, slot: &mut Slot, out: &mut
 pub extern "C" fn rudekpi_session_free(alloc: Global, slot: &mut Slot)
     ensures { slot.new.handle.value ≡ None }
 {
-    drop(slot.take(alloc));
+    slot.take(alloc);
 }
 
 // How a line ended, as C is told.

@@ -17,3 +17,6 @@ pub(crate) const NO_SESSION: u32 = 4;
 
 /// What was asked for is out of its range.
 pub(crate) const BAD_ARGUMENT: u32 = 5;
+
+/// The machine refuses the event.
+pub(crate) const REFUSED: u32 = 6;

@@ -18,12 +18,14 @@ returns c =
       rules = c.feed-done.ensures.rules;
       limit = c.feed-done.ensures.limit;
       keeps = c.feed-done.ensures.keeps;
+      answer = c.feed-done.ensures.answer;
       relent = c.deref_mut-2.ensures.value;
       settled = c.settle.ensures.stands;
       settled_rules = c.settle.ensures.rules;
       settled_limit = c.settle.ensures.limit;
       settled_lines = c.settle.ensures.lines;
       settled_keeps = c.settle.ensures.keeps;
+      settled_answer = c.settle.ensures.answer;
       number_is = ap (λ (s : Session). s.lines) c.deref.ensures;
       is = c.put.ensures;
     }) c.status_of.ensures

@@ -15,5 +15,6 @@ returns c =
         limit_is = c.in-Ok.ensures.limit;
         lines_is = c.in-Ok.ensures.lines;
         keeps_is = c.in-Ok.ensures.keeps;
+        answer_is = c.in-Ok.ensures.answer;
       },
     )

@@ -1,0 +1,91 @@
+-- What a call with numbers in place of a line does to a session that C keeps, status by status.
+use Rattle.std.specs.Prelude.{◌≡◌, ℕ, Bool, true, false, zero, suc, ◌⊎◌, List, map, Option, None, Some, Result, Ok, Err, SomeIff}
+use Rattle.rule_machine.specs.declared.choice.Item.{Item}
+use Rattle.rule_machine.specs.declared.event.Event.{Event}
+use Rattle.rule_machine.specs.declared.event.Event.TheVariants.{Step}
+use Rattle.rule_machine.specs.declared.reply.Reply.{Reply}
+use Rattle.rule_machine.specs.declared.reply.Reply.TheVariants.{Accepted}
+use Rattle.rule_machine.specs.Least.{reply_of}
+use Rattle.rule_machine.specs.RuleTable.{RuleTable}
+use Rattle.rule_machine.specs.Tables.{table_of}
+use Rattle.script_text.specs.declared.command.Command.{Command}
+use Rattle.script_text.specs.declared.command.Command.TheVariants.{Tell}
+use Rattle.script_text.specs.Command.{IsCommand}
+use Rattle.script_text.specs.Script.{Progress, CommandDoes, CommandFills}
+use Rattle.line_run.specs.Line.{CommandBegins}
+use Rattle.rudekpi_c.specs.Session.{stands, rules_of, limit_of, shown, GoesOn}
+use Rattle.rudekpi_c.specs.Slot.{IsNobody}
+use Rattle.rudekpi_c.specs.Told.{told_of, untold, entry_status}
+use Rattle.rudekpi_c.specs.declared.asked.Chosen.{Chosen}
+use Rattle.rudekpi_c.specs.declared.session.Session.{Session}
+use Rattle.rudekpi_c.specs.declared.told.Told.{Told}
+
+-- 0 names nobody
+abbrev pub named_by : ℕ → Option ℕ
+named_by zero = None
+named_by (suc n) = Some (suc n)
+
+abbrev pub item_named : Chosen → Item
+item_named c = record { node = c.node; wish = named_by c.wish }
+
+-- these nodes move
+abbrev pub step_named : List Chosen → Event
+step_named chosen = Step (map item_named chosen)
+
+-- the command was made of numbers that are in their ranges, or it can't be; or memory was refused for one that can
+abbrev pub IsAsked : {E : Type 0} → Result (Option Command) E → Command → Type 0
+IsAsked (Ok asked) command = SomeIff asked (IsCommand command) command
+IsAsked (Err want) command = IsCommand command
+
+-- the reply to a command that is carried out there: of one event that of the machine
+abbrev pub reply_at : RuleTable → Command → Progress → Reply
+reply_at t (Tell event) at = reply_of t at.moment.state at.moment.spent event
+reply_at t other at = Accepted
+
+-- the number that is told where a command was not carried out: of one event none, else that of the last entry
+abbrev pub number_left : Command → ℕ → ℕ
+number_left (Tell event) count = 0
+number_left other count = count
+
+-- the number that is told, where there are so many entries then
+abbrev pub number_at : {E : Type 0} → Command → ℕ → Result Bool E → ℕ
+number_at command count (Ok true) = count
+number_at command count other = number_left command count
+
+-- the reply that is kept
+abbrev pub reply_kept : {E : Type 0} → RuleTable → Command → Progress → Result Bool E → Reply
+reply_kept t command before (Ok true) = reply_at t command before
+reply_kept t command before other = Accepted
+
+-- how a command ended, as C is told
+abbrev pub command_status : {E : Type 0} → Reply → Result Bool E → ℕ
+command_status reply (Ok true) = entry_status reply
+command_status reply (Ok false) = 2
+command_status reply (Err want) = 3
+
+-- 0, or 6 where the machine refuses it: it has done what it does; 2: it met a full log; 3: memory was refused, and it was begun at the most
+abbrev pub Follows : RuleTable → ℕ → Command → ℕ → ℕ → Reply → Progress → Progress → Type 0
+Follows t limit command status number reply before after =
+    ((status ≡ entry_status (reply_at t command before)) × CommandDoes t limit command before after × (number ≡ after.count) × (reply ≡ reply_at t command before))
+    ⊎ ((status ≡ 2) × CommandFills t limit command before after × (number ≡ number_left command after.count) × (reply ≡ Accepted))
+    ⊎ ((status ≡ 3) × CommandBegins t limit command before after × (number ≡ number_left command after.count) × (reply ≡ Accepted))
+
+-- the command was given to the session, which keeps the reply, and counts no line
+pub record IsCalled (command : Command) (status : ℕ) (told : Told) (old new : Option Session) : Type 0 where
+  pub s : Session
+  pub t : Session
+  pub was : old ≡ Some s
+  pub is : new ≡ Some t
+  pub goes_on : GoesOn s t
+  pub lines : t.lines ≡ s.lines
+  pub after : Progress
+  pub follows : Follows (table_of (rules_of s)) (limit_of s) command status t.answer.seq t.answer.reply (stands s) after
+  pub stands_is : stands t ≡ shown t.keeps after
+  pub told_is : told ≡ told_of t.answer.seq t.answer.reply
+
+-- 5: the numbers are out of their ranges, and nothing was done; 4: there was no session; else the session was given the command
+abbrev pub Called : Command → ℕ → Told → Option Session → Option Session → Type 0
+Called command status told old new =
+    ((IsCommand command → ⊥) × (status ≡ 5) × (told ≡ untold) × (new ≡ old))
+    ⊎ (IsCommand command × IsNobody status old new × (told ≡ untold))
+    ⊎ (IsCommand command × IsCalled command status told old new)

@@ -1,0 +1,34 @@
+-- Where a network stands, in numbers for C.
+use Rattle.std.specs.Prelude.{◌≡◌, ◌≢◌, ℕ, Option, None, Some, IfSome}
+use Rattle.rule_machine.specs.declared.counts.Counts.{Counts}
+use Rattle.rule_machine.specs.declared.reply.Reply.{Reply}
+use Rattle.rule_machine.specs.declared.reply.Reply.TheVariants as reply_is
+use Rattle.rule_machine.specs.Answer.{counts_of}
+use Rattle.rule_machine.specs.Tables.{table_of}
+use Rattle.rudekpi_c.specs.Session.{stands, rules_of}
+use Rattle.rudekpi_c.specs.declared.counted.Counted.{Counted}
+use Rattle.rudekpi_c.specs.declared.session.Session.{Session}
+
+abbrev pub counted : Counts → Counted
+counted c = record { nodes = c.nodes; edges = c.edges; pairs = c.pairs; enabled = c.enabled; charge = c.charge; spent = c.spent }
+
+abbrev pub uncounted : Counted
+uncounted = record { nodes = 0; edges = 0; pairs = 0; enabled = 0; charge = 0; spent = 0 }
+
+abbrev pub counted_in : Reply → Counted
+counted_in (reply_is.Counts c) = counted c
+counted_in other = uncounted
+
+-- those of the last answer
+abbrev pub counted_kept : Option Session → Counted
+counted_kept None = uncounted
+counted_kept (Some s) = counted_in s.answer.reply
+
+-- the numbers of where the session stands, as the machine counts them
+abbrev pub counts_at : Session → Counts
+counts_at s = counts_of (table_of (rules_of s)) (stands s).moment.state (stands s).moment.spent
+
+-- 0: those of where it stood, which a question leaves; else none
+pub record IsCounted (status : ℕ) (counts : Counted) (old : Option Session) : Type 0 where
+  pub done : status ≡ 0 → IfSome old (λ s. counts ≡ counted (counts_at s))
+  pub undone : status ≢ 0 → counts ≡ uncounted

@@ -1,0 +1,39 @@
+-- A reply in numbers.
+use Rattle.std.specs.Prelude.{ℕ, List, [], map, length}
+use Rattle.rule_machine.specs.declared.reply.Reply.{Reply}
+use Rattle.rule_machine.specs.declared.reply.Reply.TheVariants.{Refused, Moves, Shown, EnabledAre, Pairs}
+use Rattle.rule_machine.specs.declared.reply.Reply.TheVariants as reply_is
+use Rattle.rule_machine.specs.declared.counts.Counts.{Counts}
+use Rattle.rule_machine.specs.Refuse.{refusal_number}
+use Rattle.rudekpi_c.specs.declared.row.Row.{Row}
+use Rattle.rudekpi_c.specs.declared.told.Told.{Told}
+use Rattle.rudekpi_c.specs.Rows.{number_of, move_row, enabled_row, pair_row}
+
+-- why it was refused, or 0
+abbrev pub refusal_in : Reply → ℕ
+refusal_in (Refused refusal) = refusal_number refusal
+refusal_in other = 0
+
+-- where the node points that was asked about, or 0
+abbrev pub target_in : Reply → ℕ
+target_in (Shown target) = number_of target
+target_in other = 0
+
+-- its rows: the moves, the enabled nodes, or the pairs
+abbrev pub rows_of : Reply → List Row
+rows_of (Moves moves) = map move_row moves
+rows_of (EnabledAre nodes) = map enabled_row nodes
+rows_of (Pairs pairs) = map pair_row pairs
+rows_of other = []
+
+-- the entry with this number, and its reply
+abbrev pub told_of : ℕ → Reply → Told
+told_of number reply = record { entry = number; refusal = refusal_in reply; target = target_in reply; rows = length (rows_of reply) }
+
+abbrev pub untold : Told
+untold = record { entry = 0; refusal = 0; target = 0; rows = 0 }
+
+-- it is an entry: 6 where it was refused, else 0
+abbrev pub entry_status : Reply → ℕ
+entry_status (Refused refusal) = 6
+entry_status other = 0

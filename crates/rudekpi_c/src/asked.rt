@@ -1,0 +1,158 @@
+//! Commands out of numbers.
+
+ghost use Rattle.std.specs.Prelude.{◌≡◌, ◌↔◌, ◌≤◌, SomeIff, IfSome, IfOk, IsTrue, map, length};
+ghost use Rattle.std.specs.List.{AllByRecursion};
+ghost use Rattle.rule_machine.specs.declared.event.Event.TheVariants.{Link, Unlink, Point, Flag, Join, Leave, Show};
+ghost use Rattle.line_text.specs.Words.{IsName};
+ghost use Rattle.line_text.specs.EventText.{IsItem, IsChoice};
+ghost use Rattle.script_text.specs.declared.command.Command.TheVariants.{Tell, Drive, Scramble};
+ghost use Rattle.script_text.specs.Command.{IsCommand, IsTurns};
+ghost use Rattle.rudekpi_c.specs.Called.{IsAsked, named_by, item_named, step_named};
+
+use rule_machine::{Choice, Event, Item, MAX_ITEMS, Node, Want};
+use script_text::{Command, MAX_TURNS, Turns};
+use std::alloc::Global;
+
+/// A node that is chosen, and the neighbour that it shall point at, or 0 for any.
+#[repr(C)]
+#[derive(Clone, Copy)]
+pub struct Chosen {
+    pub node: u32,
+    pub wish: u32,
+}
+
+/// `link`, with its ends.
+pub(crate) fn link(a: u32, b: u32) -> Option<Command>
+    ensures { SomeIff result (IsCommand (Tell (Link a b))) (Tell (Link a b)) }
+{
+    let (Some(a), Some(b)) = (Node::new(a), Node::new(b)) else {
+        return None;
+    };
+    Some(Command::Tell(Event::Link(a, b)))
+}
+
+/// `unlink`, with its ends.
+pub(crate) fn unlink(a: u32, b: u32) -> Option<Command>
+    ensures { SomeIff result (IsCommand (Tell (Unlink a b))) (Tell (Unlink a b)) }
+{
+    let (Some(a), Some(b)) = (Node::new(a), Node::new(b)) else {
+        return None;
+    };
+    Some(Command::Tell(Event::Unlink(a, b)))
+}
+
+/// `join`, with its node.
+pub(crate) fn join(v: u32) -> Option<Command>
+    ensures { SomeIff result (IsCommand (Tell (Join v))) (Tell (Join v)) }
+{
+    Some(Command::Tell(Event::Join(Node::new(v)?)))
+}
+
+/// `leave`, with its node.
+pub(crate) fn leave(v: u32) -> Option<Command>
+    ensures { SomeIff result (IsCommand (Tell (Leave v))) (Tell (Leave v)) }
+{
+    Some(Command::Tell(Event::Leave(Node::new(v)?)))
+}
+
+/// `show`, with its node.
+pub(crate) fn show(v: u32) -> Option<Command>
+    ensures { SomeIff result (IsCommand (Tell (Show v))) (Tell (Show v)) }
+{
+    Some(Command::Tell(Event::Show(Node::new(v)?)))
+}
+
+/// `flag`, with its node and value.
+pub(crate) fn flag(v: u32, value: bool) -> Option<Command>
+    ensures { SomeIff result (IsCommand (Tell (Flag v value))) (Tell (Flag v value)) }
+{
+    Some(Command::Tell(Event::Flag(Node::new(v)?, value)))
+}
+
+/// A node, or nobody for 0.
+fn target(number: u32) -> Option<Option<Node>>
+    ensures { SomeIff result (IfSome (named_by number) IsName) (named_by number) }
+{
+    if number == 0 {
+        return Some(None);
+    }
+    Some(Some(Node::new(number)?))
+}
+
+/// `point`, with its node and target.
+pub(crate) fn point(v: u32, w: u32) -> Option<Command>
+    ensures { SomeIff result (IsCommand (Tell (Point v (named_by w)))) (Tell (Point v (named_by w))) }
+{
+    Some(Command::Tell(Event::Point(Node::new(v)?, target(w)?)))
+}
+
+/// An item of a step.
+fn item(chosen: Chosen) -> Option<Item>
+    ensures { SomeIff result (IsItem (item_named chosen)) (item_named chosen) }
+{
+    Some(Item {
+        node: Node::new(chosen.node)?,
+        wish: target(chosen.wish)?,
+    })
+}
+
+/// Whether all of them are items.
+fn are_items(chosen: &[Chosen]) -> bool
+    ensures { IsTrue result ↔ AllByRecursion IsItem (map item_named chosen.now) }
+{
+    for one in chosen {
+        if item(*one).is_none() {
+            return false;
+        }
+    }
+    true
+}
+
+/// The items, where all are some. One takes no memory.
+fn items(alloc: Global, chosen: &[Chosen]) -> Result<Vec<Item>, Want>
+    requires { AllByRecursion IsItem (map item_named chosen.now) }
+    ensures { IfOk result (λ items. items.items ≡ map item_named chosen.now) }
+{
+    let mut items = Vec::with_capacity(alloc, chosen.len())?;
+    for one in chosen {
+        items.push(item(*one).unwrap()).unwrap();
+    }
+    Ok(items)
+}
+
+/// `step`, with its items. Memory is for them alone, and other numbers want none.
+pub(crate) fn step(alloc: Global, chosen: &[Chosen]) -> Result<Option<Command>, Want>
+    ensures { IsAsked result (Tell (step_named chosen.now)) }
+{
+    if chosen.len() > MAX_ITEMS || !are_items(chosen) {
+        return Ok(None);
+    }
+    match Choice::new(items(alloc, chosen)?) {
+        Some(choice) => Ok(Some(Command::Tell(Event::Step(choice)))),
+        None => Ok(None),
+    }
+}
+
+/// So many turns from a seed.
+fn turns(seed: u64, count: u32) -> Option<Turns>
+    ensures { SomeIff result (IsTurns (record { seed = seed; count = count })) (record { seed = seed; count = count }) }
+{
+    if count > MAX_TURNS {
+        return None;
+    }
+    Some(Turns { seed, count })
+}
+
+/// `drive`, with its seed and turns.
+pub(crate) fn drive(seed: u64, count: u32) -> Option<Command>
+    ensures { SomeIff result (IsCommand (Drive (record { seed = seed; count = count }))) (Drive (record { seed = seed; count = count })) }
+{
+    Some(Command::Drive(turns(seed, count)?))
+}
+
+/// `scramble`, with its seed and turns.
+pub(crate) fn scramble(seed: u64, count: u32) -> Option<Command>
+    ensures { SomeIff result (IsCommand (Scramble (record { seed = seed; count = count }))) (Scramble (record { seed = seed; count = count })) }
+{
+    Some(Command::Scramble(turns(seed, count)?))
+}

@@ -1,0 +1,229 @@
+//! Commands that C gives in numbers. Each call does what its line of a script does.
+
+ghost use Rattle.std.specs.Prelude.{◌≡◌, SomeIff};
+ghost use Rattle.rule_machine.specs.declared.event.Event.{Event};
+ghost use Rattle.rule_machine.specs.declared.event.Event.TheVariants.{Link, Unlink, Point, Flag, Join, Leave, Show, Enabled, Matching, Status};
+ghost use Rattle.script_text.specs.declared.command.Command.{Command};
+ghost use Rattle.script_text.specs.declared.command.Command.TheVariants.{Tell, Drive, Scramble, Checkpoint};
+ghost use Rattle.script_text.specs.Command.{IsCommand};
+ghost use Rattle.rudekpi_c.specs.Called.{Called, command_status, named_by, step_named};
+ghost use Rattle.rudekpi_c.specs.Counted.{IsCounted};
+
+use crate::asked::{self, Chosen};
+use crate::counted::{Counted, counted_of};
+use crate::slot::Slot;
+use crate::status::{BAD_ARGUMENT, DONE, LOG_FULL, MEMORY, NO_SESSION, REFUSED};
+use crate::told::Told;
+use rule_machine::{Event, Reply, Want};
+use script_text::Command;
+use std::alloc::Global;
+
+// How a command ended, as C is told, with the reply to it.
+fn status_of(done: &Result<bool, Want>, reply: &Reply) -> u32
+    ensures { result ≡ command_status reply.now done.now }
+{
+    match (done, reply) {
+        (Ok(true), Reply::Refused(_)) => REFUSED,
+        (Ok(true), _) => DONE,
+        (Ok(false), _) => LOG_FULL,
+        (Err(_), _) => MEMORY,
+    }
+}
+
+// Gives the session a command, or says that there is none, since its numbers are out of their ranges.
+fn call(alloc: Global, slot: &mut Slot, command: Option<Command>, told: &mut Told) -> u32
+    ensures { (asked : Command) → SomeIff command (IsCommand asked) asked → Called asked result told.new slot.old.handle.value slot.new.handle.value }
+{
+    *told = Told::nothing();
+    let Some(command) = command else {
+        return BAD_ARGUMENT;
+    };
+    let Some(mut session) = slot.take(alloc) else {
+        return NO_SESSION;
+    };
+    let done = session.follow(alloc, &command);
+    session.settle();
+    let status = status_of(&done, &session.answer.reply);
+    *told = Told::of(&session.answer);
+    slot.put(session);
+    status
+}
+
+// Tells the session that memory was refused for an event.
+fn unheard(alloc: Global, slot: &mut Slot, told: &mut Told) -> u32
+    ensures { (event : Event) → IsCommand (Tell event) → Called (Tell event) result told.new slot.old.handle.value slot.new.handle.value }
+{
+    *told = Told::nothing();
+    let Some(mut session) = slot.take(alloc) else {
+        return NO_SESSION;
+    };
+    session.forget_answer();
+    session.settle();
+    slot.put(session);
+    MEMORY
+}
+
+/// Adds an edge. 6 where the machine refuses it, 2 at a full log, 3 if memory runs out, 4 where there is no session, 5 for a name that
+/// is 0 or above 65,535; so do the others.
+#[unsafe(no_mangle)]
+pub extern "C" fn rudekpi_link(
+    alloc: Global,
+    slot: &mut Slot,
+    a: u32,
+    b: u32,
+    told: &mut Told,
+) -> u32
+    ensures { Called (Tell (Link a b)) result told.new slot.old.handle.value slot.new.handle.value }
+{
+    call(alloc, slot, asked::link(a, b), told)
+}
+
+/// Removes an edge.
+#[unsafe(no_mangle)]
+pub extern "C" fn rudekpi_unlink(
+    alloc: Global,
+    slot: &mut Slot,
+    a: u32,
+    b: u32,
+    told: &mut Told,
+) -> u32
+    ensures { Called (Tell (Unlink a b)) result told.new slot.old.handle.value slot.new.handle.value }
+{
+    call(alloc, slot, asked::unlink(a, b), told)
+}
+
+/// A node comes.
+#[unsafe(no_mangle)]
+pub extern "C" fn rudekpi_join(alloc: Global, slot: &mut Slot, node: u32, told: &mut Told) -> u32
+    ensures { Called (Tell (Join node)) result told.new slot.old.handle.value slot.new.handle.value }
+{
+    call(alloc, slot, asked::join(node), told)
+}
+
+/// A node goes.
+#[unsafe(no_mangle)]
+pub extern "C" fn rudekpi_leave(alloc: Global, slot: &mut Slot, node: u32, told: &mut Told) -> u32
+    ensures { Called (Tell (Leave node)) result told.new slot.old.handle.value slot.new.handle.value }
+{
+    call(alloc, slot, asked::leave(node), told)
+}
+
+/// Writes a node's pointer; 0 is null.
+#[unsafe(no_mangle)]
+pub extern "C" fn rudekpi_point(
+    alloc: Global,
+    slot: &mut Slot,
+    node: u32,
+    target: u32,
+    told: &mut Told,
+) -> u32
+    ensures { Called (Tell (Point node (named_by target))) result told.new slot.old.handle.value slot.new.handle.value }
+{
+    call(alloc, slot, asked::point(node, target), told)
+}
+
+/// Writes a node's flag.
+#[unsafe(no_mangle)]
+pub extern "C" fn rudekpi_flag(
+    alloc: Global,
+    slot: &mut Slot,
+    node: u32,
+    value: bool,
+    told: &mut Told,
+) -> u32
+    ensures { Called (Tell (Flag node value)) result told.new slot.old.handle.value slot.new.handle.value }
+{
+    call(alloc, slot, asked::flag(node, value), told)
+}
+
+/// Moves the chosen nodes, all at once; 5 also for more than 65,535 of them.
+#[unsafe(no_mangle)]
+pub extern "C" fn rudekpi_step(
+    alloc: Global,
+    slot: &mut Slot,
+    items: &[Chosen],
+    told: &mut Told,
+) -> u32
+    ensures { Called (Tell (step_named items.now)) result told.new slot.old.handle.value slot.new.handle.value }
+{
+    match asked::step(alloc, items) {
+        Ok(command) => call(alloc, slot, command, told),
+        Err(_) => unheard(alloc, slot, told),
+    }
+}
+
+/// Asks where a node points.
+#[unsafe(no_mangle)]
+pub extern "C" fn rudekpi_show(alloc: Global, slot: &mut Slot, node: u32, told: &mut Told) -> u32
+    ensures { Called (Tell (Show node)) result told.new slot.old.handle.value slot.new.handle.value }
+{
+    call(alloc, slot, asked::show(node), told)
+}
+
+/// Asks who is enabled.
+#[unsafe(no_mangle)]
+pub extern "C" fn rudekpi_enabled(alloc: Global, slot: &mut Slot, told: &mut Told) -> u32
+    ensures { Called (Tell Enabled) result told.new slot.old.handle.value slot.new.handle.value }
+{
+    call(alloc, slot, Some(Command::Tell(Event::Enabled)), told)
+}
+
+/// Asks for the pairs.
+#[unsafe(no_mangle)]
+pub extern "C" fn rudekpi_pairs(alloc: Global, slot: &mut Slot, told: &mut Told) -> u32
+    ensures { Called (Tell Matching) result told.new slot.old.handle.value slot.new.handle.value }
+{
+    call(alloc, slot, Some(Command::Tell(Event::Matching)), told)
+}
+
+/// Asks for numbers, which are 0 where there is no answer.
+#[unsafe(no_mangle)]
+pub extern "C" fn rudekpi_status(
+    alloc: Global,
+    slot: &mut Slot,
+    counts: &mut Counted,
+    told: &mut Told,
+) -> u32
+    ensures called { Called (Tell Status) result told.new slot.old.handle.value slot.new.handle.value }
+    ensures counted { IsCounted result counts.new slot.old.handle.value }
+{
+    let status = call(alloc, slot, Some(Command::Tell(Event::Status)), told);
+    *counts = counted_of(alloc, slot);
+    status
+}
+
+/// Up to so many steps of a seeded daemon; 5 for more than 1,000,000.
+#[unsafe(no_mangle)]
+pub extern "C" fn rudekpi_drive(
+    alloc: Global,
+    slot: &mut Slot,
+    seed: u64,
+    count: u32,
+    told: &mut Told,
+) -> u32
+    ensures { Called (Drive (record { seed = seed; count = count })) result told.new slot.old.handle.value slot.new.handle.value }
+{
+    call(alloc, slot, asked::drive(seed, count), told)
+}
+
+/// So many seeded faults; 5 for more than 1,000,000.
+#[unsafe(no_mangle)]
+pub extern "C" fn rudekpi_scramble(
+    alloc: Global,
+    slot: &mut Slot,
+    seed: u64,
+    count: u32,
+    told: &mut Told,
+) -> u32
+    ensures { Called (Scramble (record { seed = seed; count = count })) result told.new slot.old.handle.value slot.new.handle.value }
+{
+    call(alloc, slot, asked::scramble(seed, count), told)
+}
+
+/// Adds the lines of a base.
+#[unsafe(no_mangle)]
+pub extern "C" fn rudekpi_checkpoint(alloc: Global, slot: &mut Slot, told: &mut Told) -> u32
+    ensures { Called Checkpoint result told.new slot.old.handle.value slot.new.handle.value }
+{
+    call(alloc, slot, Some(Command::Checkpoint), told)
+}

@@ -1,0 +1,66 @@
+//! Where a network stands, in numbers for C.
+
+ghost use Rattle.std.specs.Prelude.{◌≡◌};
+ghost use Rattle.rudekpi_c.specs.Counted.{counted_in, counted_kept, uncounted};
+
+use crate::slot::Slot;
+use rule_machine::Reply;
+use std::alloc::Global;
+
+/// How many nodes are present, edges, pairs and enabled nodes there are, the charge, and the moves since the last disturbance.
+#[repr(C)]
+#[derive(Clone, Copy)]
+pub struct Counted {
+    pub nodes: u32,
+    pub edges: u32,
+    pub pairs: u32,
+    pub enabled: u32,
+    pub charge: u32,
+    pub spent: u32,
+}
+
+impl Counted {
+    /// No answer.
+    pub(crate) fn none() -> Counted
+        ensures { result ≡ uncounted }
+    {
+        Counted {
+            nodes: 0,
+            edges: 0,
+            pairs: 0,
+            enabled: 0,
+            charge: 0,
+            spent: 0,
+        }
+    }
+
+    /// The numbers in a reply.
+    fn of(reply: &Reply) -> Counted
+        ensures { result ≡ counted_in reply.now }
+    {
+        match reply {
+            Reply::Counts(counts) => Counted {
+                nodes: counts.nodes,
+                edges: counts.edges,
+                pairs: counts.pairs,
+                enabled: counts.enabled,
+                charge: counts.charge,
+                spent: counts.spent,
+            },
+            _ => Counted::none(),
+        }
+    }
+}
+
+/// The numbers in the last answer.
+pub(crate) fn counted_of(alloc: Global, slot: &mut Slot) -> Counted
+    ensures counted { result ≡ counted_kept slot.old.handle.value }
+    ensures kept { slot.new.handle.value ≡ slot.old.handle.value }
+{
+    let Some(session) = slot.take(alloc) else {
+        return Counted::none();
+    };
+    let counts = Counted::of(&session.answer.reply);
+    slot.put(session);
+    counts
+}

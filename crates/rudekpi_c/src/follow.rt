@@ -1,0 +1,101 @@
+//! What a run does with a command.
+
+ghost use Rattle.std.specs.Prelude.{◌≡◌};
+ghost use Rattle.rule_machine.specs.State.{partner};
+ghost use Rattle.line_run.specs.Line.{progress, CommandEnds};
+ghost use Rattle.rule_machine.specs.declared.reply.Reply.TheVariants.{Accepted};
+ghost use Rattle.script_text.specs.declared.command.Command.TheVariants.{Tell, Checkpoint};
+ghost use Rattle.rudekpi_c.specs.Called.{number_at, reply_kept};
+
+use line_run::Run;
+use rule_machine::{Event, Node, Reply, Want};
+use rule_set::Rules;
+use script_text::Command;
+use std::alloc::Global;
+use step_log::Answer;
+
+/// Carries out an event, and keeps the answer to it, or none where it is no entry.
+fn tell<R: Rules>(run: &mut Run<R>, event: &Event, answer: &mut Answer) -> Result<bool, Want>
+    ensures ends { CommandEnds R.table run.old.recorder.limit (Tell event.now) (progress run.old.rules run.old.recorder run.old.text.items) (progress run.new.rules run.new.recorder run.new.text.items) result }
+    ensures number { answer.new.seq ≡ number_at (Tell event.now) run.new.recorder.len result }
+    ensures reply { answer.new.reply ≡ reply_kept R.table (Tell event.now) (progress run.old.rules run.old.recorder run.old.text.items) result }
+    ensures limit { run.new.recorder.limit ≡ run.old.recorder.limit }
+{
+    match run.log(event, answer) {
+        Ok(true) => Ok(true),
+        Ok(false) => {
+            *answer = Answer::none();
+            Ok(false)
+        }
+        Err(want) => {
+            *answer = Answer::none();
+            Err(want)
+        }
+    }
+}
+
+/// The number of the last entry, with no reply.
+fn left<R: Rules>(run: &Run<R>) -> Answer
+    ensures number { result.seq ≡ run.now.recorder.len }
+    ensures reply { result.reply ≡ Accepted }
+{
+    Answer {
+        seq: run.recorder.len(),
+        reply: Reply::Accepted,
+    }
+}
+
+/// Follows a command, and keeps the answer to it.
+pub(crate) fn follow<R: Rules>(
+    run: &mut Run<R>,
+    alloc: Global,
+    command: &Command,
+    answer: &mut Answer,
+) -> Result<bool, Want>
+    ensures ends { CommandEnds R.table run.old.recorder.limit command.now (progress run.old.rules run.old.recorder run.old.text.items) (progress run.new.rules run.new.recorder run.new.text.items) result }
+    ensures number { answer.new.seq ≡ number_at command.now run.new.recorder.len result }
+    ensures reply { answer.new.reply ≡ reply_kept R.table command.now (progress run.old.rules run.old.recorder run.old.text.items) result }
+    ensures limit { run.new.recorder.limit ≡ run.old.recorder.limit }
+{
+    match command {
+        Command::Tell(event) => tell(run, event, answer),
+        Command::Drive(turns) => {
+            let done = run.drive(alloc, *turns);
+            *answer = left(run);
+            done
+        }
+        Command::Scramble(turns) => {
+            let done = run.scramble(*turns);
+            *answer = left(run);
+            done
+        }
+        Command::Checkpoint => {
+            let done = checkpoint(run);
+            *answer = left(run);
+            done
+        }
+    }
+}
+
+/// Adds the lines of a base.
+fn checkpoint<R: Rules>(run: &mut Run<R>) -> Result<bool, Want>
+    ensures ends { CommandEnds R.table run.old.recorder.limit Checkpoint (progress run.old.rules run.old.recorder run.old.text.items) (progress run.new.rules run.new.recorder run.new.text.items) result }
+    ensures limit { run.new.recorder.limit ≡ run.old.recorder.limit }
+{
+    run.checkpoint()?;
+    Ok(true)
+}
+
+/// With whom a node is paired, if it is.
+pub(crate) fn partner<R: Rules>(run: &Run<R>, v: Node) -> Option<Node>
+    ensures { result ≡ partner run.now.recorder.state v }
+{
+    let registers = run.recorder.net().registers();
+    let Some(Some(w)) = registers.pointers().get(v.place()) else {
+        return None;
+    };
+    if registers.points_at(*w, v) {
+        return Some(*w);
+    }
+    None
+}

@@ -1,0 +1,69 @@
+//! What C takes of a session, and looks at, without an entry.
+
+ghost use Rattle.std.specs.Prelude.{◌≡◌, ◌≤◌, ◌<◌, ◌++◌, length, drop};
+ghost use Rattle.rudekpi_c.specs.Looked.{Kept, Partnered, rows_kept};
+
+use crate::row::Row;
+use crate::slot::Slot;
+use crate::status::{BAD_ARGUMENT, DONE, NO_SESSION};
+use crate::told::{count_rows, number_told, write_rows};
+use rule_machine::Node;
+use std::alloc::Global;
+
+/// Copies the rows of the last answer to the start of `out`, if there is room for all of them. How many there are.
+#[unsafe(no_mangle)]
+pub extern "C" fn rudekpi_rows(alloc: Global, slot: &mut Slot, out: &mut [Row]) -> usize
+    ensures count { result ≡ length (rows_kept slot.old.handle.value) }
+    ensures all { result ≤ length out.old → out.new ≡ rows_kept slot.old.handle.value ++ drop result out.old }
+    ensures none { length out.old < result → out.new ≡ out.old }
+    ensures kept { slot.new.handle.value ≡ slot.old.handle.value }
+{
+    let Some(session) = slot.take(alloc) else {
+        return 0;
+    };
+    let count = count_rows(&session.answer.reply);
+    if count > out.len() {
+        slot.put(session);
+        return count;
+    }
+    write_rows(out, &session.answer.reply);
+    slot.put(session);
+    count
+}
+
+/// Says whether the text is kept from here on; where not, what there is is forgotten.
+#[unsafe(no_mangle)]
+pub extern "C" fn rudekpi_transcript(alloc: Global, slot: &mut Slot, keeps: bool) -> u32
+    ensures { Kept keeps result slot.old.handle.value slot.new.handle.value }
+{
+    let Some(mut session) = slot.take(alloc) else {
+        return NO_SESSION;
+    };
+    session.keep(keeps);
+    session.settle();
+    slot.put(session);
+    DONE
+}
+
+/// With whom a node is paired; 0 where with nobody.
+#[unsafe(no_mangle)]
+pub extern "C" fn rudekpi_partner(
+    alloc: Global,
+    slot: &mut Slot,
+    node: u32,
+    partner: &mut u32,
+) -> u32
+    ensures found { Partnered node result partner.new slot.old.handle.value }
+    ensures kept { slot.new.handle.value ≡ slot.old.handle.value }
+{
+    *partner = 0;
+    let Some(node) = Node::new(node) else {
+        return BAD_ARGUMENT;
+    };
+    let Some(session) = slot.take(alloc) else {
+        return NO_SESSION;
+    };
+    *partner = number_told(session.partner(node));
+    slot.put(session);
+    DONE
+}

@@ -1,0 +1,84 @@
+//! Rows of an answer.
+
+ghost use Rattle.std.specs.Prelude.{◌≡◌, ℕ, ◌≤◌, ◌++◌, length, map, drop};
+ghost use Rattle.rudekpi_c.specs.declared.row.Row.{Row};
+ghost use Rattle.rudekpi_c.specs.Rows.{move_row, enabled_row, pair_row, rule_number};
+
+use crate::told::number_told;
+use rule_machine::{Act, Edge, Moved, Node};
+
+/// Of a move the node, its rule, and where it points now; of an enabled node that and the rule; of a pair its ends, the lower first.
+#[repr(C)]
+#[derive(Clone, Copy)]
+pub struct Row {
+    pub node: u32,
+    pub rule: u32,
+    pub other: u32,
+}
+
+/// What is a row of an answer.
+pub(crate) trait AsRow: Copy {
+    /// The row.
+    ghost row: { Self → Row };
+
+    /// The row.
+    fn row(self) -> Row
+        ensures { result ≡ row self };
+}
+
+impl AsRow for Moved {
+    ghost row = { move_row };
+
+    fn row(self) -> Row {
+        Row {
+            node: self.node.name(),
+            rule: rule_told(self.act),
+            other: number_told(self.target),
+        }
+    }
+}
+
+impl AsRow for (Node, Act) {
+    ghost row = { enabled_row };
+
+    fn row(self) -> Row {
+        Row {
+            node: self.0.name(),
+            rule: rule_told(self.1),
+            other: 0,
+        }
+    }
+}
+
+impl AsRow for Edge {
+    ghost row = { pair_row };
+
+    fn row(self) -> Row {
+        Row {
+            node: self.low().name(),
+            rule: 0,
+            other: self.high().name(),
+        }
+    }
+}
+
+fn rule_told(act: Act) -> u32
+    ensures { result ≡ rule_number act }
+{
+    match act {
+        Act::Update => 1,
+        Act::Marry => 2,
+        Act::Seduce => 3,
+        Act::Abandon => 4,
+    }
+}
+
+/// Writes the rows of items in front of what lies behind them.
+pub(crate) fn put_rows<T: AsRow>(out: &mut [Row], items: &[T])
+    requires { length items.now ≤ length out.old }
+    ensures { out.new ≡ map T.row items.now ++ drop (length items.now) out.old }
+{
+    for at in 0..items.len() {
+        out[at] = items[at].row();
+    }
+}

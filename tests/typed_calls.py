@@ -1,0 +1,108 @@
+"""The library's calls that are given numbers in place of a line, beside what the line's entry says."""
+import ctypes
+import re
+
+DONE, REFUSED = 0, 6
+RULES = {"update": 1, "marry": 2, "seduce": 3, "abandon": 4}
+COUNTS = ("nodes", "edges", "pairs", "enabled", "charge", "spent")
+
+
+class Told(ctypes.Structure):
+    _fields_ = [(name, ctypes.c_uint32) for name in ("entry", "refusal", "target")] + [("rows", ctypes.c_size_t)]
+
+
+class Row(ctypes.Structure):
+    _fields_ = [(name, ctypes.c_uint32) for name in ("node", "rule", "other")]
+
+
+class Item(ctypes.Structure):
+    _fields_ = [("node", ctypes.c_uint32), ("wish", ctypes.c_uint32)]
+
+
+class Counts(ctypes.Structure):
+    _fields_ = [(name, ctypes.c_uint32) for name in COUNTS]
+
+
+def typed(library, slot):
+    """The calls of a shared library, with their types."""
+    number, told = ctypes.c_uint32, ctypes.POINTER(Told)
+    of = {name: [number] for name in ("join", "leave", "show")} | {name: [number] * 2 for name in ("link", "unlink", "point")}
+    of |= {"flag": [number, ctypes.c_bool], "step": [ctypes.POINTER(Item), ctypes.c_size_t], "enabled": [], "pairs": [], "checkpoint": []}
+    of |= {"status": [ctypes.POINTER(Counts)]} | {name: [ctypes.c_uint64, number] for name in ("drive", "scramble")}
+    calls = {}
+    for name, words in of.items():
+        calls[name] = library[f"rudekpi_{name}"]
+        calls[name].argtypes = [slot, *words, told]
+    for name, words in {"rows": [ctypes.POINTER(Row), ctypes.c_size_t], "transcript": [ctypes.c_bool], "partner": [number, ctypes.POINTER(number)]}.items():
+        calls[name] = library[f"rudekpi_{name}"]
+        calls[name].argtypes = [slot, *words]
+    calls["rows"].restype = ctypes.c_size_t
+    return calls
+
+
+def made(calls, slot, line, told):
+    """The status of the call that stands for a line, and what it tells of counts."""
+    word, *names = line.split(" ")
+    numbers = [int(name) if name != "-" else 0 for name in names] if word != "step" else []
+    if word == "step":
+        chosen = (Item * max(1, len(names)))(*(Item(*map(int, name.split(">"))) for name in names))
+        return calls[word](slot, chosen, len(names), told), None
+    if word == "status":
+        counts = Counts()
+        return calls[word](slot, counts, told), [getattr(counts, name) for name in COUNTS]
+    return calls[{"matching": "pairs"}.get(word, word)](slot, *numbers, told), None
+
+
+def rows(calls, slot):
+    """The rows of the last answer, which are handed out whole or not at all."""
+    size = calls["rows"](slot, Row(), 0)
+    room = (Row * (size + 1))(*[Row(9, 9, 9)] * (size + 1))
+    if size and (calls["rows"](slot, room, size - 1) != size or room[0].node != 9 or room[0].other != 9):
+        raise ValueError("rows were written where there is too little room")
+    if calls["rows"](slot, room, size + 1) != size or room[size].node != 9:
+        raise ValueError("other rows than were told")
+    return [(row.node, row.rule, row.other) for row in room[:size]]
+
+
+def row_of(word):
+    """A row as a reply writes it: `1:seduce>2`, `1:seduce` or `1-2`."""
+    if "-" in word:
+        low, high = word.split("-")
+        return int(low), 0, int(high)
+    node, rule, target = re.fullmatch(r"(\d+):([a-z]+)>?(\d*)", word).groups()
+    return int(node), RULES[rule], int(target or 0)
+
+
+def expected(line, entries, base):
+    """What a line's entries say: the status, the numbers that are told, the rows, and the counts."""
+    word = line.split(" ")[0]
+    if word in ("drive", "scramble", "checkpoint"):
+        return DONE, (base if not entries else int(entries[-1].split(" ")[0]), 0, 0, 0), [], None
+    number, reply = entries[-1].split(" ")[0], entries[-1].split(" = ")[1]
+    if reply.startswith("refused "):
+        return REFUSED, (int(number), int(reply.split(" ")[1]), 0, 0), [], None
+    listed = [row_of(it) for it in reply.split(" ")] if word in ("step", "enabled", "matching") and reply != "none" else []
+    target = int(reply) if word == "show" and reply != "-" else 0
+    counts = [int(it.split("=")[1]) for it in reply.split(" ")] if word == "status" else None
+    return DONE, (int(number), 0, target, len(listed)), listed, counts
+
+
+def differs(calls, slot, line, text, last):
+    """What is wrong with the call for a line whose text, with the entries in front of it so many, is this, or None."""
+    entries = [it for it in text.decode().splitlines() if re.match(r"\d", it)]
+    told = Told(9, 9, 9, 9)
+    status, counts = made(calls, slot, line, told)
+    found = status, (told.entry, told.refusal, told.target, told.rows), rows(calls, slot), counts
+    wanted = expected(line, entries, last)
+    return None if found == wanted else f"{line}: {found} for {wanted}"
+
+
+def partners(calls, slot, nodes):
+    """The pairs, as each node tells its partner."""
+    found, pairs = ctypes.c_uint32(), set()
+    for node in range(1, nodes + 2):
+        if calls["partner"](slot, node, found) != DONE:
+            raise ValueError(f"no answer for the partner of {node}")
+        if found.value:
+            pairs.add((node, found.value))
+    return pairs
