@@ -54,19 +54,22 @@ was_called {command} {E} {status} {told} {old} {new} {result} good heard status_
     let reply : heard.to.answer.reply ≡ reply_kept (table_of (rules_of heard.from)) command (stands heard.from) result =
     ap (λ a. a.reply) answer ∙ heard.reply ∙ ap (λ (s : Session). reply_kept (table_of (rules_of s)) command (stands s) result) heard.same in
     let follows = follows_of (table_of (rules_of heard.from)) (limit_of heard.from) command heard.to.answer.seq heard.to.answer.reply (stands heard.from) (stands heard.followed) result ends number reply in
-    inr (inr (good, record {
-      s = heard.from;
-      t = heard.to;
-      was = heard.was;
-      is = heard.is;
-      goes_on = record {
-        rules = heard.settled_rules ∙ ap rules_of heard.relent ∙ heard.rules ∙ ap rules_of heard.same;
-        limit = heard.settled_limit ∙ ap limit_of heard.relent ∙ heard.limit ∙ ap limit_of heard.same;
-        keeps = heard.settled_keeps ∙ ap (λ (s : Session). s.keeps) heard.relent ∙ heard.keeps ∙ ap (λ (s : Session). s.keeps) heard.same;
-      };
-      lines = heard.settled_lines ∙ ap (λ (s : Session). s.lines) heard.relent ∙ heard.lines ∙ ap (λ (s : Session). s.lines) heard.same;
-      after = stands heard.followed;
-      follows = subst (λ n. Follows (table_of (rules_of heard.from)) (limit_of heard.from) command n heard.to.answer.seq heard.to.answer.reply (stands heard.from) (stands heard.followed)) (sym status_is) follows;
-      stands_is = heard.settled ∙ ap (λ b. shown b (stands heard.lent)) (sym heard.settled_keeps) ∙ ap (λ (s : Session). shown heard.to.keeps (stands s)) heard.relent;
-      told_is = told_is;
-    }))
+    inr (inr (
+      good,
+      record {
+        s = heard.from;
+        t = heard.to;
+        was = heard.was;
+        is = heard.is;
+        goes_on = record {
+          rules = heard.settled_rules ∙ ap rules_of heard.relent ∙ heard.rules ∙ ap rules_of heard.same;
+          limit = heard.settled_limit ∙ ap limit_of heard.relent ∙ heard.limit ∙ ap limit_of heard.same;
+          keeps = heard.settled_keeps ∙ ap (λ (s : Session). s.keeps) heard.relent ∙ heard.keeps ∙ ap (λ (s : Session). s.keeps) heard.same;
+        };
+        lines = heard.settled_lines ∙ ap (λ (s : Session). s.lines) heard.relent ∙ heard.lines ∙ ap (λ (s : Session). s.lines) heard.same;
+        after = stands heard.followed;
+        follows = subst (λ n. Follows (table_of (rules_of heard.from)) (limit_of heard.from) command n heard.to.answer.seq heard.to.answer.reply (stands heard.from) (stands heard.followed)) (sym status_is) follows;
+        stands_is = heard.settled ∙ ap (λ b. shown b (stands heard.lent)) (sym heard.settled_keeps) ∙ ap (λ (s : Session). shown heard.to.keeps (stands s)) heard.relent;
+        told_is = told_is;
+      },
+    ))

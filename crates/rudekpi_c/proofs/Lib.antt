@@ -1,7 +1,9 @@
 mod AsBox
 mod Walks
 pub mod Calling
+pub mod Counting
 pub mod Feeding
 pub mod Handing
 pub mod Judging
+pub mod Partners
 pub mod Rowing

@@ -22,7 +22,7 @@ all_with P f xs i d less one others =
 -- one more item's row is written
 pub row_more : {X Y : Type 0} (row : X → Y) (xs : List X) (ys : List Y) (i : ℕ) (x : X) → i < length xs → length xs ≤ length ys → x ≡ get_or xs i x
     → set (map row (take i xs) ++ drop i ys) i (row x) ≡ map row (take (i + 1) xs) ++ drop (i + 1) ys
-row_more row xs ys i x less room is =
+row_more {X = X} row xs ys i x less room is =
     let front = map row (take i xs) in
     let long : length front ≡ i = length-map (take i xs) row ∙ length-take-le i xs (omega (arith, less)) in
     let more : suc i ≡ i + 1 = omega arith in

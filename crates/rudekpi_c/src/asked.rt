@@ -1,6 +1,6 @@
 //! Commands out of numbers.
 
-ghost use Rattle.std.specs.Prelude.{◌≡◌, ◌↔◌, ◌≤◌, SomeIff, IfSome, IfOk, IsTrue, map, length};
+ghost use Rattle.std.specs.Prelude.{◌≡◌, ◌↔◌, ◌≤◌, SomeIff, IfSome, IfOk, IsTrue, map, length, [], ◌∷◌};
 ghost use Rattle.std.specs.List.{AllByRecursion};
 ghost use Rattle.rule_machine.specs.declared.event.Event.TheVariants.{Link, Unlink, Point, Flag, Join, Leave, Show};
 ghost use Rattle.line_text.specs.Words.{IsName};
@@ -108,20 +108,30 @@ fn are_items(chosen: &[Chosen]) -> bool
     true
 }
 
-/// The items, where all are some. One takes no memory.
+/// The items, where all are some.
 fn items(alloc: Global, chosen: &[Chosen]) -> Result<Vec<Item>, Want>
     requires { AllByRecursion IsItem (map item_named chosen.now) }
     ensures { IfOk result (λ items. items.items ≡ map item_named chosen.now) }
 {
     let mut items = Vec::with_capacity(alloc, chosen.len())?;
     for one in chosen {
-        items.push(item(*one).unwrap()).unwrap();
+        let Some(item) = item(*one) else {
+            continue;
+        };
+        items.push(item).unwrap();
     }
     Ok(items)
 }
 
-/// `step`, with its items. Memory is for them alone, and other numbers want none.
-pub(crate) fn step(alloc: Global, chosen: &[Chosen]) -> Result<Option<Command>, Want>
+/// `step` with one item. Takes no memory.
+fn step_one(chosen: Chosen) -> Option<Command>
+    ensures { SomeIff result (IsCommand (Tell (step_named (chosen ∷ [])))) (Tell (step_named (chosen ∷ []))) }
+{
+    Some(Command::Tell(Event::Step(Choice::one(item(chosen)?))))
+}
+
+/// `step` with any items.
+fn step_all(alloc: Global, chosen: &[Chosen]) -> Result<Option<Command>, Want>
     ensures { IsAsked result (Tell (step_named chosen.now)) }
 {
     if chosen.len() > MAX_ITEMS || !are_items(chosen) {
@@ -130,6 +140,16 @@ pub(crate) fn step(alloc: Global, chosen: &[Chosen]) -> Result<Option<Command>, 
     match Choice::new(items(alloc, chosen)?) {
         Some(choice) => Ok(Some(Command::Tell(Event::Step(choice)))),
         None => Ok(None),
+    }
+}
+
+/// `step`, with its items. Memory is for two items and more, and other numbers want none.
+pub(crate) fn step(alloc: Global, chosen: &[Chosen]) -> Result<Option<Command>, Want>
+    ensures { IsAsked result (Tell (step_named chosen.now)) }
+{
+    match chosen {
+        [one] => Ok(step_one(*one)),
+        _ => step_all(alloc, chosen),
     }
 }
 

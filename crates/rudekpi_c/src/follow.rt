@@ -1,13 +1,14 @@
 //! What a run does with a command.
 
 ghost use Rattle.std.specs.Prelude.{◌≡◌};
-ghost use Rattle.rule_machine.specs.State.{partner};
+ghost use Rattle.rule_machine.specs.State.{partner, pointer_of};
 ghost use Rattle.line_run.specs.Line.{progress, CommandEnds};
 ghost use Rattle.rule_machine.specs.declared.reply.Reply.TheVariants.{Accepted};
 ghost use Rattle.script_text.specs.declared.command.Command.TheVariants.{Tell, Checkpoint};
 ghost use Rattle.rudekpi_c.specs.Called.{number_at, reply_kept};
 
 use line_run::Run;
+use registers::Registers;
 use rule_machine::{Event, Node, Reply, Want};
 use rule_set::Rules;
 use script_text::Command;
@@ -86,16 +87,26 @@ fn checkpoint<R: Rules>(run: &mut Run<R>) -> Result<bool, Want>
     Ok(true)
 }
 
+/// Where a node points, if anywhere; a name that has no place points nowhere.
+fn pointer(registers: &Registers, v: Node) -> Option<Node>
+    ensures { result ≡ pointer_of registers.now v }
+{
+    if v.place() < registers.pointers().len() {
+        return registers.pointer(v);
+    }
+    None
+}
+
 /// With whom a node is paired, if it is.
 pub(crate) fn partner<R: Rules>(run: &Run<R>, v: Node) -> Option<Node>
     ensures { result ≡ partner run.now.recorder.state v }
 {
     let registers = run.recorder.net().registers();
-    let Some(Some(w)) = registers.pointers().get(v.place()) else {
+    let Some(w) = pointer(registers, v) else {
         return None;
     };
-    if registers.points_at(*w, v) {
-        return Some(*w);
+    if registers.points_at(w, v) {
+        return Some(w);
     }
     None
 }

@@ -19,15 +19,15 @@ pub struct Row {
 /// What is a row of an answer.
 pub(crate) trait AsRow: Copy {
     /// The row.
-    ghost row: { Self → Row };
+    ghost shown: { Self → Row };
 
     /// The row.
     fn row(self) -> Row
-        ensures { result ≡ row self };
+        ensures { result ≡ shown self };
 }
 
 impl AsRow for Moved {
-    ghost row = { move_row };
+    ghost shown = { move_row };
 
     fn row(self) -> Row {
         Row {
@@ -39,7 +39,7 @@ impl AsRow for Moved {
 }
 
 impl AsRow for (Node, Act) {
-    ghost row = { enabled_row };
+    ghost shown = { enabled_row };
 
     fn row(self) -> Row {
         Row {
@@ -51,7 +51,7 @@ impl AsRow for (Node, Act) {
 }
 
 impl AsRow for Edge {
-    ghost row = { pair_row };
+    ghost shown = { pair_row };
 
     fn row(self) -> Row {
         Row {
@@ -76,7 +76,7 @@ fn rule_told(act: Act) -> u32
 /// Writes the rows of items in front of what lies behind them.
 pub(crate) fn put_rows<T: AsRow>(out: &mut [Row], items: &[T])
     requires { length items.now ≤ length out.old }
-    ensures { out.new ≡ map T.row items.now ++ drop (length items.now) out.old }
+    ensures { out.new ≡ map T.shown items.now ++ drop (length items.now) out.old }
 {
     for at in 0..items.len() {
         out[at] = items[at].row();
