@@ -115,10 +115,10 @@ fn items(alloc: Global, chosen: &[Chosen]) -> Result<Vec<Item>, Want>
 {
     let mut items = Vec::with_capacity(alloc, chosen.len())?;
     for one in chosen {
-        let Some(item) = item(*one) else {
+        let Some(Item { node, wish }) = item(*one) else {
             continue;
         };
-        items.push(item).unwrap();
+        items.push(Item { node, wish }).unwrap();
     }
     Ok(items)
 }

@@ -19,6 +19,6 @@ returns c =
         answer = c.settle.ensures.answer ∙ ap (λ (s : Session). s.answer) relent ∙ c.keep.ensures.answer ∙ ap (λ (s : Session). s.answer) same;
         keeps_is = c.settle.ensures.keeps ∙ ap (λ (s : Session). s.keeps) relent ∙ c.keep.ensures.keeps;
         stands_is = c.settle.ensures.stands ∙ ap (λ (s : Session). shown s.keeps (stands s)) relent ∙ ap (λ b. shown b (stands c.keep.new.self)) c.keep.ensures.keeps
-        ∙ ap (shown c.args.keeps) (c.keep.ensures.stands ∙ ap stands same);
+            ∙ ap (shown c.args.keeps) (c.keep.ensures.stands ∙ ap stands same);
       },
     )
