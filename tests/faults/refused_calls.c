@@ -32,7 +32,7 @@ struct call {
 static const struct rudekpi_item chosen[] = {{1, 0}, {3, 0}, {2, 0}, {4, 0}, {1, 4}, {3, 0}};
 
 static const struct call events[] = {{LINK, 1, 2, 0}, {LINK, 2, 3, 0}, {LINK, 3, 4, 0}, {LINK, 4, 1, 0}, {LINK, 4, 4, 6}, {ENABLED, 0, 0, 0}, {STEP, 0, 2, 0},
-    {JOIN, 5, 0, 0}, {LINK, 5, 1, 0}, {STATUS, 0, 0, 0}, {CHECKPOINT, 0, 0, 0}, {STEP, 2, 2, 0}, {POINT, 5, 1, 0}, {POINT, 5, 0, 0}, {FLAG, 5, 1, 0}, {ENABLED, 0, 0, 0},
+    {JOIN, 5, 0, 0}, {LINK, 5, 1, 0}, {STATUS, 0, 0, 0}, {CHECKPOINT, 0, 0, 0}, {STEP, 2, 2, 6}, {STEP, 3, 1, 0}, {POINT, 5, 1, 0}, {POINT, 5, 0, 0}, {FLAG, 5, 1, 0}, {ENABLED, 0, 0, 0},
     {PAIRS, 0, 0, 0}, {STEP, 0, 0, 6}, {LEAVE, 2, 0, 0}, {UNLINK, 1, 5, 0}, {SHOW, 1, 0, 0}, {STEP, 4, 2, 6}, {CHECKPOINT, 0, 0, 0}, {STATUS, 0, 0, 0}, {END, 0, 0, 0}};
 static const struct call turns[] = {{LINK, 1, 2, 0}, {LINK, 2, 3, 0}, {LINK, 3, 4, 0}, {DRIVE, 7, 20, 0}, {SCRAMBLE, 3, 5, 0}, {DRIVE, 1, 20, 0}, {PAIRS, 0, 0, 0},
     {END, 0, 0, 0}};
