@@ -22,8 +22,11 @@ fn tell<R: Rules>(run: &mut Run<R>, event: &Event, answer: &mut Answer) -> Resul
     ensures reply { answer.new.reply ≡ reply_kept R.table (Tell event.now) (progress run.old.rules run.old.recorder run.old.text.items) result }
     ensures limit { run.new.recorder.limit ≡ run.old.recorder.limit }
 {
-    match run.log(event, answer) {
-        Ok(true) => Ok(true),
+    match run.log(event, None, &mut answer.reply) {
+        Ok(true) => {
+            answer.seq = run.recorder.len();
+            Ok(true)
+        }
         Ok(false) => {
             *answer = Answer::none();
             Ok(false)
