@@ -1,6 +1,8 @@
 // What has happened, in a sentence: what was broken, how many moves it took until all was stable, and how many it could have taken.
 import { counted, grouped } from "../numbers.mjs";
 
+// so many milliseconds does a word stand that is none of the story's own
+const HELD = 2500;
 const BROKEN = {
   unlink: ([v, w]) => `The link ${v} – ${w} is cut.`,
   link: ([v, w]) => `A link ${v} – ${w} came.`,
@@ -24,18 +26,20 @@ export class Story {
   }
 
   open() {
-    Object.assign(this, { broken: "", moves: 0, most: null, opening: true });
+    Object.assign(this, { broken: "", moves: 0, most: null, opening: true, until: 0 });
   }
 
   /** Somebody broke something; the charge behind it is the most moves that can come. */
   breaks(line, most) {
-    Object.assign(this, { broken: toldOf(line), moves: 0, most, opening: false });
+    Object.assign(this, { broken: toldOf(line), moves: 0, most, opening: false, until: 0 });
   }
 
   /** Shows where it has come to: so many further moves, and how many nodes may move still. */
   goesOn(moves, enabled, pairs) {
     this.moves += moves;
-    this.say(enabled === 0 ? this.settled(pairs) : this.mending());
+    if (performance.now() >= this.until) {
+      this.write(enabled === 0 ? this.settled(pairs) : this.mending(), false);
+    }
   }
 
   mending() {
@@ -55,7 +59,13 @@ export class Story {
     return `${this.broken} Mended in ${counted(this.moves, "move")}; at most ${grouped(this.most)} could have come.`;
   }
 
+  /** Says something else, which stands for a while. */
   say(text, wrong = false) {
+    this.until = performance.now() + HELD;
+    this.write(text, wrong);
+  }
+
+  write(text, wrong) {
     this.place.classList.toggle("wrong", wrong);
     if (this.place.textContent !== text) {
       this.place.textContent = text;
