@@ -1,10 +1,10 @@
 -- Turns that are taken one by one.
-use Rattle.std.proofs.Common.{◌≡◌, ◌∙◌, ℕ, ◌+◌, ◌≤◌, Bool, false, true, not, List, [], ◌∷◌, ◌++◌, length, Option, None, Some, IfSome, IsNone, ◌↔◌, MatchOption, refl, sym, ap, subst, append_assoc, length-append, arith}
+use Rattle.std.proofs.Common.{◌≡◌, ◌∙◌, ℕ, ◌+◌, ◌<◌, ◌≤◌, Bool, false, true, not, List, [], ◌∷◌, ◌++◌, length, Option, None, Some, IfSome, IsNone, ◌↔◌, MatchOption, refl, sym, ap, subst, append_assoc, length-append, arith}
 use Rattle.std.specs.List.{All}
 use Rattle.std.specs.Option.{is_some, option_map}
 use Rattle.std.proofs.lemmas.Bool.{false≢true}
 use Rattle.std.proofs.lemmas.List.{append_cancel_left}
-use Rattle.std.proofs.lemmas.List.Elements.{All-push}
+use Rattle.std.proofs.lemmas.List.Elements.{All-push, All-weaker}
 use mathlib.Core.List.{IsPrefix}
 use Rattle.rand_core.specs.Stream.{Stream}
 use Rattle.rule_machine.specs.declared.choice.Item.{Item}
@@ -20,13 +20,13 @@ use Rattle.step_log.specs.declared.receipt.Receipt.{Receipt}
 use Rattle.step_log.specs.Log.{Log, receipt_of}
 use Rattle.board.specs.OneLog.{AreComparable}
 use Rattle.board.specs.Views.{Told}
-use Rattle.locked_net.specs.Receipts.{ClerkView, front_from, front_of, noted, IsClerk}
+use Rattle.locked_net.specs.Receipts.{ClerkView, front_from, front_of, base_from, seen_by, noted, IsClerk}
 use Rattle.locked_net.specs.Settings.{Setting}
 use Rattle.locked_net.specs.Calls.{KeepsStep, KeepsFault}
 use Rattle.locked_net.specs.Choosing.{ChoosesStep, IsTold, TakesChoice}
-use Rattle.locked_net.proofs.Adding.{seen_few}
+use Rattle.locked_net.proofs.Adding.{seen_few, front_more}
 use Rattle.locked_net.proofs.Noting.{later_note}
-use Rattle.storm_call.specs.Storm.{IsOfStep, IsOfFault}
+use Rattle.storm_call.specs.Storm.{IsOfStep, IsOfFault, AreAbove}
 use Rattle.storm_call.specs.Turns.{Scene, IsTurn, AreTurns, DrawnFrom, IsQuietBehind, IsEmptyBehind}
 use Rattle.storm_call.specs.Played.{scene_of}
 use Rattle.storm_call.proofs.Lasting.{turns_last}
@@ -62,6 +62,21 @@ stepped central old new (Some reply) b kept e f = gains_step central old.receipt
 pub struck : (old new : ClerkView) (told : Option Reply) (b : Bool) → MatchOption told (new ≡ old) (KeepsFault old.receipts new.receipts) → is_some told ≡ not b → b ≡ false → Gains IsOfFault old.receipts new.receipts
 struck old new None b kept e f = absurd (false≢true (e ∙ ap not f))
 struck old new (Some reply) b kept e f = gains_fault old.receipts new.receipts reply kept
+
+-- the last receipt is above the base that the clerk had
+pub last_above : (old new : ClerkView) (base : Option ℕ) (receipt : Receipt) → old.base ≡ base → new.receipts ≡ old.receipts ++ receipt ∷ [] → seen_by old < front_of new.receipts → base_from base < receipt.seq
+last_above old new base receipt same added above =
+    let front : front_of new.receipts ≡ receipt.seq = ap front_of added ∙ front_more 0 old.receipts receipt in
+    let its : base_from old.base ≡ base_from base = ap base_from same in
+    omega (arith, above, front, its)
+
+-- of the kind, and above a base
+abbrev pub Above : (Receipt → Type 0) → Option ℕ → Receipt → Type 0
+Above P base receipt = P receipt × (base_from base < receipt.seq)
+
+pub gains_above : (P : Receipt → Type 0) (old new : ClerkView) (base : Option ℕ) → old.base ≡ base → Gains P old.receipts new.receipts → seen_by old < front_of new.receipts → Gains (Above P base) old.receipts new.receipts
+gains_above P old new base same gains above =
+    record { receipt = gains.receipt; added = gains.added; is = (gains.is, last_above old new base gains.receipt same gains.added above) }
 
 -- so what the clerk's note told before begins what it tells now
 pub grown : (P : Receipt → Type 0) (old new : ClerkView) (before : Option Told) → before ≡ old.note → IsClerk old → Gains P old.receipts new.receipts → AreComparable (noted before) (noted new.note) → IsClerk new
@@ -138,9 +153,12 @@ one_more setting draws P words next left count old mid new told b grows so_far g
 
 -- ---- where they end
 
-pub drawn_from : (setting : Setting) (draws : Draws) (P : Receipt → Type 0) (words left : Stream) (count : ℕ) (old : List Receipt) (new : ClerkView) (so_far : Took setting draws P words count old new left)
+pub drawn_from : (setting : Setting) (draws : Draws) (P : Receipt → Type 0) (base : Option ℕ) (words left : Stream) (count : ℕ) (old : List Receipt) (new : ClerkView) (so_far : Took setting draws (Above P base) words count old new left)
     → DrawnFrom (scene_of setting new) draws words P so_far.own
-drawn_from setting draws P words left count old new so_far = (so_far.kind, (left, so_far.turns))
+drawn_from setting draws P base words left count old new so_far = (All-weaker (Above P base) P (λ r is. is.0) so_far.own so_far.kind, (left, so_far.turns))
+
+pub took_above : (setting : Setting) (draws : Draws) (P : Receipt → Type 0) (base : Option ℕ) (words left : Stream) (count : ℕ) (old : List Receipt) (new : ClerkView) (so_far : Took setting draws (Above P base) words count old new left) → AreAbove base so_far.own
+took_above setting draws P base words left count old new so_far = All-weaker (Above P base) (λ r. base_from base < r.seq) (λ r is. is.1) so_far.own so_far.kind
 
 -- the front of some receipts is not beyond that of all
 front_low : (own old : List Receipt) (low : ℕ) → front_of own ≤ front_from low (old ++ own)

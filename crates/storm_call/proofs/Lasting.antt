@@ -1,5 +1,5 @@
 -- What was told of a log holds of each log that goes on from it.
-use Rattle.std.proofs.Common.{List, [], ◌∷◌, Option, None, Some}
+use Rattle.std.proofs.Common.{ℕ, List, [], ◌∷◌, Option, None, Some, IfSome}
 use mathlib.Core.List.{IsPrefix}
 use Rattle.rand_core.specs.Stream.{Stream}
 use Rattle.rule_machine.specs.Run.{Entry}
@@ -13,7 +13,7 @@ use Rattle.script_text.specs.declared.command.Command.{Command}
 use Rattle.script_text.specs.declared.command.Command.TheVariants.{Tell, Drive, Scramble, Checkpoint}
 use Rattle.script_text.specs.declared.script.ScriptLine.{ScriptLine}
 use Rattle.storm_call.specs.Turns.{Scene, IsTurn, AreTurns, DrawnFrom}
-use Rattle.storm_call.specs.Storm.{IsOfStep, IsOfFault, IsFor, IsPartOf, Stands, StandsInPart, MayStop}
+use Rattle.storm_call.specs.Storm.{IsOfStep, IsOfFault, IsFor, IsPartOf, Stands, IsLastCheckpoint, StandsInPart, MayStop}
 
 module _ (setting : Setting) (some all : List Entry) (p : IsPrefix some all) where
   abbrev pub short : Scene
@@ -55,6 +55,27 @@ module _ (setting : Setting) (some all : List Entry) (p : IsPrefix some all) whe
   stands_last [] receipts none = none
   stands_last (line ∷ lines) receipts (own, rest, is, for, others) = (own, rest, is, for_lasts line.command own for, stands_last lines rest others)
 
+  placed_lasts : (lines : List ScriptLine) (receipts : List Receipt) (number : ℕ) → IsLastCheckpoint short lines receipts number → IsLastCheckpoint long lines receipts number
+  placed_lasts lines receipts number is = record {
+    before = is.before;
+    line = is.line;
+    behind = is.behind;
+    done = is.done;
+    rest = is.rest;
+    splits = is.splits;
+    made = is.made;
+    last = is.last;
+    told = is.told;
+    earlier = stands_last is.before is.done is.earlier;
+    later = stands_last is.behind is.rest is.later;
+    above = is.above;
+    below = is.below;
+  }
+
+  pub base_lasts : (lines : List ScriptLine) (receipts : List Receipt) (base : Option ℕ) → IfSome base (IsLastCheckpoint short lines receipts) → IfSome base (IsLastCheckpoint long lines receipts)
+  base_lasts lines receipts None is = tt
+  base_lasts lines receipts (Some number) is = placed_lasts lines receipts number is
+
   in_part_lasts : (lines : List ScriptLine) (clerk : ClerkView) → StandsInPart short lines clerk → StandsInPart long lines clerk
   in_part_lasts lines clerk part = record {
     before = part.before;
@@ -67,8 +88,11 @@ module _ (setting : Setting) (some all : List Entry) (p : IsPrefix some all) whe
     whole = stands_last part.before part.done part.whole;
     broken = part_lasts part.line.command part.part part.broken;
     based = part.based;
+    placed = base_lasts part.before part.done clerk.base part.placed;
+    behind_base = part.behind_base;
   }
 
   pub stop_lasts : (lines : List ScriptLine) (clerk : ClerkView) (fault : Option CallFault) → MayStop short lines clerk fault → MayStop long lines clerk fault
-  stop_lasts lines clerk None (stands, based) = (stands_last lines clerk.receipts stands, based)
+  stop_lasts lines clerk None (stands, based, placed) =
+      (stands_last lines clerk.receipts stands, based, base_lasts lines clerk.receipts clerk.base placed)
   stop_lasts lines clerk (Some fault) part = in_part_lasts lines clerk part

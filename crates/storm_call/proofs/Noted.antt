@@ -1,16 +1,22 @@
 -- Whose notes a clerk has, and what they tell after a call.
-use Rattle.std.proofs.Common.{◌≡◌, ◌∙◌, Bool, false, not, Option, None, Some, IfSome, IsSomeAnd, ap, sym, subst}
+use Rattle.std.proofs.Common.{◌≡◌, ◌∙◌, ◌<◌, ◌∷◌, [], ℕ, List, Bool, false, not, Option, None, Some, IfSome, IsSomeAnd, refl, ap, sym, subst, append-nil}
 use Rattle.std.specs.Option.{is_some}
 use Rattle.std.proofs.lemmas.Bool.{false≢true}
+use Rattle.std.proofs.lemmas.List.Elements.{All-nil, All-cons}
+use Rattle.step_log.specs.declared.receipt.Receipt.{Receipt}
 use mathlib.Core.List.{IsPrefix}
 use Rattle.logbook.specs.Pages.{Book}
 use Rattle.rule_machine.specs.declared.event.Event.{Event}
 use Rattle.rule_machine.specs.declared.reply.Reply.{Reply}
 use Rattle.board.specs.OneLog.{AreComparable}
 use Rattle.board.specs.Views.{Told}
-use Rattle.locked_net.specs.Receipts.{ClerkView, noted, IsClerk, HasNoteOf, IsOfBook}
+use Rattle.locked_net.specs.Receipts.{ClerkView, front_of, base_from, seen_by, noted, IsClerk, HasNoteOf, IsOfBook}
 use Rattle.locked_net.specs.Calls.{Keeps}
-use Rattle.storm_call.proofs.Adding.{grown}
+use Rattle.script_text.specs.declared.command.Command.TheVariants.{Tell}
+use Rattle.storm_call.specs.Turns.{Scene}
+use Rattle.storm_call.specs.Storm.{IsFor, AreAbove}
+use Rattle.storm_call.specs.Played.{Adds}
+use Rattle.storm_call.proofs.Adding.{grown, last_above}
 
 -- what holds at an answer
 pub answered : {A : Type 0} (P : Type 0) (told : Option A) (b : Bool) → IfSome told (λ _. P) → is_some told ≡ not b → b ≡ false → P
@@ -32,6 +38,18 @@ may_follow book before old new is was has = follow before (subst (λ (o : Option
     follow : (o : Option Told) → IfSome o (λ told. told.book ≡ book) → IfSome o (λ told. IsOfBook told.book new)
     follow None own = tt
     follow (Some told) own = subst (λ b. IsOfBook b new) (sym own) (of_book book new has)
+
+-- an event was told, with a number above the clerk's base
+pub told_one : (scene : Scene) (event : Event) (old new : ClerkView) (reply : Reply) → Keeps old.receipts new.receipts event reply → seen_by old < front_of new.receipts → Adds (λ own. IsFor scene (Tell event) own × AreAbove old.base own) old.receipts new.receipts
+told_one scene event old new reply kept above =
+    let receipt : Receipt = record { seq = kept.seq; event = event; reply = reply } in
+    let P = λ (r : Receipt). base_from old.base < r.seq in
+    record { own = receipt ∷ []; added = kept.added; fits = (refl, All-cons P receipt [] (last_above old new old.base receipt refl kept.added above) (All-nil P)) }
+
+-- nothing was told
+pub told_none : (P : List Receipt → Type 0) (base : Option ℕ) (old new : List Receipt) → new ≡ old → P [] → Adds (λ own. P own × AreAbove base own) old new
+told_none P base old new same holds =
+    record { own = []; added = same ∙ sym (append-nil old); fits = (holds, All-nil (λ (r : Receipt). base_from base < r.seq)) }
 
 -- with one receipt more
 pub kept_grown : (old new : ClerkView) (before : Option Told) (event : Event) (reply : Reply) → before ≡ old.note → IsClerk old → Keeps old.receipts new.receipts event reply → AreComparable (noted before) (noted new.note) → IsClerk new

@@ -13,7 +13,7 @@ use Rattle.script_text.specs.declared.command.Command.{Command}
 use Rattle.script_text.specs.declared.command.Command.TheVariants.{Tell, Drive, Scramble, Checkpoint}
 use Rattle.script_text.specs.declared.script.ScriptLine.{ScriptLine}
 use Rattle.storm_call.specs.Turns.{Scene}
-use Rattle.storm_call.specs.Storm.{IsFor, IsPartOf, MayStop, AllPlayed, AllTold}
+use Rattle.storm_call.specs.Storm.{IsFor, IsPartOf, AreAbove, MayStop, AllPlayed, AllTold}
 
 -- the log as far as a clerk's note tells it
 abbrev pub scene_of : Setting → ClerkView → Scene
@@ -25,10 +25,10 @@ pub record Adds (P : List Receipt → Type 0) (old new : List Receipt) : Type 0 
   pub added : new ≡ old ++ own
   pub fits : P own
 
--- the command was carried out, or a fault broke it off, on the log as the clerk's note tells it then
+-- the command was carried out, or a fault broke it off, on the log as the clerk's note tells it then, behind the base that the clerk had
 abbrev pub Plays : {A E : Type 0} → Setting → Command → ClerkView → ClerkView → Result A E → Type 0
-Plays setting command old new (Ok done) = Adds (IsFor (scene_of setting new) command) old.receipts new.receipts
-Plays setting command old new (Err fault) = Adds (IsPartOf (scene_of setting new) command) old.receipts new.receipts
+Plays setting command old new (Ok done) = Adds (λ own. IsFor (scene_of setting new) command own × AreAbove old.base own) old.receipts new.receipts
+Plays setting command old new (Err fault) = Adds (λ own. IsPartOf (scene_of setting new) command own × AreAbove old.base own) old.receipts new.receipts
 
 -- What the clerk's base is, where a command was carried out: a checkpoint's answer joins it, the length of a log that holds all that the clerk
 -- has seen, and any other command leaves it as it was.

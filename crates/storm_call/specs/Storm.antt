@@ -5,8 +5,8 @@
 -- (so each entry of the log was told to one clerk alone, and what each clerk was told is the log's), and where each clerk was told
 -- what it is there for: that of a script what the script asks for, line after line, the whole of it, or a beginning where the
 -- script met a fault; that of a worker steps of one node alone, so many at most. The clerk of a script has made a base exactly where
--- a checkpoint of the script was carried out, and a worker's never.
-use Rattle.std.specs.Prelude.{◌≡◌, ℕ, ◌<◌, ◌≤◌, List, [], ◌∷◌, ◌++◌, Bool, true, false, IsTrue, length, map, Option, None, Some}
+-- a checkpoint of the script was carried out, behind what it was told before and before what it was told then; and a worker's never.
+use Rattle.std.specs.Prelude.{◌≡◌, ℕ, ◌<◌, ◌≤◌, List, [], ◌∷◌, ◌++◌, Bool, true, false, IsTrue, length, map, Option, None, Some, IfSome}
 use Rattle.std.specs.List.{All, list_any}
 use Rattle.std.specs.Option.{is_some, option_or}
 use Rattle.rule_machine.specs.declared.choice.Item.{Item}
@@ -20,7 +20,7 @@ use Rattle.seeded_turns.specs.Drawn.{seeded_stream, drawn_step, drawn_fault}
 use Rattle.script_text.specs.declared.command.Command.{Command}
 use Rattle.script_text.specs.declared.command.Command.TheVariants.{Tell, Drive, Scramble, Checkpoint}
 use Rattle.locked_net.specs.Above.{IsPart}
-use Rattle.locked_net.specs.Receipts.{ClerkView}
+use Rattle.locked_net.specs.Receipts.{ClerkView, front_of, base_from}
 use Rattle.locked_net.specs.Settings.{Setting}
 use Rattle.locked_net.specs.Settled.{Settled}
 use Rattle.locked_net.specs.Roamed.{IsLoneStep, TakesTurns}
@@ -76,8 +76,29 @@ is_checkpoint Checkpoint = true
 abbrev pub has_checkpoint : List ScriptLine → Bool
 has_checkpoint lines = list_any (λ line. is_checkpoint line.command) lines
 
+-- These receipts have numbers above that of a clerk's base, if it has one.
+abbrev pub AreAbove : Option ℕ → List Receipt → Type 0
+AreAbove base own = All (λ receipt. base_from base < receipt.seq) own
+
+-- The last checkpoint among the lines answered this number, behind the receipts of the lines before it and before those of the lines behind it: so
+-- many entries the log had, no fewer than the clerk had seen, and fewer than each number that it was told later.
+pub record IsLastCheckpoint (scene : Scene) (lines : List ScriptLine) (receipts : List Receipt) (number : ℕ) : Type 0 where
+  pub before : List ScriptLine
+  pub line : ScriptLine
+  pub behind : List ScriptLine
+  pub done : List Receipt
+  pub rest : List Receipt
+  pub splits : lines ≡ before ++ line ∷ behind
+  pub made : line.command ≡ Checkpoint
+  pub last : has_checkpoint behind ≡ false
+  pub told : receipts ≡ done ++ rest
+  pub earlier : Stands scene before done
+  pub later : Stands scene behind rest
+  pub above : front_of done ≤ number
+  pub below : AreAbove (Some number) rest
+
 -- the receipts are those of the lines before one that was broken off, and then of a part of it; and the clerk has a base exactly where
--- a checkpoint is among the lines before it
+-- a checkpoint is among the lines before it, from the last of them
 pub record StandsInPart (scene : Scene) (lines : List ScriptLine) (clerk : ClerkView) : Type 0 where
   pub before : List ScriptLine
   pub line : ScriptLine
@@ -89,11 +110,14 @@ pub record StandsInPart (scene : Scene) (lines : List ScriptLine) (clerk : Clerk
   pub whole : Stands scene before done
   pub broken : IsPartOf scene line.command part
   pub based : is_some clerk.base ≡ has_checkpoint before
+  pub placed : IfSome clerk.base (IsLastCheckpoint scene before done)
+  pub behind_base : AreAbove clerk.base part
 
--- A script was played to its end, and its clerk has a base exactly where a checkpoint is among its lines; or it was played up to a
--- fault.
+-- A script was played to its end, and its clerk has a base exactly where a checkpoint is among its lines, from the last of them; or it was
+-- played up to a fault.
 abbrev pub MayStop : Scene → List ScriptLine → ClerkView → Option CallFault → Type 0
-MayStop scene lines clerk None = Stands scene lines clerk.receipts × (is_some clerk.base ≡ has_checkpoint lines)
+MayStop scene lines clerk None =
+    Stands scene lines clerk.receipts × (is_some clerk.base ≡ has_checkpoint lines) × IfSome clerk.base (IsLastCheckpoint scene lines clerk.receipts)
 MayStop scene lines clerk (Some fault) = StandsInPart scene lines clerk
 
 -- Each script was played by the clerk at its place; the fault is the first that a script met, in the order of the scripts, and

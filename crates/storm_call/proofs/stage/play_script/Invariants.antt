@@ -1,8 +1,8 @@
-use Rattle.std.proofs.Common.{◌≡◌, take}
+use Rattle.std.proofs.Common.{◌≡◌, IfSome, take}
 use Rattle.std.specs.Option.{is_some}
 use Rattle.locked_net.specs.Nets.{book_of, setting_of}
 use Rattle.locked_net.specs.Receipts.{IsOfBook}
-use Rattle.storm_call.specs.Storm.{Stands, has_checkpoint}
+use Rattle.storm_call.specs.Storm.{Stands, IsLastCheckpoint, has_checkpoint}
 use Rattle.storm_call.specs.Played.{scene_of}
 use Rattle.storm_call.proofs.stage.play_script.Given as goal
 
@@ -12,4 +12,5 @@ invariant-loop-line g l =
       stands : Stands (scene_of (setting_of g.R.Rules.table l.fn.stage.net.now) l.clerk) (take l.line-index l.line-items) l.clerk.receipts;
       note : IsOfBook (book_of l.fn.stage.net.now) l.clerk;
       based : is_some l.clerk.base ≡ has_checkpoint (take l.line-index l.line-items);
+      placed : IfSome l.clerk.base (IsLastCheckpoint (scene_of (setting_of g.R.Rules.table l.fn.stage.net.now) l.clerk) (take l.line-index l.line-items) l.clerk.receipts);
     }
