@@ -35,7 +35,7 @@ class Direct:
     def __init__(self, library: Library, names: Names, rules: str, present: int, keeps: bool) -> None:
         self.library, self.names, self.keeps = library, names, keeps
         self.lock: Any = threading.RLock()
-        self.is_closed, self.ended, self.entries = False, None, 0
+        self.is_closed, self.ended = False, None
         # what was taken over, how much of it counts, and the buffer into which it is taken now, with how much came, once it has
         self.held: tuple[bytearray, int, Any, list[int]] = (bytearray(), 0, b"", [])
         told, self.slot, self.owner = (ctypes.c_uint32 * TOLD_NUMBERS)(), Slot(), os.getpid()
@@ -78,6 +78,12 @@ class Direct:
     def text(self) -> str:
         said, size = self.kept()
         return text_of(said[:size])
+
+    @property
+    def entries(self) -> int:
+        """How many entries there are."""
+        said, size = self.kept()
+        return entries_in(said, size)
 
     def wait_for_all(self) -> None:
         """All that was asked has been carried out."""
@@ -124,9 +130,6 @@ class Direct:
                 status = self.library.session_feed(self.at, text, ctypes.c_size_t(len(text)), ctypes.byref(ctypes.c_uint64()))
                 if status:
                     self.raise_for(status)
-            said, size = self.kept()
-            last = said[said.rfind(b"\n", 0, size - 1) + 1 : size].split(b" ")[0]
-            self.entries = int(last) if last.isdigit() else self.entries
 
     def partner(self, number: int) -> int:
         """With whom a node is paired; 0 for nobody, and where it is not present."""
@@ -137,6 +140,20 @@ class Direct:
 
     def batch(self, raises: bool = True, keeps: bool = True) -> Batch:
         return DirectBatch(self, raises, keeps)
+
+
+def entries_in(said: bytearray, size: int) -> int:
+    """The number of the last entry of a transcript, or of the base in which it ends."""
+    at = size
+    while at > 0:
+        before = said.rfind(b"\n", 0, at - 1) + 1
+        word, _, rest = bytes(said[before:at]).partition(b" ")
+        if word.isdigit():
+            return int(word)
+        if word == b"base":
+            return int(rest.split(b" ")[0])
+        at = before
+    return 0
 
 
 def leave_all() -> None:
@@ -218,6 +235,7 @@ class DirectBatch(Batch):
     def __init__(self, session: Any, raises: bool = True, keeps: bool = True) -> None:
         super().__init__(session, raises, keeps)
         self._names, self._has_numbers, self._show = session.names, session.names.own is None, session.library.show
+        self._at, self._told_at, self._told = session.at, session.told_at, session.told
 
     def __exit__(self, kind: Any, *_: Any) -> None:
         if not kind and self._raises and self.refusals:
@@ -227,37 +245,30 @@ class DirectBatch(Batch):
         """The answer of a call that was refused; raises what its status says, where there is no answer."""
         if status != REFUSED:
             self._session.raise_for(status)
-        self._session.entries = entry
         if self._kept is not None:
             self._kept.append(refusal_of(self._names, entry, refusal, event))
         return Done((raise_refusal, self._names, entry, refusal, event))
 
     def show(self, node: Name) -> Any:
-        session = self._session
         # what `_number` says of a plain number, at a third of its time
-        number = node if self._has_numbers and type(node) is int and 0 < node <= MOST_NODES else self._number(node)
-        told = session.told
-        with session.lock:
-            status = self._show(session.at, number, session.told_at)
-            entry, target = told[ENTRY], told[TARGET]
-            refusal = told[REFUSAL] if status else 0
-        if status:
-            return self._refused(status, entry, refusal, f"show {number}")
-        session.entries = entry
-        return Done((shown_of, self._names, entry, number, target))
+        number = node if type(node) is int and 0 < node <= MOST_NODES and self._has_numbers else self._number(node)
+        told = self._told
+        with self._session.lock:
+            status = self._show(self._at, number, self._told_at)
+            if status:
+                return self._refused(status, told[ENTRY], told[REFUSAL], f"show {number}")
+            return Done((shown_of, self._names, told[ENTRY], number, told[TARGET]))
 
     def _edit(self, word: str, *numbers: int) -> Any:
-        session = self._session
-        call, told = getattr(session.library, word), session.told
+        session, told = self._session, self._told
+        call = getattr(session.library, word)
         with session.lock:
-            status = call(session.at, *numbers, session.told_at)
-            entry, refusal = told[ENTRY], told[REFUSAL]
-        if status:
+            status = call(self._at, *numbers, self._told_at)
+            if not status:
+                return Done((accepted_of, self._names, told[ENTRY]))
             # the pointer that is null is no number in a line
             written = [str(number) if number or word == "flag" else "-" for number in numbers]
-            return self._refused(status, entry, refusal, " ".join([word, *written]))
-        session.entries = entry
-        return Done((accepted_of, self._names, entry))
+            return self._refused(status, told[ENTRY], told[REFUSAL], " ".join([word, *written]))
 
     def link(self, a: Name, b: Name) -> Any:
         return self._edit("link", self._number(a), self._number(b))
@@ -284,7 +295,6 @@ class DirectBatch(Batch):
                 session.library.rows(session.at, room, ctypes.c_size_t(count))
         if status:
             return self._refused(status, entry, refusal, event())
-        session.entries = entry
         return Done((make, self._names, entry, room[:]))
 
     def step(self, choice: Choice) -> Any:
@@ -309,7 +319,6 @@ class DirectBatch(Batch):
             entry, counts = session.told[ENTRY], session.counts[:]
         if status:
             session.raise_for(status)
-        session.entries = entry
         return entry, counts
 
     def status(self) -> Any:

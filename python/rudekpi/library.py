@@ -38,27 +38,26 @@ class Verdict(ctypes.Structure):
 
 
 # the calls of a session. They are called with references and numbers below 2^31, or with numbers that are wrapped, for which ctypes
-# wants no types: to convert to them would take as long as the call
-CALLS = (
-    "session_new", "session_feed", "link", "unlink", "join", "leave", "point", "flag", "step", "show", "enabled", "pairs", "status", "drive",
-    "scramble", "checkpoint", "partner",
-)
+# wants no types: to convert to them would take as long as the call. While those that may take long run, other threads of Python do
+SHORT = ("link", "unlink", "point", "flag", "show", "status", "partner")
+LONG = ("session_new", "session_feed", "join", "leave", "step", "enabled", "pairs", "drive", "scramble", "checkpoint")
 SIZES = ("rows", "session_length", "session_read")
 NONE = ("session_free",)
 
 
 class Library:
-    """The calls of a shared library by the names that they have behind `rudekpi_`; each lets other threads of Python run meanwhile.
+    """The calls of a shared library by the names that they have behind `rudekpi_`.
 
     Raises `OSError` where there is no library at the path, or one that lacks a call."""
 
     def __init__(self, path: str) -> None:
         self.path = path
-        held = ctypes.CDLL(path)
+        held, holding = ctypes.CDLL(path), ctypes.PyDLL(path)
+        number, size = ctypes.c_uint32, ctypes.c_size_t
         try:
-            for names, answer in ((CALLS, ctypes.c_uint32), (SIZES, ctypes.c_size_t), (NONE, None)):
+            for where, names, answer in ((holding, SHORT, number), (held, LONG, number), (held, SIZES, size), (held, NONE, None)):
                 for name in names:
-                    made = getattr(held, f"rudekpi_{name}")
+                    made = getattr(where, f"rudekpi_{name}")
                     made.restype = answer
                     setattr(self, name, made)
             self.judge = held.rudekpi_audit

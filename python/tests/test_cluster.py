@@ -17,7 +17,7 @@ from rudekpi.sweeps import sweep
 from support import TOP, Timed
 
 # nobody waits for a worker that is dead for as long as for one far away; set before distributed reads it, here and in the processes
-os.environ["DASK_DISTRIBUTED__COMM__TIMEOUTS__CONNECT"] = "2s"
+os.environ["DASK_DISTRIBUTED__COMM__TIMEOUTS__CONNECT"] = "5s"
 HAS_DISTRIBUTED = importlib.util.find_spec("distributed") is not None
 
 
@@ -48,7 +48,7 @@ class Cluster(Timed):
         last = time.monotonic() + 60
         while not os.path.exists(self.file) and time.monotonic() < last:
             time.sleep(0.05)
-        self.client = distributed.Client(scheduler_file=self.file, set_as_default=False)
+        self.client = distributed.Client(scheduler_file=self.file, set_as_default=False, timeout=60)
         self.addCleanup(self.client.close)
         self.client.wait_for_workers(2, timeout=60)
 
