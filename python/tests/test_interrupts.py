@@ -76,7 +76,10 @@ class EachInstruction(Timed):
     def test_of_an_answer(self):
         net = Network("hh", 3)
         made = lambda: net
-        self.cut_everywhere(lambda net: net.show(2), lambda net: self.assertEqual((net.show(1).node, net.status().edges), (1, 0)), made=made)
+        cuts = self.cut_everywhere(lambda net: net.show(2), lambda net: self.assertEqual((net.show(1).node, net.status().edges), (1, 0)), made=made)
+        if not cuts and sys.version_info >= (3, 12):
+            # its `sys.settrace` tells of no instruction of a frame that has no loop
+            self.skipTest("this Python traces no instructions here")
         shown = net.transcript().count("show 2 = -\n")
         net.close()
         self.assertGreater(shown, 50, "some were cut in front of what asks, and some behind it")
