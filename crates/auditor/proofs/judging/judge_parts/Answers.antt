@@ -12,3 +12,6 @@ returns-clause-on c read at =
       subst (IsAt read new) (sym same) (c.in-Ok.ensures.at read (subst (IsAt read c.args.run) (sym c.deref.ensures.value) at)),
       subst (IsCompared new) (sym same) c.in-Ok.ensures.compared,
     )
+
+pub returns-in-Err-clause-fault : goal.returns-in-Err-clause-fault
+returns-in-Err-clause-fault c read more at = c.in-Err.ensures.fault read more (subst (IsAt read c.args.run) (sym c.deref.ensures.value) at)

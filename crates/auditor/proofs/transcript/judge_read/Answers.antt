@@ -1,7 +1,9 @@
-use Rattle.std.proofs.Common.{◌≡◌, ◌∙◌, ◌<◌, ◌++◌, [], Err, inl, length, take, sym, arith}
+use Rattle.std.proofs.Common.{◌≡◌, ◌∙◌, ◌<◌, ◌++◌, ℕ, List, [], Option, None, Some, IfSome, Err, inl, inr, length, take, refl, sym, arith}
 use Rattle.std.proofs.KnownBytes.{Consumes-nil, Consumes-whole}
 use Rattle.std.proofs.lemmas.List.{length-append}
 use Rattle.auditor.specs.Verdict.{IsHeard}
+use Rattle.auditor.specs.declared.fault.AuditFault.TheVariants.{Read}
+use Rattle.byte_streams.specs.declared.input_fault.InputFault.TheVariants as input
 use Rattle.auditor.proofs.Reading.{consumed_more, consumed_none, of_consumed, piece_few, refilled}
 use Rattle.auditor.proofs.transcript.judge_read.Goals as goal
 
@@ -62,3 +64,14 @@ loop-preserved g c =
       is = c.in-Ok-take.ensures.on i.read i.is;
       room = grind arith;
     }
+
+-- a failed read is heard of whatever bytes
+failed : (bytes : Option (List ℕ)) → IfSome bytes (λ all. IsHeard all (Err Read))
+failed None = tt
+failed (Some all) = inr (input.Read, refl)
+
+pub returns-in_default-read-clause-heard : goal.returns-in_default-read-clause-heard
+returns-in_default-read-clause-heard g c = failed (g.In.Read.remaining c.args.reader.now)
+
+pub returns-clause-heard : goal.returns-clause-heard
+returns-clause-heard g c = failed (g.In.Read.remaining c.args.reader.now)
