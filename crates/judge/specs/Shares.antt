@@ -18,9 +18,15 @@ use Rattle.judge.specs.declared.tally.Tally.{Tally}
 use Rattle.judge.specs.Rising.{pair_at}
 
 -- what a name makes of the edges at it
+abbrev pub hsu_huang_end : State → ℕ → End
+hsu_huang_end s v = cond (married s v) Shut (cond (is_courted s v) Courted Free)
+
+abbrev pub manne_end : State → ℕ → End
+manne_end s v = cond (married s v) Shut Free
+
 abbrev pub end_of : RuleSet → State → ℕ → End
-end_of Hh s v = cond (married s v) Shut (cond (is_courted s v) Courted Free)
-end_of Manne s v = cond (married s v) Shut Free
+end_of Hh s v = hsu_huang_end s v
+end_of Manne s v = manne_end s v
 
 -- whether a node's pointer closes an edge that is open by its ends
 abbrev pub closes : RuleSet → State → ℕ → Bool

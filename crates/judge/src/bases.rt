@@ -10,6 +10,7 @@ ghost use Rattle.rule_machine.specs.Tables.{table_of};
 ghost use Rattle.judge.specs.Bases.{NamesRise, EdgesRise, weight_of};
 
 use crate::lines::from_lines;
+use crate::rules::{node_weight, uses_flags};
 use crate::{Judge, Survey};
 use graph_store::MAX_EDGES;
 use net_state::NetState;
@@ -32,11 +33,7 @@ fn has_flag(nodes: &[Place]) -> bool
 fn bound(net: &NetState, rules: RuleSet) -> u64
     ensures { result ≡ charge_bound (weight_of rules) net.now.state.network }
 {
-    let weight = match rules {
-        RuleSet::Hh => 1,
-        RuleSet::Manne => 3,
-    };
-    2 * u64::from(net.edges()) + weight * u64::from(net.nodes())
+    2 * u64::from(net.edges()) + node_weight(rules) * u64::from(net.nodes())
 }
 
 /// Whether what is spent is within the bound of the network, with the charge.
@@ -59,10 +56,7 @@ fn has_fit_flags(net: &NetState, rules: RuleSet, nodes: &[Place]) -> bool
     requires listed { places net.now.state ≡ nodes.now }
     ensures { IsTrue result ↔ ((table_of rules).flags ≡ false → (v : ℕ) → flag net.now.state v ≡ false) }
 {
-    match rules {
-        RuleSet::Hh => !has_flag(nodes),
-        RuleSet::Manne => true,
-    }
+    uses_flags(rules) || !has_flag(nodes)
 }
 
 impl Judge {

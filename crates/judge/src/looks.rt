@@ -7,7 +7,7 @@ ghost use Rattle.rule_machine.specs.State as state;
 ghost use Rattle.rule_machine.specs.Tables.{table_of};
 
 use crate::Judge;
-use crate::guards::rule_at;
+use crate::rules::rule_at;
 use rule_machine::{Act, Node, RuleSet};
 
 impl Judge {

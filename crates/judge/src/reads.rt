@@ -1,6 +1,7 @@
-//! Registers of a name.
+//! What is read of a name.
 
-ghost use Rattle.std.specs.Prelude.{◌≡◌, Some};
+ghost use Rattle.std.specs.Prelude.{◌≡◌, IsTrue, Some};
+ghost use Rattle.rule_machine.specs.Network.{present};
 ghost use Rattle.rule_machine.specs.State as state;
 
 use net_state::NetState;
@@ -34,4 +35,17 @@ pub(crate) fn points_back(net: &NetState, v: Node, w: Node) -> bool
     // By its contract the state is sound.
     let _ = net.registers();
     net.points(w, v)
+}
+
+/// The first neighbour that points at a node, if any does.
+pub(crate) fn first_suitor(net: &NetState, v: Node) -> Option<Node>
+    requires { IsTrue (present net.now.state.network v) }
+    ensures { result ≡ state.first_suitor net.now.state v }
+{
+    for &w in net.neighbours(v) {
+        if net.points(w, v) {
+            return Some(w);
+        }
+    }
+    None
 }

@@ -4,6 +4,7 @@ ghost use Rattle.std.specs.Prelude.{◌≡◌};
 ghost use Rattle.rule_machine.specs.Refuse as refuse;
 ghost use Rattle.rule_machine.specs.Tables.{table_of};
 
+use crate::rules::uses_flags;
 use graph_store::MAX_EDGES;
 use net_state::NetState;
 use rule_machine::{Node, Refusal, RuleSet};
@@ -56,9 +57,10 @@ pub(crate) fn point_refusal(net: &NetState, v: Node, target: Option<Node>) -> Op
 pub(crate) fn flag_refusal(net: &NetState, rules: RuleSet, v: Node) -> Option<Refusal>
     ensures { result ≡ refuse.flag_refusal (table_of rules) net.now.state.network v }
 {
-    match rules {
-        RuleSet::Hh => Some(Refusal::NoFlag),
-        RuleSet::Manne => show_refusal(net, v),
+    if uses_flags(rules) {
+        show_refusal(net, v)
+    } else {
+        Some(Refusal::NoFlag)
     }
 }
 

@@ -1,14 +1,14 @@
 //! What a name brings to the numbers of a status.
 
-ghost use Rattle.std.specs.Prelude.{◌≡◌, ◌≤◌, IsTrue, MatchOption, None, Some, cond, false, is_some};
+ghost use Rattle.std.specs.Prelude.{◌≡◌, ◌≤◌, IsTrue, MatchOption, None, cond, false, is_some};
 ghost use Rattle.rule_machine.specs.Network.{present};
 ghost use Rattle.rule_machine.specs.RuleTable as table;
 ghost use Rattle.rule_machine.specs.State as state;
 ghost use Rattle.rule_machine.specs.Tables.{table_of};
-ghost use Rattle.judge.specs.Shares.{IsShare, closes, end_of, flag_charge};
+ghost use Rattle.judge.specs.Shares.{IsShare, end_of};
 ghost use Rattle.judge.specs.Rising.{pair_at};
 
-use crate::guards::rule_at;
+use crate::rules::{closes, end_of, flag_charge, rule_at};
 use graph_store::End;
 use net_state::NetState;
 use rule_machine::{Act, Node, RuleSet};
@@ -85,45 +85,6 @@ fn is_unanswered(net: &NetState, v: Node) -> bool
     }
 }
 
-/// What a node adds to the charge by its flag.
-#[inline(always)]
-fn flag_charge(net: &NetState, rules: RuleSet, v: Node) -> u8
-    requires { IsTrue (present net.now.state.network v) }
-    ensures value { result ≡ flag_charge rules net.now.state v }
-    ensures few { result ≤ 2 }
-{
-    match rules {
-        RuleSet::Hh => 0,
-        RuleSet::Manne if net.married(v) => u8::from(!net.flag(v)),
-        RuleSet::Manne => 1 + u8::from(net.flag(v)),
-    }
-}
-
-/// Whether a node's pointer closes an edge that is open by its ends.
-#[inline(always)]
-fn closes(net: &NetState, rules: RuleSet, v: Node) -> bool
-    requires { IsTrue (present net.now.state.network v) }
-    ensures { result ≡ closes rules net.now.state v }
-{
-    // By its contract the state is sound.
-    let _ = net.registers();
-    match (rules, net.pointer(v)) {
-        (RuleSet::Hh, Some(w)) => net.pointer(w).is_none(),
-        (RuleSet::Manne, Some(w)) => manne_closes(net, v, w),
-        (_, None) => false,
-    }
-}
-
-/// Whether a node points at a higher one that is not flagged, and neither is married.
-#[inline(always)]
-fn manne_closes(net: &NetState, v: Node, w: Node) -> bool
-    requires at { state.pointer net.now.state v ≡ Some w }
-    requires sound { state.IsState net.now.state }
-    ensures { result ≡ closes RuleSet.Manne net.now.state v }
-{
-    v < w && !net.flag(w) && !net.married(w)
-}
-
 /// What the node of a name makes of the edges at it, if there is one, whose rule this is.
 #[inline(always)]
 pub(crate) fn end_at(net: &NetState, rules: RuleSet, v: Node, rule: Option<Act>) -> Option<End>
@@ -135,20 +96,4 @@ pub(crate) fn end_at(net: &NetState, rules: RuleSet, v: Node, rule: Option<Act>)
         return None;
     }
     Some(end_of(net, rules, v, rule))
-}
-
-/// How the edges at a node count by what it shows, where this rule is enabled at it, if any. Who points nowhere has a suitor if it may marry.
-#[inline(always)]
-fn end_of(net: &NetState, rules: RuleSet, v: Node, rule: Option<Act>) -> End
-    requires present { IsTrue (present net.now.state.network v) }
-    requires rule { rule ≡ table.rule_at (table_of rules) net.now.state v }
-    ensures { result ≡ end_of rules net.now.state v }
-{
-    if net.married(v) {
-        return End::Shut;
-    }
-    match rules {
-        RuleSet::Hh if rule == Some(Act::Marry) => End::Courted,
-        RuleSet::Hh | RuleSet::Manne => End::Free,
-    }
 }

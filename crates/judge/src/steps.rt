@@ -13,8 +13,8 @@ ghost use Rattle.judge.specs.Choices.{item_at, Holds, IsWithin, IsClear, IsRuled
 
 use crate::Chosen;
 use crate::choices::RuledItem;
-use crate::guards::rule_at;
-use crate::targets::{is_allowed, is_target};
+use crate::rules::{is_allowed, is_central, rule_at};
+use crate::targets::is_target;
 use net_state::NetState;
 use rule_machine::{Act, Item, Moved, Refusal, RuleSet};
 
@@ -33,11 +33,11 @@ pub(crate) fn step_refusal(
     ensures len { length chosen.new ≡ length chosen.old }
 {
     if items.is_empty() {
-        return Some(Refusal::EmptyChoice);
-    }
-    match rules {
-        RuleSet::Hh if items.len() > 1 => Some(Refusal::NotCentral),
-        _ => items_refusal(net, rules, items, chosen),
+        Some(Refusal::EmptyChoice)
+    } else if is_central(rules) && items.len() > 1 {
+        Some(Refusal::NotCentral)
+    } else {
+        items_refusal(net, rules, items, chosen)
     }
 }
 
@@ -176,9 +176,10 @@ fn is_move_of(net: &NetState, rules: RuleSet, act: Act, item: Item, made: Moved)
 fn fits_daemon(rules: RuleSet, moves: &[Moved]) -> bool
     ensures { result ≡ judged.fits_daemon (table_of rules) moves.now }
 {
-    match rules {
-        RuleSet::Hh => moves.len() == 1,
-        RuleSet::Manne => !moves.is_empty(),
+    if is_central(rules) {
+        moves.len() == 1
+    } else {
+        !moves.is_empty()
     }
 }
 

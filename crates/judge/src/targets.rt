@@ -1,49 +1,14 @@
-//! The targets that a rule allows.
+//! The targets that a move may have.
 
 ghost use Rattle.std.specs.Prelude.{◌≡◌, ◌&&◌};
-ghost use Rattle.rule_machine.specs.HsuHuang.{hsu_huang_allowed};
-ghost use Rattle.rule_machine.specs.Manne.{manne_allowed};
 ghost use Rattle.rule_machine.specs.Step.{takes_target};
 ghost use Rattle.rule_machine.specs.Tables.{table_of};
 ghost use Rattle.machine_laws.specs.Judged as judged;
 ghost use Rattle.judge.specs.Choices.{IsRuled};
 
-use crate::reads::pointer;
-use crate::scans::{first_to_court_above, may_court};
+use crate::rules::is_allowed;
 use net_state::NetState;
 use rule_machine::{Act, Item, Node, RuleSet};
-
-/// Whether a node may point at another by a rule.
-pub(crate) fn is_allowed(net: &NetState, rules: RuleSet, v: Node, act: Act, w: Node) -> bool
-    ensures { result ≡ (table_of rules).allowed net.now.state v act w }
-{
-    match rules {
-        RuleSet::Hh => hsu_huang_allows(net, v, act, w),
-        RuleSet::Manne => manne_allows(net, v, act, w),
-    }
-}
-
-fn hsu_huang_allows(net: &NetState, v: Node, act: Act, w: Node) -> bool
-    ensures { result ≡ hsu_huang_allowed net.now.state v act w }
-{
-    match act {
-        Act::Marry => net.linked(v, w) && net.points(w, v),
-        Act::Seduce => net.linked(v, w) && pointer(net, w).is_none(),
-        Act::Update | Act::Abandon => false,
-    }
-}
-
-fn manne_allows(net: &NetState, v: Node, act: Act, w: Node) -> bool
-    ensures { result ≡ manne_allowed net.now.state v act w }
-{
-    match act {
-        Act::Marry => net.linked(v, w) && net.points(w, v),
-        Act::Seduce => {
-            net.linked(v, w) && may_court(net, v, w) && first_to_court_above(net, v, w).is_none()
-        }
-        Act::Update | Act::Abandon => false,
-    }
-}
 
 /// Whether a move that an item asks for, by the rule of its node, may have this target.
 pub(crate) fn is_target(

@@ -2,8 +2,8 @@ use Rattle.std.proofs.Common.{◌≡◌, ◌∙◌, ◌&&◌, not, nat_lt, sym, 
 use Rattle.rule_machine.specs.State.{flag, married}
 use Rattle.judge.proofs.Counting.{below_test}
 use Rattle.judge.proofs.Pairs.{manne_closing}
-use Rattle.judge.proofs.share.manne_closes.Goals as goal
-use Rattle.judge.proofs.share.manne_closes.Goals.{then-lt, else-lt}
+use Rattle.judge.proofs.manne.closes_at.Goals as goal
+use Rattle.judge.proofs.manne.closes_at.Goals.{then-lt, else-lt}
 
 pub returns-then-not-flag : goal.returns-then-not-flag
 returns-then-not-flag c =

@@ -2,8 +2,8 @@ use Rattle.std.proofs.Common.{◌≡◌, ◌+◌, ◌&&◌, ◌∷◌, ◌∙◌
 use Rattle.std.proofs.Math.Bool.{and-false}
 use Rattle.std.proofs.lemmas.List.{drop_more}
 use Rattle.rule_machine.specs.Manne.{may_court}
-use Rattle.judge.proofs.scans.first_to_court_above.Goals as goal
-use Rattle.judge.proofs.scans.first_to_court_above.Goals.{else-lt-via-then-lt+else-may_court, else-lt-via-else-lt}
+use Rattle.judge.proofs.manne.first_to_court_above.Goals as goal
+use Rattle.judge.proofs.manne.first_to_court_above.Goals.{else-lt-via-then-lt+else-may_court, else-lt-via-else-lt}
 
 pub returns-then-may_court : goal.returns-then-may_court
 returns-then-may_court c =

@@ -1,6 +1,6 @@
 use Rattle.std.proofs.Common.{◌≡◌, find, drop, is_none, nat_lt, not, ◌&&◌}
 use Rattle.rule_machine.specs.State.{pointer, flag}
-use Rattle.judge.proofs.scans.first_to_court_among.Given as goal
+use Rattle.judge.proofs.manne.first_to_court_among.Given as goal
 
 abbrev pub invariant-loop-w : goal.invariant-loop-w
 invariant-loop-w l =

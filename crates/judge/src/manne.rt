@@ -1,0 +1,143 @@
+//! The rules of Manne, Mjelde, Pilard and Tixeuil: any set of nodes moves at once, and flags tell who is married.
+
+ghost use Rattle.std.specs.Prelude.{◌≡◌, ◌≤◌, ◌&&◌, All, IsTrue, Some, find, is_none, nat_lt, not};
+ghost use Rattle.rule_machine.specs.Charge.{manne_node_charge};
+ghost use Rattle.rule_machine.specs.Network.{neighbours, present};
+ghost use Rattle.rule_machine.specs.State as state;
+ghost use Rattle.rule_machine.specs.RuleTable as table;
+ghost use Rattle.rule_machine.specs.Manne.{manne, manne_allowed, may_court};
+ghost use Rattle.charge_laws.specs.ClosedByPointers.{manne_closes};
+ghost use Rattle.judge.specs.Shares.{manne_end};
+
+use crate::reads::{first_suitor, flag, pointer, points_back};
+use graph_store::End;
+use net_state::NetState;
+use rule_machine::{Act, Node};
+
+/// Whether one node alone moves in a step.
+pub(crate) const IS_CENTRAL: bool = false;
+
+/// Whether flags are used.
+pub(crate) const USES_FLAGS: bool = true;
+
+/// What a node adds to the most that may be spent.
+pub(crate) const NODE_WEIGHT: u64 = 3;
+
+/// The rule that is enabled at a node, if any is.
+#[inline(always)]
+pub(crate) fn rule_at(net: &NetState, v: Node) -> Option<Act>
+    requires { IsTrue (present net.now.state.network v) }
+    ensures { result ≡ table.rule_at manne net.now.state v }
+{
+    if net.flag(v) != net.married(v) {
+        return Some(Act::Update);
+    }
+    match net.pointer(v) {
+        Some(w) if !points_back(net, v, w) && (flag(net, w) || w <= v) => Some(Act::Abandon),
+        Some(_) => None,
+        None if first_suitor(net, v).is_some() => Some(Act::Marry),
+        None if first_to_court(net, v).is_some() => Some(Act::Seduce),
+        None => None,
+    }
+}
+
+/// Whether a node may point at another by a rule.
+pub(crate) fn is_allowed(net: &NetState, v: Node, act: Act, w: Node) -> bool
+    ensures { result ≡ manne_allowed net.now.state v act w }
+{
+    match act {
+        Act::Marry => net.linked(v, w) && net.points(w, v),
+        Act::Seduce => {
+            net.linked(v, w) && may_court(net, v, w) && first_to_court_above(net, v, w).is_none()
+        }
+        Act::Update | Act::Abandon => false,
+    }
+}
+
+/// What a node adds to the charge by its flag.
+#[inline(always)]
+pub(crate) fn flag_charge(net: &NetState, v: Node) -> u8
+    requires { IsTrue (present net.now.state.network v) }
+    ensures value { result ≡ manne_node_charge net.now.state v }
+    ensures few { result ≤ 2 }
+{
+    if net.married(v) {
+        u8::from(!net.flag(v))
+    } else {
+        1 + u8::from(net.flag(v))
+    }
+}
+
+/// Whether a node's pointer closes an edge that is open by its ends.
+#[inline(always)]
+pub(crate) fn closes(net: &NetState, v: Node) -> bool
+    requires { IsTrue (present net.now.state.network v) }
+    ensures { result ≡ manne_closes net.now.state v }
+{
+    // By its contract the state is sound.
+    let _ = net.registers();
+    match net.pointer(v) {
+        Some(w) => closes_at(net, v, w),
+        None => false,
+    }
+}
+
+/// Whether a node points at a higher one that is not flagged, and neither is married.
+#[inline(always)]
+fn closes_at(net: &NetState, v: Node, w: Node) -> bool
+    requires at { state.pointer net.now.state v ≡ Some w }
+    requires sound { state.IsState net.now.state }
+    ensures { result ≡ manne_closes net.now.state v }
+{
+    v < w && !net.flag(w) && !net.married(w)
+}
+
+/// What a node makes of the edges at it.
+#[inline(always)]
+pub(crate) fn end_of(net: &NetState, v: Node) -> End
+    requires { IsTrue (present net.now.state.network v) }
+    ensures { result ≡ manne_end net.now.state v }
+{
+    if net.married(v) { End::Shut } else { End::Free }
+}
+
+/// Whether a node may court another: that one is above it, points nowhere and is not flagged.
+fn may_court(net: &NetState, v: Node, w: Node) -> bool
+    ensures { result ≡ may_court net.now.state v w }
+{
+    v < w && pointer(net, w).is_none() && !flag(net, w)
+}
+
+/// The first neighbour that a node may court.
+fn first_to_court(net: &NetState, v: Node) -> Option<Node>
+    requires { IsTrue (present net.now.state.network v) }
+    ensures { result ≡ find (may_court net.now.state v) (neighbours net.now.state.network v) }
+{
+    first_to_court_among(net.neighbours(v), net, v)
+}
+
+/// The first of these that a node may court.
+fn first_to_court_among(row: &[Node], net: &NetState, v: Node) -> Option<Node>
+    requires { All (λ w. IsTrue (present net.now.state.network w)) row.now }
+    ensures { result ≡ find (λ w. (is_none (state.pointer net.now.state w) && not (state.flag net.now.state w)) && nat_lt v w) row.now }
+{
+    for &w in row {
+        if v < w && net.pointer(w).is_none() && !net.flag(w) {
+            return Some(w);
+        }
+    }
+    None
+}
+
+/// The first neighbour above another that a node may court.
+fn first_to_court_above(net: &NetState, v: Node, w: Node) -> Option<Node>
+    requires { IsTrue (present net.now.state.network v) }
+    ensures { result ≡ find (λ x. may_court net.now.state v x && nat_lt w x) (neighbours net.now.state.network v) }
+{
+    for &x in net.neighbours(v) {
+        if w < x && may_court(net, v, x) {
+            return Some(x);
+        }
+    }
+    None
+}

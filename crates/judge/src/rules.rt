@@ -1,0 +1,103 @@
+//! What differs by the rule set: each question goes on to the file of the one that is asked.
+
+ghost use Rattle.std.specs.Prelude.{◌≡◌, ◌≤◌, IsTrue};
+ghost use Rattle.rule_machine.specs.Network.{present};
+ghost use Rattle.rule_machine.specs.RuleTable as table;
+ghost use Rattle.rule_machine.specs.Tables.{table_of};
+ghost use Rattle.judge.specs.Bases.{weight_of};
+ghost use Rattle.judge.specs.Shares.{closes, end_of, flag_charge};
+
+use crate::{hsu_huang, manne};
+use graph_store::End;
+use net_state::NetState;
+use rule_machine::{Act, Node, RuleSet};
+
+/// The rule that is enabled at a node, if any is. Looks at the neighbours of one that points nowhere.
+#[inline(always)]
+pub(crate) fn rule_at(net: &NetState, rules: RuleSet, v: Node) -> Option<Act>
+    requires { IsTrue (present net.now.state.network v) }
+    ensures { result ≡ table.rule_at (table_of rules) net.now.state v }
+{
+    match rules {
+        RuleSet::Hh => hsu_huang::rule_at(net, v),
+        RuleSet::Manne => manne::rule_at(net, v),
+    }
+}
+
+/// Whether a node may point at another by a rule.
+pub(crate) fn is_allowed(net: &NetState, rules: RuleSet, v: Node, act: Act, w: Node) -> bool
+    ensures { result ≡ (table_of rules).allowed net.now.state v act w }
+{
+    match rules {
+        RuleSet::Hh => hsu_huang::is_allowed(net, v, act, w),
+        RuleSet::Manne => manne::is_allowed(net, v, act, w),
+    }
+}
+
+/// Whether one node alone moves in a step.
+pub(crate) fn is_central(rules: RuleSet) -> bool
+    ensures { result ≡ (table_of rules).central }
+{
+    match rules {
+        RuleSet::Hh => hsu_huang::IS_CENTRAL,
+        RuleSet::Manne => manne::IS_CENTRAL,
+    }
+}
+
+/// Whether flags are used.
+pub(crate) fn uses_flags(rules: RuleSet) -> bool
+    ensures { result ≡ (table_of rules).flags }
+{
+    match rules {
+        RuleSet::Hh => hsu_huang::USES_FLAGS,
+        RuleSet::Manne => manne::USES_FLAGS,
+    }
+}
+
+/// What a node adds to the most that may be spent.
+pub(crate) fn node_weight(rules: RuleSet) -> u64
+    ensures { result ≡ weight_of rules }
+{
+    match rules {
+        RuleSet::Hh => hsu_huang::NODE_WEIGHT,
+        RuleSet::Manne => manne::NODE_WEIGHT,
+    }
+}
+
+/// What a node adds to the charge by its flag.
+#[inline(always)]
+pub(crate) fn flag_charge(net: &NetState, rules: RuleSet, v: Node) -> u8
+    requires { IsTrue (present net.now.state.network v) }
+    ensures value { result ≡ flag_charge rules net.now.state v }
+    ensures few { result ≤ 2 }
+{
+    match rules {
+        RuleSet::Hh => hsu_huang::FLAG_CHARGE,
+        RuleSet::Manne => manne::flag_charge(net, v),
+    }
+}
+
+/// Whether a node's pointer closes an edge that is open by its ends.
+#[inline(always)]
+pub(crate) fn closes(net: &NetState, rules: RuleSet, v: Node) -> bool
+    requires { IsTrue (present net.now.state.network v) }
+    ensures { result ≡ closes rules net.now.state v }
+{
+    match rules {
+        RuleSet::Hh => hsu_huang::closes(net, v),
+        RuleSet::Manne => manne::closes(net, v),
+    }
+}
+
+/// What a node makes of the edges at it, where this rule is enabled at it, if any.
+#[inline(always)]
+pub(crate) fn end_of(net: &NetState, rules: RuleSet, v: Node, rule: Option<Act>) -> End
+    requires present { IsTrue (present net.now.state.network v) }
+    requires rule { rule ≡ table.rule_at (table_of rules) net.now.state v }
+    ensures { result ≡ end_of rules net.now.state v }
+{
+    match rules {
+        RuleSet::Hh => hsu_huang::end_of(net, v, rule),
+        RuleSet::Manne => manne::end_of(net, v),
+    }
+}
