@@ -2,3 +2,4 @@ pub mod PairSets
 pub mod Names
 mod Counted
 mod Passes
+mod Charges

@@ -2,4 +2,4 @@ pub mod Memory
 pub mod Ascending
 pub mod Names
 pub mod Spurned
-pub mod Closed
+pub mod Charged

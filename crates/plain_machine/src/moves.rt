@@ -8,6 +8,7 @@ ghost use Rattle.rule_machine.specs.Tables.{table_of};
 ghost use Rattle.machine_laws.specs.Judged as judged;
 
 use crate::PlainNet;
+use crate::rules::is_central;
 use rule_machine::{Act, Item, Moved, Node, RuleSet};
 
 /// Whether these are the moves of one step of the items: some, one under a central daemon, ascending by node, each
@@ -123,9 +124,10 @@ fn suits_wish(wish: Option<Node>, w: Node) -> bool
 fn fits_daemon(rules: RuleSet, moves: &[Moved]) -> bool
     ensures { result ≡ judged.fits_daemon (table_of rules) moves.now }
 {
-    match rules {
-        RuleSet::Hh => moves.len() == 1,
-        RuleSet::Manne => !moves.is_empty(),
+    if is_central(rules) {
+        moves.len() == 1
+    } else {
+        !moves.is_empty()
     }
 }
 

@@ -9,6 +9,7 @@ ghost use Rattle.rule_machine.specs.Tables.{table_of};
 
 use crate::PlainNet;
 use crate::edge_set::MAX_EDGES;
+use crate::rules::{is_central, uses_flags};
 use rule_machine::{Act, Event, Item, Node, Refusal, RuleSet};
 
 impl PlainNet {
@@ -86,9 +87,10 @@ impl PlainNet {
     fn flag_refusal(&self, rules: RuleSet, v: Node) -> Option<Refusal>
         ensures { result ≡ refuse.flag_refusal (table_of rules) self.now.network v }
     {
-        match rules {
-            RuleSet::Hh => Some(Refusal::NoFlag),
-            RuleSet::Manne => self.show_refusal(v),
+        if uses_flags(rules) {
+            self.show_refusal(v)
+        } else {
+            Some(Refusal::NoFlag)
         }
     }
 
@@ -118,11 +120,11 @@ impl PlainNet {
         ensures { result ≡ refuse.step_refusal (table_of rules) self.now items.now }
     {
         if items.is_empty() {
-            return Some(Refusal::EmptyChoice);
-        }
-        match rules {
-            RuleSet::Hh if items.len() > 1 => Some(Refusal::NotCentral),
-            _ => self.items_refusal(rules, items),
+            Some(Refusal::EmptyChoice)
+        } else if is_central(rules) && items.len() > 1 {
+            Some(Refusal::NotCentral)
+        } else {
+            self.items_refusal(rules, items)
         }
     }
 

@@ -1,11 +1,7 @@
 //! Scans of a node's neighbours.
 
-ghost use Rattle.std.specs.Prelude.{◌≡◌, find};
-ghost use Rattle.rule_machine.specs.Network.{neighbours};
+ghost use Rattle.std.specs.Prelude.{◌≡◌};
 ghost use Rattle.rule_machine.specs.State as state;
-ghost use Rattle.rule_machine.specs.RuleTable.{first_open};
-ghost use Rattle.rule_machine.specs.HsuHuang.{hsu_huang_opens};
-ghost use Rattle.rule_machine.specs.Manne.{may_court};
 
 use crate::PlainNet;
 use rule_machine::Node;
@@ -49,13 +45,6 @@ impl PlainNet {
         self.partner(v).is_some()
     }
 
-    /// Whether a node's flag says whether it is married.
-    pub(crate) fn is_settled(&self, v: Node) -> bool
-        ensures { result ≡ state.is_settled self.now v }
-    {
-        self.flag(v) == self.married(v)
-    }
-
     /// Whether a node points at one that does not point back.
     pub(crate) fn is_unanswered(&self, v: Node) -> bool
         ensures { result ≡ state.is_unanswered self.now v }
@@ -64,36 +53,5 @@ impl PlainNet {
             Some(w) => !self.points(w, v),
             None => false,
         }
-    }
-
-    /// The first neighbour that points nowhere.
-    pub(crate) fn first_null(&self, v: Node) -> Option<Node>
-        ensures { result ≡ first_open hsu_huang_opens self.now v }
-    {
-        for &w in self.all_names() {
-            if self.has(w) && self.linked(v, w) && self.pointer(w).is_none() {
-                return Some(w);
-            }
-        }
-        None
-    }
-
-    /// Whether a node may court another: that one is above it, points nowhere and is not flagged.
-    pub(crate) fn may_court(&self, v: Node, w: Node) -> bool
-        ensures { result ≡ may_court self.now v w }
-    {
-        self.pointer(w).is_none() && !self.flag(w) && v < w
-    }
-
-    /// The first neighbour that a node may court.
-    pub(crate) fn first_courted(&self, v: Node) -> Option<Node>
-        ensures { result ≡ find (may_court self.now v) (neighbours self.now.network v) }
-    {
-        for &w in self.all_names() {
-            if self.has(w) && self.linked(v, w) && self.may_court(v, w) {
-                return Some(w);
-            }
-        }
-        None
     }
 }
