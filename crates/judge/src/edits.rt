@@ -29,13 +29,10 @@ pub(crate) fn link(net: &mut NetState, a: Node, b: Node) -> Result<(), Want>
     ensures ends { net.new.ends ≡ net.old.ends }
     ensures sound { IsState net.new.state }
 {
-    // By its contract the state is sound.
-    let _ = net.registers();
-    let Ok(()) = net.reserve_link(a, b) else {
-        return Err(AllocError);
-    };
-    net.link_reserved(a, b);
-    Ok(())
+    match net.link(a, b) {
+        Ok(()) => Ok(()),
+        Err(_) => Err(AllocError),
+    }
 }
 
 /// Writes a node's pointer.
