@@ -62,8 +62,8 @@ has_base size base s lines =
     λ i. record { number = base.number; spent = base.spent; nodes = lines.nodes_are i; edges = lines.edges_are i }
 
 -- the lines are those of one moment
-pub told : (t : RuleTable) (bound : Network → ℕ) (size : ℕ) (base : Base) (s : State) (start : Moment) → IsState s → HasLines size base.nodes base.edges s → IsBegun t bound size base start → start ≡ record { state = s; spent = base.spent }
-told t bound size base s start good lines begun =
+pub same_moment : (t : RuleTable) (bound : Network → ℕ) (size : ℕ) (base : Base) (s : State) (start : Moment) → IsState s → HasLines size base.nodes base.edges s → IsBegun t bound size base start → start ≡ record { state = s; spent = base.spent }
+same_moment t bound size base s start good lines begun =
     base_tells base.number start (record { state = s; spent = base.spent }) begun.is_state good (begun.size_is ∙ sym lines.size_is)
     (sym begun.lines ∙ sym (has_base size base s lines))
 
@@ -84,13 +84,13 @@ lines_made size base nodes edges found n lines is same_nodes same_edges =
 -- none begins where too much is spent
 pub too_much : (t : RuleTable) (bound : Network → ℕ) (size : ℕ) (base : Base) (s : State) (start : Moment) → IsState s → HasLines size base.nodes base.edges s → nat_le (base.spent + t.charge s) (bound s.network) ≡ false → IsBegun t bound size base start → ⊥
 too_much t bound size base s start good lines over begun =
-    let within : base.spent + t.charge s ≤ bound s.network = subst (λ (m : Moment). m.spent + t.charge m.state ≤ bound m.state.network) (told t bound size base s start good lines begun) begun.within in
+    let within : base.spent + t.charge s ≤ bound s.network = subst (λ (m : Moment). m.spent + t.charge m.state ≤ bound m.state.network) (same_moment t bound size base s start good lines begun) begun.within in
     true≢false (sym (le-leb (base.spent + t.charge s) (bound s.network) within) ∙ over)
 
 -- nor where a flag is true that the rules do not use
 pub fit_flags : (t : RuleTable) (bound : Network → ℕ) (size : ℕ) (base : Base) (s : State) (start : Moment) → IsState s → HasLines size base.nodes base.edges s → IsBegun t bound size base start → t.flags ≡ false → (v : ℕ) → flag s v ≡ false
 fit_flags t bound size base s start good lines begun =
-    subst (λ (m : Moment). t.flags ≡ false → (v : ℕ) → flag m.state v ≡ false) (told t bound size base s start good lines begun) begun.unflagged
+    subst (λ (m : Moment). t.flags ≡ false → (v : ℕ) → flag m.state v ≡ false) (same_moment t bound size base s start good lines begun) begun.unflagged
 
 -- the moment at which one begins
 pub begins : (t : RuleTable) (bound : Network → ℕ) (size : ℕ) (base : Base) (s : State) → IsState s → HasLines size base.nodes base.edges s → (t.flags ≡ false → (v : ℕ) → flag s v ≡ false) → nat_le (base.spent + t.charge s) (bound s.network) ≡ true → IsBegun t bound size base (record { state = s; spent = base.spent })

@@ -7,7 +7,7 @@ use Rattle.std.proofs.lemmas.List.Elements.{All-set}
 use Rattle.std.proofs.lemmas.List.FromFn.{get_or-map-range_with_len, length-map-range_with_len}
 use Rattle.std.proofs.lemmas.List.Sums.{sum_by-cons, sum_by-le, sum_by-set}
 use Rattle.judge.specs.declared.share.Share.{Share}
-use Rattle.judge.specs.Shares.{nobody, share_at, AreSummed, IsLight}
+use Rattle.judge.specs.Shares.{no_share, share_at, AreSummed, IsLight}
 
 -- a sum over a list is one over its places
 by_places : {X : Type 0} (f : X → ℕ) (xs : List X) (d : X) → sum_by f xs ≡ sum_by (λ i. f (get_or xs i d)) (range_with_len 0 (length xs))
@@ -36,24 +36,24 @@ sum_fits f each v was share sum x y few light fits within is at left right =
 pub summed : (f : Share → ℕ) (part : ℕ → ℕ) (size : ℕ) (each : List Share) → length each ≡ size + 1 → f (share_at each 0) ≡ 0 → ((v : ℕ) → f (share_at each v) ≡ part v) → sum_by f each ≡ sum_by part (range_with_len 1 size)
 summed f part size each places none told =
     let count : length each ≡ suc size = omega (arith, places) in
-    by_places f each nobody
+    by_places f each no_share
     ∙ ap (λ n. sum_by (λ v. f (share_at each v)) (range_with_len 0 n)) count
     ∙ (λ i. sum_by (λ v. told v i) (range_with_len 0 (suc size)))
     ∙ (let whole = sum_by-cons part 0 (range_with_len 1 size) in let zero = sym (told 0) ∙ none in omega (arith, whole, zero))
 
 -- the sum after one share took the place of another
-pub sum_put : (f : Share → ℕ) (each : List Share) (v : ℕ) (was share : Share) (sum x y : ℕ) → f nobody ≡ 0 → v < length each → sum ≡ sum_by f each → was ≡ get_or each v was → x ≡ f was → y ≡ f share → sum - x + y ≡ sum_by f (set each v share)
+pub sum_put : (f : Share → ℕ) (each : List Share) (v : ℕ) (was share : Share) (sum x y : ℕ) → f no_share ≡ 0 → v < length each → sum ≡ sum_by f each → was ≡ get_or each v was → x ≡ f was → y ≡ f share → sum - x + y ≡ sum_by f (set each v share)
 sum_put f each v was share sum x y none within is at left right =
     let turn = sum_by-set f each v share was within in
-    let out = sum_by-set f each v nobody was within in
+    let out = sum_by-set f each v no_share was within in
     let same = ap f at in
     omega (arith, turn, out, none, same, is, left, right)
 
 -- where nobody brings anything the sum is nothing
-pub sum_none : (f : Share → ℕ) (n : ℕ) → f nobody ≡ 0 → sum_by f (replicate n nobody) ≡ 0
+pub sum_none : (f : Share → ℕ) (n : ℕ) → f no_share ≡ 0 → sum_by f (replicate n no_share) ≡ 0
 sum_none f zero none = refl
 sum_none f (suc n) none =
-    let whole = sum_by-cons f nobody (replicate n nobody) in
+    let whole = sum_by-cons f no_share (replicate n no_share) in
     let rest = sum_none f n none in
     omega (arith, whole, rest, none)
 
@@ -65,11 +65,11 @@ pub few_tests : (b : Bool) → cond {A = ℕ} b 1 0 ≤ 3
 few_tests true = omega arith
 few_tests false = omega arith
 
-pub none_light : (each : List Share) (n : ℕ) → each ≡ replicate n nobody → All IsLight each
+pub none_light : (each : List Share) (n : ℕ) → each ≡ replicate n no_share → All IsLight each
 none_light each n is =
-    subst (All IsLight) (sym is) (λ k d within. subst IsLight (sym (get_or-replicate n k nobody d (let same = length-replicate n nobody in omega (arith, same, within)))) (omega arith))
+    subst (All IsLight) (sym is) (λ k d within. subst IsLight (sym (get_or-replicate n k no_share d (let same = length-replicate n no_share in omega (arith, same, within)))) (omega arith))
 
-pub none_summed : (each : List Share) (n : ℕ) → each ≡ replicate n nobody → AreSummed each 0 0 0 0
+pub none_summed : (each : List Share) (n : ℕ) → each ≡ replicate n no_share → AreSummed each 0 0 0 0
 none_summed each n is = record {
   paired = sym (ap (sum_by (λ (it : Share). cond {A = ℕ} it.is_lower_end 1 0)) is ∙ sum_none (λ (it : Share). cond {A = ℕ} it.is_lower_end 1 0) n refl);
   ruled = sym (ap (sum_by (λ (it : Share). cond {A = ℕ} (is_some it.rule) 1 0)) is ∙ sum_none (λ (it : Share). cond {A = ℕ} (is_some it.rule) 1 0) n refl);

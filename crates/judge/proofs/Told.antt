@@ -13,7 +13,7 @@ use Rattle.rule_machine.specs.Stable.{pair_above}
 use Rattle.rule_machine.specs.State.{State, IsState, partner}
 use Rattle.rule_machine.specs.Tables.{table_of}
 use Rattle.judge.specs.declared.share.Share.{Share}
-use Rattle.judge.specs.Shares.{adds, asks, closes, end_of, nobody, share_at, AreAsking, IsShare, IsToldAt, AreTold}
+use Rattle.judge.specs.Shares.{adds, asks, closes, end_of, no_share, share_at, AreAsking, IsShare, IsToldAt, AreTold}
 
 -- what is everywhere is at each place, and past the end
 everywhere : {X : Type 0} (n v : ℕ) (d : X) → get_or (replicate n d) v d ≡ d
@@ -21,7 +21,7 @@ everywhere n v d =
     ⊎_elim (λ (below : v < n). get_or-replicate n v d d below) (λ (past : n ≤ v). get_or_past (replicate n d) v d (let k = length-replicate n d in omega (arith, k))) (cases_lt v n)
 
 -- of a name without a node nothing is to be told
-told_nowhere : (rules : RuleSet) (s : State) (ends : List End) (each : List Share) (v : ℕ) → present s.network v ≡ false → share_at each v ≡ nobody → IsToldAt rules s ends each v
+told_nowhere : (rules : RuleSet) (s : State) (ends : List End) (each : List Share) (v : ℕ) → present s.network v ≡ false → share_at each v ≡ no_share → IsToldAt rules s ends each v
 told_nowhere rules s ends each v absent nothing = record {
   share = record {
     rule = ap (λ (it : Share). it.rule) nothing ∙ sym (ap (λ b. cond b (rule_at (table_of rules) s v) None) absent);
@@ -33,7 +33,7 @@ told_nowhere rules s ends each v absent nothing = record {
 }
 
 -- where all names are due nothing is to be told
-pub told_of_none : (rules : RuleSet) (s : State) (ends : List End) (each : List Share) (touched due : List Bool) → IsState s → length each ≡ s.network.size + 1 → length touched ≡ s.network.size + 1 → length due ≡ s.network.size + 1 → share_at each 0 ≡ nobody → ((v : ℕ) → 1 ≤ v → v ≤ s.network.size → is_in due v ≡ true) → AreTold rules s ends each touched due
+pub told_of_none : (rules : RuleSet) (s : State) (ends : List End) (each : List Share) (touched due : List Bool) → IsState s → length each ≡ s.network.size + 1 → length touched ≡ s.network.size + 1 → length due ≡ s.network.size + 1 → share_at each 0 ≡ no_share → ((v : ℕ) → 1 ≤ v → v ≤ s.network.size → is_in due v ≡ true) → AreTold rules s ends each touched due
 told_of_none rules s ends each touched due good places touched_places due_places none all = record {
   sound = good;
   places = places;
@@ -45,17 +45,17 @@ told_of_none rules s ends each touched due good places touched_places due_places
       (λ (low : v < 1). let zero : v ≡ 0 = omega arith in told_nowhere rules s ends each v (and_left (leb 1 v) _ (lt-leb 1 v low)) (ap (share_at each) zero ∙ none))
       (λ (some : 1 ≤ v).
       ⊎_elim
-      (λ (past : s.network.size < v). told_nowhere rules s ends each v (ap (λ b. leb 1 v && (b && get_or s.network.here v false)) (lt-leb v s.network.size past) ∙ ap (λ b. b && false) (le-leb 1 v some)) (get_or_past each v nobody (omega (arith, places, past))))
+      (λ (past : s.network.size < v). told_nowhere rules s ends each v (ap (λ b. leb 1 v && (b && get_or s.network.here v false)) (lt-leb v s.network.size past) ∙ ap (λ b. b && false) (le-leb 1 v some)) (get_or_past each v no_share (omega (arith, places, past))))
       (λ (within : v ≤ s.network.size). absurd (true≢false (sym (all v some within) ∙ fresh.not_due)))
       (cases_lt s.network.size v))
       (cases_lt v 1);
 }
 
 -- at first all are
-pub told_at_first : (rules : RuleSet) (s : State) (ends : List End) → IsState s → AreTold rules s ends (replicate (s.network.size + 1) nobody) (replicate (s.network.size + 1) false) (first_names s.network.size s.network.size)
+pub told_at_first : (rules : RuleSet) (s : State) (ends : List End) → IsState s → AreTold rules s ends (replicate (s.network.size + 1) no_share) (replicate (s.network.size + 1) false) (first_names s.network.size s.network.size)
 told_at_first rules s ends good =
     let size = s.network.size in
-    told_of_none rules s ends (replicate (size + 1) nobody) (replicate (size + 1) false) (first_names size size) good (length-replicate (size + 1) nobody) (length-replicate (size + 1) false) (first_names_len size size) (everywhere (size + 1) 0 nobody)
+    told_of_none rules s ends (replicate (size + 1) no_share) (replicate (size + 1) false) (first_names size size) good (length-replicate (size + 1) no_share) (length-replicate (size + 1) false) (first_names_len size size) (everywhere (size + 1) 0 no_share)
     (λ v low high. first_names_at size size v high ∙ ap (λ b. b && leb v size) (le-leb 1 v low) ∙ le-leb v size high)
 
 -- what depends on a name is due, and it is touched no longer
@@ -79,7 +79,7 @@ told_spread rules s ends each touched touched' due due' v cleared asking told = 
 }
 
 -- name 0 has no node
-none_there : (rules : RuleSet) (s : State) (share : Share) → IsShare rules s 0 share → share ≡ nobody
+none_there : (rules : RuleSet) (s : State) (share : Share) → IsShare rules s 0 share → share ≡ no_share
 none_there rules s share is = λ i. record { rule = is.rule i; is_lower_end = is.is_lower_end i; added = is.added i; closes = is.closes i }
 
 -- a look at a name tells of it, and of the others what was told
@@ -102,10 +102,10 @@ told_next rules s ends ends' each each' touched due due' v share within set_each
 }
   where
     new_share : share_at each' v ≡ share
-    new_share = ap (λ l. share_at l v) set_each ∙ get_or-set_same each v share nobody (omega (arith, told.places))
+    new_share = ap (λ l. share_at l v) set_each ∙ get_or-set_same each v share no_share (omega (arith, told.places))
 
     kept_share : (w : ℕ) → w ≢ v → share_at each' w ≡ share_at each w
-    kept_share w apart = ap (λ l. share_at l w) set_each ∙ get_or-set_other each v w share nobody apart
+    kept_share w apart = ap (λ l. share_at l w) set_each ∙ get_or-set_other each v w share no_share apart
 
     here : IsToldAt rules s ends' each' v
     here = record { share = subst (IsShare rules s v) (sym new_share) is; end = end }

@@ -1,4 +1,4 @@
--- What each name brings to the numbers of a status, what it makes of the edges at it, and how long what is kept of that is right.
+-- What each name brings to the totals of its network, what it makes of the edges at it, and how long what is kept of that is right.
 use Rattle.std.specs.Prelude.{◌≡◌, ◌≢◌, ℕ, ◌+◌, ◌≤◌, Bool, false, true, cond, ◌&&◌, ◌||◌, List, length, sum_by, Option, None, is_none, is_some, nat_eq, slice_index_or, IsTrue}
 use Rattle.enabled_set.specs.Members.{is_in}
 use Rattle.rule_machine.specs.declared.rules.RuleSet.{RuleSet}
@@ -14,7 +14,7 @@ use Rattle.graph_store.specs.declared.end.End.{End}
 use Rattle.graph_store.specs.declared.end.End.TheVariants.{Shut, Courted, Free}
 use Rattle.graph_store.specs.Ends.{end_at}
 use Rattle.judge.specs.declared.share.Share.{Share}
-use Rattle.judge.specs.declared.tally.Tally.{Tally}
+use Rattle.judge.specs.declared.totals.Totals.{Totals}
 use Rattle.judge.specs.Rising.{pair_at}
 
 -- what a name makes of the edges at it
@@ -50,11 +50,11 @@ pub record IsShare (rules : RuleSet) (s : State) (v : ℕ) (share : Share) : Typ
   pub closes : share.closes ≡ cond (present s.network v) (closes rules s v) false
 
 -- what a name without a node brings
-abbrev pub nobody : Share
-nobody = record { rule = None; is_lower_end = false; added = 0; closes = false }
+abbrev pub no_share : Share
+no_share = record { rule = None; is_lower_end = false; added = 0; closes = false }
 
 abbrev pub share_at : List Share → ℕ → Share
-share_at each v = slice_index_or each v nobody
+share_at each v = slice_index_or each v no_share
 
 -- what it adds fits two bits
 abbrev pub IsLight : Share → Type 0
@@ -68,10 +68,10 @@ pub record AreSummed (each : List Share) (pairs enabled added closing : ℕ) : T
   pub closed : closing ≡ sum_by (λ (it : Share). cond it.closes 1 0) each
 
 -- the numbers are those of the state by the rules
-pub record IsTally (rules : RuleSet) (s : State) (tally : Tally) : Type 0 where
-  pub pairs : tally.pairs ≡ length (mutual_pairs s)
-  pub enabled : tally.enabled ≡ length (enabled_names (table_of rules) s)
-  pub charge : tally.charge ≡ (table_of rules).charge s
+pub record AreTotals (rules : RuleSet) (s : State) (totals : Totals) : Type 0 where
+  pub pairs : totals.pairs ≡ length (mutual_pairs s)
+  pub enabled : totals.enabled ≡ length (enabled_names (table_of rules) s)
+  pub charge : totals.charge ≡ (table_of rules).charge s
 
 -- w is another node than v, and not one that its pointer was at or is at
 pub record IsElsewhere (v : ℕ) (was is : Option ℕ) (w : ℕ) : Type 0 where
@@ -114,5 +114,5 @@ pub record AreTold (rules : RuleSet) (s : State) (ends : List End) (each : List 
   pub places : length each ≡ s.network.size + 1
   pub touched_places : length touched ≡ s.network.size + 1
   pub due_places : length due ≡ s.network.size + 1
-  pub nobody : share_at each 0 ≡ nobody
+  pub nobody : share_at each 0 ≡ no_share
   pub told : (v : ℕ) → IsFresh s touched due v → IsToldAt rules s ends each v

@@ -1,9 +1,9 @@
-//! A judge that begins at a base.
+//! Bases: one at which a judge begins, and the one at which it stands.
 
 ghost use Rattle.std.specs.Prelude.{◌≡◌, ◌≤◌, ◌+◌, ◌↔◌, ℕ, IfOk, IfSome, IsTrue, None, false, length, nat_le};
 ghost use Rattle.std.specs.List.{list_any};
 ghost use Rattle.charge_laws.specs.Charged.{charge_bound};
-ghost use Rattle.rule_machine.specs.Base.{IsBegun, places};
+ghost use Rattle.rule_machine.specs.Base.{IsBegun, base_of, places};
 ghost use Rattle.rule_machine.specs.Run.{Moment};
 ghost use Rattle.rule_machine.specs.State.{IsState, flag};
 ghost use Rattle.rule_machine.specs.Tables.{table_of};
@@ -14,7 +14,7 @@ use crate::rules::{node_weight, uses_flags};
 use crate::{Judge, Survey};
 use graph_store::MAX_EDGES;
 use net_state::NetState;
-use rule_machine::{Base, Place, RuleSet, Want};
+use rule_machine::{Base, Listing, Place, RuleSet, Want};
 use std::alloc::Global;
 
 /// Whether a flag is true.
@@ -45,7 +45,7 @@ fn is_within(survey: &mut Survey, rules: RuleSet, spent: u32) -> bool
     // By its contract the state is sound.
     let _ = survey.net.registers();
     let bound = bound(&survey.net, rules);
-    let charge = u64::from(survey.tally(rules).charge);
+    let charge = u64::from(survey.totals(rules).charge);
     // The charge alone never exceeds the bound.
     u64::from(spent) <= bound - charge
 }
@@ -92,5 +92,21 @@ impl Judge {
             return Ok(None);
         }
         Ok(Some(Judge::of_survey(alloc, survey)?))
+    }
+
+    /// The base at which it stands, after so many entries and with these moves spent since the last accepted disturbance. Takes
+    /// some eight bytes a node and four an edge; a look at every name and at both ends of every edge.
+    pub fn base(&self, alloc: Global, number: u32, spent: u32) -> Result<Base, Want>
+        ensures base { IfOk result (λ base. base ≡ base_of number (record { state = self.now; spent = spent })) }
+        ensures few { IfOk result (λ base. (length base.nodes ≤ 65535) × (length base.edges ≤ 1048576)) }
+    {
+        let nodes = self.survey.net.list_places(alloc)?;
+        let edges = self.survey.net.list_edges()?;
+        Ok(Base {
+            number,
+            spent,
+            nodes: Listing::from_vec(nodes),
+            edges: Listing::from_vec(edges),
+        })
     }
 }

@@ -11,13 +11,12 @@ ghost use Rattle.judge.specs.Choices.{Holds, IsWithin, IsReady};
 ghost use Rattle.judge.specs.Judging.{TakesMemory, is_link, items_of};
 
 use crate::edits::point;
-use crate::questions::{are_enabled, are_mutual};
+use crate::questions::{are_enabled, are_mutual, has_counts};
 use crate::reads::pointer;
 use crate::refusals::{
     flag_refusal, join_refusal, link_refusal, point_refusal, show_refusal, unlink_refusal,
 };
 use crate::replies::{is_accepted, is_refusal, is_shown};
-use crate::status::has_counts;
 use crate::steps::{is_step, step_refusal};
 use crate::{Chosen, Survey};
 use net_state::{Disturb, NetState, leave, make_moves, unlink};

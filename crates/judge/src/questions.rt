@@ -1,6 +1,7 @@
-//! Whether a reply lists what a question asks for.
+//! Whether a reply tells what a question asks for.
 
 ghost use Rattle.std.specs.Prelude.{◌≡◌, ◌↔◌, IsTrue, Some};
+ghost use Rattle.rule_machine.specs.Answer.{counts_of};
 ghost use Rattle.rule_machine.specs.RuleTable.{enabled};
 ghost use Rattle.rule_machine.specs.Stable.{mutual_pairs};
 ghost use Rattle.rule_machine.specs.Tables.{table_of};
@@ -19,9 +20,9 @@ pub(crate) fn are_enabled(survey: &mut Survey, rules: RuleSet, reply: &Reply) ->
     let Reply::EnabledAre(listing) = reply else {
         return false;
     };
-    let tally = survey.tally(rules);
+    let totals = survey.totals(rules);
     let given = listing.as_slice();
-    given.len() == tally.enabled as usize && are_ruled(survey, given)
+    given.len() == totals.enabled as usize && are_ruled(survey, given)
 }
 
 /// Whether these are enabled nodes, each with its rule, by rising names.
@@ -61,9 +62,9 @@ pub(crate) fn are_mutual(survey: &mut Survey, rules: RuleSet, reply: &Reply) -> 
     let Reply::Pairs(listing) = reply else {
         return false;
     };
-    let tally = survey.tally(rules);
+    let totals = survey.totals(rules);
     let given = listing.as_slice();
-    given.len() == tally.pairs as usize && are_pairs(&survey.net, given)
+    given.len() == totals.pairs as usize && are_pairs(&survey.net, given)
 }
 
 /// Whether these are mutual pairs, by rising lower ends.
@@ -91,4 +92,23 @@ fn is_mutual(net: &NetState, pair: Edge) -> bool
     let _ = net.registers();
     let (low, high) = (pair.low(), pair.high());
     net.points(low, high) && net.points(high, low)
+}
+
+/// Whether a reply has the numbers of the network, where these moves are spent.
+pub(crate) fn has_counts(survey: &mut Survey, rules: RuleSet, spent: u64, reply: &Reply) -> bool
+    ensures value { IsTrue result ↔ (reply.now ≡ Reply.Counts (counts_of (table_of rules) survey.old.net.state spent)) }
+    ensures kept { survey.new.net.state ≡ survey.old.net.state }
+{
+    match reply {
+        Reply::Counts(given) => {
+            let totals = survey.totals(rules);
+            given.nodes == survey.net.nodes()
+                && given.edges == survey.net.edges()
+                && u64::from(given.spent) == spent
+                && given.pairs == totals.pairs
+                && given.enabled == totals.enabled
+                && given.charge == totals.charge
+        }
+        _ => false,
+    }
 }

@@ -1,4 +1,4 @@
-//! What a name brings to the numbers of a status.
+//! What a name brings to the totals of its network.
 
 ghost use Rattle.std.specs.Prelude.{◌≡◌, ◌≤◌, IsTrue, MatchOption, None, cond, false, is_some};
 ghost use Rattle.rule_machine.specs.Network.{present};
@@ -13,8 +13,8 @@ use graph_store::End;
 use net_state::NetState;
 use rule_machine::{Act, Node, RuleSet};
 
-/// The rule that is enabled at a node, whether it is the lower end of a mutual pair, what it adds to the charge beside its edges,
-/// and whether its pointer closes an edge that is open by its ends.
+/// What a node brings to the totals of its network: the rule that is enabled at it, whether it is the lower end of a mutual pair, what it
+/// adds to the charge beside its edges, and whether its pointer closes an edge that is open by its ends.
 #[derive(Clone, Copy)]
 pub(crate) struct Share {
     pub(crate) rule: Option<Act>,

@@ -1,11 +1,10 @@
-//! What each name brings to the numbers of a status, as it was when the name was last looked at.
+//! What each name brings to the totals of its network, as it was when the name was last looked at.
 
 ghost use Rattle.std.specs.Prelude.{◌≡◌, All, ℕ, ◌+◌, ◌<◌, ◌≤◌, true, false, length, replicate, slice_set, IfOk, IfSome};
 ghost use Rattle.enabled_set.specs.Members.{is_in};
 ghost use Rattle.rule_machine.specs.Network.{first_names};
-ghost use Rattle.judge.specs.Shares.{nobody, AreSummed, IsElsewhere, IsLight, IsMarked};
+ghost use Rattle.judge.specs.Shares.{no_share, AreSummed, IsElsewhere, IsLight, IsMarked};
 
-use crate::names::node_above;
 use crate::share::{NO_SHARE, Share};
 use enabled_set::EnabledSet;
 use graph_store::first_names;
@@ -32,7 +31,7 @@ impl Shares {
     /// Nothing is brought as yet, and all names up to `nodes` are due. Takes some four bytes a name.
     pub(crate) fn new(alloc: Global, nodes: u32) -> Result<Shares, Want>
         requires { nodes ≤ 65535 }
-        ensures each { IfOk result (λ it. it.each.items ≡ replicate (nodes + 1) nobody) }
+        ensures each { IfOk result (λ it. it.each.items ≡ replicate (nodes + 1) no_share) }
         ensures touched { IfOk result (λ it. it.touched ≡ replicate (nodes + 1) false) }
         ensures due { IfOk result (λ it. it.due ≡ first_names nodes nodes) }
     {
@@ -112,9 +111,18 @@ impl Shares {
 /// So many places at which nothing is brought.
 fn no_shares(alloc: Global, places: usize) -> Result<Vec<Share>, Want>
     requires { places ≤ 65536 }
-    ensures { IfOk result (λ each. each.items ≡ replicate places nobody) }
+    ensures { IfOk result (λ each. each.items ≡ replicate places no_share) }
 {
     vec![in alloc; NO_SHARE; places]
+}
+
+/// The node whose name is the next one.
+#[inline(always)]
+fn node_above(name: u16) -> Node
+    requires { name < 65535 }
+    ensures { result ≡ name + 1 }
+{
+    Node::new(u32::from(name) + 1).unwrap()
 }
 
 /// Makes all names up to `nodes` members.

@@ -1,4 +1,4 @@
-//! A network whose status is known but for what changed since it was last asked.
+//! A network whose totals are known but for what changed since they were last asked.
 
 ghost use Rattle.std.specs.Prelude.{◌≡◌, ◌≤◌, false, IfOk, IfSome, IsTrue, None, OnErr, OnOk, cond};
 ghost use Rattle.rule_machine.specs.Disturbance.{after_link, after_join};
@@ -14,8 +14,7 @@ use net_state::{Disturb, NetState};
 use rule_machine::{Node, RuleSet, Want};
 use std::alloc::Global;
 
-/// A network with its registers, and beside it what each name brings to the numbers of a status by the rules by which it was last
-/// asked. A write touches the names of which it changes something; what depends on these is looked at again by the next question.
+/// A network with its registers, and beside it what each name brings to its totals by the rules by which it was last asked. A write touches the names of which it changes something; what depends on these is looked at again by the next question.
 #[derive(Drop)]
 pub(crate) struct Survey {
     pub(crate) net: NetState,

@@ -1,11 +1,11 @@
-//! What a status counts: looks at those names alone that may bring something else than when it was last counted.
+//! What questions ask of all names: looks at those alone that may bring something else than when this was last asked.
 
 ghost use Rattle.std.specs.Prelude.{◌≡◌, ◌+◌, ◌*◌, ◌<◌, ◌≤◌, ℕ, true, false, length, slice_set, IfSome, IsTrue, MatchOption, None, cond};
 ghost use Rattle.enabled_set.specs.Members.{is_in};
 ghost use Rattle.rule_machine.specs.Network.{linked, present};
 ghost use Rattle.rule_machine.specs.RuleTable as table;
 ghost use Rattle.rule_machine.specs.Tables.{table_of};
-ghost use Rattle.judge.specs.Shares.{asks, AreAsking, AreFresh, IsTally};
+ghost use Rattle.judge.specs.Shares.{asks, AreAsking, AreFresh, AreTotals};
 
 use crate::Survey;
 use crate::share::{end_at, share_of};
@@ -14,9 +14,9 @@ use enabled_set::EnabledSet;
 use net_state::NetState;
 use rule_machine::{Act, Node, RuleSet};
 
-/// What a status counts.
+/// What questions ask of all names: how many mutual pairs and enabled nodes there are, and the charge.
 #[derive(Clone, Copy)]
-pub(crate) struct Tally {
+pub(crate) struct Totals {
     pub(crate) pairs: u32,
     pub(crate) enabled: u32,
     pub(crate) charge: u32,
@@ -161,11 +161,11 @@ impl Survey {
         }
     }
 
-    /// What a status counts by these rules. Looks at the names that were touched since this was last asked, at the neighbours of
+    /// What questions ask of all names, by these rules. Looks at the names that were touched since this was last asked, at the neighbours of
     /// these that point nowhere or at them, and at the neighbours of each such name that points nowhere, or whose edges count
     /// otherwise. An edge that is open by what its ends make of it adds 2 to the charge, unless a pointer closes it.
-    pub(crate) fn tally(&mut self, rules: RuleSet) -> Tally
-        ensures value { IsTally rules self.old.net.state result }
+    pub(crate) fn totals(&mut self, rules: RuleSet) -> Totals
+        ensures value { AreTotals rules self.old.net.state result }
         ensures kept { self.new.net.state ≡ self.old.net.state }
         ensures rules { self.new.rules ≡ rules }
         ensures fresh { AreFresh self.new.shares.touched self.new.shares.due }
@@ -176,14 +176,14 @@ impl Survey {
         self.count()
     }
 
-    /// What is counted, where no name may bring something else.
-    fn count(&self) -> Tally
+    /// The totals, where no name may bring something else.
+    fn count(&self) -> Totals
         requires { AreFresh self.now.shares.touched self.now.shares.due }
-        ensures { IsTally self.now.rules self.now.net.state result }
+        ensures { AreTotals self.now.rules self.now.net.state result }
     {
         let shares = &self.shares;
         let charge = 2 * self.net.open_edges() + shares.added - 2 * shares.closing;
-        Tally {
+        Totals {
             pairs: shares.pairs,
             enabled: shares.enabled,
             charge,

@@ -11,23 +11,23 @@ use Rattle.judge.proofs.questions.are_enabled.Goals as goal
 same_nodes : (xs ys : List (ℕ × Act)) → EnabledAre xs ≡ EnabledAre ys → xs ≡ ys
 same_nodes xs ys e = cc
 
-pub returns-then-given-tally-clause-value : goal.returns-then-given-tally-clause-value
-returns-then-given-tally-clause-value c =
+pub returns-then-given-totals-clause-value : goal.returns-then-given-totals-clause-value
+returns-then-given-totals-clause-value c =
     let t = table_of c.args.rules in
     let s = c.args.survey.now.net.state in
     let given = c.as_slice-given.result.now in
     let reply = c.in-EnabledAre.is ∙ ap EnabledAre (sym c.as_slice-given.ensures) in
-    let walked = subst (λ (u : State). IsTrue c.are_ruled.result ↔ AreRising (ruled_node t u) 0 given) c.tally-tally.ensures.kept
-    (subst (λ rules. IsTrue c.are_ruled.result ↔ AreRising (ruled_node (table_of rules) c.tally-tally.new.self.net.state) 0 given) c.tally-tally.ensures.rules c.are_ruled.ensures) in
-    let listed = enabled_listed t s given (c.if-given-tally.true ∙ c.tally-tally.ensures.value.enabled) in
+    let walked = subst (λ (u : State). IsTrue c.are_ruled.result ↔ AreRising (ruled_node t u) 0 given) c.totals-totals.ensures.kept
+    (subst (λ rules. IsTrue c.are_ruled.result ↔ AreRising (ruled_node (table_of rules) c.totals-totals.new.self.net.state) 0 given) c.totals-totals.ensures.rules c.are_ruled.ensures) in
+    let listed = enabled_listed t s given (c.if-given-totals.true ∙ c.totals-totals.ensures.value.enabled) in
     (λ yes. reply ∙ ap EnabledAre (listed.0 (walked.0 yes)), λ same. walked.1 (listed.1 (same_nodes given (enabled t s) (sym reply ∙ same))))
 
-pub returns-else-given-tally-clause-value : goal.returns-else-given-tally-clause-value
-returns-else-given-tally-clause-value c =
+pub returns-else-given-totals-clause-value : goal.returns-else-given-totals-clause-value
+returns-else-given-totals-clause-value c =
     let t = table_of c.args.rules in
     let s = c.args.survey.now.net.state in
     let given = c.as_slice-given.result.now in
     let reply = c.in-EnabledAre.is ∙ ap EnabledAre (sym c.as_slice-given.ensures) in (
-      λ yes. absurd (c.if-given-tally.false (eqb-true (length given) c.tally-tally.result.enabled yes)),
-      λ same. absurd (c.if-given-tally.false (ap length (same_nodes given (enabled t s) (sym reply ∙ same)) ∙ sym (enabled_count t s) ∙ sym c.tally-tally.ensures.value.enabled)),
+      λ yes. absurd (c.if-given-totals.false (eqb-true (length given) c.totals-totals.result.enabled yes)),
+      λ same. absurd (c.if-given-totals.false (ap length (same_nodes given (enabled t s) (sym reply ∙ same)) ∙ sym (enabled_count t s) ∙ sym c.totals-totals.ensures.value.enabled)),
     )

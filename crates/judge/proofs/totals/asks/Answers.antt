@@ -1,7 +1,7 @@
 use Rattle.std.proofs.Common.{◌∙◌, ◌||◌, is_none, sym, ap}
 use Rattle.rule_machine.specs.State.{is_at}
 use Rattle.judge.proofs.Pairs.{neighbour_asks}
-use Rattle.judge.proofs.tally.asks.Goals as goal
+use Rattle.judge.proofs.totals.asks.Goals as goal
 
 pub returns-in-Some : goal.returns-in-Some
 returns-in-Some c =

@@ -3,8 +3,8 @@ use Rattle.enabled_set.specs.Members.{is_in}
 use Rattle.rule_machine.specs.Network.{present}
 use Rattle.machine_laws.specs.Neighbours.{present_range}
 use Rattle.judge.proofs.Asking.{asking_end, asking_first, asking_next, asking_none}
-use Rattle.judge.proofs.tally.mark_around.Goals as goal
-use Rattle.judge.proofs.tally.mark_around.Goals.{then-asks, else-asks}
+use Rattle.judge.proofs.totals.mark_around.Goals as goal
+use Rattle.judge.proofs.totals.mark_around.Goals.{then-asks, else-asks}
 
 pub returns-then-not-has : goal.returns-then-not-has
 returns-then-not-has c = asking_none c.args.net.now.state c.args.v c.args.due.now c.mark.new.set c.registers.ensures.sound (sym c.has.ensures ∙ c.if-not-has.true) c.mark.ensures

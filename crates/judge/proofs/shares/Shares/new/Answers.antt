@@ -1,13 +1,13 @@
 use Rattle.std.proofs.Common.{◌+◌, ◌∙◌, length, ap, arith}
 use Rattle.std.proofs.lemmas.List.{length-replicate}
-use Rattle.judge.specs.Shares.{nobody}
+use Rattle.judge.specs.Shares.{no_share}
 use Rattle.judge.proofs.Summed.{none_light, none_summed}
 use Rattle.judge.proofs.shares.Shares.new.Goals as goal
 
 pub invariant_of-result : goal.invariant_of-result
 invariant_of-result c =
     let n = c.args.nodes + 1 in
-    let places = ap length c.in_ok-each.ensures ∙ length-replicate n nobody in
+    let places = ap length c.in_ok-each.ensures ∙ length-replicate n no_share in
     record {
       few = omega (arith, places, c.requires);
       light = none_light c.in_ok-each.each.items n c.in_ok-each.ensures;
