@@ -1,4 +1,4 @@
--- What each node brings to what questions ask of all nodes.
+-- What each node brings to the totals of its network.
 use Rattle.std.specs.Prelude.{◌≡◌, ◌≢◌, ℕ, ◌+◌, ◌≤◌, Bool, false, cond, ◌&&◌, List, length, count_by, sum_by, Option, Some, None, is_some, option_and_then, slice_index_or, IsTrue, if◌then◌else◌}
 use Rattle.enabled_set.specs.Members.{is_in}
 use Rattle.graph_store.specs.declared.end.End.{End}

@@ -1,4 +1,4 @@
-//! What each node brings to what questions ask of all nodes, as it was when the node was last looked at.
+//! What each node brings to the totals of its network, as it was when the node was last looked at.
 
 ghost use Rattle.std.specs.Prelude.{◌≡◌, ◌≢◌, All, ℕ, ◌+◌, ◌<◌, ◌≤◌, false, length, replicate, slice_set, IfOk, IfSome};
 ghost use Rattle.enabled_set.specs.Members.{is_in};
@@ -11,8 +11,8 @@ use graph_store::first_names;
 use rule_machine::{Node, Want};
 use std::alloc::Global;
 
-/// What a node brings to the charge beside its own edges: what it adds, and how many pointers at it close the edge that they are
-/// on, which its ends leave open.
+/// What a node brings to the totals of its network: what it adds to the charge beside its edges, and how many pointers at it close the
+/// edge that they are on, which its ends leave open.
 #[derive(Clone, Copy)]
 pub(crate) struct Share {
     pub(crate) added: u16,
