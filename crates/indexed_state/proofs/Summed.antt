@@ -1,17 +1,11 @@
 -- What the shares come to where no name is stale.
-use Rattle.std.proofs.Common.{◌≡◌, ◌*◌, ◌≢◌, ℕ, suc, ◌+◌, ◌-◌, ◌<◌, ◌≤◌, Bool, true, false, cond, not, ◌&&◌, List, [], ◌∷◌, length, get_or, set, map, count_by, sum_by, filter, filter_map, Option, None, Some, is_some, option_and_then, IsTrue, nat_eq, take, refl, sym, ap, ap₂, ◌∙◌, ⊎_elim, arith}
+use Rattle.std.proofs.Common.{◌≡◌, ℕ, suc, ◌+◌, ◌<◌, ◌≤◌, Bool, true, false, cond, not, ◌&&◌, List, [], ◌∷◌, length, get_or, count_by, sum_by, filter, filter_map, Option, None, Some, is_some, option_and_then, IsTrue, nat_eq, take, refl, sym, ap, ap₂, ◌∙◌, ⊎_elim, arith}
 use mir.Val.{bool_byte}
 use Rattle.std.specs.List.{range_with_len, cons_option}
-use Rattle.std.proofs.lemmas.Bool.{cases_eq, cases_lt, eq-eqb, false_from_ne_true, ne_eqb, true≢false}
-use Rattle.std.proofs.lemmas.List.{ext_get_or, get_or_past, get_or-set_other, get_or-set_same, length-set}
-use Rattle.std.proofs.lemmas.List.FromFn.{get_or-map-range_with_len, length-map-range_with_len}
-use Rattle.std.specs.List.{All}
-use Rattle.std.proofs.lemmas.List.Elements.{All-set}
-use Rattle.std.proofs.lemmas.List.Sums.{sum_by_more, sum_by-cons, sum_by-le, sum_by-set}
+use Rattle.std.proofs.lemmas.Bool.{cases_eq, eq-eqb, false_from_ne_true, ne_eqb, true≢false}
+use Rattle.std.proofs.lemmas.List.Sums.{sum_by_more, sum_by-cons}
 use Rattle.enabled_set.specs.Members.{is_in, members}
-use Rattle.enabled_set.specs.Counts.{tally}
-use Rattle.enabled_set.proofs.Members.{length-members}
-use Rattle.enabled_set.proofs.Tally.{past_above, tally_put}
+use Rattle.enabled_set.proofs.Sums.{summed}
 use Rattle.graph_store.specs.declared.end.End.{End}
 use Rattle.graph_store.specs.declared.end.End.TheVariants.{Shut, Courted, Free}
 use Rattle.graph_store.specs.Ends.{are_open, end_at, open_edges}
@@ -31,41 +25,6 @@ use Rattle.charge_laws.specs.EdgesByEnds.{edges_agree}
 use Rattle.indexed_state.specs.declared.shares.Share.{Share}
 use Rattle.indexed_state.specs.Shares.{answered_by, closing_at, end_of, is_lower_end, no_share, share_at}
 use Rattle.indexed_state.proofs.Named.{names_sum, pairs_scanned}
-
--- ---- stale names
-
--- a member has a place
-pub has_place : (bits : List Bool) (v : ℕ) → is_in bits v ≡ true → v < length bits
-has_place bits v is =
-    ⊎_elim (λ (within : v < length bits). within) (λ (past : length bits ≤ v). absurd (true≢false (sym is ∙ get_or_past bits v false past))) (cases_lt v (length bits))
-
--- who is no member is none of the set without another
-pub still_none : (bits bits' : List Bool) (v w : ℕ) → bits' ≡ set bits v false → is_in bits w ≡ false → is_in bits' w ≡ false
-still_none bits bits' v w cleared none =
-    ⊎_elim
-    (λ (same : w ≡ v).
-    ⊎_elim
-    (λ (within : v < length bits). ap (λ x. is_in bits' x) same ∙ ap (λ l. is_in l v) cleared ∙ get_or-set_same bits v false false within)
-    (λ (past : length bits ≤ v). ap (λ x. is_in bits' x) same ∙ ap (λ l. is_in l v) cleared ∙ get_or_past (set bits v false) v false (let places = length-set bits v false in omega (arith, places, past)))
-    (cases_lt v (length bits)))
-    (λ (apart : w ≢ v). ap (λ l. is_in l w) cleared ∙ get_or-set_other bits v w false false apart ∙ none)
-    (cases_eq w v)
-
--- what holds in all blocks holds everywhere
-pub none_anywhere : (bits : List Bool) (blocks : ℕ) → length bits ≤ 64 * blocks → ((v : ℕ) → v < 64 * blocks → is_in bits v ≡ false) → (v : ℕ) → is_in bits v ≡ false
-none_anywhere bits blocks covered none v =
-    ⊎_elim (λ (within : v < 64 * blocks). none v within) (λ (past : 64 * blocks ≤ v). get_or_past bits v false (omega (arith, covered, past))) (cases_lt v (64 * blocks))
-
--- a set without one of its members has fewer
-pub one_fewer : (bits bits' : List Bool) (v : ℕ) → is_in bits v ≡ true → v < length bits → bits' ≡ set bits v false → length (members bits') < length (members bits)
-one_fewer bits bits' v is within cleared =
-    let before = length-members bits in
-    let after = length-members bits' in
-    let places = ap length cleared ∙ length-set bits v false in
-    let same : tally (is_in bits') (length bits') ≡ tally (is_in bits') (length bits) = ap (tally (is_in bits')) places in
-    let less = tally_put (is_in bits') (is_in bits) v (ap (λ l. is_in l v) cleared ∙ get_or-set_same bits v false false within) is (λ k apart. sym (ap (λ l. is_in l k) cleared ∙ get_or-set_other bits v k false false apart)) (length bits) in
-    let one = past_above v (length bits) within in
-    omega (arith, before, after, same, less, one)
 
 -- ---- lower ends
 
@@ -101,11 +60,6 @@ lower_count s lower good places same =
     ∙ sym (ap length (pairs_scanned s good))
 
 -- ---- pointers that close an edge
-
--- a test as a number
-pub one_byte : (b : Bool) → bool_byte b ≡ cond b 1 0
-one_byte true = refl
-one_byte false = refl
 
 pub few_bytes : (b : Bool) → bool_byte b ≤ 1
 few_bytes true = omega arith
@@ -157,43 +111,15 @@ lone_closing s closes v w lone =
 
 -- ---- sums
 
--- a sum over a list is one over its places
-by_places : {X : Type 0} (f : X → ℕ) (xs : List X) (d : X) → sum_by f xs ≡ sum_by (λ i. f (get_or xs i d)) (range_with_len 0 (length xs))
-by_places {X = X} f xs d =
-    ap (sum_by f) (ext_get_or d xs (map (λ i. get_or xs i d) (range_with_len 0 (length xs))) (sym (length-map-range_with_len (λ i. get_or xs i d) 0 (length xs))) (λ i within. sym (get_or-map-range_with_len (λ i. get_or xs i d) 0 (length xs) i i d within (omega arith))))
-    ∙ mapped (λ i. get_or xs i d) (range_with_len 0 (length xs))
-  where
-    mapped : (g : ℕ → X) (is : List ℕ) → sum_by f (map g is) ≡ sum_by (λ i. f (g i)) is
-    mapped g [] = refl
-    mapped g (i ∷ is) =
-        let left = sum_by-cons f (g i) (map g is) in
-        let right = sum_by-cons (λ i. f (g i)) i is in
-        let rest = mapped g is in
-        omega (arith, left, right, rest)
-
--- where one share takes the place of another the sum still fits
-pub sum_fits : (f : Share → ℕ) (each : List Share) (v : ℕ) (was share : Share) (sum x y : ℕ) → length each ≤ 65536 → All (λ it. f it ≤ 65535) each → f share ≤ 65535 → v < length each → sum ≡ sum_by f each → was ≡ get_or each v was → x ≡ f was → y ≡ f share → sum - x + y ≤ 4294901760
-sum_fits f each v was share sum x y few light fits within is at left right =
-    let turn = sum_by-set f each v share was within in
-    let most = sum_by-le f 65535 (set each v share) (All-set (λ it. f it ≤ 65535) each v share fits light) in
-    let places = length-set each v share in
-    let same = ap f at in
-    omega (arith, turn, most, places, same)
-
 -- what the names bring is what the nodes bring, where nobody has place 0
-pub summed : (f : Share → ℕ) (part : ℕ → ℕ) (net : Network) (each : List Share) → length each ≡ net.size + 1 → ((v : ℕ) → f (share_at each v) ≡ cond (present net v) (part v) 0) → sum_by f each ≡ sum_by part (names net)
-summed f part net each places told =
-    let count : length each ≡ suc net.size = omega (arith, places) in
-    by_places f each no_share
-    ∙ ap (λ n. sum_by (λ v. f (share_at each v)) (range_with_len 0 n)) count
-    ∙ (λ i. sum_by (λ v. told v i) (range_with_len 0 (suc net.size)))
-    ∙ (let whole = sum_by-cons (λ v. cond (present net v) (part v) 0) 0 (range_with_len 1 net.size) in omega (arith, whole))
-    ∙ sym (names_sum part net)
+pub node_sum : (f : Share → ℕ) (part : ℕ → ℕ) (net : Network) (each : List Share) → length each ≡ net.size + 1 → ((v : ℕ) → f (share_at each v) ≡ cond (present net v) (part v) 0) → sum_by f each ≡ sum_by part (names net)
+node_sum f part net each places told =
+    summed f (λ v. cond (present net v) (part v) 0) net.size each no_share places (told 0) told ∙ sym (names_sum part net)
 
 -- and the pointers that close an edge are those that are counted at their targets
 pub closing_summed : (s : State) → IsState s → (closes : ℕ → Bool) → ((v : ℕ) → pointer s v ≡ None → closes v ≡ false) → (each : List Share) → length each ≡ s.network.size + 1 → ((v : ℕ) → (share_at each v).closing ≡ cond (present s.network v) (closing_at closes s v) 0) → sum_by (λ (it : Share). it.closing) each ≡ count_by closes (names s.network)
 closing_summed s good closes null each places told =
-    summed (λ (it : Share). it.closing) (closing_at closes s) s.network each places told ∙ closing_by_targets s good closes null
+    node_sum (λ (it : Share). it.closing) (closing_at closes s) s.network each places told ∙ closing_by_targets s good closes null
 
 -- ---- edges
 

@@ -1,8 +1,9 @@
 -- What is kept of each name, at first and after a look.
 use Rattle.std.proofs.Common.{◌≡◌, ◌≢◌, ℕ, ◌+◌, ◌<◌, ◌≤◌, Bool, false, cond, ◌&&◌, List, length, get_or, set, replicate, None, Some, is_some, option_and_then, IsTrue, leb, sym, ap, subst, ◌∙◌, ⊎_elim, arith}
 use Rattle.std.proofs.lemmas.Bool.{cases_eq, cases_lt, le-leb, lt-leb, and_left, true≢false}
-use Rattle.std.proofs.lemmas.List.{get_or-replicate, get_or_past, get_or-set_other, get_or-set_same, length-replicate, length-set}
+use Rattle.std.proofs.lemmas.List.{get_or-set_other, get_or-set_same, length-replicate, length-set}
 use Rattle.enabled_set.specs.Members.{is_in}
+use Rattle.enabled_set.proofs.Sums.{everywhere}
 use Rattle.graph_store.specs.declared.end.End.{End}
 use Rattle.graph_store.specs.Ends.{end_at}
 use Rattle.graph_store.proofs.Present.{first_names_at, first_names_len}
@@ -11,11 +12,6 @@ use Rattle.rule_machine.specs.State.{State, points, pointer, opening_with}
 use Rattle.rule_machine.specs.Stable.{pair_above}
 use Rattle.indexed_state.specs.declared.shares.Share.{Share}
 use Rattle.indexed_state.specs.Shares.{closing_at, end_of, is_lower_end, no_share, node_part, share_at, IsToldAt, AreTold}
-
--- what is everywhere is at each place, and past the end
-pub everywhere : {X : Type 0} (n v : ℕ) (d : X) → get_or (replicate n d) v d ≡ d
-everywhere n v d =
-    ⊎_elim (λ (below : v < n). get_or-replicate n v d d below) (λ (past : n ≤ v). get_or_past (replicate n d) v d (let k = length-replicate n d in omega (arith, k))) (cases_lt v n)
 
 -- of a name without a node and without a pointer nothing is to be told
 told_nowhere : (courted_close : Bool) (closes : State → ℕ → Bool) (adds : State → ℕ → ℕ) (s : State) (ends : List End) (each : List Share) (lower : List Bool) (v : ℕ) → present s.network v ≡ false → pointer s v ≡ None → share_at each v ≡ no_share → is_in lower v ≡ false → IsToldAt courted_close closes adds s ends each lower v

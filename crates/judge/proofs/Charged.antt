@@ -18,9 +18,9 @@ use Rattle.graph_store.specs.declared.end.End.TheVariants.{Shut, Courted, Free}
 use Rattle.graph_store.specs.Ends.{are_open, end_at, open_edges}
 use Rattle.judge.specs.declared.share.Share.{Share}
 use Rattle.judge.specs.Rising.{pair_at}
-use Rattle.judge.specs.Shares.{end_of, closes, flag_charge, adds, AreFresh, AreSummed, AreTold, IsToldAt}
+use Rattle.judge.specs.Shares.{end_of, closes, flag_charge, adds, no_share, AreFresh, AreSummed, AreTold, IsToldAt}
 use Rattle.judge.proofs.Counting.{kept_count, kept_sum, kept_values, length_filter_map}
-use Rattle.judge.proofs.Summed.{summed}
+use Rattle.enabled_set.proofs.Sums.{summed}
 
 -- each node makes of its edges what the state says
 abbrev pub AreTurned : RuleSet → State → List End → Type 0
@@ -100,15 +100,15 @@ pub record IsCounted (rules : RuleSet) (s : State) (ends : List End) (pairs enab
 pub counted : (rules : RuleSet) (s : State) (ends : List End) (each : List Share) (touched due : List Bool) (pairs enabled added closing : ℕ) → AreTold rules s ends each touched due → AreFresh touched due → AreSummed each pairs enabled added closing → IsCounted rules s ends pairs enabled added closing
 counted rules s ends each touched due pairs enabled added closing told fresh sums = record {
   paired = sums.paired
-      ∙ summed (λ it. cond it.is_lower_end 1 0) (λ v. cond (is_some (pair_at s v)) 1 0) s.network.size each told.places (ap (λ (it : Share). cond {A = ℕ} it.is_lower_end 1 0) told.nobody) (λ v. ap (λ b. cond {A = ℕ} b 1 0) (at v).share.is_lower_end)
+      ∙ summed (λ (it : Share). cond it.is_lower_end 1 0) (λ v. cond (is_some (pair_at s v)) 1 0) s.network.size each no_share told.places (ap (λ (it : Share). cond {A = ℕ} it.is_lower_end 1 0) told.nobody) (λ v. ap (λ b. cond {A = ℕ} b 1 0) (at v).share.is_lower_end)
       ∙ sym (ap length (kept_values (present s.network) (λ v. pair_above v (partner s v)) (pair_at s) (λ v. refl) all) ∙ length_filter_map (pair_at s) all);
   ruled = sums.ruled
-      ∙ summed (λ it. cond (is_some it.rule) 1 0) (λ v. cond (is_some (cond (present s.network v) (rule_at (table_of rules) s v) None)) 1 0) s.network.size each told.places (ap (λ (it : Share). cond {A = ℕ} (is_some it.rule) 1 0) told.nobody) (λ v. ap (λ o. cond {A = ℕ} (is_some o) 1 0) (at v).share.rule)
+      ∙ summed (λ (it : Share). cond (is_some it.rule) 1 0) (λ v. cond (is_some (cond (present s.network v) (rule_at (table_of rules) s v) None)) 1 0) s.network.size each no_share told.places (ap (λ (it : Share). cond {A = ℕ} (is_some it.rule) 1 0) told.nobody) (λ v. ap (λ o. cond {A = ℕ} (is_some o) 1 0) (at v).share.rule)
       ∙ sym (kept_count (present s.network) (rule_at (table_of rules) s) all);
   charged =
       let charge = charge_turned rules s ends told.sound (λ v here. (at v).end here) in
-      let more = sums.in_all ∙ summed (λ it. it.added) (λ v. cond (present s.network v) (adds rules s v) 0) s.network.size each told.places (ap (λ (it : Share). it.added) told.nobody) (λ v. (at v).share.added) in
-      let less = sums.closed ∙ summed (λ it. cond it.closes 1 0) (λ v. cond (cond (present s.network v) (closes rules s v) false) 1 0) s.network.size each told.places (ap (λ (it : Share). cond {A = ℕ} it.closes 1 0) told.nobody) (λ v. ap (λ b. cond {A = ℕ} b 1 0) (at v).share.closes) in
+      let more = sums.in_all ∙ summed (λ (it : Share). it.added) (λ v. cond (present s.network v) (adds rules s v) 0) s.network.size each no_share told.places (ap (λ (it : Share). it.added) told.nobody) (λ v. (at v).share.added) in
+      let less = sums.closed ∙ summed (λ (it : Share). cond it.closes 1 0) (λ v. cond (cond (present s.network v) (closes rules s v) false) 1 0) s.network.size each no_share told.places (ap (λ (it : Share). cond {A = ℕ} it.closes 1 0) told.nobody) (λ v. ap (λ b. cond {A = ℕ} b 1 0) (at v).share.closes) in
       omega (arith, charge, more, less);
 }
   where

@@ -3,7 +3,6 @@ pub mod Moving
 pub mod Listed
 pub mod Rising
 pub mod Table
-pub mod Blocks
 pub mod Counting
 pub mod Pairs
 pub mod Rounds

@@ -1,8 +1,9 @@
 -- What is kept of each name: at first, as what depends on a name becomes due, and after a look.
 use Rattle.std.proofs.Common.{◌≡◌, ◌≢◌, ℕ, ◌+◌, ◌<◌, ◌≤◌, Bool, true, false, cond, ◌&&◌, List, length, get_or, set, replicate, None, is_some, IsTrue, leb, sym, ap, subst, ◌∙◌, ⊎_elim, arith}
 use Rattle.std.proofs.lemmas.Bool.{cases_eq, cases_lt, le-leb, lt-leb, and_left, true≢false}
-use Rattle.std.proofs.lemmas.List.{get_or-replicate, get_or_past, get_or-set_other, get_or-set_same, length-replicate, length-set}
+use Rattle.std.proofs.lemmas.List.{get_or_past, get_or-set_other, get_or-set_same, length-replicate, length-set}
 use Rattle.enabled_set.specs.Members.{is_in}
+use Rattle.enabled_set.proofs.Sums.{everywhere}
 use Rattle.graph_store.specs.declared.end.End.{End}
 use Rattle.graph_store.specs.Ends.{end_at}
 use Rattle.graph_store.proofs.Present.{first_names_at, first_names_len}
@@ -14,11 +15,6 @@ use Rattle.rule_machine.specs.State.{State, IsState, partner}
 use Rattle.rule_machine.specs.Tables.{table_of}
 use Rattle.judge.specs.declared.share.Share.{Share}
 use Rattle.judge.specs.Shares.{adds, asks, closes, end_of, no_share, share_at, AreAsking, IsShare, IsToldAt, AreTold}
-
--- what is everywhere is at each place, and past the end
-everywhere : {X : Type 0} (n v : ℕ) (d : X) → get_or (replicate n d) v d ≡ d
-everywhere n v d =
-    ⊎_elim (λ (below : v < n). get_or-replicate n v d d below) (λ (past : n ≤ v). get_or_past (replicate n d) v d (let k = length-replicate n d in omega (arith, k))) (cases_lt v n)
 
 -- of a name without a node nothing is to be told
 told_nowhere : (rules : RuleSet) (s : State) (ends : List End) (each : List Share) (v : ℕ) → present s.network v ≡ false → share_at each v ≡ no_share → IsToldAt rules s ends each v

@@ -4,7 +4,8 @@ use Rattle.rule_machine.specs.Network.{neighbours}
 use Rattle.rule_machine.specs.State.{points}
 use Rattle.suitor_index.proofs.Built.{few_neighbours}
 use Rattle.indexed_state.specs.Indexed.{Indexed}
-use Rattle.indexed_state.proofs.Summed.{counted_more, few_bytes, one_byte}
+use Rattle.enabled_set.proofs.Sums.{one_byte}
+use Rattle.indexed_state.proofs.Summed.{counted_more, few_bytes}
 use Rattle.indexed_state.proofs.state.IndexedState.closing_among.Goals as goal
 
 pub overflow_add-closing : goal.overflow_add-closing

@@ -1,7 +1,8 @@
 use Rattle.std.proofs.Common.{◌∙◌, ℕ, Bool, cond, ap, subst, sym}
 use Rattle.rule_machine.specs.State.{State, IsState}
 use Rattle.indexed_state.specs.Indexed.{Indexed}
-use Rattle.indexed_state.proofs.Summed.{lone_closing, no_closing, one_byte}
+use Rattle.enabled_set.proofs.Sums.{one_byte}
+use Rattle.indexed_state.proofs.Summed.{lone_closing, no_closing}
 use Rattle.indexed_state.proofs.state.IndexedState.closing_at.Goals as goal
 
 pub returns-then-not-node : goal.returns-then-not-node

@@ -1,7 +1,7 @@
 use Rattle.std.proofs.Common.{◌∙◌, ◌*◌, ◌<◌, ◌≤◌, length, ap, arith, ⊎_elim}
 use Rattle.std.proofs.lemmas.Bool.{cases_lt}
 use Rattle.indexed_state.specs.Indexed.{Indexed}
-use Rattle.indexed_state.proofs.Summed.{none_anywhere}
+use Rattle.enabled_set.proofs.Blocks.{none_anywhere}
 use Rattle.indexed_state.proofs.state.IndexedState.look_again.Goals as goal
 
 pub loop-block-preserved : goal.loop-block-preserved

@@ -1,11 +1,11 @@
 use Rattle.std.proofs.Common.{◌∙◌, ap, length, false, length-set}
-use Rattle.indexed_state.proofs.Summed.{has_place, one_fewer, still_none}
+use Rattle.enabled_set.proofs.Blocks.{one_fewer, still_none}
 use Rattle.indexed_state.proofs.state.IndexedState.look_again_in.Goals as goal
 
 pub loop-v-smaller : goal.loop-v-smaller
 loop-v-smaller g c =
     let member = c.in-Some.ensures.first in
-    one_fewer c.loop-v.self.stale c.look_at.new.self.stale c.in-Some.v member (has_place c.loop-v.self.stale c.in-Some.v member) c.look_at.ensures.stale
+    one_fewer c.loop-v.self.stale c.look_at.new.self.stale c.in-Some.v member c.look_at.ensures.stale
 
 pub loop-v-preserved : goal.loop-v-preserved
 loop-v-preserved g c = record {

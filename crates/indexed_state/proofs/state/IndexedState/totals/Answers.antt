@@ -7,7 +7,7 @@ use Rattle.rule_set.specs.Ends.{ends_open}
 use Rattle.indexed_state.specs.declared.shares.Share.{Share}
 use Rattle.indexed_state.specs.Indexed.{Indexed}
 use Rattle.indexed_state.specs.Shares.{node_part}
-use Rattle.indexed_state.proofs.Summed.{closing_summed, lower_count, summed, turned_open}
+use Rattle.indexed_state.proofs.Summed.{closing_summed, lower_count, node_sum, turned_open}
 use Rattle.indexed_state.proofs.state.IndexedState.totals.Goals as goal
 
 pub returns-clause-pairs : goal.returns-clause-pairs
@@ -37,7 +37,7 @@ returns-clause-added g c =
     let fresh : (v : ℕ) → is_in c.self.inside.shares.stale v ≡ false = λ v. ap (λ (n : Indexed). is_in n.stale v) c.self.view_is ∙ c.look_again.ensures.told v in
     let told = c.self.invariant.1 in
     c.self.inside.shares.summed.in_all
-    ∙ summed (λ (it : Share). it.added) (node_part (g.R.Rules.adds s) s) s.network c.self.inside.shares.each.items told.places (λ v. (told.told v (fresh v)).added)
+    ∙ node_sum (λ (it : Share). it.added) (node_part (g.R.Rules.adds s) s) s.network c.self.inside.shares.each.items told.places (λ v. (told.told v (fresh v)).added)
     ∙ ap (λ (t : State). sum_by (node_part (g.R.Rules.adds t) t) (names t.network)) same
 
 pub returns-clause-closing : goal.returns-clause-closing

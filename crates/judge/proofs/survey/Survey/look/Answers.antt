@@ -1,5 +1,5 @@
 use Rattle.std.proofs.Common.{◌∙◌, arith}
-use Rattle.judge.proofs.Blocks.{none_anywhere, none_further}
+use Rattle.enabled_set.proofs.Blocks.{none_anywhere, none_further}
 use Rattle.judge.proofs.survey.Survey.look.Goals as goal
 
 pub loop-block-preserved : goal.loop-block-preserved

@@ -1,5 +1,5 @@
 use Rattle.std.proofs.Common.{◌∙◌, ap, length, false, length-set}
-use Rattle.judge.proofs.Blocks.{one_fewer, still_none}
+use Rattle.enabled_set.proofs.Blocks.{one_fewer, still_none}
 use Rattle.judge.proofs.survey.Survey.look_in.Goals as goal
 
 pub loop-v-smaller : goal.loop-v-smaller

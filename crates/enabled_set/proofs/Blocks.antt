@@ -1,16 +1,11 @@
 -- Sets of names of which each block is gone through.
 use Rattle.std.proofs.Common.{◌≡◌, ◌≢◌, ℕ, ◌+◌, ◌*◌, ◌<◌, ◌≤◌, Bool, true, false, List, length, set, sym, ap, ◌∙◌, ⊎_elim, arith}
-use Rattle.std.proofs.lemmas.Bool.{cases_eq, cases_lt, true≢false}
+use Rattle.std.proofs.lemmas.Bool.{cases_eq, cases_lt}
 use Rattle.std.proofs.lemmas.List.{get_or_past, get_or-set_other, get_or-set_same, length-set}
 use Rattle.enabled_set.specs.Members.{is_in, members}
 use Rattle.enabled_set.specs.Counts.{tally}
-use Rattle.enabled_set.proofs.Members.{length-members}
+use Rattle.enabled_set.proofs.Members.{inside, length-members}
 use Rattle.enabled_set.proofs.Tally.{past_above, tally_put}
-
--- a member has a place
-pub has_place : (bits : List Bool) (v : ℕ) → is_in bits v ≡ true → v < length bits
-has_place bits v is =
-    ⊎_elim (λ (within : v < length bits). within) (λ (past : length bits ≤ v). absurd (true≢false (sym is ∙ get_or_past bits v false past))) (cases_lt v (length bits))
 
 -- who is no member is none of the set without another
 pub still_none : (bits bits' : List Bool) (v w : ℕ) → bits' ≡ set bits v false → is_in bits w ≡ false → is_in bits' w ≡ false
@@ -37,7 +32,7 @@ none_further bits bits' block before fewer here v below =
 -- a set without one of its members has fewer
 pub one_fewer : (bits bits' : List Bool) (v : ℕ) → is_in bits v ≡ true → bits' ≡ set bits v false → length (members bits') < length (members bits)
 one_fewer bits bits' v is cleared =
-    let within = has_place bits v is in
+    let within = inside bits v is in
     let before = length-members bits in
     let after = length-members bits' in
     let places = ap length cleared ∙ length-set bits v false in

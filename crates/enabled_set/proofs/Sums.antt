@@ -1,0 +1,62 @@
+-- Sums of what a list has at a place for each name.
+use Rattle.std.proofs.Common.{◌≡◌, ℕ, suc, ◌+◌, ◌*◌, ◌-◌, ◌<◌, ◌≤◌, Bool, true, false, cond, List, [], ◌∷◌, length, get_or, replicate, set, map, sum_by, sym, refl, ap, ◌∙◌, ⊎_elim, arith}
+use Rattle.std.specs.List.{All, range_with_len}
+use mir.Val.{bool_byte}
+use Rattle.std.proofs.Math.Nat.{le_trans}
+use Rattle.std.proofs.lemmas.Bool.{cases_lt}
+use Rattle.std.proofs.lemmas.Nat.{mul-le}
+use Rattle.std.proofs.lemmas.List.{ext_get_or, get_or-replicate, get_or_past, length-replicate, length-set}
+use Rattle.std.proofs.lemmas.List.Elements.{All-set}
+use Rattle.std.proofs.lemmas.List.FromFn.{get_or-map-range_with_len, length-map-range_with_len}
+use Rattle.std.proofs.lemmas.List.Sums.{get_or-le-sum_by, sum_by-cons, sum_by-le, sum_by-set}
+
+-- what is everywhere is at each place, and past the end
+pub everywhere : {X : Type 0} (n v : ℕ) (d : X) → get_or (replicate n d) v d ≡ d
+everywhere n v d =
+    ⊎_elim (λ (below : v < n). get_or-replicate n v d d below) (λ (past : n ≤ v). get_or_past (replicate n d) v d (let k = length-replicate n d in omega (arith, k))) (cases_lt v n)
+
+-- a test as a number
+pub one_byte : (b : Bool) → bool_byte b ≡ cond b 1 0
+one_byte true = refl
+one_byte false = refl
+
+-- a sum over a list is one over its places
+by_places : {X : Type 0} (f : X → ℕ) (xs : List X) (d : X) → sum_by f xs ≡ sum_by (λ i. f (get_or xs i d)) (range_with_len 0 (length xs))
+by_places {X = X} f xs d =
+    ap (sum_by f) (ext_get_or d xs (map (λ i. get_or xs i d) (range_with_len 0 (length xs))) (sym (length-map-range_with_len (λ i. get_or xs i d) 0 (length xs))) (λ i within. sym (get_or-map-range_with_len (λ i. get_or xs i d) 0 (length xs) i i d within (omega arith))))
+    ∙ mapped (λ i. get_or xs i d) (range_with_len 0 (length xs))
+  where
+    mapped : (g : ℕ → X) (is : List ℕ) → sum_by f (map g is) ≡ sum_by (λ i. f (g i)) is
+    mapped g [] = refl
+    mapped g (i ∷ is) =
+        let left = sum_by-cons f (g i) (map g is) in
+        let right = sum_by-cons (λ i. f (g i)) i is in
+        let rest = mapped g is in
+        omega (arith, left, right, rest)
+
+-- what the places hold is what the names from 1 on bring, where place 0 has nothing
+pub summed : {X : Type 0} (f : X → ℕ) (part : ℕ → ℕ) (size : ℕ) (xs : List X) (d : X) → length xs ≡ size + 1 → f (get_or xs 0 d) ≡ 0 → ((v : ℕ) → f (get_or xs v d) ≡ part v) → sum_by f xs ≡ sum_by part (range_with_len 1 size)
+summed f part size xs d places none told =
+    let count : length xs ≡ suc size = omega (arith, places) in
+    by_places f xs d
+    ∙ ap (λ n. sum_by (λ v. f (get_or xs v d)) (range_with_len 0 n)) count
+    ∙ (λ i. sum_by (λ v. told v i) (range_with_len 0 (suc size)))
+    ∙ (let whole = sum_by-cons part 0 (range_with_len 1 size) in let zero = sym (told 0) ∙ none in omega (arith, whole, zero))
+
+-- the sum after one place was written
+pub sum_put : {X : Type 0} (f : X → ℕ) (xs : List X) (v : ℕ) (was it : X) (sum x y : ℕ) → v < length xs → sum ≡ sum_by f xs → was ≡ get_or xs v was → x ≡ f was → y ≡ f it → sum - x + y ≡ sum_by f (set xs v it)
+sum_put f xs v was it sum x y within is at left right =
+    let turn = sum_by-set f xs v it was within in
+    let part = get_or-le-sum_by f xs v was within in
+    let same = ap f at in
+    omega (arith, turn, part, same, is, left, right)
+
+-- still fits, where no place holds more than the most
+pub sum_fits : {X : Type 0} (f : X → ℕ) (most : ℕ) (xs : List X) (v : ℕ) (was it : X) (sum x y : ℕ) → length xs ≤ 65536 → All (λ z. f z ≤ most) xs → f it ≤ most → v < length xs → sum ≡ sum_by f xs → was ≡ get_or xs v was → x ≡ f was → y ≡ f it → sum - x + y ≤ 65536 * most
+sum_fits f most xs v was it sum x y few light fits within is at left right =
+    let put = sum_put f xs v was it sum x y within is at left right in
+    let places = length-set xs v it in
+    let whole = sum_by-le f most (set xs v it) (All-set (λ z. f z ≤ most) xs v it fits light) in
+    let room = mul-le (length (set xs v it)) most 65536 most (omega (arith, places, few)) (omega arith) in
+    let both = le_trans whole room in
+    omega (arith, put, both)
