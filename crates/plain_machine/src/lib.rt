@@ -32,7 +32,6 @@ mod replies;
 mod rules;
 mod scans;
 mod steps;
-mod targets;
 
 use edge_set::EdgeSet;
 pub use judge::replay;
