@@ -13,7 +13,7 @@ use Rattle.rule_machine.specs.Base.{IsBegun, Stand}
 use Rattle.rule_machine.specs.Network.{pair_cmp}
 use Rattle.rule_machine.specs.Run.{beginning_with}
 use Rattle.rule_machine.specs.State.{State, opening_with}
-use Rattle.rule_machine.specs.Tables.{table_of}
+use Rattle.rule_machine.specs.Tables.{table_of, weight_of}
 use Rattle.charge_laws.specs.Charged.{charge_bound}
 use Rattle.judge.specs.Bases as judge
 use Rattle.line_text.specs.BaseText.{base_head}
@@ -75,7 +75,7 @@ header_opened text line rest rules size count s p cut spells state is =
 
 abbrev pub IsBegunBy : RuleSet → ℕ → Base → State → Type 0
 IsBegunBy rules size base s =
-    IsBegun (table_of rules) (charge_bound (judge.weight_of rules)) size base (record { state = s; spent = base.spent }) × (length base.edges ≤ 1048576)
+    IsBegun (table_of rules) (charge_bound (weight_of rules)) size base (record { state = s; spent = base.spent }) × (length base.edges ≤ 1048576)
 
 pub base_opened : (text rest behind : List ℕ) (rules : RuleSet) (size : ℕ) (base : Base) (s : State) (found : Option State) (p : Position) → size ≤ 65535 → first_line text ≡ Some (base_head rules size, rest) → rest ≡ base_lines base ++ behind → IsShaped base → base.number ≤ 16777216 → IfSome found (IsBegunBy rules size base) → found ≡ Some s
     → p ≡ position_at (record { moment = record { state = s; spent = base.spent }; count = base.number }) → IsOpened text rules size Forgotten p behind

@@ -5,10 +5,9 @@ use Rattle.rule_machine.specs.declared.base.Base.{Base}
 use Rattle.rule_machine.specs.declared.rules.RuleSet.{RuleSet}
 use Rattle.rule_machine.specs.Run.{Moment}
 use Rattle.rule_machine.specs.Base.{Part, Stand}
-use Rattle.rule_machine.specs.Tables.{table_of}
+use Rattle.rule_machine.specs.Tables.{table_of, weight_of}
 use Rattle.charge_laws.specs.Begun.{begins_once}
 use Rattle.charge_laws.specs.Charged.{charge_bound}
-use Rattle.judge.specs.Bases.{weight_of}
 use Rattle.line_text.specs.EntryText.{header_text}
 use Rattle.line_text.specs.BaseText.{base_head}
 use Rattle.entry_grammar.specs.declared.base_line.BaseLine.TheVariants.{Head}

@@ -9,7 +9,7 @@ use Rattle.rule_machine.specs.Network.{edge_count, names, node_count}
 use Rattle.rule_machine.specs.State.{IsState}
 use Rattle.rule_machine.specs.Base.{Stand, base_of, entries_in, place_at}
 use Rattle.rule_machine.specs.Run.{Moment}
-use Rattle.rule_machine.specs.Tables.{table_of}
+use Rattle.rule_machine.specs.Tables.{table_of, weight_of}
 use Rattle.machine_laws.specs.Bases.{passes_run}
 use Rattle.machine_laws.specs.LeastMoves.{IsTable}
 use Rattle.charge_laws.specs.Begun.{begins_in_state, begins_within}
@@ -17,7 +17,6 @@ use Rattle.charge_laws.specs.Charged.{IsCharged, IsWithinBound, charge_bound}
 use Rattle.charge_laws.specs.Laws.{hsu_huang_charged, manne_charged}
 use Rattle.charge_laws.specs.Runs.{run_within}
 use Rattle.charge_laws.specs.Tables.{hsu_huang_table, manne_table}
-use Rattle.judge.specs.Bases.{weight_of}
 use Rattle.auditor.specs.Accepted.{IsReached}
 use Rattle.auditor.specs.Parts.{Opens, Opening, base_in, first_of, size_of}
 use Rattle.auditor.specs.Position.{Position, stand_of}

@@ -9,10 +9,9 @@ use Rattle.rule_machine.specs.RuleTable.{RuleTable}
 use Rattle.rule_machine.specs.Base.{Part, Told, Kept, Stand, entries_in}
 use Rattle.rule_machine.specs.Run.{Entry, Moment, Epoch, epochs_by, epochs_from, open_at}
 use Rattle.rule_machine.specs.Answer.{Answers, spent_after}
-use Rattle.rule_machine.specs.Tables.{table_of}
+use Rattle.rule_machine.specs.Tables.{table_of, weight_of}
 use Rattle.machine_laws.specs.Bases.{passes_run}
 use Rattle.charge_laws.specs.Epochs.{IsPath, epochs_are_bounded}
-use Rattle.judge.specs.Bases.{weight_of}
 use Rattle.auditor.specs.declared.replay.Replay.{Replay}
 use Rattle.auditor.specs.Transcript.{Comes}
 use Rattle.auditor.specs.Position.{Position, IsFurther, counted_part, position_at, stand_of}

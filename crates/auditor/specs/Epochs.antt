@@ -4,9 +4,8 @@ use Rattle.rule_machine.specs.declared.rules.RuleSet.{RuleSet}
 use Rattle.rule_machine.specs.State.{State}
 use Rattle.rule_machine.specs.Base.{Part, Told, Kept, Stand, begun_at, entries_in}
 use Rattle.rule_machine.specs.Run.{Entry, Epoch, epochs_by, epochs_from, open_at}
-use Rattle.rule_machine.specs.Tables.{table_of}
+use Rattle.rule_machine.specs.Tables.{table_of, weight_of}
 use Rattle.charge_laws.specs.Epochs.{IsPath}
-use Rattle.judge.specs.Bases.{weight_of}
 use Rattle.auditor.specs.Parts.{Opening, base_in}
 use Rattle.auditor.specs.Transcript.{IsTranscript}
 

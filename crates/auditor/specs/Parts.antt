@@ -6,9 +6,8 @@ use Rattle.rule_machine.specs.State.{State}
 use Rattle.rule_machine.specs.RuleTable.{RuleTable}
 use Rattle.rule_machine.specs.Answer.{Answers, spent_after}
 use Rattle.rule_machine.specs.Base.{BeginsAt, Part, Told, Kept, Stand, base_of, dropped}
-use Rattle.rule_machine.specs.Tables.{table_of}
+use Rattle.rule_machine.specs.Tables.{table_of, weight_of}
 use Rattle.charge_laws.specs.Charged.{charge_bound}
-use Rattle.judge.specs.Bases.{weight_of}
 use Rattle.line_text.specs.EntryText.{header_line, entry_line}
 use Rattle.line_text.specs.BaseText.{base_text}
 use Rattle.entry_grammar.specs.Spelling.{AreSizes, max_entries}

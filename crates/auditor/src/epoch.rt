@@ -84,10 +84,6 @@ impl Epoch {
     pub fn bound(self, rules: RuleSet) -> u64
         ensures { result ≡ bound_of rules self }
     {
-        let weight = match rules {
-            RuleSet::Hh => 1,
-            RuleSet::Manne => 3,
-        };
-        2 * u64::from(self.edges) + weight * u64::from(self.nodes)
+        2 * u64::from(self.edges) + rules.node_weight() * u64::from(self.nodes)
     }
 }

@@ -14,11 +14,11 @@ use Rattle.rule_machine.specs.Network.{Network, names}
 use Rattle.rule_machine.specs.State.{State, IsState, flag}
 use Rattle.rule_machine.specs.RuleTable.{RuleTable}
 use Rattle.rule_machine.specs.Run.{Moment}
-use Rattle.rule_machine.specs.Tables.{table_of}
+use Rattle.rule_machine.specs.Tables.{table_of, weight_of}
 use Rattle.machine_laws.specs.Bases.{base_tells}
 use Rattle.machine_laws.specs.Neighbours.{option_cases, names_none, names_fails}
 use Rattle.net_state.specs.Held.{Held}
-use Rattle.judge.specs.Bases.{HasLines, weight_of}
+use Rattle.judge.specs.Bases.{HasLines}
 
 -- the charge alone is within the bound
 pub charge_within : (rules : RuleSet) (s : State) → (table_of rules).charge s ≤ charge_bound (weight_of rules) s.network

@@ -2,16 +2,9 @@
 use Rattle.std.specs.Prelude.{◌≡◌, ℕ, ◌<◌, List, [], ◌∷◌}
 use Rattle.std.specs.declared.cmp.Ordering.TheVariants.{Less}
 use Rattle.rule_machine.specs.declared.base.Place.{Place}
-use Rattle.rule_machine.specs.declared.rules.RuleSet.{RuleSet}
-use Rattle.rule_machine.specs.declared.rules.RuleSet.TheVariants.{Hh, Manne}
 use Rattle.rule_machine.specs.Network.{pair_cmp, edge_list}
 use Rattle.rule_machine.specs.State.{State}
 use Rattle.rule_machine.specs.Base.{places}
-
--- what a node adds to the bound of a rule set
-abbrev pub weight_of : RuleSet → ℕ
-weight_of Hh = 1
-weight_of Manne = 3
 
 -- the names are above a name, and rise
 abbrev pub NamesRise : ℕ → List Place → Type 0

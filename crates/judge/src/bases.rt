@@ -6,11 +6,11 @@ ghost use Rattle.charge_laws.specs.Charged.{charge_bound};
 ghost use Rattle.rule_machine.specs.Base.{IsBegun, base_of, places};
 ghost use Rattle.rule_machine.specs.Run.{Moment};
 ghost use Rattle.rule_machine.specs.State.{IsState, flag};
-ghost use Rattle.rule_machine.specs.Tables.{table_of};
-ghost use Rattle.judge.specs.Bases.{NamesRise, EdgesRise, weight_of};
+ghost use Rattle.rule_machine.specs.Tables.{table_of, weight_of};
+ghost use Rattle.judge.specs.Bases.{NamesRise, EdgesRise};
 
 use crate::lines::from_lines;
-use crate::rules::{node_weight, uses_flags};
+use crate::rules::uses_flags;
 use crate::{Judge, Survey};
 use graph_store::MAX_EDGES;
 use net_state::NetState;
@@ -33,7 +33,7 @@ fn has_flag(nodes: &[Place]) -> bool
 fn bound(net: &NetState, rules: RuleSet) -> u64
     ensures { result ≡ charge_bound (weight_of rules) net.now.state.network }
 {
-    2 * u64::from(net.edges()) + node_weight(rules) * u64::from(net.nodes())
+    2 * u64::from(net.edges()) + rules.node_weight() * u64::from(net.nodes())
 }
 
 /// Whether what is spent is within the bound of the network, with the charge.

@@ -19,9 +19,6 @@ pub(crate) const IS_CENTRAL: bool = true;
 /// Whether flags are used.
 pub(crate) const USES_FLAGS: bool = false;
 
-/// What a node adds to the most that may be spent.
-pub(crate) const NODE_WEIGHT: u64 = 1;
-
 /// What a node adds to the charge by its flag.
 pub(crate) const FLAG_CHARGE: u8 = 0;
 

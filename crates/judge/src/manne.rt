@@ -20,9 +20,6 @@ pub(crate) const IS_CENTRAL: bool = false;
 /// Whether flags are used.
 pub(crate) const USES_FLAGS: bool = true;
 
-/// What a node adds to the most that may be spent.
-pub(crate) const NODE_WEIGHT: u64 = 3;
-
 /// The rule that is enabled at a node, if any is.
 #[inline(always)]
 pub(crate) fn rule_at(net: &NetState, v: Node) -> Option<Act>

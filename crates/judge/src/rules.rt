@@ -4,7 +4,6 @@ ghost use Rattle.std.specs.Prelude.{◌≡◌, ◌≤◌, IsTrue};
 ghost use Rattle.rule_machine.specs.Network.{present};
 ghost use Rattle.rule_machine.specs.RuleTable as table;
 ghost use Rattle.rule_machine.specs.Tables.{table_of};
-ghost use Rattle.judge.specs.Bases.{weight_of};
 ghost use Rattle.judge.specs.Shares.{closes, end_of, flag_charge};
 
 use crate::{hsu_huang, manne};
@@ -51,16 +50,6 @@ pub(crate) fn uses_flags(rules: RuleSet) -> bool
     match rules {
         RuleSet::Hh => hsu_huang::USES_FLAGS,
         RuleSet::Manne => manne::USES_FLAGS,
-    }
-}
-
-/// What a node adds to the most that may be spent.
-pub(crate) fn node_weight(rules: RuleSet) -> u64
-    ensures { result ≡ weight_of rules }
-{
-    match rules {
-        RuleSet::Hh => hsu_huang::NODE_WEIGHT,
-        RuleSet::Manne => manne::NODE_WEIGHT,
     }
 }
 

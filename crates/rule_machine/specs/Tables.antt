@@ -10,6 +10,11 @@ abbrev pub table_of : RuleSet → RuleTable
 table_of Hh = hsu_huang
 table_of Manne = manne
 
+-- what a node adds to the bound of a rule set
+abbrev pub weight_of : RuleSet → ℕ
+weight_of Hh = 1
+weight_of Manne = 3
+
 -- the word for a rule set, on a command line and in a transcript's header
 abbrev pub rules_word : RuleSet → List ℕ
 rules_word Hh = codes "hh"

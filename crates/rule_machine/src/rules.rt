@@ -11,8 +11,8 @@ pub enum RuleSet {
 }
 
 impl RuleSet {
-    ghost use Rattle.std.specs.Prelude.{◌≡◌};
-    ghost use Rattle.rule_machine.specs.Tables.{rules_word};
+    ghost use Rattle.std.specs.Prelude.{◌≡◌, ◌≤◌};
+    ghost use Rattle.rule_machine.specs.Tables.{rules_word, weight_of};
 
     /// Its word, on a command line and in a transcript's header.
     pub fn word(self) -> &'static str
@@ -21,6 +21,17 @@ impl RuleSet {
         match self {
             RuleSet::Hh => "hh",
             RuleSet::Manne => "manne",
+        }
+    }
+
+    /// How many moves a node adds to the most that may come after a disturbance, beside two for each edge: 3 at most.
+    pub fn node_weight(self) -> u64
+        ensures weight { result ≡ weight_of self }
+        ensures light { result ≤ 3 }
+    {
+        match self {
+            RuleSet::Hh => 1,
+            RuleSet::Manne => 3,
         }
     }
 }

@@ -1,7 +1,6 @@
 use Rattle.std.proofs.Common.{◌-◌, ◌∙◌, nat_le, ap, ap₂, arith}
 use Rattle.charge_laws.specs.Charged.{charge_bound}
-use Rattle.rule_machine.specs.Tables.{table_of}
-use Rattle.judge.specs.Bases.{weight_of}
+use Rattle.rule_machine.specs.Tables.{table_of, weight_of}
 use Rattle.judge.proofs.Begun.{charge_within, beside}
 use Rattle.judge.proofs.bases.is_within.Goals as goal
 

@@ -4,8 +4,8 @@ use Rattle.charge_laws.specs.Charged.{charge_bound}
 use Rattle.rule_machine.specs.declared.rules.RuleSet.{RuleSet}
 use Rattle.rule_machine.specs.Base.{IsBegun}
 use Rattle.rule_machine.specs.State.{State, flag}
-use Rattle.rule_machine.specs.Tables.{table_of}
-use Rattle.judge.specs.Bases.{weight_of, HasLines}
+use Rattle.rule_machine.specs.Tables.{table_of, weight_of}
+use Rattle.judge.specs.Bases.{HasLines}
 use Rattle.judge.proofs.Begun.{too_much, fit_flags, begins, lines_made}
 use Rattle.judge.proofs.replay.Judge.at_base.Goals as goal
 
