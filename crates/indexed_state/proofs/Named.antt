@@ -1,10 +1,10 @@
 -- Lists and sums over the names of a network's nodes, as a scan of all names up to its size makes them.
-use Rattle.std.proofs.Common.{◌≡◌, ℕ, ◌+◌, ◌≤◌, Bool, true, false, cond, ◌&&◌, List, [], ◌∷◌, filter, filter_map, sum_by, Option, None, refl, sym, ap, ◌∙◌, arith}
+use Rattle.std.proofs.Common.{◌≡◌, ℕ, ◌+◌, ◌≤◌, Bool, true, false, cond, ◌&&◌, List, [], ◌∷◌, filter, filter_map, length, sum_by, Option, None, refl, sym, ap, ◌∙◌, arith}
 use Rattle.std.specs.List.{range_with_len, cons_option}
 use Rattle.std.proofs.lemmas.Bool.{true≢false}
 use Rattle.std.proofs.lemmas.List.FromFn.{length-range_with_len}
 use Rattle.std.proofs.lemmas.List.Sums.{sum_by-cons, count_by-le-length, length-filter}
-use Rattle.rule_machine.specs.Network.{Network, names, present, node_count}
+use Rattle.rule_machine.specs.Network.{Network, linked, names, neighbours, present, node_count}
 use Rattle.rule_machine.specs.State.{State, IsState, partner, is_mutual}
 use Rattle.rule_machine.specs.Stable.{mutual_pairs, pair_above}
 use Rattle.machine_laws.specs.Neighbours.{linked_present, near_fails}
@@ -27,6 +27,13 @@ few_names net =
     let most = count_by-le-length (present net) (range_with_len 1 net.size) in
     let all = length-range_with_len 1 net.size in
     omega (arith, kept, most, all)
+
+-- a node has no more neighbours than there are names
+pub few_neighbours : (net : Network) (v : ℕ) → length (neighbours net v) ≤ net.size
+few_neighbours net v =
+    let kept = length-filter (linked net v) (names net) in
+    let most = count_by-le-length (linked net v) (names net) in
+    omega (arith, kept, most, few_names net)
 
 -- a sum over what a filter keeps
 pub sum_named : (f : ℕ → ℕ) (p : ℕ → Bool) (xs : List ℕ) → sum_by f (filter p xs) ≡ sum_by (λ x. cond (p x) (f x) 0) xs

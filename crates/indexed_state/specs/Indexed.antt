@@ -1,17 +1,9 @@
 -- What is kept beside a state.
-use Rattle.std.specs.Prelude.{ℕ, ◌≤◌, Bool, List, Option, refl}
+use Rattle.std.specs.Prelude.{ℕ, Bool, List, refl}
 use Rattle.std.specs.Coded.{Coded, code_by, coded×, coded_ℕ, coded_bool, coded_list}
-use Rattle.rule_machine.specs.State.{State, IsState, state_code}
+use Rattle.rule_machine.specs.State.{State, state_code}
 use Rattle.graph_store.specs.declared.end.End.{End}
 use Rattle.graph_store.specs.Ends.{end_code}
-use Rattle.suitor_index.specs.declared.tally.Tally.{Tally}
-use Rattle.suitor_index.specs.Tallies.{IsIndexOf}
-
--- the state is one, its names fit, and the tallies are its index
-pub record IsIndexed (above : Bool) (opens : Option ℕ → Bool → Bool) (s : State) (tallies : List Tally) : Type 0 where
-  pub is_state : IsState s
-  pub index : IsIndexOf above opens s tallies
-  pub few : s.network.size ≤ 65535
 
 -- a state, for how many more neighbours each name has room, what each makes of the edges at it, and which names are stale: their
 -- nodes may bring something else to what questions ask than when they were last looked at

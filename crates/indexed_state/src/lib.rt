@@ -1,9 +1,7 @@
-//! A state of the rule machine with an index of suitors and open neighbours and what each node brings to what questions ask of all, which
-//! every change keeps right.
+//! A state of the rule machine that knows what each node brings to what questions ask of all.
 //!
-//! `IndexedState` joins `net_state` and `suitor_index` in one value, so that the engine's proofs speak of states alone. Each write brings
-//! the index up to date and marks the names whose nodes may bring something else to the charge and the pairs now, three at most; a
-//! question looks at the marked ones alone (`totals`, `lower_ends`) and keeps the sums.
+//! `IndexedState` is a `SuitorIndex` with shares of its names. Each write marks the names whose nodes may bring something else to the
+//! charge and the pairs now, three at most; a question looks at the marked ones alone (`totals`, `lower_ends`) and keeps the sums.
 //!
 //! A write that turns whether its node is open goes through that node's neighbours; every other one costs a few looks. Only a new state,
 //! `reserve_link` and `lower_ends` take memory.
@@ -20,6 +18,7 @@ mod state;
 mod totals;
 mod view;
 
-pub use state::{Change, IndexedState};
+pub use state::IndexedState;
+pub use suitor_index::Change;
 pub use totals::{Totals, end_of, is_unanswered};
 pub use view::NodeView;

@@ -20,38 +20,29 @@ use rule_machine::Node;
 use rule_set::Rules;
 use std::alloc::Global;
 use std::marker::Model;
-use suitor_index::SuitorIndex;
+use suitor_index::{Change, SuitorIndex};
 
 /// The edges and the registers of a network, with what the guards of the rules `R` ask of them counted at each node, and what each
 /// node brings to what questions ask of all. Seen in contracts as a state of the rule machine, for how many more neighbours each
 /// node has room, what each made of the edges at it when it was last looked at, and which names are stale since.
 #[derive(Drop)]
 pub struct IndexedState<R: Rules> {
-    pub(crate) net: NetState,
     pub(crate) index: SuitorIndex<R>,
     pub(crate) shares: Shares,
 }
 
 impl<R: Rules> Model for IndexedState<R> {
-    ghost use Rattle.indexed_state.specs.Indexed.{Indexed, indexed_code, IsIndexed};
+    ghost use Rattle.indexed_state.specs.Indexed.{Indexed, indexed_code};
     ghost use Rattle.indexed_state.specs.Shares.{AreTold};
+    ghost use Rattle.rule_machine.specs.State.{IsState};
 
     ghost Value = { Indexed };
 
     ghost coded = { indexed_code };
 
-    ghost view = { λ n. record { state = n.net.state; room = n.net.room; ends = n.net.ends; stale = n.shares.stale } };
+    ghost view = { λ n. record { state = n.index.state; room = n.index.room; ends = n.index.ends; stale = n.shares.stale } };
 
-    ghost invariant = { λ n. IsIndexed R.ABOVE R.table.opens n.net.state n.index × AreTold R.COURTED_CLOSE R.closes R.adds n.net.state n.net.ends n.shares.each.items n.shares.lower_ends n.shares.stale };
-}
-
-/// What a write of a node's pointer changed.
-#[derive(Clone, Copy)]
-pub struct Change {
-    /// Where the node pointed before, if anywhere.
-    pub left: Option<Node>,
-    /// Whether it became open to a seduction, or ceased to be.
-    pub turned: bool,
+    ghost invariant = { λ n. IsState n.index.state × AreTold R.COURTED_CLOSE R.closes R.adds n.index.state n.index.ends n.shares.each.items n.shares.lower_ends n.shares.stale };
 }
 
 impl<R: Rules> IndexedState<R> {
@@ -67,14 +58,11 @@ impl<R: Rules> IndexedState<R> {
         ensures small { OnOk result (nodes ≤ 65535) }
         ensures fault { IfErr result (λ fault. Explains (nodes_fault nodes) fault) }
     {
-        let net = NetState::with_present(alloc, nodes, present)?;
-        let Ok(index) = SuitorIndex::build(alloc, &net) else {
-            return Err(GraphFault::Memory);
-        };
+        let index = SuitorIndex::with_present(alloc, nodes, present)?;
         let Ok(shares) = Shares::new(alloc, nodes) else {
             return Err(GraphFault::Memory);
         };
-        Ok(IndexedState { net, index, shares })
+        Ok(IndexedState { index, shares })
     }
 
     /// The edges.
@@ -84,7 +72,7 @@ impl<R: Rules> IndexedState<R> {
         ensures state { IsState self.now.state }
         ensures few { self.now.state.network.size ≤ 65535 }
     {
-        self.net.store()
+        self.index.net().store()
     }
 
     /// The registers.
@@ -92,7 +80,7 @@ impl<R: Rules> IndexedState<R> {
         ensures value { result.now ≡ self.now.state.registers }
         ensures state { IsState self.now.state }
     {
-        self.net.registers()
+        self.index.net().registers()
     }
 
     /// What is shown at a node that is present.
@@ -109,7 +97,8 @@ impl<R: Rules> IndexedState<R> {
         requires { IsTrue (present self.now.state.network v) }
         ensures { result ≡ RuleTable.is_open R.table.opens self.now.state v }
     {
-        R::opens(self.net.pointer(v), self.net.flag(v))
+        let net = self.index.net();
+        R::opens(net.pointer(v), net.flag(v))
     }
 
     /// Whether no neighbour that a node's guard asks for is open but v, which is a neighbour, and open or not as is said here. One
@@ -120,7 +109,7 @@ impl<R: Rules> IndexedState<R> {
         requires open { is_open ≡ RuleTable.is_open R.table.opens self.now.state v }
         ensures { result ≡ not (reaches_beside R.ABOVE R.table.opens self.now.state w v) }
     {
-        self.index.relies_on(w, v, is_open, &self.net)
+        self.index.relies_on(w, v, is_open)
     }
 
     /// The neighbour that points at a node, where it is the only one; `None` where none does, or several do. One look.
@@ -128,7 +117,7 @@ impl<R: Rules> IndexedState<R> {
         requires { IsTrue (present self.now.state.network v) }
         ensures { MatchOption result (suitor_count self.now.state v ≢ 1) (IsLoneSuitor self.now.state v) }
     {
-        self.index.lone_suitor(v, &self.net)
+        self.index.lone_suitor(v)
     }
 
     /// Makes room for the edge between two nodes, so that `link_reserved` of them takes no memory: a look-up by halves, and the
@@ -139,7 +128,7 @@ impl<R: Rules> IndexedState<R> {
         ensures fault { IfErr result (λ fault. Explains (link_fault self.old.state.network a b) fault) }
         ensures kept { self.new.state ≡ self.old.state }
     {
-        self.net.reserve_link(a, b)
+        self.index.reserve_link(a, b)
     }
 
     /// Adds the edge between two nodes for which there is room: a look-up by halves and a shift in two neighbour lists. Takes no
@@ -149,8 +138,7 @@ impl<R: Rules> IndexedState<R> {
         requires room { HasRoomFor self.old.room a b }
         ensures { self.new.state ≡ after_link self.old.state a b }
     {
-        self.net.link_reserved(a, b);
-        self.index.linked(a, b, &self.net);
+        self.index.link_reserved(a, b);
         self.shares.mark(a);
         self.shares.mark(b);
     }
@@ -166,14 +154,11 @@ impl<R: Rules> IndexedState<R> {
         ensures turned { result.turned ≡ not (beq (RuleTable.is_open R.table.opens self.old.state v) (RuleTable.is_open R.table.opens self.new.state v)) }
     {
         // Each use has a copy: of a value that is passed on proofs say no more.
-        let old = self.net.pointer(v);
-        let left = old;
-        let gone = old;
         let courted = target;
-        self.net.set_pointer(v, target);
-        let turned = self.index.pointer_changed(v, old, &self.net);
+        let change = self.index.write_pointer(v, target);
+        let left = change.left;
         self.shares.mark_pointer(v, left, courted);
-        Change { left: gone, turned }
+        change
     }
 
     /// Writes a node's flag, and tells whether the node became open or ceased to be. Looks at the node's neighbours only where it
@@ -184,12 +169,11 @@ impl<R: Rules> IndexedState<R> {
         ensures sound { IsState self.new.state }
         ensures turned { result ≡ not (beq (RuleTable.is_open R.table.opens self.old.state v) (RuleTable.is_open R.table.opens self.new.state v)) }
     {
-        if self.net.flag(v) == value {
+        if self.index.net().flag(v) == value {
             return false;
         }
-        self.net.set_flag(v, value);
         self.shares.mark(v);
-        self.index.flag_changed(v, &self.net)
+        self.index.write_flag(v, value)
     }
 
     /// Makes a name a node, with no edge, a null pointer and its flag false. Takes no memory.
@@ -198,8 +182,7 @@ impl<R: Rules> IndexedState<R> {
         requires absent { present self.old.state.network v ≡ false }
         ensures { self.new.state ≡ after_join self.old.state v }
     {
-        self.net.join(v);
-        self.index.joined(v, &self.net);
+        self.index.join(v);
         self.shares.mark(v);
     }
 }
@@ -208,7 +191,7 @@ impl<R: Rules> Disturb for IndexedState<R> {
     ghost state = { λ n. n.state };
 
     fn net(&self) -> &NetState {
-        &self.net
+        self.index.net()
     }
 
     fn set_pointer(&mut self, v: Node, target: Option<Node>) {
@@ -221,15 +204,14 @@ impl<R: Rules> Disturb for IndexedState<R> {
 
     /// Takes no memory.
     fn take_out(&mut self, a: Node, b: Node) {
-        self.net.take_out(a, b);
-        self.index.unlinked(a, b, &self.net);
+        self.index.take_out(a, b);
         self.shares.mark(a);
         self.shares.mark(b);
     }
 
     /// Takes no memory.
     fn free_name(&mut self, v: Node) {
-        self.net.free_name(v);
+        self.index.free_name(v);
         self.shares.mark(v);
     }
 }

@@ -66,8 +66,8 @@ impl<R: Rules> IndexedState<R> {
         let view = self.at(v);
         Standing {
             node: v,
-            pointer: self.net.pointer(v),
-            flag: self.net.flag(v),
+            pointer: self.index.net().pointer(v),
+            flag: self.index.net().flag(v),
             is_married: view.married(),
             has_suitor: view.has_suitor(),
         }
@@ -79,7 +79,7 @@ impl<R: Rules> IndexedState<R> {
         requires { IsStanding self.now.state node.now }
         ensures { result ≡ (points self.now.state.registers w node.now.node && R.closes self.now.state w) }
     {
-        self.net.points(w, node.node) && R::closes(w, node)
+        self.index.net().points(w, node.node) && R::closes(w, node)
     }
 
     /// How many neighbours of a node point at it and close the edge by that, which its ends leave open. A look at each.
@@ -89,7 +89,7 @@ impl<R: Rules> IndexedState<R> {
         ensures { result ≡ closing_at (R.closes self.now.state) self.now.state node.now.node }
     {
         let mut closing = 0;
-        for &w in self.net.neighbours(node.node) {
+        for &w in self.index.net().neighbours(node.node) {
             closing += u16::from(self.closes_edge(w, node));
         }
         closing
@@ -103,7 +103,7 @@ impl<R: Rules> IndexedState<R> {
         ensures { result ≡ closing_at (R.closes self.now.state) self.now.state node.now.node }
     {
         // By the invariant, which a look at a field opens, the state is sound.
-        let _ = &self.net;
+        let _ = &self.index;
         if !node.has_suitor {
             return 0;
         }
@@ -118,12 +118,12 @@ impl<R: Rules> IndexedState<R> {
         ensures added { result.added ≡ cond (present self.now.state.network v) (node_part (R.adds self.now.state) self.now.state v) 0 }
         ensures closing { result.closing ≡ cond (present self.now.state.network v) (closing_at (R.closes self.now.state) self.now.state v) 0 }
     {
-        if !self.net.has(v) {
+        if !self.index.net().has(v) {
             return NO_SHARE;
         }
         let node = self.standing(v);
         Share {
-            added: u16::from(is_unanswered(self.net.registers(), &node))
+            added: u16::from(is_unanswered(self.index.net().registers(), &node))
                 + u16::from(R::node_charge(&node)),
             closing: self.closing_at(&node),
         }
@@ -134,8 +134,8 @@ impl<R: Rules> IndexedState<R> {
         requires { v ≤ self.now.state.network.size }
         ensures { result ≡ is_lower_end self.now.state.registers v }
     {
-        match self.net.pointer(v) {
-            Some(w) => v < w && self.net.points(w, v),
+        match self.index.net().pointer(v) {
+            Some(w) => v < w && self.index.net().points(w, v),
             None => false,
         }
     }
@@ -144,7 +144,7 @@ impl<R: Rules> IndexedState<R> {
     fn end_at(&self, v: Node) -> Option<End>
         ensures { MatchOption result (present self.now.state.network v ≡ false) (λ end. end ≡ end_of R.COURTED_CLOSE self.now.state v) }
     {
-        if !self.net.has(v) {
+        if !self.index.net().has(v) {
             return None;
         }
         Some(end_of::<R>(&self.standing(v)))
@@ -163,7 +163,7 @@ impl<R: Rules> IndexedState<R> {
         let end = self.end_at(v);
         self.shares.put(v, share, is_lower_end);
         if let Some(end) = end {
-            self.net.turn(v, end);
+            self.index.turn(v, end);
         }
     }
 
@@ -216,7 +216,7 @@ impl<R: Rules> IndexedState<R> {
         self.look_again();
         Totals {
             pairs: self.shares.lower_ends.count(),
-            open_edges: self.net.open_edges(),
+            open_edges: self.index.net().open_edges(),
             added: self.shares.added,
             closing: self.shares.closing,
         }

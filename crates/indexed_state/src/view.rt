@@ -37,56 +37,56 @@ impl<R: Rules> Local for NodeView<'_, R> {
 
     fn pointer(&self, v: Node) -> Option<Node> {
         let state = self.state;
-        state.net.pointer(v)
+        state.index.net().pointer(v)
     }
 
     fn flag(&self, v: Node) -> bool {
         let state = self.state;
-        state.net.flag(v)
+        state.index.net().flag(v)
     }
 
     fn married(&self) -> bool {
         let state = self.state;
-        state.net.married(self.node)
+        state.index.net().married(self.node)
     }
 
     fn has_suitor(&self) -> bool {
         let state = self.state;
-        state.index.has_suitor(self.node, &state.net)
+        state.index.has_suitor(self.node)
     }
 
     fn first_suitor(&self) -> Option<Node> {
         let state = self.state;
-        state.index.first_suitor(self.node, &state.net)
+        state.index.first_suitor(self.node)
     }
 
     fn is_suitor(&self, w: Node) -> bool {
         let state = self.state;
-        state.index.is_suitor(self.node, w, &state.net)
+        state.index.is_suitor(self.node, w)
     }
 
     fn has_open(&self) -> bool {
         let state = self.state;
-        state.index.has_open(self.node, &state.net)
+        state.index.has_open(self.node)
     }
 
     fn first_open(&self) -> Option<Node> {
         let state = self.state;
-        state.index.first_open(self.node, &state.net)
+        state.index.first_open(self.node)
     }
 
     fn has_open_above(&self) -> bool {
         let state = self.state;
-        state.index.has_open_above(self.node, &state.net)
+        state.index.has_open_above(self.node)
     }
 
     fn last_open_above(&self) -> Option<Node> {
         let state = self.state;
-        state.index.last_open_above(self.node, &state.net)
+        state.index.last_open_above(self.node)
     }
 
     fn is_open(&self, w: Node) -> bool {
         let state = self.state;
-        state.index.is_open(self.node, w, &state.net)
+        state.index.is_open(self.node, w)
     }
 }

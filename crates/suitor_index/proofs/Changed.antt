@@ -4,16 +4,16 @@ use Rattle.std.specs.List.{list_any}
 use Rattle.std.proofs.Math.Seq.{take-append_seam}
 use Rattle.std.proofs.lemmas.Bool.{and_parts}
 use Rattle.rule_machine.specs.Network.{Network, linked, neighbours, present}
-use Rattle.rule_machine.specs.State.{State, Registers, IsState, pointer_of, flag_of}
+use Rattle.rule_machine.specs.State.{Registers, IsState, pointer_of, flag_of, with_pointer, with_flag}
+use Rattle.rule_machine.specs.Disturbance.{after_point, after_flag}
 use Rattle.rule_machine.specs.RuleTable.{is_open}
-use Rattle.machine_laws.specs.Writes.{pointer-with_pointer_other, flag-with_flag_other, if_some_from}
+use Rattle.machine_laws.specs.Writes.{pointer-with_pointer_other, pointer-with_pointer_same, flag-with_flag_other, flag-with_flag_same, if_some_from}
 use Rattle.machine_laws.specs.Neighbours.{linked_back, linked_present, present_range}
 use Rattle.machine_laws.specs.Pointers.{pointer_linked}
 use Rattle.suitor_index.specs.declared.tally.Tally.{Tally}
-use Rattle.net_state.specs.Held.{state_of}
-use Rattle.suitor_index.specs.Tallies.{tally_of, asks_for, IsIndexOf}
+use Rattle.net_state.specs.Held.{Held, state_of}
+use Rattle.suitor_index.specs.Tallies.{tally_of, asks_for, IsIndexOf, IsIndexed}
 use Rattle.suitor_index.specs.Told.{IsCourted, IsRepointed, IsTurned, HasSuitor, HasRoomFor, CanTurn}
-use Rattle.suitor_index.specs.Before.{IsBeforePoint, IsBeforeFlag}
 use Rattle.suitor_index.proofs.Near.{listed_linked}
 use Rattle.suitor_index.proofs.Turned.{AreAlike, near, has_suitor, has_room, can_turn, index_turned}
 
@@ -26,34 +26,42 @@ pub record IsChange (above : Bool) (opens : Option ℕ → Bool → Bool) (net :
   pub few : net.size ≤ 65535
   pub index : IsIndexOf above opens (state_of net r) start
 
-pub few_nodes : (above : Bool) (opens : Option ℕ → Bool → Bool) (s : State) (kept start : List Tally) → length kept ≤ 65536 → kept ≡ start → IsIndexOf above opens s start → s.network.size ≤ 65535
-few_nodes above opens s kept start few same index = let places = index.places in omega (arith, ap length same, few)
-
-pub change_of_point : (above : Bool) (opens : Option ℕ → Bool → Bool) (net : Network) (q : Registers) (v : ℕ) (old : Option ℕ) (kept start now : List Tally) (b : IsBeforePoint above opens (state_of net q) v old now) → IsState (state_of net q) → IsTrue (present net v) → length kept ≤ 65536 → kept ≡ now → start ≡ kept → IsChange above opens net b.registers q v start
-change_of_point above opens net q v old kept start now b good here few same value = record {
-  before = b.is_state;
-  now = good;
+pub change_of_point : (above : Bool) (opens : Option ℕ → Bool → Bool) (n was now : Held) (v : ℕ) (target : Option ℕ) (kept start : List Tally) → IsIndexed above opens n.state kept → start ≡ kept → n ≡ was → IsTrue (present was.state.network v) → now ≡ record n { state = after_point n.state v target } → IsState now.state → IsChange above opens n.state.network n.state.registers (with_pointer n.state.registers v target) v start
+change_of_point above opens n was now v target kept start it value same here at good = record {
+  before = it.is_state;
+  now = subst (λ (h : Held). IsState h.state) at good;
   alike = record {
-    pointers = λ x apart. sym (ap (λ t. pointer_of t x) b.change ∙ pointer-with_pointer_other b.registers v (pointer_of q v) x apart);
-    flags = λ x apart. sym (ap (λ t. flag_of t x) b.change);
+    pointers = λ x apart. sym (pointer-with_pointer_other n.state.registers v target x apart);
+    flags = λ x apart. refl;
   };
-  here = here;
-  few = few_nodes above opens (state_of net b.registers) kept now few same b.index;
-  index = subst (IsIndexOf above opens (state_of net b.registers)) (sym (value ∙ same)) b.index;
+  here = subst (λ (h : Held). IsTrue (present h.state.network v)) (sym same) here;
+  few = it.few;
+  index = subst (IsIndexOf above opens n.state) (sym value) it.index;
 }
 
-pub change_of_flag : (above : Bool) (opens : Option ℕ → Bool → Bool) (net : Network) (q : Registers) (v : ℕ) (kept start now : List Tally) (b : IsBeforeFlag above opens (state_of net q) v now) → IsState (state_of net q) → IsTrue (present net v) → length kept ≤ 65536 → kept ≡ now → start ≡ kept → IsChange above opens net b.registers q v start
-change_of_flag above opens net q v kept start now b good here few same value = record {
-  before = b.is_state;
-  now = good;
+pub change_of_flag : (above : Bool) (opens : Option ℕ → Bool → Bool) (n was now : Held) (v : ℕ) (value : Bool) (kept start : List Tally) → IsIndexed above opens n.state kept → start ≡ kept → n ≡ was → IsTrue (present was.state.network v) → now ≡ record n { state = after_flag n.state v value } → IsState now.state → IsChange above opens n.state.network n.state.registers (with_flag n.state.registers v value) v start
+change_of_flag above opens n was now v value kept start it whole same here at good = record {
+  before = it.is_state;
+  now = subst (λ (h : Held). IsState h.state) at good;
   alike = record {
-    pointers = λ x apart. sym (ap (λ t. pointer_of t x) b.change);
-    flags = λ x apart. sym (ap (λ t. flag_of t x) b.change ∙ flag-with_flag_other b.registers v (flag_of q v) x apart);
+    pointers = λ x apart. refl;
+    flags = λ x apart. sym (flag-with_flag_other n.state.registers v value x apart);
   };
-  here = here;
-  few = few_nodes above opens (state_of net b.registers) kept now few same b.index;
-  index = subst (IsIndexOf above opens (state_of net b.registers)) (sym (value ∙ same)) b.index;
+  here = subst (λ (h : Held). IsTrue (present h.state.network v)) (sym same) here;
+  few = it.few;
+  index = subst (IsIndexOf above opens n.state) (sym whole) it.index;
 }
+
+-- what was written is what stands
+pub pointer_is : (above : Bool) (opens : Option ℕ → Bool → Bool) (net : Network) (r q : Registers) (v : ℕ) (target : Option ℕ) (start : List Tally) → IsChange above opens net r q v start → pointer_of (with_pointer r v target) v ≡ target
+pointer_is above opens net r q v target start c =
+    let within = present_range net v c.here in
+    pointer-with_pointer_same r v target (omega (arith, within.1, c.before.pointers_len))
+
+pub flag_is : (above : Bool) (opens : Option ℕ → Bool → Bool) (net : Network) (r q : Registers) (v : ℕ) (value : Bool) (start : List Tally) → IsChange above opens net r q v start → flag_of (with_flag r v value) v ≡ value
+flag_is above opens net r q v value start c =
+    let within = present_range net v c.here in
+    flag-with_flag_same r v value (omega (arith, within.1, c.before.flags_len))
 
 near_present : (net : Network) (r : Registers) (v w : ℕ) → IsState (state_of net r) → IsTrue (linked net v w) → IsTrue (present net w)
 near_present net r v w good h = linked_present net w v good.is_network (linked_back net w v ∙ h)
@@ -108,9 +116,9 @@ pub written_whole : (n : ℕ) (new rest : List Tally) → n ≡ length new → t
 written_whole n new rest e = ap (λ m. take m (new ++ rest)) e ∙ take-append_seam new rest
 
 -- then the tallies are those of the state now
-pub told_index : (above : Bool) (opens : Option ℕ → Bool → Bool) (net : Network) (r q : Registers) (v : ℕ) (start pointed turned whole : List Tally) (nodes : List ℕ) (was is : Bool) → IsChange above opens net r q v start → IsRepointed (pointer_of r v) (pointer_of q v) v start pointed → nodes ≡ neighbours net v → was ≡ is_open opens (state_of net r) v → is ≡ is_open opens (state_of net q) v → IsTurned (λ k. list_any (nat_eq k) nodes && asks_for above k v) was is pointed turned → whole ≡ turned → IsIndexOf above opens (state_of net q) whole
-told_index above opens net r q v start pointed turned whole nodes was is c told all was_is is_is told_open same =
+pub told_index : (above : Bool) (opens : Option ℕ → Bool → Bool) (net : Network) (r q : Registers) (v : ℕ) (start pointed turned : List Tally) (nodes : List ℕ) (was is : Bool) → IsChange above opens net r q v start → IsRepointed (pointer_of r v) (pointer_of q v) v start pointed → nodes ≡ neighbours net v → was ≡ is_open opens (state_of net r) v → is ≡ is_open opens (state_of net q) v → IsTurned (λ k. list_any (nat_eq k) nodes && asks_for above k v) was is pointed turned → IsIndexOf above opens (state_of net q) turned
+told_index above opens net r q v start pointed turned nodes was is c told all was_is is_is told_open =
     let one = subst (λ (ns : List ℕ). IsTurned (λ k. list_any (nat_eq k) ns && asks_for above k v) was is pointed turned) all told_open in
     let two = subst (λ b. IsTurned (near above net v) b is pointed turned) was_is one in
     let three = subst (λ b. IsTurned (near above net v) (is_open opens (state_of net r) v) b pointed turned) is_is two in
-    subst (IsIndexOf above opens (state_of net q)) (sym same) (index_turned above opens net r q v start pointed turned c.before c.now c.alike c.here c.index told three)
+    index_turned above opens net r q v start pointed turned c.before c.now c.alike c.here c.index told three

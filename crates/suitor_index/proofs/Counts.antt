@@ -8,40 +8,39 @@ use Rattle.rule_machine.specs.RuleTable.{is_open}
 use Rattle.rule_set.specs.Glance.{is_reached}
 use Rattle.machine_laws.specs.Neighbours.{near_found, near_some, linked_back, linked_present, present_range}
 use Rattle.suitor_index.specs.declared.tally.Tally.{Tally}
-use Rattle.suitor_index.specs.Tallies.{suitor_count, tally_of, name_if, IsIndexOf, IsLoneSuitor}
+use Rattle.suitor_index.specs.Tallies.{suitor_count, tally_at, name_if, IsLoneSuitor}
 use Rattle.suitor_index.specs.Told.{one_if}
 use Rattle.suitor_index.proofs.Near.{near_turn}
 use Rattle.suitor_index.proofs.Sums.{count_some, count_none, count_one, count_reverse}
 
-pub suitors_counted : (above : Bool) (opens : Option ℕ → Bool → Bool) (s : State) (ts : List Tally) (v : ℕ) (t : Tally) → IsIndexOf above opens s ts → IsTrue (present s.network v) → t ≡ tally_of ts v → nat_lt 0 t.suitors ≡ has_suitor s v
-suitors_counted above opens s ts v t index here is = ap (λ (u : Tally). nat_lt 0 u.suitors) (is ∙ index.counted v here) ∙ count_some (suits s v) (neighbours s.network v)
+pub suitors_counted : (above : Bool) (opens : Option ℕ → Bool → Bool) (s : State) (v : ℕ) (t : Tally) → t ≡ tally_at above opens s v → nat_lt 0 t.suitors ≡ has_suitor s v
+suitors_counted above opens s v t is = ap (λ (u : Tally). nat_lt 0 u.suitors) is ∙ count_some (suits s v) (neighbours s.network v)
 
 -- the open neighbours, where the guards ask for any
-pub open_counted : (above : Bool) (opens : Option ℕ → Bool → Bool) (s : State) (ts : List Tally) (v : ℕ) (t : Tally) → above ≡ false → IsIndexOf above opens s ts → IsTrue (present s.network v) → t ≡ tally_of ts v → t.reached ≡ count_by (is_open opens s) (neighbours s.network v)
-open_counted above opens s ts v t any index here is =
-    ap (λ (u : Tally). u.reached) (is ∙ index.counted v here) ∙ ap (λ a. count_by (is_reached a opens s v) (neighbours s.network v)) any
+pub open_counted : (above : Bool) (opens : Option ℕ → Bool → Bool) (s : State) (v : ℕ) (t : Tally) → above ≡ false → t ≡ tally_at above opens s v → t.reached ≡ count_by (is_open opens s) (neighbours s.network v)
+open_counted above opens s v t any is =
+    ap (λ (u : Tally). u.reached) is ∙ ap (λ a. count_by (is_reached a opens s v) (neighbours s.network v)) any
 
 -- and those above the node, where they ask for those alone
-pub open_above_counted : (above : Bool) (opens : Option ℕ → Bool → Bool) (s : State) (ts : List Tally) (v : ℕ) (t : Tally) → above ≡ true → IsIndexOf above opens s ts → IsTrue (present s.network v) → t ≡ tally_of ts v → t.reached ≡ count_by (λ w. is_open opens s w && nat_lt v w) (reverse (neighbours s.network v))
-open_above_counted above opens s ts v t higher index here is =
-    ap (λ (u : Tally). u.reached) (is ∙ index.counted v here)
+pub open_above_counted : (above : Bool) (opens : Option ℕ → Bool → Bool) (s : State) (v : ℕ) (t : Tally) → above ≡ true → t ≡ tally_at above opens s v → t.reached ≡ count_by (λ w. is_open opens s w && nat_lt v w) (reverse (neighbours s.network v))
+open_above_counted above opens s v t higher is =
+    ap (λ (u : Tally). u.reached) is
     ∙ ap (λ a. count_by (is_reached a opens s v) (neighbours s.network v)) higher
     ∙ sym (count_reverse (λ w. is_open opens s w && nat_lt v w) (neighbours s.network v))
 
 -- no suitor
-pub no_suitor_counted : (above : Bool) (opens : Option ℕ → Bool → Bool) (s : State) (ts : List Tally) (v : ℕ) (t : Tally) → IsIndexOf above opens s ts → IsTrue (present s.network v) → t ≡ tally_of ts v → t.suitors ≡ 0 → None ≡ first_suitor s v
-no_suitor_counted above opens s ts v t index here is none =
-    sym (count_none (suits s v) (neighbours s.network v) (sym (ap (λ (u : Tally). u.suitors) (is ∙ index.counted v here)) ∙ none))
+pub no_suitor_counted : (above : Bool) (opens : Option ℕ → Bool → Bool) (s : State) (v : ℕ) (t : Tally) → t ≡ tally_at above opens s v → t.suitors ≡ 0 → None ≡ first_suitor s v
+no_suitor_counted above opens s v t is none =
+    sym (count_none (suits s v) (neighbours s.network v) (sym (ap (λ (u : Tally). u.suitors) is) ∙ none))
 
 -- one suitor, whose name is the sum
-pub one_suitor_counted : (above : Bool) (opens : Option ℕ → Bool → Bool) (s : State) (ts : List Tally) (v : ℕ) (t : Tally) (o : Option ℕ) → IsState s → IsIndexOf above opens s ts → IsTrue (present s.network v) → t ≡ tally_of ts v → length ts ≤ 65536 → t.suitors ≡ 1 → SomeIff o ((1 ≤ t.sum) × (t.sum ≤ 65535)) t.sum → o ≡ first_suitor s v
-one_suitor_counted above opens s ts v t o is_state index here is few one named =
+pub one_suitor_counted : (above : Bool) (opens : Option ℕ → Bool → Bool) (s : State) (v : ℕ) (t : Tally) (o : Option ℕ) → IsState s → t ≡ tally_at above opens s v → s.network.size ≤ 65535 → t.suitors ≡ 1 → SomeIff o ((1 ≤ t.sum) × (t.sum ≤ 65535)) t.sum → o ≡ first_suitor s v
+one_suitor_counted above opens s v t o is_state is few one named =
     let w = sum_by (name_if (suits s v)) (neighbours s.network v) in
-    let sum : t.sum ≡ w = ap (λ (u : Tally). u.sum) (is ∙ index.counted v here) in
-    let found : first_suitor s v ≡ Some w = count_one (suits s v) (neighbours s.network v) (sym (ap (λ (u : Tally). u.suitors) (is ∙ index.counted v here)) ∙ one) in
+    let sum : t.sum ≡ w = ap (λ (u : Tally). u.sum) is in
+    let found : first_suitor s v ≡ Some w = count_one (suits s v) (neighbours s.network v) (sym (ap (λ (u : Tally). u.suitors) is) ∙ one) in
     let near = near_some s.network (suits s v) v w found in
     let bounds = present_range s.network w (linked_present s.network w v is_state.is_network (linked_back s.network w v ∙ near.0)) in
-    let places = index.places in
     named_some o _ t.sum named (omega arith, omega arith) ∙ ap Some sum ∙ sym found
   where
     named_some : (o : Option ℕ) (P : Type 0) (x : ℕ) → SomeIff o P x → P → o ≡ Some x
@@ -101,9 +100,9 @@ lone s v w is_state one first = record {
         true≢false (sym (ap is_some found.1) ∙ none)
 
 -- so it is where the count is 1 and the sum its name
-pub lone_counted : (above : Bool) (opens : Option ℕ → Bool → Bool) (s : State) (ts : List Tally) (v : ℕ) (t : Tally) (o : Option ℕ) → IsState s → IsIndexOf above opens s ts → IsTrue (present s.network v) → t ≡ tally_of ts v → length ts ≤ 65536 → t.suitors ≡ 1 → SomeIff o ((1 ≤ t.sum) × (t.sum ≤ 65535)) t.sum → MatchOption o (suitor_count s v ≢ 1) (IsLoneSuitor s v)
-lone_counted above opens s ts v t o is_state index here is few one named =
-    let count : suitor_count s v ≡ 1 = sym (ap (λ (u : Tally). u.suitors) (is ∙ index.counted v here)) ∙ one in
+pub lone_counted : (above : Bool) (opens : Option ℕ → Bool → Bool) (s : State) (v : ℕ) (t : Tally) (o : Option ℕ) → IsState s → t ≡ tally_at above opens s v → s.network.size ≤ 65535 → t.suitors ≡ 1 → SomeIff o ((1 ≤ t.sum) × (t.sum ≤ 65535)) t.sum → MatchOption o (suitor_count s v ≢ 1) (IsLoneSuitor s v)
+lone_counted above opens s v t o is_state is few one named =
+    let count : suitor_count s v ≡ 1 = sym (ap (λ (u : Tally). u.suitors) is) ∙ one in
     let w = sum_by (name_if (suits s v)) (neighbours s.network v) in
     let first : first_suitor s v ≡ Some w = count_one (suits s v) (neighbours s.network v) count in
-    subst (λ q. MatchOption q (suitor_count s v ≢ 1) (IsLoneSuitor s v)) (sym (one_suitor_counted above opens s ts v t o is_state index here is few one named ∙ first)) (lone s v w is_state count first)
+    subst (λ q. MatchOption q (suitor_count s v ≢ 1) (IsLoneSuitor s v)) (sym (one_suitor_counted above opens s v t o is_state is few one named ∙ first)) (lone s v w is_state count first)

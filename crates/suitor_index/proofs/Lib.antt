@@ -7,5 +7,4 @@ pub mod Turned
 pub mod Changed
 pub mod Ends
 pub mod Linked
-pub mod Built
 pub mod Nodes

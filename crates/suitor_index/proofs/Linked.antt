@@ -1,19 +1,22 @@
 -- An index that is told of an edge.
-use Rattle.std.proofs.Common.{◌≡◌, ◌≢◌, ℕ, ◌<◌, ◌≤◌, Bool, true, false, not, ◌&&◌, ◌||◌, List, Option, None, nat_eq, IsTrue, refl, sym, ap, ◌∙◌, ⊎_elim, arith}
+use Rattle.std.proofs.Common.{◌≡◌, ◌≢◌, ℕ, ◌<◌, ◌≤◌, Bool, true, false, not, ◌&&◌, ◌||◌, List, Option, None, nat_eq, IsTrue, refl, sym, ap, subst, ◌∙◌, ⊎_elim, arith}
 use Rattle.std.specs.Ordering.{eq_by_cmp}
 use Rattle.std.proofs.lemmas.Bool.{and_parts, eq-eqb, ne_eqb, false_from_ne_true, true≢false, or_left, and_right}
 use Rattle.std.proofs.lemmas.Cmp.{eq_by_cmp_equiv}
 use Rattle.std.proofs.lemmas.Map.Views.{tells_apart}
 use Rattle.rule_machine.specs.Network.{Network, pair_cmp, edge, linked, present, with_edge, without_edge}
-use Rattle.rule_machine.specs.State.{Registers, IsState, points, pointer_of, flag_of}
+use Rattle.rule_machine.specs.State.{State, Registers, IsState, points, pointer_of, flag_of}
+use Rattle.rule_machine.specs.Disturbance.{after_link}
+use Rattle.graph_store.specs.Fault.{link_fault}
+use Rattle.net_state.proofs.Edges.{new_edge}
 use Rattle.rule_machine.specs.Refuse.{link_refusal, both_present}
 use Rattle.machine_laws.specs.Edges.{pair_total, pair_exact, contains-insert, contains-remove, edge_ends, linked_comm}
 use Rattle.machine_laws.specs.Search.{cond-none}
 use Rattle.machine_laws.specs.Neighbours.{linked_apart, linked_present, linked_back}
 use Rattle.machine_laws.specs.Pointers.{points_true, pointer_linked}
 use Rattle.suitor_index.specs.declared.tally.Tally.{Tally}
-use Rattle.net_state.specs.Held.{state_of}
-use Rattle.suitor_index.specs.Tallies.{tally_of, asks_for, IsIndexOf}
+use Rattle.net_state.specs.Held.{Held, state_of}
+use Rattle.suitor_index.specs.Tallies.{tally_of, asks_for, IsIndexOf, IsIndexed}
 use Rattle.suitor_index.specs.Told.{one_if, IsOpenTo}
 use Rattle.suitor_index.proofs.Loops.{open_still}
 use Rattle.suitor_index.proofs.Turned.{tally_small}
@@ -81,6 +84,28 @@ edge_unlinked net more r a b good there not_there not_back change =
       not_there = not_there;
       not_back = not_back;
     }
+
+-- an edge that is put in: the tallies are those of the network without it
+pub before_link : (above : Bool) (opens : Option ℕ → Bool → Bool) (n was now : Held) (a b : ℕ) (kept start : List Tally) → IsIndexed above opens n.state kept → start ≡ kept → n ≡ was → link_fault was.state.network a b ≡ None → now.state ≡ after_link n.state a b → IsEdgeMore n.state.network now.state.network now.state.registers a b × IsIndexOf above opens (state_of n.state.network now.state.registers) start
+before_link above opens n was now a b kept start it value same free at =
+    let registers : n.state.registers ≡ now.state.registers = ap (λ (s : State). s.registers) (sym at) in
+    let accepted = (new_edge n.state.network a b (ap (λ (h : Held). link_fault h.state.network a b) same ∙ free)).accepted in (
+      edge_linked n.state.network now.state.network now.state.registers a b (subst (λ r. IsState (state_of n.state.network r)) registers it.is_state) accepted (ap (λ (s : State). s.network) at),
+      subst (λ r. IsIndexOf above opens (state_of n.state.network r) start) registers (subst (IsIndexOf above opens n.state) (sym value) it.index),
+    )
+
+-- one that is taken out: they are those of the network with it
+pub before_unlink : (above : Bool) (opens : Option ℕ → Bool → Bool) (n was now : Held) (a b : ℕ) (kept start : List Tally) → IsIndexed above opens n.state kept → start ≡ kept → n ≡ was → IsTrue (linked was.state.network a b) → points was.state.registers a b ≡ false → points was.state.registers b a ≡ false → now.state ≡ record n.state { network = without_edge n.state.network a b } → IsEdgeMore now.state.network n.state.network now.state.registers a b × IsIndexOf above opens (state_of n.state.network now.state.registers) start
+before_unlink above opens n was now a b kept start it value same there not_there not_back at =
+    let registers : n.state.registers ≡ now.state.registers = ap (λ (s : State). s.registers) (sym at) in
+    let back = sym registers ∙ ap (λ (h : Held). h.state.registers) same in (
+      edge_unlinked now.state.network n.state.network now.state.registers a b (subst (λ r. IsState (state_of n.state.network r)) registers it.is_state)
+          (subst (λ (h : Held). IsTrue (linked h.state.network a b)) (sym same) there)
+          (ap (λ r. points r a b) back ∙ not_there)
+          (ap (λ r. points r b a) back ∙ not_back)
+          (ap (λ (s : State). s.network) at),
+      subst (λ r. IsIndexOf above opens (state_of n.state.network r) start) registers (subst (IsIndexOf above opens n.state) (sym value) it.index),
+    )
 
 -- from the other end
 pub edge_swapped : (net more : Network) (r : Registers) (a b : ℕ) → IsEdgeMore net more r a b → IsEdgeMore net more r b a

@@ -1,16 +1,17 @@
 -- Who is present changes nothing of what is counted, but where a node comes.
-use Rattle.std.proofs.Common.{◌&&◌, ◌≡◌, ◌≢◌, ℕ, ◌≤◌, Bool, true, false, cond, List, [], ◌∷◌, filter, set, Option, IsTrue, refl, sym, ap, ◌∙◌, ⊎_elim, arith}
+use Rattle.std.proofs.Common.{◌&&◌, ◌≡◌, ◌≢◌, ℕ, ◌+◌, ◌≤◌, Bool, true, false, cond, List, [], ◌∷◌, filter, replicate, set, Option, IsTrue, refl, sym, ap, subst, ◌∙◌, ⊎_elim, arith}
 use Rattle.std.specs.List.{count_by, sum_by, range_with_len}
 use Rattle.std.proofs.lemmas.Bool.{cases_eq, false_from_ne_true, true≢false}
-use Rattle.std.proofs.lemmas.List.{get_or-set_same, get_or-set_other, length-set}
-use Rattle.rule_machine.specs.Network.{Network, IsNetwork, present, linked, neighbours, with_node}
-use Rattle.rule_machine.specs.State.{Registers, IsState, suits}
+use Rattle.std.proofs.lemmas.List.{get_or-replicate, get_or-set_same, get_or-set_other, length-replicate, length-set}
+use Rattle.rule_machine.specs.Network.{Network, IsNetwork, edge, present, linked, neighbours, with_node}
+use Rattle.rule_machine.specs.State.{State, Registers, IsState, opening_with, suits}
 use Rattle.rule_machine.specs.RuleTable.{is_open}
-use Rattle.machine_laws.specs.Edges.{present_other, with_node_is_network}
-use Rattle.machine_laws.specs.Neighbours.{linked_present, neighbours_range}
+use Rattle.machine_laws.specs.Edges.{contains-empty, present_other, with_node_is_network}
+use Rattle.machine_laws.specs.Neighbours.{linked_present, neighbours_range, present_range}
+use Rattle.machine_laws.specs.Keeps.{opening_is_state}
 use Rattle.suitor_index.specs.declared.tally.Tally.{Tally}
 use Rattle.net_state.specs.Held.{state_of}
-use Rattle.suitor_index.specs.Tallies.{nothing, tally_of, tally_at, name_if, asks_for, IsIndexOf}
+use Rattle.suitor_index.specs.Tallies.{nothing, tally_of, tally_at, name_if, asks_for, IsIndexOf, IsIndexed}
 use Rattle.suitor_index.proofs.Reached.{open_is}
 
 -- what a scan of these nodes counts
@@ -75,3 +76,18 @@ index_parted above opens net r v tallies good now was index = record {
       index.counted k (⊎_elim (λ (here : k ≡ v). ap (present net) here ∙ was) (λ (other : k ≢ v). sym (present_other net v false k other) ∙ has) (cases_eq k v))
       ∙ tally_stays above opens net (set net.here v false) r k good now;
 }
+
+-- at first there is no edge, and nothing is counted
+pub indexed_at_first : (above : Bool) (opens : Option ℕ → Bool → Bool) (size count : ℕ) (s : State) (tallies : List Tally) → size ≤ 65535 → s ≡ opening_with size count → tallies ≡ replicate (size + 1) nothing → IsIndexed above opens s tallies
+indexed_at_first above opens size count s tallies few at all =
+    subst (λ (t : State). IsIndexed above opens t tallies) (sym at) (subst (IsIndexed above opens (opening_with size count)) (sym all) record {
+      is_state = opening_is_state size count;
+      index = record {
+        places = length-replicate (size + 1) nothing;
+        counted = λ v here.
+            let within = present_range (opening_with size count).network v here in
+            get_or-replicate (size + 1) v nothing nothing (let high : v ≤ size = within.1 in omega arith)
+            ∙ sym (nothing_counted above opens (opening_with size count).network (opening_with size count).registers v (λ w. contains-empty (edge v w)));
+      };
+      few = few;
+    })

@@ -103,21 +103,3 @@ count_one p (x ∷ xs) one =
 -- the count is the same from the end
 pub count_reverse : (p : ℕ → Bool) (xs : List ℕ) → count_by p (reverse xs) ≡ count_by p xs
 count_reverse p xs = sum_by-IsPermutation (λ x. cond (p x) 1 0) xs (reverse xs) (IsPermutation-reverse xs)
-
--- a count goes on by one where the next name passes
-pub count_take_more : (p : ℕ → Bool) (nodes : List ℕ) (i w after before : ℕ) (b : Bool) → i < length nodes → w ≡ get_or nodes i w → before ≡ count_by p (take i nodes) → after ≡ before + one_if b → b ≡ p w → after ≡ count_by p (take (i + 1) nodes)
-count_take_more p nodes i w after before b inside is so_far more passes =
-    let next = sum_by_more (λ x. cond (p x) 1 0) nodes i w inside in
-    let at : one_if (p (get_or nodes i w)) ≡ one_if b = ap (λ x. one_if (p x)) (sym is) ∙ ap one_if (sym passes) in
-    omega (arith, next, at, so_far, more)
-
--- and a sum of names by its name
-pub names_take_more : (p : ℕ → Bool) (nodes : List ℕ) (i w after before : ℕ) (b : Bool) → i < length nodes → w ≡ get_or nodes i w → before ≡ sum_by (name_if p) (take i nodes) → after ≡ before + cond b w 0 → b ≡ p w → after ≡ sum_by (name_if p) (take (i + 1) nodes)
-names_take_more p nodes i w after before b inside is so_far more passes =
-    let next = sum_by_more (name_if p) nodes i w inside in
-    let at : name_if p (get_or nodes i w) ≡ cond b w 0 = ap (name_if p) (sym is) ∙ ap (λ t. cond t w 0) (sym passes) in
-    omega (arith, next, at, so_far, more)
-
-pub one_if_small : (b : Bool) → one_if b ≤ 1
-one_if_small true = omega arith
-one_if_small false = omega arith

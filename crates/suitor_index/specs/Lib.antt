@@ -1,4 +1,2 @@
 pub mod Tallies
 pub mod Told
-pub mod Before
-pub mod Events

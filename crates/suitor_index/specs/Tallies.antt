@@ -1,8 +1,8 @@
 -- What is counted at a node, and a table of it with a place for each name; place 0 is nobody's.
-use Rattle.std.specs.Prelude.{◌≡◌, ℕ, ◌+◌, Bool, true, false, cond, ◌&&◌, List, length, Option, IsTrue, nat_eq, nat_lt, slice_index_or}
+use Rattle.std.specs.Prelude.{◌≡◌, ℕ, ◌+◌, ◌≤◌, Bool, true, false, cond, ◌&&◌, List, length, Option, IsTrue, nat_eq, nat_lt, slice_index_or}
 use Rattle.std.specs.List.{count_by, sum_by}
 use Rattle.rule_machine.specs.Network.{linked, present, neighbours}
-use Rattle.rule_machine.specs.State.{State, suits}
+use Rattle.rule_machine.specs.State.{State, IsState, suits}
 use Rattle.rule_set.specs.Glance.{is_reached}
 use Rattle.suitor_index.specs.declared.tally.Tally.{Tally}
 
@@ -43,3 +43,9 @@ pub record IsLoneSuitor (s : State) (v w : ℕ) : Type 0 where
 pub record IsIndexOf (above : Bool) (opens : Option ℕ → Bool → Bool) (s : State) (tallies : List Tally) : Type 0 where
   pub places : length tallies ≡ s.network.size + 1
   pub counted : (v : ℕ) → IsTrue (present s.network v) → tally_of tallies v ≡ tally_at above opens s v
+
+-- the state is one, its names fit, and the tallies are its index
+pub record IsIndexed (above : Bool) (opens : Option ℕ → Bool → Bool) (s : State) (tallies : List Tally) : Type 0 where
+  pub is_state : IsState s
+  pub index : IsIndexOf above opens s tallies
+  pub few : s.network.size ≤ 65535

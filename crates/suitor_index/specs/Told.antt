@@ -51,9 +51,3 @@ pub record IsRepointed (was is : Option ℕ) (v : ℕ) (before after : List Tall
   pub suitors : (k : ℕ) → (tally_of after k).suitors + one_if (is_at was k) ≡ (tally_of before k).suitors + one_if (is_at is k)
   pub sum : (k : ℕ) → (tally_of after k).sum + cond (is_at was k) v 0 ≡ (tally_of before k).sum + cond (is_at is k) v 0
   pub reached : (k : ℕ) → (tally_of after k).reached ≡ (tally_of before k).reached
-
--- one more neighbour can be counted, whatever it is
-pub record HasRoomForAll (t : Tally) : Type 0 where
-  pub suitors : t.suitors < 65535
-  pub reached : t.reached < 65535
-  pub sum : t.sum < 4294901760

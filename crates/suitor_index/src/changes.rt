@@ -1,86 +1,191 @@
-//! What the index does when it is told of a change.
+//! How a network changes, and with it what is counted at its nodes.
 
-ghost use Rattle.std.specs.Prelude.{◌≡◌, ◌<◌, ◌≤◌, ◌&&◌, true, length, nat_eq, not, IsTrue};
+ghost use Rattle.std.specs.Prelude.{◌≡◌, ◌<◌, ◌≤◌, ◌&&◌, IfErr, IfSome, IsTrue, None, OnOk, [], false, true, length, nat_eq, not, slice_set};
 ghost use Rattle.std.specs.Bool.{beq};
-ghost use Rattle.rule_machine.specs.Network.{present};
-ghost use Rattle.rule_machine.specs.State.{IsState, pointer, flag};
+ghost use Rattle.graph_store.specs.Ends.{end_at};
+ghost use Rattle.graph_store.specs.Fault.{link_fault, Explains};
+ghost use Rattle.graph_store.specs.Graph.{HasRoomFor};
+ghost use Rattle.net_state.specs.Held.{without_place};
+ghost use Rattle.rule_machine.specs.Disturbance.{after_link, after_point, after_flag, after_join};
+ghost use Rattle.rule_machine.specs.Network.{present, linked, neighbours, without_edge};
 ghost use Rattle.rule_machine.specs.RuleTable as RuleTable;
-ghost use Rattle.suitor_index.specs.Tallies.{asks_for, tally_of, IsIndexOf};
-ghost use Rattle.suitor_index.specs.Before.{IsBeforeLink, IsBeforeUnlink, IsBeforePoint, IsBeforeFlag, IsBeforeJoin};
+ghost use Rattle.rule_machine.specs.State.{IsState, pointer, flag, points};
+ghost use Rattle.suitor_index.specs.Tallies.{asks_for, tally_of};
 ghost use Rattle.suitor_index.specs.Told.{IsOpenTo};
 
-use crate::scan::{is_open, is_reached};
+use crate::SuitorIndex;
+use crate::scan::is_reached;
 use crate::table::{close_at, court, leave, open_at, turn};
-use crate::tally::NOTHING;
-use crate::{SuitorIndex, Tally};
-use net_state::NetState;
+use crate::tally::{NOTHING, Tally};
+use graph_store::{End, GraphFault};
+use net_state::{Disturb, NetState};
 use rule_machine::Node;
 use rule_set::Rules;
 
+/// What a write of a node's pointer changed.
+#[derive(Clone, Copy)]
+pub struct Change {
+    /// Where the node pointed before, if anywhere.
+    pub left: Option<Node>,
+    /// Whether it became open to a seduction, or ceased to be.
+    pub turned: bool,
+}
+
 impl<R: Rules> SuitorIndex<R> {
-    /// Takes note that an edge was put in: a write at each end that asks for the other, at most.
-    pub fn linked(&mut self, a: Node, b: Node, net: &NetState)
-        requires { IsBeforeLink R.ABOVE R.table.opens net.now.state a b self.old }
-        ensures { IsIndexOf R.ABOVE R.table.opens net.now.state self.new }
+    /// Makes room for the edge between two nodes, so that `link_reserved` of them takes no memory: a look-up by halves, and the
+    /// growth of at most two neighbour lists. `UnknownNode`, `SelfLoop`, `AlreadyLinked`, `TooManyEdges`, `Memory`, in that
+    /// order; the state stays.
+    pub fn reserve_link(&mut self, a: Node, b: Node) -> Result<(), GraphFault>
+        ensures ok { OnOk result ((link_fault self.old.state.network a b ≡ None) × HasRoomFor self.new.room a b) }
+        ensures fault { IfErr result (λ fault. Explains (link_fault self.old.state.network a b) fault) }
+        ensures kept { self.new.state ≡ self.old.state }
+        ensures ends { self.new.ends ≡ self.old.ends }
     {
-        let tallies = self.tallies.as_mut_slice();
-        count_end::<R>(tallies, a, b, net);
-        count_end::<R>(tallies, b, a, net);
+        self.net.reserve_link(a, b)
     }
 
-    /// Takes note that an edge that neither end's pointer crossed was taken out: a write at each end that asks for
-    /// the other, at most.
-    pub fn unlinked(&mut self, a: Node, b: Node, net: &NetState)
-        requires { IsBeforeUnlink R.ABOVE R.table.opens net.now.state a b self.old }
-        ensures { IsIndexOf R.ABOVE R.table.opens net.now.state self.new }
+    /// Adds the edge between two nodes for which there is room: a look-up by halves, a shift in two neighbour lists, and a write at
+    /// each end that asks for the other, at most. Takes no memory.
+    pub fn link_reserved(&mut self, a: Node, b: Node)
+        requires free { link_fault self.old.state.network a b ≡ None }
+        requires room { HasRoomFor self.old.room a b }
+        ensures state { self.new.state ≡ after_link self.old.state a b }
+        ensures ends { self.new.ends ≡ self.old.ends }
+        ensures sound { IsState self.new.state }
     {
+        self.net.link_reserved(a, b);
         let tallies = self.tallies.as_mut_slice();
-        discount_end::<R>(tallies, b, a, net);
-        discount_end::<R>(tallies, a, b, net);
+        count_end::<R>(tallies, a, b, &self.net);
+        count_end::<R>(tallies, b, a, &self.net);
     }
 
-    /// Takes note that a node's pointer, which was `old`, was written: a write at its old target and at the new one, and
-    /// one at each neighbour that asks for the node, where it became open or ceased to be. Where neighbours ask for higher names
-    /// alone, no look at those above the node but one. Tells whether it became open or ceased to be.
-    pub fn pointer_changed(&mut self, v: Node, old: Option<Node>, net: &NetState) -> bool
-        requires state { IsState net.now.state }
-        requires present { IsTrue (present net.now.state.network v) }
-        requires before { IsBeforePoint R.ABOVE R.table.opens net.now.state v old self.old }
-        ensures index { IsIndexOf R.ABOVE R.table.opens net.now.state self.new }
-        ensures turned { result ≡ not (beq (R.table.opens old (flag net.now.state v)) (RuleTable.is_open R.table.opens net.now.state v)) }
+    /// Removes an edge that no pointer crosses: a shift in two neighbour lists, and a write at each end that asks for the other, at
+    /// most. Takes no memory.
+    pub fn take_out(&mut self, a: Node, b: Node)
+        requires linked { IsTrue (linked self.old.state.network a b) }
+        requires not_there { points self.old.state.registers a b ≡ false }
+        requires not_back { points self.old.state.registers b a ≡ false }
+        ensures state { self.new.state ≡ record self.old.state { network = without_edge self.old.state.network a b } }
+        ensures ends { self.new.ends ≡ self.old.ends }
+        ensures sound { IsState self.new.state }
     {
+        self.net.take_out(a, b);
         let tallies = self.tallies.as_mut_slice();
+        discount_end::<R>(tallies, b, a, &self.net);
+        discount_end::<R>(tallies, a, b, &self.net);
+    }
+
+    /// Writes a node's pointer, to null or to a neighbour, and tells what that changed: a write at its old target and at the new
+    /// one, and one at each neighbour that asks for the node, where it became open or ceased to be. Where neighbours ask for higher
+    /// names alone, no look at those above the node but one. Takes no memory.
+    pub fn write_pointer(&mut self, v: Node, target: Option<Node>) -> Change
+        requires present { IsTrue (present self.old.state.network v) }
+        requires near { IfSome target (λ w. IsTrue (linked self.old.state.network v w)) }
+        ensures value { self.new ≡ record self.old { state = after_point self.old.state v target } }
+        ensures sound { IsState self.new.state }
+        ensures left { result.left ≡ pointer self.old.state v }
+        ensures turned { result.turned ≡ not (beq (RuleTable.is_open R.table.opens self.old.state v) (RuleTable.is_open R.table.opens self.new.state v)) }
+    {
+        // Each use has a copy: of a value that is passed on proofs say no more.
+        let old = self.net.pointer(v);
+        let flag = self.net.flag(v);
         let left = old;
+        let gone = old;
+        let courted = target;
+        let aim = target;
+        let was_open = R::opens(old, flag);
+        let is_open = R::opens(aim, flag);
+        self.net.set_pointer(v, target);
+        let tallies = self.tallies.as_mut_slice();
         leave(tallies, left, v);
-        court(tallies, net.pointer(v), v);
-        let was_open = R::opens(old, net.flag(v));
-        let is_open = is_open::<R>(net, v);
-        turn::<R>(tallies, net.neighbours(v), v, was_open, is_open);
+        court(tallies, courted, v);
+        turn::<R>(tallies, self.net.neighbours(v), v, was_open, is_open);
+        Change {
+            left: gone,
+            turned: was_open != is_open,
+        }
+    }
+
+    /// Writes a node's flag, and tells whether the node became open or ceased to be: a write at each neighbour that asks for it
+    /// where it did, and none where it did not. Where neighbours ask for higher names alone, no look at those above the node but
+    /// one. Takes no memory.
+    pub fn write_flag(&mut self, v: Node, value: bool) -> bool
+        requires { IsTrue (present self.old.state.network v) }
+        ensures value { self.new ≡ record self.old { state = after_flag self.old.state v value } }
+        ensures sound { IsState self.new.state }
+        ensures turned { result ≡ not (beq (RuleTable.is_open R.table.opens self.old.state v) (RuleTable.is_open R.table.opens self.new.state v)) }
+    {
+        let was_open = R::opens(self.net.pointer(v), self.net.flag(v));
+        let is_open = R::opens(self.net.pointer(v), value);
+        self.net.set_flag(v, value);
+        turn::<R>(
+            &mut self.tallies,
+            self.net.neighbours(v),
+            v,
+            was_open,
+            is_open,
+        );
         was_open != is_open
     }
 
-    /// Takes note that a node's flag, which was the other value, was written: a write at each neighbour that asks for the
-    /// node, where it became open or ceased to be, and none where it did not. Where neighbours ask for higher names alone, no look at
-    /// those above the node but one. Tells whether it became open or ceased to be.
-    pub fn flag_changed(&mut self, v: Node, net: &NetState) -> bool
-        requires state { IsState net.now.state }
-        requires present { IsTrue (present net.now.state.network v) }
-        requires before { IsBeforeFlag R.ABOVE R.table.opens net.now.state v self.old }
-        ensures index { IsIndexOf R.ABOVE R.table.opens net.now.state self.new }
-        ensures turned { result ≡ not (beq (R.table.opens (pointer net.now.state v) (not (flag net.now.state v))) (RuleTable.is_open R.table.opens net.now.state v)) }
+    /// Makes a name a node, with no edge, a null pointer and its flag false: one write beside those of the network. Takes no memory.
+    pub fn join(&mut self, v: Node)
+        requires within { v ≤ self.old.state.network.size }
+        requires absent { present self.old.state.network v ≡ false }
+        ensures state { self.new.state ≡ after_join self.old.state v }
+        ensures ends { self.new.ends ≡ self.old.ends }
+        ensures sound { IsState self.new.state }
     {
-        let was_open = R::opens(net.pointer(v), !net.flag(v));
-        let is_open = is_open::<R>(net, v);
-        turn::<R>(&mut self.tallies, net.neighbours(v), v, was_open, is_open);
-        was_open != is_open
-    }
-
-    /// Takes note that a name became present: one write. A name that goes without an edge need not be told of.
-    pub fn joined(&mut self, v: Node, net: &NetState)
-        requires { IsBeforeJoin R.ABOVE R.table.opens net.now.state v self.old }
-        ensures { IsIndexOf R.ABOVE R.table.opens net.now.state self.new }
-    {
+        self.net.join(v);
         self.tallies[v.place()] = NOTHING;
+    }
+
+    /// Frees the name of a node that has no edge and whose flag is false. Takes no memory.
+    pub fn free_name(&mut self, v: Node)
+        requires present { IsTrue (present self.old.state.network v) }
+        requires alone { neighbours self.old.state.network v ≡ [] }
+        requires unflagged { flag self.old.state v ≡ false }
+        ensures state { self.new.state ≡ without_place self.old.state v }
+        ensures ends { self.new.ends ≡ self.old.ends }
+        ensures sound { IsState self.new.state }
+    {
+        self.net.free_name(v);
+    }
+
+    /// Says what a name makes of the edges at it from now on, where at first each name shuts them: one look where that was said
+    /// before, else one at each neighbour. Takes no memory.
+    pub fn turn(&mut self, v: Node, end: End)
+        requires { v ≤ self.old.state.network.size }
+        ensures told { end_at self.new.ends v ≡ end }
+        ensures ends { self.new.ends ≡ slice_set self.old.ends v end }
+        ensures state { self.new.state ≡ self.old.state }
+        ensures room { self.new.room ≡ self.old.room }
+    {
+        self.net.turn(v, end);
+    }
+}
+
+impl<R: Rules> Disturb for SuitorIndex<R> {
+    ghost state = { λ n. n.state };
+
+    fn net(&self) -> &NetState {
+        SuitorIndex::net(self)
+    }
+
+    fn set_pointer(&mut self, v: Node, target: Option<Node>) {
+        let _change = self.write_pointer(v, target);
+    }
+
+    fn set_flag(&mut self, v: Node, value: bool) {
+        let _turned = self.write_flag(v, value);
+    }
+
+    fn take_out(&mut self, a: Node, b: Node) {
+        SuitorIndex::take_out(self, a, b);
+    }
+
+    fn free_name(&mut self, v: Node) {
+        SuitorIndex::free_name(self, v);
     }
 }
 

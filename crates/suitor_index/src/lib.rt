@@ -1,17 +1,19 @@
-//! Who courts a node and which neighbours are open to it, kept by counts, so that a look-up that finds nothing scans nothing.
+//! A network that counts who courts a node and which neighbours are open to it, so that a look-up that finds nothing scans nothing.
 //!
-//! At each node three numbers stand: how many neighbours point at it, the sum of their names (which is the name where there is one), and
-//! how many of its neighbours are open that the rules ask for. Each look-up answers what a scan of the neighbours would, and the index is
-//! told of each change after it was made. It is no state and keeps none: the network is handed to each call, and contracts say of which
-//! state the index is one.
+//! Beside the edges and registers (`net_state`) three numbers stand at each node: how many neighbours point at it, the sum of their names
+//! (which is the name where there is one), and how many of its neighbours are open that the rules ask for. Each look-up answers what a
+//! scan of the neighbours would, since each change brings the counts up to date; contracts see the network alone.
 //!
 //! Whether there is a suitor or an open neighbour is one look; which it is, a scan that stops at the first. A pointer or flag that turns
-//! whether its node is open costs a write at each neighbour that asks for it. Only `build` takes memory, eight bytes a name.
+//! whether its node is open costs a write at each neighbour that asks for it. Only `with_present`, eight bytes a name beside the network,
+//! and `reserve_link` take memory.
 //!
 //! ```rust
-//! let mut index = SuitorIndex::<R>::build(alloc, &net)?;
-//! net.set_pointer(a, Some(b));
-//! let turned = index.pointer_changed(a, None, &net);
+//! let mut index = SuitorIndex::<R>::with_present(alloc, 2, 2)?;
+//! index.reserve_link(a, b)?;
+//! index.link_reserved(a, b);
+//! let turned = index.write_pointer(a, Some(b)).turned;
+//! let courted = index.first_suitor(b);              // a
 //! ```
 #![tactic(auto)]
 
@@ -21,5 +23,5 @@ mod scan;
 mod table;
 mod tally;
 
+pub use changes::Change;
 pub use index::SuitorIndex;
-pub use tally::Tally;

@@ -1,13 +1,10 @@
 //! Looks at a node's neighbours one after another.
 
-ghost use Rattle.std.specs.Prelude.{◌≡◌, ◌≤◌, ◌&&◌, All, find, length, nat_lt, reverse, IsTrue};
-ghost use Rattle.std.specs.List.{count_by, sum_by};
-ghost use Rattle.suitor_index.specs.Tallies.{asks_for, name_if};
+ghost use Rattle.std.specs.Prelude.{◌≡◌, ◌≤◌, ◌&&◌, All, find, nat_lt, reverse, IsTrue};
+ghost use Rattle.suitor_index.specs.Tallies.{asks_for};
 ghost use Rattle.rule_machine.specs.Network.{present};
 ghost use Rattle.rule_machine.specs.State.{points, pointer, flag};
 
-use crate::Tally;
-use crate::tally::NOTHING;
 use net_state::NetState;
 use rule_machine::Node;
 use rule_set::Rules;
@@ -72,20 +69,4 @@ pub(crate) fn last_open_above<R: Rules>(nodes: &[Node], net: &NetState, v: Node)
         }
     }
     None
-}
-
-/// What is counted at v, whose neighbours these nodes are.
-pub(crate) fn count<R: Rules>(nodes: &[Node], net: &NetState, v: Node) -> Tally
-    requires few { length nodes.now ≤ 65535 }
-    requires present { All (λ w. IsTrue (present net.now.state.network w)) nodes.now }
-    ensures suitors { result.suitors ≡ count_by (λ w. points net.now.state.registers w v) nodes.now }
-    ensures reached { result.reached ≡ count_by (λ w. asks_for R.ABOVE v w && R.table.opens (pointer net.now.state w) (flag net.now.state w)) nodes.now }
-    ensures sum { result.sum ≡ sum_by (name_if (λ w. points net.now.state.registers w v)) nodes.now }
-{
-    let mut tally = NOTHING;
-    for &w in nodes {
-        let is_suitor = net.points(w, v);
-        tally = tally.with_neighbour(w, is_suitor, is_reached::<R>(net, v, w));
-    }
-    tally
 }

@@ -6,8 +6,8 @@ ghost use Rattle.std.specs.List.Sorted.{IsStrictlyIncreasing};
 ghost use Rattle.suitor_index.specs.Tallies.{asks_for, tally_of};
 ghost use Rattle.suitor_index.specs.Told.{IsCourted, IsOpenTo, HasSuitor, HasRoomFor, CanTurn, IsTurned};
 
-use crate::Tally;
 use crate::scan::asks_for;
+use crate::tally::Tally;
 use rule_machine::Node;
 use rule_set::Rules;
 

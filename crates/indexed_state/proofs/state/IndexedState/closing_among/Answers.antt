@@ -1,19 +1,22 @@
-use Rattle.std.proofs.Common.{◌&&◌, ◌∙◌, ℕ, Bool, cond, count_by, refl, ap, arith}
+use Rattle.std.proofs.Common.{◌&&◌, ◌∙◌, ◌≤◌, ℕ, Bool, cond, count_by, length, ap, sym, subst, arith}
 use Rattle.std.proofs.lemmas.List.{take_all}
 use Rattle.rule_machine.specs.Network.{neighbours}
 use Rattle.rule_machine.specs.State.{points}
-use Rattle.suitor_index.proofs.Built.{few_neighbours}
+use Rattle.net_state.specs.Held.{Held}
 use Rattle.indexed_state.specs.Indexed.{Indexed}
 use Rattle.enabled_set.proofs.Sums.{one_byte}
+use Rattle.indexed_state.proofs.Named.{few_neighbours}
 use Rattle.indexed_state.proofs.Summed.{counted_more, few_bytes}
 use Rattle.indexed_state.proofs.state.IndexedState.closing_among.Goals as goal
 
 pub overflow_add-closing : goal.overflow_add-closing
 overflow_add-closing g c =
-    let net = c.self.inside.net.state.network in
-    let few = few_neighbours net c.args.node.now.node c.neighbours-w-items.result.now net.size c.neighbours-w-items.ensures.all refl c.self.invariant.0.few in
+    let net = c.net.result.now.state.network in
+    let near = few_neighbours net c.args.node.now.node in
+    let all = ap length c.neighbours-w-items.ensures.all in
+    let few = subst (λ (h : Held). h.state.network.size ≤ 65535) (sym c.net.ensures.value) c.net.ensures.few in
     let so_far = c.loop-w.invariant.few in
-    omega (arith, few, so_far, c.loop-w-test.true, c.from-closing.ensures, few_bytes c.closes_edge.result)
+    omega (arith, near, all, few, so_far, c.loop-w-test.true, c.from-closing.ensures, few_bytes c.closes_edge.result)
 
 pub loop-w-preserved : goal.loop-w-preserved
 loop-w-preserved g c =
@@ -30,4 +33,4 @@ returns g c =
     let v = c.args.node.now.node in
     c.loop-w.invariant.count
     ∙ ap (count_by (λ x. points c.args.self.now.state.registers x v && g.R.Rules.closes c.args.self.now.state x))
-    (take_all c.loop-w.w-index c.neighbours-w-items.result.now (omega arith) ∙ c.neighbours-w-items.ensures.all ∙ ap (λ (n : Indexed). neighbours n.state.network v) c.self.view_is)
+    (take_all c.loop-w.w-index c.neighbours-w-items.result.now (omega arith) ∙ c.neighbours-w-items.ensures.all ∙ ap (λ (h : Held). neighbours h.state.network v) c.net.ensures.value ∙ ap (λ (n : Indexed). neighbours n.state.network v) c.self.view_is)

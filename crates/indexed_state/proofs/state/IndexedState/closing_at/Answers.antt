@@ -8,7 +8,7 @@ use Rattle.indexed_state.proofs.state.IndexedState.closing_at.Goals as goal
 pub returns-then-not-node : goal.returns-then-not-node
 returns-then-not-node g c =
     let s : State = c.args.self.now.state in
-    let good = subst (λ (n : Indexed). IsState n.state) c.self.view_is c.self.invariant.0.is_state in
+    let good = subst (λ (n : Indexed). IsState n.state) c.self.view_is c.self.invariant.0 in
     sym (no_closing s (g.R.Rules.closes s) c.args.node.now.node good (sym c.requires.standing.courted ∙ c.if-not-node.true))
 
 pub returns-in-Some : goal.returns-in-Some

@@ -10,5 +10,5 @@ returns-clause-within g c =
     if_some_from c.first_in.result (λ v. v ≤ c.args.self.now.state.network.size) (λ v e.
     let member : is_in c.self.inside.shares.stale v ≡ true = subst (λ (o : Option ℕ). MatchOption o ((x : ℕ) → 64 * c.args.block ≤ x → x < 64 * c.args.block + 64 → is_in c.self.inside.shares.stale x ≡ false) (λ x. is_in c.self.inside.shares.stale x ≡ true)) e c.first_in.ensures in
     let place = inside c.self.inside.shares.stale v member in
-    let within : v ≤ c.self.inside.net.state.network.size = omega (arith, place, c.self.invariant.1.stale_places) in
+    let within : v ≤ c.self.inside.index.state.network.size = omega (arith, place, c.self.invariant.1.stale_places) in
     subst (λ (n : Indexed). v ≤ n.state.network.size) c.self.view_is within)

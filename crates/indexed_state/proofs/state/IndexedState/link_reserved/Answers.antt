@@ -5,49 +5,36 @@ use Rattle.machine_laws.specs.Neighbours.{present_range}
 use Rattle.graph_store.specs.Fault.{link_fault}
 use Rattle.net_state.proofs.Edges.{new_edge}
 use Rattle.suitor_index.proofs.Linked.{edge_linked}
-use Rattle.suitor_index.specs.Before.{IsBeforeLink}
-use Rattle.suitor_index.specs.Events.{before_link}
 use Rattle.indexed_state.specs.Indexed.{Indexed}
 use Rattle.indexed_state.proofs.Rounds.{IsSameRound, round_linked, told_after}
 use Rattle.indexed_state.proofs.state.IndexedState.link_reserved.Goals as goal
 
-pub linked-requires : goal.linked-requires
-linked-requires g c =
-    let s : State = c.self.inside.net.state in
-    let free : link_fault s.network c.args.a c.args.b ≡ None = subst (λ (n : Indexed). link_fault n.state.network c.args.a c.args.b ≡ None) (sym c.self.view_is) c.requires.free in
-    subst (λ (t : State). IsBeforeLink g.R.Rules.ABOVE g.R.Rules.table.opens t c.args.a c.args.b c.self.inside.index) (sym c.link_reserved.ensures.state)
-    (before_link g.R.Rules.ABOVE g.R.Rules.table.opens s c.args.a c.args.b c.self.inside.index c.self.invariant.0.is_state (new_edge s.network c.args.a c.args.b free).accepted c.self.invariant.0.index)
-
 pub mark-requires : goal.mark-requires
 mark-requires g c =
-    let net = c.self.inside.net.state.network in
+    let net = c.self.inside.index.state.network in
     let free : link_fault net c.args.a c.args.b ≡ None = subst (λ (n : Indexed). link_fault n.state.network c.args.a c.args.b ≡ None) (sym c.self.view_is) c.requires.free in
     let within = present_range net c.args.a (new_edge net c.args.a c.args.b free).lower in
     omega (arith, within.1, c.self.invariant.1.stale_places)
 
 pub mark-requires-2 : goal.mark-requires-2
 mark-requires-2 g c =
-    let net = c.self.inside.net.state.network in
+    let net = c.self.inside.index.state.network in
     let free : link_fault net c.args.a c.args.b ≡ None = subst (λ (n : Indexed). link_fault n.state.network c.args.a c.args.b ≡ None) (sym c.self.view_is) c.requires.free in
     let within = present_range net c.args.b (new_edge net c.args.a c.args.b free).upper in
     omega (arith, within.1, c.self.invariant.1.stale_places, c.mark.ensures.places)
 
 pub invariant_of-self : goal.invariant_of-self
 invariant_of-self g c =
-    let s : State = c.self.inside.net.state in
+    let s : State = c.self.inside.index.state in
     let u = c.link_reserved.new.self in
     let a = c.args.a in
     let b = c.args.b in
     let free : link_fault s.network a b ≡ None = subst (λ (n : Indexed). link_fault n.state.network a b ≡ None) (sym c.self.view_is) c.requires.free in
     let was = c.self.inside.shares in
     let now = c.mark-2.new.self in
-    let edge = edge_linked s.network (with_edge s.network a b) s.registers a b c.self.invariant.0.is_state (new_edge s.network a b free).accepted refl in (
-      record {
-        is_state = c.link_reserved.ensures.sound;
-        index = c.linked.ensures;
-        few = subst (λ (t : State). t.network.size ≤ 65535) (sym c.link_reserved.ensures.state) c.self.invariant.0.few;
-      },
-      told_after g.R.Rules.COURTED_CLOSE g.R.Rules.closes g.R.Rules.adds s u.state c.self.inside.net.ends u.ends was.each.items now.each.items was.lower_ends now.lower_ends was.stale now.stale (record { closes_by_target = g.met.R.Rules.closes_by_target; adds_by_standing = g.met.R.Rules.adds_by_standing }) c.self.invariant.0.is_state c.link_reserved.ensures.sound (ap (λ (t : State). t.network.size) c.link_reserved.ensures.state) c.link_reserved.ensures.ends (c.mark-2.ensures.kept.0 ∙ c.mark.ensures.kept.0) (c.mark-2.ensures.kept.1 ∙ c.mark.ensures.kept.1) (c.mark-2.ensures.places ∙ c.mark.ensures.places)
+    let edge = edge_linked s.network (with_edge s.network a b) s.registers a b c.self.invariant.0 (new_edge s.network a b free).accepted refl in (
+      c.link_reserved.ensures.sound,
+      told_after g.R.Rules.COURTED_CLOSE g.R.Rules.closes g.R.Rules.adds s u.state c.self.inside.index.ends u.ends was.each.items now.each.items was.lower_ends now.lower_ends was.stale now.stale (record { closes_by_target = g.met.R.Rules.closes_by_target; adds_by_standing = g.met.R.Rules.adds_by_standing }) c.self.invariant.0 c.link_reserved.ensures.sound (ap (λ (t : State). t.network.size) c.link_reserved.ensures.state) c.link_reserved.ensures.ends (c.mark-2.ensures.kept.0 ∙ c.mark.ensures.kept.0) (c.mark-2.ensures.kept.1 ∙ c.mark.ensures.kept.1) (c.mark-2.ensures.places ∙ c.mark.ensures.places)
           (λ v fresh.
           let second = c.mark-2.ensures.marked v fresh in
           let first = c.mark.ensures.marked v second.0 in

@@ -1,5 +1,7 @@
 use Rattle.std.proofs.Common.{◌≡◌, ◌∙◌, ℕ, false, length, count_by, sum_by, ap}
 use Rattle.enabled_set.specs.Members.{is_in}
+use Rattle.graph_store.specs.Ends.{open_edges}
+use Rattle.net_state.specs.Held.{Held}
 use Rattle.rule_machine.specs.Network.{names, edge_list}
 use Rattle.rule_machine.specs.Stable.{mutual_pairs}
 use Rattle.rule_machine.specs.State.{State}
@@ -12,27 +14,28 @@ use Rattle.indexed_state.proofs.state.IndexedState.totals.Goals as goal
 
 pub returns-clause-pairs : goal.returns-clause-pairs
 returns-clause-pairs g c =
-    let s : State = c.self.inside.net.state in
+    let s : State = c.self.inside.index.state in
     let same = ap (λ (n : Indexed). n.state) c.self.view_is ∙ c.look_again.ensures.state in
     let fresh : (v : ℕ) → is_in c.self.inside.shares.stale v ≡ false = λ v. ap (λ (n : Indexed). is_in n.stale v) c.self.view_is ∙ c.look_again.ensures.told v in
     let told = c.self.invariant.1 in
     c.count.ensures
-    ∙ lower_count s c.self.inside.shares.lower_ends c.self.invariant.0.is_state told.lower_places (λ v. (told.told v (fresh v)).is_lower)
+    ∙ lower_count s c.self.inside.shares.lower_ends c.self.invariant.0 told.lower_places (λ v. (told.told v (fresh v)).is_lower)
     ∙ ap (λ (t : State). length (mutual_pairs t)) same
 
 pub returns-clause-open : goal.returns-clause-open
 returns-clause-open g c =
-    let s : State = c.self.inside.net.state in
+    let s : State = c.self.inside.index.state in
     let same = ap (λ (n : Indexed). n.state) c.self.view_is ∙ c.look_again.ensures.state in
     let fresh : (v : ℕ) → is_in c.self.inside.shares.stale v ≡ false = λ v. ap (λ (n : Indexed). is_in n.stale v) c.self.view_is ∙ c.look_again.ensures.told v in
     let told = c.self.invariant.1 in
     c.open_edges.ensures.count
-    ∙ turned_open g.R.Rules.COURTED_CLOSE s c.self.inside.net.ends c.self.invariant.0.is_state.is_network (λ v. (told.told v (fresh v)).end)
+    ∙ ap (λ (h : Held). open_edges h.state.network h.ends) c.net.ensures.value
+    ∙ turned_open g.R.Rules.COURTED_CLOSE s c.self.inside.index.ends c.self.invariant.0.is_network (λ v. (told.told v (fresh v)).end)
     ∙ ap (λ (t : State). count_by (ends_open g.R.Rules.COURTED_CLOSE t) (edge_list t.network)) same
 
 pub returns-clause-added : goal.returns-clause-added
 returns-clause-added g c =
-    let s : State = c.self.inside.net.state in
+    let s : State = c.self.inside.index.state in
     let same = ap (λ (n : Indexed). n.state) c.self.view_is ∙ c.look_again.ensures.state in
     let fresh : (v : ℕ) → is_in c.self.inside.shares.stale v ≡ false = λ v. ap (λ (n : Indexed). is_in n.stale v) c.self.view_is ∙ c.look_again.ensures.told v in
     let told = c.self.invariant.1 in
@@ -42,10 +45,10 @@ returns-clause-added g c =
 
 pub returns-clause-closing : goal.returns-clause-closing
 returns-clause-closing g c =
-    let s : State = c.self.inside.net.state in
+    let s : State = c.self.inside.index.state in
     let same = ap (λ (n : Indexed). n.state) c.self.view_is ∙ c.look_again.ensures.state in
     let fresh : (v : ℕ) → is_in c.self.inside.shares.stale v ≡ false = λ v. ap (λ (n : Indexed). is_in n.stale v) c.self.view_is ∙ c.look_again.ensures.told v in
     let told = c.self.invariant.1 in
     c.self.inside.shares.summed.closed
-    ∙ closing_summed s c.self.invariant.0.is_state (g.R.Rules.closes s) (g.met.R.Rules.null_closes_none s) c.self.inside.shares.each.items told.places (λ v. (told.told v (fresh v)).closing)
+    ∙ closing_summed s c.self.invariant.0 (g.R.Rules.closes s) (g.met.R.Rules.null_closes_none s) c.self.inside.shares.each.items told.places (λ v. (told.told v (fresh v)).closing)
     ∙ ap (λ (t : State). count_by (g.R.Rules.closes t) (names t.network)) same

@@ -8,17 +8,13 @@ use Rattle.indexed_state.proofs.state.IndexedState.with_present.Goals as goal
 
 pub invariant_of-result : goal.invariant_of-result
 invariant_of-result g c =
-    let is = c.in_ok-net.ensures.ok in
-    let ends = c.in_ok-net.net.ends in
-    let shares = c.in-Ok-new.shares in (
-      record {
-        is_state = subst (λ (s : State). IsState s) (sym is) (opening_is_state c.args.nodes c.args.present);
-        index = c.in-Ok.ensures;
-        few = subst (λ (s : State). s.network.size ≤ 65535) (sym is) c.in_ok-net.ensures.small;
-      },
+    let is = c.in_ok-index.ensures.ok in
+    let ends = c.in_ok-index.index.ends in
+    let shares = c.in-Ok.shares in (
+      subst (λ (s : State). IsState s) (sym is) (opening_is_state c.args.nodes c.args.present),
       subst (λ (t : State). AreTold g.R.Rules.COURTED_CLOSE g.R.Rules.closes g.R.Rules.adds t ends shares.each.items shares.lower_ends shares.stale) (sym is)
-          (subst (λ (l : List Share). AreTold g.R.Rules.COURTED_CLOSE g.R.Rules.closes g.R.Rules.adds (opening_with c.args.nodes c.args.present) ends l shares.lower_ends shares.stale) (sym c.in-Ok-new.ensures.each)
-          (subst (λ (l : List Bool). AreTold g.R.Rules.COURTED_CLOSE g.R.Rules.closes g.R.Rules.adds (opening_with c.args.nodes c.args.present) ends (replicate (c.args.nodes + 1) no_share) l shares.stale) (sym c.in-Ok-new.ensures.lower)
-          (subst (λ (l : List Bool). AreTold g.R.Rules.COURTED_CLOSE g.R.Rules.closes g.R.Rules.adds (opening_with c.args.nodes c.args.present) ends (replicate (c.args.nodes + 1) no_share) (replicate (c.args.nodes + 1) false) l) (sym c.in-Ok-new.ensures.stale)
+          (subst (λ (l : List Share). AreTold g.R.Rules.COURTED_CLOSE g.R.Rules.closes g.R.Rules.adds (opening_with c.args.nodes c.args.present) ends l shares.lower_ends shares.stale) (sym c.in-Ok.ensures.each)
+          (subst (λ (l : List Bool). AreTold g.R.Rules.COURTED_CLOSE g.R.Rules.closes g.R.Rules.adds (opening_with c.args.nodes c.args.present) ends (replicate (c.args.nodes + 1) no_share) l shares.stale) (sym c.in-Ok.ensures.lower)
+          (subst (λ (l : List Bool). AreTold g.R.Rules.COURTED_CLOSE g.R.Rules.closes g.R.Rules.adds (opening_with c.args.nodes c.args.present) ends (replicate (c.args.nodes + 1) no_share) (replicate (c.args.nodes + 1) false) l) (sym c.in-Ok.ensures.stale)
           (told_at_first g.R.Rules.COURTED_CLOSE g.R.Rules.closes g.R.Rules.adds c.args.nodes c.args.present ends)))),
     )

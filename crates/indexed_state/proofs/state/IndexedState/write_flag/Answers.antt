@@ -10,23 +10,19 @@ use Rattle.indexed_state.proofs.state.IndexedState.write_flag.Goals as goal
 pub mark-requires : goal.mark-requires
 mark-requires g c =
     let here = subst (λ (n : Indexed). IsTrue (present n.state.network c.args.v)) (sym c.self.view_is) c.requires in
-    let within = present_range c.self.inside.net.state.network c.args.v here in
+    let within = present_range c.self.inside.index.state.network c.args.v here in
     omega (arith, within.1, c.self.invariant.1.stale_places)
 
 pub invariant_of-self : goal.invariant_of-self
 invariant_of-self g c =
-    let s : State = c.self.inside.net.state in
+    let s : State = c.self.inside.index.state in
     let was = c.self.inside.shares in
     let now = c.mark.new.self in
-    let u = c.set_flag.new.self in (
-      record {
-        is_state = c.set_flag.ensures.sound;
-        index = c.flag_changed.ensures.index;
-        few = subst (λ (n : Held). n.state.network.size ≤ 65535) (sym c.set_flag.ensures.value) c.self.invariant.0.few;
-      },
-      told_after g.R.Rules.COURTED_CLOSE g.R.Rules.closes g.R.Rules.adds s u.state c.self.inside.net.ends u.ends was.each.items now.each.items was.lower_ends now.lower_ends was.stale now.stale (record { closes_by_target = g.met.R.Rules.closes_by_target; adds_by_standing = g.met.R.Rules.adds_by_standing }) c.self.invariant.0.is_state c.set_flag.ensures.sound (ap (λ (n : Held). n.state.network.size) c.set_flag.ensures.value) (ap (λ (n : Held). n.ends) c.set_flag.ensures.value) c.mark.ensures.kept.0 c.mark.ensures.kept.1 c.mark.ensures.places
+    let u = c.write_flag.new.self in (
+      c.write_flag.ensures.sound,
+      told_after g.R.Rules.COURTED_CLOSE g.R.Rules.closes g.R.Rules.adds s u.state c.self.inside.index.ends u.ends was.each.items now.each.items was.lower_ends now.lower_ends was.stale now.stale (record { closes_by_target = g.met.R.Rules.closes_by_target; adds_by_standing = g.met.R.Rules.adds_by_standing }) c.self.invariant.0 c.write_flag.ensures.sound (ap (λ (n : Held). n.state.network.size) c.write_flag.ensures.value) (ap (λ (n : Held). n.ends) c.write_flag.ensures.value) c.mark.ensures.kept.0 c.mark.ensures.kept.1 c.mark.ensures.places
           (λ v fresh.
           let fact = c.mark.ensures.marked v fresh in
-          (fact.0, subst (λ (n : Held). IsSameRound s n.state v) (sym c.set_flag.ensures.value) (round_flagged s c.args.v c.args.value v fact.1)))
+          (fact.0, subst (λ (n : Held). IsSameRound s n.state v) (sym c.write_flag.ensures.value) (round_flagged s c.args.v c.args.value v fact.1)))
           c.self.invariant.1,
     )

@@ -3,24 +3,13 @@ use Rattle.rule_machine.specs.Network.{linked, without_edge}
 use Rattle.rule_machine.specs.State.{State, points}
 use Rattle.machine_laws.specs.Neighbours.{linked_back, linked_present, present_range}
 use Rattle.suitor_index.proofs.Linked.{edge_unlinked}
-use Rattle.suitor_index.specs.Before.{IsBeforeUnlink}
-use Rattle.suitor_index.specs.Events.{before_unlink}
 use Rattle.indexed_state.specs.Indexed.{Indexed}
 use Rattle.indexed_state.proofs.Rounds.{IsSameRound, round_unlinked, told_after}
 use Rattle.indexed_state.proofs.state.IndexedStateDisturb.take_out.Goals as goal
 
-pub unlinked-requires : goal.unlinked-requires
-unlinked-requires g c =
-    let s : State = c.self.inside.net.state in
-    let linked_before = subst (λ (n : Indexed). IsTrue (linked n.state.network c.args.a c.args.b)) (sym c.self.view_is) c.requires.linked in
-    let there = ap (λ (n : Indexed). points n.state.registers c.args.a c.args.b) c.self.view_is ∙ c.requires.not_there in
-    let back = ap (λ (n : Indexed). points n.state.registers c.args.b c.args.a) c.self.view_is ∙ c.requires.not_back in
-    subst (λ (u : State). IsBeforeUnlink g.R.Rules.ABOVE g.R.Rules.table.opens u c.args.a c.args.b c.self.inside.index) (sym c.take_out.ensures.state)
-    (before_unlink g.R.Rules.ABOVE g.R.Rules.table.opens s c.args.a c.args.b c.self.inside.index c.self.invariant.0.is_state linked_before there back c.self.invariant.0.index)
-
 pub invariant_of-self : goal.invariant_of-self
 invariant_of-self g c =
-    let s : State = c.self.inside.net.state in
+    let s : State = c.self.inside.index.state in
     let u = c.take_out.new.self in
     let a = c.args.a in
     let b = c.args.b in
@@ -29,13 +18,9 @@ invariant_of-self g c =
     let linked_before = subst (λ (n : Indexed). IsTrue (linked n.state.network a b)) (sym c.self.view_is) c.requires.linked in
     let there = ap (λ (n : Indexed). points n.state.registers a b) c.self.view_is ∙ c.requires.not_there in
     let back = ap (λ (n : Indexed). points n.state.registers b a) c.self.view_is ∙ c.requires.not_back in
-    let edge = edge_unlinked (without_edge s.network a b) s.network s.registers a b c.self.invariant.0.is_state linked_before there back refl in (
-      record {
-        is_state = c.take_out.ensures.sound;
-        index = c.unlinked.ensures;
-        few = subst (λ (t : State). t.network.size ≤ 65535) (sym c.take_out.ensures.state) c.self.invariant.0.few;
-      },
-      told_after g.R.Rules.COURTED_CLOSE g.R.Rules.closes g.R.Rules.adds s u.state c.self.inside.net.ends u.ends was.each.items now.each.items was.lower_ends now.lower_ends was.stale now.stale (record { closes_by_target = g.met.R.Rules.closes_by_target; adds_by_standing = g.met.R.Rules.adds_by_standing }) c.self.invariant.0.is_state c.take_out.ensures.sound (ap (λ (t : State). t.network.size) c.take_out.ensures.state) c.take_out.ensures.ends (c.mark-2.ensures.kept.0 ∙ c.mark.ensures.kept.0) (c.mark-2.ensures.kept.1 ∙ c.mark.ensures.kept.1) (c.mark-2.ensures.places ∙ c.mark.ensures.places)
+    let edge = edge_unlinked (without_edge s.network a b) s.network s.registers a b c.self.invariant.0 linked_before there back refl in (
+      c.take_out.ensures.sound,
+      told_after g.R.Rules.COURTED_CLOSE g.R.Rules.closes g.R.Rules.adds s u.state c.self.inside.index.ends u.ends was.each.items now.each.items was.lower_ends now.lower_ends was.stale now.stale (record { closes_by_target = g.met.R.Rules.closes_by_target; adds_by_standing = g.met.R.Rules.adds_by_standing }) c.self.invariant.0 c.take_out.ensures.sound (ap (λ (t : State). t.network.size) c.take_out.ensures.state) c.take_out.ensures.ends (c.mark-2.ensures.kept.0 ∙ c.mark.ensures.kept.0) (c.mark-2.ensures.kept.1 ∙ c.mark.ensures.kept.1) (c.mark-2.ensures.places ∙ c.mark.ensures.places)
           (λ v fresh.
           let second = c.mark-2.ensures.marked v fresh in
           let first = c.mark.ensures.marked v second.0 in
@@ -45,14 +30,14 @@ invariant_of-self g c =
 
 pub mark-requires : goal.mark-requires
 mark-requires g c =
-    let net = c.self.inside.net.state.network in
+    let net = c.self.inside.index.state.network in
     let linked_before = subst (λ (n : Indexed). IsTrue (linked n.state.network c.args.a c.args.b)) (sym c.self.view_is) c.requires.linked in
-    let within = present_range net c.args.a (linked_present net c.args.a c.args.b c.self.invariant.0.is_state.is_network linked_before) in
+    let within = present_range net c.args.a (linked_present net c.args.a c.args.b c.self.invariant.0.is_network linked_before) in
     omega (arith, within.1, c.self.invariant.1.stale_places)
 
 pub mark-requires-2 : goal.mark-requires-2
 mark-requires-2 g c =
-    let net = c.self.inside.net.state.network in
+    let net = c.self.inside.index.state.network in
     let linked_before = subst (λ (n : Indexed). IsTrue (linked n.state.network c.args.a c.args.b)) (sym c.self.view_is) c.requires.linked in
-    let within = present_range net c.args.b (linked_present net c.args.b c.args.a c.self.invariant.0.is_state.is_network (linked_back net c.args.b c.args.a ∙ linked_before)) in
+    let within = present_range net c.args.b (linked_present net c.args.b c.args.a c.self.invariant.0.is_network (linked_back net c.args.b c.args.a ∙ linked_before)) in
     omega (arith, within.1, c.self.invariant.1.stale_places, c.mark.ensures.places)

@@ -10,7 +10,7 @@ use Rattle.suitor_index.proofs.index.SuitorIndex.relies_on.Goals.{then-asks_for,
 
 pub returns : goal.returns
 returns g c =
-    let s : State = c.args.net.now.state in
+    let s : State = c.args.self.now.state in
     let above = g.R.Rules.ABOVE in
     let opens = g.R.Rules.table.opens in
     let w = c.args.w in
@@ -20,6 +20,6 @@ returns g c =
       | else-asks_for b ↦ b.has_none_but-is ∙ b.if-asks_for.false ∙ sym (ap (λ a. a && c.args.is_open) (sym c.asks_for.ensures ∙ b.if-asks_for.false))
     ] in
     c.has_none_but.ensures
-    ∙ ap₂ (λ (n : ℕ) (b : Bool). nat_le n (one_if b)) (ap (λ t. t.reached) (c.tally.ensures.value ∙ c.requires.index.counted w c.requires.present))
+    ∙ ap₂ (λ (n : ℕ) (b : Bool). nat_le n (one_if b)) (ap (λ t. t.reached) c.tally.ensures.value)
     (told ∙ ap (λ b. asks_for above w v && b) c.requires.open ∙ sym (reached_is above opens s w v))
-    ∙ others_counted s.network (is_reached above opens s w) w v c.registers.ensures.sound.is_network c.requires.linked
+    ∙ others_counted s.network (is_reached above opens s w) w v c.tally.ensures.sound.is_network c.requires.linked
