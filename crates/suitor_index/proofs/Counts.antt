@@ -1,8 +1,8 @@
 -- What is counted at a node says what a search among its neighbours finds.
-use Rattle.std.proofs.Common.{◌≡◌, ◌≢◌, ℕ, zero, suc, ◌+◌, ◌≤◌, Bool, true, false, cond, not, ◌&&◌, List, length, reverse, find, Option, Some, None, SomeIff, is_some, nat_eq, nat_lt, nat_le, IsTrue, MatchOption, refl, sym, ap, ap₂, ◌∙◌, subst, ⊎_elim, arith}
+use Rattle.std.proofs.Common.{◌≡◌, ◌≢◌, ℕ, zero, suc, ◌+◌, ◌≤◌, Bool, true, false, cond, not, ◌&&◌, reverse, find, Option, Some, None, SomeIff, is_some, nat_eq, nat_lt, nat_le, IsTrue, MatchOption, refl, sym, ap, ap₂, ◌∙◌, subst, ⊎_elim, arith}
 use Rattle.std.specs.List.{count_by, sum_by}
 use Rattle.std.proofs.lemmas.Bool.{and_parts, cases_eq, eq-eqb, false_from_ne_true, le-leb, lt-leb, lt-ltb, ne_eqb, true≢false}
-use Rattle.rule_machine.specs.Network.{Network, IsNetwork, linked, present, neighbours}
+use Rattle.rule_machine.specs.Network.{Network, IsNetwork, linked, neighbours}
 use Rattle.rule_machine.specs.State.{State, IsState, suits, has_suitor, first_suitor}
 use Rattle.rule_machine.specs.RuleTable.{is_open}
 use Rattle.rule_set.specs.Glance.{is_reached}

@@ -118,13 +118,8 @@ impl<R: Rules> SuitorIndex<R> {
         let was_open = R::opens(self.net.pointer(v), self.net.flag(v));
         let is_open = R::opens(self.net.pointer(v), value);
         self.net.set_flag(v, value);
-        turn::<R>(
-            &mut self.tallies,
-            self.net.neighbours(v),
-            v,
-            was_open,
-            is_open,
-        );
+        let tallies = self.tallies.as_mut_slice();
+        turn::<R>(tallies, self.net.neighbours(v), v, was_open, is_open);
         was_open != is_open
     }
 

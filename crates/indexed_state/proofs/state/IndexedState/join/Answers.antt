@@ -1,5 +1,4 @@
-use Rattle.std.proofs.Common.{◌≡◌, ◌≤◌, true, false, sym, ap, subst, arith}
-use Rattle.rule_machine.specs.Network.{present}
+use Rattle.std.proofs.Common.{◌≤◌, true, sym, ap, subst, arith}
 use Rattle.rule_machine.specs.State.{State, IsState}
 use Rattle.rule_machine.specs.Disturbance.{after_join}
 use Rattle.indexed_state.specs.Indexed.{Indexed}

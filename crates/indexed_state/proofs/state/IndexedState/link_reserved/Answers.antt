@@ -1,4 +1,4 @@
-use Rattle.std.proofs.Common.{◌≡◌, ◌≤◌, None, refl, sym, ap, subst, ◌∙◌, arith}
+use Rattle.std.proofs.Common.{◌≡◌, None, refl, sym, ap, subst, ◌∙◌, arith}
 use Rattle.rule_machine.specs.Network.{with_edge}
 use Rattle.rule_machine.specs.State.{State}
 use Rattle.machine_laws.specs.Neighbours.{present_range}

@@ -1,4 +1,4 @@
-use Rattle.std.proofs.Common.{◌≤◌, IsTrue, sym, ap, subst, arith}
+use Rattle.std.proofs.Common.{IsTrue, sym, ap, subst, arith}
 use Rattle.rule_machine.specs.Network.{present}
 use Rattle.rule_machine.specs.State.{State}
 use Rattle.machine_laws.specs.Neighbours.{present_range}

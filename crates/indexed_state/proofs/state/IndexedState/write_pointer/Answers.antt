@@ -1,9 +1,6 @@
-use Rattle.std.proofs.Common.{◌<◌, ◌≤◌, length, IfSome, IsTrue, not, sym, ap, ap₂, subst, ◌∙◌, arith}
-use Rattle.std.specs.Bool.{beq}
-use Rattle.rule_machine.specs.RuleTable.{is_open}
+use Rattle.std.proofs.Common.{◌<◌, length, IfSome, IsTrue, sym, ap, subst, ◌∙◌, arith}
 use Rattle.rule_machine.specs.Network.{linked, present}
-use Rattle.rule_machine.specs.State.{State, flag, pointer}
-use Rattle.rule_machine.specs.Disturbance.{after_point}
+use Rattle.rule_machine.specs.State.{State, pointer}
 use Rattle.machine_laws.specs.Neighbours.{linked_back, linked_present, present_range}
 use Rattle.machine_laws.specs.Pointers.{pointer_linked}
 use Rattle.machine_laws.specs.Writes.{if_some_at, if_some_from}

@@ -1,9 +1,7 @@
-use Rattle.std.proofs.Common.{◌≤◌, false, IsTrue, sym, ap, subst, arith}
+use Rattle.std.proofs.Common.{false, IsTrue, sym, ap, subst, arith}
 use Rattle.rule_machine.specs.Network.{present}
 use Rattle.rule_machine.specs.State.{State, IsState}
 use Rattle.net_state.specs.Held.{without_place}
-use Rattle.suitor_index.proofs.Nodes.{index_parted}
-use Rattle.suitor_index.specs.Tallies.{IsIndexOf}
 use Rattle.indexed_state.specs.Indexed.{Indexed}
 use Rattle.machine_laws.specs.Neighbours.{present_range}
 use Rattle.indexed_state.proofs.Rounds.{IsSameRound, round_seated, told_after}

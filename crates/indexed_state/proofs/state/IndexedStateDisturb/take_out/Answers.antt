@@ -1,4 +1,4 @@
-use Rattle.std.proofs.Common.{◌≤◌, IsTrue, refl, sym, ap, subst, ◌∙◌, arith}
+use Rattle.std.proofs.Common.{IsTrue, refl, sym, ap, subst, ◌∙◌, arith}
 use Rattle.rule_machine.specs.Network.{linked, without_edge}
 use Rattle.rule_machine.specs.State.{State, points}
 use Rattle.machine_laws.specs.Neighbours.{linked_back, linked_present, present_range}

@@ -1,4 +1,4 @@
-use Rattle.std.proofs.Common.{◌≡◌, ◌≤◌, false, ap, set, sym, subst, ◌∙◌, arith}
+use Rattle.std.proofs.Common.{◌≡◌, ◌≤◌, ap, set, sym, subst, ◌∙◌, arith}
 use Rattle.rule_machine.specs.Disturbance.{after_join}
 use Rattle.rule_machine.specs.Network.{present}
 use Rattle.rule_machine.specs.State.{State}

@@ -1,7 +1,7 @@
 use Rattle.std.proofs.Common.{◌≡◌, ◌≤◌, ap, ap₂, sym, subst, ◌∙◌, length, refl}
 use Rattle.std.specs.List.Sorted.{IsStrictlyIncreasing}
 use Rattle.rule_machine.specs.Network.{neighbours}
-use Rattle.rule_machine.specs.State.{Registers, flag_of, pointer_of, with_flag}
+use Rattle.rule_machine.specs.State.{Registers, pointer_of, with_flag}
 use Rattle.rule_machine.specs.RuleTable.{is_open}
 use Rattle.net_state.specs.Held.{Held, state_of}
 use Rattle.suitor_index.specs.Tallies.{IsIndexOf}
@@ -16,8 +16,8 @@ pub turn-requires-clause-within : goal.turn-requires-clause-within
 turn-requires-clause-within g c =
     let n : Held = c.self.inside.net in
     let q : Registers = with_flag n.state.registers c.args.v c.args.value in
-    let start = c.deref_mut.result.now in
-    let change = change_of_flag g.R.Rules.ABOVE g.R.Rules.table.opens n c.args.self.now c.set_flag.new.self c.args.v c.args.value c.self.inside.tallies.items start c.self.invariant c.deref_mut.ensures.value c.self.view_is c.requires c.set_flag.ensures.value c.set_flag.ensures.sound in
+    let start = c.as_mut_slice-tallies.result.now in
+    let change = change_of_flag g.R.Rules.ABOVE g.R.Rules.table.opens n c.args.self.now c.set_flag.new.self c.args.v c.args.value c.self.inside.tallies.items start c.self.invariant c.as_mut_slice-tallies.ensures.value c.self.view_is c.requires c.set_flag.ensures.value c.set_flag.ensures.sound in
     let all = c.neighbours.ensures.all ∙ ap (λ (h : Held). neighbours h.state.network c.args.v) c.set_flag.ensures.value in
     told_within g.R.Rules.ABOVE g.R.Rules.table.opens n.state.network n.state.registers q c.args.v start start c.neighbours.result.now change refl all
 
@@ -28,8 +28,8 @@ turn-requires-clause-turns g c =
     let n : Held = c.self.inside.net in
     let r = n.state.registers in
     let q : Registers = with_flag r c.args.v c.args.value in
-    let start = c.deref_mut.result.now in
-    let change = change_of_flag above opens n c.args.self.now c.set_flag.new.self c.args.v c.args.value c.self.inside.tallies.items start c.self.invariant c.deref_mut.ensures.value c.self.view_is c.requires c.set_flag.ensures.value c.set_flag.ensures.sound in
+    let start = c.as_mut_slice-tallies.result.now in
+    let change = change_of_flag above opens n c.args.self.now c.set_flag.new.self c.args.v c.args.value c.self.inside.tallies.items start c.self.invariant c.as_mut_slice-tallies.ensures.value c.self.view_is c.requires c.set_flag.ensures.value c.set_flag.ensures.sound in
     let all = c.neighbours.ensures.all ∙ ap (λ (h : Held). neighbours h.state.network c.args.v) c.set_flag.ensures.value in
     let told = not_repointed c.args.v start (pointer_of r c.args.v) (pointer_of q c.args.v) refl in
     let was : c.opens-was_open.result ≡ is_open opens (state_of n.state.network r) c.args.v = c.opens-was_open.ensures ∙ ap₂ opens c.pointer.ensures c.flag.ensures in
@@ -43,13 +43,13 @@ invariant_of-self g c =
     let n : Held = c.self.inside.net in
     let r = n.state.registers in
     let q : Registers = with_flag r c.args.v c.args.value in
-    let start = c.deref_mut.result.now in
-    let change = change_of_flag above opens n c.args.self.now c.set_flag.new.self c.args.v c.args.value c.self.inside.tallies.items start c.self.invariant c.deref_mut.ensures.value c.self.view_is c.requires c.set_flag.ensures.value c.set_flag.ensures.sound in
+    let start = c.as_mut_slice-tallies.result.now in
+    let change = change_of_flag above opens n c.args.self.now c.set_flag.new.self c.args.v c.args.value c.self.inside.tallies.items start c.self.invariant c.as_mut_slice-tallies.ensures.value c.self.view_is c.requires c.set_flag.ensures.value c.set_flag.ensures.sound in
     let all = c.neighbours.ensures.all ∙ ap (λ (h : Held). neighbours h.state.network c.args.v) c.set_flag.ensures.value in
     let told = not_repointed c.args.v start (pointer_of r c.args.v) (pointer_of q c.args.v) refl in
     let was : c.opens-was_open.result ≡ is_open opens (state_of n.state.network r) c.args.v = c.opens-was_open.ensures ∙ ap₂ opens c.pointer.ensures c.flag.ensures in
     let is : c.opens-is_open.result ≡ is_open opens (state_of n.state.network q) c.args.v = c.opens-is_open.ensures ∙ ap₂ opens c.pointer-2.ensures (sym (flag_is above opens n.state.network r q c.args.v c.args.value start change)) in
-    let whole = written_whole c.self.inside.tallies.len c.turn.new.tallies _ (c.self.inside.tallies.ok.0 ∙ ap length (sym c.deref_mut.ensures.value) ∙ sym c.turn.ensures.places) in
+    let whole = written_whole c.self.inside.tallies.len c.turn.new.tallies _ (c.self.inside.tallies.ok.0 ∙ ap length (sym c.as_mut_slice-tallies.ensures.value) ∙ sym c.turn.ensures.places) in
     record {
       is_state = c.set_flag.ensures.sound;
       index = subst (IsIndexOf above opens c.set_flag.new.self.state) (sym whole) (subst (λ (h : Held). IsIndexOf above opens h.state c.turn.new.tallies) (sym c.set_flag.ensures.value) (told_index above opens n.state.network r q c.args.v start start c.turn.new.tallies c.neighbours.result.now c.opens-was_open.result c.opens-is_open.result change told all was is c.turn.ensures));
