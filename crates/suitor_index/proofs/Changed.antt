@@ -4,7 +4,7 @@ use Rattle.std.specs.List.{list_any}
 use Rattle.std.proofs.Math.Seq.{take-append_seam}
 use Rattle.std.proofs.lemmas.Bool.{and_parts}
 use Rattle.rule_machine.specs.Network.{Network, linked, neighbours, present}
-use Rattle.rule_machine.specs.State.{Registers, IsState, pointer_of, flag_of, with_pointer, with_flag}
+use Rattle.rule_machine.specs.State.{State, Registers, IsState, pointer_of, flag_of, with_pointer, with_flag}
 use Rattle.rule_machine.specs.Disturbance.{after_point, after_flag}
 use Rattle.rule_machine.specs.RuleTable.{is_open}
 use Rattle.machine_laws.specs.Writes.{pointer-with_pointer_other, pointer-with_pointer_same, flag-with_flag_other, flag-with_flag_same, if_some_from}
@@ -90,35 +90,63 @@ repointed v start left pointed old new p q was is out into =
       reached = λ k. into.reached k ∙ sym (out.reached k);
     })
 
--- a table that nothing was written to
-pub not_repointed : (v : ℕ) (start : List Tally) (p q : Option ℕ) → p ≡ q → IsRepointed p q v start start
-not_repointed v start p q same = subst (λ o. IsRepointed p o v start start) same record { places = refl; suitors = λ k. refl; sum = λ k. refl; reached = λ k. refl }
+-- once the pointer's part is told: these nodes are to be told next whether v was open, and whether it is
+pub record IsHalfTold (above : Bool) (opens : Option ℕ → Bool → Bool) (net : Network) (r q : Registers) (v : ℕ) (start pointed : List Tally) (nodes : List ℕ) (was is : Bool) : Type 0 where
+  pub change : IsChange above opens net r q v start
+  pub told : IsRepointed (pointer_of r v) (pointer_of q v) v start pointed
+  pub all : nodes ≡ neighbours net v
+  pub before : was ≡ is_open opens (state_of net r) v
+  pub now : is ≡ is_open opens (state_of net q) v
 
--- where v is told of it has a place
-pub told_within : (above : Bool) (opens : Option ℕ → Bool → Bool) (net : Network) (r q : Registers) (v : ℕ) (start pointed : List Tally) (nodes : List ℕ) → IsChange above opens net r q v start → length pointed ≡ length start → nodes ≡ neighbours net v → (k : ℕ) → list_any (nat_eq k) nodes ≡ true → k < length pointed
-told_within above opens net r q v start pointed nodes c places all k listed =
-    let near_k = listed_linked net v k (ap (list_any (nat_eq k)) (sym all) ∙ listed) in
-    let bounds = present_range net k (near_present net r v k c.before near_k) in
-    let all_places = c.index.places in
-    let high = bounds.1 in
-    omega arith
+pub half_pointed : (above : Bool) (opens : Option ℕ → Bool → Bool) (net : Network) (r : Registers) (v : ℕ) (old target : Option ℕ) (start left pointed : List Tally) (nodes : List ℕ) (was is : Bool) → IsChange above opens net r (with_pointer r v target) v start → old ≡ pointer_of r v → IsCourted old v left start → IsCourted target v left pointed → nodes ≡ neighbours net v → was ≡ is_open opens (state_of net r) v → is ≡ opens target (flag_of r v) → IsHalfTold above opens net r (with_pointer r v target) v start pointed nodes was is
+half_pointed above opens net r v old target start left pointed nodes was is change at out into all before now =
+    let written = pointer_is above opens net r (with_pointer r v target) v target start change in
+    record {
+      change = change;
+      told = repointed v start left pointed old target (pointer_of r v) (pointer_of (with_pointer r v target) v) (sym at) (sym written) out into;
+      all = all;
+      before = before;
+      now = now ∙ ap (λ o. opens o (flag_of r v)) (sym written);
+    }
 
--- and what it is told fits there
-pub told_fits : (above : Bool) (opens : Option ℕ → Bool → Bool) (net : Network) (r q : Registers) (v : ℕ) (start pointed : List Tally) (nodes : List ℕ) (was is : Bool) → IsChange above opens net r q v start → IsRepointed (pointer_of r v) (pointer_of q v) v start pointed → nodes ≡ neighbours net v → was ≡ is_open opens (state_of net r) v → is ≡ is_open opens (state_of net q) v → (k : ℕ) → (list_any (nat_eq k) nodes && asks_for above k v) ≡ true → CanTurn was is (tally_of pointed k)
-told_fits above opens net r q v start pointed nodes was is c told all was_is is_is k listed =
-    let listed_k : near above net v k ≡ true = ap (λ (ns : List ℕ). list_any (nat_eq k) ns && asks_for above k v) (sym all) ∙ listed in
+pub half_flagged : (above : Bool) (opens : Option ℕ → Bool → Bool) (net : Network) (r : Registers) (v : ℕ) (value : Bool) (start : List Tally) (nodes : List ℕ) (was is : Bool) → IsChange above opens net r (with_flag r v value) v start → nodes ≡ neighbours net v → was ≡ is_open opens (state_of net r) v → is ≡ opens (pointer_of r v) value → IsHalfTold above opens net r (with_flag r v value) v start start nodes was is
+half_flagged above opens net r v value start nodes was is change all before now = record {
+  change = change;
+  told = record { places = refl; suitors = λ k. refl; sum = λ k. refl; reached = λ k. refl };
+  all = all;
+  before = before;
+  now = now ∙ ap (opens (pointer_of r v)) (sym (flag_is above opens net r (with_flag r v value) v value start change));
+}
+
+-- they have places
+pub told_within : (above : Bool) (opens : Option ℕ → Bool → Bool) (net : Network) (r q : Registers) (v : ℕ) (start pointed : List Tally) (nodes : List ℕ) (was is : Bool) → IsHalfTold above opens net r q v start pointed nodes was is → (k : ℕ) → list_any (nat_eq k) nodes ≡ true → k < length pointed
+told_within above opens net r q v start pointed nodes was is half k listed =
+    let near_k = listed_linked net v k (ap (list_any (nat_eq k)) (sym half.all) ∙ listed) in
+    let bounds = present_range net k (near_present net r v k half.change.before near_k) in
+    omega (arith, bounds.1, half.told.places, half.change.index.places)
+
+-- and what they are told fits there
+pub told_fits : (above : Bool) (opens : Option ℕ → Bool → Bool) (net : Network) (r q : Registers) (v : ℕ) (start pointed : List Tally) (nodes : List ℕ) (was is : Bool) → IsHalfTold above opens net r q v start pointed nodes was is → (k : ℕ) → (list_any (nat_eq k) nodes && asks_for above k v) ≡ true → CanTurn was is (tally_of pointed k)
+told_fits above opens net r q v start pointed nodes was is half k listed =
+    let c = half.change in
+    let listed_k : near above net v k ≡ true = ap (λ (ns : List ℕ). list_any (nat_eq k) ns && asks_for above k v) (sym half.all) ∙ listed in
     let has = near_present net r v k c.before (listed_linked net v k (and_parts (list_any (nat_eq k) (neighbours net v)) (asks_for above k v) listed_k).0) in
-    subst (λ b. CanTurn b is (tally_of pointed k)) (sym was_is)
-    (subst (λ b. CanTurn (is_open opens (state_of net r) v) b (tally_of pointed k)) (sym is_is) (can_turn above opens net r q v k start pointed c.before c.now c.alike c.here has listed_k c.few c.index told))
+    subst (λ b. CanTurn b is (tally_of pointed k)) (sym half.before)
+    (subst (λ b. CanTurn (is_open opens (state_of net r) v) b (tally_of pointed k)) (sym half.now) (can_turn above opens net r q v k start pointed c.before c.now c.alike c.here has listed_k c.few c.index half.told))
 
 -- a vector whose slice was written whole
 pub written_whole : (n : ℕ) (new rest : List Tally) → n ≡ length new → take n (new ++ rest) ≡ new
 written_whole n new rest e = ap (λ m. take m (new ++ rest)) e ∙ take-append_seam new rest
 
 -- then the tallies are those of the state now
-pub told_index : (above : Bool) (opens : Option ℕ → Bool → Bool) (net : Network) (r q : Registers) (v : ℕ) (start pointed turned : List Tally) (nodes : List ℕ) (was is : Bool) → IsChange above opens net r q v start → IsRepointed (pointer_of r v) (pointer_of q v) v start pointed → nodes ≡ neighbours net v → was ≡ is_open opens (state_of net r) v → is ≡ is_open opens (state_of net q) v → IsTurned (λ k. list_any (nat_eq k) nodes && asks_for above k v) was is pointed turned → IsIndexOf above opens (state_of net q) turned
-told_index above opens net r q v start pointed turned nodes was is c told all was_is is_is told_open =
-    let one = subst (λ (ns : List ℕ). IsTurned (λ k. list_any (nat_eq k) ns && asks_for above k v) was is pointed turned) all told_open in
-    let two = subst (λ b. IsTurned (near above net v) b is pointed turned) was_is one in
-    let three = subst (λ b. IsTurned (near above net v) (is_open opens (state_of net r) v) b pointed turned) is_is two in
-    index_turned above opens net r q v start pointed turned c.before c.now c.alike c.here c.index told three
+pub told_index : (above : Bool) (opens : Option ℕ → Bool → Bool) (net : Network) (r q : Registers) (v : ℕ) (start pointed turned : List Tally) (nodes : List ℕ) (was is : Bool) (u : State) → IsHalfTold above opens net r q v start pointed nodes was is → IsTurned (λ k. list_any (nat_eq k) nodes && asks_for above k v) was is pointed turned → u ≡ state_of net q → IsIndexed above opens u turned
+told_index above opens net r q v start pointed turned nodes was is u half told at =
+    let c = half.change in
+    let one = subst (λ (ns : List ℕ). IsTurned (λ k. list_any (nat_eq k) ns && asks_for above k v) was is pointed turned) half.all told in
+    let two = subst (λ b. IsTurned (near above net v) b is pointed turned) half.before one in
+    let three = subst (λ b. IsTurned (near above net v) (is_open opens (state_of net r) v) b pointed turned) half.now two in
+    subst (λ (s : State). IsIndexed above opens s turned) (sym at) record {
+      is_state = c.now;
+      index = index_turned above opens net r q v start pointed turned c.before c.now c.alike c.here c.index half.told three;
+      few = c.few;
+    }
