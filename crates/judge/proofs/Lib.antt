@@ -12,3 +12,4 @@ pub mod Summed
 pub mod Charged
 pub mod Made
 pub mod Begun
+mod Degrees

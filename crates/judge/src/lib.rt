@@ -15,6 +15,7 @@
 
 mod bases;
 mod choices;
+mod costs;
 mod edits;
 mod hsu_huang;
 mod judging;
