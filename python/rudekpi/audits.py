@@ -58,9 +58,10 @@ def audit(transcript: Union[Text, Slice], *, program: Program = None, engine: Op
 
 
 def epochs(transcript: Text, *, program: Program = None) -> list[Epoch]:
-    """The epochs of a transcript, each with its bound. Raises `Damaged` where `audit` refuses it, or `Ended`."""
-    row = ",".join(["([0-9]+|-)", *["([0-9]+)"] * 4]) + "\n"
-    return [Epoch(*numbers) for numbers in numbers_judged("epochs", transcript, program, row, "start,moves,edges,nodes,bound\n")]
+    """The epochs of a transcript, each with its bound and what the disturbance that began it cost. Raises `Damaged` where `audit`
+    refuses it, or `Ended`."""
+    row = ",".join(["([0-9]+|-)", *["([0-9]+)"] * 4, "([0-9]+|-)"]) + "\n"
+    return [Epoch(*numbers) for numbers in numbers_judged("epochs", transcript, program, row, "start,moves,edges,nodes,bound,cost\n")]
 
 
 def picture(transcript: Text, entry: Optional[int] = None, *, program: Program = None) -> str:

@@ -172,12 +172,14 @@ class Summary:
 @dataclass(frozen=True)
 class Epoch:
     """The part of a run behind an accepted disturbance: the entry of that, its moves, and their bound. The entry is 0 where
-    it is the start, and None where a transcript begins with a base, which does not tell it."""
+    it is the start, and None where a transcript begins with a base, which does not tell it. The cost is that of the disturbance,
+    a sum of degrees; None in the first epoch, which no disturbance of the transcript began."""
     start: Optional[int]
     moves: int
     edges: int
     nodes: int
     bound: int
+    cost: Optional[int]
 
 
 Choice = Iterable[Union[Name, Wish]]

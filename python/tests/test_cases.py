@@ -1,5 +1,6 @@
 """The cases of tests/*.cases through the client: what is answered, read into its types and spelled again, is what they say."""
 
+import dataclasses
 import importlib.machinery
 import importlib.util
 import os
@@ -141,8 +142,8 @@ class Judged(Timed):
             with self.subTest(case.name):
                 try:
                     found = epochs(text_of(case.blocks))
-                    rows = [("-" if it.start is None else it.start, it.moves, it.edges, it.nodes, it.bound) for it in found]
-                    said = "start,moves,edges,nodes,bound\n" + "".join(",".join(map(str, row)) + "\n" for row in rows)
+                    rows = [["-" if it is None else str(it) for it in dataclasses.astuple(row)] for row in found]
+                    said = "start,moves,edges,nodes,bound,cost\n" + "".join(",".join(row) + "\n" for row in rows)
                 except Damaged as damaged:
                     said = f"line {damaged.line}: {damaged.why}\n"
                 self.assertEqual(said, wanted)

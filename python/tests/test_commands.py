@@ -44,7 +44,7 @@ class HandedOn(Timed):
         text = pathlib.Path(TOP, "examples", "pair.transcript").read_text()
         self.assertEqual(said("run", "--rules", "hh", "--nodes", "2", given=pathlib.Path(TOP, "examples", "pair.script").read_text()), text)
         self.assertTrue(said("audit", given=text).startswith("accepted: 7 entries"))
-        self.assertEqual(said("epochs", given=text).splitlines()[0], "start,moves,edges,nodes,bound")
+        self.assertEqual(said("epochs", given=text).splitlines()[0], "start,moves,edges,nodes,bound,cost")
         console = [os.environ["RUDEKPI_CONSOLE"]]
         for words in (["--version"], ["run", "--help"], ["foo"], ["run"]):
             done, wanted = rudekpi(*words), subprocess.run(console + words, capture_output=True, text=True)

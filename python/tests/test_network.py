@@ -277,8 +277,8 @@ class Transcripts(Timed):
         self.assertRaises(ValueError, replay, PAIR, names=["ann"])
 
     def test_the_epochs_of_a_pair(self):
-        found = [(it.start, it.moves, it.edges, it.nodes, it.bound) for it in epochs(PAIR)]
-        self.assertEqual(found, [(0, 0, 0, 2, 2), (1, 2, 1, 2, 4)])
+        found = [(it.start, it.moves, it.edges, it.nodes, it.bound, it.cost) for it in epochs(PAIR)]
+        self.assertEqual(found, [(0, 0, 0, 2, 2, None), (1, 2, 1, 2, 4, 2)])
 
     def test_turns_end_with_a_status(self):
         with Network("hh", 2) as net:

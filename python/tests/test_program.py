@@ -191,7 +191,7 @@ class Answers(Timed):
                 calls[asks](net)
 
     def test_a_garbled_verdict(self):
-        for text in ("echo accepted", "true", "echo 'line 1: bad header'", "echo start,moves,edges,nodes,bound; echo 1,2"):
+        for text in ("echo accepted", "true", "echo 'line 1: bad header'", "echo start,moves,edges,nodes,bound,cost; echo 1,2"):
             for judge in (audit, epochs):
                 with self.subTest(text), self.assertRaises(Garbled):
                     judge("", program=self.program("cat > /dev/null; " + text))

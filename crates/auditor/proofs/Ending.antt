@@ -159,12 +159,12 @@ damage_fails bytes (BadBase line) (inr x) = inr (base_fails bytes line x)
 -- ---- what comes
 
 -- one first line, and one entry that it spells
-entry_once : (rest : List ℕ) (m n : ℕ) (e f : Entry) → EntryComes rest m e → EntryComes rest n f → (m ≡ n) × (e ≡ f)
+pub entry_once : (rest : List ℕ) (m n : ℕ) (e f : Entry) → EntryComes rest m e → EntryComes rest n f → (m ≡ n) × (e ≡ f)
 entry_once rest m n e f a b =
     let same : (a.line, a.more) ≡ (b.line, b.more) = same_Some (a.line, a.more) (b.line, b.more) (sym a.is ∙ b.is) in
     spells_entry_once a.line m n e f a.spells (subst (λ (l : List ℕ). SpellsEntry l n f) (sym (ap (λ (p : List ℕ × List ℕ). p.0) same)) b.spells)
 
-told_comes : (rules : RuleSet) (size : ℕ) (at : Stand) (rest : List ℕ) (entry : Entry) (next : Stand) (behind : List ℕ) → Comes rules size at rest (Told entry) next behind → EntryComes rest (at.count + 1) entry
+pub told_comes : (rules : RuleSet) (size : ℕ) (at : Stand) (rest : List ℕ) (entry : Entry) (next : Stand) (behind : List ℕ) → Comes rules size at rest (Told entry) next behind → EntryComes rest (at.count + 1) entry
 told_comes rules size at rest entry next behind x =
     let line = entry_text (at.count + 1) entry.0 entry.1 in
     let spells = told_spells rules size at rest entry next behind x in

@@ -10,10 +10,12 @@ use Rattle.rule_machine.specs.Answer.{Answers, spent_after}
 use Rattle.rule_machine.specs.Tables.{table_of}
 use Rattle.charge_laws.specs.Epochs.{IsPath}
 use Rattle.machine_laws.specs.Determined.{answers_once}
+use Rattle.judge.specs.Costs.{cost_by}
+use Rattle.auditor.specs.declared.epoch.CostedEpoch.{CostedEpoch}
 use Rattle.auditor.specs.Parts.{Opening, size_of}
 use Rattle.auditor.specs.Damage.{Follows}
 use Rattle.auditor.specs.Reached.{EndsAt, IsStateAfter}
-use Rattle.auditor.specs.Epochs.{AreEpochs, first_epoch}
+use Rattle.auditor.specs.Epochs.{AreEpochs, costs_along, costs_in, epochs_in, first_epoch}
 use Rattle.auditor.proofs.Chains.{Stops, chain_level, nothing_stops}
 use Rattle.auditor.proofs.Openings.{parts_behind}
 use Rattle.auditor.proofs.Ending.{Split, Ended, begun, chain_behind, chain_same, ended_once, ends_here, followed, run_once, split_at, transcript_ends, whole}
@@ -74,8 +76,19 @@ path_once t start ((entry, next) ∷ path) ((other, following) ∷ also) (answer
     let rest = path_once t (at following start.spent other.1) path also (subst (λ (m : Moment). IsPath t m path) moment is) was behind in
     ap₂ (λ (x : Entry) (l : List Stage). (x, next) ∷ l) same rest ∙ ap (λ (s : State). (other, s) ∷ also) there
 
-pub epochs_once : (bytes : List ℕ) (r q : RuleSet) (epochs others : List Epoch) → AreEpochs bytes r epochs → AreEpochs bytes q others → (r ≡ q) × (epochs ≡ others)
-epochs_once bytes r q epochs others x y =
+-- rows of the same epochs with the same costs
+rows_same : (rows others : List CostedEpoch) → epochs_in rows ≡ epochs_in others → costs_in rows ≡ costs_in others → rows ≡ others
+rows_same [] [] e c = refl
+rows_same [] (other ∷ others) e c = absurd cc
+rows_same (row ∷ rows) [] e c = absurd cc
+rows_same (row ∷ rows) (other ∷ others) e c =
+    let epoch : row.epoch ≡ other.epoch = ap (λ (l : List Epoch). get_or l 0 row.epoch) e in
+    let cost : row.cost ≡ other.cost = ap (λ (l : List (Option ℕ)). get_or l 0 row.cost) c in
+    let rest = rows_same rows others (ap (λ (l : List Epoch). drop 1 l) e) (ap (λ (l : List (Option ℕ)). drop 1 l) c) in
+    ap₂ {C = List CostedEpoch} (λ (x : Epoch) (y : Option ℕ). record { epoch = x; cost = y } ∷ rows) epoch cost ∙ ap (λ (l : List CostedEpoch). other ∷ l) rest
+
+pub epochs_once : (bytes : List ℕ) (r q : RuleSet) (rows others : List CostedEpoch) → AreEpochs bytes r rows → AreEpochs bytes q others → (r ≡ q) × (rows ≡ others)
+epochs_once bytes r q rows others x y =
     let a = x.run in
     let b = y.run in
     let start = a.transcript.start in
@@ -87,10 +100,15 @@ epochs_once bytes r q epochs others x y =
     let table = subst (λ (z : RuleSet). IsPath (table_of z) begin.moment y.path) (sym once.rules) b.is_path in
     let is_path = subst (λ (z : Stand). IsPath (table_of r) z.moment y.path) (sym starts) table in
     let entries = sym a.entries ∙ ap (λ (l : List Part). entries_in l) once.parts ∙ b.entries in
-    let same = path_once (table_of r) start.moment x.path y.path a.is_path is_path entries in (
-      once.rules,
-      x.are
-          ∙ ap₂ (λ (o : Opening) (z : Stand). epochs_from (z.count + 1) (first_epoch o z) x.path) once.openings starts
-          ∙ ap (λ (p : List Stage). epochs_from (begin.count + 1) (first_epoch y.opening begin) p) same
-          ∙ sym y.are,
-    )
+    let same = path_once (table_of r) start.moment x.path y.path a.is_path is_path entries in
+    let epochs =
+    x.epochs
+    ∙ ap₂ (λ (o : Opening) (z : Stand). epochs_from (z.count + 1) (first_epoch o z) x.path) once.openings starts
+    ∙ ap (λ (p : List Stage). epochs_from (begin.count + 1) (first_epoch y.opening begin) p) same
+    ∙ sym y.epochs in
+    let costs =
+    x.costs
+    ∙ ap₂ (λ (z : RuleSet) (m : Stand). None ∷ costs_along (cost_by z) m.moment.state x.path) once.rules starts
+    ∙ ap (λ (p : List Stage). None ∷ costs_along (cost_by q) begin.moment.state p) same
+    ∙ sym y.costs in
+    (once.rules, rows_same rows others epochs costs)

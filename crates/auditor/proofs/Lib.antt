@@ -19,3 +19,5 @@ pub mod Passing
 pub mod Reading
 pub mod Arriving
 pub mod Turning
+mod Ahead
+mod Paying

@@ -1,11 +1,17 @@
 -- The epochs of a transcript's run.
-use Rattle.std.specs.Prelude.{◌≡◌, ℕ, ◌+◌, ◌*◌, ◌≤◌, List, [], map}
+use Rattle.std.specs.Prelude.{◌≡◌, ℕ, ◌+◌, ◌*◌, ◌≤◌, List, [], ◌∷◌, ◌++◌, map, sum_by, Option, None, Some}
+use Rattle.rule_machine.specs.declared.event.Event.{Event}
+use Rattle.rule_machine.specs.declared.reply.Reply.{Reply}
+use Rattle.rule_machine.specs.declared.reply.Reply.TheVariants.{Accepted}
 use Rattle.rule_machine.specs.declared.rules.RuleSet.{RuleSet}
 use Rattle.rule_machine.specs.State.{State}
 use Rattle.rule_machine.specs.Base.{Part, Told, Kept, Stand, begun_at, entries_in}
-use Rattle.rule_machine.specs.Run.{Entry, Epoch, epochs_by, epochs_from, open_at}
+use Rattle.rule_machine.specs.Run.{Entry, Epoch, Moment, epoch_at, epochs_by, epochs_from, open_at}
 use Rattle.rule_machine.specs.Tables.{table_of, weight_of}
 use Rattle.charge_laws.specs.Epochs.{IsPath}
+use Rattle.judge.specs.Costs.{cost_by}
+use Rattle.auditor.specs.declared.epoch.CostedEpoch.{CostedEpoch}
+use Rattle.auditor.specs.Damage.{EntryComes}
 use Rattle.auditor.specs.Parts.{Opening, base_in}
 use Rattle.auditor.specs.Transcript.{IsTranscript}
 
@@ -28,14 +34,56 @@ pub record GoesThrough (bytes : List ℕ) (rules : RuleSet) (opening : Opening) 
   pub entries : entries_in log ≡ map (λ step. step.0) path
   pub is_path : IsPath (table_of rules) transcript.start.moment path
 
--- The epochs are those of the run of which the bytes are the transcript.
-pub record AreEpochs (bytes : List ℕ) (rules : RuleSet) (epochs : List Epoch) : Type 0 where
+-- ---- costs
+
+-- the cost of an entry's event, where the entry accepts a disturbance
+abbrev pub costs_by : Reply → ℕ → List (Option ℕ)
+costs_by Accepted cost = Some cost ∷ []
+costs_by reply cost = []
+
+-- What the accepted disturbances along a path cost, in their order, each in the state before it.
+abbrev pub costs_along : (State → Event → ℕ) → State → List (Entry × State) → List (Option ℕ)
+costs_along cost s [] = []
+costs_along cost s (step ∷ path) = costs_by step.0.1 (cost s step.0.0) ++ costs_along cost step.1 path
+
+abbrev pub epochs_in : List CostedEpoch → List Epoch
+epochs_in rows = map (λ row. row.epoch) rows
+
+abbrev pub costs_in : List CostedEpoch → List (Option ℕ)
+costs_in rows = map (λ row. row.cost) rows
+
+-- The epochs are those of the run of which the bytes are the transcript, and each but the first has the cost of the disturbance that
+-- began it.
+pub record AreEpochs (bytes : List ℕ) (rules : RuleSet) (rows : List CostedEpoch) : Type 0 where
   pub opening : Opening
   pub path : List (Entry × State)
   pub run : GoesThrough bytes rules opening path
-  pub are : epochs ≡ epochs_from (run.transcript.start.count + 1) (first_epoch opening run.transcript.start) path
+  pub epochs : epochs_in rows ≡ epochs_from (run.transcript.start.count + 1) (first_epoch opening run.transcript.start) path
+  pub costs : costs_in rows ≡ None ∷ costs_along (cost_by rules) run.transcript.start.moment.state path
 
--- what a part makes of an epoch, where it is the entry with this number: a base nothing
-abbrev pub epochs_at : Part → ℕ → State → Epoch → List Epoch × Epoch
-epochs_at (Told entry) number s epoch = epochs_by entry.1 number s epoch
-epochs_at (Kept base) number s epoch = ([], epoch)
+-- a cost, where there is one
+abbrev pub paid_by : Option ℕ → ℕ
+paid_by None = 0
+paid_by (Some cost) = cost
+
+-- All moves are no more than what was spent and what the charge was where the run begins, and all costs.
+abbrev pub ArePaid : RuleSet → Moment → List CostedEpoch → Type 0
+ArePaid rules start rows =
+    sum_by (λ epoch. epoch.moves) (epochs_in rows) ≤ start.spent + (table_of rules).charge start.state + sum_by paid_by (costs_in rows)
+
+-- ---- part by part
+
+-- the cost is that of the disturbance that the next line accepts, where it does
+abbrev pub IsNextCost : RuleSet → State → List ℕ → Option ℕ → Type 0
+IsNextCost rules s rest cost =
+    (number : ℕ) (entry : Entry) → EntryComes rest number entry → entry.1 ≡ Accepted → cost ≡ Some (cost_by rules s entry.0)
+
+-- what an entry with this number, behind which the state is this, makes of an epoch; the next epoch has this cost
+abbrev pub rows_by : Reply → ℕ → State → Option ℕ → CostedEpoch → List CostedEpoch × CostedEpoch
+rows_by Accepted number s cost row = (row ∷ [], record { epoch = epoch_at number s; cost = cost })
+rows_by reply number s cost row = ([], record row { epoch = (epochs_by reply number s row.epoch).1 })
+
+-- what a part does: a base nothing
+abbrev pub rows_at : Part → ℕ → State → Option ℕ → CostedEpoch → List CostedEpoch × CostedEpoch
+rows_at (Told entry) number s cost row = rows_by entry.1 number s cost row
+rows_at (Kept base) number s cost row = ([], row)

@@ -15,6 +15,16 @@ pub struct Epoch {
     nodes: u32,
 }
 
+/// An epoch, and what the disturbance that began it cost.
+#[derive(Clone, Copy)]
+pub struct CostedEpoch {
+    /// The epoch.
+    pub epoch: Epoch,
+    /// What the disturbance may have added to the charge, from the degrees of the nodes that it touched in the state before it;
+    /// none for the first epoch, which no disturbance of the transcript began.
+    pub cost: Option<u32>,
+}
+
 impl Model for Epoch {
     ghost use Rattle.std.specs.Prelude.{ℕ};
     ghost use Rattle.rule_machine.specs.Run as run;

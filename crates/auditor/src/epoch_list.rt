@@ -3,23 +3,25 @@
 ghost use Rattle.std.specs.Prelude.{◌≡◌, ◌≤◌, ◌+◌, ◌++◌, ◌∷◌, [], All, Err, IfErr, IfOk, OnOk};
 ghost use Rattle.rule_machine.specs.Base.{Part};
 ghost use Rattle.rule_machine.specs.Run.{epoch_at, open_at};
-ghost use Rattle.auditor.specs.Epochs.{AreEpochs, IsWithinItsBound, epochs_at};
+ghost use Rattle.judge.specs.Costs.{cost_by};
+ghost use Rattle.auditor.specs.Epochs.{AreEpochs, ArePaid, IsNextCost, IsWithinItsBound, epochs_in, rows_at};
 ghost use Rattle.auditor.specs.Position.{counted_part, stand_of};
 ghost use Rattle.auditor.specs.Verdict.{IsJudged};
 
 use crate::check::Audit;
 use crate::replay::Replay;
-use crate::{Epoch, JudgeFault, Summary};
-use rule_machine::{RuleSet, Start, Want};
-use std::alloc::Global;
+use crate::{CostedEpoch, Epoch, JudgeFault, Summary};
+use entry_grammar::{EntryFault, read_entry, split_line};
+use rule_machine::{Event, RuleSet, Start, Want};
+use std::alloc::{AllocError, Global};
 
 /// The epochs of a run, the first and the last included, in their order.
 #[derive(Drop)]
 pub struct Epochs {
     /// The rules of the run.
     pub rules: RuleSet,
-    /// The epochs, at least one.
-    pub list: Vec<Epoch>,
+    /// The epochs with their costs, at least one.
+    pub list: Vec<CostedEpoch>,
 }
 
 impl Audit {
@@ -38,39 +40,79 @@ impl Audit {
     {
         Epoch::new(start, self.spent(), self.judge.edges(), self.judge.nodes())
     }
+
+    /// What an event costs where the audit stands, if it is accepted there.
+    fn cost_of(&self, rules: RuleSet, event: &Event) -> u32
+        ensures { result ≡ cost_by rules self.now.state event.now }
+    {
+        self.judge.cost_of(rules, event)
+    }
 }
 
-fn push(list: &mut Vec<Epoch>, epoch: Epoch) -> Result<(), Want>
-    ensures { OnOk result (list.new.items ≡ list.old.items ++ epoch ∷ []) }
+impl Replay {
+    /// What the entry that comes next costs, where its line accepts a disturbance. Other lines are not read.
+    fn cost_ahead(&self, alloc: Global, rest: &[u8]) -> Result<Option<u32>, Want>
+        ensures { IfOk result (IsNextCost self.now.rules self.now.audit.state rest.now) }
+    {
+        let Some((line, _)) = split_line(rest) else {
+            return Ok(None);
+        };
+        if !line.ends_with(b" = ok") {
+            return Ok(None);
+        }
+        match read_entry(alloc, line) {
+            Ok((_, entry)) => {
+                let cost = self.audit.cost_of(self.rules, entry.event());
+                Ok(Some(cost))
+            }
+            Err(EntryFault::NotALine) => Ok(None),
+            Err(EntryFault::Memory) => Err(AllocError),
+        }
+    }
+}
+
+fn push(list: &mut Vec<CostedEpoch>, row: CostedEpoch) -> Result<(), Want>
+    ensures { OnOk result (list.new.items ≡ list.old.items ++ row ∷ []) }
 {
-    list.push(epoch)?;
+    list.push(row)?;
     Ok(())
 }
 
-// What a part, before which this was counted, makes of the epochs: the last one ends and another begins, or it goes on.
-fn turn(past: &mut Vec<Epoch>, epoch: Epoch, before: Summary, audit: &Audit) -> Result<Epoch, Want>
-    requires counted { epoch.moves ≤ before.moves + 4294967295 }
+// What a part, before which this was counted, makes of the epochs: the last one ends and another begins, with this cost, or it goes on.
+fn turn(
+    past: &mut Vec<CostedEpoch>,
+    row: CostedEpoch,
+    before: Summary,
+    cost: Option<u32>,
+    audit: &Audit,
+) -> Result<CostedEpoch, Want>
+    requires counted { row.epoch.moves ≤ before.moves + 4294967295 }
     requires more { before.moves ≤ audit.now.counted.moves }
     ensures turn { IfOk result (λ next. (part : Part) → audit.now.counted ≡ counted_part before part
-        → (past.new.items ≡ past.old.items ++ (epochs_at part audit.now.number audit.now.state epoch).0)
-        × (next ≡ (epochs_at part audit.now.number audit.now.state epoch).1)) }
-    ensures counted { IfOk result (λ next. next.moves ≤ audit.now.counted.moves + 4294967295) }
+        → (past.new.items ≡ past.old.items ++ (rows_at part audit.now.number audit.now.state cost row).0)
+        × (next ≡ (rows_at part audit.now.number audit.now.state cost row).1)) }
+    ensures counted { IfOk result (λ next. next.epoch.moves ≤ audit.now.counted.moves + 4294967295) }
 {
     let counted = audit.counted();
     if counted.epochs > before.epochs {
-        push(past, epoch)?;
-        return Ok(audit.new_epoch());
+        push(past, row)?;
+        let epoch = audit.new_epoch();
+        return Ok(CostedEpoch { epoch, cost });
     }
-    Ok(epoch.with_moves(counted.moves - before.moves))
+    let epoch = row.epoch.with_moves(counted.moves - before.moves);
+    Ok(CostedEpoch { epoch, ..row })
 }
 
-/// The epochs of the run of which the bytes are the transcript: of other bytes the first damage is named, as
-/// `audit_bytes` names it. Where the bytes begin with a base, the moves of the first epoch begin at what is spent there. Each
-/// epoch is within its bound. Takes 24 bytes an epoch, and `Memory` is answered where memory runs out. Costs what
-/// `audit_bytes` costs.
+/// The epochs of the run of which the bytes are the transcript, each with what the disturbance that began it cost in the state
+/// before it: of other bytes the first damage is named, as `audit_bytes` names it. Where the bytes begin with a base, the moves of
+/// the first epoch begin at what is spent there. Each epoch is within its bound, and all moves are within the costs, beside what
+/// the charge was at the start. Takes 32 bytes an epoch, and `Memory` is answered where memory runs out. Costs what `audit_bytes`
+/// costs, and reads the lines of accepted disturbances twice.
 pub fn epochs_of(alloc: Global, bytes: &[u8]) -> Result<Epochs, JudgeFault>
     ensures epochs { IfOk result (λ epochs. AreEpochs bytes.now epochs.rules epochs.list.items) }
-    ensures bounded { IfOk result (λ epochs. All (IsWithinItsBound epochs.rules) epochs.list.items) }
+    ensures bounded { IfOk result (λ epochs. All (IsWithinItsBound epochs.rules) (epochs_in epochs.list.items)) }
+    ensures paid { IfOk result (λ epochs. (are : AreEpochs bytes.now epochs.rules epochs.list.items)
+        → ArePaid epochs.rules are.run.transcript.start.moment epochs.list.items) }
     ensures fault { IfErr result (λ fault. IsJudged bytes.now (Err fault)) }
 {
     let (mut replay, mut rest) = match Replay::open_whole(alloc, bytes) {
@@ -78,16 +120,18 @@ pub fn epochs_of(alloc: Global, bytes: &[u8]) -> Result<Epochs, JudgeFault>
         Err(fault) => return Err(fault),
     };
     let mut list = Vec::new(alloc);
-    let mut epoch = replay.audit.open_epoch(replay.begun);
+    let epoch = replay.audit.open_epoch(replay.begun);
+    let mut row = CostedEpoch { epoch, cost: None };
     while !rest.is_empty() {
         let before = replay.audit.counted();
+        let cost = replay.cost_ahead(alloc, rest)?;
         match replay.advance_whole(alloc, rest) {
             Ok(behind) => rest = behind,
             Err(fault) => return Err(fault),
         }
-        epoch = turn(&mut list, epoch, before, &replay.audit)?;
+        row = turn(&mut list, row, before, cost, &replay.audit)?;
     }
-    push(&mut list, epoch)?;
+    push(&mut list, row)?;
     Ok(Epochs {
         rules: replay.rules,
         list,

@@ -6,7 +6,8 @@
 //! one damage at most: laws of their own. It stands on the definitions and on no guard of the engine, so it judges transcripts that other
 //! programs wrote, too.
 //!
-//! `state_after` gives the state behind an entry, `epochs_of` what each disturbance cost, beside its bound.
+//! `state_after` gives the state behind an entry; `epochs_of` the moves that came after each disturbance, beside their bound, and what it
+//! cost, as the judge tells it before the entry is carried out.
 //!
 //! ```rust
 //! match audit(alloc, &mut reader) {
@@ -31,7 +32,7 @@ mod summary;
 mod transcript;
 
 pub use damage::{Damage, JudgeFault};
-pub use epoch::Epoch;
+pub use epoch::{CostedEpoch, Epoch};
 pub use epoch_list::{Epochs, epochs_of};
 pub use fault::AuditFault;
 pub use laws::{

@@ -125,8 +125,10 @@ pub(crate) const EPOCHS_NOTES: &str = "\
 The transcript is read from standard input. An epoch begins at the start and at
 each accepted disturbance. Its line has the number of the entry that began it, 0
 for the start, and - where it began before the base that the transcript begins
-with; its moves; how many edges and nodes there are in it; and the most moves
-that it can have. A transcript that audit refuses is refused in the same words.
+with; its moves; how many edges and nodes there are in it; the most moves that
+it can have; and what the disturbance that began it cost, a sum of degrees of
+the nodes that it touched, or - in the first epoch. A transcript that audit
+refuses is refused in the same words.
 
 Examples:
   console epochs < transcript > epochs.csv

@@ -2,7 +2,7 @@
 use Rattle.std.proofs.Common.{◌≡◌, ◌∙◌, ℕ, List, Option, sym, ap₂}
 use Rattle.rule_machine.specs.declared.rules.RuleSet.{RuleSet}
 use Rattle.rule_machine.specs.State.{State}
-use Rattle.rule_machine.specs.Run.{Epoch}
+use Rattle.auditor.specs.declared.epoch.CostedEpoch.{CostedEpoch}
 use Rattle.transcript_view.specs.Picture.{picture_of}
 use Rattle.transcript_view.specs.Table.{epoch_table}
 use Rattle.transcript_view.specs.Views.{IsPicture, IsPictureOf, IsTable, IsTableOf, SameView}
@@ -21,8 +21,8 @@ text_once bytes last text also x y =
 
 rows_once : (bytes text also : List ℕ) → IsTableOf bytes text → IsTableOf bytes also → text ≡ also
 rows_once bytes text also x y =
-    let once = epochs_once bytes x.rules y.rules x.epochs y.epochs x.are y.are in
-    x.text_is ∙ ap₂ (λ (r : RuleSet) (e : List Epoch). epoch_table r e) once.0 once.1 ∙ sym y.text_is
+    let once = epochs_once bytes x.rules y.rules x.rows y.rows x.are y.are in
+    x.text_is ∙ ap₂ (λ (r : RuleSet) (e : List CostedEpoch). epoch_table r e) once.0 once.1 ∙ sym y.text_is
 
 no_table : (bytes text : List ℕ) (d : Damage) → IsTableOf bytes text → IsDamage bytes d → ⊥
 no_table bytes text d x damage =

@@ -1,11 +1,11 @@
 -- The table of epochs: a header, and a line for each epoch, in its order.
-use Rattle.std.specs.Prelude.{ℕ, List, ◌++◌, codes}
+use Rattle.std.specs.Prelude.{ℕ, List, ◌++◌, Option, None, Some, codes}
 use Rattle.std.specs.List.{flat_map}
 use Rattle.rule_machine.specs.declared.epoch.Start.{Start}
 use Rattle.rule_machine.specs.declared.epoch.Start.TheVariants.{At, Forgotten}
 use Rattle.rule_machine.specs.declared.rules.RuleSet.{RuleSet}
-use Rattle.rule_machine.specs.Run.{Epoch}
 use Rattle.line_text.specs.Words.{number_text}
+use Rattle.auditor.specs.declared.epoch.CostedEpoch.{CostedEpoch}
 use Rattle.auditor.specs.Epochs.{bound_of}
 
 -- a number and what parts it from the next
@@ -17,9 +17,15 @@ abbrev pub start_cell : Start → List ℕ
 start_cell (At number) = cell number
 start_cell Forgotten = codes "-,"
 
--- the entry that began the epoch, its moves, edges and nodes, and the most moves that it can have
-abbrev pub epoch_row : RuleSet → Epoch → List ℕ
-epoch_row rules e = start_cell e.start ++ cell e.moves ++ cell e.edges ++ cell e.nodes ++ number_text (bound_of rules e) ++ codes "\n"
+-- the most that the disturbance which began it may have added to the charge; none of the run began the first epoch
+abbrev pub cost_text : Option ℕ → List ℕ
+cost_text None = codes "-"
+cost_text (Some cost) = number_text cost
 
-abbrev pub epoch_table : RuleSet → List Epoch → List ℕ
-epoch_table rules epochs = codes "start,moves,edges,nodes,bound\n" ++ flat_map (epoch_row rules) epochs
+-- the entry that began the epoch, its moves, edges and nodes, the most moves that it can have, and what the disturbance cost
+abbrev pub epoch_row : RuleSet → CostedEpoch → List ℕ
+epoch_row rules row =
+    start_cell row.epoch.start ++ cell row.epoch.moves ++ cell row.epoch.edges ++ cell row.epoch.nodes ++ cell (bound_of rules row.epoch) ++ cost_text row.cost ++ codes "\n"
+
+abbrev pub epoch_table : RuleSet → List CostedEpoch → List ℕ
+epoch_table rules rows = codes "start,moves,edges,nodes,bound,cost\n" ++ flat_map (epoch_row rules) rows

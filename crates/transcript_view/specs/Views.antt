@@ -2,9 +2,9 @@
 use Rattle.std.specs.Prelude.{◌≡◌, ℕ, List, Option, All}
 use Rattle.rule_machine.specs.declared.rules.RuleSet.{RuleSet}
 use Rattle.rule_machine.specs.State.{State}
-use Rattle.rule_machine.specs.Run.{Epoch}
 use Rattle.auditor.specs.Damage.{IsDamage}
-use Rattle.auditor.specs.Epochs.{AreEpochs, IsWithinItsBound}
+use Rattle.auditor.specs.declared.epoch.CostedEpoch.{CostedEpoch}
+use Rattle.auditor.specs.Epochs.{AreEpochs, IsWithinItsBound, epochs_in}
 use Rattle.auditor.specs.Reached.{HasForgotten, HasTooFew, IsMetDamage, IsStateAfter}
 use Rattle.transcript_view.specs.Picture.{picture_of}
 use Rattle.transcript_view.specs.declared.view.View.{View}
@@ -21,10 +21,10 @@ pub record IsPictureOf (bytes : List ℕ) (last : Option ℕ) (text : List ℕ) 
 -- the text is the table of the run's epochs, each of which is within its bound
 pub record IsTableOf (bytes : List ℕ) (text : List ℕ) : Type 0 where
   pub rules : RuleSet
-  pub epochs : List Epoch
-  pub are : AreEpochs bytes rules epochs
-  pub bounded : All (IsWithinItsBound rules) epochs
-  pub text_is : text ≡ epoch_table rules epochs
+  pub rows : List CostedEpoch
+  pub are : AreEpochs bytes rules rows
+  pub bounded : All (IsWithinItsBound rules) (epochs_in rows)
+  pub text_is : text ≡ epoch_table rules rows
 
 -- The state after this entry, or after all, is drawn; or a line up to it has the damage; or there is no such entry, since the
 -- transcript ends before it or begins behind it.

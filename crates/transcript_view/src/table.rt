@@ -2,9 +2,9 @@
 
 ghost use Rattle.std.specs.Prelude.{◌≡◌, ◌++◌, IfOk, OnOk};
 ghost use Rattle.line_text.specs.Words.{number_text};
-ghost use Rattle.transcript_view.specs.Table.{cell, epoch_row, epoch_table, start_cell};
+ghost use Rattle.transcript_view.specs.Table.{cell, cost_text, epoch_row, epoch_table, start_cell};
 
-use auditor::{Epoch, Epochs};
+use auditor::{CostedEpoch, Epochs};
 use itoa::Buffer;
 use rule_machine::{RuleSet, Start, Want};
 use std::alloc::Global;
@@ -32,14 +32,25 @@ fn put_start(out: &mut Vec<u8>, start: Start) -> Result<(), Want>
     }
 }
 
-fn put_epoch(out: &mut Vec<u8>, rules: RuleSet, epoch: Epoch) -> Result<(), Want>
-    ensures { OnOk result (out.new.items ≡ out.old.items ++ epoch_row rules epoch) }
+fn put_cost(out: &mut Vec<u8>, cost: Option<u32>) -> Result<(), Want>
+    ensures { OnOk result (out.new.items ≡ out.old.items ++ cost_text cost) }
 {
+    match cost {
+        Some(cost) => put_number(out, u64::from(cost)),
+        None => out.extend_from_slice(b"-"),
+    }
+}
+
+fn put_row(out: &mut Vec<u8>, rules: RuleSet, row: CostedEpoch) -> Result<(), Want>
+    ensures { OnOk result (out.new.items ≡ out.old.items ++ epoch_row rules row) }
+{
+    let epoch = row.epoch;
     put_start(out, epoch.start())?;
     put_cell(out, epoch.moves())?;
     put_cell(out, u64::from(epoch.edges()))?;
     put_cell(out, u64::from(epoch.nodes()))?;
-    put_number(out, epoch.bound(rules))?;
+    put_cell(out, epoch.bound(rules))?;
+    put_cost(out, row.cost)?;
     out.extend_from_slice(b"\n")
 }
 
@@ -48,9 +59,9 @@ pub(crate) fn epoch_table(alloc: Global, epochs: &Epochs) -> Result<Vec<u8>, Wan
     ensures { IfOk result (λ text. text.items ≡ epoch_table epochs.now.rules epochs.now.list.items) }
 {
     let mut out = Vec::new(alloc);
-    out.extend_from_slice(b"start,moves,edges,nodes,bound\n")?;
-    for &epoch in &epochs.list {
-        put_epoch(&mut out, epochs.rules, epoch)?;
+    out.extend_from_slice(b"start,moves,edges,nodes,bound,cost\n")?;
+    for &row in &epochs.list {
+        put_row(&mut out, epochs.rules, row)?;
     }
     Ok(out)
 }

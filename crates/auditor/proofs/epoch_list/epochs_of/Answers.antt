@@ -1,9 +1,10 @@
-use Rattle.std.proofs.Common.{◌≡◌, ◌∙◌, List, [], length, sym, ap, subst, eqb-true}
+use Rattle.std.proofs.Common.{◌≡◌, ◌∙◌, List, [], None, length, refl, sym, ap, subst, eqb-true}
 use Rattle.std.proofs.lemmas.List.{nil_from_length}
-use Rattle.rule_machine.specs.Run.{Epoch}
+use Rattle.auditor.specs.declared.epoch.CostedEpoch.{CostedEpoch}
 use Rattle.auditor.specs.declared.summary.Summary.{Summary}
 use Rattle.auditor.specs.Position.{counted_part}
 use Rattle.auditor.proofs.Going.{begun_at, behind_judged, compared_none, first_judged, passed_at, passed_compared, passed_shorter}
+use Rattle.auditor.proofs.Paying.{rows_paid}
 use Rattle.auditor.proofs.Turning.{IsListed, listed_start, listed_on, listed_all, listed_bounded}
 use Rattle.auditor.proofs.epoch_list.epochs_of.Goals as goal
 
@@ -15,12 +16,12 @@ loop-rest-init c =
     let replay = c.in-Ok.begun.0 in
     let rest = c.in-Ok.begun.1.now in
     let begins = c.in-Ok.ensures.begins in
-    let epoch = c.open_epoch-epoch.result in
-    let start = listed_start c.args.bytes.now replay.rules replay.size replay.begun replay.audit rest epoch begins.opened c.open_epoch-epoch.ensures.epoch in
+    let row : CostedEpoch = record { epoch = c.open_epoch-epoch.result; cost = None } in
+    let start = listed_start c.args.bytes.now replay.rules replay.size replay.begun replay.audit rest row begins.opened c.open_epoch-epoch.ensures.epoch refl in
     record {
       at = begun_at c.args.bytes.now replay rest begins;
       compared = compared_none replay rest begins.unwanted begins.none_same;
-      listed = subst (λ (past : List Epoch). IsListed c.args.bytes.now replay.rules replay.size replay.audit rest past epoch) (sym c.new-list.ensures.items) start;
+      listed = subst (λ (past : List CostedEpoch). IsListed c.args.bytes.now replay.rules replay.size replay.audit rest past row) (sym c.new-list.ensures.items) start;
       few = c.open_epoch-epoch.ensures.few;
     }
 
@@ -44,9 +45,9 @@ loop-rest-preserved c =
       at = passed_at c.args.bytes.now old new rest behind i.at passed;
       compared = passed_compared old new rest behind passed;
       listed =
-          listed_on c.args.bytes.now old new rest behind c.loop-rest.list.items c.turn.new.past.items c.loop-rest.epoch c.in_ok-epoch.epoch i.listed passed
-          (λ part e. c.in_ok-epoch.ensures.turn part (e ∙ ap (λ (s : Summary). counted_part s part) (sym c.counted-before.ensures.counted)));
-      few = c.in_ok-epoch.ensures.counted;
+          listed_on c.args.bytes.now old new rest behind c.loop-rest.list.items c.turn.new.past.items c.loop-rest.row c.in_ok-row.row c.in_ok-cost.cost i.listed passed c.in_ok-cost.ensures
+          (λ part e. c.in_ok-row.ensures.turn part (e ∙ ap (λ (s : Summary). counted_part s part) (sym c.counted-before.ensures.counted)));
+      few = c.in_ok-row.ensures.counted;
     }
 
 pub returns-clause-epochs : goal.returns-clause-epochs
@@ -54,7 +55,7 @@ returns-clause-epochs c =
     let replay = c.loop-rest.replay in
     let rest = c.loop-rest.rest.now in
     let none : rest ≡ [] = nil_from_length rest (eqb-true (length rest) 0 (sym c.is_empty.ensures ∙ c.loop-rest-test.false)) in
-    listed_all c.args.bytes.now replay.rules replay.size replay.audit rest c.loop-rest.list.items c.push.new.list.items c.loop-rest.epoch c.loop-rest.invariant.listed none c.in_ok-push.ensures
+    listed_all c.args.bytes.now replay.rules replay.size replay.audit rest c.loop-rest.list.items c.push.new.list.items c.loop-rest.row c.loop-rest.invariant.listed none c.in_ok-push.ensures
 
 pub returns-clause-bounded : goal.returns-clause-bounded
 returns-clause-bounded c =
@@ -62,4 +63,7 @@ returns-clause-bounded c =
     let rest = c.loop-rest.rest.now in
     let none : rest ≡ [] = nil_from_length rest (eqb-true (length rest) 0 (sym c.is_empty.ensures ∙ c.loop-rest-test.false)) in
     listed_bounded c.args.bytes.now replay.rules c.push.new.list.items
-    (listed_all c.args.bytes.now replay.rules replay.size replay.audit rest c.loop-rest.list.items c.push.new.list.items c.loop-rest.epoch c.loop-rest.invariant.listed none c.in_ok-push.ensures)
+    (listed_all c.args.bytes.now replay.rules replay.size replay.audit rest c.loop-rest.list.items c.push.new.list.items c.loop-rest.row c.loop-rest.invariant.listed none c.in_ok-push.ensures)
+
+pub returns-clause-paid : goal.returns-clause-paid
+returns-clause-paid c = rows_paid c.args.bytes.now c.loop-rest.replay.rules c.push.new.list.items

@@ -7,8 +7,8 @@ abbrev pub invariant-loop-rest : goal.invariant-loop-rest
 invariant-loop-rest l = record {
   at : IsAt l.bytes l.replay l.rest;
   compared : IsCompared l.replay l.rest;
-  listed : IsListed l.bytes l.replay.rules l.replay.size l.replay.audit l.rest l.list.items l.epoch;
-  few : l.epoch.moves ≤ l.replay.audit.counted.moves + 4294967295;
+  listed : IsListed l.bytes l.replay.rules l.replay.size l.replay.audit l.rest l.list.items l.row;
+  few : l.row.epoch.moves ≤ l.replay.audit.counted.moves + 4294967295;
 }
 
 abbrev pub decreases-loop-rest : goal.decreases-loop-rest
