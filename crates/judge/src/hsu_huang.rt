@@ -1,17 +1,19 @@
 //! Hsu and Huang's rules: one node moves at a time, and no flag is used.
 
-ghost use Rattle.std.specs.Prelude.{◌≡◌, All, IsTrue, find, is_none};
+ghost use Rattle.std.specs.Prelude.{◌≡◌, ◌≤◌, All, IsTrue, find, is_none};
 ghost use Rattle.rule_machine.specs.Network.{present};
 ghost use Rattle.rule_machine.specs.State as state;
 ghost use Rattle.rule_machine.specs.RuleTable as table;
 ghost use Rattle.rule_machine.specs.HsuHuang.{hsu_huang, hsu_huang_allowed, hsu_huang_opens};
 ghost use Rattle.charge_laws.specs.ClosedByPointers.{hsu_huang_closes};
+ghost use Rattle.charge_laws.specs.Costs as costs;
+ghost use Rattle.charge_laws.specs.Degrees as degrees;
 ghost use Rattle.judge.specs.Shares.{hsu_huang_end};
 
-use crate::reads::{first_suitor, pointer, points_back};
+use crate::reads::{degree, first_suitor, freed_edges, has_suitor, pointer, points_back};
 use graph_store::End;
 use net_state::NetState;
-use rule_machine::{Act, Node};
+use rule_machine::{Act, Event, Node};
 
 /// Whether one node alone moves in a step.
 pub(crate) const IS_CENTRAL: bool = true;
@@ -97,4 +99,41 @@ fn first_null_among(row: &[Node], net: &NetState) -> Option<Node>
         }
     }
     None
+}
+
+/// What an event may add to the charge where it is accepted.
+pub(crate) fn cost_of(net: &NetState, event: &Event) -> u32
+    ensures { result ≡ costs.hsu_huang_cost net.now.state event.now }
+{
+    match event {
+        Event::Link(_, _) => 2,
+        Event::Unlink(a, b) => 2 * (freed_edges(net, *a, *b) + freed_edges(net, *b, *a)),
+        Event::Point(v, _) => point_cost(net, *v),
+        Event::Leave(v) => 2 * edges_of_target(net, *v).saturating_sub(1),
+        Event::Flag(_, _) | Event::Join(_) | Event::Step(_) => 0,
+        Event::Show(_) | Event::Enabled | Event::Matching | Event::Status => 0,
+    }
+}
+
+/// What a write of a node's pointer may add to the charge.
+fn point_cost(net: &NetState, v: Node) -> u32
+    ensures { let s = net.now.state in result ≡ costs.hsu_huang_point_cost s.network v (state.is_unanswered s v) (state.has_suitor s v) (state.pointer s v) }
+{
+    match pointer(net, v) {
+        Some(u) if net.points(u, v) => 2 * (degree(net, v) + degree(net, u)),
+        Some(u) => 2 * degree(net, u),
+        None if has_suitor(net, v) => 2 * degree(net, v),
+        None => 1,
+    }
+}
+
+/// How many edges are at the node at which a name points, if it points anywhere.
+fn edges_of_target(net: &NetState, v: Node) -> u32
+    ensures value { result ≡ degrees.degree_at net.now.state.network (state.pointer net.now.state v) }
+    ensures few { result ≤ 65535 }
+{
+    match pointer(net, v) {
+        Some(u) => degree(net, u),
+        None => 0,
+    }
 }

@@ -5,7 +5,8 @@
 //! with the rule sets of the engine, whose mistakes it would else repeat; the state (`net_state`) they share.
 //!
 //! A disturbance and a `Show` cost look-ups, a step looks at the neighbours of its nodes, and a question at what changed since the last
-//! one and at what its reply lists. It also begins at a base (`at_base`) and tells where it stands (`base`).
+//! one and at what its reply lists. It also begins at a base (`at_base`), and tells where it stands (`base`) and what a disturbance
+//! costs (`cost_of`).
 //!
 //! ```rust
 //! let mut judge = Judge::new(alloc, 2)?;
@@ -15,7 +16,6 @@
 
 mod bases;
 mod choices;
-mod costs;
 mod edits;
 mod hsu_huang;
 mod judging;

@@ -7,12 +7,13 @@ ghost use Rattle.rule_machine.specs.State as state;
 ghost use Rattle.rule_machine.specs.RuleTable as table;
 ghost use Rattle.rule_machine.specs.Manne.{manne, manne_allowed, may_court};
 ghost use Rattle.charge_laws.specs.ClosedByPointers.{manne_closes};
+ghost use Rattle.charge_laws.specs.Costs as costs;
 ghost use Rattle.judge.specs.Shares.{manne_end};
 
-use crate::reads::{first_suitor, flag, pointer, points_back};
+use crate::reads::{degree, first_suitor, flag, has_suitor, pointer, points_back};
 use graph_store::End;
 use net_state::NetState;
-use rule_machine::{Act, Node};
+use rule_machine::{Act, Event, Node};
 
 /// Whether one node alone moves in a step.
 pub(crate) const IS_CENTRAL: bool = false;
@@ -137,4 +138,62 @@ fn first_to_court_above(net: &NetState, v: Node, w: Node) -> Option<Node>
         }
     }
     None
+}
+
+/// What an event may add to the charge where it is accepted.
+pub(crate) fn cost_of(net: &NetState, event: &Event) -> u32
+    ensures { result ≡ costs.manne_cost net.now.state event.now }
+{
+    match event {
+        Event::Link(_, _) => 2,
+        Event::Unlink(a, b) => unlink_cost(net, *a, *b),
+        Event::Point(v, _) => point_cost(net, *v),
+        Event::Flag(v, value) => flag_cost(net, *v, *value),
+        Event::Join(_) => 1,
+        Event::Leave(v) => leave_cost(net, *v),
+        Event::Step(_) | Event::Show(_) => 0,
+        Event::Enabled | Event::Matching | Event::Status => 0,
+    }
+}
+
+/// What the loss of an edge may add to the charge.
+fn unlink_cost(net: &NetState, a: Node, b: Node) -> u32
+    ensures { result ≡ costs.manne_cost net.now.state (Event.Unlink a b) }
+{
+    if !(net.points(a, b) && net.points(b, a)) {
+        return 0;
+    }
+    2 * (degree(net, a).saturating_sub(1) + degree(net, b).saturating_sub(1)) + 4
+}
+
+/// What a write of a node's pointer may add to the charge.
+fn point_cost(net: &NetState, v: Node) -> u32
+    ensures { let s = net.now.state in result ≡ costs.manne_point_cost s.network v (state.is_unanswered s v) (state.pointer s v) }
+{
+    match pointer(net, v) {
+        Some(u) if net.points(u, v) => 2 * (degree(net, v) + degree(net, u)) + 4,
+        Some(_) => 2,
+        None => 1,
+    }
+}
+
+/// What a write of a node's flag may add to the charge.
+fn flag_cost(net: &NetState, v: Node, value: bool) -> u32
+    ensures { result ≡ costs.manne_cost net.now.state (Event.Flag v value) }
+{
+    if value && has_suitor(net, v) {
+        1 + 2 * degree(net, v)
+    } else {
+        1
+    }
+}
+
+/// What the loss of a node may add to the charge.
+fn leave_cost(net: &NetState, v: Node) -> u32
+    ensures { result ≡ costs.manne_cost net.now.state (Event.Leave v) }
+{
+    match pointer(net, v) {
+        Some(u) if net.points(u, v) => 2 * degree(net, u).saturating_sub(1) + 2,
+        Some(_) | None => 0,
+    }
 }

@@ -4,10 +4,12 @@ ghost use Rattle.std.specs.Prelude.{◌≡◌, ◌≤◌, false, IsTrue, IfOk, O
 ghost use Rattle.rule_machine.specs.Answer.{Answers};
 ghost use Rattle.rule_machine.specs.State.{State, opening, opening_with};
 ghost use Rattle.rule_machine.specs.Tables.{table_of};
+ghost use Rattle.judge.specs.Costs.{cost_by};
 ghost use Rattle.judge.specs.Judging.{TakesMemory};
 
 use crate::edits::opened;
 use crate::judging::judge_reply;
+use crate::rules::cost_of;
 use crate::{Chosen, Survey};
 use rule_machine::{Event, Reply, RuleSet, Want};
 use std::alloc::Global;
@@ -95,5 +97,13 @@ impl Judge {
             self.chosen.clear(choice.items());
         }
         right
+    }
+
+    /// What an event may add to the charge where it is accepted in the state as it stands: a sum of degrees of the nodes that it
+    /// touches, at most 262,144; 0 for a step and a question. A few looks, and one at each neighbour of a node that a fault hits.
+    pub fn cost_of(&self, rules: RuleSet, event: &Event) -> u32
+        ensures { result ≡ cost_by rules self.now event.now }
+    {
+        cost_of(&self.survey.net, rules, event)
     }
 }

@@ -4,12 +4,13 @@ ghost use Rattle.std.specs.Prelude.{◌≡◌, ◌≤◌, IsTrue};
 ghost use Rattle.rule_machine.specs.Network.{present};
 ghost use Rattle.rule_machine.specs.RuleTable as table;
 ghost use Rattle.rule_machine.specs.Tables.{table_of};
+ghost use Rattle.judge.specs.Costs.{cost_by};
 ghost use Rattle.judge.specs.Shares.{closes, end_of, flag_charge};
 
 use crate::{hsu_huang, manne};
 use graph_store::End;
 use net_state::NetState;
-use rule_machine::{Act, Node, RuleSet};
+use rule_machine::{Act, Event, Node, RuleSet};
 
 /// The rule that is enabled at a node, if any is. Looks at the neighbours of one that points nowhere.
 #[inline(always)]
@@ -88,5 +89,15 @@ pub(crate) fn end_of(net: &NetState, rules: RuleSet, v: Node, rule: Option<Act>)
     match rules {
         RuleSet::Hh => hsu_huang::end_of(net, v, rule),
         RuleSet::Manne => manne::end_of(net, v),
+    }
+}
+
+/// What an event may add to the charge where it is accepted.
+pub(crate) fn cost_of(net: &NetState, rules: RuleSet, event: &Event) -> u32
+    ensures { result ≡ cost_by rules net.now.state event.now }
+{
+    match rules {
+        RuleSet::Hh => hsu_huang::cost_of(net, event),
+        RuleSet::Manne => manne::cost_of(net, event),
     }
 }
