@@ -1,6 +1,8 @@
 -- A transcript that is gone through from its beginning to its end.
 use Rattle.std.proofs.Common.{◌≡◌, ℕ, ◌+◌, ◌<◌, ◌≤◌, ◌^◌, inl, List, [], ◌∷◌, ◌++◌, None, Err, length, sym, ap, subst, ◌∙◌, append_assoc, arith}
 use Rattle.std.proofs.lemmas.List.{append_cancel_right, length-append}
+use Rattle.std.proofs.Math.Logic.{∥∥₁_elim, ∥∥₁_map}
+use Rattle.std.proofs.Props.{props}
 use Rattle.rule_machine.specs.declared.rules.RuleSet.{RuleSet}
 use Rattle.rule_machine.specs.Base.{Part, Told, Kept}
 use Rattle.auditor.specs.declared.damage.JudgeFault.{JudgeFault}
@@ -12,7 +14,7 @@ use Rattle.auditor.specs.Position.{Position, IsFurther}
 use Rattle.auditor.specs.Accepted.{IsReached}
 use Rattle.auditor.specs.Damage.{line_feeds}
 use Rattle.auditor.specs.Reached.{IsMetBehind, IsMetFirst}
-use Rattle.auditor.specs.Replays.{Begins, IsAt, IsCompared, IsPassed, IsSomewhere, Waits}
+use Rattle.auditor.specs.Replays.{Begins, IsAt, IsCompared, IsPassed, IsSomewhere, Somewhere, Waits}
 use Rattle.auditor.specs.Verdict.{IsJudged}
 use Rattle.auditor.proofs.Counted.{feeds_few}
 use Rattle.auditor.proofs.Reaching.{opened_reached, reached_more}
@@ -39,10 +41,13 @@ at_few bytes replay rest at =
     omega (arith, lines, few, whole)
 
 pub somewhere_few : (replay : Replay) (rest : List ℕ) → IsSomewhere replay rest → replay.lines + length rest < 2 ^ 63
-somewhere_few replay rest at =
-    let few = at_few at.bytes replay rest at.at in
-    let all = at.few in
-    omega (arith, few, all)
+somewhere_few replay rest somewhere = ∥∥₁_elim somewhere (search props) few
+  where
+    few : Somewhere replay rest → replay.lines + length rest < 2 ^ 63
+    few at =
+        let less = at_few at.bytes replay rest at.at in
+        let all = at.few in
+        omega (arith, less, all)
 
 -- another replay is at the same place
 pub at_same : (bytes : List ℕ) (old new : Replay) (rest : List ℕ) → new.rules ≡ old.rules → new.size ≡ old.size → new.audit ≡ old.audit → new.lines ≡ old.lines → IsAt bytes old rest → IsAt bytes new rest
@@ -57,6 +62,9 @@ at_same bytes old new rest rules size audit lines at = record {
 pub waited : (bytes : List ℕ) (old new : Replay) (rest all : List ℕ) → Waits old new rest → IsAt bytes old all → IsAt bytes new all
 waited bytes old new rest all w at = at_same bytes old new all w.rules w.size w.audit w.lines at
 
+pub waited_somewhere : (old new : Replay) (rest : List ℕ) → IsSomewhere old rest → Waits old new rest → IsSomewhere new rest
+waited_somewhere old new rest somewhere w = ∥∥₁_map somewhere (λ at. record { bytes = at.bytes; few = at.few; at = waited at.bytes old new rest rest w at.at })
+
 -- ---- behind the beginning
 
 pub begun_at : (text : List ℕ) (replay : Replay) (rest : List ℕ) → Begins text replay rest → IsAt text replay rest
@@ -66,7 +74,7 @@ begun_at text replay rest b =
 
 -- nothing is wanted yet
 pub compared_none : (replay : Replay) (rest : List ℕ) → replay.wanted.items ≡ [] → replay.same ≡ 0 → IsCompared replay rest
-compared_none replay rest unwanted none = record { text = inl unwanted; alike = same_none replay.wanted.items rest replay.same none }
+compared_none replay rest unwanted none = ∣ record { text = inl unwanted; alike = same_none replay.wanted.items rest replay.same none } ∣₁
 
 -- ---- one part further
 
@@ -87,7 +95,7 @@ passed_at bytes old new rest behind at p =
         p.lines text further.comes.is ∙ ap (λ (n : ℕ). n + line_feeds text) (at.counted before at.reached.follows.splits) ∙ sym (feeds_append before text) ∙ sym (ap line_feeds same)
 
 pub passed_somewhere : (old new : Replay) (rest behind : List ℕ) → IsSomewhere old rest → IsPassed old new rest behind → IsSomewhere new behind
-passed_somewhere old new rest behind at p = record { bytes = at.bytes; few = at.few; at = passed_at at.bytes old new rest behind at.at p }
+passed_somewhere old new rest behind somewhere p = ∥∥₁_map somewhere (λ at. record { bytes = at.bytes; few = at.few; at = passed_at at.bytes old new rest behind at.at p })
 
 pub passed_compared : (old new : Replay) (rest behind : List ℕ) → IsPassed old new rest behind → IsCompared new behind
 passed_compared old new rest behind p = compared_none new behind p.unwanted p.none_same

@@ -21,3 +21,4 @@ pub mod Arriving
 pub mod Turning
 mod Ahead
 mod Paying
+pub mod Tried

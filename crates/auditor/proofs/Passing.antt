@@ -1,5 +1,7 @@
 -- An entry or a base that comes next, of which no more than what is there is known.
 use Rattle.std.proofs.Common.{◌≡◌, ◌≢◌, ℕ, ◌+◌, ◌<◌, ◌≤◌, ◌⊎◌, inl, inr, List, [], ◌∷◌, ◌++◌, Option, None, Some, Err, length, take, drop, refl, sym, ap, subst, ◌∙◌, append_assoc, append-nil, arith}
+use Rattle.std.proofs.Math.Logic.{∥∥₁_elim}
+use Rattle.std.proofs.Props.{props}
 use Rattle.std.proofs.lemmas.List.{append_cancel_right, take-append-le, take_all}
 use Rattle.rule_machine.specs.declared.base.Base.{Base}
 use Rattle.rule_machine.specs.declared.rules.RuleSet.{RuleSet}
@@ -66,17 +68,32 @@ cut_base text line (inr base) is other =
 -- ---- an entry
 
 pub unwanted : (replay : Replay) (rest : List ℕ) → (BeginsBase rest → ⊥) → IsCompared replay rest → replay.wanted.items ≡ []
-unwanted replay rest other c = by c.text
+unwanted replay rest other compared = ∥∥₁_elim compared (search props) (λ c. by c.text)
   where
     by : (replay.wanted.items ≡ []) ⊎ (BeginsBase rest × (replay.wanted.items ≡ base_wanted replay)) → replay.wanted.items ≡ []
     by (inl none) = none
     by (inr base) = absurd (other base.0)
 
+-- a text that was made is that of where the replay is
+pub wanted_is : (replay : Replay) (rest : List ℕ) → IsCompared replay rest → (replay.wanted.items ≡ [] → ⊥) → replay.wanted.items ≡ base_wanted replay
+wanted_is replay rest compared some = ∥∥₁_elim compared (search props) (λ c. by c.text)
+  where
+    by : (replay.wanted.items ≡ []) ⊎ (BeginsBase rest × (replay.wanted.items ≡ base_wanted replay)) → replay.wanted.items ≡ base_wanted replay
+    by (inl none) = absurd (some none)
+    by (inr base) = base.1
+
 pub none_same : (replay : Replay) (rest : List ℕ) → IsCompared replay rest → replay.wanted.items ≡ [] → replay.same ≡ 0
-none_same replay rest c none =
+none_same replay rest compared none = ∥∥₁_elim compared (search props) (λ c.
     let within = c.alike.within in
     let l : length replay.wanted.items ≡ 0 = ap length none in
-    omega (arith, within, l)
+    omega (arith, within, l))
+
+pub compared_alike : (replay : Replay) (rest : List ℕ) → IsCompared replay rest → AreSameUpTo replay.wanted.items rest replay.same
+compared_alike replay rest compared = record {
+  within = ∥∥₁_elim compared (search props) (λ c. c.alike.within);
+  inside = ∥∥₁_elim compared (search props) (λ c. c.alike.inside);
+  alike = ∥∥₁_elim compared (search props) (λ c. c.alike.alike);
+}
 
 -- what the check of a line finds is the damage whatever comes behind it
 pub entry_damaged : (old : Replay) (q : Position) (line rest behind : List ℕ) (found : Flaw) (at : ℕ) → at ≡ old.lines + 1 → (BeginsBase rest → ⊥) → first_line rest ≡ Some (line, behind) → LineJudged (table_of old.rules) line old.audit q (Err found) → IsMetAt old rest (flaw_at found at)
@@ -102,7 +119,7 @@ pub wants_made : (old new : Replay) (rest : List ℕ) → BeginsBase rest → Wa
 wants_made old new rest begins w c = by w.before_it
   where
     alike : AreSameUpTo old.wanted.items rest new.same
-    alike = subst (AreSameUpTo old.wanted.items rest) (sym w.same) c.alike
+    alike = subst (AreSameUpTo old.wanted.items rest) (sym w.same) (compared_alike old rest c)
 
     by : (old.wanted.items ≡ []) ⊎ (old.wanted.items ≡ new.wanted.items) → AreSameUpTo new.wanted.items rest new.same
     by (inl none) =
@@ -151,7 +168,7 @@ base_waits old new rest same rules size audit lines begins is at alike short all
       audit = audit;
       lines = lines;
       unended = inr (record { begins = begins; missing = drop same text; some = some front within; is = sym is ∙ front });
-      compared = record { text = inr (begins, is); alike = subst (AreSameUpTo text rest) (sym at) alike };
+      compared = ∣ record { text = inr (begins, is); alike = subst (AreSameUpTo text rest) (sym at) alike } ∣₁;
     }
   where
     some : new.wanted.items ≡ rest ++ drop same new.wanted.items → same ≤ length new.wanted.items → drop same new.wanted.items ≢ []

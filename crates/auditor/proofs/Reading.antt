@@ -1,15 +1,17 @@
 -- A transcript that is read piece by piece.
-use Rattle.std.proofs.Common.{◌≡◌, ℕ, ◌+◌, ◌-◌, ◌*◌, ◌≤◌, ◌⊎◌, inl, inr, List, [], ◌++◌, Option, None, Some, IfSome, Result, Ok, Err, IfOk, IfErr, length, take, drop, refl, sym, ap, subst, ◌∙◌, append_assoc, append-nil, arith}
+use Rattle.std.proofs.Common.{◌≡◌, ℕ, ◌+◌, ◌-◌, ◌<◌, ◌^◌, ◌⊎◌, inl, inr, List, [], ◌++◌, Option, None, Some, IfSome, Result, Ok, Err, IfOk, IfErr, OnOk, length, take, drop, refl, sym, ap, subst, ◌∙◌, append_assoc, append-nil, arith}
 use Rattle.std.specs.Prelude.{MatchOption}
 use Rattle.std.specs.Io.KnownBytes.{Consumes}
-use Rattle.std.proofs.lemmas.List.{append_cancel_right, length-append, take-append-drop}
+use Rattle.std.proofs.lemmas.List.{append_cancel_right, length-append}
 use Rattle.std.proofs.Math.Seq.{drop-append_seam, take-append_seam}
 use Rattle.std.proofs.KnownBytes.{Consumes-trans}
+use Rattle.std.proofs.Math.Logic.{∥∥₁_elim, ∥∥₁_map, ∥∥₁_prop}
 use Rattle.auditor.specs.declared.damage.JudgeFault.{JudgeFault}
+use Rattle.auditor.specs.declared.judging.Trial.{Trial}
 use Rattle.auditor.specs.declared.replay.Replay.{Replay}
 use Rattle.auditor.specs.Damage.{BeginsBase}
 use Rattle.auditor.specs.Parts.{part_text}
-use Rattle.auditor.specs.Replays.{Begins, EndsIn, HasCutStart, IsAt, IsCompared, IsMetAt, IsPassed, IsReadOf, Waits, base_wanted}
+use Rattle.auditor.specs.Replays.{Begins, EndsIn, HasCutStart, IsAt, IsCompared, IsMetAt, IsPassed, IsRead, IsReadOf, IsSomewhere, IsUnderway, Waits, base_wanted}
 use Rattle.auditor.specs.Verdict.{IsJudged}
 use Rattle.auditor.proofs.Going.{begun_at, behind_judged}
 use Rattle.auditor.proofs.Windows.{begins_more, same_more}
@@ -36,7 +38,7 @@ at_more bytes more replay rest at =
     }
 
 pub compared_more : (replay : Replay) (rest more : List ℕ) → IsCompared replay rest → IsCompared replay (rest ++ more)
-compared_more replay rest more c = record { text = by c.text; alike = same_more replay.wanted.items rest more replay.same c.alike }
+compared_more replay rest more compared = ∥∥₁_map compared (λ c. record { text = by c.text; alike = same_more replay.wanted.items rest more replay.same c.alike })
   where
     by : (replay.wanted.items ≡ []) ⊎ (BeginsBase rest × (replay.wanted.items ≡ base_wanted replay)) → (replay.wanted.items ≡ []) ⊎ (BeginsBase (rest ++ more) × (replay.wanted.items ≡ base_wanted replay))
     by (inl none) = inl none
@@ -52,7 +54,36 @@ held_some read piece found run held new is grown at =
     let more = read_more read piece (Some run) held (subst (λ (o : Option Replay). IsReadOf read o held) is at) in
     subst (λ (l : List ℕ). IsAt (read ++ piece) run l × IsCompared run l) (sym grown) more
 
+-- ---- some bytes were read
+
+held_at : (read : List ℕ) (trial : Trial) (run : Replay) (held : List ℕ) → trial.run ≡ Some run → held ≡ trial.held.items → IsRead read trial → IsAt read run held × IsCompared run held
+held_at read trial run held is same (counted, at) =
+    subst (λ (l : List ℕ). IsAt read run l × IsCompared run l) (sym same) (subst (λ (o : Option Replay). IsReadOf read o trial.held.items) is at)
+
+pub held_somewhere : (trial : Trial) (run : Replay) (held : List ℕ) → trial.run ≡ Some run → held ≡ trial.held.items → IsUnderway trial → IsSomewhere run held
+held_somewhere trial run held is same (few, some) = ∥∥₁_map some (λ r. record {
+  bytes = r.0;
+  few = subst (λ (n : ℕ). n < 2 ^ 63) (sym r.1.0) few;
+  at = (held_at r.0 trial run held is same r.1).0;
+})
+
+pub held_compared : (trial : Trial) (run : Replay) (held : List ℕ) → trial.run ≡ Some run → held ≡ trial.held.items → IsUnderway trial → IsCompared run held
+held_compared trial run held is same (few, some) = ∥∥₁_elim some ∥∥₁_prop (λ r. (held_at r.0 trial run held is same r.1).1)
+
+pub grown_somewhere : (trial : Trial) (piece : List ℕ) (run : Replay) (new : List ℕ) → trial.run ≡ Some run → new ≡ trial.held.items ++ piece → trial.len + length piece < 2 ^ 63 → IsUnderway trial → IsSomewhere run new
+grown_somewhere trial piece run new is grown room (few, some) = ∥∥₁_map some (λ r. record {
+  bytes = r.0 ++ piece;
+  few = subst (λ (n : ℕ). n < 2 ^ 63) (sym (length-append r.0 piece ∙ ap (λ (n : ℕ). n + length piece) r.1.0)) room;
+  at = (held_some r.0 piece trial.run run trial.held.items new is grown r.1.1).0;
+})
+
+pub grown_compared : (trial : Trial) (piece : List ℕ) (run : Replay) (new : List ℕ) → trial.run ≡ Some run → new ≡ trial.held.items ++ piece → IsUnderway trial → IsCompared run new
+grown_compared trial piece run new is grown (few, some) = ∥∥₁_elim some ∥∥₁_prop (λ r. (held_some r.0 piece trial.run run trial.held.items new is grown r.1.1).1)
+
 -- ---- the parts in what is held
+
+pub waits_none : {X : Type 0} (now : X → List ℕ) (found : Option X) (old new : Replay) (rest : List ℕ) → MatchOption found (Waits old new rest) (λ b. IsPassed old new rest (now b)) → found ≡ None → Waits old new rest
+waits_none {X} now found old new rest ahead none = subst (λ (o : Option X). MatchOption o (Waits old new rest) (λ b. IsPassed old new rest (now b))) none ahead
 
 pub passed_by : {X : Type 0} (now : X → List ℕ) (found : Option X) (old new : Replay) (rest : List ℕ) (behind : X) → MatchOption found (Waits old new rest) (λ b. IsPassed old new rest (now b)) → found ≡ Some behind → IsPassed old new rest (now behind)
 passed_by {X} now found old new rest behind ahead is = subst (λ (o : Option X). MatchOption o (Waits old new rest) (λ b. IsPassed old new rest (now b))) is ahead
@@ -90,6 +121,10 @@ begins_held all held rest new replay n same b count e =
 
 -- ---- results
 
+pub for_on : {T E : Type 0} (r : Result T E) (A B : Type 0) → OnOk r A → (A → B) → OnOk r B
+for_on (Ok x) A B h f = f h
+for_on (Err e) A B h f = tt
+
 pub for_ok : {T E : Type 0} (r : Result T E) (P Q : T → Type 0) → IfOk r P → ((x : T) → P x → Q x) → IfOk r Q
 for_ok (Ok x) P Q h f = f x h
 for_ok (Err e) P Q h f = tt
@@ -118,10 +153,3 @@ pub consumed_none : (a b c : Option (List ℕ)) (read given : List ℕ) (n : ℕ
 consumed_none a b c read given n before none now =
     let nothing : Consumes b c [] = subst (λ (k : ℕ). Consumes b c (take k given)) none now in
     subst (Consumes a c) (append-nil read) (Consumes-trans a b c read [] before nothing)
-
-pub piece_few : (read piece : List ℕ) (n counter : ℕ) → length read ≤ 65536 * counter → length piece ≡ 65536 → length (read ++ take n piece) ≤ 65536 * (counter + 1)
-piece_few read piece n counter few full =
-    let all = ap length (take-append-drop n piece) in
-    let parts = length-append (take n piece) (drop n piece) in
-    let both = length-append read (take n piece) in
-    omega (arith, few, full, all, parts, both)

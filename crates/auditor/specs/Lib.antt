@@ -9,3 +9,4 @@ pub mod Once
 pub mod Reached
 pub mod Replays
 pub mod Epochs
+pub mod Fed

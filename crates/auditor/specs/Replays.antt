@@ -1,5 +1,5 @@
 -- How far the code is that goes through a transcript, of which it keeps no more than what follows.
-use Rattle.std.specs.Prelude.{◌≡◌, ◌≢◌, ℕ, ◌+◌, ◌<◌, ◌≤◌, ◌^◌, ◌⊎◌, List, [], ◌++◌, length, Option, None, Some}
+use Rattle.std.specs.Prelude.{◌≡◌, ◌≢◌, ℕ, ◌+◌, ◌<◌, ◌≤◌, ◌^◌, ◌⊎◌, List, [], ◌++◌, length, Option, None, Some, Err}
 use Rattle.rule_machine.specs.declared.rules.RuleSet.{RuleSet}
 use Rattle.rule_machine.specs.Base.{base_of}
 use Rattle.line_text.specs.BaseText.{base_head, base_text}
@@ -13,6 +13,7 @@ use Rattle.auditor.specs.Damage.{BeginsBase, line_feeds}
 use Rattle.auditor.specs.Parted.{AreSameUpTo}
 use Rattle.auditor.specs.Position.{IsFurther, stand_of}
 use Rattle.auditor.specs.Reached.{IsMetBehind, IsOpened}
+use Rattle.auditor.specs.Verdict.{IsJudged}
 
 -- The bytes begin with the transcript of a run that has led to where the replay is, its lines were counted, and the rest follows.
 pub record IsAt (bytes : List ℕ) (replay : Replay) (rest : List ℕ) : Type 0 where
@@ -20,19 +21,25 @@ pub record IsAt (bytes : List ℕ) (replay : Replay) (rest : List ℕ) : Type 0 
   pub counted : (good : List ℕ) → bytes ≡ good ++ rest → replay.lines ≡ line_feeds good
 
 -- some bytes do, and they are few enough to be counted
-pub record IsSomewhere (replay : Replay) (rest : List ℕ) : Type 0 where
+pub record Somewhere (replay : Replay) (rest : List ℕ) : Type 0 where
   pub bytes : List ℕ
   pub few : length bytes < 2 ^ 63
   pub at : IsAt bytes replay rest
+
+abbrev pub IsSomewhere : Replay → List ℕ → Type 0
+IsSomewhere replay rest = ∥ Somewhere replay rest ∥₁
 
 -- the text of the base of where a replay is
 abbrev pub base_wanted : Replay → List ℕ
 base_wanted replay = base_text replay.rules replay.size (base_of replay.audit.number (stand_of replay.audit).moment)
 
 -- a text is wanted only where a base comes, and as far as was compared the rest begins with it
-pub record IsCompared (replay : Replay) (rest : List ℕ) : Type 0 where
+pub record Compared (replay : Replay) (rest : List ℕ) : Type 0 where
   pub text : (replay.wanted.items ≡ []) ⊎ (BeginsBase rest × (replay.wanted.items ≡ base_wanted replay))
   pub alike : AreSameUpTo replay.wanted.items rest replay.same
+
+abbrev pub IsCompared : Replay → List ℕ → Type 0
+IsCompared replay rest = ∥ Compared replay rest ∥₁
 
 -- the text ends in these bytes
 abbrev pub EndsIn : List ℕ → List ℕ → Type 0
@@ -111,6 +118,15 @@ abbrev pub IsReadOf : List ℕ → Option Replay → List ℕ → Type 0
 IsReadOf read None held = read ≡ held
 IsReadOf read (Some run) held = IsAt read run held × IsCompared run held
 
--- these bytes were read
+-- these bytes were read, and they were counted
 abbrev pub IsRead : List ℕ → Trial → Type 0
-IsRead read trial = IsReadOf read trial.run trial.held.items
+IsRead read trial = (length read ≡ trial.len) × IsReadOf read trial.run trial.held.items
+
+-- some bytes were, and they are few enough
+abbrev pub IsUnderway : Trial → Type 0
+IsUnderway trial = (trial.len < 2 ^ 63) × ∥ ((read : List ℕ) × IsRead read trial) ∥₁
+
+-- they were read, or what was wrong in them is so whatever comes behind them
+abbrev pub IsTried : List ℕ → Trial → Option JudgeFault → Type 0
+IsTried bytes trial None = IsRead bytes trial
+IsTried bytes trial (Some fault) = (more : List ℕ) → IsJudged (bytes ++ more) (Err fault)

@@ -1,5 +1,5 @@
 -- What the answers of an audit say of the bytes that were judged.
-use Rattle.std.specs.Prelude.{◌≡◌, ℕ, List, Result, Ok, Err, ◌⊎◌}
+use Rattle.std.specs.Prelude.{◌≡◌, ℕ, List, Option, None, Some, Result, Ok, Err, ◌⊎◌}
 use Rattle.byte_streams.specs.declared.input_fault.InputFault.{InputFault}
 use Rattle.byte_streams.specs.declared.input_fault.InputFault.TheVariants as input
 use Rattle.auditor.specs.declared.damage.Damage.{Damage}
@@ -34,6 +34,19 @@ abbrev pub IsJudged : List ℕ → Result Summary JudgeFault → Type 0
 IsJudged bytes (Ok counted) = IsAccepted bytes counted
 IsJudged bytes (Err (judge.Damaged d)) = IsDamage bytes d
 IsJudged bytes (Err judge.Memory) = Unit {0}
+
+-- nothing wrong was found, or this
+abbrev pub found_by : Option JudgeFault → Result Unit JudgeFault
+found_by None = Ok tt
+found_by (Some fault) = Err fault
+
+-- a transcript is accepted with its counts, if memory is there
+abbrev pub JudgesRuns : List ℕ → Result Summary JudgeFault → Type 0
+JudgesRuns bytes result = (counted : Summary) → IsAccepted bytes counted → (result ≡ Ok counted) ⊎ (result ≡ Err judge.Memory)
+
+-- a damage is named, if memory is there
+abbrev pub JudgesDamage : List ℕ → Result Summary JudgeFault → Type 0
+JudgesDamage bytes result = (d : Damage) → IsDamage bytes d → (result ≡ Err (judge.Damaged d)) ⊎ (result ≡ Err judge.Memory)
 
 -- what the judge found, as an audit tells it: a failed read is none of it
 abbrev pub told : Result Summary JudgeFault → Result Summary AuditFault

@@ -1,7 +1,7 @@
 //! A transcript that is judged, in memory or as it comes.
 
-ghost use Rattle.std.specs.Prelude.{◌≡◌, ◌+◌, ◌<◌, ◌≤◌, ◌^◌, ◌++◌, ℕ, List, [], Err, IfErr, IfOk, drop, length};
-ghost use Rattle.auditor.specs.Replays.{EndsIn, IsAt, IsCompared, IsRead, IsSomewhere};
+ghost use Rattle.std.specs.Prelude.{◌≡◌, ◌<◌, ◌≤◌, ◌^◌, ◌++◌, ℕ, List, [], Err, IfErr, IfOk, OnOk, Some, drop, length};
+ghost use Rattle.auditor.specs.Replays.{EndsIn, IsAt, IsCompared, IsRead, IsReadOf, IsSomewhere, IsUnderway};
 ghost use Rattle.auditor.specs.Verdict.{IsJudged};
 
 use crate::replay::Replay;
@@ -9,13 +9,17 @@ use crate::{JudgeFault, Summary};
 use entry_grammar::split_line;
 use std::alloc::Global;
 
+/// So many bytes a transcript may have: that many lines can be counted.
+const MOST_BYTES: u64 = (1 << 63) - 1;
+
 /// A transcript of which a part was read: what was made of the lines that were judged, and the bytes behind these. So many bytes
-/// have to be there before it is tried again what the transcript begins with.
+/// have to be there before it is tried again what the transcript begins with; and so many were read in all.
 #[derive(Drop)]
 pub(crate) struct Trial {
     pub(crate) run: Option<Replay>,
     pub(crate) held: Vec<u8>,
     enough: usize,
+    len: u64,
 }
 
 // Takes so many bytes away from the front.
@@ -77,49 +81,36 @@ pub(crate) fn judge_text(alloc: Global, text: &[u8]) -> Result<Summary, JudgeFau
 }
 
 // Judges the parts that are whole, and drops their bytes.
-fn judge_parts(alloc: Global, run: Replay, held: Vec<u8>) -> Result<Trial, JudgeFault>
-    requires at { IsSomewhere run held.items }
-    requires compared { IsCompared run held.items }
-    ensures on { IfOk result (λ trial. (read : List ℕ) → IsAt read run held.items → IsRead read trial) }
-    ensures fault { IfErr result (λ fault. (read more : List ℕ) → IsAt read run held.items → IsJudged (read ++ more) (Err fault)) }
+fn judge_parts(alloc: Global, run: &mut Replay, held: &mut Vec<u8>) -> Result<(), JudgeFault>
+    requires at { IsSomewhere run.old held.old.items }
+    requires compared { IsCompared run.old held.old.items }
+    ensures on { OnOk result ((read : List ℕ) → IsAt read run.old held.old.items → IsReadOf read (Some run.new) held.new.items) }
+    ensures fault { IfErr result (λ fault. (read more : List ℕ) → IsAt read run.old held.old.items → IsJudged (read ++ more) (Err fault)) }
 {
-    let mut run = run;
-    let mut held = held;
-    let left = match run.pass_parts(alloc, &held) {
+    let left = match run.pass_parts(alloc, held) {
         Ok(rest) => rest.len(),
         Err(fault) => return Err(fault),
     };
     let judged = held.len() - left;
-    drop_front(&mut held, judged);
-    Ok(Trial {
-        run: Some(run),
-        held,
-        enough: 0,
-    })
+    drop_front(held, judged);
+    Ok(())
 }
 
 // Reads what the transcript begins with, if that is whole, and judges the parts behind it.
-fn begin(alloc: Global, held: Vec<u8>) -> Result<Trial, JudgeFault>
-    requires { length held.items < 2 ^ 63 }
-    ensures on { IfOk result (IsRead held.items) }
-    ensures fault { IfErr result (λ fault. (more : List ℕ) → IsJudged (held.items ++ more) (Err fault)) }
+fn begin(alloc: Global, held: &mut Vec<u8>) -> Result<Option<Replay>, JudgeFault>
+    requires { length held.old.items < 2 ^ 63 }
+    ensures on { IfOk result (λ run. IsReadOf held.old.items run held.new.items) }
+    ensures fault { IfErr result (λ fault. (more : List ℕ) → IsJudged (held.old.items ++ more) (Err fault)) }
 {
-    let mut held = held;
-    let (run, left) = match Replay::open(alloc, &held) {
+    let (mut run, left) = match Replay::open(alloc, held) {
         Ok(Some((run, rest))) => (run, rest.len()),
-        Ok(None) => {
-            let enough = held.len() * 2;
-            return Ok(Trial {
-                run: None,
-                held,
-                enough,
-            });
-        }
+        Ok(None) => return Ok(None),
         Err(fault) => return Err(fault),
     };
     let opening = held.len() - left;
-    drop_front(&mut held, opening);
-    judge_parts(alloc, run, held)
+    drop_front(held, opening);
+    judge_parts(alloc, &mut run, held)?;
+    Ok(Some(run))
 }
 
 impl Trial {
@@ -131,33 +122,47 @@ impl Trial {
             run: None,
             held: Vec::new(alloc),
             enough: 0,
+            len: 0,
         }
     }
 
-    /// Judges the lines that end in a piece, which comes behind what was read. What is wrong is so whatever comes behind it.
-    pub(crate) fn take(self, alloc: Global, piece: &[u8]) -> Result<Trial, JudgeFault>
-        requires { (read : List ℕ) × (length read + length piece.now < 2 ^ 63) × IsRead read self }
-        ensures on { IfOk result (λ trial. (read : List ℕ) → IsRead read self → IsRead (read ++ piece.now) trial) }
-        ensures fault { IfErr result (λ fault. (read more : List ℕ) → IsRead read self → IsJudged (read ++ piece.now ++ more) (Err fault)) }
+    // Reads what the transcript begins with; where that is not whole, it is tried again once there is twice as much.
+    fn begin(&mut self, alloc: Global) -> Result<(), JudgeFault>
+        requires few { length self.old.held.items < 2 ^ 63 }
+        ensures on { OnOk result (IsReadOf self.old.held.items self.new.run self.new.held.items) }
+        ensures len { self.new.len ≡ self.old.len }
+        ensures fault { IfErr result (λ fault. (more : List ℕ) → IsJudged (self.old.held.items ++ more) (Err fault)) }
     {
-        let Trial {
-            run,
-            mut held,
-            enough,
-        } = self;
-        held.extend_from_slice(piece)?;
-        if split_line(piece).is_none() || held.len() < enough {
-            return Ok(Trial { run, held, enough });
+        self.run = begin(alloc, &mut self.held)?;
+        self.enough = self.held.len() * 2;
+        Ok(())
+    }
+
+    /// Judges the lines that end in a piece, which comes behind what was read. What is wrong is so whatever comes behind it.
+    pub(crate) fn take(&mut self, alloc: Global, piece: &[u8]) -> Result<(), JudgeFault>
+        requires { IsUnderway self.old }
+        ensures on { OnOk result ((read : List ℕ) → IsRead read self.old → IsRead (read ++ piece.now) self.new) }
+        ensures few { self.new.len < 2 ^ 63 }
+        ensures fault { IfErr result (λ fault. (read more : List ℕ) → IsRead read self.old → IsJudged (read ++ piece.now ++ more) (Err fault)) }
+    {
+        let len = piece.len() as u64;
+        if len > MOST_BYTES - self.len {
+            return Err(JudgeFault::Memory);
         }
-        match run {
-            Some(run) => judge_parts(alloc, run, held),
-            None => begin(alloc, held),
+        self.len += len;
+        self.held.extend_from_slice(piece)?;
+        if split_line(piece).is_none() || self.held.len() < self.enough {
+            return Ok(());
         }
+        let Some(run) = &mut self.run else {
+            return self.begin(alloc);
+        };
+        judge_parts(alloc, run, &mut self.held)
     }
 
     /// Judges what is left, where nothing comes behind what was read.
     pub(crate) fn finish(self, alloc: Global) -> Result<Summary, JudgeFault>
-        requires { (read : List ℕ) × (length read < 2 ^ 63) × IsRead read self }
+        requires { IsUnderway self }
         ensures { (read : List ℕ) → IsRead read self → IsJudged read result }
     {
         let Trial { run, held, .. } = self;

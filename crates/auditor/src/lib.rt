@@ -26,6 +26,7 @@ mod fault;
 mod judging;
 mod laws;
 mod lines;
+mod pieces;
 mod reach;
 mod replay;
 mod summary;
@@ -38,6 +39,7 @@ pub use fault::AuditFault;
 pub use laws::{
     one_count, one_damage, one_run, transcript_has_no_damage, undamaged_is_a_transcript,
 };
+pub use pieces::PieceAudit;
 pub use reach::{Reached, ReplayFault, state_after};
 pub use summary::Summary;
 pub use transcript::{audit, audit_bytes};

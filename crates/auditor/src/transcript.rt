@@ -9,8 +9,8 @@ ghost use Rattle.auditor.specs.Accepted.{IsAccepted};
 ghost use Rattle.auditor.specs.Damage.{IsDamage};
 ghost use Rattle.auditor.specs.Verdict.{IsHeard, IsJudged, IsFault, AcceptsRuns, NamesDamage, told};
 
-use crate::judging::{Trial, judge_text};
-use crate::{AuditFault, JudgeFault, Summary};
+use crate::judging::judge_text;
+use crate::{AuditFault, JudgeFault, PieceAudit, Summary};
 use std::alloc::{AllocError, Global};
 use std::io::Read;
 
@@ -55,18 +55,17 @@ fn judge_read<In: Read>(alloc: Global, reader: &mut In) -> Result<Summary, Audit
     let Ok(mut chunk) = chunk_of(alloc) else {
         return Err(AuditFault::Memory);
     };
-    let mut trial = Trial::new(alloc);
+    let mut audit = PieceAudit::new(alloc);
     for _ in 0..u32::MAX {
         let Ok(len) = reader.read(&mut chunk) else {
             return Err(AuditFault::Read);
         };
         if len == 0 {
-            return tell(trial.finish(alloc));
+            return tell(audit.finish(alloc));
         }
-        trial = match trial.take(alloc, &chunk[..len]) {
-            Ok(trial) => trial,
-            Err(fault) => return tell(Err(fault)),
-        };
+        if let Err(fault) = audit.feed(alloc, &chunk[..len]) {
+            return tell(Err(fault));
+        }
     }
     Err(AuditFault::Read)
 }

@@ -3,11 +3,12 @@ use Rattle.auditor.proofs.Going.{begun_at, compared_none, first_judged}
 use Rattle.auditor.proofs.judging.judge_text.Goals as goal
 
 pub judge_whole-requires-clause-at : goal.judge_whole-requires-clause-at
-judge_whole-requires-clause-at c = record {
-  bytes = c.args.text.now;
-  few = omega arith;
-  at = begun_at c.args.text.now c.in-Ok.replay c.in-Ok.rest.now c.in-Ok.ensures.begins;
-}
+judge_whole-requires-clause-at c =
+    ∣ record {
+      bytes = c.args.text.now;
+      few = omega arith;
+      at = begun_at c.args.text.now c.in-Ok.replay c.in-Ok.rest.now c.in-Ok.ensures.begins;
+    } ∣₁
 
 pub judge_whole-requires-clause-compared : goal.judge_whole-requires-clause-compared
 judge_whole-requires-clause-compared c =

@@ -1,25 +1,13 @@
 use Rattle.std.proofs.Common.{◌≡◌, ◌∙◌, ◌<◌, ◌++◌, ℕ, List, [], Option, None, Some, IfSome, Err, inl, inr, length, take, refl, sym, arith}
 use Rattle.std.proofs.KnownBytes.{Consumes-nil, Consumes-whole}
-use Rattle.std.proofs.lemmas.List.{length-append}
 use Rattle.auditor.specs.Verdict.{IsHeard}
 use Rattle.auditor.specs.declared.fault.AuditFault.TheVariants.{Read}
 use Rattle.byte_streams.specs.declared.input_fault.InputFault.TheVariants as input
-use Rattle.auditor.proofs.Reading.{consumed_more, consumed_none, of_consumed, piece_few, refilled}
+use Rattle.auditor.proofs.Reading.{consumed_more, consumed_none, of_consumed, refilled}
 use Rattle.auditor.proofs.transcript.judge_read.Goals as goal
 
 pub loop-init : goal.loop-init
-loop-init g c = record {
-  read = [];
-  consumed = Consumes-nil (g.In.Read.remaining c.args.reader.now);
-  few = omega arith;
-  is = c.new-trial.ensures;
-  room = c.in-Ok.ensures;
-}
-
-pub finish-requires : goal.finish-requires
-finish-requires g c =
-    let i = c.loop.invariant in
-    (i.read, omega (arith, i.few, c.loop-test.true, c.loop.auto.counter-end), i.is)
+loop-init g c = record { read = []; consumed = Consumes-nil (g.In.Read.remaining c.args.reader.now); is = c.new-audit.ensures.fed; room = c.in-Ok.ensures }
 
 pub returns-then-len-eq0-clause-heard : goal.returns-then-len-eq0-clause-heard
 returns-then-len-eq0-clause-heard g c =
@@ -28,15 +16,7 @@ returns-then-len-eq0-clause-heard g c =
     let consumed = consumed_none (left c.args.reader.now) (left c.loop.reader) (left c.read.new.self) i.read c.read.new.buf c.in-Ok-read.len i.consumed c.if-len-eq0.true c.in-Ok-read.ensures.bytes.0 in
     let room : 0 < length c.read.new.buf = grind arith in
     Consumes-whole (left c.args.reader.now) (left c.read.new.self) i.read (λ bytes. IsHeard bytes c.tell.result) consumed (c.in-Ok-read.ensures.bytes.1 c.if-len-eq0.true room)
-    (inl (c.finish.result, c.finish.ensures i.read i.is, c.tell.ensures))
-
-pub take-requires : goal.take-requires
-take-requires g c =
-    let i = c.loop.invariant in
-    let full : length c.deref.result.now ≡ 65536 = grind arith in
-    let all = piece_few i.read c.deref.result.now c.in-Ok-read.len c.loop.counter i.few full in
-    let both = length-append i.read (take c.in-Ok-read.len c.deref.result.now) in
-    (i.read, omega (arith, all, both, c.loop-test.true, c.loop.auto.counter-end), i.is)
+    (inl (c.finish.result, c.finish.ensures.judged i.read i.is, c.tell.ensures))
 
 pub returns-in-Err-clause-heard : goal.returns-in-Err-clause-heard
 returns-in-Err-clause-heard g c =
@@ -55,13 +35,11 @@ loop-preserved g c =
     let piece = c.deref.result.now in
     let len = c.in-Ok-read.len in
     let full : length c.read.new.buf ≡ c.loop.chunk.len = grind arith in
-    let all : length piece ≡ 65536 = grind arith in
     let same : c.read.new.buf ≡ piece = sym (refilled c.loop.chunk.len c.read.new.buf c.loop.chunk.items full) ∙ sym c.deref.ensures.value in
     record {
       read = i.read ++ take len piece;
       consumed = consumed_more (left c.args.reader.now) (left c.loop.reader) (left c.read.new.self) i.read c.read.new.buf piece len i.consumed same c.in-Ok-read.ensures.bytes.0;
-      few = piece_few i.read piece len c.loop.counter i.few all;
-      is = c.in-Ok-take.ensures.on i.read i.is;
+      is = c.feed.ensures.fed i.read i.is;
       room = grind arith;
     }
 

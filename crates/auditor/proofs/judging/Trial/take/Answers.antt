@@ -1,38 +1,40 @@
-use Rattle.std.proofs.Common.{◌++◌, ℕ, List, sym, subst, arith}
+use Rattle.std.proofs.Common.{◌<◌, ◌+◌, ◌^◌, ◌∙◌, ◌++◌, ℕ, length, sym, ap, subst, arith}
 use Rattle.std.proofs.lemmas.List.{length-append}
-use Rattle.auditor.specs.Replays.{IsAt, IsRead, IsReadOf}
-use Rattle.auditor.proofs.Reading.{for_err, for_ok, held_some, read_more}
+use Rattle.auditor.specs.Replays.{IsReadOf}
+use Rattle.auditor.proofs.Reading.{for_err, for_on, grown_compared, grown_somewhere, held_some, read_more}
 use Rattle.auditor.proofs.judging.Trial.take.Goals as goal
 
 pub returns-then-is_none-clause-on : goal.returns-then-is_none-clause-on
 returns-then-is_none-clause-on c read is =
-    let piece = c.args.piece.now in
-    subst (IsReadOf (read ++ piece) c.args.self.run) (sym c.in_ok-extend_from_slice.ensures.items) (read_more read piece c.args.self.run c.args.self.held.items is)
+    let old = c.args.self.now in
+    let piece = c.args.piece.now in (
+      length-append read piece ∙ ap (λ (n : ℕ). n + length piece) is.0,
+      subst (IsReadOf (read ++ piece) old.run) (sym c.in_ok-extend_from_slice.ensures.items) (read_more read piece old.run old.held.items is.1),
+    )
 
 pub judge_parts-requires-clause-at : goal.judge_parts-requires-clause-at
 judge_parts-requires-clause-at c =
+    let old = c.args.self.now in
     let piece = c.args.piece.now in
-    let read = c.requires.0 in
-    record {
-      bytes = read ++ piece;
-      few = omega (arith, c.requires.1, length-append read piece);
-      at = (held_some read piece c.args.self.run c.in-Some.run' c.args.self.held.items c.extend_from_slice.new.self.items c.in-Some.is c.in_ok-extend_from_slice.ensures.items c.requires.2).0;
-    }
+    let room : old.len + length piece < 2 ^ 63 = omega (arith, c.if-len-self.false, c.requires.0) in
+    grown_somewhere old piece c.in-Some.run' c.extend_from_slice.new.self.items c.in-Some.is c.in_ok-extend_from_slice.ensures.items room c.requires
 
 pub judge_parts-requires-clause-compared : goal.judge_parts-requires-clause-compared
 judge_parts-requires-clause-compared c =
-    (held_some c.requires.0 c.args.piece.now c.args.self.run c.in-Some.run' c.args.self.held.items c.extend_from_slice.new.self.items c.in-Some.is c.in_ok-extend_from_slice.ensures.items c.requires.2).1
+    grown_compared c.args.self.now c.args.piece.now c.in-Some.run' c.extend_from_slice.new.self.items c.in-Some.is c.in_ok-extend_from_slice.ensures.items c.requires
 
-pub returns-in-Some-clause-on : goal.returns-in-Some-clause-on
-returns-in-Some-clause-on c =
+pub returns-clause-on : goal.returns-clause-on
+returns-clause-on c =
+    let old = c.args.self.now in
     let piece = c.args.piece.now in
-    let at : (read : List ℕ) → IsRead read c.args.self → IsAt (read ++ piece) c.in-Some.run' c.extend_from_slice.new.self.items = λ read is.
-    (held_some read piece c.args.self.run c.in-Some.run' c.args.self.held.items c.extend_from_slice.new.self.items c.in-Some.is c.in_ok-extend_from_slice.ensures.items is).0 in
-    for_ok c.judge_parts.result _ _ c.judge_parts.ensures.on (λ trial on read is. on (read ++ piece) (at read is))
+    for_on c.judge_parts.result _ _ c.judge_parts.ensures.on (λ on read is. (
+      length-append read piece ∙ ap (λ (n : ℕ). n + length piece) is.0,
+      on (read ++ piece) (held_some read piece old.run c.in-Some.run' old.held.items c.extend_from_slice.new.self.items c.in-Some.is c.in_ok-extend_from_slice.ensures.items is.1).0,
+    ))
 
-pub returns-in-Some-clause-fault : goal.returns-in-Some-clause-fault
-returns-in-Some-clause-fault c =
+pub returns-clause-fault : goal.returns-clause-fault
+returns-clause-fault c =
+    let old = c.args.self.now in
     let piece = c.args.piece.now in
-    let at : (read : List ℕ) → IsRead read c.args.self → IsAt (read ++ piece) c.in-Some.run' c.extend_from_slice.new.self.items = λ read is.
-    (held_some read piece c.args.self.run c.in-Some.run' c.args.self.held.items c.extend_from_slice.new.self.items c.in-Some.is c.in_ok-extend_from_slice.ensures.items is).0 in
-    for_err c.judge_parts.result _ _ c.judge_parts.ensures.fault (λ fault judged read more is. judged (read ++ piece) more (at read is))
+    for_err c.judge_parts.result _ _ c.judge_parts.ensures.fault (λ fault judged read more is.
+    judged (read ++ piece) more (held_some read piece old.run c.in-Some.run' old.held.items c.extend_from_slice.new.self.items c.in-Some.is c.in_ok-extend_from_slice.ensures.items is.1).0)

@@ -1,6 +1,14 @@
 use Rattle.std.proofs.Common.{[], append-nil, subst, sym}
 use Rattle.auditor.specs.Replays.{IsAt}
+use Rattle.auditor.proofs.Going.{waited_somewhere}
+use Rattle.auditor.proofs.Reading.{waits_none}
 use Rattle.auditor.proofs.replay.Replay.advance_whole.Goals as goal
+
+pub cut_off-requires-clause-at : goal.cut_off-requires-clause-at
+cut_off-requires-clause-at c =
+    let new = c.advance.new.self in
+    let rest = c.args.rest.now in
+    waited_somewhere c.args.self.now new rest c.requires.at (waits_none (λ b. b.now) c.in-Ok-None.field-0 c.args.self.now new rest c.in-Ok-None.ensures.ahead c.in-Ok-None.field-0-is)
 
 pub returns-in-Err-clause-fault : goal.returns-in-Err-clause-fault
 returns-in-Err-clause-fault c bytes at =

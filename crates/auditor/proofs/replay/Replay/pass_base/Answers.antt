@@ -1,5 +1,7 @@
-use Rattle.std.proofs.Common.{◌≡◌, ◌+◌, ◌-◌, ◌∙◌, ℕ, List, length, take, drop, refl, sym, ap, subst, arith}
+use Rattle.std.proofs.Common.{◌≡◌, ◌≤◌, ◌+◌, ◌-◌, ◌∙◌, ℕ, List, length, take, drop, refl, sym, ap, subst, arith}
 use Rattle.std.proofs.lemmas.List.{length-drop, take_all}
+use Rattle.std.proofs.Math.Logic.{∥∥₁_elim}
+use Rattle.std.proofs.Props.{props}
 use Rattle.auditor.specs.Damage.{line_feeds}
 use Rattle.auditor.specs.Parted.{AreSameUpTo, ArePartedAt}
 use Rattle.auditor.specs.Replays.{IsPassed}
@@ -35,12 +37,13 @@ returns-then-same-len-clause-ahead c =
     let wanted = c.want_base.new.self.wanted.items in
     let rest = c.args.rest.now in
     let same = c.common_len-same.result in
+    let few : old.audit.number ≤ 16777216 = ∥∥₁_elim c.requires.at (search props) (λ at. at.at.reached.follows.transcript.not_too_many) in
     let feeds : c.line_feeds.result ≡ line_feeds wanted = c.line_feeds.ensures ∙ ap line_feeds c.deref-then-same-len.ensures.value in
     let lines : c.want_base.new.self.lines + c.line_feeds.result ≡ old.lines + line_feeds wanted = ap (λ (n : ℕ). n + c.line_feeds.result) wants.lines ∙ ap (λ (n : ℕ). old.lines + n) feeds in
     let alike = subst (λ (l : List ℕ). AreSameUpTo l rest same) c.deref.ensures.value c.common_len-same.ensures.same in
     let behind : drop same rest ≡ take (length rest - same) (drop same rest) = sym (take_all (length rest - same) (drop same rest) (omega (arith, length-drop same rest))) in
     subst (IsPassed old _ rest) behind
-    (base_passed old _ wanted rest same c.requires.at.at.reached.follows.transcript.not_too_many wants.rules wants.size wants.audit lines c.clear.ensures.items refl wants.text alike (omega (arith, c.if-same-len.true, c.len.ensures, c.deref.ensures.len, ap length c.deref.ensures.value)))
+    (base_passed old _ wanted rest same few wants.rules wants.size wants.audit lines c.clear.ensures.items refl wants.text alike (omega (arith, c.if-same-len.true, c.len.ensures, c.deref.ensures.len, ap length c.deref.ensures.value)))
 
 pub returns-then-same-rest-clause-ahead : goal.returns-then-same-rest-clause-ahead
 returns-then-same-rest-clause-ahead c =

@@ -1,0 +1,68 @@
+//! The audit of a transcript that comes piece by piece.
+
+ghost use Rattle.std.specs.Prelude.{◌≡◌, ◌<◌, ◌^◌, ◌++◌, ℕ, List, [], Err, IfErr, None, Some};
+ghost use Rattle.auditor.specs.declared.damage.JudgeFault.{JudgeFault as Fault};
+ghost use Rattle.auditor.specs.Replays.{IsTried};
+ghost use Rattle.auditor.specs.Verdict.{IsJudged, JudgesDamage, JudgesRuns, found_by};
+
+use crate::judging::Trial;
+use crate::{JudgeFault, Summary};
+use std::alloc::Global;
+
+/// An audit that is fed a transcript in pieces, cut anywhere. It keeps of the text what is not whole yet, a line or a base. Once
+/// something is wrong, it is so whatever is fed, and each further call answers the same.
+#[derive(Drop)]
+pub struct PieceAudit {
+    trial: Trial,
+    fault: Option<JudgeFault>,
+    ghost few: { trial.len < 2 ^ 63 },
+    ghost some: { ∥ ((bytes : List ℕ) × IsTried bytes trial fault) ∥₁ },
+}
+
+impl PieceAudit {
+    ghost use Rattle.auditor.specs.Fed.{IsFed};
+
+    /// An audit that was fed nothing.
+    pub fn new(alloc: Global) -> PieceAudit
+        ensures fed { IsFed [] result }
+        ensures well { result.fault ≡ None }
+    {
+        PieceAudit {
+            trial: Trial::new(alloc),
+            fault: None,
+        }
+    }
+
+    /// Feeds it the bytes that come next, and judges what is whole now. An `Err` holds whatever may come behind them: the damage
+    /// is that of every text that begins so. `Memory` if memory runs out, or where more than 2^63 - 1 bytes were fed. What was
+    /// answered once as an `Err`, each later call answers. Costs what `audit_bytes` costs of the lines that end in the piece.
+    pub fn feed(&mut self, alloc: Global, piece: &[u8]) -> Result<(), JudgeFault>
+        ensures fed { (bytes : List ℕ) → IsFed bytes self.old → IsFed (bytes ++ piece.now) self.new }
+        ensures fault { IfErr result (λ fault. (bytes more : List ℕ) → IsFed bytes self.old → IsJudged (bytes ++ piece.now ++ more) (Err fault)) }
+        ensures told { result ≡ found_by self.new.fault }
+        ensures for_good { (fault : Fault) → self.old.fault ≡ Some fault → self.new.fault ≡ Some fault }
+    {
+        if let Some(fault) = self.fault {
+            return Err(fault);
+        }
+        match self.trial.take(alloc, piece) {
+            Ok(()) => Ok(()),
+            Err(fault) => {
+                self.fault = Some(fault);
+                Err(fault)
+            }
+        }
+    }
+
+    /// Judges what it was fed as a whole text, as `audit_bytes` does.
+    pub fn finish(self, alloc: Global) -> Result<Summary, JudgeFault>
+        ensures judged { (bytes : List ℕ) → IsFed bytes self → IsJudged bytes result }
+        ensures accepts_runs { (bytes : List ℕ) → IsFed bytes self → JudgesRuns bytes result }
+        ensures names_damage { (bytes : List ℕ) → IsFed bytes self → JudgesDamage bytes result }
+    {
+        match self.fault {
+            Some(fault) => Err(fault),
+            None => self.trial.finish(alloc),
+        }
+    }
+}
