@@ -6,11 +6,12 @@
 //! one damage at most: laws of their own. It stands on the definitions and on no guard of the engine, so it judges transcripts that other
 //! programs wrote, too.
 //!
+//! `PieceAudit` is an audit that is fed its text in pieces, cut anywhere, by whoever has them; `audit` reads them itself.
 //! `state_after` gives the state behind an entry; `epochs_of` the moves that came after each disturbance, beside their bound, and what it
 //! cost, as the judge tells it before the entry is carried out.
 //!
 //! ```rust
-//! match audit(alloc, &mut reader) {
+//! match audit(alloc, &mut Reads::new(stdin)) {
 //!     Ok(summary) => ..,                                            // entries, epochs, moves
 //!     Err(AuditFault::NotTheMachines { line }) => ..,
 //!     Err(_) => ..,

@@ -1,45 +1,36 @@
 //! The audit of a transcript.
 
-ghost use Rattle.std.specs.Prelude.{◌≡◌, ◌⊎◌, Ok, Err, IfOk, IfErr, IfSome, OnOk, length};
+ghost use Rattle.std.specs.Prelude.{◌≡◌, IfOk, IfErr, IfSome, IsErrOf, OnOk};
 ghost use Rattle.std.specs.Io.KnownBytes.{IsAtEnd};
-ghost use Rattle.auditor.specs.declared.damage.Damage.{Damage};
-ghost use Rattle.auditor.specs.declared.damage.JudgeFault.TheVariants.{Damaged, Memory};
-ghost use Rattle.auditor.specs.declared.summary.Summary.{Summary};
+ghost use Rattle.byte_streams.specs.Ended.{IsEnded};
+ghost use Rattle.auditor.specs.declared.fault.AuditFault.TheVariants.{Read as Unread};
 ghost use Rattle.auditor.specs.Accepted.{IsAccepted};
-ghost use Rattle.auditor.specs.Damage.{IsDamage};
-ghost use Rattle.auditor.specs.Verdict.{IsHeard, IsJudged, IsFault, AcceptsRuns, NamesDamage, told};
+ghost use Rattle.auditor.specs.Verdict.{IsHeard, IsJudged, IsFault, AcceptsRuns, JudgesDamage, JudgesRuns, NamesDamage, told};
 
 use crate::judging::judge_text;
 use crate::{AuditFault, JudgeFault, PieceAudit, Summary};
-use std::alloc::{AllocError, Global};
+use byte_streams::{Reads, chunk_of};
+use std::alloc::Global;
 use std::io::Read;
-
-/// How many bytes a read asks for.
-const CHUNK: usize = 65_536;
 
 /// Reads a transcript to its end and judges it, as `audit_bytes` does, line by line as they come: it keeps no more of the text than
 /// a line, or a base, that is not whole yet, and what one read gives. A refusal comes at once, and the reader is not read further.
-/// `Read` at the first error of the reader, and after 4,294,967,295 reads.
-pub fn audit<In: Read>(alloc: Global, reader: &mut In) -> Result<Summary, AuditFault>
-    ensures accepted { IfSome (In.remaining reader.old) (λ bytes. IfOk result (IsAccepted bytes)) }
-    ensures damage { IfSome (In.remaining reader.old) (λ bytes. IfErr result (IsFault bytes)) }
-    ensures accepts_runs { IfSome (In.remaining reader.old) (λ bytes. AcceptsRuns bytes result) }
-    ensures names_damage { IfSome (In.remaining reader.old) (λ bytes. NamesDamage bytes result) }
-    ensures end { OnOk result (IsAtEnd (In.remaining reader.new)) }
+/// `Read` only where a read of the reader failed, or 4,294,967,295 were made.
+pub fn audit<In: Read>(alloc: Global, reader: &mut Reads<In>) -> Result<Summary, AuditFault>
+    ensures accepted { IfSome (In.remaining reader.old.reader) (λ bytes. IfOk result (IsAccepted bytes)) }
+    ensures damage { IfSome (In.remaining reader.old.reader) (λ bytes. IfErr result (IsFault bytes)) }
+    ensures accepts_runs { IfSome (In.remaining reader.old.reader) (λ bytes. AcceptsRuns bytes result) }
+    ensures names_damage { IfSome (In.remaining reader.old.reader) (λ bytes. NamesDamage bytes result) }
+    ensures end { OnOk result (IsAtEnd (In.remaining reader.new.reader)) }
+    ensures unread { IsErrOf result Unread → IsEnded reader.new.failed reader.new.count }
 {
     judge_read(alloc, reader)
 }
 
-// Room for what one read gives.
-fn chunk_of(alloc: Global) -> Result<Vec<u8>, AllocError>
-    ensures { IfOk result (λ chunk. length chunk.items ≡ 65536) }
-{
-    Vec::from_elem(alloc, 0, CHUNK)
-}
-
 // What was judged, as an audit tells it.
 fn tell(judged: Result<Summary, JudgeFault>) -> Result<Summary, AuditFault>
-    ensures { result ≡ told judged }
+    ensures told { result ≡ told judged }
+    ensures read { IsErrOf result Unread → ⊥ }
 {
     match judged {
         Ok(counted) => Ok(counted),
@@ -48,15 +39,16 @@ fn tell(judged: Result<Summary, JudgeFault>) -> Result<Summary, AuditFault>
 }
 
 // Reads to the end, and judges the lines as they come.
-fn judge_read<In: Read>(alloc: Global, reader: &mut In) -> Result<Summary, AuditFault>
-    ensures heard { IfSome (In.remaining reader.old) (λ bytes. IsHeard bytes result) }
-    ensures end { OnOk result (IsAtEnd (In.remaining reader.new)) }
+fn judge_read<In: Read>(alloc: Global, reader: &mut Reads<In>) -> Result<Summary, AuditFault>
+    ensures heard { IfSome (In.remaining reader.old.reader) (λ bytes. IsHeard bytes result) }
+    ensures end { OnOk result (IsAtEnd (In.remaining reader.new.reader)) }
+    ensures unread { IsErrOf result Unread → IsEnded reader.new.failed reader.new.count }
 {
     let Ok(mut chunk) = chunk_of(alloc) else {
         return Err(AuditFault::Memory);
     };
     let mut audit = PieceAudit::new(alloc);
-    for _ in 0..u32::MAX {
+    loop {
         let Ok(len) = reader.read(&mut chunk) else {
             return Err(AuditFault::Read);
         };
@@ -67,7 +59,6 @@ fn judge_read<In: Read>(alloc: Global, reader: &mut In) -> Result<Summary, Audit
             return tell(Err(fault));
         }
     }
-    Err(AuditFault::Read)
 }
 
 /// Judges the bytes of a transcript: accepts exactly those that are the text of a run of the rule machine, whatever
@@ -79,8 +70,8 @@ fn judge_read<In: Read>(alloc: Global, reader: &mut In) -> Result<Summary, Audit
 /// look at all names and edges and the memory of its text.
 pub fn audit_bytes(alloc: Global, bytes: &[u8]) -> Result<Summary, JudgeFault>
     ensures judged { IsJudged bytes.now result }
-    ensures accepts_runs { (counted : Summary) → IsAccepted bytes.now counted → (result ≡ Ok counted) ⊎ (result ≡ Err Memory) }
-    ensures names_damage { (damage : Damage) → IsDamage bytes.now damage → (result ≡ Err (Damaged damage)) ⊎ (result ≡ Err Memory) }
+    ensures accepts_runs { JudgesRuns bytes.now result }
+    ensures names_damage { JudgesDamage bytes.now result }
 {
     judge_text(alloc, bytes)
 }

@@ -1,21 +1,11 @@
 //! A reader, read to its end.
 
-ghost use Rattle.std.specs.Prelude.{◌≡◌, length, OnOk, IfOk};
+ghost use Rattle.std.specs.Prelude.{OnOk, IfOk};
 ghost use Rattle.std.specs.Io.KnownBytes.{Consumes, IsAtEnd};
 
-use crate::InputFault;
-use std::alloc::{AllocError, Global};
+use crate::{InputFault, chunk_of};
+use std::alloc::Global;
 use std::io::Read;
-
-/// How many bytes a read asks for.
-const CHUNK: usize = 65_536;
-
-// A buffer of so many bytes.
-fn buffer(alloc: Global, len: usize) -> Result<Vec<u8>, AllocError>
-    ensures { IfOk result (λ buffer. length buffer.items ≡ len) }
-{
-    Vec::from_elem(alloc, 0, len)
-}
 
 /// All that the reader has left. `Read` at the first error of a read, which is not tried again, and after
 /// 4,294,967,295 reads; `Memory` if memory runs out.
@@ -24,7 +14,7 @@ pub fn read_whole<In: Read>(alloc: Global, reader: &mut In) -> Result<Vec<u8>, I
     ensures end { OnOk result (IsAtEnd (In.remaining reader.new)) }
 {
     let mut bytes = Vec::new(alloc);
-    let mut chunk = buffer(alloc, CHUNK)?;
+    let mut chunk = chunk_of(alloc)?;
     for _ in 0..u32::MAX {
         let Ok(len) = reader.read(&mut chunk) else {
             return Err(InputFault::Read);

@@ -16,7 +16,7 @@ use crate::once::write_text;
 use crate::options::network_options;
 use crate::verdict::check;
 use crate::viewing::{draw, list_epochs};
-use byte_streams::finish;
+use byte_streams::{Reads, finish};
 use clap::Error;
 use clap::error::ErrorKind;
 use command_words::{Task, read_words};
@@ -105,7 +105,7 @@ fn run_script<In: Read, Out: Write, Faults: Write, T: Threads + Wait + Sync>(
         (Out.contents writer.old) (Out.contents writer.new) (Faults.contents faults.old) (Faults.contents faults.new) result) }
     ensures status { IsRunStatus result }
 {
-    match run(rt, alloc, reader, writer, options) {
+    match run(rt, alloc, &mut Reads::new(reader), writer, options) {
         Ok(()) => 0,
         Err(fault) => tell(fault, faults),
     }

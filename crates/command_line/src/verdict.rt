@@ -5,7 +5,7 @@ ghost use Rattle.command_line.specs.Checked.{IsVerdict, TellsVerdict, verdict_of
 
 use crate::verdict_line::verdict_line;
 use auditor::{AuditFault, Summary, audit};
-use byte_streams::finish;
+use byte_streams::{Reads, finish};
 use script_run::RunFault;
 use std::alloc::Global;
 use std::io::{Read, Write};
@@ -71,7 +71,7 @@ pub fn check<In: Read, Out: Write>(
     ensures verdict { IfSome (In.remaining reader.old) (λ bytes. IfOk result (IsVerdict bytes)) }
     ensures told { TellsVerdict (Out.contents writer.old) (Out.contents writer.new) result }
 {
-    match verdict_of(audit(alloc, reader)) {
+    match verdict_of(audit(alloc, &mut Reads::new(reader))) {
         Ok(end) => tell_verdict(alloc, end, writer),
         Err(fault) => Err(fault),
     }

@@ -9,7 +9,7 @@
 //!
 //! ```rust
 //! let Some(options) = Options::new(RuleSet::Hh, 2) else { return Err(..) };
-//! run(rt, alloc, &mut stdin, &mut stdout, &options.with_workers(4))?;      // `RunFault`
+//! run(rt, alloc, &mut Reads::new(stdin), &mut stdout, &options.with_workers(4))?;      // `RunFault`
 //! ```
 #![tactic(auto)]
 

@@ -5,19 +5,20 @@ ghost use Rattle.std.specs.Io.KnownBytes.{Appends, IsAtEnd};
 ghost use Rattle.script_text.specs.Command.{Says};
 ghost use Rattle.script_text.specs.Script.{Progress, lines_of};
 ghost use Rattle.byte_streams.specs.Beginning.{AppendsBeginning};
+ghost use Rattle.byte_streams.specs.Ended.{IsEnded};
 ghost use Rattle.script_run.specs.Halted.{Halts, Hands, answered};
 ghost use Rattle.line_run.specs.Beginning.{beginning};
 ghost use Rattle.line_run.specs.Line.{progress};
 ghost use Rattle.script_run.specs.Line.{CommandGrows, LineEnds};
-ghost use Rattle.script_run.specs.declared.stop.End.TheVariants.{Whole};
+ghost use Rattle.script_run.specs.declared.stop.End.TheVariants.{Whole, Unread};
 ghost use Rattle.script_run.specs.Outcome.{Ends, LeadsTo};
 
 use crate::Options;
 use crate::place::Place;
-use crate::reading::{chunk_of, read_on};
+use crate::reading::read_on;
 use crate::stop::End;
 use crate::writing::hand_over_all;
-use byte_streams::{OutputFault, finish};
+use byte_streams::{OutputFault, Reads, chunk_of, finish};
 use line_run::{Run as LineRun, Stop};
 use rule_machine::{Event, Want};
 use rule_set::Rules;
@@ -131,22 +132,23 @@ impl<R: Rules + Sync> Run<R> {
         &mut self,
         rt: &T,
         alloc: Global,
-        reader: &mut In,
+        reader: &mut Reads<In>,
         writer: &mut Out,
     ) -> Result<End, OutputFault>
-        ensures ok { IfOk result (λ end. IfSome (In.remaining reader.old) (λ script.
+        ensures ok { IfOk result (λ end. IfSome (In.remaining reader.old.reader) (λ script.
             Halts R.table self.old.line.recorder.limit (lines_of script) (progress self.old.line.rules self.old.line.recorder self.old.line.text.items) end
             (λ text. Hands (Out.contents writer.old) (Out.contents writer.new) text self.new.line.text.items))) }
-        ensures fault { OnErr result (IfSome (In.remaining reader.old) (λ script. (end : Progress)
+        ensures fault { OnErr result (IfSome (In.remaining reader.old.reader) (λ script. (end : Progress)
             × LeadsTo R.table self.old.line.recorder.limit (lines_of script) (progress self.old.line.rules self.old.line.recorder self.old.line.text.items) end
             × AppendsBeginning (Out.contents writer.old) (Out.contents writer.new) end.text)) }
-        ensures read { IfOk result (λ end. end ≡ Whole → IsAtEnd (In.remaining reader.new)) }
+        ensures read { IfOk result (λ end. end ≡ Whole → IsAtEnd (In.remaining reader.new.reader)) }
+        ensures unread { IfOk result (λ end. end ≡ Unread → IsEnded reader.new.failed reader.new.count) }
     {
         let Ok(mut chunk) = chunk_of(alloc) else {
             return Ok(End::Memory);
         };
         let mut place = Place::new(alloc);
-        for _ in 0..u32::MAX {
+        loop {
             hand_over_all(writer, &mut self.line.text)?;
             let Ok(len) = read_on(reader, &mut chunk, &self.line.text) else {
                 return Ok(End::Unread);
@@ -158,7 +160,6 @@ impl<R: Rules + Sync> Run<R> {
                 return Ok(end);
             }
         }
-        Ok(End::Unread)
     }
 }
 
@@ -166,13 +167,14 @@ impl<R: Rules + Sync> Run<R> {
 pub fn run_on<R: Rules + Sync, In: Read, Out: Write, T: Threads + Wait + Sync>(
     rt: &T,
     alloc: Global,
-    reader: &mut In,
+    reader: &mut Reads<In>,
     writer: &mut Out,
     options: &Options,
 ) -> Result<End, OutputFault>
-    ensures outcome { IfSome (In.remaining reader.old) (λ script. Ends R.table options.now.limit (lines_of script) (beginning options.now.rules options.now.nodes options.now.present) (answered result)
+    ensures outcome { IfSome (In.remaining reader.old.reader) (λ script. Ends R.table options.now.limit (lines_of script) (beginning options.now.rules options.now.nodes options.now.present) (answered result)
         (Appends (Out.contents writer.old) (Out.contents writer.new)) (AppendsBeginning (Out.contents writer.old) (Out.contents writer.new))) }
-    ensures read { IfOk result (λ end. end ≡ Whole → IsAtEnd (In.remaining reader.new)) }
+    ensures read { IfOk result (λ end. end ≡ Whole → IsAtEnd (In.remaining reader.new.reader)) }
+    ensures unread { IfOk result (λ end. end ≡ Unread → IsEnded reader.new.failed reader.new.count) }
 {
     let Ok(mut run) = Run::<R>::new(alloc, options) else {
         return Ok(End::Memory);

@@ -1,4 +1,4 @@
-use Rattle.std.proofs.Common.{◌≡◌, ◌∙◌, ◌<◌, ◌++◌, ℕ, List, [], Option, None, Some, IfSome, Err, inl, inr, length, take, refl, sym, arith}
+use Rattle.std.proofs.Common.{◌≡◌, ◌∙◌, ◌++◌, ℕ, List, [], Option, None, Some, IfSome, Err, inl, inr, length, take, refl, sym, arith}
 use Rattle.std.proofs.KnownBytes.{Consumes-nil, Consumes-whole}
 use Rattle.auditor.specs.Verdict.{IsHeard}
 use Rattle.auditor.specs.declared.fault.AuditFault.TheVariants.{Read}
@@ -6,39 +6,38 @@ use Rattle.byte_streams.specs.declared.input_fault.InputFault.TheVariants as inp
 use Rattle.auditor.proofs.Reading.{consumed_more, consumed_none, of_consumed, refilled}
 use Rattle.auditor.proofs.transcript.judge_read.Goals as goal
 
-pub loop-init : goal.loop-init
-loop-init g c = record { read = []; consumed = Consumes-nil (g.In.Read.remaining c.args.reader.now); is = c.new-audit.ensures.fed; room = c.in-Ok.ensures }
+pub loop-len-init : goal.loop-len-init
+loop-len-init g c = record { read = []; consumed = Consumes-nil (g.In.Read.remaining c.args.reader.now.reader); is = c.new-audit.ensures.fed; room = c.in-Ok.ensures }
 
 pub returns-then-len-eq0-clause-heard : goal.returns-then-len-eq0-clause-heard
 returns-then-len-eq0-clause-heard g c =
     let left = g.In.Read.remaining in
-    let i = c.loop.invariant in
-    let consumed = consumed_none (left c.args.reader.now) (left c.loop.reader) (left c.read.new.self) i.read c.read.new.buf c.in-Ok-read.len i.consumed c.if-len-eq0.true c.in-Ok-read.ensures.bytes.0 in
-    let room : 0 < length c.read.new.buf = grind arith in
-    Consumes-whole (left c.args.reader.now) (left c.read.new.self) i.read (λ bytes. IsHeard bytes c.tell.result) consumed (c.in-Ok-read.ensures.bytes.1 c.if-len-eq0.true room)
-    (inl (c.finish.result, c.finish.ensures.judged i.read i.is, c.tell.ensures))
+    let i = c.loop-len.invariant in
+    let consumed = consumed_none (left c.args.reader.now.reader) (left c.loop-len.reader.reader) (left c.read.new.self.reader) i.read c.read.new.buf c.in-Ok-read.len i.consumed c.if-len-eq0.true c.in-Ok-read.ensures.bytes in
+    Consumes-whole (left c.args.reader.now.reader) (left c.read.new.self.reader) i.read (λ bytes. IsHeard bytes c.tell.result) consumed (c.in-Ok-read.ensures.end c.if-len-eq0.true)
+    (inl (c.finish.result, c.finish.ensures.judged i.read i.is, c.tell.ensures.told))
 
 pub returns-in-Err-clause-heard : goal.returns-in-Err-clause-heard
 returns-in-Err-clause-heard g c =
     let left = g.In.Read.remaining in
-    let i = c.loop.invariant in
-    let full : length c.read.new.buf ≡ c.loop.chunk.len = grind arith in
-    let same : c.read.new.buf ≡ c.deref.result.now = sym (refilled c.loop.chunk.len c.read.new.buf c.loop.chunk.items full) ∙ sym c.deref.ensures.value in
-    let consumed = consumed_more (left c.args.reader.now) (left c.loop.reader) (left c.read.new.self) i.read c.read.new.buf c.deref.result.now c.in-Ok-read.len i.consumed same c.in-Ok-read.ensures.bytes.0 in
-    of_consumed (left c.args.reader.now) (left c.read.new.self) (i.read ++ take c.in-Ok-read.len c.deref.result.now) (λ bytes. IsHeard bytes c.tell-in-Err.result) consumed
-    (λ more. inl (Err c.in-Err.fault, c.in-Err.ensures.fault i.read more i.is, c.tell-in-Err.ensures))
+    let i = c.loop-len.invariant in
+    let full : length c.read.new.buf ≡ c.loop-len.chunk.len = grind arith in
+    let same : c.read.new.buf ≡ c.deref.result.now = sym (refilled c.loop-len.chunk.len c.read.new.buf c.loop-len.chunk.items full) ∙ sym c.deref.ensures.value in
+    let consumed = consumed_more (left c.args.reader.now.reader) (left c.loop-len.reader.reader) (left c.read.new.self.reader) i.read c.read.new.buf c.deref.result.now c.in-Ok-read.len i.consumed same c.in-Ok-read.ensures.bytes in
+    of_consumed (left c.args.reader.now.reader) (left c.read.new.self.reader) (i.read ++ take c.in-Ok-read.len c.deref.result.now) (λ bytes. IsHeard bytes c.tell-in-Err.result) consumed
+    (λ more. inl (Err c.in-Err.fault, c.in-Err.ensures.fault i.read more i.is, c.tell-in-Err.ensures.told))
 
-pub loop-preserved : goal.loop-preserved
-loop-preserved g c =
+pub loop-len-preserved : goal.loop-len-preserved
+loop-len-preserved g c =
     let left = g.In.Read.remaining in
-    let i = c.loop.invariant in
+    let i = c.loop-len.invariant in
     let piece = c.deref.result.now in
     let len = c.in-Ok-read.len in
-    let full : length c.read.new.buf ≡ c.loop.chunk.len = grind arith in
-    let same : c.read.new.buf ≡ piece = sym (refilled c.loop.chunk.len c.read.new.buf c.loop.chunk.items full) ∙ sym c.deref.ensures.value in
+    let full : length c.read.new.buf ≡ c.loop-len.chunk.len = grind arith in
+    let same : c.read.new.buf ≡ piece = sym (refilled c.loop-len.chunk.len c.read.new.buf c.loop-len.chunk.items full) ∙ sym c.deref.ensures.value in
     record {
       read = i.read ++ take len piece;
-      consumed = consumed_more (left c.args.reader.now) (left c.loop.reader) (left c.read.new.self) i.read c.read.new.buf piece len i.consumed same c.in-Ok-read.ensures.bytes.0;
+      consumed = consumed_more (left c.args.reader.now.reader) (left c.loop-len.reader.reader) (left c.read.new.self.reader) i.read c.read.new.buf piece len i.consumed same c.in-Ok-read.ensures.bytes;
       is = c.feed.ensures.fed i.read i.is;
       room = grind arith;
     }
@@ -49,7 +48,4 @@ failed None = tt
 failed (Some all) = inr (input.Read, refl)
 
 pub returns-in_default-read-clause-heard : goal.returns-in_default-read-clause-heard
-returns-in_default-read-clause-heard g c = failed (g.In.Read.remaining c.args.reader.now)
-
-pub returns-clause-heard : goal.returns-clause-heard
-returns-clause-heard g c = failed (g.In.Read.remaining c.args.reader.now)
+returns-in_default-read-clause-heard g c = failed (g.In.Read.remaining c.args.reader.now.reader)

@@ -1,12 +1,15 @@
-use Rattle.std.proofs.Common.{◌≡◌, ℕ, List, length}
+use Rattle.std.proofs.Common.{◌≡◌, ◌-◌, ℕ, List, length}
 use Rattle.std.specs.Io.KnownBytes.{Consumes}
 use Rattle.auditor.specs.Fed.{IsFed}
 use Rattle.auditor.proofs.transcript.judge_read.Given as goal
 
-abbrev pub invariant-loop : goal.invariant-loop
-invariant-loop g l = record {
+abbrev pub invariant-loop-len : goal.invariant-loop-len
+invariant-loop-len g l = record {
   read : List ℕ;
-  consumed : Consumes (g.In.Read.remaining l.fn.reader) (g.In.Read.remaining l.reader) read;
+  consumed : Consumes (g.In.Read.remaining l.fn.reader.reader) (g.In.Read.remaining l.reader.reader) read;
   is : IsFed read l.audit;
   room : length l.chunk.items ≡ 65536;
 }
+
+abbrev pub decreases-loop-len : goal.decreases-loop-len
+decreases-loop-len g l = 4294967295 - l.reader.count

@@ -13,7 +13,7 @@ pub returns-in_default-clause-outcome : goal.returns-in_default-clause-outcome
 returns-in_default-clause-outcome g c =
     let options = c.args.options.now in
     let old = g.Out.Write.contents c.args.writer.now in
-    for_any (g.In.Read.remaining c.args.reader.now) (λ script. WritesPart g.R.Rules.table options.limit (lines_of script) (beginning options.rules options.nodes options.present) old old)
+    for_any (g.In.Read.remaining c.args.reader.now.reader) (λ script. WritesPart g.R.Rules.table options.limit (lines_of script) (beginning options.rules options.nodes options.present) old old)
     (λ script. WritesPart-none g.R.Rules.table options.limit (lines_of script) (beginning options.rules options.nodes options.present) old)
 
 pub returns-in_err-end-clause-outcome : goal.returns-in_err-end-clause-outcome
@@ -24,7 +24,7 @@ returns-in_err-end-clause-outcome g c =
     let new = g.Out.Write.contents c.carry_out_all.new.writer in
     let begun = progress run.rules run.recorder run.text.items in
     let first = beginning options.rules options.nodes options.present in
-    for_known (g.In.Read.remaining c.args.reader.now)
+    for_known (g.In.Read.remaining c.args.reader.now.reader)
     (λ script. (end : Progress) × LeadsTo g.R.Rules.table run.recorder.limit (lines_of script) begun end × AppendsBeginning old new end.text)
     (λ script. Ends g.R.Rules.table options.limit (lines_of script) first (answered c.from_residual.result) (Appends old new) (AppendsBeginning old new))
     (λ script part. Ends-failed g.R.Rules.table run.recorder.limit options.limit (lines_of script) begun first c.from_residual.result old new c.in-Ok.ensures.limit c.in-Ok.ensures.begins c.from_residual.ensures.0
@@ -42,7 +42,7 @@ returns-in_err-finish-clause-outcome g c =
     let begun = progress run.rules run.recorder run.text.items in
     let first = beginning options.rules options.nodes options.present in
     let part = subst (AppendsBeginning known new) c.deref.ensures.value c.in_err-finish.ensures.fault in
-    for_known (g.In.Read.remaining c.args.reader.now)
+    for_known (g.In.Read.remaining c.args.reader.now.reader)
     (λ script. Halts g.R.Rules.table run.recorder.limit (lines_of script) begun c.in_ok-end.end (λ text. Hands old known text held))
     (λ script. Ends g.R.Rules.table options.limit (lines_of script) first (answered c.from_residual-in_err-finish.result) (Appends old new) (AppendsBeginning old new))
     (λ script halts. Ends-failed g.R.Rules.table run.recorder.limit options.limit (lines_of script) begun first c.from_residual-in_err-finish.result old new c.in-Ok.ensures.limit c.in-Ok.ensures.begins c.from_residual-in_err-finish.ensures.0
@@ -59,7 +59,7 @@ returns-clause-outcome g c =
     let held = c.carry_out_all.new.self.line.text.items in
     let begun = progress run.rules run.recorder run.text.items in
     let first = beginning options.rules options.nodes options.present in
-    for_known (g.In.Read.remaining c.args.reader.now)
+    for_known (g.In.Read.remaining c.args.reader.now.reader)
     (λ script. Halts g.R.Rules.table run.recorder.limit (lines_of script) begun c.in_ok-end.end (λ text. Hands old known text held))
     (λ script. Ends g.R.Rules.table options.limit (lines_of script) first (ended c.in_ok-end.end) (Appends old new) (AppendsBeginning old new))
     (λ script halts. Ends-finished g.R.Rules.table run.recorder.limit options.limit (lines_of script) begun first c.in_ok-end.end old known new held c.deref.result.now c.in-Ok.ensures.limit c.in-Ok.ensures.begins halts c.deref.ensures.value c.in_ok-finish.ensures.ok)

@@ -18,19 +18,19 @@ returns-in_default-clause-ok g c =
     let run = c.args.self.now.line in
     let start = progress run.rules run.recorder run.text.items in
     let old = g.Out.Write.contents c.args.writer.now in
-    let left = g.In.Read.remaining c.args.reader.now in
+    let left = g.In.Read.remaining c.args.reader.now.reader in
     known_read left left [] (λ script. Halts g.R.Rules.table run.recorder.limit (lines_of script) start Memory (λ text. Hands old old text run.text.items)) (Consumes-nil left)
     (Stands-memory g.R.Rules.table run.recorder.limit start old [] [] [] 0 start old run.text.items (Stands-none g.R.Rules.table run.recorder.limit start old) refl)
 
-pub loop-init : goal.loop-init
-loop-init g c =
+pub loop-place-init : goal.loop-place-init
+loop-place-init g c =
     let run = c.args.self.now.line in
     let place = c.new-place.result in
     let start = progress run.rules run.recorder run.text.items in
     let old = g.Out.Write.contents c.args.writer.now in
     record {
       limit = refl;
-      stands = ([], Consumes-nil (g.In.Read.remaining c.args.reader.now), moved_on g.R.Rules.table run.recorder.limit start old [] place.begun.items [] 0 place.lines start old c.new-place.ensures.begun c.new-place.ensures.lines (Stands-none g.R.Rules.table run.recorder.limit start old));
+      stands = ([], Consumes-nil (g.In.Read.remaining c.args.reader.now.reader), moved_on g.R.Rules.table run.recorder.limit start old [] place.begun.items [] 0 place.lines start old c.new-place.ensures.begun c.new-place.ensures.lines (Stands-none g.R.Rules.table run.recorder.limit start old));
       room = omega (arith, c.new-place.ensures.lines, ap length c.new-place.ensures.begun);
       chunk = c.in-Ok.ensures;
     }
@@ -38,35 +38,35 @@ loop-init g c =
 pub returns-in_err-hand_over_all-clause-fault : goal.returns-in_err-hand_over_all-clause-fault
 returns-in_err-hand_over_all-clause-fault g c =
     let begun = c.args.self.now.line in
-    let run = c.loop.self.line in
+    let run = c.loop-place.self.line in
     let start = progress begun.rules begun.recorder begun.text.items in
     let old = g.Out.Write.contents c.args.writer.now in
     let known = g.Out.Write.contents c.hand_over_all.new.writer in
-    let stood = c.loop.invariant.stands in
+    let stood = c.loop-place.invariant.stands in
     OnErr-holds c.from_residual.result
-    (known_read (g.In.Read.remaining c.args.reader.now) (g.In.Read.remaining c.loop.reader) stood.0
+    (known_read (g.In.Read.remaining c.args.reader.now.reader) (g.In.Read.remaining c.loop-place.reader.reader) stood.0
     (λ script. (end : Progress) × LeadsTo g.R.Rules.table begun.recorder.limit (lines_of script) start end × AppendsBeginning old known end.text) stood.1
-    (Stands-began g.R.Rules.table begun.recorder.limit start old stood.0 c.loop.place.begun.items [] c.loop.place.lines (progress run.rules run.recorder run.text.items) (g.Out.Write.contents c.loop.writer) known stood.2 c.in_err-hand_over_all.ensures.fault))
+    (Stands-began g.R.Rules.table begun.recorder.limit start old stood.0 c.loop-place.place.begun.items [] c.loop-place.place.lines (progress run.rules run.recorder run.text.items) (g.Out.Write.contents c.loop-place.writer) known stood.2 c.in_err-hand_over_all.ensures.fault))
 
 pub returns-in_default-read_on-clause-ok : goal.returns-in_default-read_on-clause-ok
 returns-in_default-read_on-clause-ok g c =
     let begun = c.args.self.now.line in
-    let run = c.loop.self.line in
+    let run = c.loop-place.self.line in
     let start = progress begun.rules begun.recorder begun.text.items in
     let old = g.Out.Write.contents c.args.writer.now in
     let known = g.Out.Write.contents c.hand_over_all.new.writer in
     let left = c.hand_over_all.new.text.items in
-    let stood = c.loop.invariant.stands in
-    let handed = Stands-handed g.R.Rules.table begun.recorder.limit start old stood.0 c.loop.place.begun.items [] c.loop.place.lines (progress run.rules run.recorder run.text.items) (progress run.rules run.recorder left) (g.Out.Write.contents c.loop.writer) known stood.2 refl refl refl c.in_ok-hand_over_all.ensures.ok in
-    known_read (g.In.Read.remaining c.args.reader.now) (g.In.Read.remaining c.loop.reader) stood.0
+    let stood = c.loop-place.invariant.stands in
+    let handed = Stands-handed g.R.Rules.table begun.recorder.limit start old stood.0 c.loop-place.place.begun.items [] c.loop-place.place.lines (progress run.rules run.recorder run.text.items) (progress run.rules run.recorder left) (g.Out.Write.contents c.loop-place.writer) known stood.2 refl refl refl c.in_ok-hand_over_all.ensures.ok in
+    known_read (g.In.Read.remaining c.args.reader.now.reader) (g.In.Read.remaining c.loop-place.reader.reader) stood.0
     (λ script. Halts g.R.Rules.table begun.recorder.limit (lines_of script) start Unread (λ text. Hands old known text left)) stood.1
-    (Stands-unread g.R.Rules.table begun.recorder.limit start old stood.0 c.loop.place.begun.items [] c.loop.place.lines (progress run.rules run.recorder left) known handed)
+    (Stands-unread g.R.Rules.table begun.recorder.limit start old stood.0 c.loop-place.place.begun.items [] c.loop-place.place.lines (progress run.rules run.recorder left) known handed)
 
 pub returns-then-len-eq0-clause-ok : goal.returns-then-len-eq0-clause-ok
 returns-then-len-eq0-clause-ok g c =
     let begun = c.args.self.now.line in
-    let run = c.loop.self.line in
-    let place = c.loop.place in
+    let run = c.loop-place.self.line in
+    let place = c.loop-place.place in
     let after = c.carry_out_last.new.self.line in
     let end = c.carry_out_last.result in
     let start = progress begun.rules begun.recorder begun.text.items in
@@ -74,91 +74,79 @@ returns-then-len-eq0-clause-ok g c =
     let known = g.Out.Write.contents c.hand_over_all.new.writer in
     let held = c.hand_over_all.new.text.items in
     let left = g.In.Read.remaining in
-    let stood = c.loop.invariant.stands in
-    let handed = Stands-handed g.R.Rules.table begun.recorder.limit start old stood.0 place.begun.items [] place.lines (progress run.rules run.recorder run.text.items) (progress run.rules run.recorder held) (g.Out.Write.contents c.loop.writer) known stood.2 refl refl refl c.in_ok-hand_over_all.ensures.ok in
-    let none : Consumes (left c.loop.reader) (left c.read_on.new.reader) [] = subst (λ (n : ℕ). Consumes (left c.loop.reader) (left c.read_on.new.reader) (take n c.read_on.new.chunk)) c.if-len-eq0.true c.in-Ok-read_on.ensures.bytes in
-    let used : Consumes (left c.args.reader.now) (left c.read_on.new.reader) stood.0 = subst (Consumes (left c.args.reader.now) (left c.read_on.new.reader)) (append-nil stood.0) (Consumes-trans (left c.args.reader.now) (left c.loop.reader) (left c.read_on.new.reader) stood.0 [] stood.1 none) in
-    Consumes-whole (left c.args.reader.now) (left c.read_on.new.reader) stood.0 (λ script. Halts g.R.Rules.table begun.recorder.limit (lines_of script) start end (λ text. Hands old known text after.text.items)) used (c.in-Ok-read_on.ensures.end c.if-len-eq0.true)
-    (last_at g.R.Rules.table begun.recorder.limit start old run.recorder.limit stood.0 place.begun.items place.lines (progress run.rules run.recorder held) known after.text.items end c.loop.invariant.limit c.carry_out_last.ensures.last handed)
+    let stood = c.loop-place.invariant.stands in
+    let handed = Stands-handed g.R.Rules.table begun.recorder.limit start old stood.0 place.begun.items [] place.lines (progress run.rules run.recorder run.text.items) (progress run.rules run.recorder held) (g.Out.Write.contents c.loop-place.writer) known stood.2 refl refl refl c.in_ok-hand_over_all.ensures.ok in
+    let none : Consumes (left c.loop-place.reader.reader) (left c.read_on.new.reader.reader) [] = subst (λ (n : ℕ). Consumes (left c.loop-place.reader.reader) (left c.read_on.new.reader.reader) (take n c.read_on.new.chunk)) c.if-len-eq0.true c.in-Ok-read_on.ensures.bytes in
+    let used : Consumes (left c.args.reader.now.reader) (left c.read_on.new.reader.reader) stood.0 = subst (Consumes (left c.args.reader.now.reader) (left c.read_on.new.reader.reader)) (append-nil stood.0) (Consumes-trans (left c.args.reader.now.reader) (left c.loop-place.reader.reader) (left c.read_on.new.reader.reader) stood.0 [] stood.1 none) in
+    Consumes-whole (left c.args.reader.now.reader) (left c.read_on.new.reader.reader) stood.0 (λ script. Halts g.R.Rules.table begun.recorder.limit (lines_of script) start end (λ text. Hands old known text after.text.items)) used (c.in-Ok-read_on.ensures.end c.if-len-eq0.true)
+    (last_at g.R.Rules.table begun.recorder.limit start old run.recorder.limit stood.0 place.begun.items place.lines (progress run.rules run.recorder held) known after.text.items end c.loop-place.invariant.limit c.carry_out_last.ensures.last handed)
 
 pub returns-in_err-end-clause-fault : goal.returns-in_err-end-clause-fault
 returns-in_err-end-clause-fault g c =
     let begun = c.args.self.now.line in
-    let run = c.loop.self.line in
-    let place = c.loop.place in
+    let run = c.loop-place.self.line in
+    let place = c.loop-place.place in
     let after = c.carry_out_piece.new.self.line in
     let later = c.carry_out_piece.new.place in
     let start = progress begun.rules begun.recorder begun.text.items in
     let old = g.Out.Write.contents c.args.writer.now in
     let known' = g.Out.Write.contents c.carry_out_piece.new.writer in
     let left = g.In.Read.remaining in
-    let stood = c.loop.invariant.stands in
-    let piece = take c.in-Ok-read_on.len c.deref-in-loop.result.now in
-    let same : c.read_on.new.chunk ≡ c.deref-in-loop.result.now = sym (refilled c.loop.chunk.len c.read_on.new.chunk c.loop.chunk.items (c.read_on.ensures.room ∙ c.deref_mut.ensures.len)) ∙ sym c.deref-in-loop.ensures.value in
-    let done = piece_read g.R.Rules.table begun.recorder.limit start old run.recorder.limit (left c.args.reader.now) (left c.loop.reader) (left c.read_on.new.reader) stood.0 c.read_on.new.chunk c.deref-in-loop.result.now c.in-Ok-read_on.len place.begun.items later.begun.items place.lines later.lines
-    (progress run.rules run.recorder run.text.items) (progress run.rules run.recorder c.hand_over_all.new.text.items) (progress after.rules after.recorder after.text.items) (g.Out.Write.contents c.loop.writer) (g.Out.Write.contents c.hand_over_all.new.writer) known' c.carry_out_piece.result
-    stood.1 stood.2 refl refl refl c.in_ok-hand_over_all.ensures.ok same c.in-Ok-read_on.ensures.bytes c.loop.invariant.limit c.carry_out_piece.ensures.piece in
+    let stood = c.loop-place.invariant.stands in
+    let piece = take c.in-Ok-read_on.len c.deref-in-loop-place.result.now in
+    let same : c.read_on.new.chunk ≡ c.deref-in-loop-place.result.now = sym (refilled c.loop-place.chunk.len c.read_on.new.chunk c.loop-place.chunk.items (c.read_on.ensures.room ∙ c.deref_mut.ensures.len)) ∙ sym c.deref-in-loop-place.ensures.value in
+    let done = piece_read g.R.Rules.table begun.recorder.limit start old run.recorder.limit (left c.args.reader.now.reader) (left c.loop-place.reader.reader) (left c.read_on.new.reader.reader) stood.0 c.read_on.new.chunk c.deref-in-loop-place.result.now c.in-Ok-read_on.len place.begun.items later.begun.items place.lines later.lines
+    (progress run.rules run.recorder run.text.items) (progress run.rules run.recorder c.hand_over_all.new.text.items) (progress after.rules after.recorder after.text.items) (g.Out.Write.contents c.loop-place.writer) (g.Out.Write.contents c.hand_over_all.new.writer) known' c.carry_out_piece.result
+    stood.1 stood.2 refl refl refl c.in_ok-hand_over_all.ensures.ok same c.in-Ok-read_on.ensures.bytes c.loop-place.invariant.limit c.carry_out_piece.ensures.piece in
     OnErr-holds c.from_residual-in_err-end.result
-    (known_read (left c.args.reader.now) (left c.read_on.new.reader) (stood.0 ++ piece)
+    (known_read (left c.args.reader.now.reader) (left c.read_on.new.reader.reader) (stood.0 ++ piece)
     (λ script. (end : Progress) × LeadsTo g.R.Rules.table begun.recorder.limit (lines_of script) start end × AppendsBeginning old known' end.text) done.0
     (piece_fails g.R.Rules.table begun.recorder.limit start old (stood.0 ++ piece) later.begun.items later.lines (progress after.rules after.recorder after.text.items) known' c.carry_out_piece.result c.in_err-end.field-0.0 done.1 c.in_err-end.was))
 
 pub returns-in-Some-clause-ok : goal.returns-in-Some-clause-ok
 returns-in-Some-clause-ok g c =
     let begun = c.args.self.now.line in
-    let run = c.loop.self.line in
-    let place = c.loop.place in
+    let run = c.loop-place.self.line in
+    let place = c.loop-place.place in
     let after = c.carry_out_piece.new.self.line in
     let later = c.carry_out_piece.new.place in
     let start = progress begun.rules begun.recorder begun.text.items in
     let old = g.Out.Write.contents c.args.writer.now in
     let known' = g.Out.Write.contents c.carry_out_piece.new.writer in
     let left = g.In.Read.remaining in
-    let stood = c.loop.invariant.stands in
-    let piece = take c.in-Ok-read_on.len c.deref-in-loop.result.now in
-    let same : c.read_on.new.chunk ≡ c.deref-in-loop.result.now = sym (refilled c.loop.chunk.len c.read_on.new.chunk c.loop.chunk.items (c.read_on.ensures.room ∙ c.deref_mut.ensures.len)) ∙ sym c.deref-in-loop.ensures.value in
-    let done = piece_read g.R.Rules.table begun.recorder.limit start old run.recorder.limit (left c.args.reader.now) (left c.loop.reader) (left c.read_on.new.reader) stood.0 c.read_on.new.chunk c.deref-in-loop.result.now c.in-Ok-read_on.len place.begun.items later.begun.items place.lines later.lines
-    (progress run.rules run.recorder run.text.items) (progress run.rules run.recorder c.hand_over_all.new.text.items) (progress after.rules after.recorder after.text.items) (g.Out.Write.contents c.loop.writer) (g.Out.Write.contents c.hand_over_all.new.writer) known' c.carry_out_piece.result
-    stood.1 stood.2 refl refl refl c.in_ok-hand_over_all.ensures.ok same c.in-Ok-read_on.ensures.bytes c.loop.invariant.limit c.carry_out_piece.ensures.piece in
-    known_read (left c.args.reader.now) (left c.read_on.new.reader) (stood.0 ++ piece)
+    let stood = c.loop-place.invariant.stands in
+    let piece = take c.in-Ok-read_on.len c.deref-in-loop-place.result.now in
+    let same : c.read_on.new.chunk ≡ c.deref-in-loop-place.result.now = sym (refilled c.loop-place.chunk.len c.read_on.new.chunk c.loop-place.chunk.items (c.read_on.ensures.room ∙ c.deref_mut.ensures.len)) ∙ sym c.deref-in-loop-place.ensures.value in
+    let done = piece_read g.R.Rules.table begun.recorder.limit start old run.recorder.limit (left c.args.reader.now.reader) (left c.loop-place.reader.reader) (left c.read_on.new.reader.reader) stood.0 c.read_on.new.chunk c.deref-in-loop-place.result.now c.in-Ok-read_on.len place.begun.items later.begun.items place.lines later.lines
+    (progress run.rules run.recorder run.text.items) (progress run.rules run.recorder c.hand_over_all.new.text.items) (progress after.rules after.recorder after.text.items) (g.Out.Write.contents c.loop-place.writer) (g.Out.Write.contents c.hand_over_all.new.writer) known' c.carry_out_piece.result
+    stood.1 stood.2 refl refl refl c.in_ok-hand_over_all.ensures.ok same c.in-Ok-read_on.ensures.bytes c.loop-place.invariant.limit c.carry_out_piece.ensures.piece in
+    known_read (left c.args.reader.now.reader) (left c.read_on.new.reader.reader) (stood.0 ++ piece)
     (λ script. Halts g.R.Rules.table begun.recorder.limit (lines_of script) start c.in-Some.end (λ text. Hands old known' text after.text.items)) done.0
     (piece_stops g.R.Rules.table begun.recorder.limit start old (stood.0 ++ piece) later.begun.items later.lines (progress after.rules after.recorder after.text.items) known' c.carry_out_piece.result c.in-Some.end done.1 (c.in_ok-end.was ∙ ap (λ (o : Option End). Ok o) c.in-Some.is))
 
-pub loop-preserved : goal.loop-preserved
-loop-preserved g c =
+pub loop-place-preserved : goal.loop-place-preserved
+loop-place-preserved g c =
     let begun = c.args.self.now.line in
-    let run = c.loop.self.line in
-    let place = c.loop.place in
+    let run = c.loop-place.self.line in
+    let place = c.loop-place.place in
     let after = c.carry_out_piece.new.self.line in
     let later = c.carry_out_piece.new.place in
     let start = progress begun.rules begun.recorder begun.text.items in
     let old = g.Out.Write.contents c.args.writer.now in
     let known' = g.Out.Write.contents c.carry_out_piece.new.writer in
     let left = g.In.Read.remaining in
-    let stood = c.loop.invariant.stands in
-    let piece = take c.in-Ok-read_on.len c.deref-in-loop.result.now in
-    let same : c.read_on.new.chunk ≡ c.deref-in-loop.result.now = sym (refilled c.loop.chunk.len c.read_on.new.chunk c.loop.chunk.items (c.read_on.ensures.room ∙ c.deref_mut.ensures.len)) ∙ sym c.deref-in-loop.ensures.value in
-    let done = piece_read g.R.Rules.table begun.recorder.limit start old run.recorder.limit (left c.args.reader.now) (left c.loop.reader) (left c.read_on.new.reader) stood.0 c.read_on.new.chunk c.deref-in-loop.result.now c.in-Ok-read_on.len place.begun.items later.begun.items place.lines later.lines
-    (progress run.rules run.recorder run.text.items) (progress run.rules run.recorder c.hand_over_all.new.text.items) (progress after.rules after.recorder after.text.items) (g.Out.Write.contents c.loop.writer) (g.Out.Write.contents c.hand_over_all.new.writer) known' c.carry_out_piece.result
-    stood.1 stood.2 refl refl refl c.in_ok-hand_over_all.ensures.ok same c.in-Ok-read_on.ensures.bytes c.loop.invariant.limit c.carry_out_piece.ensures.piece in
+    let stood = c.loop-place.invariant.stands in
+    let piece = take c.in-Ok-read_on.len c.deref-in-loop-place.result.now in
+    let same : c.read_on.new.chunk ≡ c.deref-in-loop-place.result.now = sym (refilled c.loop-place.chunk.len c.read_on.new.chunk c.loop-place.chunk.items (c.read_on.ensures.room ∙ c.deref_mut.ensures.len)) ∙ sym c.deref-in-loop-place.ensures.value in
+    let done = piece_read g.R.Rules.table begun.recorder.limit start old run.recorder.limit (left c.args.reader.now.reader) (left c.loop-place.reader.reader) (left c.read_on.new.reader.reader) stood.0 c.read_on.new.chunk c.deref-in-loop-place.result.now c.in-Ok-read_on.len place.begun.items later.begun.items place.lines later.lines
+    (progress run.rules run.recorder run.text.items) (progress run.rules run.recorder c.hand_over_all.new.text.items) (progress after.rules after.recorder after.text.items) (g.Out.Write.contents c.loop-place.writer) (g.Out.Write.contents c.hand_over_all.new.writer) known' c.carry_out_piece.result
+    stood.1 stood.2 refl refl refl c.in_ok-hand_over_all.ensures.ok same c.in-Ok-read_on.ensures.bytes c.loop-place.invariant.limit c.carry_out_piece.ensures.piece in
     record {
-      limit = c.carry_out_piece.ensures.limit ∙ c.loop.invariant.limit;
+      limit = c.carry_out_piece.ensures.limit ∙ c.loop-place.invariant.limit;
       stands = (stood.0 ++ piece, done.0, piece_goes_on g.R.Rules.table begun.recorder.limit start old (stood.0 ++ piece) later.begun.items later.lines (progress after.rules after.recorder after.text.items) known' c.carry_out_piece.result done.1 (c.in_ok-end.was ∙ ap (λ (o : Option End). Ok o) c.in_default-2.is));
       room =
           let full : length c.read_on.new.chunk ≡ 65536 = grind arith in
           let bound = c.in_ok-end.ensures.room (subst (λ (o : Option End). IsNone o) (sym c.in_default-2.is) refl) in
-          omega (arith, bound, c.loop.invariant.room, take_short c.in-Ok-read_on.len c.deref-in-loop.result.now, c.in-Ok-read_on.ensures.few, full);
+          omega (arith, bound, c.in-Ok-read_on.ensures.count.1, c.loop-place.invariant.room, take_short c.in-Ok-read_on.len c.deref-in-loop-place.result.now, c.in-Ok-read_on.ensures.few, full);
       chunk = grind arith;
     }
-
-pub returns-clause-ok : goal.returns-clause-ok
-returns-clause-ok g c =
-    let begun = c.args.self.now.line in
-    let run = c.loop.self.line in
-    let start = progress begun.rules begun.recorder begun.text.items in
-    let old = g.Out.Write.contents c.args.writer.now in
-    let known = g.Out.Write.contents c.loop.writer in
-    let stood = c.loop.invariant.stands in
-    known_read (g.In.Read.remaining c.args.reader.now) (g.In.Read.remaining c.loop.reader) stood.0
-    (λ script. Halts g.R.Rules.table begun.recorder.limit (lines_of script) start Unread (λ text. Hands old known text run.text.items)) stood.1
-    (Stands-unread g.R.Rules.table begun.recorder.limit start old stood.0 c.loop.place.begun.items [] c.loop.place.lines (progress run.rules run.recorder run.text.items) known stood.2)

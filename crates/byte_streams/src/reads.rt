@@ -1,0 +1,69 @@
+//! A reader whose reads are counted.
+
+ghost use Rattle.std.specs.Prelude.{◌≡◌, ◌<◌, ◌≤◌, ◌+◌, false, length, take, IfErr, IfOk, OnErr, OnOk};
+ghost use Rattle.std.specs.Io.KnownBytes.{Consumes, IsAtEnd, Keeps};
+ghost use Rattle.byte_streams.specs.declared.input_fault.InputFault.TheVariants.{Read as Unread};
+ghost use Rattle.byte_streams.specs.Ended.{IsEnded};
+
+use crate::InputFault;
+use std::alloc::{AllocError, Global};
+use std::io::Read;
+
+/// How many bytes a read asks for.
+const CHUNK: usize = 65_536;
+
+/// A reader, with how many reads were made of it, and whether one failed. Then no more are made: nothing is tried twice.
+#[derive(Drop)]
+pub struct Reads<In> {
+    reader: In,
+    count: u32,
+    failed: bool,
+}
+
+/// Room for what one read gives.
+pub fn chunk_of(alloc: Global) -> Result<Vec<u8>, AllocError>
+    ensures { IfOk result (λ chunk. length chunk.items ≡ 65536) }
+{
+    Vec::from_elem(alloc, 0, CHUNK)
+}
+
+impl<In: Read> Reads<In> {
+    /// A reader of which no read was made.
+    pub fn new(reader: In) -> Reads<In>
+        ensures reader { result.reader ≡ reader }
+        ensures count { result.count ≡ 0 }
+        ensures failed { result.failed ≡ false }
+    {
+        Reads {
+            reader,
+            count: 0,
+            failed: false,
+        }
+    }
+
+    /// Reads into the buffer once. How many bytes the reader gave, which are the first of the buffer; none only at its end. `Read`
+    /// where the read fails, and without a read behind one that failed or behind 4,294,967,295 of them.
+    pub fn read(&mut self, buf: &mut [u8]) -> Result<usize, InputFault>
+        requires room { 0 < length buf.old }
+        ensures bytes { IfOk result (λ len. Consumes (In.remaining self.old.reader) (In.remaining self.new.reader) (take len buf.new)) }
+        ensures few { IfOk result (λ len. len ≤ length buf.new) }
+        ensures end { IfOk result (λ len. len ≡ 0 → IsAtEnd (In.remaining self.new.reader)) }
+        ensures room { length buf.new ≡ length buf.old }
+        ensures count { OnOk result ((self.old.count < 4294967295) × (self.new.count ≡ self.old.count + 1)) }
+        ensures good { OnOk result ((self.old.failed ≡ false) × (self.new.failed ≡ false)) }
+        ensures unread { IfErr result (λ fault. (fault ≡ Unread) × IsEnded self.new.failed self.new.count) }
+        ensures kept { OnErr result (Keeps (In.remaining self.old.reader) (In.remaining self.new.reader)) }
+    {
+        if self.failed || self.count == u32::MAX {
+            return Err(InputFault::Read);
+        }
+        self.count += 1;
+        match self.reader.read(buf) {
+            Ok(len) => Ok(len),
+            Err(_) => {
+                self.failed = true;
+                Err(InputFault::Read)
+            }
+        }
+    }
+}
