@@ -9,9 +9,11 @@ use Rattle.script_text.specs.Script.{Progress}
 use Rattle.line_run.specs.Line.{CommandEnds}
 use Rattle.rudekpi_c.specs.declared.session.Session.{Session}
 use Rattle.rudekpi_c.specs.declared.told.Told.{Told}
-use Rattle.rudekpi_c.specs.Session.{stands, rules_of, limit_of, shown, GoesOn, CommandEnded}
+use Rattle.rudekpi_c.specs.Session.{stands, rules_of, limit_of, GoesOn, CommandEnded}
+use Rattle.rudekpi_c.specs.Slot.{IsPutBack}
 use Rattle.rudekpi_c.specs.Told.{told_of, entry_status}
 use Rattle.rudekpi_c.specs.Called.{Called, Follows, number_at, reply_kept, command_status}
+use Rattle.rudekpi_c.proofs.Going.{goes_from, goes_further}
 
 follows_of : {E : Type 0} (t : RuleTable) (limit : ℕ) (command : Command) (number : ℕ) (reply : Reply) (before after : Progress) (result : Result Bool E)
     → CommandEnds t limit command before after result → number ≡ number_at command after.count result → reply ≡ reply_kept t command before result
@@ -25,51 +27,39 @@ pub record Heard (command : Command) (E : Type 0) (old new : Option Session) (re
   pub from : Session
   pub borrowed : Session
   pub followed : Session
-  pub lent : Session
-  pub to : Session
   pub was : old ≡ Some from
   pub same : borrowed ≡ from
   pub ends : CommandEnded {E = E} (rules_of borrowed) (limit_of borrowed) command (stands borrowed) (stands followed) result
   pub number : followed.answer.seq ≡ number_at command (stands followed).count result
   pub reply : followed.answer.reply ≡ reply_kept (table_of (rules_of borrowed)) command (stands borrowed) result
-  pub rules : rules_of followed ≡ rules_of borrowed
-  pub limit : limit_of followed ≡ limit_of borrowed
+  pub goes_on : GoesOn borrowed followed
   pub lines : followed.lines ≡ borrowed.lines
-  pub keeps : followed.keeps ≡ borrowed.keeps
-  pub relent : lent ≡ followed
-  pub settled : stands to ≡ shown lent.keeps (stands lent)
-  pub settled_rules : rules_of to ≡ rules_of lent
-  pub settled_limit : limit_of to ≡ limit_of lent
-  pub settled_lines : to.lines ≡ lent.lines
-  pub settled_keeps : to.keeps ≡ lent.keeps
-  pub settled_answer : to.answer ≡ lent.answer
-  pub is : new ≡ Some to
+  pub back : IsPutBack followed new
 
 pub was_called : {command : Command} {E : Type 0} {status : ℕ} {told : Told} {old new : Option Session} {result : Result Bool E} → IsCommand command → (heard : Heard command E old new result)
-    → status ≡ command_status heard.to.answer.reply result → told ≡ told_of heard.to.answer.seq heard.to.answer.reply → Called command status told old new
+    → status ≡ command_status heard.followed.answer.reply result → told ≡ told_of heard.followed.answer.seq heard.followed.answer.reply → Called command status told old new
 was_called {command} {E} {status} {told} {old} {new} {result} good heard status_is told_is =
-    let answer : heard.to.answer ≡ heard.followed.answer = heard.settled_answer ∙ ap (λ (s : Session). s.answer) heard.relent in
+    let to = heard.back.t in
+    let t = table_of (rules_of heard.from) in
+    let answer : to.answer ≡ heard.followed.answer = heard.back.answer_is in
     let ends = subst (λ (s : Session). CommandEnded {E = E} (rules_of s) (limit_of s) command (stands s) (stands heard.followed) result) heard.same heard.ends in
-    let number : heard.to.answer.seq ≡ number_at command (stands heard.followed).count result = ap (λ a. a.seq) answer ∙ heard.number in
-    let reply : heard.to.answer.reply ≡ reply_kept (table_of (rules_of heard.from)) command (stands heard.from) result =
+    let number : to.answer.seq ≡ number_at command (stands heard.followed).count result = ap (λ a. a.seq) answer ∙ heard.number in
+    let reply : to.answer.reply ≡ reply_kept t command (stands heard.from) result =
     ap (λ a. a.reply) answer ∙ heard.reply ∙ ap (λ (s : Session). reply_kept (table_of (rules_of s)) command (stands s) result) heard.same in
-    let follows = follows_of (table_of (rules_of heard.from)) (limit_of heard.from) command heard.to.answer.seq heard.to.answer.reply (stands heard.from) (stands heard.followed) result ends number reply in
+    let told_status : status ≡ command_status to.answer.reply result = status_is ∙ ap (λ a. command_status a.reply result) (sym answer) in
+    let follows = follows_of t (limit_of heard.from) command to.answer.seq to.answer.reply (stands heard.from) (stands heard.followed) result ends number reply in
     inr (inr (
       good,
       record {
         s = heard.from;
-        t = heard.to;
+        t = to;
         was = heard.was;
-        is = heard.is;
-        goes_on = record {
-          rules = heard.settled_rules ∙ ap rules_of heard.relent ∙ heard.rules ∙ ap rules_of heard.same;
-          limit = heard.settled_limit ∙ ap limit_of heard.relent ∙ heard.limit ∙ ap limit_of heard.same;
-          keeps = heard.settled_keeps ∙ ap (λ (s : Session). s.keeps) heard.relent ∙ heard.keeps ∙ ap (λ (s : Session). s.keeps) heard.same;
-        };
-        lines = heard.settled_lines ∙ ap (λ (s : Session). s.lines) heard.relent ∙ heard.lines ∙ ap (λ (s : Session). s.lines) heard.same;
+        is = heard.back.is;
+        goes_on = goes_further (goes_from heard.same heard.goes_on) heard.back.goes_on;
+        lines = heard.back.lines_is ∙ heard.lines ∙ ap (λ (s : Session). s.lines) heard.same;
         after = stands heard.followed;
-        follows = subst (λ n. Follows (table_of (rules_of heard.from)) (limit_of heard.from) command n heard.to.answer.seq heard.to.answer.reply (stands heard.from) (stands heard.followed)) (sym status_is) follows;
-        stands_is = heard.settled ∙ ap (λ b. shown b (stands heard.lent)) (sym heard.settled_keeps) ∙ ap (λ (s : Session). shown heard.to.keeps (stands s)) heard.relent;
-        told_is = told_is;
+        follows = subst (λ n. Follows t (limit_of heard.from) command n to.answer.seq to.answer.reply (stands heard.from) (stands heard.followed)) (sym told_status) follows;
+        stands_is = heard.back.stands_is;
+        told_is = told_is ∙ ap (λ a. told_of a.seq a.reply) (sym answer);
       },
     ))

@@ -3,6 +3,7 @@ mod Walks
 pub mod Calling
 pub mod Counting
 pub mod Feeding
+pub mod Going
 pub mod Handing
 pub mod Judging
 pub mod Partners

@@ -21,6 +21,15 @@ named (suc n) = Manne
 abbrev pub IsWanted : ℕ → ℕ → ℕ → Type 0
 IsWanted rules nodes present = (rules ≤ 1) × (nodes ≤ 65535) × (present ≤ nodes)
 
+-- the session is kept by C from now on, less the text where it keeps none
+pub record IsPutBack (s : Session) (new : Option Session) : Type 0 where
+  pub t : Session
+  pub is : new ≡ Some t
+  pub goes_on : GoesOn s t
+  pub lines_is : t.lines ≡ s.lines
+  pub answer_is : t.answer ≡ s.answer
+  pub stands_is : stands t ≡ shown t.keeps (stands s)
+
 -- a session at the beginning of a run, which keeps its transcript, and has answered nothing
 pub record IsBegun (rules nodes present : ℕ) (new : Option Session) : Type 0 where
   pub session : Session

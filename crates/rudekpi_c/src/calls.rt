@@ -42,10 +42,9 @@ fn call(alloc: Global, slot: &mut Slot, command: Option<Command>, told: &mut Tol
         return NO_SESSION;
     };
     let done = session.follow(alloc, &command);
-    session.settle();
     let status = status_of(&done, &session.answer.reply);
     *told = Told::of(&session.answer);
-    slot.put(session);
+    slot.put_back(session);
     status
 }
 
@@ -58,8 +57,7 @@ fn unheard(alloc: Global, slot: &mut Slot, told: &mut Told) -> u32
         return NO_SESSION;
     };
     session.forget_answer();
-    session.settle();
-    slot.put(session);
+    slot.put_back(session);
     MEMORY
 }
 

@@ -28,13 +28,24 @@ fn tell<R: Rules>(run: &mut Run<R>, event: &Event, answer: &mut Answer) -> Resul
             Ok(true)
         }
         Ok(false) => {
-            *answer = Answer::none();
+            *answer = unanswered(0);
             Ok(false)
         }
         Err(want) => {
-            *answer = Answer::none();
+            *answer = unanswered(0);
             Err(want)
         }
+    }
+}
+
+/// A number with no reply: that of an entry, or 0.
+pub(crate) fn unanswered(seq: u32) -> Answer
+    ensures number { result.seq ≡ seq }
+    ensures reply { result.reply ≡ Accepted }
+{
+    Answer {
+        seq,
+        reply: Reply::Accepted,
     }
 }
 
@@ -43,10 +54,7 @@ fn left<R: Rules>(run: &Run<R>) -> Answer
     ensures number { result.seq ≡ run.now.recorder.len }
     ensures reply { result.reply ≡ Accepted }
 {
-    Answer {
-        seq: run.recorder.len(),
-        reply: Reply::Accepted,
-    }
+    unanswered(run.recorder.len())
 }
 
 /// Follows a command, and keeps the answer to it.

@@ -40,8 +40,7 @@ pub extern "C" fn rudekpi_transcript(alloc: Global, slot: &mut Slot, keeps: bool
         return NO_SESSION;
     };
     session.keep(keeps);
-    session.settle();
-    slot.put(session);
+    slot.put_back(session);
     DONE
 }
 

@@ -8,7 +8,7 @@ ghost use Rattle.rule_machine.specs.Tables.{table_of};
 ghost use Rattle.rudekpi_c.specs.Called.{number_at, reply_kept};
 ghost use Rattle.rudekpi_c.specs.Session.{stands, limit_of, rules_of, shown, LineEnded, CommandEnded};
 
-use crate::follow::{follow, partner};
+use crate::follow::{follow, partner, unanswered};
 use line_run::{Run, Stop};
 use rule_machine::{Node, RuleSet, Want};
 use rules_hsu_huang::HsuHuang;
@@ -59,7 +59,7 @@ impl Session {
             machine,
             lines: 0,
             keeps: true,
-            answer: Answer::none(),
+            answer: unanswered(0),
         })
     }
 
@@ -140,7 +140,7 @@ impl Session {
         ensures lines { self.new.lines ≡ self.old.lines }
         ensures keeps { self.new.keeps ≡ self.old.keeps }
     {
-        self.answer = Answer::none();
+        self.answer = unanswered(0);
     }
 
     /// Says whether a transcript is kept.

@@ -7,11 +7,8 @@ use crate::session::Session;
 use crate::slot::Slot;
 use crate::status::{BAD_ARGUMENT, BAD_LINE, DONE, LOG_FULL, MEMORY, NO_SESSION};
 use line_run::Stop;
-use rule_machine::{RuleSet, Want};
+use rule_machine::{MAX_NAME, RuleSet, Want};
 use std::alloc::Global;
-
-/// The most names of a network.
-const MAX_NODES: u32 = 65_535;
 
 // The rules with this number.
 fn rules_named(rules: u32) -> RuleSet
@@ -36,7 +33,7 @@ pub extern "C" fn rudekpi_session_new(
     ensures { Begun rules nodes present result slot.new.handle.value }
 {
     drop(slot.take(alloc));
-    if rules > 1 || nodes > MAX_NODES || present > nodes {
+    if rules > 1 || nodes > MAX_NAME || present > nodes {
         return BAD_ARGUMENT;
     }
     let Ok(session) = Session::new(alloc, rules_named(rules), nodes, present) else {
@@ -65,9 +62,8 @@ pub extern "C" fn rudekpi_session_feed(
         return NO_SESSION;
     };
     let done = session.feed(alloc, line);
-    session.settle();
     *number = session.lines;
-    slot.put(session);
+    slot.put_back(session);
     status_of(done)
 }
 

@@ -1,6 +1,7 @@
 //! Where C keeps a session.
 
 ghost use Rattle.std.specs.Prelude.{◌≡◌, ◌↔◌, None, Some, IsTrue, IsNone, IfSome};
+ghost use Rattle.rudekpi_c.specs.Slot.{IsPutBack};
 
 use crate::handle::Handle;
 use crate::parts::Parts;
@@ -41,5 +42,13 @@ impl Slot {
     {
         let handle = Handle::of_parts(Parts::of(session));
         *self = Slot { handle, full: true };
+    }
+    /// Puts a session back that has gone on, without its text where it keeps none.
+    pub(crate) fn put_back(&mut self, session: Box<Session>)
+        ensures { IsPutBack session.value self.new.handle.value }
+    {
+        let mut session = session;
+        session.settle();
+        self.put(session);
     }
 }

@@ -12,30 +12,19 @@ pub returns : goal.returns
 returns c asked given =
     let both = subst (λ (o : Option Command). SomeIff o (IsCommand asked) asked) c.in-Some.is given in
     let good = subst IsCommand (sym both.1) both.0 in
-    subst (λ (k : Command). Called k c.status_of-status.result c.of.result c.args.slot.now.handle.value c.put.new.self.handle.value) both.1
+    subst (λ (k : Command). Called k c.status_of-status.result c.of.result c.args.slot.now.handle.value c.put_back.new.self.handle.value) both.1
     (was_called good (record {
       from = c.in-Some-take.session.value;
       borrowed = c.deref_mut.result.now;
       followed = c.follow-done.new.self;
-      lent = c.deref_mut-2.result.now;
-      to = c.settle.new.self;
       was = c.in-Some-take.ensures.some;
       same = c.deref_mut.ensures.value;
       ends = c.follow-done.ensures.ends;
       number = c.follow-done.ensures.number;
       reply = c.follow-done.ensures.reply;
-      rules = c.follow-done.ensures.rules;
-      limit = c.follow-done.ensures.limit;
+      goes_on = record { rules = c.follow-done.ensures.rules; limit = c.follow-done.ensures.limit; keeps = c.follow-done.ensures.keeps };
       lines = c.follow-done.ensures.lines;
-      keeps = c.follow-done.ensures.keeps;
-      relent = c.deref_mut-2.ensures.value;
-      settled = c.settle.ensures.stands;
-      settled_rules = c.settle.ensures.rules;
-      settled_limit = c.settle.ensures.limit;
-      settled_lines = c.settle.ensures.lines;
-      settled_keeps = c.settle.ensures.keeps;
-      settled_answer = c.settle.ensures.answer;
-      is = c.put.ensures;
+      back = c.put_back.ensures;
     })
     (c.status_of-status.ensures ∙ ap (λ (s : Session). command_status s.answer.reply c.follow-done.result) c.deref.ensures)
     (c.of.ensures ∙ ap (λ (s : Session). told_of s.answer.seq s.answer.reply) c.deref-2.ensures))

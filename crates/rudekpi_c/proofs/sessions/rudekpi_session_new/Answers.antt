@@ -5,7 +5,7 @@ use Rattle.rudekpi_c.proofs.sessions.rudekpi_session_new.Goals as goal
 pub returns : goal.returns
 returns c =
     inl (
-      (c.if-rules-gt1.false, c.if-nodes-gt-MAX_NODES.false, c.if-present-nodes.false),
+      (c.if-rules-gt1.false, c.if-nodes-gt-MAX_NAME.false, c.if-present-nodes.false),
       refl,
       record {
         session = c.in-Ok.session;
