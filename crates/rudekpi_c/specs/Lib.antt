@@ -1,5 +1,6 @@
 -- What the contracts cite.
 pub mod Called
+pub mod Costed
 pub mod Counted
 pub mod Held
 pub mod Judged

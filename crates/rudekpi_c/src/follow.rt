@@ -1,11 +1,13 @@
 //! What a run does with a command.
 
 ghost use Rattle.std.specs.Prelude.{◌≡◌};
+ghost use Rattle.rule_engine.specs.Costs.{cost_of};
 ghost use Rattle.rule_machine.specs.State.{partner, pointer_of};
-ghost use Rattle.line_run.specs.Line.{progress, CommandEnds};
+ghost use Rattle.line_run.specs.Line.{moment_of, progress, CommandEnds};
 ghost use Rattle.rule_machine.specs.declared.reply.Reply.TheVariants.{Accepted};
 ghost use Rattle.script_text.specs.declared.command.Command.TheVariants.{Tell, Checkpoint};
 ghost use Rattle.rudekpi_c.specs.Called.{number_at, reply_kept};
+ghost use Rattle.rudekpi_c.specs.Costed.{GrowsBy};
 
 use line_run::Run;
 use registers::Registers;
@@ -120,4 +122,12 @@ pub(crate) fn partner<R: Rules>(run: &Run<R>, v: Node) -> Option<Node>
         return Some(w);
     }
     None
+}
+
+/// What an event would cost where a run stands.
+pub(crate) fn cost_of<R: Rules>(run: &Run<R>, event: &Event) -> u32
+    ensures cost { result ≡ cost_of R.table R.cost run.now.recorder.state event.now }
+    ensures grows { GrowsBy R.table (moment_of run.now.recorder) event.now result }
+{
+    run.recorder.net().cost_of(event)
 }

@@ -18,6 +18,7 @@
 
 mod asked;
 mod calls;
+mod costs;
 mod counted;
 mod follow;
 mod handle;

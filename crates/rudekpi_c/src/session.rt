@@ -6,11 +6,12 @@ ghost use Rattle.rule_machine.specs.declared.reply.Reply.TheVariants.{Accepted};
 ghost use Rattle.rule_machine.specs.State.{partner};
 ghost use Rattle.rule_machine.specs.Tables.{table_of};
 ghost use Rattle.rudekpi_c.specs.Called.{number_at, reply_kept};
+ghost use Rattle.rudekpi_c.specs.Costed.{cost_at, GrowsBy};
 ghost use Rattle.rudekpi_c.specs.Session.{stands, limit_of, rules_of, shown, LineEnded, CommandEnded};
 
-use crate::follow::{follow, partner, unanswered};
+use crate::follow::{cost_of, follow, partner, unanswered};
 use line_run::{Run, Stop};
-use rule_machine::{Node, RuleSet, Want};
+use rule_machine::{Event, Node, RuleSet, Want};
 use rules_hsu_huang::HsuHuang;
 use rules_manne::Manne;
 use script_text::Command;
@@ -102,6 +103,17 @@ impl Session {
         match &self.machine {
             Machine::Hh(run) => partner(run, v),
             Machine::Manne(run) => partner(run, v),
+        }
+    }
+
+    /// What an event would cost where the session stands.
+    pub(crate) fn cost_of(&self, event: &Event) -> u32
+        ensures cost { result ≡ cost_at self.now event.now }
+        ensures grows { GrowsBy (table_of (rules_of self.now)) (stands self.now).moment event.now result }
+    {
+        match &self.machine {
+            Machine::Hh(run) => cost_of(run, event),
+            Machine::Manne(run) => cost_of(run, event),
         }
     }
 
