@@ -1,8 +1,5 @@
 //! What a caller is told of an event.
 
-ghost use Rattle.std.specs.Prelude.{◌≡◌};
-ghost use Rattle.rule_machine.specs.declared.reply.Reply.TheVariants.{Accepted};
-
 use rule_machine::{Event, Reply};
 
 /// The entry that a call added: its number in the log, from 1, the event, and the reply to it.
@@ -23,17 +20,4 @@ pub struct Answer {
     pub seq: u32,
     /// What was answered.
     pub reply: Reply,
-}
-
-impl Answer {
-    /// What a caller keeps before the first answer.
-    pub fn none() -> Answer
-        ensures number { result.seq ≡ 0 }
-        ensures reply { result.reply ≡ Accepted }
-    {
-        Answer {
-            seq: 0,
-            reply: Reply::Accepted,
-        }
-    }
 }
