@@ -1,5 +1,5 @@
 -- What a command has done to a session that C keeps.
-use Rattle.std.proofs.Common.{◌≡◌, ◌∙◌, ◌⊎◌, ℕ, Bool, true, false, Option, Result, Ok, Err, None, Some, inl, inr, refl, sym, ap, subst}
+use Rattle.std.proofs.Common.{◌≡◌, ◌∙◌, ℕ, Bool, true, false, Option, Result, Ok, Err, Some, inl, inr, refl, sym, ap, subst}
 use Rattle.rule_machine.specs.declared.reply.Reply.{Reply}
 use Rattle.rule_machine.specs.RuleTable.{RuleTable}
 use Rattle.rule_machine.specs.Tables.{table_of}

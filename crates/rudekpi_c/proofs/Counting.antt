@@ -1,5 +1,5 @@
 -- The numbers of a status call.
-use Rattle.std.proofs.Common.{◌≡◌, ◌∙◌, ℕ, Option, inl, inr, refl, sym, ap, subst, arith}
+use Rattle.std.proofs.Common.{◌≡◌, ◌∙◌, ℕ, Option, inl, inr, sym, ap, subst, arith}
 use Rattle.std.specs.Prelude.{IfSome}
 use Rattle.rule_machine.specs.declared.event.Event.TheVariants.{Status}
 use Rattle.rule_machine.specs.Tables.{table_of}

@@ -1,12 +1,12 @@
 -- What a line has done to a session that C keeps.
-use Rattle.std.proofs.Common.{◌≡◌, ◌∙◌, ◌⊎◌, ◌+◌, ◌-◌, ◌^◌, ℕ, List, Option, Result, Ok, Err, None, Some, inl, inr, refl, sym, ap, subst}
+use Rattle.std.proofs.Common.{◌≡◌, ◌∙◌, ◌+◌, ◌-◌, ◌^◌, ℕ, List, Option, Result, Ok, Err, None, Some, inl, inr, refl, sym, ap, subst}
 use Rattle.std.specs.Prelude.{min}
 use Rattle.script_text.specs.Script.{Progress}
 use Rattle.line_run.specs.declared.stop.Stop.{Stop}
 use Rattle.line_run.specs.declared.stop.Stop.TheVariants.{BadLine, LogFull}
 use Rattle.rudekpi_c.specs.declared.session.Session.{Session}
 use Rattle.rudekpi_c.specs.Session.{stands, rules_of, limit_of, GoesOn, LineEnded}
-use Rattle.rudekpi_c.specs.Slot.{Does, Fed, IsNext, IsPutBack, line_status}
+use Rattle.rudekpi_c.specs.Slot.{Does, Fed, IsPutBack, line_status}
 use Rattle.rudekpi_c.proofs.Going.{goes_from, goes_further}
 
 -- the session `from` was taken out, has carried out a line and is put back

@@ -1,5 +1,6 @@
 mod AsBox
 mod Walks
+pub mod Auditing
 pub mod Calling
 pub mod Counting
 pub mod Feeding

@@ -1,19 +1,32 @@
 -- What a handle owns.
 use base.Fml.{Fml, ftrue}
 use base.Stored.{Coded}
+use denote.RattleType.{RattleType}
 use denote.RawPtr.{Ptr}
 use Rattle.std.specs.Prelude.{Option, Some, None}
 use Rattle.std.specs.Box.Ownership.{box_owns}
 use Rattle.std.specs.Global.{Global}
 use Rattle.std.specs.contracts.impls.GlobalAllocator.TheImpl.{ghosts}
 use Rattle.std.specs.contracts.option.Option as option
-use Rattle.rudekpi_c.specs.contracts.session.Session.{the_row}
+use Rattle.auditor.specs.contracts.pieces.PieceAudit as audit
+use Rattle.rudekpi_c.specs.contracts.session.Session as session
 
--- the session at the address and the right to free its block; of none, nothing
-abbrev pub held : Global → Ptr → Option the_row.Denot → Fml
-held alloc at None = ftrue
-held alloc at (Some session) = box_owns (ghosts.dealloc_token alloc) the_row at session
+-- what lies at the address and the right to free its block; of none, nothing
+abbrev pub held_at : (row : RattleType) → Global → Ptr → Option row.Denot → Fml
+held_at row alloc at None = ftrue
+held_at row alloc at (Some value) = box_owns (ghosts.dealloc_token alloc) row at value
+
+-- a session
+abbrev pub held : Global → Ptr → Option session.the_row.Denot → Fml
+held = held_at session.the_row
 
 -- how the logic keeps whether there is one
-abbrev pub held_coded : Coded (Option the_row.Denot)
-held_coded = (option.the_row the_row).coded
+abbrev pub held_coded : Coded (Option session.the_row.Denot)
+held_coded = (option.the_row session.the_row).coded
+
+-- an audit
+abbrev pub held_audit : Global → Ptr → Option audit.the_row.Denot → Fml
+held_audit = held_at audit.the_row
+
+abbrev pub held_audit_coded : Coded (Option audit.the_row.Denot)
+held_audit_coded = (option.the_row audit.the_row).coded

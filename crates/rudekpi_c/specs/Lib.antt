@@ -1,4 +1,5 @@
 -- What the contracts cite.
+pub mod Audited
 pub mod Called
 pub mod Costed
 pub mod Counted

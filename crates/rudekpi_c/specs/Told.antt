@@ -2,8 +2,6 @@
 use Rattle.std.specs.Prelude.{ℕ, List, [], map, length}
 use Rattle.rule_machine.specs.declared.reply.Reply.{Reply}
 use Rattle.rule_machine.specs.declared.reply.Reply.TheVariants.{Refused, Moves, Shown, EnabledAre, Pairs}
-use Rattle.rule_machine.specs.declared.reply.Reply.TheVariants as reply_is
-use Rattle.rule_machine.specs.declared.counts.Counts.{Counts}
 use Rattle.rule_machine.specs.Refuse.{refusal_number}
 use Rattle.rudekpi_c.specs.declared.row.Row.{Row}
 use Rattle.rudekpi_c.specs.declared.told.Told.{Told}

@@ -1,7 +1,7 @@
 //! The audit of a transcript.
 
 ghost use Rattle.std.specs.Prelude.{◌≡◌};
-ghost use Rattle.rudekpi_c.specs.Judged.{JudgedAs, accepted, damaged, refused, verdict_of};
+ghost use Rattle.rudekpi_c.specs.Judged.{JudgedAs, accepted, damaged, refused, unjudged, verdict_of};
 
 use auditor::{Damage, JudgeFault, Summary, audit_bytes};
 use std::alloc::Global;
@@ -55,13 +55,21 @@ fn told_damaged(damage: Damage) -> Verdict
     }
 }
 
-fn told(found: Result<Summary, JudgeFault>) -> Verdict
+/// Nothing is said.
+pub(crate) fn unsaid() -> Verdict
+    ensures { result ≡ unjudged }
+{
+    told_refused(6, 0)
+}
+
+/// What was judged, as C is told.
+pub(crate) fn told(found: Result<Summary, JudgeFault>) -> Verdict
     ensures { result ≡ verdict_of found }
 {
     match found {
         Ok(counted) => told_accepted(counted),
         Err(JudgeFault::Damaged(damage)) => told_damaged(damage),
-        Err(JudgeFault::Memory) => told_refused(6, 0),
+        Err(JudgeFault::Memory) => unsaid(),
     }
 }
 

@@ -12,7 +12,7 @@ pub(crate) const LOG_FULL: u32 = 2;
 /// A growth of memory was refused.
 pub(crate) const MEMORY: u32 = 3;
 
-/// There is no session.
+/// There is no session, or no audit.
 pub(crate) const NO_SESSION: u32 = 4;
 
 /// What was asked for is out of its range.
@@ -20,3 +20,6 @@ pub(crate) const BAD_ARGUMENT: u32 = 5;
 
 /// The machine refuses the event.
 pub(crate) const REFUSED: u32 = 6;
+
+/// What an audit was fed is no transcript, whatever comes behind.
+pub(crate) const DAMAGED: u32 = 7;

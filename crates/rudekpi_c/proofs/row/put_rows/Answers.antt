@@ -1,4 +1,4 @@
-use Rattle.std.proofs.Common.{◌∙◌, ◌+◌, ◌++◌, map, take, drop, set, ap}
+use Rattle.std.proofs.Common.{◌∙◌, ◌++◌, map, take, drop, set, ap}
 use Rattle.rudekpi_c.proofs.Rowing.{row_more}
 use Rattle.rudekpi_c.proofs.row.put_rows.Goals as goal
 

@@ -1,5 +1,5 @@
 -- `into_parts` moves two fields, and what the handle owns, since there is a session, goes with them.
-use Rattle.rudekpi_c.proofs.Walks.{refl, sym, subst, List, [], ◌∷◌, ◌++◌, Ura, Val, SProp, ent, emp, id⊢, ftrue, fsep, Fun, tables, tables_of, Memory, Routine, WpFn, Tables, WpFn-mono, Logic, Item, ‵, raw, ◌⊛◌, ◌$◌, ◌∵◌, !, qed, by, move, drop, use1, join, split, fsplit, fjoin, suffices, done, whole, sub, agg, stop, fld, no_more, and_then, of_opd, returns, enter, alloc_all, pass_all, free_all, look_at, get, get_in, sets, yes, type_at, nothing, triple_of, entered, says, Stays, stay_dropped, walk_of, ends_at, Goes-dropped, walk_Meets, D, B, word, box_typed, box_out, box_in}
+use Rattle.rudekpi_c.proofs.Walks.{refl, sym, subst, List, [], ◌∷◌, ◌++◌, Ura, Val, SProp, ent, id⊢, ftrue, fsep, Fun, tables, tables_of, Memory, Routine, WpFn, Tables, WpFn-mono, Logic, Item, ‵, raw, ◌⊛◌, ◌$◌, ◌∵◌, !, qed, by, move, drop, use1, join, split, fsplit, fjoin, suffices, done, whole, sub, agg, stop, fld, no_more, and_then, of_opd, returns, enter, alloc_all, pass_all, free_all, look_at, get, get_in, sets, yes, type_at, nothing, triple_of, entered, says, Stays, stay_dropped, walk_of, ends_at, Goes-dropped, walk_Meets, D, B, word, box_typed, box_out, box_in}
 use types.Kit as kit
 use Rattle.std.specs.Prelude.{◌≡◌, Option, None, Some}
 use mathlib.Core.Path.{ap}

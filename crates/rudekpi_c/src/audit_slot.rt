@@ -1,0 +1,90 @@
+//! Where C keeps an audit that it feeds.
+
+ghost use Rattle.std.specs.Prelude.{◌≡◌, ◌↔◌, None, Some, Option, IsTrue, IsNone, IfSome};
+ghost use Rattle.auditor.specs.declared.pieces.PieceAudit.{PieceAudit};
+ghost use Rattle.rudekpi_c.specs.Held.{held_audit, held_audit_coded};
+
+use crate::parts::Parts;
+use auditor::PieceAudit;
+use std::alloc::Global;
+use std::marker::Model;
+use std::mem::replace;
+use std::ptr::null_mut;
+
+/// An audit by its address, or null where there is none. C sees the address alone.
+#[repr(C)]
+#[derive(Drop)]
+pub struct AuditHandle {
+    at: *mut (),
+    alloc: Global,
+    pub ghost value: { Option PieceAudit } by { held_audit_coded },
+}
+
+impl Model for AuditHandle {
+    ghost also_owns = { λ h. held_audit h.alloc h.at h.value };
+}
+
+impl AuditHandle {
+    /// No audit.
+    pub(crate) fn empty(alloc: Global) -> AuditHandle
+        ensures { result.value ≡ None }
+    {
+        let at: *mut () = null_mut();
+        AuditHandle { at, alloc }
+    }
+
+    /// The audit with these parts.
+    pub(crate) fn of_parts(parts: Parts<PieceAudit, Global>) -> AuditHandle
+        ensures { result.value ≡ Some parts.value }
+    {
+        let Parts { at: typed, alloc } = parts;
+        let at = typed as *mut ();
+        AuditHandle { at, alloc }
+    }
+
+    /// The parts of the audit.
+    pub(crate) fn into_parts(self) -> Parts<PieceAudit, Global>
+        requires { self.value ≡ None → ⊥ }
+        ensures { Some result.value ≡ self.value }
+    {
+        let AuditHandle { at: bare, alloc } = self;
+        let at = bare as *mut PieceAudit;
+        Parts { at, alloc }
+    }
+}
+
+/// An audit of C, or none: that is what a slot of bytes that are all 0 says.
+#[repr(C)]
+#[derive(Drop)]
+pub struct AuditSlot {
+    pub handle: AuditHandle,
+    pub full: bool,
+    ghost says: { IsTrue full ↔ (handle.value ≡ None → ⊥) },
+}
+
+impl AuditSlot {
+    /// Takes the audit out.
+    pub(crate) fn take(&mut self, alloc: Global) -> Option<Box<PieceAudit>>
+        ensures left { self.new.handle.value ≡ None }
+        ensures none { IsNone result → self.old.handle.value ≡ None }
+        ensures some { IfSome result (λ audit. self.old.handle.value ≡ Some audit.value) }
+    {
+        let empty = AuditSlot {
+            handle: AuditHandle::empty(alloc),
+            full: false,
+        };
+        let old = replace(self, empty);
+        if !old.full {
+            return None;
+        }
+        Some(old.handle.into_parts().into_box())
+    }
+
+    /// Puts an audit in the place of what was there.
+    pub(crate) fn put(&mut self, audit: Box<PieceAudit>)
+        ensures { self.new.handle.value ≡ Some audit.value }
+    {
+        let handle = AuditHandle::of_parts(Parts::of(audit));
+        *self = AuditSlot { handle, full: true };
+    }
+}
