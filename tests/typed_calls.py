@@ -5,6 +5,7 @@ import re
 DONE, REFUSED = 0, 6
 RULES = {"update": 1, "marry": 2, "seduce": 3, "abandon": 4}
 COUNTS = ("nodes", "edges", "pairs", "enabled", "charge", "spent")
+EDITS = {"link": 2, "unlink": 2, "join": 1, "leave": 1, "point": 2, "flag": 2}
 
 
 class Told(ctypes.Structure):
@@ -36,6 +37,9 @@ def typed(library, slot):
     for name, words in {"rows": [ctypes.POINTER(Row), ctypes.c_size_t], "transcript": [ctypes.c_bool], "partner": [number, ctypes.POINTER(number)]}.items():
         calls[name] = library[f"rudekpi_{name}"]
         calls[name].argtypes = [slot, *words]
+    for name, count in EDITS.items():
+        calls[f"cost_of_{name}"] = library[f"rudekpi_cost_of_{name}"]
+        calls[f"cost_of_{name}"].argtypes = [slot, *[number] * (count - (name == "flag")), *[ctypes.c_bool] * (name == "flag"), ctypes.POINTER(number)]
     calls["rows"].restype = ctypes.c_size_t
     return calls
 
@@ -106,3 +110,11 @@ def partners(calls, slot, nodes):
         if found.value:
             pairs.add((node, found.value))
     return pairs
+
+
+def cost(calls, slot, kind, *numbers):
+    """What an edit or a fault is told to cost."""
+    found = ctypes.c_uint32(9)
+    if calls[f"cost_of_{kind}"](slot, *(number or 0 for number in numbers), found) != DONE:
+        raise ValueError(f"no cost for {kind} {numbers}")
+    return found.value

@@ -4,7 +4,7 @@
 #[allow(dead_code)]
 mod rudekpi;
 
-use rudekpi::{audit, Fault, Network, Rules};
+use rudekpi::{audit, Audit, Fault, Network, Rules};
 use std::io::Write;
 
 fn mend() -> Result<Vec<u8>, Fault> {
@@ -14,6 +14,7 @@ fn mend() -> Result<Vec<u8>, Fault> {
     }
     ring.drive(7, 100)?;
     eprintln!("pairs: {:?}", ring.pairs()?);
+    eprintln!("if node 4 went, the charge would grow by {} at most", ring.cost_of_leave(4)?);
     ring.point(1, Some(12))?;
     ring.leave(4)?;
     ring.drive(8, 100)?;
@@ -29,4 +30,7 @@ fn main() {
     eprintln!("audit: kind {}, {} entries, {} moves", verdict.kind, verdict.entries, verdict.moves);
     std::io::stdout().write_all(&text).expect("standard output");
     assert_eq!(verdict.kind, 0);
+    let mut pieces = Audit::new().expect("memory");
+    assert!(text.chunks(100).all(|piece| pieces.feed(piece)));
+    assert_eq!(pieces.finish(), verdict);
 }

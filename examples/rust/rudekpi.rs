@@ -99,7 +99,17 @@ extern "C" {
     fn rudekpi_drive(slot: *mut Slot, seed: u64, count: u32, told: *mut Told) -> u32;
     fn rudekpi_scramble(slot: *mut Slot, seed: u64, count: u32, told: *mut Told) -> u32;
     fn rudekpi_checkpoint(slot: *mut Slot, told: *mut Told) -> u32;
+    fn rudekpi_cost_of_link(slot: *mut Slot, a: u32, b: u32, cost: *mut u32) -> u32;
+    fn rudekpi_cost_of_unlink(slot: *mut Slot, a: u32, b: u32, cost: *mut u32) -> u32;
+    fn rudekpi_cost_of_join(slot: *mut Slot, node: u32, cost: *mut u32) -> u32;
+    fn rudekpi_cost_of_leave(slot: *mut Slot, node: u32, cost: *mut u32) -> u32;
+    fn rudekpi_cost_of_point(slot: *mut Slot, node: u32, target: u32, cost: *mut u32) -> u32;
+    fn rudekpi_cost_of_flag(slot: *mut Slot, node: u32, value: bool, cost: *mut u32) -> u32;
     fn rudekpi_audit(bytes: *const u8, length: usize, verdict: *mut Verdict);
+    fn rudekpi_audit_new(slot: *mut Slot) -> u32;
+    fn rudekpi_audit_feed(slot: *mut Slot, bytes: *const u8, length: usize) -> u32;
+    fn rudekpi_audit_finish(slot: *mut Slot, verdict: *mut Verdict) -> u32;
+    fn rudekpi_audit_free(slot: *mut Slot);
 }
 
 /// A network that is kept in pairs by its rules, with its transcript.
@@ -110,6 +120,20 @@ pub struct Network {
 
 // a session may be used by any thread, one at a time
 unsafe impl Send for Network {}
+
+/// What an edit or a fault would cost.
+macro_rules! costs {
+    ($($(#[$text:meta])* $name:ident, $call:ident, ($($word:ident: $kind:ty),*);)*) => {$(
+        $(#[$text])*
+        pub fn $name(&mut self, $($word: $kind),*) -> Result<u32, Fault> {
+            let mut cost = 0;
+            match unsafe { $call(&mut *self.slot, $($word,)* &mut cost) } {
+                0 => Ok(cost),
+                _ => Err(Fault::BadArgument),
+            }
+        }
+    )*};
+}
 
 /// A call of one node or of two, or of a seed and a number of turns.
 macro_rules! calls {
@@ -150,6 +174,29 @@ impl Network {
         scramble, rudekpi_scramble, (seed: u64, count: u32);
         /// Writes where the network stands behind the transcript, as a base.
         checkpoint, rudekpi_checkpoint, ();
+    }
+
+    costs! {
+        /// What an edge that comes would cost, in moves: it lets the charge grow by this at most. 0 also for what would be refused; nothing
+        /// is done. So do the others.
+        cost_of_link, rudekpi_cost_of_link, (a: u32, b: u32);
+        /// What an edge that goes would cost.
+        cost_of_unlink, rudekpi_cost_of_unlink, (a: u32, b: u32);
+        /// What a node that comes would cost.
+        cost_of_join, rudekpi_cost_of_join, (node: u32);
+        /// What a node that goes would cost.
+        cost_of_leave, rudekpi_cost_of_leave, (node: u32);
+        /// What a flag that is written would cost.
+        cost_of_flag, rudekpi_cost_of_flag, (node: u32, value: bool);
+    }
+
+    /// What a pointer that is written would cost.
+    pub fn cost_of_point(&mut self, node: u32, target: Option<u32>) -> Result<u32, Fault> {
+        let mut cost = 0;
+        match unsafe { rudekpi_cost_of_point(&mut *self.slot, node, target.unwrap_or(0), &mut cost) } {
+            0 => Ok(cost),
+            _ => Err(Fault::BadArgument),
+        }
     }
 
     /// A fault writes a node's pointer.
@@ -227,4 +274,40 @@ pub fn audit(text: &[u8]) -> Verdict {
     let mut verdict = Verdict::default();
     unsafe { rudekpi_audit(text.as_ptr(), text.len(), &mut verdict) };
     verdict
+}
+
+/// An audit that is fed a transcript as it comes.
+pub struct Audit {
+    slot: Box<Slot>,
+}
+
+// an audit may be used by any thread, one at a time
+unsafe impl Send for Audit {}
+
+impl Audit {
+    pub fn new() -> Result<Audit, Fault> {
+        let mut slot = Box::new(Slot { at: std::ptr::null_mut(), full: false });
+        match unsafe { rudekpi_audit_new(&mut *slot) } {
+            0 => Ok(Audit { slot }),
+            _ => Err(Fault::NoMemory),
+        }
+    }
+
+    /// Feeds it the bytes that come next, cut anywhere; whether nothing wrong was found by now.
+    pub fn feed(&mut self, piece: &[u8]) -> bool {
+        unsafe { rudekpi_audit_feed(&mut *self.slot, piece.as_ptr(), piece.len()) == 0 }
+    }
+
+    /// The verdict on all that it was fed.
+    pub fn finish(mut self) -> Verdict {
+        let mut verdict = Verdict::default();
+        unsafe { rudekpi_audit_finish(&mut *self.slot, &mut verdict) };
+        verdict
+    }
+}
+
+impl Drop for Audit {
+    fn drop(&mut self) {
+        unsafe { rudekpi_audit_free(&mut *self.slot) }
+    }
 }

@@ -22,9 +22,10 @@ there is a library. By a program a network is for one thread. A transcript is ke
 from . import daemons, graphs
 from .audits import audit, epochs
 from .batch import Batch, Pending
-from .errors import Damaged, Ended, Garbled, PastBound, Refused, RudekpiError, WrongChoice
+from .errors import Damaged, Ended, Garbled, NoSuchCommand, PastBound, Refused, RudekpiError, WrongChoice
 from .network import Network
 from .parts import audit_parts
+from .pieces import Audit
 from .replies import (
     Accepted, Base, Enabled, Epoch, Fault, Matching, Move, Moves, Registers, Settled, Shown, Status, Summary, Turns, Wish,
 )
@@ -36,7 +37,7 @@ from .sweeps import sweep
 __version__ = "0.1.0"
 
 __all__ = [
-    "Accepted", "Base", "Batch", "Damaged", "Enabled", "Ended", "Epoch", "Fault", "Garbled", "Matching", "Move", "Moves",
-    "Network", "PastBound", "Pending", "Refused", "Registers", "RudekpiError", "Settled", "Shown", "Status", "Summary", "Turns",
+    "Accepted", "Audit", "Base", "Batch", "Damaged", "Enabled", "Ended", "Epoch", "Fault", "Garbled", "Matching", "Move", "Moves",
+    "Network", "NoSuchCommand", "PastBound", "Pending", "Refused", "Registers", "RudekpiError", "Settled", "Shown", "Status", "Summary", "Turns",
     "Wish", "WrongChoice", "audit", "audit_parts", "daemons", "epochs", "graphs", "longest", "replay", "storm", "sweep",
 ]

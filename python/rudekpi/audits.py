@@ -54,14 +54,20 @@ def audit(transcript: Union[Text, Slice], *, program: Program = None, engine: Op
         if isinstance(transcript, Slice):
             return transcript.audit(judge)
         return judge.audit_bytes(transcript.encode() if isinstance(transcript, str) else bytes(transcript))
-    return Summary(*numbers_judged("audit", transcript, program, r"accepted: ([0-9]+) entries, ([0-9]+) epochs, ([0-9]+) moves\n")[0])
+    return summary_read(judged(["audit"], transcript, program))
+
+
+def summary_read(said: str) -> Summary:
+    """What the program says of a transcript that its `audit` accepts."""
+    return Summary(*numbers_in("audit", said, r"accepted: ([0-9]+) entries, ([0-9]+) epochs, ([0-9]+) moves\n")[0])
 
 
 def epochs(transcript: Text, *, program: Program = None) -> list[Epoch]:
     """The epochs of a transcript, each with its bound and what the disturbance that began it cost. Raises `Damaged` where `audit`
     refuses it, or `Ended`."""
     row = ",".join(["([0-9]+|-)", *["([0-9]+)"] * 4, "([0-9]+|-)"]) + "\n"
-    return [Epoch(*numbers) for numbers in numbers_judged("epochs", transcript, program, row, "start,moves,edges,nodes,bound,cost\n")]
+    said = judged(["epochs"], transcript, program)
+    return [Epoch(*numbers) for numbers in numbers_in("epochs", said, row, "start,moves,edges,nodes,bound,cost\n")]
 
 
 def picture(transcript: Text, entry: Optional[int] = None, *, program: Program = None) -> str:
@@ -84,7 +90,11 @@ def picture(transcript: Text, entry: Optional[int] = None, *, program: Program =
 def judged(words: list[str], transcript: Union[Text, Slice], program: Program) -> str:
     """What the program says of a transcript that it accepts."""
     given = transcript.encode() if isinstance(transcript, str) else transcript
-    status, out, told = fed([found_program(program), *words], given)
+    return said_by(*fed([found_program(program), *words], given))
+
+
+def said_by(status: int, out: bytes, told: bytes) -> str:
+    """What a program has said that has accepted; raises what it has refused, or how it has ended."""
     said = text_of(out)
     if status == 1 and VERDICT.fullmatch(said):
         raise Damaged.read(said)
@@ -117,9 +127,8 @@ def fed(words: list[str], given: Union[bytes, bytearray, memoryview, Slice]) -> 
         return run.returncode, out.read(), told.read()
 
 
-def numbers_judged(word: str, transcript: Union[Text, Slice], program: Program, line: str, head: str = "") -> list[tuple[Any, ...]]:
-    """The numbers in each line that the program says of a transcript, below a head; None where a `-` stands."""
-    said = judged([word], transcript, program)
+def numbers_in(word: str, said: str, line: str, head: str = "") -> list[tuple[Any, ...]]:
+    """The numbers in each line of what the program says of a transcript, below a head; None where a `-` stands."""
     if not re.fullmatch(f"{head}(?:{line})+", said):
         raise Garbled(f"{said[:200]!r} is no answer to {word}")
     return [numbers_of(found) for found in re.finditer(line, said)]

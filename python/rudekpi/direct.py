@@ -138,6 +138,11 @@ class Direct:
             self.library.partner(self.at, number, ctypes.byref(found))
         return found.value
 
+    def cost_of(self, word: str, *given: Any) -> int:
+        """What an edit or a fault would cost if it came now."""
+        cost: int = getattr(Costs(self), word)(*given)
+        return cost
+
     def batch(self, raises: bool = True, keeps: bool = True) -> Batch:
         return DirectBatch(self, raises, keeps)
 
@@ -358,3 +363,15 @@ class DirectBatch(Batch):
         if status:
             session.raise_for(status)
         return bytes(said[before:size])
+
+
+class Costs(DirectBatch):
+    """What the edits and faults of a batch would cost; none of them is carried out."""
+
+    def _edit(self, word: str, *numbers: int) -> int:
+        session, found = self._session, ctypes.c_uint32()
+        with session.lock:
+            status = getattr(session.library, f"cost_of_{word}")(self._at, *numbers, ctypes.byref(found))
+        if status:
+            session.raise_for(status)
+        return found.value

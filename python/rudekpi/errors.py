@@ -36,6 +36,10 @@ class Ended(RudekpiError):
         return type(self), (self.status, self.last_line.encode())
 
 
+class NoSuchCommand(RudekpiError):
+    """The program that plays the network has no command for what is asked; the library has."""
+
+
 class Garbled(RudekpiError):
     """The program wrote something that answers nothing that was asked."""
 

@@ -37,12 +37,25 @@ class Verdict(ctypes.Structure):
     _fields_ = [(name, ctypes.c_uint32) for name in ("kind", "entries", "epochs")] + [(name, ctypes.c_uint64) for name in ("moves", "line")]
 
 
-# the calls of a session. They are called with references and numbers below 2^31, or with numbers that are wrapped, for which ctypes
+def summary_of(verdict: Verdict) -> Summary:
+    """What a verdict says; raises `Damaged`, or `MemoryError`."""
+    if not verdict.kind:
+        return Summary(verdict.entries, verdict.epochs, verdict.moves)
+    if verdict.kind not in DAMAGES:
+        raise MemoryError("no memory for an audit")
+    raise Damaged(verdict.line, DAMAGES[verdict.kind])
+
+
+# the calls of a session and of an audit. They are called with references and numbers below 2^31, or with numbers that are wrapped, for which ctypes
 # wants no types: to convert to them would take as long as the call. While those that may take long run, other threads of Python do
-SHORT = ("link", "unlink", "point", "flag", "show", "status", "partner")
-LONG = ("session_new", "session_feed", "join", "leave", "step", "enabled", "pairs", "drive", "scramble", "checkpoint")
+COSTED = ("link", "unlink", "join", "leave", "point", "flag")
+SHORT = ("link", "unlink", "point", "flag", "show", "status", "partner", *(f"cost_of_{word}" for word in COSTED))
+LONG = (
+    "session_new", "session_feed", "join", "leave", "step", "enabled", "pairs", "drive", "scramble", "checkpoint", "audit_new", "audit_feed",
+    "audit_finish",
+)
 SIZES = ("rows", "session_length", "session_read")
-NONE = ("session_free",)
+NONE = ("session_free", "audit_free")
 
 
 class Library:
@@ -72,11 +85,7 @@ class Library:
         """The verdict on so many bytes at an address; raises `Damaged`, or `MemoryError`."""
         verdict = Verdict()
         self.judge(at, size, ctypes.addressof(verdict))
-        if not verdict.kind:
-            return Summary(verdict.entries, verdict.epochs, verdict.moves)
-        if verdict.kind not in DAMAGES:
-            raise MemoryError("no memory for an audit")
-        raise Damaged(verdict.line, DAMAGES[verdict.kind])
+        return summary_of(verdict)
 
     def audit_bytes(self, text: bytes, start: int = 0, end: Optional[int] = None) -> Summary:
         """The verdict on a part of bytes, which are not copied."""

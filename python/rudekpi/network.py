@@ -172,6 +172,14 @@ class Network:
         """Where the network stands, as a base whose lines stand in the transcript then; they are no entry."""
         return self._single.checkpoint().result()
 
+    def cost_of(self, word: str, *given: Any) -> int:
+        """What an edit or a fault would cost if it came now, in moves: `net.cost_of("unlink", "ann", "bob")`, and so for `link`, `join`,
+        `leave`, `point` and `flag`. The charge grows by no more than this; 0 where it would be refused. Nothing is done, and no entry
+        added. Raises `NoSuchCommand` by a program, which has none that tells it."""
+        if word not in library.COSTED:
+            raise ValueError(f"{' or '.join(library.COSTED)} has a cost, and not {word!r}")
+        return self._session.cost_of(word, *given)
+
     def settle(self, daemon: Union[Daemon, AnyDaemon]) -> Settled:
         """Lets a daemon choose who moves until nobody is enabled.
 

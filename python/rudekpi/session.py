@@ -6,7 +6,7 @@ from typing import Any, Optional
 
 from .answers import Answers, Setting, refusal
 from .batch import Batch, Pending
-from .errors import Garbled, RudekpiError, text_of
+from .errors import Garbled, NoSuchCommand, RudekpiError, text_of
 from .reading import read_accepted, read_status
 from .replies import Turns
 from .talk import Talk
@@ -56,6 +56,9 @@ class Session:
     def partner(self, number: int) -> int:
         """The program has no such question: 0 for all nodes."""
         return 0
+
+    def cost_of(self, word: str, *given: Any) -> int:
+        raise NoSuchCommand(f"the program tells no cost of {word} beforehand: play the network by engine='library'")
 
     def tell(self, line: str) -> None:
         """Carries out a line of a script; behind one that writes several entries the status is asked, which ends them."""

@@ -15,7 +15,7 @@ import unittest
 import weakref
 from unittest import mock
 
-from rudekpi import Damaged, Ended, Network, Refused, audit, library
+from rudekpi import Audit, Damaged, Ended, Network, NoSuchCommand, Refused, Summary, audit, library
 from support import TOP, Timed, play, told
 
 
@@ -136,6 +136,102 @@ class Same(Timed):
         self.assertEqual(whys, {"not a transcript line", "out of order", "not the machine's reply", "bad base"})
         for text in (b"", b"x", "matching hh 2\n", bytearray(b"matching hh 2\n"), memoryview(b"matching hh 2\n1 show 1 = 2\n")):
             self.assertEqual(verdict(text, "library"), verdict(text, "program"))
+
+
+class CostsTold(Timed):
+    """What edits and faults would cost; the numbers are those of the table in docs/BOUNDS.md, reckoned by hand."""
+
+    engines = ("library",)
+    # ann and bob are a pair with two other edges each; cleo points at ann, who does not answer; gus is not there
+    names = ("ann", "bob", "cleo", "dan", "eve", "fay", "gus")
+    rows = (
+        (("link", "cleo", "dan"), 2, 2), (("unlink", "ann", "bob"), 8, 12), (("unlink", "ann", "cleo"), 4, 0), (("unlink", "bob", "eve"), 0, 0),
+        (("point", "ann", "cleo"), 12, 16), (("point", "cleo", None), 6, 2), (("point", "dan", "ann"), 1, 1), (("flag", "ann", True), 0, 7),
+        (("flag", "dan", 1), 0, 1), (("join", "gus"), 0, 1), (("leave", "ann"), 4, 6), (("leave", "cleo"), 4, 0), (("leave", "dan"), 0, 0),
+        (("link", "ann", "bob"), 0, 0), (("join", "ann"), 0, 0), (("point", "dan", "eve"), 0, 0),
+    )
+
+    def network(self, rules, engine=None):
+        net = Network(rules, self.names, present=6, engine=engine)
+        for a, b in (("ann", "bob"), ("ann", "cleo"), ("ann", "dan"), ("bob", "eve"), ("bob", "fay")):
+            net.link(a, b)
+        for a, b in (("ann", "bob"), ("bob", "ann"), ("cleo", "ann")):
+            net.point(a, b)
+        return net
+
+    def test_by_the_library(self):
+        for at, rules in enumerate(("hh", "manne")):
+            with self.network(rules, "library") as net:
+                before = net.transcript()
+                for event, *costs in self.rows:
+                    with self.subTest(rules, event=event):
+                        self.assertEqual(net.cost_of(*event), costs[at])
+                self.assertEqual(net.transcript(), before)
+                self.assertRaisesRegex(ValueError, "no node has the name 'zoe'", net.cost_of, "link", "ann", "zoe")
+                self.assertRaisesRegex(ValueError, "has a cost, and not 'step'", net.cost_of, "step", "ann")
+                self.assertRaisesRegex(ValueError, "a flag", net.cost_of, "flag", "ann", 2)
+                self.assertRaises(TypeError, net.cost_of, "link", "ann")
+            self.assertRaisesRegex(ValueError, "closed", net.cost_of, "leave", "ann")
+
+    def test_by_the_program(self):
+        with self.network("hh", "program") as net:
+            self.assertRaisesRegex(NoSuchCommand, "the program tells no cost of unlink beforehand", net.cost_of, "unlink", "ann", "bob")
+            self.assertRaisesRegex(ValueError, "has a cost, and not 'show'", net.cost_of, "show", "ann")
+            self.assertEqual(net.link("cleo", "dan").entry, 9)
+
+
+class Pieces(Timed):
+    """Audits that are fed a transcript as it comes. What they say is what `audit` says of the whole."""
+
+    text = "matching hh 2\n1 link 1 2 = ok\n2 enabled = 1:seduce 2:seduce\n3 step 1 = 1:seduce>2\n"
+
+    def verdict(self, pieces):
+        with Audit() as judge:
+            try:
+                for piece in pieces:
+                    judge.feed(piece)
+                return judge.finish()
+            except Damaged as damaged:
+                return str(damaged)
+
+    def test_cut_anywhere(self):
+        whole = self.text.encode()
+        for text, wanted in ((whole, Summary(3, 2, 1)), (whole[:-1], "line 4: not a transcript line"), (b"", "line 1: bad header"), (whole.replace(b">2", b">1"), "line 4: not the machine's reply")):
+            for size in (1, 7, 100):
+                with self.subTest(text, size=size):
+                    self.assertEqual(self.verdict(text[at : at + size] for at in range(0, len(text), size)), wanted)
+        self.assertEqual(self.verdict([self.text[:20], bytearray(whole[20:40]), memoryview(whole)[40:]]), Summary(3, 2, 1))
+
+    def test_what_is_said_once_is_said_again(self):
+        with Audit() as judge:
+            judge.feed(self.text)
+            for _ in range(2):
+                self.assertEqual(judge.finish(), Summary(3, 2, 1))
+            self.assertRaisesRegex(ValueError, "the audit is over", judge.feed, "4 status")
+        self.assertEqual(judge.finish(), Summary(3, 2, 1))
+        judge = Audit()
+        self.assertRaises(Damaged, lambda: [judge.feed("no header\n" * 9999) for _ in range(99)])
+        for ask in (judge.finish, lambda: judge.feed(self.text), judge.finish):
+            self.assertRaisesRegex(Damaged, "line 1: bad header", ask)
+        judge.close()
+        judge.close()
+
+    def test_that_is_closed(self):
+        with Audit() as judge:
+            judge.feed(self.text)
+        for ask in (judge.finish, lambda: judge.feed("x")):
+            self.assertRaisesRegex(ValueError, "the audit is closed", ask)
+
+    def test_that_nobody_closes(self):
+        before = resource.getrusage(resource.RUSAGE_SELF).ru_maxrss
+        for _ in range(60 if Audit().engine == "library" else 3):
+            judge = Audit()
+            # a line that does not end is held whole: a megabyte
+            judge.feed(b"matching hh 2\n" + b"1" * (1 << 20))
+            ended = weakref.ref(judge._judge)
+            del judge
+            self.assertIsNone(ended())
+        self.assertLess(resource.getrusage(resource.RUSAGE_SELF).ru_maxrss - before, 30_000)
 
 
 class Threads(Timed):
