@@ -5,8 +5,7 @@ use Rattle.std.proofs.lemmas.Bool.Decides.{nat_tests}
 use mathlib.Core.List.{IsPrefix}
 use prog.Atomic.{either}
 use Rattle.logbook.specs.Pages.{Cell, cell, keeps, no_nib, step, Moves, Goes}
-use Rattle.board.specs.History.{Mark}
-use Rattle.board.specs.Kept.{IsKept, Adds}
+use Rattle.board.specs.History.{Mark, IsKept, Adds}
 use Rattle.board.proofs.Fronts.{prefix_whole}
 
 abbrev pub hidden : List Mark → List Mark

@@ -4,8 +4,7 @@ use Rattle.std.proofs.lemmas.List.Sums.{fold-append}
 use Rattle.rule_machine.specs.Run.{Entry}
 use Rattle.logbook.specs.Pages.{Book}
 use Rattle.board.specs.declared.image.Posted.{Posted}
-use Rattle.board.specs.History.{Mark, marked, standing, published, posted, shown}
-use Rattle.board.specs.Kept.{max_marks}
+use Rattle.board.specs.History.{Mark, marked, standing, published, posted, shown, max_marks}
 use Rattle.board.specs.Row.{Extent}
 use Rattle.board.specs.Sight.{Sight, extent_of}
 use Rattle.board.specs.Rule.{Follows}
@@ -20,24 +19,24 @@ none_pending (p ∷ pending) is = absurd (cc is)
 post_standing : (marks : List Mark) (entry : Entry) → standing (marks ++ Some entry ∷ []) ≡ (published marks, entry ∷ [])
 post_standing marks entry = fold-append marked ([], []) marks (Some entry ∷ [])
 
-module _ (law : Extent → List Entry → Type 0) (x : Sight) (known : Option Sight) (marks : List Mark) (book : Book) (told : List Mark) where
+module _ (law : Extent → List Entry → Type 0) (x : Sight) (known : Option Sight) (marks : List Mark) (book : Book) (announced : List Mark) where
   -- the entry that was appended is the one that the history has posted last
-  pub posts : (marks' : List Mark) (book' : Book) (p : Posted) → IsBoard law x known [] marks book told → marks' ≡ marks ++ Some p.entry ∷ [] → book' ≡ book
-      → p.past.seen.log ≡ marks' → p.past.seen.book ≡ book' → p.front ≡ length (shown x.marks) + 1 → length marks + 1 < max_marks → IsBoard law x known (p ∷ []) marks' book' told
+  pub posts : (marks' : List Mark) (book' : Book) (p : Posted) → IsBoard law x known [] marks book announced → marks' ≡ marks ++ Some p.entry ∷ [] → book' ≡ book
+      → p.past.seen.log ≡ marks' → p.past.seen.book ≡ book' → p.front ≡ length (shown x.marks) + 1 → length marks + 1 < max_marks → IsBoard law x known (p ∷ []) marks' book' announced
   posts marks' book' p b is same log at number room = record {
     sound = b.sound;
     knows = b.knows;
     same = same ∙ b.same;
     list = ap published is ∙ (ap (λ s. s.0) (post_standing marks p.entry) ∙ b.list);
     ready = inr (p, refl, record { past = log; same = at; number = number; last = ap posted is ∙ ap (λ s. s.1) (post_standing marks p.entry); room = rw is (omega (arith, room, length-append marks (Some p.entry ∷ []))) });
-    is_told = b.is_told;
+    is_announced = b.is_announced;
   }
 
   -- what the posted entry makes of the entries that are shown
-  shows_more : (pending : List Posted) (p : Posted) → IsBoard law x known pending marks book told → Fits x marks book p → shown p.past.seen.log ≡ shown x.marks ++ p.entry ∷ []
+  shows_more : (pending : List Posted) (p : Posted) → IsBoard law x known pending marks book announced → Fits x marks book p → shown p.past.seen.log ≡ shown x.marks ++ p.entry ∷ []
   shows_more pending p b f = ap shown f.past ∙ (ap (λ l. l ++ posted marks) b.list ∙ ap (λ l. shown x.marks ++ l) f.last)
 
-  pub is_ready : (pending : List Posted) → IsBoard law x known pending marks book told → law (extent_of x) (shown x.marks ++ entries_of pending) → IsReady law x pending
+  pub is_ready : (pending : List Posted) → IsBoard law x known pending marks book announced → law (extent_of x) (shown x.marks ++ entries_of pending) → IsReady law x pending
   is_ready pending b holds =
       ⊎_elim (λ (none : pending ≡ []). subst (IsReady law x) (sym none) (λ s. s, follows_self x))
       (λ (one : (p : Posted) × (pending ≡ p ∷ []) × Fits x marks book p).

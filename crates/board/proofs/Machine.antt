@@ -17,8 +17,7 @@ use Rattle.rule_machine.specs.Step.{written, after_move}
 use Rattle.rule_machine.specs.Disturbance.{without_pointer}
 use Rattle.rule_machine.specs.Answer.{Does, AnswersBy, Answers, spent_after}
 use Rattle.rule_machine.specs.Run.{Entry, Moment, Run, beginning_with}
-use Rattle.board.specs.Row.{Row, Extent, cleared, moved_by, moved, effect_of, effect, here_of, here_by}
-use Rattle.board.specs.Runs.{IsRun}
+use Rattle.board.specs.Row.{Row, Extent, cleared, moved_by, moved, effect_of, effect, here_of, here_by, IsRun}
 
 abbrev pub pointers_of : State → Row
 pointers_of s = s.registers.pointers
@@ -166,6 +165,6 @@ run_begins t start (entry ∷ some) rest end h =
 
 pub is_run_begins : (t : RuleTable) (extent : Extent) (some all : List Entry) → IsPrefix some all → IsRun t extent all → IsRun t extent some
 is_run_begins t extent some all p h =
-    let begun : Moment = beginning_with h.0 extent.first in
+    let begun : Moment = beginning_with h.0 extent.present in
     let whole : Run t begun (some ++ p.0) h.1 = subst (λ (l : List Entry). Run t begun l h.1) (sym p.1) h.3 in
     let m = run_begins t begun some p.0 h.1 whole in (h.0, m.0, h.2, m.1)

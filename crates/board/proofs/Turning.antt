@@ -24,7 +24,7 @@ follows_on (Some s) x y f g =
     (g.0 ∙ f.0, g.1 ∙ f.1, prefix_trans (shown s.marks) (shown x.marks) (shown y.marks) f.2 g.2)
 
 abbrev with_places : Sight → ℕ → Extent
-with_places x places = record { places = places; first = x.first }
+with_places x places = record { places = places; present = x.present }
 
 module _ (law : Extent → List Entry → Type 0) where
   -- a copy that goes on from the one before may be shown

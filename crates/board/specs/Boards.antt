@@ -4,8 +4,7 @@ use mathlib.Core.List.{IsPrefix}
 use Rattle.rule_machine.specs.Run.{Entry}
 use Rattle.logbook.specs.Pages.{Book}
 use Rattle.board.specs.declared.image.Posted.{Posted}
-use Rattle.board.specs.History.{Mark, published, posted, shown}
-use Rattle.board.specs.Kept.{max_marks}
+use Rattle.board.specs.History.{Mark, published, posted, shown, max_marks}
 use Rattle.board.specs.Row.{Extent}
 use Rattle.board.specs.Sight.{Sight, after}
 use Rattle.board.specs.Rule.{Follows, IsSound}
@@ -30,13 +29,13 @@ pub record Fits (x : Sight) (marks : List Mark) (book : Book) (p : Posted) : Typ
   pub room : length marks < max_marks
 
 -- The copy that readers take shows what the history published, the writer knows it, and at most one entry is pending.
-pub record IsBoard (law : Extent → List Entry → Type 0) (x : Sight) (known : Option Sight) (pending : List Posted) (marks : List Mark) (book : Book) (told : List Mark) : Type 0 where
+pub record IsBoard (law : Extent → List Entry → Type 0) (x : Sight) (known : Option Sight) (pending : List Posted) (marks : List Mark) (book : Book) (announced : List Mark) : Type 0 where
   pub sound : IsSound law x
   pub knows : known ≡ Some x
   pub same : book ≡ x.book
   pub list : published marks ≡ shown x.marks
   pub ready : (pending ≡ []) ⊎ ((p : Posted) × (pending ≡ p ∷ []) × Fits x marks book p)
-  pub is_told : published told ≡ shown x.marks
+  pub is_announced : published announced ≡ shown x.marks
 
 -- a reader knows a copy, which goes on from what it saw
 pub record IsReader (known : Option Sight) (seen : List Mark) (seen_in : Book) (learnt_in : Book) : Type 0 where

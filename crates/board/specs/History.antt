@@ -1,5 +1,6 @@
--- The history of a board: the entries that were posted, and which of them were published.
-use Rattle.std.specs.Prelude.{List, [], ◌∷◌, ◌++◌, Option, None, Some, fold}
+-- The history of a board: the entries that were posted, which of them were published, and what adding a mark tells.
+use Rattle.std.specs.Prelude.{ℕ, ◌≡◌, ◌==◌, true, List, [], ◌∷◌, ◌++◌, length, Option, None, Some, MatchBool, fold}
+use Rattle.logbook.specs.Pages.{Cell, Step, View, Book, Named}
 use Rattle.rule_machine.specs.Run.{Entry}
 
 -- an entry that is posted, in place of the one before if that was not published; or none, where what was posted last is
@@ -24,3 +25,21 @@ posted marks = (standing marks).1
 -- what is published once the posted entry is
 abbrev pub shown : List Mark → List Entry
 shown marks = published marks ++ posted marks
+
+-- ---- the rule of the history
+
+-- The first word is the number of marks. A book has two words, of which this one leaves the second at 0.
+abbrev pub IsKept : List Cell → List Mark → Type 0
+IsKept cells marks = cells ≡ (length marks, true) ∷ (0, true) ∷ []
+
+-- how many marks the word counts
+abbrev pub max_marks : ℕ
+max_marks = 18446744073709551615
+
+-- the word of a book that is the number of its marks
+abbrev pub head_of : Book → Named
+head_of b = record { tracked = true; key = 0; book = b }
+
+-- where the number that was expected is found, the mark was added to all that had been seen
+abbrev pub Adds : Step Mark → View Mark ℕ → ℕ → View Mark ℕ → Type 0
+Adds s v found w = MatchBool (found == s.old) (w.0 ≡ v.0 ++ s.ask ∷ []) (Unit {0})

@@ -1,9 +1,7 @@
 pub mod Boards
 pub mod History
-pub mod Kept
 pub mod OneLog
 pub mod Row
 pub mod Rule
-pub mod Runs
 pub mod Sight
 pub mod Views

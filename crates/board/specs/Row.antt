@@ -1,5 +1,5 @@
 -- The pointer registers, and who is present, as a log of events and replies changes them. A name is its own place, and place 0 is nobody's.
-use Rattle.std.specs.Prelude.{ℕ, Bool, true, false, ◌&&◌, List, Option, None, Some, fold, map, replicate, nat_le, slice_index_or, slice_set, if◌then◌else◌}
+use Rattle.std.specs.Prelude.{◌≡◌, ℕ, ◌+◌, Bool, true, false, ◌&&◌, List, Option, None, Some, fold, map, replicate, nat_le, slice_index_or, slice_set, if◌then◌else◌}
 use Rattle.std.specs.List.{range_with_len}
 use Rattle.rule_machine.specs.declared.act.Act.{Act}
 use Rattle.rule_machine.specs.declared.act.Act.TheVariants.{Update, Marry, Seduce, Abandon}
@@ -10,7 +10,8 @@ use Rattle.rule_machine.specs.declared.reply.Reply.{Reply}
 use Rattle.rule_machine.specs.declared.reply.Reply.TheVariants.{Accepted, Refused, Moves, Shown, EnabledAre, Pairs, Counts}
 use Rattle.rule_machine.specs.State.{is_at}
 use Rattle.rule_machine.specs.Disturbance.{unless_at}
-use Rattle.rule_machine.specs.Run.{Entry}
+use Rattle.rule_machine.specs.RuleTable.{RuleTable}
+use Rattle.rule_machine.specs.Run.{Entry, Moment, Run, beginning_with}
 
 abbrev pub Row : Type 0
 Row = List (Option ℕ)
@@ -74,11 +75,11 @@ pointers_after places log = fold effect (replicate places None) log
 -- how many places there are, and how many nodes were present before any entry: those with the names from 1 on
 pub record Extent : Type 0 where
   pub places : ℕ
-  pub first : ℕ
+  pub present : ℕ
 
 -- at which places there was a node before any entry
-abbrev pub first_here : Extent → List Bool
-first_here extent = map (λ v. nat_le 1 v && nat_le v extent.first) (range_with_len 0 extent.places)
+abbrev pub here_at_start : Extent → List Bool
+here_at_start extent = map (λ v. nat_le 1 v && nat_le v extent.present) (range_with_len 0 extent.places)
 
 -- what an accepted edit or fault does to who is present
 abbrev pub turned : List Bool → Event → List Bool
@@ -109,4 +110,8 @@ here_by here entry = here_of here entry.0 entry.1
 
 -- at which places there is a node after a log
 abbrev pub here_after : Extent → List Entry → List Bool
-here_after extent log = fold here_by (first_here extent) log
+here_after extent log = fold here_by (here_at_start extent) log
+
+-- The logs that are runs of a rule table: from the opening state of so many names, of which each has a place, and place 0 is nobody's; so many of the first are present
+abbrev pub IsRun : RuleTable → Extent → List Entry → Type 0
+IsRun t extent log = (size : ℕ) × (end : Moment) × (extent.places ≡ size + 1) × Run t (beginning_with size extent.present) log end

@@ -3,14 +3,14 @@ use Rattle.std.specs.Prelude.{ℕ, Bool, false, List, Option, None, Some, length
 use Rattle.rule_machine.specs.Run.{Entry}
 use Rattle.logbook.specs.Pages.{Book}
 use Rattle.board.specs.History.{Mark}
-use Rattle.board.specs.Row.{Row, Extent, pointer_in, partner_in, effect, first_here, here_by}
+use Rattle.board.specs.Row.{Row, Extent, pointer_in, partner_in, effect, here_at_start, here_by}
 
 -- the pointers, and at which places there is a node; how many nodes there were before any entry; the number of entries that made both,
 -- and the beginning of the history that shows these entries
 pub record Sight : Type 0 where
   pub row : Row
   pub here : List Bool
-  pub first : ℕ
+  pub present : ℕ
   pub front : ℕ
   pub marks : List Mark
   pub book : Book
@@ -18,16 +18,16 @@ pub record Sight : Type 0 where
 -- before any entry
 abbrev pub blank : Extent → List Mark → Book → Sight
 blank extent marks book =
-    record { row = replicate extent.places None; here = first_here extent; first = extent.first; front = 0; marks = marks; book = book }
+    record { row = replicate extent.places None; here = here_at_start extent; present = extent.present; front = 0; marks = marks; book = book }
 
 -- how many places it has, and how many nodes there were before any entry
 abbrev pub extent_of : Sight → Extent
-extent_of x = record { places = length x.row; first = x.first }
+extent_of x = record { places = length x.row; present = x.present }
 
 -- one entry later
 abbrev pub after : Sight → Entry → ℕ → List Mark → Book → Sight
 after x entry front marks book =
-    record { row = effect x.row entry; here = here_by x.here entry; first = x.first; front = front; marks = marks; book = book }
+    record { row = effect x.row entry; here = here_by x.here entry; present = x.present; front = front; marks = marks; book = book }
 
 -- a pointer, and the node at which it is if that one points back; none where there is no such place
 abbrev pub held_in : Row → ℕ → Option (Option ℕ × Option ℕ)

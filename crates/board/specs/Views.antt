@@ -29,5 +29,5 @@ pub record Told : Type 0 where
 
 -- the extent of the copy that was seen last
 abbrev pub extent_seen : Option Sight → Extent
-extent_seen None = record { places = 0; first = 0 }
+extent_seen None = record { places = 0; present = 0 }
 extent_seen (Some x) = extent_of x

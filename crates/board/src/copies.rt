@@ -35,8 +35,8 @@ pub(crate) type Copies<L> = Writer<Image, Posted, Option<Image>, Published<L>>;
 pub struct Board<L: Law> {
     writer: Copies<L>,
     history: History,
-    told: Front,
-    ghost one_history: { told.seen.book ≡ history.front.seen.book },
+    announced: Front,
+    ghost one_history: { announced.seen.book ≡ history.front.seen.book },
 }
 
 impl<L: Law> Model for Board<L> {
@@ -56,10 +56,10 @@ impl<L: Law> Model for Board<L> {
     ghost view = { λ b. record {
       list = shown b.writer.desk.shown.value.marks;
       posted = entries_of (drop b.writer.behind b.writer.log.items);
-      name = record { book = b.told.seen.book; extent = extent_of b.writer.desk.shown.value };
+      name = record { book = b.announced.seen.book; extent = extent_of b.writer.desk.shown.value };
     } };
 
-    ghost invariant = { λ b. IsBoard L.holds b.writer.desk.shown.value (known b.writer.desk.place) (drop b.writer.behind b.writer.log.items) b.history.front.seen.log b.history.front.seen.book b.told.seen.log };
+    ghost invariant = { λ b. IsBoard L.holds b.writer.desk.shown.value (known b.writer.desk.place) (drop b.writer.behind b.writer.log.items) b.history.front.seen.log b.history.front.seen.book b.announced.seen.log };
 }
 
 fn copied(entry: &Entry) -> Result<Entry, AllocError>
@@ -104,31 +104,31 @@ fn opened<L: Law, R: Wait>(rt: &R, writer: Copies<L>, history: History) -> Board
     ensures { (result.list ≡ []) × (result.posted ≡ []) × (result.name.extent ≡ extent_of writer.desk.shown.value) }
 {
     let (writer, ()) = show(writer, rt);
-    let told = history.front.again();
+    let announced = history.front.again();
     Board {
         writer,
         history,
-        told,
+        announced,
     }
 }
 
 impl<L: Law> Board<L> {
-    /// A board without entries, all its pointers null, with the nodes present whose names are 1 to `first`, for at most so many readers
+    /// A board without entries, all its pointers null, with the nodes present whose names are 1 to `present`, for at most so many readers
     /// at once. It takes 9 bytes a place and copy, and 256 bytes a reader.
     pub fn new<R: Wait>(
         alloc: Global,
         rt: &R,
         places: usize,
-        first: u32,
+        present: u32,
         readers: usize,
     ) -> Result<Board<L>, AllocError>
         requires readers { (0 < readers) × (readers < 2 ^ 32) }
-        requires law { L.holds (record { places = places; first = first }) [] }
-        ensures { IfOk result (λ b. (b.list ≡ []) × (b.posted ≡ []) × (b.name.extent ≡ record { places = places; first = first })) }
+        requires law { L.holds (record { places = places; present = present }) [] }
+        ensures { IfOk result (λ b. (b.list ≡ []) × (b.posted ≡ []) × (b.name.extent ≡ record { places = places; present = present })) }
     {
         let history = History::new();
-        let one = Image::blank(alloc, places, first, &history.front)?;
-        let other = Image::blank(alloc, places, first, &history.front)?;
+        let one = Image::blank(alloc, places, present, &history.front)?;
+        let other = Image::blank(alloc, places, present, &history.front)?;
         let writer = Writer::new(alloc, one, other, readers)?;
         Ok(opened(rt, writer, history))
     }
@@ -164,7 +164,7 @@ impl<L: Law> Board<L> {
     pub fn publish<R: Wait>(&mut self, rt: &R) -> Note
         requires { L.holds self.old.name.extent (self.old.list ++ self.old.posted) }
         ensures published { self.new ≡ record self.old { list = self.old.list ++ self.old.posted; posted = [] } }
-        ensures told { (result.log ≡ self.new.list) × (result.book ≡ self.new.name.book) }
+        ensures note { (result.log ≡ self.new.list) × (result.book ≡ self.new.name.book) }
     {
         if self.writer.has_pending_operations() {
             replace_with(&mut self.writer, rt, show::<L, R>);
@@ -174,7 +174,7 @@ impl<L: Law> Board<L> {
                 for _ in rt.forever() {}
                 unreachable!()
             }
-            self.told = self.history.front.again();
+            self.announced = self.history.front.again();
         }
         self.note()
     }
@@ -184,7 +184,7 @@ impl<L: Law> Board<L> {
         ensures { (result.log ≡ self.now.list) × (result.book ≡ self.now.name.book) }
     {
         Note {
-            front: self.told.again(),
+            front: self.announced.again(),
         }
     }
 
@@ -199,7 +199,7 @@ impl<L: Law> Board<L> {
         };
         seat.learn::<Learn>(self.writer.tell::<Tell>());
         let seen = self.writer.published().past();
-        Ok(Reader::over(seat, seen, self.told.again()))
+        Ok(Reader::over(seat, seen, self.announced.again()))
     }
 
     /// Ends the board. It waits for readers that are looking; after it each reader sees nothing.
@@ -207,7 +207,7 @@ impl<L: Law> Board<L> {
         let Self {
             writer,
             history: _history,
-            told: _told,
+            announced: _announced,
         } = self;
         writer.take(rt);
     }

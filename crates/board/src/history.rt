@@ -2,8 +2,7 @@
 
 ghost use Rattle.std.specs.Prelude.{◌≡◌, ◌⊎◌, ◌+◌, ◌<◌, ◌∷◌, ◌++◌, [], false, None, length, IsTrue, MatchBool};
 ghost use mathlib.Core.List.{IsPrefix};
-ghost use Rattle.board.specs.History.{published, shown};
-ghost use Rattle.board.specs.Kept.{head_of, max_marks};
+ghost use Rattle.board.specs.History.{published, shown, head_of, max_marks};
 ghost use Rattle.board.specs.OneLog.{IsOneLog, AreOneLog, AreComparable};
 
 use log_entry::Entry;
@@ -15,7 +14,7 @@ pub struct Numbered;
 impl Rule<Option<Entry>, u64> for Numbered {
     ghost use Rattle.std.specs.Prelude.{[]};
     ghost use base.Fml.{ftrue};
-    ghost use Rattle.board.specs.Kept.{IsKept};
+    ghost use Rattle.board.specs.History.{IsKept};
 
     ghost holds = { λ cells marks. IsKept cells marks };
 
@@ -43,7 +42,7 @@ impl Gain<Option<Entry>, u64> for Nothing {
 pub(crate) struct Add;
 
 impl Play<Option<Entry>, u64> for Add {
-    ghost use Rattle.board.specs.Kept.{Adds};
+    ghost use Rattle.board.specs.History.{Adds};
 
     ghost then = { Adds };
 }
@@ -131,7 +130,7 @@ impl Front {
     /// show. Nothing runs.
     pub(crate) fn meets(&self, other: &Front)
         requires { other.now.seen.book ≡ self.now.seen.book }
-        ensures told { AreComparable (published self.now.seen.log) (published other.now.seen.log) }
+        ensures published { AreComparable (published self.now.seen.log) (published other.now.seen.log) }
         ensures shown { AreOneLog (shown self.now.seen.log) (shown other.now.seen.log) }
         ensures both { IsOneLog (published self.now.seen.log) (shown other.now.seen.log) }
     {

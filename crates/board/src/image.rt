@@ -2,7 +2,7 @@
 
 ghost use Rattle.std.specs.Prelude.{◌≡◌, ◌<◌, ◌&&◌, false, IfOk, nat_le, slice_index_or};
 ghost use Rattle.rule_machine.specs.State.{is_at};
-ghost use Rattle.board.specs.Row.{pointer_in, first_here};
+ghost use Rattle.board.specs.Row.{pointer_in, here_at_start};
 ghost use Rattle.board.specs.Sight.{blank, after, held_in, found_in};
 
 use crate::effect::{take_in, take_presence};
@@ -19,7 +19,7 @@ use std::marker::Model;
 pub struct Image {
     row: Vec<Option<Node>>,
     here: Vec<bool>,
-    first: u32,
+    present: u32,
     front: u32,
     past: Front,
 }
@@ -33,7 +33,7 @@ impl Model for Image {
 
     ghost coded = { Prim.hlevel (codes, book_coded) };
 
-    ghost view = { λ i. record { row = i.row.items; here = i.here.items; first = i.first; front = i.front; marks = i.past.seen.log; book = i.past.seen.book } };
+    ghost view = { λ i. record { row = i.row.items; here = i.here.items; present = i.present; front = i.front; marks = i.past.seen.log; book = i.past.seen.book } };
 }
 
 /// One entry for a copy to take in: the entry, its number, and the beginning of the history in which it is posted last.
@@ -45,19 +45,19 @@ pub struct Posted {
 }
 
 impl Image {
-    /// All pointers null, and the nodes with the names from 1 to `first` present.
+    /// All pointers null, and the nodes with the names from 1 to `present` present.
     pub(crate) fn blank(
         alloc: Global,
         places: usize,
-        first: u32,
+        present: u32,
         past: &Front,
     ) -> Result<Image, AllocError>
-        ensures { IfOk result (λ i. i ≡ blank (record { places = places; first = first }) past.now.seen.log past.now.seen.book) }
+        ensures { IfOk result (λ i. i ≡ blank (record { places = places; present = present }) past.now.seen.log past.now.seen.book) }
     {
         Ok(Image {
             row: vec![in alloc; None; places]?,
-            here: first_here(alloc, places, first)?,
-            first,
+            here: here_at_start(alloc, places, present)?,
+            present,
             front: 0,
             past: past.again(),
         })
@@ -103,19 +103,19 @@ impl Image {
 }
 
 /// Whether the node of a place is present before any entry.
-fn is_first(place: usize, first: u32) -> bool
-    ensures { result ≡ (nat_le 1 place && nat_le place first) }
+fn is_present(place: usize, present: u32) -> bool
+    ensures { result ≡ (nat_le 1 place && nat_le place present) }
 {
-    1 <= place && place <= first as usize
+    1 <= place && place <= present as usize
 }
 
 /// The places at which there is a node before any entry.
-fn first_here(alloc: Global, places: usize, first: u32) -> Result<Vec<bool>, AllocError>
-    ensures { IfOk result (λ here. here.items ≡ first_here (record { places = places; first = first })) }
+fn here_at_start(alloc: Global, places: usize, present: u32) -> Result<Vec<bool>, AllocError>
+    ensures { IfOk result (λ here. here.items ≡ here_at_start (record { places = places; present = present })) }
 {
     let mut here = Vec::with_capacity(alloc, places)?;
     for place in 0..places {
-        here.push(is_first(place, first))?;
+        here.push(is_present(place, present))?;
     }
     Ok(here)
 }

@@ -4,8 +4,7 @@ ghost use Rattle.std.specs.Prelude.{◌≡◌, ℕ, ◌+◌, List};
 ghost use mathlib.Core.List.{IsPrefix};
 ghost use Rattle.rule_machine.specs.RuleTable.{RuleTable};
 ghost use Rattle.rule_machine.specs.Run.{Entry, Moment, Run, beginning_with};
-ghost use Rattle.board.specs.Row.{Extent, pointers_after, here_after};
-ghost use Rattle.board.specs.Runs.{IsRun};
+ghost use Rattle.board.specs.Row.{Extent, pointers_after, here_after, IsRun};
 
 use crate::rule::Law;
 use rule_set::Rules;
@@ -29,7 +28,7 @@ pub fn pointers_are_those_of_the_run()
 /// So are the names, and the nodes that are present.
 pub fn presence_is_that_of_the_run()
     ensures here { (t : RuleTable) (size count : ℕ) (log : List Entry) (end : Moment) → Run t (beginning_with size count) log end
-        → end.state.network.here ≡ here_after (record { places = size + 1; first = count }) log }
+        → end.state.network.here ≡ here_after (record { places = size + 1; present = count }) log }
     ensures size { (t : RuleTable) (size count : ℕ) (log : List Entry) (end : Moment) → Run t (beginning_with size count) log end
         → end.state.network.size ≡ size }
 {}

@@ -20,8 +20,8 @@ use left_right::reader::Reader as Seat;
 use rule_machine::Node;
 use std::marker::Model;
 
-/// A reader's place at the copies.
-pub(crate) type Place<L> = Seat<Image, Option<Image>, Published<L>>;
+/// A reader's seat at the copies.
+pub(crate) type SeatAt<L> = Seat<Image, Option<Image>, Published<L>>;
 
 /// What a reader saw at one moment.
 #[derive(Clone, Copy, Debug, PartialEq, Eq)]
@@ -43,7 +43,7 @@ struct Glance {
 /// the board's name. It waits for nobody, and takes no memory.
 #[derive(Drop)]
 pub struct Reader<L: Law> {
-    seat: Place<L>,
+    seat: SeatAt<L>,
     seen: Front,
     learnt: Front,
 }
@@ -70,7 +70,7 @@ impl<L: Law> Model for Reader<L> {
 }
 
 /// Looks at the copy that is published.
-fn peek<L: Law>(seat: Place<L>, place: usize) -> (Place<L>, Option<Glance>)
+fn peek<L: Law>(seat: SeatAt<L>, place: usize) -> (SeatAt<L>, Option<Glance>)
     ensures none { IfNone result.1 (known result.0.place ≡ known seat.place) }
     ensures some { IfSome result.1 (λ g. (x : Sight) × Sees L.holds (known seat.place) x x (known result.0.place)
         × (g.past.seen.log ≡ x.marks) × (g.past.seen.book ≡ x.book) × (g.look.front ≡ x.front) × (g.look.found ≡ found_in x.row x.here place)) }
@@ -90,7 +90,7 @@ fn peek<L: Law>(seat: Place<L>, place: usize) -> (Place<L>, Option<Glance>)
 }
 
 impl<L: Law> Reader<L> {
-    pub(crate) fn over(seat: Place<L>, seen: Front, learnt: Front) -> Reader<L>
+    pub(crate) fn over(seat: SeatAt<L>, seen: Front, learnt: Front) -> Reader<L>
         requires { IsReader (known seat.place) seen.seen.log seen.seen.book learnt.seen.book }
         ensures list { (result.list ≡ shown seen.seen.log) × (result.learnt ≡ published learnt.seen.log) }
         ensures name { (result.name.book ≡ learnt.seen.book) × (result.name.extent ≡ extent_seen (known seat.place)) }

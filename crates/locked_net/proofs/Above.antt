@@ -79,7 +79,7 @@ recorded_above t table log kept is above event =
       state = ap (λ (m : Moment). state_after t m.state event) end;
       spent = ap (λ (m : Moment). spent_by t m.state m.spent event) end;
       limit = above.limit;
-      first = above.first;
+      present = above.present;
     }
 
 -- ---- a checkpoint, and the start
@@ -93,11 +93,11 @@ checkpoint_above t log kept is above = record {
   state = above.state;
   spent = above.spent;
   limit = above.limit;
-  first = above.first;
+  present = above.present;
 }
 
 pub whole_above : (t : RuleTable) (log : Log) → IsAbove t log (whole log)
-whole_above t log = record { below = []; splits = refl; count = refl; tells = tt; state = refl; spent = refl; limit = refl; first = refl }
+whole_above t log = record { below = []; splits = refl; count = refl; tells = tt; state = refl; spent = refl; limit = refl; present = refl }
 
 pub opening_is_log : (t : RuleTable) (size first limit : ℕ) → size ≤ 65535 → limit ≤ max_entries → IsLog t (empty_log_with size first limit)
 opening_is_log t size first limit small within = record { run = refl; size = small; room = omega arith; limit = within }

@@ -13,7 +13,7 @@ use Rattle.board.specs.Views.{Told}
 use Rattle.step_log.specs.Log.{Log, entry_of, recorded, receipt_of}
 use Rattle.locked_net.specs.Receipts.{ClerkView, front_of, noted}
 use Rattle.locked_net.specs.Settings.{Setting, IsLogIn}
-use Rattle.locked_net.specs.Calls.{call_fault, checkpoint_fault, Explains, Drives, Breaks, KeepsFault}
+use Rattle.locked_net.specs.Calls.{call_fault, checkpoint_fault, Explains, Breaks, KeepsFault}
 use Rattle.locked_net.specs.Stepping.{ExplainsStep}
 use Rattle.locked_net.specs.Choosing.{ChoosesStep, ChoosesOn, TakesChoice, HoldsAll, Refuses, RefusesCheckpoint, RefusesStep}
 use Rattle.locked_net.specs.declared.call_fault.CallFault.{CallFault}
@@ -31,20 +31,8 @@ choice_on t log Chooses names central found items old new reply enabled same som
 }
 
 -- a log to which an event was added begins what is told then
-begins_in : (t : RuleTable) (log after : Log) (event : Event) (note : Option Told) → after ≡ recorded t log event → noted note ≡ after.entries → IsPrefix log.entries (noted note)
+pub begins_in : (t : RuleTable) (log after : Log) (event : Event) (note : Option Told) → after ≡ recorded t log event → noted note ≡ after.entries → IsPrefix log.entries (noted note)
 begins_in t log after event note is tells = (entry_of t log event ∷ [], sym (tells ∙ ap (λ (l : Log). l.entries) is))
-
-pub begins_driven : (t : RuleTable) (log after : Log) (note : Option Told) (old new : List Receipt) (Same : Type 0) (result : Result (Option Reply) CallFault)
-    → IfOk result (λ told. MatchOption told Same (λ reply. Drives t log after old new reply)) → IfOk result (λ told. IfSome told (λ _. noted note ≡ after.entries)) → IfOk result (λ told. IfSome told (λ _. IsPrefix log.entries (noted note)))
-begins_driven t log after note old new Same (Err fault) is tells = tt
-begins_driven t log after note old new Same (Ok None) is tells = tt
-begins_driven t log after note old new Same (Ok (Some reply)) is tells = begins_in t log after (Step is.items) note is.told.log tells
-
-pub begins_broken : (t : RuleTable) (log after : Log) (note : Option Told) (old new : List Receipt) (Same : Type 0) (result : Result (Option Reply) CallFault)
-    → IfOk result (λ told. MatchOption told Same (λ reply. Breaks t log after old new reply)) → IfOk result (λ told. IfSome told (λ _. noted note ≡ after.entries)) → IfOk result (λ told. IfSome told (λ _. IsPrefix log.entries (noted note)))
-begins_broken t log after note old new Same (Err fault) is tells = tt
-begins_broken t log after note old new Same (Ok None) is tells = tt
-begins_broken t log after note old new Same (Ok (Some reply)) is tells = begins_in t log after is.event note is.told.log tells
 
 -- on a log behind the lock
 pub takes : (setting : Setting) (Chooses : State → Option Event → Type 0) (log : Log) (old new : List Receipt) (note : Option Told) (result : Result (Option Reply) CallFault) → IsLogIn setting log

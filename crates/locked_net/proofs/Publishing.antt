@@ -4,8 +4,7 @@ use Rattle.rule_machine.specs.declared.event.Event.{Event}
 use Rattle.rule_machine.specs.RuleTable.{RuleTable}
 use Rattle.rule_machine.specs.Run.{Entry, Run, beginning_with}
 use Rattle.machine_laws.specs.LeastMoves.{IsTable}
-use Rattle.board.specs.Row.{Extent}
-use Rattle.board.specs.Runs.{IsRun}
+use Rattle.board.specs.Row.{Extent, IsRun}
 use Rattle.board.specs.Views.{Standing}
 use Rattle.step_log.specs.Held.{Held, kept_of}
 use Rattle.step_log.specs.Kept.{Kept, checkpointed, kept_with, last_number, next_entry, whole}
@@ -23,8 +22,8 @@ run_more t table kept board event desk below =
     let is = recorded_is_log t table log desk.is_log few event in
     let size = recorded_size t table log desk.is_log event in
     let places : board.name.extent.places ≡ after.state.network.size + 1 = ap (λ (e : Extent). e.places) desk.extent ∙ ap (λ n. n + 1) (sym size) in
-    let first : board.name.extent.first ≡ kept.first = ap (λ (e : Extent). e.first) desk.extent in
-    (after.state.network.size, end_of after, places, subst (λ (n : ℕ). Run t (beginning_with after.state.network.size n) after.entries (end_of after)) (sym first) is.run)
+    let present : board.name.extent.present ≡ kept.first = ap (λ (e : Extent). e.present) desk.extent in
+    (after.state.network.size, end_of after, places, subst (λ (n : ℕ). Run t (beginning_with after.state.network.size n) after.entries (end_of after)) (sym present) is.run)
 
 -- with the entry that is posted
 pub is_run_posted : (t : RuleTable) → IsTable t → (kept : Kept) (board now : Standing) (event : Event) (entry : Entry) → IsDesk t kept board → last_number kept < kept.limit → entry ≡ next_entry t kept event → now ≡ record board { posted = entry ∷ [] }
@@ -44,7 +43,7 @@ desk_after t table kept after board now event entry desk below next told shown =
       is_log = recorded_is_log t table log desk.is_log few event;
       above = recorded_above t table log kept desk.is_log desk.above event;
       posted = refl;
-      extent = desk.extent ∙ ap (λ (n : ℕ). record { places = n + 1; first = kept.first }) (sym size);
+      extent = desk.extent ∙ ap (λ (n : ℕ). record { places = n + 1; present = kept.first }) (sym size);
     } in
     subst (λ (k : Kept). IsDesk t k now) (sym told)
     (subst (IsDesk t (kept_with t kept event)) (sym (shown ∙ ap (λ (e : Entry). record { list = board.list ++ e ∷ []; posted = []; name = board.name }) next)) there)
@@ -64,14 +63,14 @@ desk_kept t held after board (Ok number) desk told same = desk_checkpointed t (k
 desk_kept t held after board (Err fault) desk told same = subst (λ (h : Held). IsDesk t (kept_of h) board) (sym same) desk
 
 -- at the start
-pub desk_opened : (t : RuleTable) (kept : Kept) (board : Standing) (size first limit : ℕ) → size ≤ 65535 → limit ≤ max_entries → kept ≡ whole (empty_log_with size first limit) → board.list ≡ [] → board.posted ≡ [] → board.name.extent ≡ record { places = size + 1; first = first }
+pub desk_opened : (t : RuleTable) (kept : Kept) (board : Standing) (size present limit : ℕ) → size ≤ 65535 → limit ≤ max_entries → kept ≡ whole (empty_log_with size present limit) → board.list ≡ [] → board.posted ≡ [] → board.name.extent ≡ record { places = size + 1; present = present }
     → IsDesk t kept board
-desk_opened t kept board size first limit small within is list posted extent =
-    let log = empty_log_with size first limit in
+desk_opened t kept board size present limit small within is list posted extent =
+    let log = empty_log_with size present limit in
     let same : log_over (whole log) board.list ≡ log = ap (log_over (whole log)) list in
     subst (λ (k : Kept). IsDesk t k board) (sym is)
     record {
-      is_log = subst (IsLog t) (sym same) (opening_is_log t size first limit small within);
+      is_log = subst (IsLog t) (sym same) (opening_is_log t size present limit small within);
       above = subst (λ (l : Log). IsAbove t l (whole log)) (sym same) (whole_above t log);
       posted = posted;
       extent = extent;

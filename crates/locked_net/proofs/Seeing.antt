@@ -10,8 +10,7 @@ use Rattle.rule_machine.specs.Network.{Network, present}
 use Rattle.rule_machine.specs.State.{State, pointer}
 use Rattle.rule_machine.specs.RuleTable.{RuleTable}
 use Rattle.rule_machine.specs.Run.{Entry, Moment, beginning_with}
-use Rattle.board.specs.Row.{Row, Extent, pointer_in, partner_in, effect, pointers_after, here_after}
-use Rattle.board.specs.Runs.{IsRun}
+use Rattle.board.specs.Row.{Row, Extent, pointer_in, partner_in, effect, pointers_after, here_after, IsRun}
 use Rattle.board.specs.Sight.{held_in, found_in}
 use Rattle.board.specs.Views.{Name, Told}
 use Rattle.board.proofs.Machine.{run_pointers, run_here, run_size}
@@ -91,8 +90,8 @@ pub record IsEnd (extent : Extent) (log : List Entry) (s : State) : Type 0 where
 -- the log is a run, whose end has them
 pub shows : (t : RuleTable) (extent : Extent) (log : List Entry) (P : State → Type 0) → IsRun t extent log → ((s : State) → IsEnd extent log s → P s) → Shows t extent log P
 shows t extent log P (size, end, is, run) f =
-    let begun : Moment = beginning_with size extent.first in
-    let at : ℕ → Extent = λ n. record { places = n; first = extent.first } in
+    let begun : Moment = beginning_with size extent.present in
+    let at : ℕ → Extent = λ n. record { places = n; present = extent.present } in
     let ends : IsEnd extent log end.state = record {
       pointers = run_pointers t begun log end run ∙ ap (λ n. pointers_after n log) (sym is);
       here = run_here t begun log end run ∙ ap (λ n. here_after (at n) log) (sym is);

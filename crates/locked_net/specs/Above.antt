@@ -1,5 +1,5 @@
 -- A whole log, with each entry from the opening state on, and what a journal keeps of it: the part above its base.
-use Rattle.std.specs.Prelude.{◌≡◌, ◌++◌, List, Option, None, Some, length}
+use Rattle.std.specs.Prelude.{◌≡◌, ℕ, ◌≤◌, ◌++◌, List, Option, None, Some, length}
 use Rattle.std.specs.List.{All}
 use mathlib.Core.List.{IsPrefix}
 use Rattle.rule_machine.specs.declared.base.Base.{Base}
@@ -7,8 +7,9 @@ use Rattle.rule_machine.specs.RuleTable.{RuleTable}
 use Rattle.rule_machine.specs.Run.{Entry, Moment, Run, beginning_with}
 use Rattle.rule_machine.specs.Base.{base_of, dropped}
 use Rattle.step_log.specs.Log.{Log}
-use Rattle.step_log.specs.Kept.{Kept}
-use Rattle.locked_net.specs.Receipts.{ClerkView, noted}
+use Rattle.step_log.specs.Held.{Held, kept_of}
+use Rattle.step_log.specs.Kept.{Kept, IsKept}
+use Rattle.locked_net.specs.Receipts.{ClerkView, front_of, noted}
 use Rattle.locked_net.specs.Settings.{Setting, IsLogIn}
 
 -- the base, if there is one, tells the moment to which these entries lead
@@ -25,7 +26,7 @@ pub record IsAbove (t : RuleTable) (log : Log) (kept : Kept) : Type 0 where
   pub state : kept.state ≡ log.state
   pub spent : kept.spent ≡ log.spent
   pub limit : kept.limit ≡ log.limit
-  pub first : kept.first ≡ log.first
+  pub present : kept.first ≡ log.first
 
 -- a log with these entries, and all else as it is kept
 abbrev pub log_over : Kept → List Entry → Log
@@ -38,7 +39,18 @@ pub record IsPart (setting : Setting) (kept : Kept) : Type 0 where
   pub own : IsLogIn setting log
   pub above : IsAbove setting.table log kept
 
+-- a journal that comes back keeps a run that upholds the rules, and it is a part of a log in the setting, of its size
+abbrev pub IsBack : Setting → ℕ → Held → Type 0
+IsBack setting weight journal =
+    IsKept setting.table weight (kept_of journal) × IsPart setting (kept_of journal)
+    × (journal.state.network.size ≡ setting.nodes) × (journal.first ≡ setting.present) × (journal.limit ≡ setting.limit)
+
 -- What the note of each of these clerks tells begins this log.
 pub record IsPartNoted (setting : Setting) (kept : Kept) (clerks : List ClerkView) : Type 0 where
   pub part : IsPart setting kept
   pub begins : All (λ clerk. IsPrefix (noted clerk.note) part.log.entries) clerks
+
+-- So it does of each whose last receipt has a number of this log.
+pub record IsPartMet (setting : Setting) (kept : Kept) (clerks : List ClerkView) : Type 0 where
+  pub part : IsPart setting kept
+  pub begins : All (λ clerk. front_of clerk.receipts ≤ length part.log.entries → IsPrefix (noted clerk.note) part.log.entries) clerks

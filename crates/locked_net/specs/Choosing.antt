@@ -2,14 +2,17 @@
 --
 -- Who calls sees no log. So a clause says that there is one, which lay behind the lock: a run of the network's rules, of its nodes and with
 -- its limit.
-use Rattle.std.specs.Prelude.{◌≡◌, ◌≤◌, ℕ, List, [], ◌∷◌, ◌++◌, length, Option, None, Some, IfSome}
+use Rattle.std.specs.Prelude.{◌≡◌, ◌↔◌, ◌≤◌, ℕ, Bool, List, [], ◌∷◌, ◌++◌, length, Option, None, Some, IfSome, IsNone}
 use Rattle.std.specs.Option.{option_map}
 use mathlib.Core.List.{IsPrefix}
 use Rattle.rule_machine.specs.declared.choice.Item.{Item}
 use Rattle.rule_machine.specs.declared.event.Event.{Event}
 use Rattle.rule_machine.specs.declared.event.Event.TheVariants.{Step}
 use Rattle.rule_machine.specs.declared.reply.Reply.{Reply}
+use Rattle.rand_core.specs.Stream.{Stream}
+use Rattle.rule_machine.specs.Network.{node_count}
 use Rattle.rule_machine.specs.State.{State}
+use Rattle.fault_injector.specs.Drawn.{drawn}
 use Rattle.rule_machine.specs.RuleTable.{RuleTable, enabled_names}
 use Rattle.step_log.specs.declared.receipt.Receipt.{Receipt}
 use Rattle.step_log.specs.Log.{Log, receipt_of}
@@ -25,6 +28,18 @@ use Rattle.locked_net.specs.declared.step_fault.StepFault.{StepFault}
 abbrev pub ChoosesStep : RuleTable → (List ℕ → Option (List Item) → Type 0) → State → Option Event → Type 0
 ChoosesStep t Chooses s event =
     (choice : Option (List Item)) × (event ≡ option_map (λ items. Step items) choice) × Chooses (enabled_names t s) choice
+
+-- a daemon's choice, which takes it on, as an event
+abbrev pub ByDaemon : {D : Type 0} → (List ℕ → Bool → D → Option (List Item) → D → Type 0) → RuleTable → D → D → State → Option Event → Type 0
+ByDaemon chooses t old new s event = ChoosesStep t (λ names choice. chooses names t.central old choice new) s event
+
+-- the fault that these words draw, and those are left
+abbrev pub DrawsFault : RuleTable → Stream → Stream → State → Option Event → Type 0
+DrawsFault t words left s event = (event, left) ≡ drawn s.network t.flags words
+
+-- nothing was answered exactly where there is no node
+abbrev pub NoneIfEmpty : Option Reply → State → Option Event → Type 0
+NoneIfEmpty told s event = IsNone told ↔ (node_count s.network ≡ 0)
 
 -- the reply and the receipt of the event that was chosen on a log; neither where none was
 abbrev pub IsTold : RuleTable → Log → Option Event → List Receipt → List Receipt → Option Reply → Type 0

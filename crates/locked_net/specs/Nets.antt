@@ -3,10 +3,9 @@ use Rattle.std.specs.Prelude.{◌≡◌, ℕ}
 use Rattle.rule_machine.specs.RuleTable.{RuleTable}
 use Rattle.logbook.specs.Pages.{Book}
 use Rattle.board.specs.Views.{Name, Reading}
-use Rattle.step_log.specs.Log.{Log, IsLog}
+use Rattle.step_log.specs.Log.{Log}
 use Rattle.keyed_lock.specs.Locks.{key_of}
-use Rattle.rule_machine.specs.RuleTable.{RuleTable}
-use Rattle.locked_net.specs.Settings.{Setting}
+use Rattle.locked_net.specs.Settings.{Setting, IsLogIn}
 use Rattle.locked_net.specs.Keys.{name_from}
 use Rattle.locked_net.specs.declared.key.NetKey.{NetKey}
 use Rattle.locked_net.specs.declared.net.LockedNet.{LockedNet}
@@ -20,8 +19,8 @@ module _ {R : Type 0} where
   nodes_of net = (net_key_of net).nodes
 
   -- how many nodes it had at the start: those with the names from 1 on
-  abbrev pub first_of : LockedNet R → ℕ
-  first_of net = (net_key_of net).first
+  abbrev pub present_of : LockedNet R → ℕ
+  present_of net = (net_key_of net).present
 
   -- how many entries its log may hold
   abbrev pub limit_of : LockedNet R → ℕ
@@ -29,7 +28,7 @@ module _ {R : Type 0} where
 
   -- all three, with the rules that it is under
   abbrev pub setting_of : RuleTable → LockedNet R → Setting
-  setting_of t net = record { table = t; nodes = nodes_of net; first = first_of net; limit = limit_of net }
+  setting_of t net = record { table = t; nodes = nodes_of net; present = present_of net; limit = limit_of net }
 
   -- which history its readers see
   abbrev pub book_of : LockedNet R → Book
@@ -42,5 +41,4 @@ module _ {R : Type 0} where
   -- The reader has seen, and learnt, just the log that lay behind the net's lock at one moment: a run of the rules from the opening state of
   -- its names and nodes, within its limit.
   abbrev pub HasSeenLog : RuleTable → LockedNet R → Reading → Type 0
-  HasSeenLog t net reader =
-      (log : Log) × IsLog t log × (log.state.network.size ≡ nodes_of net) × (log.first ≡ first_of net) × (log.limit ≡ limit_of net) × (reader.list ≡ log.entries) × (reader.learnt ≡ log.entries)
+  HasSeenLog t net reader = (log : Log) × IsLogIn (setting_of t net) log × (reader.list ≡ log.entries) × (reader.learnt ≡ log.entries)

@@ -11,7 +11,7 @@ use Rattle.locked_net.specs.declared.read_fault.ReadFault.TheVariants.{UnknownNo
 -- present, and the state where it ends is as told
 abbrev pub Shows : RuleTable → Extent → List Entry → (State → Type 0) → Type 0
 Shows t extent seen P =
-    (size : ℕ) × (end : Moment) × (extent.places ≡ size + 1) × Run t (beginning_with size extent.first) seen end × P end.state
+    (size : ℕ) × (end : Moment) × (extent.places ≡ size + 1) × Run t (beginning_with size extent.present) seen end × P end.state
 
 -- P wherever there was a view: at an answer, and where no node has the name
 abbrev pub OnView : {A : Type 0} → Result A ReadFault → Type 0 → Type 0

@@ -7,12 +7,12 @@ use Rattle.step_log.specs.Log.{Log, IsLog}
 pub record Setting : Type 0 where
   pub table : RuleTable
   pub nodes : ℕ
-  pub first : ℕ
+  pub present : ℕ
   pub limit : ℕ
 
 -- A log is a run of these rules, of as many names, from as many nodes, and with this limit.
 pub record IsLogIn (setting : Setting) (log : Log) : Type 0 where
   pub run : IsLog setting.table log
   pub nodes : log.state.network.size ≡ setting.nodes
-  pub first : log.first ≡ setting.first
+  pub present : log.first ≡ setting.present
   pub limit : log.limit ≡ setting.limit

@@ -11,11 +11,10 @@ use step_log::Receipt;
 
 mod calls;
 mod checkpoint;
-mod chosen;
 mod judged;
 mod locked;
-mod lone;
 
+pub(crate) use calls::admit;
 pub(crate) use checkpoint::greater;
 
 /// A caller of a network, seen in contracts as its receipts, oldest first (one for each of its calls that was answered; their

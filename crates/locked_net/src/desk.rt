@@ -1,12 +1,8 @@
 //! What lies behind a network's lock.
 
-ghost use Rattle.std.specs.Prelude.{◌≡◌, ◌+◌, ◌≤◌, ◌↔◌, length, min, Some, IfOk, IfErr, OnOk, OnErr, IsErrOf, IsTrue};
+ghost use Rattle.std.specs.Prelude.{◌≡◌, ◌+◌, ◌≤◌, ◌↔◌, length, min, IfOk, IfErr, OnOk, OnErr, IsErrOf, IsTrue};
 ghost use Rattle.graph_store.specs.Fault.{nodes_fault, Explains};
 ghost use Rattle.rule_machine.specs.declared.event.Event.TheVariants.{Step};
-ghost use Rattle.rule_machine.specs.declared.reply.Reply.TheVariants.{Accepted};
-ghost use Rattle.rule_machine.specs.Answer.{Answers};
-ghost use Rattle.rule_machine.specs.State.{State};
-ghost use Rattle.rule_machine.specs.Base.{base_of};
 ghost use Rattle.rule_engine.specs.Choosing.{verdicts_of};
 ghost use Rattle.rule_engine.specs.Costs.{cost_of};
 ghost use Rattle.step_log.specs.declared.fault.RecordFault.TheVariants.{LogFull};
@@ -14,7 +10,8 @@ ghost use Rattle.step_log.specs.Held.{IsReady, kept_of};
 ghost use Rattle.step_log.specs.Kept.{IsKept};
 ghost use Rattle.step_log.specs.Log.{IsLog, max_entries, recorded, receipt_of};
 ghost use Rattle.locked_net.specs.Above.{IsAbove, log_over};
-ghost use Rattle.locked_net.specs.Desks.{IsDesk};
+ghost use Rattle.locked_net.specs.Desks.{IsDesk, based};
+ghost use Rattle.locked_net.specs.Looks.{BoundsGrowth};
 ghost use Rattle.locked_net.specs.Keys.{KeepsKey};
 
 use crate::SeenCost;
@@ -73,8 +70,8 @@ impl<R: Rules> Desk<R> {
         requires within { present ≤ nodes }
         ensures nodes { IfOk result (λ desk. desk.log.state.network.size ≡ nodes) }
         ensures limit { IfOk result (λ desk. desk.log.limit ≡ min limit max_entries) }
-        ensures first { IfOk result (λ desk. desk.log.first ≡ present) }
-        ensures extent { IfOk result (λ desk. desk.name.extent ≡ record { places = nodes + 1; first = present }) }
+        ensures present { IfOk result (λ desk. desk.log.first ≡ present) }
+        ensures extent { IfOk result (λ desk. desk.name.extent ≡ record { places = nodes + 1; present = present }) }
         ensures small { OnOk result (nodes ≤ 65535) }
         ensures fault { IfErr result (λ fault. Explains (nodes_fault nodes) fault) }
     {
@@ -118,7 +115,7 @@ impl<R: Rules> Desk<R> {
     /// What an event would cost, with a note of what is published.
     pub(crate) fn cost_of(&self, event: &Event) -> SeenCost
         ensures cost { result.cost ≡ cost_of R.table R.cost self.now.log.state event.now }
-        ensures grows { (after : State) → Answers R.table self.now.log.state self.now.log.spent event.now Accepted after → R.table.charge after ≤ R.table.charge self.now.log.state + result.cost }
+        ensures grows { BoundsGrowth R.table self.now.log event.now result.cost }
         ensures note { (result.note.log ≡ self.now.log.entries) × (result.note.book ≡ self.now.name.book) }
         ensures run { IsLog R.table self.now.log }
     {
@@ -166,7 +163,7 @@ impl<R: Rules> Desk<R> {
     /// were dropped. What is published stays. At want of memory nothing has changed.
     pub(crate) fn checkpoint(&mut self) -> Result<u32, Want>
         ensures number { IfOk result (λ number. number ≡ length self.old.log.entries) }
-        ensures base { OnOk result (self.new ≡ record self.old { base = Some (base_of (length self.old.log.entries) (record { state = self.old.log.state; spent = self.old.log.spent })) }) }
+        ensures base { OnOk result (self.new ≡ based self.old) }
         ensures kept { OnErr result (self.new ≡ self.old) }
     {
         self.journal.checkpoint()

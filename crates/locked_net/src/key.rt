@@ -10,7 +10,7 @@ use rule_engine::Rules;
 #[derive(Drop)]
 pub(crate) struct NetKey {
     pub(crate) nodes: u32,
-    pub(crate) first: u32,
+    pub(crate) present: u32,
     pub(crate) limit: u32,
     pub(crate) opening: Note,
 }

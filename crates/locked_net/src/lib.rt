@@ -1,7 +1,7 @@
 //! One network for many callers, each of whom keeps receipts, and the settling of these against the log.
 //!
 //! A `LockedNet` is a network behind a lock. Each caller has a `Clerk`, whose `call` waits for the lock, records one event and keeps the
-//! receipt; a worker `roam`s with one of its own. In the end `settle` takes the network and all clerks: at `Ok` the log is a run of the
+//! receipt; a worker `roam`s with one of its own. Who `hold`s the lock for several calls has a `HeldNet`, of which contracts see the log. In the end `settle` takes the network and all clerks: at `Ok` the log is a run of the
 //! rule machine, each receipt is the log's entry at its number, and each entry is one clerk's. That is the claim of the whole, the clause
 //! `headline`. A `BoardReader` asks where a node points without lock, memory or waiting, and is answered from a run with all that it has
 //! seen.
@@ -23,8 +23,8 @@ mod clerk;
 mod desk;
 mod ending;
 mod forks;
+mod held;
 mod key;
-mod law;
 mod look;
 mod net;
 mod read_fault;
@@ -34,18 +34,17 @@ mod round;
 mod settle_fault;
 mod settling;
 mod step_fault;
-mod unsettled;
 
 pub use board_reader::{BoardReader, SeenPartner, SeenPointer};
 pub use call_fault::CallFault;
 pub use clerk::Clerk;
 pub use ending::{settle, settle_own};
-pub use law::{own_numbers_never_clash, settling_is_exact};
+pub use held::HeldNet;
 pub use look::SeenCost;
 pub use net::LockedNet;
 pub use read_fault::{NoView, ReadFault, ReaderFault};
 pub use roam_fault::RoamFault;
 pub use roaming::roam;
-pub use settle_fault::SettleFault;
+pub use settle_fault::{SettleFault, Unsettled};
+pub use settling::{own_numbers_never_clash, settling_is_exact};
 pub use step_fault::StepFault;
-pub use unsettled::Unsettled;

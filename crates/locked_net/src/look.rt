@@ -23,9 +23,9 @@ impl<R: Rules> LockedNet<R> {
     pub fn cost_of<W: Wait>(&self, rt: &W, event: &Event) -> SeenCost
         ensures { IsCostSeen (setting_of R.table self.now) (book_of self.now) R.cost event.now result.cost result.note }
     {
-        let (desk, hold) = self.take(rt);
-        let seen = desk.cost_of(event);
-        self.give(hold, desk);
+        let held = self.hold(rt);
+        let seen = held.cost_of(event);
+        held.free();
         seen
     }
 }

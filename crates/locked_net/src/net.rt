@@ -29,7 +29,7 @@ impl<R: Rules> LockedNet<R> {
     ghost use Rattle.locked_net.specs.Keys.{IsOfKey};
     ghost use Rattle.locked_net.specs.Above.{IsPart};
     ghost use Rattle.locked_net.specs.Looks.{IsPublished};
-    ghost use Rattle.locked_net.specs.Nets.{net_key_of, nodes_of, first_of, limit_of, book_of, name_of, setting_of, HasSeenLog};
+    ghost use Rattle.locked_net.specs.Nets.{net_key_of, nodes_of, present_of, limit_of, book_of, name_of, setting_of, HasSeenLog};
     ghost use Rattle.locked_net.specs.Receipts.{fresh};
     ghost use Rattle.locked_net.specs.declared.read_fault.ReaderFault.TheVariants.{NoPlace};
     ghost use Rattle.step_log.specs.Held.{kept_of};
@@ -39,7 +39,7 @@ impl<R: Rules> LockedNet<R> {
     /// and `Memory` if memory runs out.
     pub fn new<W: Wait>(alloc: Global, rt: &W, nodes: u32) -> Result<LockedNet<R>, GraphFault>
         ensures nodes { IfOk result (λ net. nodes_of net ≡ nodes) }
-        ensures first { IfOk result (λ net. first_of net ≡ nodes) }
+        ensures present { IfOk result (λ net. present_of net ≡ nodes) }
         ensures limit { IfOk result (λ net. limit_of net ≡ max_entries) }
         ensures small { OnOk result (nodes ≤ 65535) }
         ensures fault { IfErr result (λ fault. Explains (nodes_fault nodes) fault) }
@@ -56,7 +56,7 @@ impl<R: Rules> LockedNet<R> {
         limit: u32,
     ) -> Result<LockedNet<R>, GraphFault>
         ensures nodes { IfOk result (λ net. nodes_of net ≡ nodes) }
-        ensures first { IfOk result (λ net. first_of net ≡ nodes) }
+        ensures present { IfOk result (λ net. present_of net ≡ nodes) }
         ensures limit { IfOk result (λ net. limit_of net ≡ min limit max_entries) }
         ensures small { OnOk result (nodes ≤ 65535) }
         ensures fault { IfErr result (λ fault. Explains (nodes_fault nodes) fault) }
@@ -76,7 +76,7 @@ impl<R: Rules> LockedNet<R> {
     ) -> Result<LockedNet<R>, GraphFault>
         requires within { present ≤ nodes }
         ensures nodes { IfOk result (λ net. nodes_of net ≡ nodes) }
-        ensures first { IfOk result (λ net. first_of net ≡ present) }
+        ensures present { IfOk result (λ net. present_of net ≡ present) }
         ensures limit { IfOk result (λ net. limit_of net ≡ min limit max_entries) }
         ensures small { OnOk result (nodes ≤ 65535) }
         ensures fault { IfErr result (λ fault. Explains (nodes_fault nodes) fault) }
@@ -84,7 +84,7 @@ impl<R: Rules> LockedNet<R> {
         let desk = Desk::new(alloc, rt, nodes, present, limit)?;
         let key = NetKey {
             nodes,
-            first: present,
+            present,
             limit: limit.min(MAX_ENTRIES),
             opening: desk.note(),
         };
@@ -111,9 +111,9 @@ impl<R: Rules> LockedNet<R> {
         ensures seen { IfOk result (λ reader. HasSeenLog R.table self.now reader) }
         ensures fault { IfErr result (λ fault. fault ≡ NoPlace) }
     {
-        let (mut desk, hold) = self.take(rt);
-        let place = desk.reader();
-        self.give(hold, desk);
+        let mut held = self.hold(rt);
+        let place = held.reader();
+        held.free();
         match place {
             Ok(reader) => Ok(BoardReader::over(reader)),
             Err(_) => Err(ReaderFault::NoPlace),
@@ -148,7 +148,7 @@ impl<R: Rules> LockedNet<R> {
         ensures run { IsKept R.table R.NODE_WEIGHT (kept_of result) }
         ensures whole { IsPart (setting_of R.table self) (kept_of result) }
         ensures nodes { result.state.network.size ≡ nodes_of self }
-        ensures first { result.first ≡ first_of self }
+        ensures present { result.first ≡ present_of self }
         ensures limit { result.limit ≡ limit_of self }
     {
         self.into_desk(rt).close(rt)
@@ -160,7 +160,7 @@ impl<R: Rules> LockedNet<R> {
         ensures published { IsPublished (setting_of R.table self) (book_of self) (kept_of result.0) result.1 }
         ensures run { IsKept R.table R.NODE_WEIGHT (kept_of result.0) }
         ensures nodes { result.0.state.network.size ≡ nodes_of self }
-        ensures first { result.0.first ≡ first_of self }
+        ensures present { result.0.first ≡ present_of self }
         ensures limit { result.0.limit ≡ limit_of self }
     {
         let desk = self.into_desk(rt);

@@ -30,9 +30,9 @@ fn take_turn<R: Rules, W: Wait>(
     ensures note { KeepsNote (book_of net.now) clerk.old clerk.new }
     ensures kept { OnErr result (clerk.new ≡ clerk.old) }
 {
-    let (mut desk, hold) = net.take(rt);
-    let answer = clerk.roam_on(rt, &mut desk, turn);
-    net.give(hold, desk);
+    let mut held = net.hold(rt);
+    let answer = held.roam(rt, clerk, turn);
+    held.free();
     answer
 }
 

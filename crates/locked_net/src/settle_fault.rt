@@ -1,6 +1,8 @@
-//! Why receipts do not settle.
+//! Why receipts do not settle, and the journal then.
 
+use rule_engine::Rules;
 use std::alloc::AllocError;
+use step_log::Journal;
 use thiserror::Error;
 
 /// Why clerks were not settled against a journal.
@@ -35,4 +37,13 @@ impl From<AllocError> for SettleFault {
     fn from(_: AllocError) -> SettleFault {
         SettleFault::Memory
     }
+}
+
+/// A journal that did not settle, handed back with the reason.
+#[derive(Drop)]
+pub struct Unsettled<R: Rules> {
+    /// Why it did not settle.
+    pub why: SettleFault,
+    /// The journal, unchanged.
+    pub journal: Journal<R>,
 }

@@ -1,9 +1,13 @@
 //! Whether clerks account for a log.
 
-ghost use Rattle.std.specs.Prelude.{◌≡◌, ◌↔◌, ◌+◌, ◌^◌, ◌<◌, ◌≤◌, ◌⊎◌, length, IsTrue, IfErr, OnOk, MatchOption};
-ghost use Rattle.locked_net.specs.declared.settle_fault.SettleFault.TheVariants.{Stranger, Memory};
+ghost use Rattle.std.specs.Prelude.{◌≡◌, ◌↔◌, ◌+◌, ◌^◌, ◌<◌, ◌≤◌, ◌⊎◌, ℕ, List, Some, length, slice_get, IsTrue, IfErr, OnOk, MatchOption};
+ghost use Rattle.step_log.specs.declared.receipt.Receipt.{Receipt};
 ghost use Rattle.step_log.specs.Held.{kept_of};
-ghost use Rattle.locked_net.specs.Settled.{receipt_count, greatest_base, base_number, IsEntryAbove, Settled, IsFirstStranger, Unsettles};
+ghost use Rattle.step_log.specs.Kept.{Kept};
+ghost use Rattle.locked_net.specs.declared.settle_fault.SettleFault.{SettleFault};
+ghost use Rattle.locked_net.specs.declared.settle_fault.SettleFault.TheVariants.{Stranger, Memory};
+ghost use Rattle.locked_net.specs.Receipts.{ClerkView, RiseAbove};
+ghost use Rattle.locked_net.specs.Settled.{receipt_count, greatest_base, base_number, StandsAt, Holds, IsEntryAbove, Agrees, Settled, IsFirstStranger, Unsettles};
 ghost use Rattle.locked_net.specs.Marks.{IsMarked};
 
 use crate::clerk::greater;
@@ -128,3 +132,19 @@ fn is_entry<R: Rules>(journal: &Journal<R>, receipt: &Receipt) -> bool
         Err(NoEntry::Beyond) => false,
     }
 }
+
+/// Where a log and clerks are settled, nothing but want of memory keeps them from settling: their numbers agree, so do their bases, and
+/// none of their receipts is a stranger.
+pub fn settling_is_exact()
+    ensures { (kept : Kept) (clerks : List ClerkView) (why : SettleFault)
+        → Settled kept clerks → Unsettles kept clerks why → why ≡ Memory }
+{}
+
+/// Since numbers rise within each clerk, a receipt agrees exactly where it is the log's entry at its number, or has the number of one
+/// that was dropped, and no earlier clerk has that number.
+pub fn own_numbers_never_clash()
+    ensures { (kept : Kept) (clerks : List ClerkView) (c p : ℕ) (receipt : Receipt)
+        → ((d : ℕ) (clerk : ClerkView) → slice_get clerks d ≡ Some clerk → RiseAbove 0 clerk.receipts)
+        → StandsAt clerks c p receipt
+        → Agrees kept clerks c p receipt ↔ (IsEntryAbove kept receipt × ((d : ℕ) → d < c → Holds clerks d receipt.seq → ⊥)) }
+{}

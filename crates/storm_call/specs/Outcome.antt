@@ -28,14 +28,14 @@ use Rattle.storm_call.specs.declared.fault.StormFault.TheVariants.{TooManyScript
 
 -- what every log of such a network has
 abbrev pub asked_setting : RuleTable → Asked → Setting
-asked_setting t asked = record { table = t; nodes = asked.nodes; first = asked.present; limit = asked.limit }
+asked_setting t asked = record { table = t; nodes = asked.nodes; present = asked.present; limit = asked.limit }
 
 -- These scripts leave what is kept of a log, on as many names and nodes, with the limit and with the workers that are asked for, and this is the first fault
 -- that a script met, or where none did, one of the workers'.
 pub record Leaves (t : RuleTable) (weight : ℕ) (asked : Asked) (scripts : List (List ScriptLine)) (fault : Option CallFault) (kept : Kept) : Type 0 where
   pub run : IsKept t weight kept
   pub nodes_are : kept.state.network.size ≡ asked.nodes
-  pub first_is : kept.first ≡ asked.present
+  pub present_is : kept.first ≡ asked.present
   pub limit_is : kept.limit ≡ asked.limit
   pub storm : IsStorm (asked_setting t asked) kept scripts asked.roamers asked.turns fault
   pub headline : Headline t weight kept storm.clerks

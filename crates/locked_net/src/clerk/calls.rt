@@ -1,6 +1,7 @@
-//! What a clerk does with a desk that it is lent.
+//! How a clerk that may call keeps what it is told.
 
 ghost use Rattle.std.specs.Prelude.{◌≡◌, ◌+◌, ◌<◌, ◌≤◌, ◌++◌, ◌∷◌, [], length, None, Some, IfOk, IfErr, OnOk, OnErr, vec_capacity};
+ghost use mathlib.Core.List.{IsPrefix};
 ghost use Rattle.step_log.specs.Log.{IsLog, recorded, receipt_of};
 ghost use Rattle.locked_net.specs.Receipts.{HasNoteOf, front_of, seen_by, noted};
 ghost use Rattle.locked_net.specs.Keys.{KeepsKey};
@@ -16,31 +17,8 @@ use std::sync::Wait;
 use step_log::Receipt;
 
 impl Clerk {
-    /// `call` on a desk that the clerk is lent.
-    pub(crate) fn call_on<R: Rules, W: Wait>(
-        &mut self,
-        rt: &W,
-        desk: &mut Desk<R>,
-        event: Event,
-    ) -> Result<Reply, CallFault>
-        ensures log { OnOk result (desk.new.log ≡ recorded R.table desk.old.log event) }
-        ensures receipt { OnOk result (self.new.receipts ≡ self.old.receipts ++ receipt_of R.table desk.old.log event ∷ []) }
-        ensures reply { IfOk result (λ reply. reply ≡ (receipt_of R.table desk.old.log event).reply) }
-        ensures note { OnOk result (HasNoteOf desk.old.name.book self.new) }
-        ensures base { self.new.base ≡ self.old.base }
-        ensures run { IsLog R.table desk.old.log }
-        ensures key { KeepsKey desk.old desk.new }
-        ensures seen { OnOk result (call_fault (front_of self.old.receipts) desk.old.log ≡ None) }
-        ensures above { OnOk result (seen_by self.old < front_of self.new.receipts) }
-        ensures fault { IfErr result (λ fault. Explains (call_fault (seen_by self.old) desk.old.log) fault) }
-        ensures kept { OnErr result ((self.new ≡ self.old) × (desk.new ≡ desk.old)) }
-    {
-        self.may_call(desk)?;
-        self.record_on(rt, desk, event)
-    }
-
     /// Whether it may call: `Behind` where the log holds fewer entries than it has seen, then `LogFull`.
-    pub(super) fn may_call<R: Rules>(&self, desk: &Desk<R>) -> Result<(), CallFault>
+    pub(crate) fn may_call<R: Rules>(&self, desk: &Desk<R>) -> Result<(), CallFault>
         ensures run { IsLog R.table desk.now.log }
         ensures free { OnOk result (call_fault (front_of self.now.receipts) desk.now.log ≡ None) }
         ensures few { OnOk result (seen_by self.now ≤ length desk.now.log.entries) }
@@ -51,7 +29,7 @@ impl Clerk {
     }
 
     /// Records an event for a clerk who may call, and keeps its receipt and the note of what is published then.
-    pub(super) fn record_on<R: Rules, W: Wait>(
+    pub(crate) fn record_on<R: Rules, W: Wait>(
         &mut self,
         rt: &W,
         desk: &mut Desk<R>,
@@ -63,7 +41,7 @@ impl Clerk {
         ensures reply { IfOk result (λ reply. reply ≡ (receipt_of R.table desk.old.log event).reply) }
         ensures note { OnOk result (HasNoteOf desk.old.name.book self.new) }
         ensures base { self.new.base ≡ self.old.base }
-        ensures tells { OnOk result (noted self.new.note ≡ desk.new.log.entries) }
+        ensures begins { OnOk result (IsPrefix desk.old.log.entries (noted self.new.note)) }
         ensures front { OnOk result (front_of self.new.receipts ≡ length desk.old.log.entries + 1) }
         ensures key { KeepsKey desk.old desk.new }
         ensures fault { IfErr result (λ fault. fault ≡ Memory) }
@@ -76,7 +54,7 @@ impl Clerk {
 }
 
 /// Whether a clerk who has seen that many entries may call: `Behind` where the log holds fewer, then `LogFull`.
-pub(super) fn admit<R: Rules>(desk: &Desk<R>, seen: u32) -> Result<(), CallFault>
+pub(crate) fn admit<R: Rules>(desk: &Desk<R>, seen: u32) -> Result<(), CallFault>
     ensures run { IsLog R.table desk.now.log }
     ensures ok { OnOk result (call_fault seen desk.now.log ≡ None) }
     ensures fault { IfErr result (λ fault. call_fault seen desk.now.log ≡ Some fault) }

@@ -9,7 +9,6 @@ ghost use Rattle.locked_net.specs.Nets.{setting_of};
 ghost use Rattle.locked_net.specs.Receipts.{front_of, greater_base};
 
 use super::Clerk;
-use crate::desk::Desk;
 use crate::{CallFault, LockedNet};
 use rule_engine::Rules;
 use std::sync::Wait;
@@ -32,29 +31,17 @@ impl Clerk {
         ensures refused { IfErr result (RefusesCheckpoint (setting_of R.table net.now) (front_of self.old.receipts)) }
         ensures kept { OnErr result (self.new ≡ self.old) }
     {
-        let (mut desk, hold) = net.take(rt);
-        let answer = self.checkpoint_on(&mut desk);
-        net.give(hold, desk);
+        let mut held = net.hold(rt);
+        let answer = held.checkpoint(self);
+        held.free();
         answer
     }
 
-    /// `checkpoint` on a desk that the clerk is lent.
-    pub(crate) fn checkpoint_on<R: Rules>(&mut self, desk: &mut Desk<R>) -> Result<u32, CallFault>
-        ensures number { IfOk result (λ number. number ≡ length desk.old.log.entries) }
-        ensures desk { IfOk result (λ number. desk.new ≡ record desk.old { base = Some (base_of number (record { state = desk.old.log.state; spent = desk.old.log.spent })) }) }
-        ensures base { IfOk result (λ number. self.new ≡ record self.old { base = greater_base self.old.base (Some number) }) }
-        ensures run { IsLog R.table desk.old.log }
-        ensures seen { IfOk result (λ number. front_of self.old.receipts ≤ number) }
-        ensures fault { IfErr result (λ fault. Explains (checkpoint_fault (front_of self.old.receipts) desk.old.log) fault) }
-        ensures kept { OnErr result ((self.new ≡ self.old) × (desk.new ≡ desk.old)) }
+    /// Keeps the number that a checkpoint answered, where it is greater than each before.
+    pub(crate) fn take_base(&mut self, number: u32)
+        ensures { self.new ≡ record self.old { base = greater_base self.old.base (Some number) } }
     {
-        let (front, seen) = (desk.len(), self.front());
-        if front < seen {
-            return Err(CallFault::Behind { front, seen });
-        }
-        let number = desk.checkpoint()?;
         self.base = greater(self.base, Some(number));
-        Ok(number)
     }
 }
 

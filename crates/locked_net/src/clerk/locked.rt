@@ -1,13 +1,11 @@
 //! A clerk's calls: each takes the network's lock, and gives it back when it is done.
 
-ghost use Rattle.std.specs.Prelude.{◌≡◌, ◌≢◌, ◌↔◌, ◌<◌, IsNone, IfOk, IfErr, IfSome, OnOk, OnErr, MatchOption};
+ghost use Rattle.std.specs.Prelude.{◌≡◌, ◌≢◌, ◌<◌, IfOk, IfErr, IfSome, OnOk, OnErr, MatchOption};
 ghost use Rattle.rule_machine.specs.declared.event.Event.TheVariants.{Step};
-ghost use Rattle.rule_machine.specs.Network.{node_count};
-ghost use Rattle.fault_injector.specs.Drawn.{drawn};
 ghost use Rattle.locked_net.specs.Nets.{book_of, setting_of};
 ghost use Rattle.locked_net.specs.Receipts.{HasNoteOf, front_of, seen_by};
 ghost use Rattle.locked_net.specs.Calls.{MayAnswer, Keeps, KeepsStep, KeepsFault};
-ghost use Rattle.locked_net.specs.Choosing.{ChoosesStep, TakesChoice, Refuses, RefusesStep};
+ghost use Rattle.locked_net.specs.Choosing.{ByDaemon, DrawsFault, NoneIfEmpty, TakesChoice, Refuses, RefusesStep};
 ghost use Rattle.locked_net.specs.Stepping.{MayAnswerStep};
 ghost use Rattle.locked_net.specs.declared.call_fault.CallFault.TheVariants.{Memory};
 
@@ -41,9 +39,9 @@ impl Clerk {
         ensures refused { IfErr result (Refuses (setting_of R.table net.now) (seen_by self.old)) }
         ensures kept { OnErr result (self.new ≡ self.old) }
     {
-        let (mut desk, hold) = net.take(rt);
-        let answer = self.call_on(rt, &mut desk, event);
-        net.give(hold, desk);
+        let mut held = net.hold(rt);
+        let answer = held.call(rt, self, event);
+        held.free();
         answer
     }
 
@@ -69,9 +67,9 @@ impl Clerk {
         ensures refused { IfErr result (RefusesStep (setting_of R.table net.now) (seen_by self.old) workers) }
         ensures kept { OnErr result (self.new ≡ self.old) }
     {
-        let (mut desk, hold) = net.take(rt);
-        let answer = self.step_on(rt, net.alloc(), &mut desk, choice, workers, gate);
-        net.give(hold, desk);
+        let mut held = net.hold(rt);
+        let answer = held.step(rt, self, choice, workers, gate);
+        held.free();
         answer
     }
 
@@ -91,15 +89,15 @@ impl Clerk {
         ensures base { self.new.base ≡ self.old.base }
         ensures above { IfOk result (λ told. IfSome told (λ _. seen_by self.old < front_of self.new.receipts)) }
         ensures step { IfOk result (λ told. MatchOption told (self.new ≡ self.old) (KeepsStep R.table.central self.old.receipts self.new.receipts)) }
-        ensures chosen { IfOk result (TakesChoice (setting_of R.table net.now) (ChoosesStep R.table (λ names choice. D.chooses names R.table.central daemon.old choice daemon.new)) self.old.receipts self.new.receipts self.new.note) }
+        ensures chosen { IfOk result (TakesChoice (setting_of R.table net.now) (ByDaemon D.chooses R.table daemon.old daemon.new) self.old.receipts self.new.receipts self.new.note) }
         ensures fault { IfErr result (λ fault. MayAnswer (seen_by self.old) fault) }
         ensures refused { IfErr result (Refuses (setting_of R.table net.now) (seen_by self.old)) }
         ensures kept { OnErr result (self.new ≡ self.old) }
         ensures unasked { IfErr result (λ fault. (fault ≢ Memory) → daemon.new ≡ daemon.old) }
     {
-        let (mut desk, hold) = net.take(rt);
-        let answer = self.drive_on(rt, &mut desk, daemon);
-        net.give(hold, desk);
+        let mut held = net.hold(rt);
+        let answer = held.drive(rt, self, daemon);
+        held.free();
         answer
     }
 
@@ -112,20 +110,21 @@ impl Clerk {
         net: &LockedNet<R>,
         injector: &mut Injector<G>,
     ) -> Result<Option<Reply>, CallFault>
-        ensures none { IfOk result (λ told. TakesChoice (setting_of R.table net.now) (λ s _. IsNone told ↔ (node_count s.network ≡ 0)) self.old.receipts self.new.receipts self.new.note told) }
+        ensures none { IfOk result (λ told. TakesChoice (setting_of R.table net.now) (NoneIfEmpty told) self.old.receipts self.new.receipts self.new.note told) }
         ensures note { IfOk result (λ told. IfSome told (λ _. HasNoteOf (book_of net.now) self.new)) }
         ensures base { self.new.base ≡ self.old.base }
         ensures above { IfOk result (λ told. IfSome told (λ _. seen_by self.old < front_of self.new.receipts)) }
         ensures register { IfOk result (λ told. MatchOption told (self.new ≡ self.old) (KeepsFault self.old.receipts self.new.receipts)) }
-        ensures drawn { IfOk result (TakesChoice (setting_of R.table net.now) (λ s event. (event, G.stream injector.new) ≡ drawn s.network R.table.flags (G.stream injector.old)) self.old.receipts self.new.receipts self.new.note) }
+        ensures drawn { IfOk result (TakesChoice (setting_of R.table net.now)
+            (DrawsFault R.table (G.stream injector.old) (G.stream injector.new)) self.old.receipts self.new.receipts self.new.note) }
         ensures fault { IfErr result (λ fault. MayAnswer (seen_by self.old) fault) }
         ensures refused { IfErr result (Refuses (setting_of R.table net.now) (seen_by self.old)) }
         ensures kept { OnErr result (self.new ≡ self.old) }
         ensures unasked { IfErr result (λ fault. (fault ≢ Memory) → injector.new ≡ injector.old) }
     {
-        let (mut desk, hold) = net.take(rt);
-        let answer = self.fault_on(rt, &mut desk, injector);
-        net.give(hold, desk);
+        let mut held = net.hold(rt);
+        let answer = held.fault(rt, self, injector);
+        held.free();
         answer
     }
 }

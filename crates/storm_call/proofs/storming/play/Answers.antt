@@ -1,5 +1,5 @@
 use Rattle.std.proofs.Common.{◌∙◌, arith}
-use Rattle.locked_net.specs.Nets.{nodes_of, first_of, limit_of}
+use Rattle.locked_net.specs.Nets.{nodes_of, present_of, limit_of}
 use Rattle.script_run.specs.Asked.{asked_of}
 use Rattle.step_log.specs.Held.{kept_of}
 use Rattle.storm_call.proofs.Leaving.{leaves_as_asked}
@@ -11,5 +11,5 @@ returns-clause-log g c =
     let told = c.in_ok-play_scripts.ensures in
     let net = c.in-Ok.net in
     let made = c.in-Ok.ensures in
-    leaves_as_asked g.R.Rules.table g.R.Rules.NODE_WEIGHT (asked_of c.args.options.now) (nodes_of net) (first_of net) (limit_of net) c.roamers.result c.turns.result c.args.scripts.now left.1 (kept_of left.0) (made.nodes ∙ c.nodes.ensures.count) (made.first ∙ c.present.ensures.count)
+    leaves_as_asked g.R.Rules.table g.R.Rules.NODE_WEIGHT (asked_of c.args.options.now) (nodes_of net) (present_of net) (limit_of net) c.roamers.result c.turns.result c.args.scripts.now left.1 (kept_of left.0) (made.nodes ∙ c.nodes.ensures.count) (made.present ∙ c.present.ensures.count)
     (omega (arith, made.limit, c.limit.ensures.count, c.limit.ensures.few)) c.roamers.ensures.count c.turns.ensures.count told.run told.upheld told.size told.storm

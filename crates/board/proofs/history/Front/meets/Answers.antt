@@ -4,8 +4,8 @@ use Rattle.board.specs.History.{Mark}
 use Rattle.board.proofs.OneLog.{told_and_shown, both_told, both_shown}
 use Rattle.board.proofs.history.Front.meets.Goals as goal
 
-pub returns-clause-told : goal.returns-clause-told
-returns-clause-told c =
+pub returns-clause-published : goal.returns-clause-published
+returns-clause-published c =
     let all = c.learn.new.self.log in
     let this : IsPrefix c.args.self.now.seen.log all = subst (λ (l : List Mark). IsPrefix l all) (ap (λ s. s.log) c.again-both.ensures) c.learn.ensures.2 in
     both_told _ _ all this c.learn.ensures.3

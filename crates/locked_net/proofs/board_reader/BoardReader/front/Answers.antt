@@ -1,5 +1,5 @@
 use Rattle.std.proofs.Common.{◌≡◌, ap, ◌∙◌, subst}
-use Rattle.board.specs.Runs.{IsRun}
+use Rattle.board.specs.Row.{IsRun}
 use Rattle.board.specs.Views.{Name, Reading}
 use Rattle.locked_net.proofs.Seeing.{shows}
 use Rattle.locked_net.proofs.board_reader.BoardReader.front.Goals as goal

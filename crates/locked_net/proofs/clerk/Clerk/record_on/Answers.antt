@@ -1,8 +1,9 @@
-use Rattle.std.proofs.Common.{◌≡◌, ◌∷◌, ◌++◌, [], None, sym, ap₂, ◌∙◌, subst}
+use Rattle.std.proofs.Common.{◌≡◌, ◌∷◌, ◌++◌, [], None, sym, ap, ap₂, ◌∙◌, subst}
 use Rattle.step_log.specs.declared.receipt.Receipt.{Receipt}
-use Rattle.locked_net.specs.Receipts.{ClerkView, front_of}
+use Rattle.locked_net.specs.Receipts.{ClerkView, front_of, noted}
 use Rattle.locked_net.specs.Calls.{call_fault}
 use Rattle.locked_net.proofs.Adding.{front_after, is_clerk_after}
+use Rattle.locked_net.proofs.Choosing.{begins_in}
 use Rattle.locked_net.proofs.clerk.Clerk.record_on.Goals as goal
 
 pub invariant_of-self-2 : goal.invariant_of-self-2
@@ -21,3 +22,8 @@ returns-clause-front g c =
     let same : c.reserve.new.self.items ≡ old = c.in_ok-reserve.ensures.items in
     front_after g.R.Rules.table c.args.desk.now.log c.args.event old c.keep.new.receipts.items
     (c.keep.ensures.receipt ∙ ap₂ (λ rs (r : Receipt). rs ++ r ∷ []) same c.in_ok-recorded.ensures.receipt)
+
+pub returns-clause-begins : goal.returns-clause-begins
+returns-clause-begins g c =
+    let told = c.in_ok-recorded.ensures in
+    begins_in g.R.Rules.table c.args.desk.now.log c.record.new.self.log c.args.event c.keep.new.note told.log (ap noted c.keep.ensures.note ∙ told.note.0)

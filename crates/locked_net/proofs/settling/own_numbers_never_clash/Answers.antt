@@ -1,5 +1,5 @@
 use Rattle.locked_net.proofs.Exact.{agrees_by_clerks}
-use Rattle.locked_net.proofs.law.own_numbers_never_clash.Goals as goal
+use Rattle.locked_net.proofs.settling.own_numbers_never_clash.Goals as goal
 
 pub returns : goal.returns
 returns c = agrees_by_clerks

@@ -1,5 +1,5 @@
 use Rattle.locked_net.proofs.Exact.{settled_not_refused}
-use Rattle.locked_net.proofs.law.settling_is_exact.Goals as goal
+use Rattle.locked_net.proofs.settling.settling_is_exact.Goals as goal
 
 pub returns : goal.returns
 returns c = settled_not_refused

@@ -1,0 +1,72 @@
+//! A network whose lock is held.
+
+ghost use Rattle.std.specs.Prelude.{◌≡◌};
+ghost use Rattle.locked_net.specs.Nets.{name_of, setting_of};
+ghost use Rattle.locked_net.specs.Settings.{IsLogIn};
+
+use crate::LockedNet;
+use crate::desk::Desk;
+use crate::key::NetKey;
+use keyed_lock::Hold;
+use rule_engine::Rules;
+use std::marker::Model;
+use std::sync::Wait;
+
+mod calls;
+mod checkpoint;
+mod chosen;
+mod judged;
+mod lone;
+mod looks;
+
+/// A network whose lock its holder has, who alone calls it until `free`. Contracts see what lies behind the lock: the whole log, with
+/// the entries that a checkpoint dropped, just as it is published; the base of what is kept of it; and the name of its board. It can't
+/// be dropped: `free` ends it.
+pub struct HeldNet<'a, R: Rules> {
+    net: &'a LockedNet<R>,
+    desk: Desk<R>,
+    hold: Hold<Desk<R>, NetKey>,
+}
+
+impl<'a, R: Rules> Model for HeldNet<'a, R> {
+    ghost use Rattle.std.specs.Coded.{codes};
+    ghost use Rattle.rule_machine.specs.State.{state_code};
+    ghost use Rattle.logbook.specs.Pages.{book_coded};
+    ghost use Rattle.keyed_lock.specs.Locks.{IsHoldOf};
+    ghost use Rattle.locked_net.specs.Desks.{DeskView};
+    ghost use Rattle.locked_net.specs.Keys.{IsOfKey};
+    ghost use Rattle.locked_net.specs.Nets.{net_key_of};
+
+    ghost Value = { DeskView };
+
+    ghost coded = { Prim.hlevel (codes, state_code, book_coded) };
+
+    ghost view = { λ h. h.desk };
+
+    ghost invariant = { λ h. IsOfKey (net_key_of h.net.now) h.desk × IsHoldOf h.net.now.lock h.hold };
+}
+
+impl<R: Rules> LockedNet<R> {
+    /// Waits for the network's lock, and holds it.
+    pub fn hold<W: Wait>(&self, rt: &W) -> HeldNet<'_, R>
+        ensures own { IsLogIn (setting_of R.table self.now) result.log }
+        ensures name { result.name ≡ name_of self.now }
+    {
+        let (desk, hold) = self.take(rt);
+        // It ensures that the log is a run.
+        let _count = desk.len();
+        HeldNet {
+            net: self,
+            desk,
+            hold,
+        }
+    }
+}
+
+impl<R: Rules> HeldNet<'_, R> {
+    /// Frees the lock.
+    pub fn free(self) {
+        let HeldNet { net, desk, hold } = self;
+        net.give(hold, desk);
+    }
+}

@@ -1,0 +1,76 @@
+//! Calls of a network whose lock is held, where somebody else chooses the event.
+
+ghost use Rattle.std.specs.Prelude.{◌≡◌, ◌≢◌, ◌<◌, ◌↔◌, None, IsNone, IfOk, IfErr, IfSome, OnOk, OnErr, MatchOption};
+ghost use mathlib.Core.List.{IsPrefix};
+ghost use Rattle.rule_machine.specs.Network.{node_count};
+ghost use Rattle.locked_net.specs.Receipts.{HasNoteOf, front_of, seen_by, noted};
+ghost use Rattle.locked_net.specs.Keys.{KeepsKey};
+ghost use Rattle.locked_net.specs.Calls.{call_fault, Explains, Drives, Breaks};
+ghost use Rattle.locked_net.specs.Choosing.{ByDaemon, DrawsFault, ChoosesOn};
+ghost use Rattle.locked_net.specs.declared.call_fault.CallFault.TheVariants.{Memory};
+
+use crate::{CallFault, Clerk, HeldNet};
+use daemon::Daemon;
+use fault_injector::Injector;
+use rand_core::Rng;
+use rule_engine::{Event, Reply, Rules};
+use std::sync::Wait;
+
+impl<R: Rules> HeldNet<'_, R> {
+    /// Lets a daemon choose a step among the enabled nodes: `Clerk::drive_with`, where the lock is held already.
+    pub fn drive<W: Wait, D: Daemon>(
+        &mut self,
+        rt: &W,
+        clerk: &mut Clerk,
+        daemon: &mut D,
+    ) -> Result<Option<Reply>, CallFault>
+        ensures step { IfOk result (λ told. MatchOption told
+            ((clerk.new ≡ clerk.old) × (self.new ≡ self.old))
+            (λ reply. Drives R.table self.old.log self.new.log clerk.old.receipts clerk.new.receipts reply)) }
+        ensures chosen { IfOk result (ChoosesOn R.table self.old.log (ByDaemon D.chooses R.table daemon.old daemon.new) clerk.old.receipts clerk.new.receipts) }
+        ensures note { IfOk result (λ told. IfSome told (λ _. HasNoteOf self.old.name.book clerk.new)) }
+        ensures base { clerk.new.base ≡ clerk.old.base }
+        ensures begins { IfOk result (λ told. IfSome told (λ _. IsPrefix self.old.log.entries (noted clerk.new.note))) }
+        ensures key { KeepsKey self.old self.new }
+        ensures seen { OnOk result (call_fault (front_of clerk.old.receipts) self.old.log ≡ None) }
+        ensures above { IfOk result (λ told. IfSome told (λ _. seen_by clerk.old < front_of clerk.new.receipts)) }
+        ensures fault { IfErr result (λ fault. Explains (call_fault (seen_by clerk.old) self.old.log) fault) }
+        ensures kept { OnErr result ((clerk.new ≡ clerk.old) × (self.new ≡ self.old)) }
+        ensures unasked { IfErr result (λ fault. (fault ≢ Memory) → daemon.new ≡ daemon.old) }
+    {
+        clerk.may_call(&self.desk)?;
+        match daemon.choose(self.desk.net().enabled(), R::CENTRAL)? {
+            Some(choice) => Ok(Some(clerk.record_on(rt, &mut self.desk, Event::Step(choice))?)),
+            None => Ok(None),
+        }
+    }
+
+    /// Lets an injector draw a register fault: `Clerk::fault_with`, where the lock is held already.
+    pub fn fault<W: Wait, G: Rng>(
+        &mut self,
+        rt: &W,
+        clerk: &mut Clerk,
+        injector: &mut Injector<G>,
+    ) -> Result<Option<Reply>, CallFault>
+        ensures register { IfOk result (λ told. MatchOption told
+            ((clerk.new ≡ clerk.old) × (self.new ≡ self.old))
+            (λ reply. Breaks R.table self.old.log self.new.log clerk.old.receipts clerk.new.receipts reply)) }
+        ensures drawn { IfOk result (ChoosesOn R.table self.old.log (DrawsFault R.table (G.stream injector.old) (G.stream injector.new)) clerk.old.receipts clerk.new.receipts) }
+        ensures none { IfOk result (λ told. IsNone told ↔ (node_count self.old.log.state.network ≡ 0)) }
+        ensures note { IfOk result (λ told. IfSome told (λ _. HasNoteOf self.old.name.book clerk.new)) }
+        ensures base { clerk.new.base ≡ clerk.old.base }
+        ensures begins { IfOk result (λ told. IfSome told (λ _. IsPrefix self.old.log.entries (noted clerk.new.note))) }
+        ensures key { KeepsKey self.old self.new }
+        ensures seen { OnOk result (call_fault (front_of clerk.old.receipts) self.old.log ≡ None) }
+        ensures above { IfOk result (λ told. IfSome told (λ _. seen_by clerk.old < front_of clerk.new.receipts)) }
+        ensures fault { IfErr result (λ fault. Explains (call_fault (seen_by clerk.old) self.old.log) fault) }
+        ensures kept { OnErr result ((clerk.new ≡ clerk.old) × (self.new ≡ self.old)) }
+        ensures unasked { IfErr result (λ fault. (fault ≢ Memory) → injector.new ≡ injector.old) }
+    {
+        clerk.may_call(&self.desk)?;
+        match injector.draw(self.desk.net()) {
+            Some(event) => Ok(Some(clerk.record_on(rt, &mut self.desk, event)?)),
+            None => Ok(None),
+        }
+    }
+}

@@ -1,0 +1,29 @@
+//! Looks at a network whose lock is held.
+
+ghost use Rattle.std.specs.Prelude.{◌≡◌, IfOk};
+ghost use Rattle.rule_engine.specs.Costs.{cost_of};
+ghost use Rattle.locked_net.specs.Looks.{BoundsGrowth};
+
+use crate::{HeldNet, SeenCost};
+use board::{NoPlace, Reader, Runs};
+use rule_engine::{Event, Rules};
+
+impl<R: Rules> HeldNet<'_, R> {
+    /// What an event would cost, with a note of the log: `LockedNet::cost_of`, where the lock is held already.
+    pub fn cost_of(&self, event: &Event) -> SeenCost
+        ensures cost { result.cost ≡ cost_of R.table R.cost self.now.log.state event.now }
+        ensures grows { BoundsGrowth R.table self.now.log event.now result.cost }
+        ensures note { (result.note.log ≡ self.now.log.entries) × (result.note.book ≡ self.now.name.book) }
+    {
+        self.desk.cost_of(event)
+    }
+
+    /// A reader of what is published.
+    pub(crate) fn reader(&mut self) -> Result<Reader<Runs<R>>, NoPlace>
+        ensures kept { self.new ≡ self.old }
+        ensures name { IfOk result (λ reader. reader.name ≡ self.old.name) }
+        ensures seen { IfOk result (λ reader. (reader.list ≡ self.old.log.entries) × (reader.learnt ≡ self.old.log.entries)) }
+    {
+        self.desk.reader()
+    }
+}
