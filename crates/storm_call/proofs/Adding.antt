@@ -1,5 +1,5 @@
 -- Turns that are taken one by one.
-use Rattle.std.proofs.Common.{◌≡◌, ◌∙◌, ℕ, ◌+◌, ◌<◌, ◌≤◌, Bool, false, true, not, List, [], ◌∷◌, ◌++◌, length, Option, None, Some, IfSome, IsNone, ◌↔◌, MatchOption, refl, sym, ap, subst, append_assoc, length-append, arith}
+use Rattle.std.proofs.Common.{◌≡◌, ◌∙◌, ℕ, ◌+◌, ◌<◌, ◌≤◌, Bool, false, true, not, List, [], ◌∷◌, ◌++◌, length, Option, None, Some, Result, Ok, Err, IfOk, IfSome, IsNone, ◌↔◌, MatchOption, refl, sym, ap, subst, append_assoc, length-append, arith}
 use Rattle.std.specs.List.{All}
 use Rattle.std.specs.Option.{is_some, option_map}
 use Rattle.std.proofs.lemmas.Bool.{false≢true}
@@ -27,17 +27,11 @@ use Rattle.locked_net.specs.Choosing.{ChoosesStep, IsTold, TakesChoice}
 use Rattle.locked_net.proofs.Adding.{seen_few, front_more}
 use Rattle.locked_net.proofs.Noting.{later_note}
 use Rattle.storm_call.specs.Storm.{IsOfStep, IsOfFault, AreAbove}
-use Rattle.storm_call.specs.Turns.{Scene, IsTurn, AreTurns, DrawnFrom, IsQuietBehind, IsEmptyBehind}
+use Rattle.storm_call.specs.Turns.{Scene, Draw, Gains, IsTurn, AreTurns, DrawnFrom, IsQuietBehind, IsEmptyBehind}
 use Rattle.storm_call.specs.Played.{scene_of}
 use Rattle.storm_call.proofs.Lasting.{turns_last}
 
 -- ---- one turn
-
--- a receipt of the kind was added
-pub record Gains (P : Receipt → Type 0) (old new : List Receipt) : Type 0 where
-  pub receipt : Receipt
-  pub added : new ≡ old ++ receipt ∷ []
-  pub is : P receipt
 
 gains_step : (central : Bool) (old new : List Receipt) (reply : Reply) → KeepsStep central old new reply → Gains IsOfStep old new
 gains_step central old new reply kept = record {
@@ -53,15 +47,24 @@ gains_fault old new reply kept = record {
   is = record { register = kept.register; accepted = kept.accepted };
 }
 
--- a turn of a daemon that did not find nothing
-pub stepped : (central : Bool) (old new : ClerkView) (told : Option Reply) (b : Bool) → MatchOption told (new ≡ old) (KeepsStep central old.receipts new.receipts) → is_some told ≡ not b → b ≡ false → Gains IsOfStep old.receipts new.receipts
-stepped central old new None b kept e f = absurd (false≢true (e ∙ ap not f))
-stepped central old new (Some reply) b kept e f = gains_step central old.receipts new.receipts reply kept
+-- a turn of a daemon gains its step
+pub stepped : {E : Type 0} (central : Bool) (old new : ClerkView) (result : Result (Option Reply) E) → IfOk result (λ told. MatchOption told (new ≡ old) (KeepsStep central old.receipts new.receipts))
+    → IfOk result (λ told. MatchOption told (new ≡ old) (λ _. Gains IsOfStep old.receipts new.receipts))
+stepped central old new (Err fault) kept = tt
+stepped central old new (Ok None) kept = kept
+stepped central old new (Ok (Some reply)) kept = gains_step central old.receipts new.receipts reply kept
 
--- the same of an injector
-pub struck : (old new : ClerkView) (told : Option Reply) (b : Bool) → MatchOption told (new ≡ old) (KeepsFault old.receipts new.receipts) → is_some told ≡ not b → b ≡ false → Gains IsOfFault old.receipts new.receipts
-struck old new None b kept e f = absurd (false≢true (e ∙ ap not f))
-struck old new (Some reply) b kept e f = gains_fault old.receipts new.receipts reply kept
+-- and one of an injector its fault
+pub struck : {E : Type 0} (old new : ClerkView) (result : Result (Option Reply) E) → IfOk result (λ told. MatchOption told (new ≡ old) (KeepsFault old.receipts new.receipts))
+    → IfOk result (λ told. MatchOption told (new ≡ old) (λ _. Gains IsOfFault old.receipts new.receipts))
+struck old new (Err fault) kept = tt
+struck old new (Ok None) kept = kept
+struck old new (Ok (Some reply)) kept = gains_fault old.receipts new.receipts reply kept
+
+-- a turn that did not find nothing
+pub gained : (P : Receipt → Type 0) (old new : ClerkView) (told : Option Reply) (b : Bool) → MatchOption told (new ≡ old) (λ _. Gains P old.receipts new.receipts) → is_some told ≡ not b → b ≡ false → Gains P old.receipts new.receipts
+gained P old new None b gains e f = absurd (false≢true (e ∙ ap not f))
+gained P old new (Some reply) b gains e f = gains
 
 -- the last receipt is above the base that the clerk had
 pub last_above : (old new : ClerkView) (base : Option ℕ) (receipt : Receipt) → old.base ≡ base → new.receipts ≡ old.receipts ++ receipt ∷ [] → seen_by old < front_of new.receipts → base_from base < receipt.seq
@@ -86,12 +89,8 @@ grown P old new before is was gains comparable now =
 
 -- ---- the words of a turn
 
--- what these words draw in the state of a log was recorded, if anything, and those are left
-abbrev pub Draw : Setting → Draws → Stream → Stream → List Receipt → ClerkView → Option Reply → Type 0
-Draw setting draws words left old new told = TakesChoice setting (λ s event. (event, left) ≡ draws setting.table s words) old new.receipts new.note told
-
 -- a daemon's choice by its words is its event
-pub drew_step : (setting : Setting) (words left : Stream) (old : List Receipt) (new : ClerkView) (told : Option Reply)
+drew_step : (setting : Setting) (words left : Stream) (old : List Receipt) (new : ClerkView) (told : Option Reply)
     → TakesChoice setting (ChoosesStep setting.table (λ names choice. (choice, left) ≡ drawn setting.table.central names words)) old new.receipts new.note told → Draw setting drawn_step words left old new told
 drew_step setting words left old new told took =
     let chosen = took.taken.chosen in
@@ -108,6 +107,11 @@ drew_step setting words left old new told took =
       };
       begins = took.begins;
     }
+
+pub drew_steps : {E : Type 0} (setting : Setting) (words left : Stream) (old : List Receipt) (new : ClerkView) (result : Result (Option Reply) E)
+    → IfOk result (TakesChoice setting (ChoosesStep setting.table (λ names choice. (choice, left) ≡ drawn setting.table.central names words)) old new.receipts new.note) → IfOk result (Draw setting drawn_step words left old new)
+drew_steps setting words left old new (Ok told) took = drew_step setting words left old new told took
+drew_steps setting words left old new (Err fault) took = tt
 
 -- the receipt of a turn that was answered is the one that was added
 first_of : (r other : Receipt) → r ∷ [] ≡ other ∷ [] → r ≡ other
@@ -175,11 +179,10 @@ none_drawn setting log old new told None is none = refl
 none_drawn setting log old new told (Some event) (answer, more) none = absurd (false≢true (sym none ∙ ap is_some answer))
 
 -- a daemon that finds nothing finds no node enabled, behind all that its clerk has seen
-pub quiet_behind : (setting : Setting) (words left : Stream) (old mid : List Receipt) (new : ClerkView) (own : List Receipt) (told : Option Reply) (b : Bool) → mid ≡ old ++ own → Draw setting drawn_step words left mid new told
-    → is_some told ≡ not b → b ≡ true → IsQuietBehind setting own
-quiet_behind setting words left old mid new own told b added took e f =
+quiet_behind : (setting : Setting) (words left : Stream) (old mid : List Receipt) (new : ClerkView) (own : List Receipt) → mid ≡ old ++ own → Draw setting drawn_step words left mid new None → IsQuietBehind setting own
+quiet_behind setting words left old mid new own added took =
     let names = enabled_names setting.table took.log.state in
-    let none = none_drawn setting took.log mid new.receipts told took.taken.event took.taken.is_told (e ∙ ap not f) in
+    let none = none_drawn setting took.log mid new.receipts None took.taken.event took.taken.is_told refl in
     let nobody : option_map (λ items. Step items) (drawn setting.table.central names words).0 ≡ None =
     sym (ap (λ (d : Option Event × Stream). d.0) took.taken.chosen) ∙ none in
     let few : front_of mid ≤ length took.log.entries = seen_few (front_of mid) took.log took.free in
@@ -191,10 +194,21 @@ quiet_behind setting words left old mid new own told b added took e f =
       quiet = (rests setting.table.central names words).0 (no_event (λ items. Step items) (drawn setting.table.central names words).0 nobody);
     }
 
+pub daemon_rests : {E : Type 0} (setting : Setting) (words left : Stream) (mid : List Receipt) (new : ClerkView) (result : Result (Option Reply) E) → IfOk result (Draw setting drawn_step words left mid new)
+    → IfOk result (λ told. IsNone told → (old own : List Receipt) → mid ≡ old ++ own → IsQuietBehind setting own)
+daemon_rests setting words left mid new (Err fault) took = tt
+daemon_rests setting words left mid new (Ok None) took = λ none old own added. quiet_behind setting words left old mid new own added took
+daemon_rests setting words left mid new (Ok (Some reply)) took = λ none. absurd (false≢true (sym none))
+
 -- an injector that finds nothing finds no node, behind all that its clerk has seen
-pub empty_behind : (setting : Setting) (old mid : List Receipt) (new : ClerkView) (own : List Receipt) (told : Option Reply) → mid ≡ old ++ own
+empty_behind : (setting : Setting) (old mid : List Receipt) (new : ClerkView) (own : List Receipt) (told : Option Reply) → mid ≡ old ++ own
     → TakesChoice setting (λ s _. IsNone told ↔ (node_count s.network ≡ 0)) mid new.receipts new.note told → IsNone told → IsEmptyBehind setting own
 empty_behind setting old mid new own told added took none =
     let few : front_of mid ≤ length took.log.entries = seen_few (front_of mid) took.log took.free in
     let low : front_of own ≤ front_of mid = subst (λ rs. front_of own ≤ front_of rs) (sym added) (front_low own old 0) in
     record { log = took.log; is_own = took.own; behind = omega (arith, few, low); empty = took.taken.chosen.0 none }
+
+pub injector_rests : {E : Type 0} (setting : Setting) (mid : List Receipt) (new : ClerkView) (result : Result (Option Reply) E) → IfOk result (λ told. TakesChoice setting (λ s _. IsNone told ↔ (node_count s.network ≡ 0)) mid new.receipts new.note told)
+    → IfOk result (λ told. IsNone told → (old own : List Receipt) → mid ≡ old ++ own → IsEmptyBehind setting own)
+injector_rests setting mid new (Err fault) took = tt
+injector_rests setting mid new (Ok told) took = λ none old own added. empty_behind setting old mid new own told added took none

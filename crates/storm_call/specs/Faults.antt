@@ -1,13 +1,21 @@
 -- What the faults of a storm's parts are in a storm.
 use Rattle.locked_net.specs.declared.call_fault.CallFault.{CallFault}
 use Rattle.locked_net.specs.declared.call_fault.CallFault.TheVariants as call
+use Rattle.locked_net.specs.declared.settle_fault.SettleFault.{SettleFault}
 use Rattle.locked_net.specs.declared.settle_fault.SettleFault.TheVariants as settle
 use Rattle.script_text.specs.declared.fault.TextsFault.{TextsFault}
 use Rattle.script_text.specs.declared.fault.TextsFault.TheVariants as texts
-use Rattle.storm_call.specs.declared.play_fault.PlayFault.{PlayFault}
-use Rattle.storm_call.specs.declared.play_fault.PlayFault.TheVariants as play
+use Rattle.storm_call.specs.declared.fault.PlayFault.{PlayFault}
+use Rattle.storm_call.specs.declared.fault.PlayFault.TheVariants as play
 use Rattle.storm_call.specs.declared.fault.StormFault.{StormFault}
 use Rattle.storm_call.specs.declared.fault.StormFault.TheVariants.{TooManyScripts, BadLine, LogFull, Read, Memory, Behind, Unsettled}
+
+-- of settling, to who plays scripts
+abbrev pub fault_for : SettleFault → PlayFault
+fault_for settle.CountDiffers = play.Unsettled settle.CountDiffers
+fault_for settle.BaseDiffers = play.Unsettled settle.BaseDiffers
+fault_for (settle.Stranger clerk place) = play.Unsettled (settle.Stranger clerk place)
+fault_for settle.Memory = play.Memory
 
 -- of reading the scripts
 abbrev pub of_texts : TextsFault → StormFault

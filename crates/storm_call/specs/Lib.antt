@@ -1,7 +1,6 @@
 pub mod Turns
 pub mod Storm
 pub mod Played
-pub mod PlayFaults
 pub mod Roaming
 pub mod Faults
 pub mod FaultText

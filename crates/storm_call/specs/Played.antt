@@ -1,9 +1,11 @@
 -- What the play of one command adds to a clerk's receipts, and what is played by whom.
-use Rattle.std.specs.Prelude.{◌≡◌, ℕ, List, [], ◌∷◌, ◌++◌, Option, None, Some, Result, Ok, Err}
+use Rattle.std.specs.Prelude.{◌≡◌, ℕ, ◌<◌, ◌≤◌, length, List, [], ◌∷◌, ◌++◌, Option, None, Some, Result, Ok, Err}
 use Rattle.std.specs.List.{All}
 use Rattle.std.specs.Option.{option_or}
 use mathlib.Core.List.{IsPrefix}
+use Rattle.rand_core.specs.Stream.{Stream}
 use Rattle.rule_machine.specs.Run.{Entry}
+use Rattle.seeded_turns.specs.Drawn.{Draws}
 use Rattle.step_log.specs.declared.receipt.Receipt.{Receipt}
 use Rattle.locked_net.specs.Choosing.{HoldsAll}
 use Rattle.locked_net.specs.Receipts.{ClerkView, front_of, greater_base, noted}
@@ -12,7 +14,7 @@ use Rattle.locked_net.specs.declared.call_fault.CallFault.{CallFault}
 use Rattle.script_text.specs.declared.command.Command.{Command}
 use Rattle.script_text.specs.declared.command.Command.TheVariants.{Tell, Drive, Scramble, Checkpoint}
 use Rattle.script_text.specs.declared.script.ScriptLine.{ScriptLine}
-use Rattle.storm_call.specs.Turns.{Scene}
+use Rattle.storm_call.specs.Turns.{DrawnFrom, Scene}
 use Rattle.storm_call.specs.Storm.{IsFor, IsPartOf, AreAbove, MayStop, AllPlayed, AllTold}
 
 -- the log as far as a clerk's note tells it
@@ -29,6 +31,15 @@ pub record Adds (P : List Receipt → Type 0) (old new : List Receipt) : Type 0 
 abbrev pub Plays : {A E : Type 0} → Setting → Command → ClerkView → ClerkView → Result A E → Type 0
 Plays setting command old new (Ok done) = Adds (λ own. IsFor (scene_of setting new) command own × AreAbove old.base own) old.receipts new.receipts
 Plays setting command old new (Err fault) = Adds (λ own. IsPartOf (scene_of setting new) command own × AreAbove old.base own) old.receipts new.receipts
+
+-- So many turns were taken, by these words, above the base that the clerk had; fewer only where there was nothing to do behind the last of
+-- them, or where a fault broke them off.
+abbrev pub TurnsEnd : {A E : Type 0} → Setting → Draws → (Receipt → Type 0) → (Setting → List Receipt → Type 0) → Stream → ℕ → ClerkView → ClerkView → Result A E → Type 0
+TurnsEnd setting draws Fits Rests words count old new (Ok done) = Adds
+    (λ own. ((length own ≤ count) × DrawnFrom (scene_of setting new) draws words Fits own × (length own < count → Rests setting own)) × AreAbove old.base own)
+    old.receipts new.receipts
+TurnsEnd setting draws Fits Rests words count old new (Err fault) =
+    Adds (λ own. ((length own < count) × DrawnFrom (scene_of setting new) draws words Fits own) × AreAbove old.base own) old.receipts new.receipts
 
 -- What the clerk's base is, where a command was carried out: a checkpoint's answer joins it, the length of a log that holds all that the clerk
 -- has seen, and any other command leaves it as it was.

@@ -71,7 +71,8 @@ fn play_and_roam<R: Rules + Send + Sync, G: Gate + Sync, T: Threads + Wait + Syn
             ensures notes { All (IsOfBook (book_of stage.entry.now.net.now)) roaming.exit.now }
         { roam_new(rt, stage, turns, roaming) },
         &mut || -> Option<CallFault>
-            requires { IsSync T.row × IsSync G.row × IsSend R.row × IsSync R.row × (length scripts.now ≡ length own.now) × (length scripts.now ≤ 64) × All (λ clerk. clerk ≡ fresh) own.now }
+            requires { IsSync T.row × IsSync G.row × IsSend R.row × IsSync R.row
+                × (length scripts.now ≡ length own.now) × (length scripts.now ≤ 64) × All (λ clerk. clerk ≡ fresh) own.now }
             ensures played { PlayedOn (setting_of R.table stage.entry.now.net.now) scripts.entry.now own.exit.now result }
             ensures notes { All (IsOfBook (book_of stage.entry.now.net.now)) own.exit.now }
         { play_all(rt, stage, 0, scripts, own) },

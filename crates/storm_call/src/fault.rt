@@ -1,11 +1,35 @@
-//! Why a storm of scripts ends as it should not.
+//! Why scripts are not played to their ends, and why a storm ends as it should not.
 
-use crate::PlayFault;
 use byte_streams::OutputFault;
 use locked_net::{CallFault, SettleFault};
 use script_text::TextsFault;
 use std::alloc::AllocError;
 use thiserror::Error;
+
+/// Why scripts that were to be played left no log.
+#[derive(Clone, Copy, Debug, PartialEq, Eq, Error)]
+pub enum PlayFault {
+    /// The clerks and the log do not settle. It is never said with `SettleFault::Memory`, which is `Memory`.
+    #[error("unsettled: {0}")]
+    Unsettled(SettleFault),
+    /// A growth of memory was refused, before the first command or after the last.
+    #[error("out of memory")]
+    Memory,
+}
+
+impl From<SettleFault> for PlayFault {
+    ghost use Rattle.std.specs.Prelude.{◌≡◌};
+    ghost use Rattle.storm_call.specs.Faults.{fault_for};
+
+    ghost from_gives = { λ why fault. fault ≡ fault_for why };
+
+    fn from(why: SettleFault) -> PlayFault {
+        match why {
+            SettleFault::Memory => PlayFault::Memory,
+            why => PlayFault::Unsettled(why),
+        }
+    }
+}
 
 /// Why scripts were not all read, played to their ends and written.
 #[derive(Clone, Copy, Debug, PartialEq, Eq, Error)]

@@ -67,12 +67,14 @@ fn play_halves<R: Rules + Send + Sync, G: Gate + Sync, T: Threads + Wait + Sync>
     join_mut(
         rt,
         &mut || -> Option<CallFault>
-            requires { IsSync T.row × IsSync G.row × IsSend R.row × IsSync R.row × (length left.now ≡ length ours.now) × (first + length left.now < 2 ^ 32) × All (λ clerk. clerk ≡ fresh) ours.now }
+            requires { IsSync T.row × IsSync G.row × IsSend R.row × IsSync R.row
+                × (length left.now ≡ length ours.now) × (first + length left.now < 2 ^ 32) × All (λ clerk. clerk ≡ fresh) ours.now }
             ensures played { PlayedOn (setting_of R.table stage.entry.now.net.now) left.entry.now ours.exit.now result }
             ensures notes { All (IsOfBook (book_of stage.entry.now.net.now)) ours.exit.now }
         { play_all(rt, stage, first, left, ours) },
         &mut || -> Option<CallFault>
-            requires { IsSync T.row × IsSync G.row × IsSend R.row × IsSync R.row × (length right.now ≡ length theirs.now) × (second + length right.now < 2 ^ 32) × All (λ clerk. clerk ≡ fresh) theirs.now }
+            requires { IsSync T.row × IsSync G.row × IsSend R.row × IsSync R.row
+                × (length right.now ≡ length theirs.now) × (second + length right.now < 2 ^ 32) × All (λ clerk. clerk ≡ fresh) theirs.now }
             ensures played { PlayedOn (setting_of R.table stage.entry.now.net.now) right.entry.now theirs.exit.now result }
             ensures notes { All (IsOfBook (book_of stage.entry.now.net.now)) theirs.exit.now }
         { play_all(rt, stage, second, right, theirs) },

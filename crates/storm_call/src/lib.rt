@@ -15,24 +15,21 @@
 #![tactic(auto)]
 
 mod beside;
-mod crew;
 mod ending;
 mod fault;
 mod fault_line;
 mod forks;
 mod log;
 mod play;
-mod play_fault;
 mod run;
 mod stage;
 mod storming;
 mod text;
 mod turns;
 
-pub use crew::Crew;
 pub use ending::{status, storm_end};
-pub use fault::StormFault;
+pub use fault::{PlayFault, StormFault};
 pub use log::put_log;
-pub use play_fault::PlayFault;
 pub use run::play_scripts;
+pub use stage::Crew;
 pub use storming::storm;

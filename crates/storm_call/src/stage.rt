@@ -1,6 +1,6 @@
-//! How one script is played.
+//! Where scripts are played, and how one is.
 
-ghost use Rattle.std.specs.Prelude.{◌≡◌, ◌<◌, length};
+ghost use Rattle.std.specs.Prelude.{◌≡◌, ◌<◌, ◌≤◌, length};
 ghost use Rattle.std.specs.List.{All};
 ghost use Rattle.std.specs.Result.{result_err};
 ghost use Rattle.locked_net.specs.Nets.{book_of, setting_of};
@@ -8,7 +8,6 @@ ghost use Rattle.locked_net.specs.Receipts.{fresh, IsOfBook};
 ghost use Rattle.storm_call.specs.Storm.{MayStop};
 ghost use Rattle.storm_call.specs.Played.{scene_of, AllStop};
 
-use crate::Crew;
 use crate::play::play;
 use locked_net::{CallFault, Clerk, LockedNet};
 use rule_set::Rules;
@@ -17,6 +16,19 @@ use std::alloc::Global;
 use std::sync::Wait;
 use std::thread::Threads;
 use steal_pool::Gate;
+
+/// How many workers evaluate a step, how many roam, and for how many turns each of these.
+#[derive(Clone, Copy, Debug, PartialEq, Eq)]
+pub struct Crew {
+    /// How many workers evaluate a step of a script, one at least.
+    pub workers: u32,
+    /// How many workers roam beside the scripts, at most 64.
+    pub roamers: u32,
+    /// How many turns each of them has.
+    pub turns: u32,
+    ghost some_workers: { 1 ≤ workers },
+    ghost few_roamers: { roamers ≤ 64 },
+}
 
 /// The network on which scripts are played, the gate that they pass, and who works beside them.
 #[derive(Drop)]

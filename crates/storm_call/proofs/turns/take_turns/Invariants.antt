@@ -2,15 +2,14 @@ use Rattle.std.proofs.Common.{◌≡◌}
 use mathlib.Core.List.{IsPrefix}
 use Rattle.locked_net.specs.Nets.{book_of, setting_of}
 use Rattle.locked_net.specs.Receipts.{IsOfBook, noted}
-use Rattle.seeded_turns.specs.Drawn.{pcg32_stream, seeded_stream, drawn_step}
-use Rattle.storm_call.specs.Storm.{IsOfStep}
 use Rattle.storm_call.proofs.Adding.{Above, Took}
-use Rattle.storm_call.proofs.turns.drive.Given as goal
+use Rattle.storm_call.proofs.turns.take_turns.Given as goal
 
 abbrev pub invariant-loop : goal.invariant-loop
 invariant-loop g l =
+    let taker = g.S.TurnTaker in
     record {
-      took : Took (setting_of g.R.Rules.table l.fn.net) drawn_step (Above IsOfStep l.fn.clerk.base) (seeded_stream l.fn.turns.seed) l.counter l.fn.clerk.receipts l.clerk (pcg32_stream l.daemon);
+      took : Took (setting_of g.R.Rules.table l.fn.net) taker.draws (Above taker.fits l.fn.clerk.base) (taker.stream l.fn.source) l.counter l.fn.clerk.receipts l.clerk (taker.stream l.source);
       note : IsOfBook (book_of l.fn.net) l.clerk;
       grows : IsPrefix (noted l.fn.clerk.note) (noted l.clerk.note);
       base : l.clerk.base ≡ l.fn.clerk.base;
