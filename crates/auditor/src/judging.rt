@@ -134,7 +134,11 @@ impl Trial {
         ensures fault { IfErr result (λ fault. (more : List ℕ) → IsJudged (self.old.held.items ++ more) (Err fault)) }
     {
         self.run = begin(alloc, &mut self.held)?;
-        self.enough = self.held.len() * 2;
+        self.enough = if self.run.is_none() {
+            self.held.len() * 2
+        } else {
+            0
+        };
         Ok(())
     }
 
