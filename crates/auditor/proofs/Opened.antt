@@ -7,7 +7,7 @@ use Rattle.std.proofs.lemmas.Bool.{lt-ltb, eq-eqb, false_from_ne_true, ltb-true}
 use Rattle.std.proofs.lemmas.List.{length-append}
 use Rattle.rule_machine.specs.declared.base.Base.{Base}
 use Rattle.rule_machine.specs.declared.base.Place.{Place}
-use Rattle.rule_machine.specs.declared.epoch.Start.TheVariants.{At, Forgotten}
+use Rattle.rule_machine.specs.declared.base.Start.TheVariants.{At, Forgotten}
 use Rattle.rule_machine.specs.declared.rules.RuleSet.{RuleSet}
 use Rattle.rule_machine.specs.Base.{IsBegun, Stand}
 use Rattle.rule_machine.specs.Network.{pair_cmp}

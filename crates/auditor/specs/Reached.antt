@@ -3,7 +3,7 @@ use Rattle.std.specs.Prelude.{◌≡◌, ℕ, ◌<◌, ◌≤◌, ◌⊎◌, Boo
 use Rattle.std.proofs.Common.{inl, inr}
 use Rattle.rule_machine.specs.declared.rules.RuleSet.{RuleSet}
 use Rattle.rule_machine.specs.State.{State}
-use Rattle.rule_machine.specs.declared.epoch.Start.{Start}
+use Rattle.rule_machine.specs.declared.base.Start.{Start}
 use Rattle.rule_machine.specs.Base.{Part, Stand, begun_at}
 use Rattle.auditor.specs.declared.damage.Damage.{Damage}
 use Rattle.auditor.specs.declared.damage.Damage.TheVariants.{BadHeader, NotALine, OutOfOrder, NotTheMachines, BadBase}

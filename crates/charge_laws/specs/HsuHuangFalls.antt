@@ -2,7 +2,7 @@
 use Rattle.std.proofs.Common.{◌≡◌, ℕ, ◌+◌, ◌*◌, ◌≤◌, Bool, false, not, ◌&&◌, ◌||◌, List, [], ◌∷◌, length, count_by, Some, is_some, is_none, unwrap_or, IsTrue, nat_eq, refl, sym, ap, ◌∙◌, subst, ⊎_elim, arith}
 use Rattle.std.proofs.lemmas.Bool.{and_parts, and_from, or_cases, or_left, or_right, not-true, not_from_false, false_from_ne_true, true≢false, cases_Bool, eqb-true, eq-eqb}
 use Rattle.rule_machine.specs.declared.choice.Item.{Item}
-use Rattle.rule_machine.specs.declared.moved.Moved.{Moved}
+use Rattle.rule_machine.specs.declared.act.Moved.{Moved}
 use Rattle.rule_machine.specs.Network.{edge, linked, names, edge_list}
 use Rattle.rule_machine.specs.State.{State, IsState, pointer, points, married, has_suitor, is_unanswered}
 use Rattle.rule_machine.specs.Charge.{awaits, is_courted, hsu_huang_closed, hsu_huang_charge}

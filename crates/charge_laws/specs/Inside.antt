@@ -3,7 +3,7 @@ use Rattle.std.proofs.Common.{◌≡◌, ℕ, Bool, true, false, cond, not, List
 use Rattle.std.proofs.lemmas.Bool.{and_parts, true≢false}
 use Rattle.rule_machine.specs.declared.act.Act.{Act}
 use Rattle.rule_machine.specs.declared.act.Act.TheVariants.{Update, Marry, Seduce, Abandon}
-use Rattle.rule_machine.specs.declared.moved.Moved.{Moved}
+use Rattle.rule_machine.specs.declared.act.Moved.{Moved}
 use Rattle.rule_machine.specs.Network.{Network, IsNetwork, linked, present, names, neighbours}
 use Rattle.rule_machine.specs.State.{State, IsState, pointer, flag, married, holds_at, has_suitor}
 use Rattle.rule_machine.specs.RuleTable.{RuleTable}

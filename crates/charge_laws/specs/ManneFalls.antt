@@ -2,7 +2,7 @@
 use Rattle.std.proofs.Common.{◌≡◌, ◌≢◌, ℕ, ◌+◌, ◌*◌, ◌≤◌, Bool, true, false, cond, not, ◌&&◌, ◌||◌, List, length, count_by, sum_by, Some, is_none, unwrap_or, IsTrue, nat_lt, nat_le, refl, sym, ap, ◌∙◌, subst, inl, inr, ⊎_elim, arith}
 use Rattle.std.proofs.lemmas.Bool.{and_parts, and_from, or_cases, or_left, or_right, not-true, not_from_false, false_from_ne_true, true≢false, ltb-true, leb-true}
 use Rattle.rule_machine.specs.declared.choice.Item.{Item}
-use Rattle.rule_machine.specs.declared.moved.Moved.{Moved}
+use Rattle.rule_machine.specs.declared.act.Moved.{Moved}
 use Rattle.rule_machine.specs.Network.{linked, names, edge_list}
 use Rattle.rule_machine.specs.State.{State, IsState, pointer, flag, points, married, has_suitor, is_settled, is_unanswered}
 use Rattle.rule_machine.specs.Charge.{manne_closed, manne_node_charge, manne_charge}

@@ -10,7 +10,7 @@ use Rattle.std.proofs.lemmas.List.{length-map, length-set}
 use Rattle.std.proofs.lemmas.Map.Keys.{IsDistinct-from_sorted, IsDistinct-head, IsDistinct-tail, sorted_from_strictly_increasing}
 use Rattle.rule_machine.specs.declared.act.Act.{Act}
 use Rattle.rule_machine.specs.declared.act.Act.TheVariants.{Update, Marry, Seduce, Abandon}
-use Rattle.rule_machine.specs.declared.moved.Moved.{Moved}
+use Rattle.rule_machine.specs.declared.act.Moved.{Moved}
 use Rattle.rule_machine.specs.State.{State, Registers, pointer_of, flag_of, married}
 use Rattle.rule_machine.specs.Step.{written, after_move}
 use Rattle.machine_laws.specs.Writes.{pointer-with_pointer_other, pointer-with_pointer_same, flag-with_flag_other, flag-with_flag_same}

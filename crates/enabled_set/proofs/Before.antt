@@ -2,7 +2,7 @@
 use Rattle.std.proofs.Common.{◌≡◌, ℕ, zero, suc, ◌+◌, ◌<◌, ◌⊎◌, List, get_or, refl, ap, arith, ⊎_elim}
 use Rattle.std.proofs.lemmas.Bool.{cases_order}
 use Rattle.enabled_set.specs.Counts.{before}
-use Rattle.enabled_set.proofs.Tally.{past, past_above, past_below}
+use Rattle.enabled_set.proofs.Counting.{past, past_above, past_below}
 
 pub before_none : (counts : List ℕ) → before counts 0 ≡ 0
 unfolding before

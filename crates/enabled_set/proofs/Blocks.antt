@@ -5,7 +5,7 @@ use Rattle.std.proofs.lemmas.List.{get_or_past, get_or-set_other, get_or-set_sam
 use Rattle.enabled_set.specs.Members.{is_in, members}
 use Rattle.enabled_set.specs.Counts.{tally}
 use Rattle.enabled_set.proofs.Members.{inside, length-members}
-use Rattle.enabled_set.proofs.Tally.{past_above, tally_put}
+use Rattle.enabled_set.proofs.Counting.{past_above, tally_put}
 
 -- who is no member is none of the set without another
 pub still_none : (bits bits' : List Bool) (v w : ℕ) → bits' ≡ set bits v false → is_in bits w ≡ false → is_in bits' w ≡ false

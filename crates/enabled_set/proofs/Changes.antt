@@ -3,10 +3,9 @@ use Rattle.std.proofs.Common.{◌≡◌, ℕ, zero, suc, ◌+◌, ◌-◌, ◌*�
 use Rattle.std.specs.Prelude.{◌≢◌}
 use Rattle.std.proofs.lemmas.Bool.{cases_lt, cases_eq, true≢false}
 use Rattle.std.proofs.lemmas.List.{length-set, length-replicate, get_or_read, get_or-replicate, get_or_past, set-get_or}
-use Rattle.enabled_set.specs.Members.{is_in}
-use Rattle.enabled_set.specs.Words.{has_bit, is_on, places_of}
+use Rattle.enabled_set.specs.Members.{is_in, has_bit, is_on, places_of}
 use Rattle.enabled_set.specs.Counts.{tally, before, IsCount, IsCounted}
-use Rattle.enabled_set.proofs.Tally.{past_above, tally_add, tally_through, tally_put, tally_flat, tally_none}
+use Rattle.enabled_set.proofs.Counting.{past_above, tally_add, tally_through, tally_put, tally_flat, tally_none}
 use Rattle.enabled_set.proofs.Before.{before_none, before_more}
 use Rattle.enabled_set.proofs.Places.{places_are, put_here, put_there, on_none}
 use Rattle.enabled_set.proofs.Stretches.{stretch_there, count_more, count_less, on_here, same_there}

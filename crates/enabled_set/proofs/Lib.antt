@@ -1,4 +1,4 @@
-pub mod Tally
+pub mod Counting
 pub mod Bits
 pub mod Places
 pub mod Before

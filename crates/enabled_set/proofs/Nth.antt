@@ -6,10 +6,9 @@ use Rattle.std.proofs.lemmas.Bool.{cases_Bool, cases_lt}
 use Rattle.std.proofs.lemmas.List.{append-nil, map-append, get_or_past}
 use Rattle.std.proofs.lemmas.List.Elements.{filter_agree}
 use Rattle.std.proofs.lemmas.Option.{slice_get_past}
-use Rattle.enabled_set.specs.Members.{is_in, members}
-use Rattle.enabled_set.specs.Words.{has_bit, is_on, AreNames}
+use Rattle.enabled_set.specs.Members.{is_in, members, has_bit, is_on, AreNames}
 use Rattle.enabled_set.specs.Counts.{tally, below, before, IsCount, IsCounted}
-use Rattle.enabled_set.proofs.Tally.{tally_rise, tally_flat, tally_end, tally_shift, tally_same}
+use Rattle.enabled_set.proofs.Counting.{tally_rise, tally_flat, tally_end, tally_shift, tally_same}
 use Rattle.enabled_set.proofs.Places.{on_word}
 use Rattle.enabled_set.proofs.Members.{below_none, below_true, below_false, length-below, members_below, length-members, nth_member, inside}
 use Rattle.enabled_set.proofs.Changes.{somebody}

@@ -1,9 +1,9 @@
 -- What a scan of words passes.
 use Rattle.std.proofs.Common.{◌≡◌, ℕ, ◌+◌, ◌*◌, ◌<◌, ◌≤◌, List, get_or, sym, ap, ◌∙◌, arith}
 use Rattle.std.specs.Prelude.{count_ones}
-use Rattle.enabled_set.specs.Words.{has_bit, is_on}
+use Rattle.enabled_set.specs.Members.{has_bit, is_on}
 use Rattle.enabled_set.specs.Counts.{tally}
-use Rattle.enabled_set.proofs.Tally.{tally_none, tally_add, tally_shift}
+use Rattle.enabled_set.proofs.Counting.{tally_none, tally_add, tally_shift}
 use Rattle.enabled_set.proofs.Bits.{ones_of}
 use Rattle.enabled_set.proofs.Places.{on_word}
 

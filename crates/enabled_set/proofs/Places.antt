@@ -5,8 +5,7 @@ use Rattle.std.proofs.lemmas.Bool.{cases_lt, cases_eq}
 use Rattle.std.proofs.lemmas.List.{length-replicate, get_or-set_same, get_or-set_other, get_or-replicate, get_or_past, ext_get_or}
 use Rattle.std.proofs.lemmas.List.FromFn.{length-map-range_with_len, get_or-map-range_with_len}
 use Rattle.std.proofs.lemmas.Nat.Bits.{bit_at-zero}
-use Rattle.enabled_set.specs.Members.{is_in}
-use Rattle.enabled_set.specs.Words.{has_bit, is_on, places_of}
+use Rattle.enabled_set.specs.Members.{is_in, has_bit, is_on, places_of}
 use Rattle.enabled_set.proofs.Bits.{has_none}
 
 pub length-places_of : (len : ℕ) (words : List ℕ) → length (places_of len words) ≡ len

@@ -2,7 +2,7 @@
 use Rattle.std.proofs.Common.{◌≡◌, ℕ, zero, suc, ◌+◌, ◌-◌, ◌≤◌, Bool, true, false, List, get_or, add-one, refl, sym, ap, ◌∙◌, arith, ⊎_elim}
 use Rattle.std.proofs.lemmas.Bool.{cases_Bool}
 use Rattle.enabled_set.specs.Counts.{tally, below, before}
-use Rattle.enabled_set.proofs.Tally.{tally_true, tally_false, tally_rise}
+use Rattle.enabled_set.proofs.Counting.{tally_true, tally_false, tally_rise}
 use Rattle.enabled_set.proofs.Before.{before_more}
 use Rattle.enabled_set.proofs.Members.{below_false}
 

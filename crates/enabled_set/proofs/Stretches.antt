@@ -5,7 +5,7 @@ use Rattle.std.proofs.lemmas.List.{length-set, get_or-set_same, get_or-set_other
 use Rattle.std.proofs.Math.Nat.{div-lt_iff_lt-mul, mul-suc, mul_comm, mul-div-le, le-div_iff_mul-le}
 use Rattle.enabled_set.specs.Members.{is_in}
 use Rattle.enabled_set.specs.Counts.{tally, IsCount}
-use Rattle.enabled_set.proofs.Tally.{past, past_above, past_below, tally_add, tally_through, tally_put}
+use Rattle.enabled_set.proofs.Counting.{past, past_above, past_below, tally_add, tally_through, tally_put}
 use Rattle.enabled_set.proofs.Before.{before_more, before_put}
 
 -- a stretch is counted before a place where it ends there

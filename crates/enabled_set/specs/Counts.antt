@@ -1,8 +1,7 @@
 -- How many members each stretch of places has.
 use Rattle.std.specs.Prelude.{◌≡◌, ℕ, zero, suc, ◌+◌, ◌*◌, ◌≤◌, Bool, false, cond, List, length, slice_index}
 use Rattle.std.specs.List.{filter, range_with_len}
-use Rattle.enabled_set.specs.Members.{is_in}
-use Rattle.enabled_set.specs.Words.{is_on}
+use Rattle.enabled_set.specs.Members.{is_in, is_on}
 
 -- how many of the numbers below the second pass
 unfoldable pub tally : (ℕ → Bool) → ℕ → ℕ

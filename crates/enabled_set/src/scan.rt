@@ -1,7 +1,7 @@
 //! Scans of words and of counts.
 
 ghost use Rattle.std.specs.Prelude.{◌≡◌, ◌+◌, ◌*◌, ◌<◌, ◌≤◌, length, slice_index, OnOk};
-ghost use Rattle.enabled_set.specs.Words.{has_bit, is_on, AreNames};
+ghost use Rattle.enabled_set.specs.Members.{has_bit, is_on, AreNames};
 ghost use Rattle.enabled_set.specs.Counts.{tally, before, below};
 
 use crate::word::{Spot, bit_is_set, first_bit, spot_behind, without_bit};

@@ -23,7 +23,7 @@ pub struct EnabledSet {
 
 impl Model for EnabledSet {
     ghost use Rattle.std.specs.Prelude.{Bool, List};
-    ghost use Rattle.enabled_set.specs.Words.{places_of};
+    ghost use Rattle.enabled_set.specs.Members.{places_of};
     ghost use Rattle.enabled_set.specs.Counts.{IsCounted};
 
     ghost Value = { List Bool };

@@ -1,7 +1,7 @@
 //! Bits of a word of 64.
 
 ghost use Rattle.std.specs.Prelude.{◌≡◌, ◌≢◌, ℕ, ◌+◌, ◌*◌, ◌<◌, ◌≤◌, true, false, MatchOption};
-ghost use Rattle.enabled_set.specs.Words.{has_bit};
+ghost use Rattle.enabled_set.specs.Members.{has_bit};
 ghost use Rattle.enabled_set.specs.Counts.{tally};
 
 /// Whether a word has a bit.

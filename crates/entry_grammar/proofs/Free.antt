@@ -7,7 +7,7 @@ use Rattle.std.specs.Str.Parse.{AllDigits}
 use Rattle.std.proofs.lemmas.Str.Parse.{digit_from_value}
 use Rattle.rule_machine.specs.declared.act.Act.{Act}
 use Rattle.rule_machine.specs.declared.act.Act.TheVariants.{Update, Marry, Seduce, Abandon}
-use Rattle.rule_machine.specs.declared.moved.Moved.{Moved}
+use Rattle.rule_machine.specs.declared.act.Moved.{Moved}
 use Rattle.line_text.specs.Words.{number_text, marked_text, IsName}
 use Rattle.line_text.specs.ReplyText.{act_word, enabled_text, move_text, mutual_text}
 use Rattle.entry_grammar.specs.Spelling.{IsMoved, IsEnabled, IsPair}

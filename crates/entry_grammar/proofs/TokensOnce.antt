@@ -9,7 +9,7 @@ use Rattle.std.proofs.lemmas.Str.Parse.{digit_from_value}
 use Rattle.std.proofs.lemmas.Fmt.{decimal_nonempty}
 use Rattle.rule_machine.specs.declared.act.Act.{Act}
 use Rattle.rule_machine.specs.declared.act.Act.TheVariants.{Update, Marry, Seduce, Abandon}
-use Rattle.rule_machine.specs.declared.moved.Moved.{Moved}
+use Rattle.rule_machine.specs.declared.act.Moved.{Moved}
 use Rattle.line_text.specs.Words.{number_text, IsName, spaced, joined, joined_or}
 use Rattle.line_text.specs.EventText.{target_text}
 use Rattle.line_text.specs.ReplyText.{act_word, enabled_text, move_text, mutual_text}

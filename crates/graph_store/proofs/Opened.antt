@@ -14,8 +14,8 @@ use Rattle.charge_laws.specs.Counting.{count_agree}
 use Rattle.charge_laws.specs.EdgesByNodes.{zeros, count_filter}
 use Rattle.charge_laws.specs.EdgesByEnds.{turned}
 use Rattle.charge_laws.specs.EdgesChanged.{count_with, count_without, count_empty, count_all_few}
-use Rattle.graph_store.specs.declared.end.End.{End}
-use Rattle.graph_store.specs.declared.end.End.TheVariants.{Shut, Courted, Free}
+use Rattle.graph_store.specs.declared.ends.End.{End}
+use Rattle.graph_store.specs.declared.ends.End.TheVariants.{Shut, Courted, Free}
 use Rattle.graph_store.specs.Ends.{are_open, end_at, open_among, AreCounted}
 use Rattle.graph_store.specs.Rows.{contents, has, row_at, edges_of, network_of, IsRows, IsStore}
 use Rattle.graph_store.proofs.Contents.{row_read, length_contents}

@@ -2,7 +2,7 @@
 use Rattle.std.specs.Prelude.{ℕ, ◌<◌, List, slice_index_or, refl}
 use Rattle.std.specs.Coded.{Coded, code_by, coded×, coded_ℕ, coded_list}
 use Rattle.rule_machine.specs.Network.{Network, network_code}
-use Rattle.graph_store.specs.declared.end.End.{End}
+use Rattle.graph_store.specs.declared.ends.End.{End}
 use Rattle.graph_store.specs.Ends.{end_code}
 
 -- the network, for how many more neighbours each name has room, and what each makes of the edges at it: the lists have a place

@@ -1,12 +1,34 @@
-//! What all names make of the edges at them, and how many edges are open by that.
+//! What a name makes of the edges at it, and how many edges are open by what all names make of theirs.
 
 ghost use Rattle.std.specs.Prelude.{◌≡◌, ◌+◌, ◌<◌, ◌≤◌, All, IfOk, count_by, length, replicate, slice_set};
 ghost use Rattle.graph_store.specs.Ends.{are_open, end_at};
-ghost use Rattle.graph_store.specs.declared.end.End.TheVariants.{Shut};
+ghost use Rattle.graph_store.specs.declared.ends.End.TheVariants.{Shut};
 
-use crate::End;
 use rule_machine::{Node, Want};
 use std::alloc::Global;
+
+/// What a node makes of the edges at it: an edge is open where neither of its ends shuts it and not both are courted.
+#[derive(Clone, Copy, PartialEq, Eq)]
+pub enum End {
+    /// No edge at the node is open.
+    Shut,
+    /// No edge between the node and another courted one is open.
+    Courted,
+    /// The node leaves each edge open that its other end does.
+    Free,
+}
+
+impl End {
+    /// Whether an edge between two such nodes is open.
+    #[inline(always)]
+    pub fn is_open_to(self, other: End) -> bool
+        ensures { result ≡ are_open self other }
+    {
+        (self != End::Shut)
+            & (other != End::Shut)
+            & ((self != End::Courted) | (other != End::Courted))
+    }
+}
 
 /// A place for each of so many, which shuts its edges.
 pub fn shut_ends(alloc: Global, count: usize) -> Result<Vec<End>, Want>

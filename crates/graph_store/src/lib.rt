@@ -15,14 +15,13 @@
 #![tactic(auto)]
 
 mod edge_store;
-mod end;
 mod ends;
 mod fault;
 mod roll;
 mod rows;
 
 pub use edge_store::{EdgeStore, MAX_EDGES};
-pub use end::End;
+pub use ends::End;
 pub use fault::GraphFault;
 pub use roll::first_names;
 pub use rule_machine::{Edge, Node};

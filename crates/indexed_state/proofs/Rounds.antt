@@ -14,8 +14,8 @@ use Rattle.machine_laws.specs.Pointers.{points_true}
 use Rattle.machine_laws.specs.Writes.{pointer-with_pointer_other, pointer-with_pointer_same, flag-with_flag_other}
 use Rattle.charge_laws.specs.Counting.{count_agree}
 use Rattle.suitor_index.proofs.Ends.{IsEdgeMore}
-use Rattle.graph_store.specs.declared.end.End.{End}
-use Rattle.graph_store.specs.declared.end.End.TheVariants.{Shut, Courted, Free}
+use Rattle.graph_store.specs.declared.ends.End.{End}
+use Rattle.graph_store.specs.declared.ends.End.TheVariants.{Shut, Courted, Free}
 use Rattle.indexed_state.specs.declared.shares.Share.{Share}
 use Rattle.indexed_state.specs.Shares.{closing_at, IsElsewhere, IsToldAt, AreTold}
 

@@ -6,8 +6,8 @@ use Rattle.std.proofs.lemmas.Bool.{cases_eq, eq-eqb, false_from_ne_true, ne_eqb,
 use Rattle.std.proofs.lemmas.List.Sums.{sum_by_more, sum_by-cons}
 use Rattle.enabled_set.specs.Members.{is_in, members}
 use Rattle.enabled_set.proofs.Sums.{summed}
-use Rattle.graph_store.specs.declared.end.End.{End}
-use Rattle.graph_store.specs.declared.end.End.TheVariants.{Shut, Courted, Free}
+use Rattle.graph_store.specs.declared.ends.End.{End}
+use Rattle.graph_store.specs.declared.ends.End.TheVariants.{Shut, Courted, Free}
 use Rattle.graph_store.specs.Ends.{are_open, end_at, open_edges}
 use Rattle.rule_machine.specs.Charge.{is_courted}
 use Rattle.rule_machine.specs.Network.{Network, IsNetwork, names, present, linked, neighbours, edge_list}
@@ -15,7 +15,7 @@ use Rattle.rule_machine.specs.Stable.{mutual_pairs, pair_above}
 use Rattle.rule_machine.specs.State.{State, IsState, is_at, pointer, points, married, has_suitor}
 use Rattle.machine_laws.specs.Neighbours.{linked_present}
 use Rattle.machine_laws.specs.Pointers.{no_suitor, pointer_linked, points_true}
-use Rattle.rule_set.specs.Ends.{ends_open}
+use Rattle.rule_set.specs.Standing.{ends_open}
 use Rattle.charge_laws.specs.ClosedByPointers.{at_once, closing_by_targets}
 use Rattle.charge_laws.specs.Counting.{count_agree}
 use Rattle.charge_laws.specs.EdgesByNodes.{count_filter}

@@ -2,7 +2,7 @@
 use Rattle.std.specs.Prelude.{ℕ, Bool, List, refl}
 use Rattle.std.specs.Coded.{Coded, code_by, coded×, coded_ℕ, coded_bool, coded_list}
 use Rattle.rule_machine.specs.State.{State, state_code}
-use Rattle.graph_store.specs.declared.end.End.{End}
+use Rattle.graph_store.specs.declared.ends.End.{End}
 use Rattle.graph_store.specs.Ends.{end_code}
 
 -- a state, for how many more neighbours each name has room, what each makes of the edges at it, and which names are stale: their

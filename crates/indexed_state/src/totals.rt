@@ -6,8 +6,7 @@ ghost use Rattle.enabled_set.specs.Members.{is_in};
 ghost use Rattle.rule_machine.specs.Network.{names, present, edge_list};
 ghost use Rattle.rule_machine.specs.Stable.{mutual_pairs};
 ghost use Rattle.rule_machine.specs.State.{State, IsState, holds_at, points};
-ghost use Rattle.rule_set.specs.Ends.{ends_open};
-ghost use Rattle.rule_set.specs.Standing.{IsStanding};
+ghost use Rattle.rule_set.specs.Standing.{ends_open, IsStanding};
 ghost use Rattle.indexed_state.specs.Shares.{closing_at, end_of, is_lower_end, node_part};
 
 use crate::IndexedState;

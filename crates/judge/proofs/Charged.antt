@@ -13,8 +13,8 @@ use Rattle.rule_machine.specs.Tables.{table_of}
 use Rattle.charge_laws.specs.ClosedByPointers.{hsu_huang_apart, hsu_huang_split, manne_apart, manne_split}
 use Rattle.charge_laws.specs.Counting.{sum_add, sum_agree}
 use Rattle.charge_laws.specs.EdgesByEnds.{edges_agree}
-use Rattle.graph_store.specs.declared.end.End.{End}
-use Rattle.graph_store.specs.declared.end.End.TheVariants.{Shut, Courted, Free}
+use Rattle.graph_store.specs.declared.ends.End.{End}
+use Rattle.graph_store.specs.declared.ends.End.TheVariants.{Shut, Courted, Free}
 use Rattle.graph_store.specs.Ends.{are_open, end_at, open_edges}
 use Rattle.judge.specs.declared.share.Share.{Share}
 use Rattle.judge.specs.Rising.{pair_at}

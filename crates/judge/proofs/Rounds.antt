@@ -21,8 +21,8 @@ use Rattle.machine_laws.specs.Edges.{pair_exact, contains-insert, contains-remov
 use Rattle.machine_laws.specs.Neighbours.{near_agree, neighbours_range}
 use Rattle.machine_laws.specs.Pointers.{points_from, pointer_linked}
 use Rattle.machine_laws.specs.Writes.{pointer-with_pointer_other, pointer-with_pointer_same, flag-with_flag_other}
-use Rattle.graph_store.specs.declared.end.End.{End}
-use Rattle.graph_store.specs.declared.end.End.TheVariants.{Shut, Courted, Free}
+use Rattle.graph_store.specs.declared.ends.End.{End}
+use Rattle.graph_store.specs.declared.ends.End.TheVariants.{Shut, Courted, Free}
 use Rattle.judge.specs.declared.share.Share.{Share}
 use Rattle.judge.specs.Shares.{asks, closes, end_of, flag_charge, share_at, IsElsewhere, IsToldAt, AreTold}
 

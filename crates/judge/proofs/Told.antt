@@ -4,7 +4,7 @@ use Rattle.std.proofs.lemmas.Bool.{cases_eq, cases_lt, le-leb, lt-leb, and_left,
 use Rattle.std.proofs.lemmas.List.{get_or_past, get_or-set_other, get_or-set_same, length-replicate, length-set}
 use Rattle.enabled_set.specs.Members.{is_in}
 use Rattle.enabled_set.proofs.Sums.{everywhere}
-use Rattle.graph_store.specs.declared.end.End.{End}
+use Rattle.graph_store.specs.declared.ends.End.{End}
 use Rattle.graph_store.specs.Ends.{end_at}
 use Rattle.graph_store.proofs.Present.{first_names_at, first_names_len}
 use Rattle.rule_machine.specs.declared.rules.RuleSet.{RuleSet}

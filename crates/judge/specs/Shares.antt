@@ -10,8 +10,8 @@ use Rattle.rule_machine.specs.RuleTable.{enabled_names, rule_at}
 use Rattle.rule_machine.specs.Stable.{mutual_pairs}
 use Rattle.rule_machine.specs.Tables.{table_of}
 use Rattle.charge_laws.specs.ClosedByPointers.{hsu_huang_closes, manne_closes}
-use Rattle.graph_store.specs.declared.end.End.{End}
-use Rattle.graph_store.specs.declared.end.End.TheVariants.{Shut, Courted, Free}
+use Rattle.graph_store.specs.declared.ends.End.{End}
+use Rattle.graph_store.specs.declared.ends.End.TheVariants.{Shut, Courted, Free}
 use Rattle.graph_store.specs.Ends.{end_at}
 use Rattle.judge.specs.declared.share.Share.{Share}
 use Rattle.judge.specs.declared.totals.Totals.{Totals}

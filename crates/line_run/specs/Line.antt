@@ -11,6 +11,7 @@ use Rattle.script_text.specs.declared.command.Command.TheVariants.{Tell, Drive, 
 use Rattle.seeded_turns.specs.Drawn.{Draws, seeded_stream, drawn_step, drawn_fault}
 use Rattle.script_text.specs.Command.{Says}
 use Rattle.script_text.specs.Script.{Progress, EventDoes, TurnsDo, TurnsFill, CommandDoes, CommandFills, LineDoes, IsBadLine, MeetsFullLog}
+use Rattle.line_run.specs.declared.run.Run.{Run}
 use Rattle.line_run.specs.declared.stop.Stop.{Stop}
 use Rattle.line_run.specs.declared.stop.Stop.TheVariants.{BadLine, LogFull}
 
@@ -21,6 +22,11 @@ moment_of r = record { state = r.state; spent = r.spent }
 -- where a run stands: its rule set, how far its recording has come, and a text
 abbrev pub progress : RuleSet → Recording → List ℕ → Progress
 progress rules r text = record { rules = rules; moment = moment_of r; count = r.len; text = text }
+
+module _ {R : Type 0} where
+  -- where a run stands, by what it keeps
+  abbrev pub progress_of : Run R → Progress
+  progress_of run = progress run.rules run.recorder run.text.items
 
 -- some first turns were taken, each of them whole
 abbrev pub TurnsBegin : Draws → RuleTable → ℕ → ℕ → Stream → Progress → Progress → Type 0

@@ -7,7 +7,7 @@ ghost use Rattle.script_text.specs.Command.{Says};
 ghost use Rattle.script_text.specs.Script.{checkpointed};
 ghost use Rattle.seeded_turns.specs.Drawn.{seeded_stream, drawn_step, drawn_fault};
 ghost use Rattle.line_run.specs.Beginning.{beginning};
-ghost use Rattle.line_run.specs.Line.{progress, EventEnds, TurnsEnd, CommandEnds, LineEnds};
+ghost use Rattle.line_run.specs.Line.{progress_of, EventEnds, TurnsEnd, CommandEnds, LineEnds};
 
 use crate::stop::Stop;
 use line_text::{put_base, put_header};
@@ -38,7 +38,7 @@ impl<R: Rules> Run<R> {
     ) -> Result<Run<R>, Want>
         requires few { nodes ≤ 65535 }
         requires within { present ≤ nodes }
-        ensures begins { IfOk result (λ run. progress run.rules run.recorder run.text.items ≡ beginning rules nodes present) }
+        ensures begins { IfOk result (λ run. progress_of run ≡ beginning rules nodes present) }
         ensures limit { IfOk result (λ run. run.recorder.limit ≡ min limit 16777216) }
     {
         let Ok(recorder) = Recorder::with_present(alloc, nodes, present, limit) else {
@@ -65,7 +65,7 @@ impl<R: Rules> Run<R> {
         reply: &mut Reply,
     ) -> Result<bool, Want>
         requires { IfSome line (λ line. line.now ≡ event_text event.now) }
-        ensures ends { EventEnds R.table self.old.recorder.limit event.now (progress self.old.rules self.old.recorder self.old.text.items) (progress self.new.rules self.new.recorder self.new.text.items) result }
+        ensures ends { EventEnds R.table self.old.recorder.limit event.now (progress_of self.old) (progress_of self.new) result }
         ensures reply { IfOk result (λ done. IsTrue done → reply.new ≡ reply_of R.table self.old.recorder.state self.old.recorder.spent event.now) }
         ensures limit { self.new.recorder.limit ≡ self.old.recorder.limit }
     {
@@ -79,7 +79,7 @@ impl<R: Rules> Run<R> {
     // Carries out the events of so many turns, or of those up to one that has none; false where a turn meets a full log, before
     // it is asked for. At want of memory some first turns were taken, whole.
     fn take_turns<S: EventSource>(&mut self, source: &mut S, count: u32) -> Result<bool, Want>
-        ensures ends { TurnsEnd S.draws R.table self.old.recorder.limit count (S.stream source.old) (progress self.old.rules self.old.recorder self.old.text.items) (progress self.new.rules self.new.recorder self.new.text.items) result }
+        ensures ends { TurnsEnd S.draws R.table self.old.recorder.limit count (S.stream source.old) (progress_of self.old) (progress_of self.new) result }
         ensures unasked { self.old.recorder.len ≡ self.old.recorder.limit → S.stream source.new ≡ S.stream source.old }
         ensures limit { self.new.recorder.limit ≡ self.old.recorder.limit }
     {
@@ -100,7 +100,7 @@ impl<R: Rules> Run<R> {
     /// Steps of a daemon that draws its choices from the generator with this seed, up to one that finds no node enabled; false where
     /// a turn meets a full log, before the daemon is asked. At want of memory some first turns were taken, whole.
     pub fn drive(&mut self, alloc: Global, turns: Turns) -> Result<bool, Want>
-        ensures ends { TurnsEnd drawn_step R.table self.old.recorder.limit turns.count (seeded_stream turns.seed) (progress self.old.rules self.old.recorder self.old.text.items) (progress self.new.rules self.new.recorder self.new.text.items) result }
+        ensures ends { TurnsEnd drawn_step R.table self.old.recorder.limit turns.count (seeded_stream turns.seed) (progress_of self.old) (progress_of self.new) result }
         ensures limit { self.new.recorder.limit ≡ self.old.recorder.limit }
     {
         let mut daemon = DaemonTurns::new(alloc, turns.seed);
@@ -110,7 +110,7 @@ impl<R: Rules> Run<R> {
     /// Register faults that are drawn from the generator with this seed, none where the network has no node; false where a turn
     /// meets a full log. At want of memory some first turns were taken, whole.
     pub fn scramble(&mut self, turns: Turns) -> Result<bool, Want>
-        ensures ends { TurnsEnd drawn_fault R.table self.old.recorder.limit turns.count (seeded_stream turns.seed) (progress self.old.rules self.old.recorder self.old.text.items) (progress self.new.rules self.new.recorder self.new.text.items) result }
+        ensures ends { TurnsEnd drawn_fault R.table self.old.recorder.limit turns.count (seeded_stream turns.seed) (progress_of self.old) (progress_of self.new) result }
         ensures limit { self.new.recorder.limit ≡ self.old.recorder.limit }
     {
         let mut injector = FaultTurns::new(turns.seed);
@@ -120,8 +120,8 @@ impl<R: Rules> Run<R> {
     /// Adds the lines of the base that the network is now. No log is kept, so there are no entries to be dropped. At want of
     /// memory nothing has changed. A look at each name and at both ends of each edge; takes the base and its text.
     pub fn checkpoint(&mut self) -> Result<(), Want>
-        ensures ok { OnOk result (progress self.new.rules self.new.recorder self.new.text.items ≡ checkpointed (progress self.old.rules self.old.recorder self.old.text.items)) }
-        ensures err { OnErr result (progress self.new.rules self.new.recorder self.new.text.items ≡ progress self.old.rules self.old.recorder self.old.text.items) }
+        ensures ok { OnOk result (progress_of self.new ≡ checkpointed (progress_of self.old)) }
+        ensures err { OnErr result (progress_of self.new ≡ progress_of self.old) }
         ensures limit { self.new.recorder.limit ≡ self.old.recorder.limit }
     {
         let net = self.recorder.net();
@@ -134,7 +134,7 @@ impl<R: Rules> Run<R> {
     #[inline(always)]
     pub fn follow(&mut self, alloc: Global, command: &Command, line: &[u8]) -> Result<bool, Want>
         requires { Says line.now command.now }
-        ensures ends { CommandEnds R.table self.old.recorder.limit command.now (progress self.old.rules self.old.recorder self.old.text.items) (progress self.new.rules self.new.recorder self.new.text.items) result }
+        ensures ends { CommandEnds R.table self.old.recorder.limit command.now (progress_of self.old) (progress_of self.new) result }
         ensures limit { self.new.recorder.limit ≡ self.old.recorder.limit }
     {
         match command {
@@ -158,7 +158,7 @@ impl<R: Rules> Run<R> {
         number: u64,
         line: &[u8],
     ) -> Result<Option<Stop>, Want>
-        ensures ends { LineEnds R.table self.old.recorder.limit number line.now (progress self.old.rules self.old.recorder self.old.text.items) (progress self.new.rules self.new.recorder self.new.text.items) result }
+        ensures ends { LineEnds R.table self.old.recorder.limit number line.now (progress_of self.old) (progress_of self.new) result }
         ensures limit { self.new.recorder.limit ≡ self.old.recorder.limit }
     {
         if line.is_empty() {

@@ -1,5 +1,5 @@
--- The lines of a transcript.
-use Rattle.std.specs.Prelude.{ℕ, List, [], ◌∷◌, ◌++◌, nat_lt, if◌then◌else◌, codes}
+-- The lines of a transcript, and those of a log.
+use Rattle.std.specs.Prelude.{ℕ, List, [], ◌∷◌, ◌++◌, nat_lt, if◌then◌else◌, codes, ◌+◌}
 use Rattle.rule_machine.specs.declared.event.Event.{Event}
 use Rattle.rule_machine.specs.declared.reply.Reply.{Reply}
 use Rattle.rule_machine.specs.declared.rules.RuleSet.{RuleSet}
@@ -7,6 +7,7 @@ use Rattle.rule_machine.specs.Tables.{rules_word}
 use Rattle.line_text.specs.Words.{number_text}
 use Rattle.line_text.specs.EventText.{event_text}
 use Rattle.line_text.specs.ReplyText.{reply_text}
+use Rattle.rule_machine.specs.Run.{Entry}
 
 -- how many names there are and, where not all of them are present at the start, how many are
 abbrev pub sizes_text : ℕ → ℕ → List ℕ
@@ -31,3 +32,12 @@ entry_text number event reply = numbered_text number (event_text event) reply
 -- the entry and the LF that ends its line
 abbrev pub entry_line : ℕ → Event → Reply → List ℕ
 entry_line number event reply = entry_text number event reply ++ 10 ∷ []
+
+-- the lines of entries, the first of which has this number
+abbrev pub entry_lines : ℕ → List Entry → List ℕ
+entry_lines number [] = []
+entry_lines number (entry ∷ log) = entry_line number entry.0 entry.1 ++ entry_lines (number + 1) log
+
+-- the header, and the entries numbered from 1
+abbrev pub transcript : RuleSet → ℕ → ℕ → List Entry → List ℕ
+transcript rules size count log = header_line rules size count ++ entry_lines 1 log

@@ -1,5 +1,5 @@
--- The words that lines are made of. A byte is its ASCII code.
-use Rattle.std.specs.Prelude.{ℕ, ◌+◌, ◌/◌, ◌%◌, ◌≤◌, List, [], ◌∷◌, ◌++◌, Option, None, Some, codes}
+-- The words that lines are made of, and what a text that is being written may be left as. A byte is its ASCII code.
+use Rattle.std.specs.Prelude.{ℕ, ◌+◌, ◌/◌, ◌%◌, ◌≤◌, List, [], ◌∷◌, ◌++◌, Option, None, Some, codes, ◌≡◌}
 use Rattle.std.specs.Fmt.{decimal}
 use Rattle.std.specs.List.{flat_map}
 
@@ -43,3 +43,8 @@ joined_or word text (item ∷ items) = joined text (item ∷ items)
 -- each item's text, with an LF behind it
 abbrev pub ended : {X : Type 0} → (X → List ℕ) → List X → List ℕ
 ended text items = flat_map (λ item. text item ++ 10 ∷ []) items
+
+-- new is old and more behind it
+pub record Extends (old new : List ℕ) : Type 0 where
+  pub more : List ℕ
+  pub is : new ≡ old ++ more

@@ -1,9 +1,8 @@
 //! The lines of a base.
 
 ghost use Rattle.std.specs.Prelude.{◌≡◌, ℕ, ◌≤◌, List, [], ◌∷◌, ◌++◌, length, OnOk, OnErr};
-ghost use Rattle.line_text.specs.Words.{ended};
+ghost use Rattle.line_text.specs.Words.{ended, Extends};
 ghost use Rattle.line_text.specs.BaseText.{base_head, base_counts, place_text, link_text, base_text};
-ghost use Rattle.line_text.specs.Growth.{Extends};
 
 use crate::entry::whole_or_none;
 use crate::numbers::{put_name, put_name_then, put_number, put_target};

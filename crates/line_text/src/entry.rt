@@ -6,7 +6,7 @@ ghost use Rattle.rule_machine.specs.declared.reply.Reply.TheVariants.{Moves};
 ghost use Rattle.line_text.specs.EventText.{IsEvent, IsItem};
 ghost use Rattle.line_text.specs.ReplyText.{IsMoved, IsReply, reply_text};
 ghost use Rattle.line_text.specs.EntryText.{sizes_text, header_line, entry_line, numbered_text};
-ghost use Rattle.line_text.specs.Growth.{Extends};
+ghost use Rattle.line_text.specs.Words.{Extends};
 
 use crate::events::put_event;
 use crate::numbers::{put_name_then, put_number, put_number_then};

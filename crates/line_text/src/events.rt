@@ -1,9 +1,8 @@
 //! Script lines at the end of a text.
 
 ghost use Rattle.std.specs.Prelude.{◌≡◌, ◌++◌, IfSome, OnOk, OnErr};
-ghost use Rattle.line_text.specs.Words.{IsName};
+ghost use Rattle.line_text.specs.Words.{IsName, Extends};
 ghost use Rattle.line_text.specs.EventText.{IsEvent, IsItem, event_text, item_text, pair_text, point_text, flag_text};
-ghost use Rattle.line_text.specs.Growth.{Extends};
 
 use crate::numbers::{put_name, put_name_then, put_target};
 use crate::room::put_node;

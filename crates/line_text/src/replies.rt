@@ -2,7 +2,7 @@
 
 ghost use Rattle.std.specs.Prelude.{◌≡◌, [], ◌∷◌, ◌++◌, ◌+◌, ◌≤◌, length, take, OnOk, OnErr};
 ghost use Rattle.line_text.specs.ReplyText.{IsCount, IsCounts, IsEnabled, IsMoved, IsPair, IsReply, act_word, counts_text, enabled_text, field_text, move_text, mutual_text, refusal_words, reply_text};
-ghost use Rattle.line_text.specs.Growth.{Extends};
+ghost use Rattle.line_text.specs.Words.{Extends};
 
 use crate::numbers::{put_number, put_number_then, put_target};
 use crate::room::{put_node, put_window};

@@ -2,8 +2,7 @@
 
 ghost use Rattle.std.specs.Prelude.{◌≡◌, [], ◌∷◌, ◌++◌, ◌+◌, ◌*◌, ◌≤◌, List, ℕ, length, take, codes, OnOk, OnErr};
 ghost use Rattle.std.specs.List.{AllByRecursion};
-ghost use Rattle.line_text.specs.Words.{space_ended, spaced, joined, joined_or};
-ghost use Rattle.line_text.specs.Growth.{Extends};
+ghost use Rattle.line_text.specs.Words.{space_ended, spaced, joined, joined_or, Extends};
 
 use rule_machine::Want;
 

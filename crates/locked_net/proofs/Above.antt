@@ -43,7 +43,7 @@ base_above t log kept above = ap₂ base_of (sym (above_len t log kept above)) (
 -- a log ends in a state
 pub ends_in_state : (t : RuleTable) → IsTable t → (log : Log) → IsLog t log → IsState log.state
 ends_in_state t table log is =
-    runs_end_in_states t table (beginning_with log.state.network.size log.first) (opening_is_state log.state.network.size log.first) log.entries (end_of log) is.run
+    runs_end_in_states t table (beginning_with log.state.network.size log.present) (opening_is_state log.state.network.size log.present) log.entries (end_of log) is.run
 
 pub recorded_size : (t : RuleTable) → IsTable t → (log : Log) → IsLog t log → (event : Event) → (recorded t log event).state.network.size ≡ log.state.network.size
 recorded_size t table log is event =
@@ -54,7 +54,7 @@ recorded_size t table log is event =
 pub recorded_is_log : (t : RuleTable) → IsTable t → (log : Log) → IsLog t log → length log.entries < log.limit → (event : Event) → IsLog t (recorded t log event)
 recorded_is_log t table log is below event =
     let entry = entry_of t log event in
-    let begun : ℕ → Moment = λ n. beginning_with n log.first in
+    let begun : ℕ → Moment = λ n. beginning_with n log.present in
     let answers = least_answers t table log.state (ends_in_state t table log is) log.spent event in
     let size = recorded_size t table log is event in
     let run = run_add t (begun log.state.network.size) (end_of log) log.entries entry (state_after t log.state event) is.run answers in
@@ -75,7 +75,7 @@ recorded_above t table log kept is above event =
       splits = ap (λ es. es ++ entry ∷ []) above.splits ∙ append_assoc above.below kept.entries (entry ∷ [])
           ∙ ap (λ (e : Entry). above.below ++ (kept.entries ++ e ∷ [])) (sym next);
       count = above.count;
-      tells = subst (λ (n : ℕ). TellsEnd t (beginning_with n log.first) above.below kept.base) (sym (recorded_size t table log is event)) above.tells;
+      tells = subst (λ (n : ℕ). TellsEnd t (beginning_with n log.present) above.below kept.base) (sym (recorded_size t table log is event)) above.tells;
       state = ap (λ (m : Moment). state_after t m.state event) end;
       spent = ap (λ (m : Moment). spent_by t m.state m.spent event) end;
       limit = above.limit;

@@ -8,7 +8,7 @@ use Rattle.std.proofs.lemmas.Bool.{cases_eq, eq-eqb, ne_eqb, true≢false, cond-
 use Rattle.std.proofs.lemmas.Option.{same_Some, none-some}
 use Rattle.rule_machine.specs.declared.act.Act.{Act}
 use Rattle.rule_machine.specs.declared.choice.Item.{Item}
-use Rattle.rule_machine.specs.declared.moved.Moved.{Moved}
+use Rattle.rule_machine.specs.declared.act.Moved.{Moved}
 use Rattle.rule_machine.specs.declared.verdict.Outcome.TheVariants.{Absent}
 use Rattle.rule_machine.specs.declared.refusal.Refusal.TheVariants.{NotCentral}
 use Rattle.rule_machine.specs.declared.reply.Reply.TheVariants.{Moves}

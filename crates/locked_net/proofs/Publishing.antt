@@ -22,7 +22,7 @@ run_more t table kept board event desk below =
     let is = recorded_is_log t table log desk.is_log few event in
     let size = recorded_size t table log desk.is_log event in
     let places : board.name.extent.places ≡ after.state.network.size + 1 = ap (λ (e : Extent). e.places) desk.extent ∙ ap (λ n. n + 1) (sym size) in
-    let present : board.name.extent.present ≡ kept.first = ap (λ (e : Extent). e.present) desk.extent in
+    let present : board.name.extent.present ≡ kept.present = ap (λ (e : Extent). e.present) desk.extent in
     (after.state.network.size, end_of after, places, subst (λ (n : ℕ). Run t (beginning_with after.state.network.size n) after.entries (end_of after)) (sym present) is.run)
 
 -- with the entry that is posted
@@ -43,7 +43,7 @@ desk_after t table kept after board now event entry desk below next told shown =
       is_log = recorded_is_log t table log desk.is_log few event;
       above = recorded_above t table log kept desk.is_log desk.above event;
       posted = refl;
-      extent = desk.extent ∙ ap (λ (n : ℕ). record { places = n + 1; present = kept.first }) (sym size);
+      extent = desk.extent ∙ ap (λ (n : ℕ). record { places = n + 1; present = kept.present }) (sym size);
     } in
     subst (λ (k : Kept). IsDesk t k now) (sym told)
     (subst (IsDesk t (kept_with t kept event)) (sym (shown ∙ ap (λ (e : Entry). record { list = board.list ++ e ∷ []; posted = []; name = board.name }) next)) there)

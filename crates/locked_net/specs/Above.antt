@@ -22,16 +22,16 @@ pub record IsAbove (t : RuleTable) (log : Log) (kept : Kept) : Type 0 where
   pub below : List Entry
   pub splits : log.entries ≡ below ++ kept.entries
   pub count : length below ≡ dropped kept.base
-  pub tells : TellsEnd t (beginning_with log.state.network.size log.first) below kept.base
+  pub tells : TellsEnd t (beginning_with log.state.network.size log.present) below kept.base
   pub state : kept.state ≡ log.state
   pub spent : kept.spent ≡ log.spent
   pub limit : kept.limit ≡ log.limit
-  pub present : kept.first ≡ log.first
+  pub present : kept.present ≡ log.present
 
 -- a log with these entries, and all else as it is kept
 abbrev pub log_over : Kept → List Entry → Log
 log_over kept entries =
-    record { state = kept.state; spent = kept.spent; entries = entries; limit = kept.limit; first = kept.first }
+    record { state = kept.state; spent = kept.spent; entries = entries; limit = kept.limit; present = kept.present }
 
 -- There is a whole log in the setting, of which the part above the base is kept.
 pub record IsPart (setting : Setting) (kept : Kept) : Type 0 where
@@ -43,7 +43,7 @@ pub record IsPart (setting : Setting) (kept : Kept) : Type 0 where
 abbrev pub IsBack : Setting → ℕ → Held → Type 0
 IsBack setting weight journal =
     IsKept setting.table weight (kept_of journal) × IsPart setting (kept_of journal)
-    × (journal.state.network.size ≡ setting.nodes) × (journal.first ≡ setting.present) × (journal.limit ≡ setting.limit)
+    × (journal.state.network.size ≡ setting.nodes) × (journal.present ≡ setting.present) × (journal.limit ≡ setting.limit)
 
 -- What the note of each of these clerks tells begins this log.
 pub record IsPartNoted (setting : Setting) (kept : Kept) (clerks : List ClerkView) : Type 0 where

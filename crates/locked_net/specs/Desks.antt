@@ -24,4 +24,4 @@ pub record IsDesk (t : RuleTable) (kept : Kept) (board : Standing) : Type 0 wher
   pub is_log : IsLog t (log_over kept board.list)
   pub above : IsAbove t (log_over kept board.list) kept
   pub posted : board.posted ≡ []
-  pub extent : board.name.extent ≡ record { places = kept.state.network.size + 1; present = kept.first }
+  pub extent : board.name.extent ≡ record { places = kept.state.network.size + 1; present = kept.present }

@@ -11,14 +11,14 @@ name_from key = record { book = key.opening.book; extent = record { places = key
 
 pub record IsOfKey (key : NetKey) (desk : DeskView) : Type 0 where
   pub nodes : desk.log.state.network.size ≡ key.nodes
-  pub present : desk.log.first ≡ key.present
+  pub present : desk.log.present ≡ key.present
   pub limit : desk.log.limit ≡ key.limit
   pub name : desk.name ≡ name_from key
 
 -- all five are as they were
 pub record KeepsKey (old new : DeskView) : Type 0 where
   pub nodes : new.log.state.network.size ≡ old.log.state.network.size
-  pub present : new.log.first ≡ old.log.first
+  pub present : new.log.present ≡ old.log.present
   pub limit : new.log.limit ≡ old.log.limit
   pub name : new.name ≡ old.name
   pub base : new.base ≡ old.base

@@ -6,7 +6,7 @@
 use Rattle.std.specs.Prelude.{◌≡◌, ℕ, zero, suc, ◌<◌, ◌≤◌, ◌⊎◌, List, [], ◌∷◌, ◌++◌, length, take, drop, slice_get, Option, None, Some}
 use Rattle.std.specs.List.{All}
 use Rattle.std.specs.Option.{option_or}
-use Rattle.rule_machine.specs.declared.moved.Moved.{Moved}
+use Rattle.rule_machine.specs.declared.act.Moved.{Moved}
 use Rattle.rule_machine.specs.declared.reply.Reply.TheVariants.{Moves}
 use Rattle.step_log.specs.declared.receipt.Receipt.{Receipt}
 use Rattle.logbook.specs.Pages.{Book}

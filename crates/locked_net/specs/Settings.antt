@@ -14,5 +14,5 @@ pub record Setting : Type 0 where
 pub record IsLogIn (setting : Setting) (log : Log) : Type 0 where
   pub run : IsLog setting.table log
   pub nodes : log.state.network.size ≡ setting.nodes
-  pub present : log.first ≡ setting.present
+  pub present : log.present ≡ setting.present
   pub limit : log.limit ≡ setting.limit

@@ -70,7 +70,7 @@ impl<R: Rules> Desk<R> {
         requires within { present ≤ nodes }
         ensures nodes { IfOk result (λ desk. desk.log.state.network.size ≡ nodes) }
         ensures limit { IfOk result (λ desk. desk.log.limit ≡ min limit max_entries) }
-        ensures present { IfOk result (λ desk. desk.log.first ≡ present) }
+        ensures present { IfOk result (λ desk. desk.log.present ≡ present) }
         ensures extent { IfOk result (λ desk. desk.name.extent ≡ record { places = nodes + 1; present = present }) }
         ensures small { OnOk result (nodes ≤ 65535) }
         ensures fault { IfErr result (λ fault. Explains (nodes_fault nodes) fault) }

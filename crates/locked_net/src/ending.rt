@@ -35,7 +35,7 @@ pub fn settle<R: Rules, W: Wait>(
     ensures settled { IfOk result (λ journal. Settled (kept_of journal) clerks.items) }
     ensures run { IfOk result (λ journal. IsKept R.table R.NODE_WEIGHT (kept_of journal)) }
     ensures whole { IfOk result (λ journal. IsPart (setting_of R.table net) (kept_of journal)) }
-    ensures size { IfOk result (λ journal. (journal.state.network.size ≡ nodes_of net) × (journal.first ≡ present_of net) × (journal.limit ≡ limit_of net)) }
+    ensures size { IfOk result (λ journal. (journal.state.network.size ≡ nodes_of net) × (journal.present ≡ present_of net) × (journal.limit ≡ limit_of net)) }
     ensures fault { IfErr result (λ unsettled. Unsettles (kept_of unsettled.journal) clerks.items unsettled.why) }
     ensures back { IfErr result (λ unsettled. IsBack (setting_of R.table net) R.NODE_WEIGHT unsettled.journal) }
 {
@@ -58,7 +58,7 @@ pub fn settle_own<R: Rules, W: Wait>(
     ensures noted { IfOk result (λ journal. IsPartNoted (setting_of R.table net) (kept_of journal) clerks.items) }
     ensures run { IfOk result (λ journal. IsKept R.table R.NODE_WEIGHT (kept_of journal)) }
     ensures whole { IfOk result (λ journal. IsPart (setting_of R.table net) (kept_of journal)) }
-    ensures size { IfOk result (λ journal. (journal.state.network.size ≡ nodes_of net) × (journal.first ≡ present_of net) × (journal.limit ≡ limit_of net)) }
+    ensures size { IfOk result (λ journal. (journal.state.network.size ≡ nodes_of net) × (journal.present ≡ present_of net) × (journal.limit ≡ limit_of net)) }
     ensures fault { IfErr result (λ unsettled. Unsettles (kept_of unsettled.journal) clerks.items unsettled.why) }
     ensures back { IfErr result (λ unsettled. IsBack (setting_of R.table net) R.NODE_WEIGHT unsettled.journal) }
     ensures back_noted { IfErr result (λ unsettled. IsPartMet (setting_of R.table net) (kept_of unsettled.journal) clerks.items) }

@@ -148,7 +148,7 @@ impl<R: Rules> LockedNet<R> {
         ensures run { IsKept R.table R.NODE_WEIGHT (kept_of result) }
         ensures whole { IsPart (setting_of R.table self) (kept_of result) }
         ensures nodes { result.state.network.size ≡ nodes_of self }
-        ensures present { result.first ≡ present_of self }
+        ensures present { result.present ≡ present_of self }
         ensures limit { result.limit ≡ limit_of self }
     {
         self.into_desk(rt).close(rt)
@@ -160,7 +160,7 @@ impl<R: Rules> LockedNet<R> {
         ensures published { IsPublished (setting_of R.table self) (book_of self) (kept_of result.0) result.1 }
         ensures run { IsKept R.table R.NODE_WEIGHT (kept_of result.0) }
         ensures nodes { result.0.state.network.size ≡ nodes_of self }
-        ensures present { result.0.first ≡ present_of self }
+        ensures present { result.0.present ≡ present_of self }
         ensures limit { result.0.limit ≡ limit_of self }
     {
         let desk = self.into_desk(rt);

@@ -1,7 +1,7 @@
 -- Which replies are of an event's kind, whatever they say.
 use Rattle.std.specs.Prelude.{Bool, true, false, cond, ◌&&◌, List, is_some, is_none, length, nat_le}
 use Rattle.std.specs.List.{list_all}
-use Rattle.rule_machine.specs.declared.moved.Moved.{Moved}
+use Rattle.rule_machine.specs.declared.act.Moved.{Moved}
 use Rattle.rule_machine.specs.declared.event.Event.{Event}
 use Rattle.rule_machine.specs.declared.event.Event.TheVariants.{Link, Unlink, Point, Flag, Step, Show, Enabled, Matching, Status, Join, Leave}
 use Rattle.rule_machine.specs.declared.reply.Reply.{Reply}

@@ -14,7 +14,7 @@ pub mod Judged
 pub mod Followed
 pub mod StepTests
 pub mod AscendingMoves
-pub mod Passes
+pub mod TwoPasses
 pub mod Pairs
 pub mod Laws
 pub mod Half

@@ -2,7 +2,7 @@
 use Rattle.std.proofs.Common.{◌≡◌, ℕ, Bool, ◌&&◌, is_some, find, IsTrue, refl, ap, ap₂, ◌∙◌, inl, inr}
 use Rattle.rule_machine.specs.Network.{linked, neighbours}
 use Rattle.rule_machine.specs.State.{State, pointer, is_at, suits, has_suitor, is_mutual, married}
-use Rattle.rule_set.specs.Near.{SameAt}
+use Rattle.rule_set.specs.Target.{SameAt}
 use Rattle.machine_laws.specs.Neighbours.{near_agree}
 
 -- a search among the neighbours

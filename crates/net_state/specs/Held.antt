@@ -5,7 +5,7 @@ use Rattle.rule_machine.specs.Network.{Network, present}
 use Rattle.rule_machine.specs.State.{State, Registers, state_code}
 use Rattle.rule_machine.specs.Base.{place_at}
 use Rattle.rule_machine.specs.declared.base.Place.{Place}
-use Rattle.graph_store.specs.declared.end.End.{End}
+use Rattle.graph_store.specs.declared.ends.End.{End}
 use Rattle.graph_store.specs.Ends.{end_code}
 
 -- a state, for how many more neighbours each name has room, and what each name makes of the edges at it

@@ -7,7 +7,7 @@ ghost use Rattle.rule_machine.specs.Disturbance.{after_unlink, after_point, afte
 ghost use Rattle.rule_machine.specs.Refuse.{unlink_refusal};
 ghost use Rattle.rule_machine.specs.Step.{after_moves};
 ghost use Rattle.machine_laws.specs.Keeps.{IsMoveIn};
-ghost use Rattle.machine_laws.specs.Passes.{flag_read, pointer_written};
+ghost use Rattle.machine_laws.specs.TwoPasses.{flag_read, pointer_written};
 ghost use Rattle.net_state.specs.Held.{without_place};
 
 use crate::NetState;

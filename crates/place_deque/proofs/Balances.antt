@@ -10,23 +10,23 @@ use Rattle.std.proofs.lemmas.List.FromFn.{length-range_with_len}
 use Rattle.crossbeam_deque.specs.Tasks.{Pushes, Takes as Leaves, Finds, FindsFew, Forks, Merges}
 use Rattle.crossbeam_deque.proofs.Lists.{at_set, at_snoc, set_else}
 use Rattle.place_deque.specs.declared.block.Block.{Block}
-use Rattle.place_deque.specs.declared.tally.Tally.{Tally}
-use Rattle.place_deque.specs.Tallies.{tally, places, block_places, places_in, Knows, Balanced, with_put, ArePlaces, Takes, KnowsAll, rest_of, part_of, joined}
+use Rattle.place_deque.specs.declared.ledger.Ledger.{Ledger}
+use Rattle.place_deque.specs.Ledgers.{ledger, places, block_places, places_in, Knows, Balanced, with_put, ArePlaces, Takes, KnowsAll, rest_of, part_of, joined}
 
 -- a total after a change of one pass
-total_set : (f : Tally → ℕ) (views : List Tally) (port : ℕ) (v w : Tally) → get_elem? views port ≡ some v → sum_by f (set views port w) + f v ≡ sum_by f views + f w
+total_set : (f : Ledger → ℕ) (views : List Ledger) (port : ℕ) (v w : Ledger) → get_elem? views port ≡ some v → sum_by f (set views port w) + f v ≡ sum_by f views + f w
 total_set f [] port v w at = absurd (some-ne-none v (sym at))
 total_set f (x ∷ xs) zero v w at = let e : f x ≡ f v = ap f (some-injective x v at) in omega (arith, sum_by-cons f x xs, sum_by-cons f w xs)
 total_set f (x ∷ xs) (suc port) v w at = omega (arith, total_set f xs port v w at, sum_by-cons f x xs, sum_by-cons f x (set xs port w))
 
 -- one pass has no more than all
-no_more : (f : Tally → ℕ) (views : List Tally) (port : ℕ) (v : Tally) → get_elem? views port ≡ some v → f v ≤ sum_by f views
+no_more : (f : Ledger → ℕ) (views : List Ledger) (port : ℕ) (v : Ledger) → get_elem? views port ≡ some v → f v ≤ sum_by f views
 no_more f [] port v at = absurd (some-ne-none v (sym at))
 no_more f (x ∷ xs) zero v at = let e : f x ≡ f v = ap f (some-injective x v at) in omega (arith, sum_by-cons f x xs)
 no_more f (x ∷ xs) (suc port) v at = omega (arith, no_more f xs port v at, sum_by-cons f x xs)
 
 -- where no pass has any of f, and g is 0 where f is, none has any of g
-none_of : (f g : Tally → ℕ) (views : List Tally) → sum_by f views ≡ 0 → ((j : ℕ) (u : Tally) → get_elem? views j ≡ some u → f u ≡ 0 → g u ≡ 0) → sum_by g views ≡ 0
+none_of : (f g : Ledger → ℕ) (views : List Ledger) → sum_by f views ≡ 0 → ((j : ℕ) (u : Ledger) → get_elem? views j ≡ some u → f u ≡ 0 → g u ≡ 0) → sum_by g views ≡ 0
 none_of f g [] none too = refl
 none_of f g (x ∷ xs) none too =
     let cut = sum_by-cons f x xs in
@@ -35,7 +35,7 @@ none_of f g (x ∷ xs) none too =
     omega (arith, sum_by-cons g x xs)
 
 -- the same where all but one have none: that one has all of g
-one_has_all : (f g : Tally → ℕ) (views : List Tally) (port : ℕ) (v : Tally) → get_elem? views port ≡ some v → sum_by f views ≡ f v → ((j : ℕ) (u : Tally) → get_elem? views j ≡ some u → f u ≡ 0 → g u ≡ 0) → sum_by g views ≡ g v
+one_has_all : (f g : Ledger → ℕ) (views : List Ledger) (port : ℕ) (v : Ledger) → get_elem? views port ≡ some v → sum_by f views ≡ f v → ((j : ℕ) (u : Ledger) → get_elem? views j ≡ some u → f u ≡ 0 → g u ≡ 0) → sum_by g views ≡ g v
 one_has_all f g [] port v at all too = absurd (some-ne-none v (sym at))
 one_has_all f g (x ∷ xs) zero v at all too =
     let e = some-injective x v at in
@@ -52,17 +52,17 @@ one_has_all f g (x ∷ xs) (suc port) v at all too =
     omega (arith, sum_by-cons g x xs)
 
 -- a pass stands where it was put
-stands : (views : List Tally) (port : ℕ) (v w : Tally) → get_elem? views port ≡ some v → get_elem? (set views port w) port ≡ some w
+stands : (views : List Ledger) (port : ℕ) (v w : Ledger) → get_elem? views port ≡ some v → get_elem? (set views port w) port ≡ some w
 stands [] port v w at = absurd (some-ne-none v (sym at))
 stands (x ∷ xs) zero v w at = refl
 stands (x ∷ xs) (suc port) v w at = stands xs port v w at
 
 -- where one pass has the whole, no other has a part
-no_part : (views : List Tally) (port : ℕ) (v : Tally) → get_elem? views port ≡ some v → sum_by (λ u. u.parts) views ≡ v.parts → (j : ℕ) (u : Tally) → j ≢ port → get_elem? views j ≡ some u → u.parts ≡ 0
+no_part : (views : List Ledger) (port : ℕ) (v : Ledger) → get_elem? views port ≡ some v → sum_by (λ u. u.parts) views ≡ v.parts → (j : ℕ) (u : Ledger) → j ≢ port → get_elem? views j ≡ some u → u.parts ≡ 0
 no_part views port v at all j u other there =
-    let gone = tally 0 0 [] in
-    let total = total_set (λ (x : Tally). x.parts) views port v gone at in
-    let most = no_more (λ (x : Tally). x.parts) (set views port gone) j u (set_else views port j gone other ∙ there) in
+    let gone = ledger 0 0 [] in
+    let total = total_set (λ (x : Ledger). x.parts) views port v gone at in
+    let most = no_more (λ (x : Ledger). x.parts) (set views port gone) j u (set_else views port j gone other ∙ there) in
     omega arith
 
 -- one place more weighs that much more
@@ -98,22 +98,22 @@ pub one_block : (b : Block) → places_in (b ∷ []) ≡ block_places b
 one_block b = append-nil (block_places b)
 
 -- what each pass knows, after a change of one
-known_set : (count : ℕ) (views : List Tally) (port : ℕ) (w : Tally) → Knows count w → ((j : ℕ) (u : Tally) → j ≢ port → get_elem? views j ≡ some u → Knows count u) → (j : ℕ) (u : Tally) → get_elem? (set views port w) j ≡ some u → Knows count u
+known_set : (count : ℕ) (views : List Ledger) (port : ℕ) (w : Ledger) → Knows count w → ((j : ℕ) (u : Ledger) → j ≢ port → get_elem? views j ≡ some u → Knows count u) → (j : ℕ) (u : Ledger) → get_elem? (set views port w) j ≡ some u → Knows count u
 known_set count views port w mine others j u at =
     ⊎_elim (λ (x : (j ≡ port) × (w ≡ u)). subst (Knows count) x.1 mine) (λ (x : (j ≢ port) × (get_elem? views j ≡ some u)). others j u x.0 x.1) (at_set views port j w u at)
 
-pub begins : Balanced [] (tally 64 0 [] ∷ [])
+pub begins : Balanced [] (ledger 64 0 [] ∷ [])
 begins = record {
   count = 0;
   whole = refl;
   once = λ h. refl;
-  known = λ port v at. ⊎_elim (λ (x : get_elem? {A = Tally} [] port ≡ some v). absurd (some-ne-none v (sym x))) (λ (x : tally 64 0 [] ≡ v). subst (Knows 0) x ((λ none. absurd (omega arith)), λ _. refl)) (at_snoc [] (tally 64 0 []) v port at);
+  known = λ port v at. ⊎_elim (λ (x : get_elem? {A = Ledger} [] port ≡ some v). absurd (some-ne-none v (sym x))) (λ (x : ledger 64 0 [] ≡ v). subst (Knows 0) x ((λ none. absurd (omega arith)), λ _. refl)) (at_snoc [] (ledger 64 0 []) v port at);
 }
 
-pub puts : (port : ℕ) (v : Tally) (block : Block) → v.parts ≡ 64 → v.count ≡ block.first → Pushes Balanced port v (block ∷ []) (λ w. w ≡ with_put v (block ∷ []))
+pub puts : (port : ℕ) (v : Ledger) (block : Block) → v.parts ≡ 64 → v.count ≡ block.first → Pushes Balanced port v (block ∷ []) (λ w. w ≡ with_put v (block ∷ []))
 puts port v block all next items views b at =
     let w = with_put v (block ∷ []) in
-    let total = total_set (λ (u : Tally). u.parts) views port v w at in
+    let total = total_set (λ (u : Ledger). u.parts) views port v w at in
     let size : v.count ≡ b.count = (b.known port v at).1 (omega arith) in
     let whole = b.whole in (
       w,
@@ -121,7 +121,7 @@ puts port v block all next items views b at =
         count = block.end;
         whole = omega arith;
         once = λ h.
-            let s = total_set (λ (u : Tally). sum_by h u.taken) views port v w at in
+            let s = total_set (λ (u : Ledger). sum_by h u.taken) views port v w at in
             let p = b.once h in
             let m = put_weighs h v.count block next in
             let e : sum_by h (places v.count) ≡ sum_by h (places b.count) = ap (λ n. sum_by h (places n)) size in
@@ -136,14 +136,14 @@ puts port v block all next items views b at =
       refl,
     )
 
-pub takes : (port : ℕ) (v : Tally) → 0 < v.parts → Leaves Balanced port v 1 (Takes v)
+pub takes : (port : ℕ) (v : Ledger) → 0 < v.parts → Leaves Balanced port v 1 (Takes v)
 takes port v part xs items views some_left few b at =
-    let w = tally v.parts v.count (v.taken ++ places_in xs) in
-    let total = total_set (λ (u : Tally). u.parts) views port v w at in
+    let w = ledger v.parts v.count (v.taken ++ places_in xs) in
+    let total = total_set (λ (u : Ledger). u.parts) views port v w at in
     let whole = b.whole in
     let size : v.count ≡ b.count = (b.known port v at).1 part in
-    let once : (h : ℕ → ℕ) → sum_by (λ (u : Tally). sum_by h u.taken) (set views port w) + sum_by h (places_in items) ≡ sum_by h (places b.count) = λ h.
-    let s = total_set (λ (u : Tally). sum_by h u.taken) views port v w at in
+    let once : (h : ℕ → ℕ) → sum_by (λ (u : Ledger). sum_by h u.taken) (set views port w) + sum_by h (places_in items) ≡ sum_by h (places b.count) = λ h.
+    let s = total_set (λ (u : Ledger). sum_by h u.taken) views port v w at in
     let p = b.once h in
     let mine = sum_by-append h v.taken (places_in xs) in
     let rest = blocks_weigh h xs items in
@@ -158,27 +158,27 @@ takes port v part xs items views some_left few b at =
       (
         refl,
         λ h.
-            let most = no_more (λ (u : Tally). sum_by h u.taken) (set views port w) port w (stands views port v w at) in
+            let most = no_more (λ (u : Ledger). sum_by h u.taken) (set views port w) port w (stands views port v w at) in
             let p = once h in
             let e : sum_by h (places v.count) ≡ sum_by h (places b.count) = ap (λ n. sum_by h (places n)) size in
             omega arith,
       ),
     )
 
-pub found : (port : ℕ) (v : Tally) → Finds Balanced port v (KnowsAll v)
+pub found : (port : ℕ) (v : Ledger) → Finds Balanced port v (KnowsAll v)
 found port v views b at all h =
     let whole = b.whole in
     let size : v.count ≡ b.count = (b.known port v at).1 (omega arith) in
-    let mine = one_has_all (λ (u : Tally). u.parts) (λ (u : Tally). sum_by h u.taken) views port v at (omega arith) (λ j u there none. ap (sum_by h) ((b.known j u there).0 none)) in
+    let mine = one_has_all (λ (u : Ledger). u.parts) (λ (u : Ledger). sum_by h u.taken) views port v at (omega arith) (λ j u there none. ap (sum_by h) ((b.known j u there).0 none)) in
     let p = b.once h in
     let e : sum_by h (places v.count) ≡ sum_by h (places b.count) = ap (λ n. sum_by h (places n)) size in
     omega arith
 
-pub found_few : (few port : ℕ) (v : Tally) → few ≡ 0 → FindsFew Balanced few port v (KnowsAll v)
+pub found_few : (few port : ℕ) (v : Ledger) → few ≡ 0 → FindsFew Balanced few port v (KnowsAll v)
 found_few few port v none [] views least b at = found port v views b at
 found_few few port v none (x ∷ xs) views least b at = absurd (omega arith)
 
-pub forks : (port : ℕ) (v : Tally) → 1 < v.parts → Forks Balanced port v (rest_of v) (part_of v)
+pub forks : (port : ℕ) (v : Ledger) → 1 < v.parts → Forks Balanced port v (rest_of v) (part_of v)
 forks port v parts items views b at =
     let l = rest_of v in
     let r = part_of v in
@@ -188,34 +188,34 @@ forks port v parts items views b at =
     record {
       count = b.count;
       whole =
-          let total = total_set (λ (u : Tally). u.parts) views port v l at in
-          let a = sum_by_push (λ (u : Tally). u.parts) vs r in
+          let total = total_set (λ (u : Ledger). u.parts) views port v l at in
+          let a = sum_by_push (λ (u : Ledger). u.parts) vs r in
           omega arith;
       once = λ h.
-          let s = total_set (λ (u : Tally). sum_by h u.taken) views port v l at in
+          let s = total_set (λ (u : Ledger). sum_by h u.taken) views port v l at in
           let p = b.once h in
-          let a = sum_by_push (λ (u : Tally). sum_by h u.taken) vs r in
+          let a = sum_by_push (λ (u : Ledger). sum_by h u.taken) vs r in
           omega arith;
       known = λ j u there. ⊎_elim (λ (x : get_elem? vs j ≡ some u). known_set b.count views port l ((λ none. absurd (omega arith)), λ _. size) (λ k y other here. b.known k y here) j u x)
           (λ (x : r ≡ u). subst (Knows b.count) x ((λ none. absurd (omega arith)), λ _. size)) (at_snoc vs r u j there);
     }
 
-pub merges : (port : ℕ) (v : Tally) (other : ℕ) (w : Tally) → 0 < v.parts → Merges Balanced port v other w (joined v w) (tally 0 0 [])
+pub merges : (port : ℕ) (v : Ledger) (other : ℕ) (w : Ledger) → 0 < v.parts → Merges Balanced port v other w (joined v w) (ledger 0 0 [])
 merges port v other w part items views b at apart theirs =
     let both = joined v w in
-    let gone = tally 0 0 [] in
+    let gone = ledger 0 0 [] in
     let vs = set views port both in
     let size : v.count ≡ b.count = (b.known port v at).1 part in
     let whole = b.whole in
     record {
       count = b.count;
       whole =
-          let one = total_set (λ (u : Tally). u.parts) views port v both at in
-          let two = total_set (λ (u : Tally). u.parts) vs other w gone theirs in
+          let one = total_set (λ (u : Ledger). u.parts) views port v both at in
+          let two = total_set (λ (u : Ledger). u.parts) vs other w gone theirs in
           omega arith;
       once = λ h.
-          let one = total_set (λ (u : Tally). sum_by h u.taken) views port v both at in
-          let two = total_set (λ (u : Tally). sum_by h u.taken) vs other w gone theirs in
+          let one = total_set (λ (u : Ledger). sum_by h u.taken) views port v both at in
+          let two = total_set (λ (u : Ledger). sum_by h u.taken) vs other w gone theirs in
           let p = b.once h in
           let a = sum_by-append h v.taken w.taken in
           omega arith;
@@ -258,6 +258,6 @@ has_place (suc count) k below =
     ⊎_elim (λ (less : k < count). let rest = has_place count k less in omega arith) (λ (last : count ≤ k). omega arith) (cases_lt k count)
 has_place zero k below = absurd (omega arith)
 
-pub taken_within : (P : Type 0) (v w : Tally) (result : Option Block) → MatchOption result P (λ block. Takes v (block ∷ []) w) → IfSome result (λ block. (block.end ≤ v.count) × (length w.taken ≤ v.count))
+pub taken_within : (P : Type 0) (v w : Ledger) (result : Option Block) → MatchOption result P (λ block. Takes v (block ∷ []) w) → IfSome result (λ block. (block.end ≤ v.count) × (length w.taken ≤ v.count))
 taken_within P v w None taken = tt
-taken_within P v w (Some block) taken = within v.count block v.taken w.taken (ap (λ (u : Tally). u.taken) taken.0) taken.1
+taken_within P v w (Some block) taken = within v.count block v.taken w.taken (ap (λ (u : Ledger). u.taken) taken.0) taken.1

@@ -6,76 +6,76 @@ use Rattle.std.proofs.lemmas.List.Sums.{sum_by-append, sum_by-cons, sum_by_push,
 use Rattle.std.proofs.lemmas.List.Elements.{All-nil, All-cons, All-append, All-take, All-drop, All-map}
 use Rattle.std.proofs.lemmas.List.Sorted.{All-permutation, IsPermutation-swap_remove}
 use lib.Seq.{take-append_seam, drop-append_seam}
-use Rattle.place_deque.specs.declared.tally.Tally.{Tally}
+use Rattle.place_deque.specs.declared.ledger.Ledger.{Ledger}
 use Rattle.place_deque.specs.declared.handles.Owner.{Owner}
 use Rattle.place_deque.specs.declared.handles.Thief.{Thief}
-use Rattle.place_deque.specs.declared.end.End.{End}
-use Rattle.place_deque.specs.declared.end.End.TheVariants as end
-use Rattle.place_deque.specs.Tallies.{tally, joined}
-use Rattle.place_deque.specs.Ends.{DequeName, owner_deque, owner_tally, thief_deque, thief_tally, end_deque, end_tally, end_owners, Hold, end_hold, end_taken, AreAllEnds, AreJoined}
+use Rattle.place_deque.specs.declared.end.DequeEnd.{DequeEnd}
+use Rattle.place_deque.specs.declared.end.DequeEnd.TheVariants as end
+use Rattle.place_deque.specs.Ledgers.{ledger, joined}
+use Rattle.place_deque.specs.Ends.{DequeName, owner_deque, owner_ledger, thief_deque, thief_ledger, end_deque, end_ledger, end_owners, Hold, end_hold, end_taken, AreAllEnds, AreJoined}
 
 -- a sum over what is said of ends
-sum_map : (f : Hold → ℕ) (xs : List End) → sum_by f (map end_hold xs) ≡ sum_by (λ e. f (end_hold e)) xs
+sum_map : (f : Hold → ℕ) (xs : List DequeEnd) → sum_by f (map end_hold xs) ≡ sum_by (λ e. f (end_hold e)) xs
 sum_map f [] = refl
-sum_map f (x ∷ xs) = omega (arith, sum_map f xs, sum_by-cons f (end_hold x) (map end_hold xs), sum_by-cons (λ (e : End). f (end_hold e)) x xs)
+sum_map f (x ∷ xs) = omega (arith, sum_map f xs, sum_by-cons f (end_hold x) (map end_hold xs), sum_by-cons (λ (e : DequeEnd). f (end_hold e)) x xs)
 
 -- what all say of ends, said of their names
-all_unmap : (P : Hold → Type 0) (xs : List End) → All P (map end_hold xs) → All (λ e. P (end_hold e)) xs
+all_unmap : (P : Hold → Type 0) (xs : List DequeEnd) → All P (map end_hold xs) → All (λ e. P (end_hold e)) xs
 all_unmap P [] all = All-nil (λ e. P (end_hold e))
 all_unmap P (x ∷ xs) all = All-cons (λ e. P (end_hold e)) x xs (all 0 (end_hold x) (omega arith)) (all_unmap P xs (λ k d within. all (suc k) d (omega arith)))
 
 -- a thief's end that has one part and took nothing
-abbrev pub IsPart : DequeName → ℕ → End → Type 0
-IsPart deque count e = (end_deque e ≡ deque) × (end_tally e ≡ tally 1 count []) × (end_owners e ≡ 0)
+abbrev pub IsPart : DequeName → ℕ → DequeEnd → Type 0
+IsPart deque count e = (end_deque e ≡ deque) × (end_ledger e ≡ ledger 1 count []) × (end_owners e ≡ 0)
 
-sum_parts : (deque : DequeName) (count : ℕ) (xs : List End) → All (IsPart deque count) xs → sum_by (λ e. (end_tally e).parts) xs ≡ length xs
+sum_parts : (deque : DequeName) (count : ℕ) (xs : List DequeEnd) → All (IsPart deque count) xs → sum_by (λ e. (end_ledger e).parts) xs ≡ length xs
 sum_parts deque count [] all = refl
 sum_parts deque count (x ∷ xs) all =
-    let here : (end_tally x).parts ≡ 1 = ap (λ (v : Tally). v.parts) (all 0 x (omega arith)).1 in
-    omega (arith, sum_parts deque count xs (λ k d within. all (suc k) d (omega arith)), sum_by-cons (λ (e : End). (end_tally e).parts) x xs)
+    let here : (end_ledger x).parts ≡ 1 = ap (λ (v : Ledger). v.parts) (all 0 x (omega arith)).1 in
+    omega (arith, sum_parts deque count xs (λ k d within. all (suc k) d (omega arith)), sum_by-cons (λ (e : DequeEnd). (end_ledger e).parts) x xs)
 
-sum_owners : (deque : DequeName) (count : ℕ) (xs : List End) → All (IsPart deque count) xs → sum_by end_owners xs ≡ 0
+sum_owners : (deque : DequeName) (count : ℕ) (xs : List DequeEnd) → All (IsPart deque count) xs → sum_by end_owners xs ≡ 0
 sum_owners deque count [] all = refl
 sum_owners deque count (x ∷ xs) all =
     let here : end_owners x ≡ 0 = (all 0 x (omega arith)).2 in
     omega (arith, sum_owners deque count xs (λ k d within. all (suc k) d (omega arith)), sum_by-cons end_owners x xs)
 
 -- the ends of thieves and the owner's behind them
-pub made_all : (count made : ℕ) (o : Owner) (xs ys : List End) → All (IsPart (owner_deque o) count) xs → length xs + 1 ≡ made → made ≤ 64 → owner_tally o ≡ tally (65 - made) count [] → ys ≡ xs ++ end.Owner o ∷ [] → AreAllEnds count (map end_hold ys)
+pub made_all : (count made : ℕ) (o : Owner) (xs ys : List DequeEnd) → All (IsPart (owner_deque o) count) xs → length xs + 1 ≡ made → made ≤ 64 → owner_ledger o ≡ ledger (65 - made) count [] → ys ≡ xs ++ end.Owner o ∷ [] → AreAllEnds count (map end_hold ys)
 made_all count made o xs ys parts size few known is =
-    let All_of : (P : Hold → Type 0) → ((e : End) → IsPart (owner_deque o) count e → P (end_hold e)) → P (end_hold (end.Owner o)) → All P (map end_hold ys) = λ P thieves own.
+    let All_of : (P : Hold → Type 0) → ((e : DequeEnd) → IsPart (owner_deque o) count e → P (end_hold e)) → P (end_hold (end.Owner o)) → All P (map end_hold ys) = λ P thieves own.
     All-map P end_hold ys (subst (All (λ e. P (end_hold e))) (sym is) (All-append (λ e. P (end_hold e)) xs (end.Owner o ∷ []) (λ k d within. thieves _ (parts k d within)) (All-cons (λ e. P (end_hold e)) (end.Owner o) [] own (All-nil (λ e. P (end_hold e)))))) in
     record {
       one = (owner_deque o, All_of (λ h. h.deque ≡ owner_deque o) (λ e part. part.0) refl);
-      size = All_of (λ h. h.count ≡ count) (λ e part. ap (λ (v : Tally). v.count) part.1) (ap (λ (v : Tally). v.count) known);
+      size = All_of (λ h. h.count ≡ count) (λ e part. ap (λ (v : Ledger). v.count) part.1) (ap (λ (v : Ledger). v.count) known);
       whole =
-          let own : (owner_tally o).parts ≡ 65 - made = ap (λ (v : Tally). v.parts) known in
-          let all : sum_by (λ e. (end_tally e).parts) ys ≡ sum_by (λ e. (end_tally e).parts) (xs ++ end.Owner o ∷ []) = ap (sum_by (λ e. (end_tally e).parts)) is in
-          omega (arith, sum_map (λ h. h.parts) ys, sum_by_push (λ (e : End). (end_tally e).parts) xs (end.Owner o), sum_parts (owner_deque o) count xs parts);
+          let own : (owner_ledger o).parts ≡ 65 - made = ap (λ (v : Ledger). v.parts) known in
+          let all : sum_by (λ e. (end_ledger e).parts) ys ≡ sum_by (λ e. (end_ledger e).parts) (xs ++ end.Owner o ∷ []) = ap (sum_by (λ e. (end_ledger e).parts)) is in
+          omega (arith, sum_map (λ h. h.parts) ys, sum_by_push (λ (e : DequeEnd). (end_ledger e).parts) xs (end.Owner o), sum_parts (owner_deque o) count xs parts);
       owner =
           let all : sum_by end_owners ys ≡ sum_by end_owners (xs ++ end.Owner o ∷ []) = ap (sum_by end_owners) is in
           omega (arith, sum_map (λ h. h.owners) ys, sum_by_push end_owners xs (end.Owner o), sum_owners (owner_deque o) count xs parts);
     }
 
-pub made_fresh : (count : ℕ) (deque : DequeName) (o : Owner) (xs ys : List End) → All (IsPart deque count) xs → (owner_tally o).taken ≡ [] → ys ≡ xs ++ end.Owner o ∷ [] → All (λ e. end_taken e ≡ []) ys
+pub made_fresh : (count : ℕ) (deque : DequeName) (o : Owner) (xs ys : List DequeEnd) → All (IsPart deque count) xs → (owner_ledger o).taken ≡ [] → ys ≡ xs ++ end.Owner o ∷ [] → All (λ e. end_taken e ≡ []) ys
 made_fresh count deque o xs ys parts none is =
-    subst (All (λ e. end_taken e ≡ [])) (sym is) (All-append (λ e. end_taken e ≡ []) xs (end.Owner o ∷ []) (λ k d within. ap (λ (v : Tally). v.taken) (parts k d within).1) (All-cons (λ e. end_taken e ≡ []) (end.Owner o) [] none (All-nil (λ e. end_taken e ≡ []))))
+    subst (All (λ e. end_taken e ≡ [])) (sym is) (All-append (λ e. end_taken e ≡ []) xs (end.Owner o ∷ []) (λ k d within. ap (λ (v : Ledger). v.taken) (parts k d within).1) (All-cons (λ e. end_taken e ≡ []) (end.Owner o) [] none (All-nil (λ e. end_taken e ≡ []))))
 
 -- the owner has joined some of the ends `all`, and these are left
-pub record Joining (count : ℕ) (all : List End) (o : Owner) (left : List End) : Type 0 where
-  pub size : (owner_tally o).count ≡ count
+pub record Joining (count : ℕ) (all : List DequeEnd) (o : Owner) (left : List DequeEnd) : Type 0 where
+  pub size : (owner_ledger o).count ≡ count
   pub one : All (λ e. end_deque e ≡ owner_deque o) left
-  pub whole : (owner_tally o).parts + sum_by (λ e. (end_tally e).parts) left ≡ 64
+  pub whole : (owner_ledger o).parts + sum_by (λ e. (end_ledger e).parts) left ≡ 64
   pub owner : sum_by end_owners left ≡ 0
-  pub taken : (h : ℕ → ℕ) → sum_by h (owner_tally o).taken + sum_by (λ e. sum_by h (end_taken e)) left ≡ sum_by (λ e. sum_by h (end_taken e)) all
+  pub taken : (h : ℕ → ℕ) → sum_by h (owner_ledger o).taken + sum_by (λ e. sum_by h (end_taken e)) left ≡ sum_by (λ e. sum_by h (end_taken e)) all
 
-pub one_owner : (count : ℕ) (xs : List End) → AreAllEnds count (map end_hold xs) → sum_by end_owners xs ≡ 1
+pub one_owner : (count : ℕ) (xs : List DequeEnd) → AreAllEnds count (map end_hold xs) → sum_by end_owners xs ≡ 1
 one_owner count xs all = sym (sum_map (λ h. h.owners) xs) ∙ all.owner
 
-pub starts : (count : ℕ) (xs left : List End) (at : ℕ) (o : Owner) → at < length xs → end.Owner o ≡ get_or xs at (end.Owner o) → left ≡ swap_remove xs at (end.Owner o) → AreAllEnds count (map end_hold xs) → Joining count xs o left
+pub starts : (count : ℕ) (xs left : List DequeEnd) (at : ℕ) (o : Owner) → at < length xs → end.Owner o ≡ get_or xs at (end.Owner o) → left ≡ swap_remove xs at (end.Owner o) → AreAllEnds count (map end_hold xs) → Joining count xs o left
 starts count xs left at o within is rest all =
     let own = end.Owner o in
-    let sum : (f : End → ℕ) → sum_by f left + f own ≡ sum_by f xs = λ f.
+    let sum : (f : DequeEnd → ℕ) → sum_by f left + f own ≡ sum_by f xs = λ f.
     let e : f own ≡ f (get_or xs at own) = ap f is in
     let r : sum_by f left ≡ sum_by f (swap_remove xs at own) = ap (sum_by f) rest in
     omega (arith, sum_by-swap_remove f xs at own within) in
@@ -84,46 +84,46 @@ starts count xs left at o within is rest all =
     let mine : owner_deque o ≡ deque = ap end_deque is ∙ decks at own within in
     let counts = all_unmap (λ h. h.count ≡ count) xs all.size in
     record {
-      size = ap (λ e. (end_tally e).count) is ∙ counts at own within;
+      size = ap (λ e. (end_ledger e).count) is ∙ counts at own within;
       one = λ k d inside.
           let there : All (λ e. end_deque e ≡ deque) (own ∷ left) = All-permutation (λ e. end_deque e ≡ deque) xs (own ∷ left) (subst (λ l. IsPermutation xs (own ∷ l)) (sym rest) (IsPermutation-swap_remove xs at own within is)) decks in
           there (suc k) d (omega arith) ∙ sym mine;
-      whole = omega (arith, sum (λ e. (end_tally e).parts), all.whole, sum_map (λ h. h.parts) xs);
+      whole = omega (arith, sum (λ e. (end_ledger e).parts), all.whole, sum_map (λ h. h.parts) xs);
       owner = omega (arith, sum end_owners, one_owner count xs all);
       taken = λ h. omega (arith, sum (λ e. sum_by h (end_taken e)));
     }
 
 -- of a list and one more
-front : (P : End → Type 0) (xs : List End) (x : End) → All P (xs ++ x ∷ []) → All P xs
+front : (P : DequeEnd → Type 0) (xs : List DequeEnd) (x : DequeEnd) → All P (xs ++ x ∷ []) → All P xs
 front P xs x all = subst (All P) (take-append_seam xs (x ∷ [])) (All-take P (length xs) (xs ++ x ∷ []) all)
 
-back : (P : End → Type 0) (xs : List End) (x : End) → All P (xs ++ x ∷ []) → P x
+back : (P : DequeEnd → Type 0) (xs : List DequeEnd) (x : DequeEnd) → All P (xs ++ x ∷ []) → P x
 back P xs x all = subst (All P) (drop-append_seam xs (x ∷ [])) (All-drop P (length xs) (xs ++ x ∷ []) all) 0 x (omega arith)
 
-pub same_deque : (count : ℕ) (all : List End) (o : Owner) (left rest : List End) (t : Thief) → left ≡ rest ++ end.Thief t ∷ [] → Joining count all o left → thief_deque t ≡ owner_deque o
+pub same_deque : (count : ℕ) (all : List DequeEnd) (o : Owner) (left rest : List DequeEnd) (t : Thief) → left ≡ rest ++ end.Thief t ∷ [] → Joining count all o left → thief_deque t ≡ owner_deque o
 same_deque count all o left rest t is j = back (λ e. end_deque e ≡ owner_deque o) rest (end.Thief t) (subst (All (λ e. end_deque e ≡ owner_deque o)) is j.one)
 
-pub joins : (count : ℕ) (all : List End) (o p : Owner) (left rest : List End) (t : Thief) → left ≡ rest ++ end.Thief t ∷ [] → owner_deque p ≡ owner_deque o → owner_tally p ≡ joined (owner_tally o) (thief_tally t) → Joining count all o left → Joining count all p rest
+pub joins : (count : ℕ) (all : List DequeEnd) (o p : Owner) (left rest : List DequeEnd) (t : Thief) → left ≡ rest ++ end.Thief t ∷ [] → owner_deque p ≡ owner_deque o → owner_ledger p ≡ joined (owner_ledger o) (thief_ledger t) → Joining count all o left → Joining count all p rest
 joins count all o p left rest t is deque known j =
-    let sum : (f : End → ℕ) → sum_by f left ≡ sum_by f rest + f (end.Thief t) = λ f. ap (sum_by f) is ∙ sum_by_push f rest (end.Thief t) in
+    let sum : (f : DequeEnd → ℕ) → sum_by f left ≡ sum_by f rest + f (end.Thief t) = λ f. ap (sum_by f) is ∙ sum_by_push f rest (end.Thief t) in
     record {
-      size = ap (λ (v : Tally). v.count) known ∙ j.size;
+      size = ap (λ (v : Ledger). v.count) known ∙ j.size;
       one = λ k d within. front (λ e. end_deque e ≡ owner_deque o) rest (end.Thief t) (subst (All (λ e. end_deque e ≡ owner_deque o)) is j.one) k d within ∙ sym deque;
       whole =
-          let more : (owner_tally p).parts ≡ (owner_tally o).parts + (thief_tally t).parts = ap (λ (v : Tally). v.parts) known in
-          omega (arith, sum (λ e. (end_tally e).parts), j.whole);
+          let more : (owner_ledger p).parts ≡ (owner_ledger o).parts + (thief_ledger t).parts = ap (λ (v : Ledger). v.parts) known in
+          omega (arith, sum (λ e. (end_ledger e).parts), j.whole);
       owner = omega (arith, sum end_owners, j.owner);
       taken = λ h.
-          let more : sum_by h (owner_tally p).taken ≡ sum_by h ((owner_tally o).taken ++ (thief_tally t).taken) = ap (λ (v : Tally). sum_by h v.taken) known in
-          omega (arith, sum (λ e. sum_by h (end_taken e)), j.taken h, sum_by-append h (owner_tally o).taken (thief_tally t).taken);
+          let more : sum_by h (owner_ledger p).taken ≡ sum_by h ((owner_ledger o).taken ++ (thief_ledger t).taken) = ap (λ (v : Ledger). sum_by h v.taken) known in
+          omega (arith, sum (λ e. sum_by h (end_taken e)), j.taken h, sum_by-append h (owner_ledger o).taken (thief_ledger t).taken);
     }
 
-pub ends : (count : ℕ) (all left : List End) (o : Owner) → left ≡ [] → Joining count all o left → AreJoined count all (owner_tally o)
+pub ends : (count : ℕ) (all left : List DequeEnd) (o : Owner) → left ≡ [] → Joining count all o left → AreJoined count all (owner_ledger o)
 ends count all left o none j =
-    let sum : (f : End → ℕ) → sum_by f left ≡ 0 = λ f. ap (sum_by f) none in
+    let sum : (f : DequeEnd → ℕ) → sum_by f left ≡ 0 = λ f. ap (sum_by f) none in
     record {
       size = j.size;
-      whole = omega (arith, sum (λ e. (end_tally e).parts), j.whole);
+      whole = omega (arith, sum (λ e. (end_ledger e).parts), j.whole);
       taken = λ h. omega (arith, sum (λ e. sum_by h (end_taken e)), j.taken h);
     }
 

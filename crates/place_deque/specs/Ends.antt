@@ -3,11 +3,11 @@ use Rattle.std.specs.Prelude.{◌≡◌, ℕ, List, All}
 use Rattle.std.specs.List.{sum_by}
 use Rattle.std.specs.declared.alloc.Global.{Global}
 use Rattle.crossbeam_deque.specs.Handles.{view, worker_deque, stealer_deque, worker_view}
-use Rattle.place_deque.specs.declared.tally.Tally.{Tally}
+use Rattle.place_deque.specs.declared.ledger.Ledger.{Ledger}
 use Rattle.place_deque.specs.declared.handles.Owner.{Owner}
 use Rattle.place_deque.specs.declared.handles.Thief.{Thief}
-use Rattle.place_deque.specs.declared.end.End.{End}
-use Rattle.place_deque.specs.declared.end.End.TheVariants as end
+use Rattle.place_deque.specs.declared.end.DequeEnd.{DequeEnd}
+use Rattle.place_deque.specs.declared.end.DequeEnd.TheVariants as end
 
 -- which deque it is
 abbrev pub DequeName : Type 0
@@ -16,25 +16,25 @@ DequeName = (ℕ × ℕ) × Global
 abbrev pub owner_deque : Owner → DequeName
 owner_deque o = worker_deque o.worker
 
-abbrev pub owner_tally : Owner → Tally
-owner_tally o = worker_view o.worker
+abbrev pub owner_ledger : Owner → Ledger
+owner_ledger o = worker_view o.worker
 
 abbrev pub thief_deque : Thief → DequeName
 thief_deque t = stealer_deque t.stealer
 
-abbrev pub thief_tally : Thief → Tally
-thief_tally t = view t.pass
+abbrev pub thief_ledger : Thief → Ledger
+thief_ledger t = view t.pass
 
-abbrev pub end_deque : End → DequeName
+abbrev pub end_deque : DequeEnd → DequeName
 end_deque (end.Owner o) = owner_deque o
 end_deque (end.Thief t) = thief_deque t
 
-abbrev pub end_tally : End → Tally
-end_tally (end.Owner o) = owner_tally o
-end_tally (end.Thief t) = thief_tally t
+abbrev pub end_ledger : DequeEnd → Ledger
+end_ledger (end.Owner o) = owner_ledger o
+end_ledger (end.Thief t) = thief_ledger t
 
 -- 1 at the owner's end
-abbrev pub end_owners : End → ℕ
+abbrev pub end_owners : DequeEnd → ℕ
 end_owners (end.Owner o) = 1
 end_owners (end.Thief t) = 0
 
@@ -46,12 +46,12 @@ pub record Hold : Type 0 where
   pub parts : ℕ
   pub owners : ℕ
 
-abbrev pub end_hold : End → Hold
-end_hold e = record { deque = end_deque e; count = (end_tally e).count; parts = (end_tally e).parts; owners = end_owners e }
+abbrev pub end_hold : DequeEnd → Hold
+end_hold e = record { deque = end_deque e; count = (end_ledger e).count; parts = (end_ledger e).parts; owners = end_owners e }
 
 -- what an end has taken, in that order
-abbrev pub end_taken : End → List ℕ
-end_taken e = (end_tally e).taken
+abbrev pub end_taken : DequeEnd → List ℕ
+end_taken e = (end_ledger e).taken
 
 -- these are all ends of one deque, on which so many places were put
 pub record AreAllEnds (count : ℕ) (holds : List Hold) : Type 0 where
@@ -61,7 +61,7 @@ pub record AreAllEnds (count : ℕ) (holds : List Hold) : Type 0 where
   pub owner : sum_by (λ h. h.owners) holds ≡ 1
 
 -- so much is known by whoever has joined these ends: what each of them took, and it has the whole
-pub record AreJoined (count : ℕ) (ends : List End) (v : Tally) : Type 0 where
+pub record AreJoined (count : ℕ) (ends : List DequeEnd) (v : Ledger) : Type 0 where
   pub size : v.count ≡ count
   pub whole : v.parts ≡ 64
   pub taken : (h : ℕ → ℕ) → sum_by h v.taken ≡ sum_by (λ e. sum_by h (end_taken e)) ends

@@ -1,2 +1,2 @@
-pub mod Tallies
+pub mod Ledgers
 pub mod Ends

@@ -1,7 +1,7 @@
 //! The ends of one deque, one for each worker.
 
 ghost use Rattle.std.specs.Prelude.{◌≡◌, ◌<◌, ◌≤◌, ◌++◌, [], length, map, All, IfOk, MatchOption, IfSome};
-ghost use Rattle.place_deque.specs.Tallies.{ArePlaces, block_places};
+ghost use Rattle.place_deque.specs.Ledgers.{ArePlaces, block_places};
 ghost use Rattle.place_deque.specs.Ends.{end_hold, end_taken, AreAllEnds};
 
 use crate::{Block, Owner, Thief};
@@ -10,14 +10,14 @@ use std::sync::Wait;
 
 /// One worker's end of a deque.
 #[derive(Drop)]
-pub enum End {
+pub enum DequeEnd {
     /// The end that can also join what others took.
     Owner(Owner),
     /// An end that only takes.
     Thief(Thief),
 }
 
-impl End {
+impl DequeEnd {
     /// Takes the block in front; `None` where there was none at one moment of the call.
     pub fn take<W: Wait>(&mut self, rt: &W) -> Option<Block>
         ensures hold { end_hold self.new ≡ end_hold self.old }
@@ -26,15 +26,15 @@ impl End {
         ensures once { IfSome result (λ _. ArePlaces (end_hold self.old).count (end_taken self.new)) }
     {
         match self {
-            End::Owner(owner) => owner.take(),
-            End::Thief(thief) => thief.take(rt),
+            DequeEnd::Owner(owner) => owner.take(),
+            DequeEnd::Thief(thief) => thief.take(rt),
         }
     }
 }
 
 /// So many ends of one new deque, which holds the places 0 to `count - 1`. The blocks in front have one place each, as many as there may be
 /// ends; of what is left then each has a sixty-fourth at most, and one place at least.
-pub fn ends(alloc: Global, count: u32, workers: u32) -> Result<Vec<End>, AllocError>
+pub fn ends(alloc: Global, count: u32, workers: u32) -> Result<Vec<DequeEnd>, AllocError>
     requires some { 0 < workers }
     requires few { workers ≤ 64 }
     ensures number { IfOk result (λ ends. length ends.items ≡ workers) }
@@ -45,8 +45,8 @@ pub fn ends(alloc: Global, count: u32, workers: u32) -> Result<Vec<End>, AllocEr
     let mut owner = Owner::filled(alloc, count)?;
     for made in 1..workers {
         let thief = owner.thief()?;
-        ends.push(End::Thief(thief))?;
+        ends.push(DequeEnd::Thief(thief))?;
     }
-    ends.push(End::Owner(owner))?;
+    ends.push(DequeEnd::Owner(owner))?;
     Ok(ends)
 }

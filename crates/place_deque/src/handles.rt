@@ -4,14 +4,14 @@ ghost use Rattle.std.specs.Prelude.{◌≡◌, ◌<◌};
 ghost use Rattle.crossbeam_deque.specs.Handles.{view, IsPassOf, stealer_deque, stealer_flavor, worker_flavor, worker_view};
 
 use crate::Block;
-use crate::tally::{EachOnce, Tally};
+use crate::ledger::{EachOnce, Ledger};
 use crossbeam_deque::{Pass, Stealer, Worker};
 use std::alloc::Global;
 
 /// The one end of a deque that puts blocks, makes the other ends and joins what they took.
 #[derive(Drop)]
 pub struct Owner {
-    pub(crate) worker: Worker<Block, Global, Tally, EachOnce>,
+    pub(crate) worker: Worker<Block, Global, Ledger, EachOnce>,
     ghost in_order: { worker_flavor worker ≡ 0 },
     ghost has_part: { 0 < (worker_view worker).parts },
 }
@@ -19,8 +19,8 @@ pub struct Owner {
 /// An end of a deque that only takes blocks, with its pass.
 #[derive(Drop)]
 pub struct Thief {
-    pub(crate) stealer: Stealer<Block, Global, Tally, EachOnce>,
-    pub(crate) pass: Pass<Block, Tally>,
+    pub(crate) stealer: Stealer<Block, Global, Ledger, EachOnce>,
+    pub(crate) pass: Pass<Block, Ledger>,
     ghost own_deque: { IsPassOf (stealer_deque stealer) pass },
     ghost in_order: { stealer_flavor stealer ≡ 0 },
     ghost has_part: { 0 < (view pass).parts },

@@ -1,7 +1,7 @@
 //! The places of a list on one deque, in blocks, which workers take from its ends: each place is taken once.
 //!
 //! `ends` puts the places 0 to n - 1 on one work-stealing deque and gives each worker an `End`, from which it takes blocks until it finds
-//! none; `gather` joins all ends again. That every place was taken once needs no case in the code: each end carries a tally with no
+//! none; `gather` joins all ends again. That every place was taken once needs no case in the code: each end carries a ledger with no
 //! bytes, and the deque's rule says that what all ends took and what is left weigh together what was put, however places are weighed.
 //!
 //! The first blocks have one place each, as many as there may be ends, so that a worker that is held holds back no other; later ones have
@@ -19,12 +19,12 @@ mod block;
 mod end;
 mod handles;
 mod joining;
+mod ledger;
 mod owner;
-mod tally;
 mod thief;
 
 pub use block::Block;
-pub use end::{End, ends};
+pub use end::{DequeEnd, ends};
 pub use handles::{Owner, Thief};
 pub use joining::gather;
-pub use tally::{EachOnce, Tally};
+pub use ledger::{EachOnce, Ledger};

@@ -1,11 +1,11 @@
 //! The end that puts the blocks, shares the whole out and joins it again.
 
 ghost use Rattle.std.specs.Prelude.{◌≡◌, ◌<◌, [], ◌∷◌, IfOk, IfSome, MatchOption};
-ghost use Rattle.place_deque.specs.Tallies.{tally, rest_of, part_of, joined, IsWithin, KnowsAll, Takes};
-ghost use Rattle.place_deque.specs.Ends.{owner_deque, owner_tally, thief_deque, thief_tally};
+ghost use Rattle.place_deque.specs.Ledgers.{ledger, rest_of, part_of, joined, IsWithin, KnowsAll, Takes};
+ghost use Rattle.place_deque.specs.Ends.{owner_deque, owner_ledger, thief_deque, thief_ledger};
 
 use crate::block::width;
-use crate::tally::{Cut, EachOnce, Put, Tally, Took};
+use crate::ledger::{Cut, EachOnce, Ledger, Put, Took};
 use crate::{Block, Owner, Thief};
 use crossbeam_deque::Worker;
 use std::alloc::{AllocError, Global};
@@ -16,10 +16,10 @@ const MOST_AT_FIRST: u32 = 2_048;
 impl Owner {
     /// A new deque that holds the places 0 to `count - 1`, the least in front.
     pub fn filled(alloc: Global, count: u32) -> Result<Owner, AllocError>
-        ensures { IfOk result (λ owner. owner_tally owner ≡ tally 64 count []) }
+        ensures { IfOk result (λ owner. owner_ledger owner ≡ ledger 64 count []) }
     {
         let room = count.min(MOST_AT_FIRST) as usize;
-        let mut worker = Worker::<Block, Global, Tally, EachOnce>::fifo_as(alloc, room)?;
+        let mut worker = Worker::<Block, Global, Ledger, EachOnce>::fifo_as(alloc, room)?;
         let (mut first, mut number) = (0, 0);
         while first < count {
             let end = first + width(number, count - first);
@@ -33,9 +33,9 @@ impl Owner {
 
     /// Another end of the deque, with one part of the whole.
     pub fn thief(&mut self) -> Result<Thief, AllocError>
-        requires { 1 < (owner_tally self.old).parts }
-        ensures part { IfOk result (λ thief. (thief_deque thief ≡ owner_deque self.old) × (thief_tally thief ≡ part_of (owner_tally self.old))) }
-        ensures rest { IfOk result (λ _. (owner_deque self.new ≡ owner_deque self.old) × (owner_tally self.new ≡ rest_of (owner_tally self.old))) }
+        requires { 1 < (owner_ledger self.old).parts }
+        ensures part { IfOk result (λ thief. (thief_deque thief ≡ owner_deque self.old) × (thief_ledger thief ≡ part_of (owner_ledger self.old))) }
+        ensures rest { IfOk result (λ _. (owner_deque self.new ≡ owner_deque self.old) × (owner_ledger self.new ≡ rest_of (owner_ledger self.old))) }
     {
         let stealer = self.worker.stealer()?;
         let pass = self.worker.another::<Cut>();
@@ -46,9 +46,9 @@ impl Owner {
     pub fn take(&mut self) -> Option<Block>
         ensures same { owner_deque self.new ≡ owner_deque self.old }
         ensures taken { MatchOption result
-            ((owner_tally self.new ≡ owner_tally self.old) × KnowsAll (owner_tally self.old))
-            (λ block. Takes (owner_tally self.old) (block ∷ []) (owner_tally self.new)) }
-        ensures within { IfSome result (IsWithin (owner_tally self.old) (owner_tally self.new)) }
+            ((owner_ledger self.new ≡ owner_ledger self.old) × KnowsAll (owner_ledger self.old))
+            (λ block. Takes (owner_ledger self.old) (block ∷ []) (owner_ledger self.new)) }
+        ensures within { IfSome result (IsWithin (owner_ledger self.old) (owner_ledger self.new)) }
     {
         self.worker.pop_as::<Took>()
     }
@@ -57,7 +57,7 @@ impl Owner {
     pub fn absorb(&mut self, thief: Thief)
         requires { thief_deque thief ≡ owner_deque self.old }
         ensures same { owner_deque self.new ≡ owner_deque self.old }
-        ensures both { owner_tally self.new ≡ joined (owner_tally self.old) (thief_tally thief) }
+        ensures both { owner_ledger self.new ≡ joined (owner_ledger self.old) (thief_ledger thief) }
     {
         self.worker.absorb::<Cut>(thief.into_pass());
     }

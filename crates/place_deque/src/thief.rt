@@ -2,10 +2,10 @@
 
 ghost use Rattle.std.specs.Prelude.{◌≡◌, ◌<◌, [], ◌∷◌, IfSome, MatchOption};
 ghost use Rattle.crossbeam_deque.specs.Handles.{view, IsPassOf, stealer_deque, stealer_flavor};
-ghost use Rattle.place_deque.specs.Tallies.{IsWithin, KnowsAll, Takes};
-ghost use Rattle.place_deque.specs.Ends.{thief_deque, thief_tally};
+ghost use Rattle.place_deque.specs.Ledgers.{IsWithin, KnowsAll, Takes};
+ghost use Rattle.place_deque.specs.Ends.{thief_deque, thief_ledger};
 
-use crate::tally::{EachOnce, Tally, Took};
+use crate::ledger::{EachOnce, Ledger, Took};
 use crate::{Block, Thief};
 use crossbeam_deque::{Pass, Steal, Stealer};
 use std::alloc::Global;
@@ -13,19 +13,19 @@ use std::sync::Wait;
 
 impl Thief {
     pub(crate) fn of(
-        stealer: Stealer<Block, Global, Tally, EachOnce>,
-        pass: Pass<Block, Tally>,
+        stealer: Stealer<Block, Global, Ledger, EachOnce>,
+        pass: Pass<Block, Ledger>,
     ) -> Thief
         requires own_deque { IsPassOf (stealer_deque stealer) pass }
         requires in_order { stealer_flavor stealer ≡ 0 }
         requires has_part { 0 < (view pass).parts }
-        ensures { (thief_deque result ≡ stealer_deque stealer) × (thief_tally result ≡ view pass) }
+        ensures { (thief_deque result ≡ stealer_deque stealer) × (thief_ledger result ≡ view pass) }
     {
         Thief { stealer, pass }
     }
 
-    pub(crate) fn into_pass(self) -> Pass<Block, Tally>
-        ensures pass { IsPassOf (thief_deque self) result × (view result ≡ thief_tally self) }
+    pub(crate) fn into_pass(self) -> Pass<Block, Ledger>
+        ensures pass { IsPassOf (thief_deque self) result × (view result ≡ thief_ledger self) }
     {
         let Thief { stealer: _, pass } = self;
         pass
@@ -36,9 +36,9 @@ impl Thief {
     pub fn take<W: Wait>(&mut self, rt: &W) -> Option<Block>
         ensures same { thief_deque self.new ≡ thief_deque self.old }
         ensures taken { MatchOption result
-            (thief_tally self.new ≡ thief_tally self.old)
-            (λ block. Takes (thief_tally self.old) (block ∷ []) (thief_tally self.new)) }
-        ensures within { IfSome result (IsWithin (thief_tally self.old) (thief_tally self.new)) }
+            (thief_ledger self.new ≡ thief_ledger self.old)
+            (λ block. Takes (thief_ledger self.old) (block ∷ []) (thief_ledger self.new)) }
+        ensures within { IfSome result (IsWithin (thief_ledger self.old) (thief_ledger self.new)) }
     {
         for _ in rt.forever() {
             match self.stealer.steal_as::<Took>(&mut self.pass) {

@@ -2,7 +2,7 @@
 use Rattle.std.specs.Prelude.{ℕ, Option, None, Some}
 use Rattle.rule_machine.specs.declared.act.Act.{Act}
 use Rattle.rule_machine.specs.declared.act.Act.TheVariants.{Update, Marry, Seduce, Abandon}
-use Rattle.rule_machine.specs.declared.moved.Moved.{Moved}
+use Rattle.rule_machine.specs.declared.act.Moved.{Moved}
 use Rattle.rudekpi_c.specs.declared.row.Row.{Row}
 
 -- a name, or 0 for none

@@ -3,7 +3,7 @@
 ghost use Rattle.std.specs.Prelude.{◌≡◌};
 ghost use Rattle.rule_engine.specs.Costs.{cost_of};
 ghost use Rattle.rule_machine.specs.State.{partner, pointer_of};
-ghost use Rattle.line_run.specs.Line.{moment_of, progress, CommandEnds};
+ghost use Rattle.line_run.specs.Line.{moment_of, progress_of, CommandEnds};
 ghost use Rattle.rule_machine.specs.declared.reply.Reply.TheVariants.{Accepted};
 ghost use Rattle.script_text.specs.declared.command.Command.TheVariants.{Tell, Checkpoint};
 ghost use Rattle.rudekpi_c.specs.Called.{number_at, reply_kept};
@@ -19,9 +19,9 @@ use step_log::Answer;
 
 /// Carries out an event, and keeps the answer to it, or none where it is no entry.
 fn tell<R: Rules>(run: &mut Run<R>, event: &Event, answer: &mut Answer) -> Result<bool, Want>
-    ensures ends { CommandEnds R.table run.old.recorder.limit (Tell event.now) (progress run.old.rules run.old.recorder run.old.text.items) (progress run.new.rules run.new.recorder run.new.text.items) result }
+    ensures ends { CommandEnds R.table run.old.recorder.limit (Tell event.now) (progress_of run.old) (progress_of run.new) result }
     ensures number { answer.new.seq ≡ number_at (Tell event.now) run.new.recorder.len result }
-    ensures reply { answer.new.reply ≡ reply_kept R.table (Tell event.now) (progress run.old.rules run.old.recorder run.old.text.items) result }
+    ensures reply { answer.new.reply ≡ reply_kept R.table (Tell event.now) (progress_of run.old) result }
     ensures limit { run.new.recorder.limit ≡ run.old.recorder.limit }
 {
     match run.log(event, None, &mut answer.reply) {
@@ -66,9 +66,9 @@ pub(crate) fn follow<R: Rules>(
     command: &Command,
     answer: &mut Answer,
 ) -> Result<bool, Want>
-    ensures ends { CommandEnds R.table run.old.recorder.limit command.now (progress run.old.rules run.old.recorder run.old.text.items) (progress run.new.rules run.new.recorder run.new.text.items) result }
+    ensures ends { CommandEnds R.table run.old.recorder.limit command.now (progress_of run.old) (progress_of run.new) result }
     ensures number { answer.new.seq ≡ number_at command.now run.new.recorder.len result }
-    ensures reply { answer.new.reply ≡ reply_kept R.table command.now (progress run.old.rules run.old.recorder run.old.text.items) result }
+    ensures reply { answer.new.reply ≡ reply_kept R.table command.now (progress_of run.old) result }
     ensures limit { run.new.recorder.limit ≡ run.old.recorder.limit }
 {
     match command {
@@ -93,7 +93,7 @@ pub(crate) fn follow<R: Rules>(
 
 /// Adds the lines of a base.
 fn checkpoint<R: Rules>(run: &mut Run<R>) -> Result<bool, Want>
-    ensures ends { CommandEnds R.table run.old.recorder.limit Checkpoint (progress run.old.rules run.old.recorder run.old.text.items) (progress run.new.rules run.new.recorder run.new.text.items) result }
+    ensures ends { CommandEnds R.table run.old.recorder.limit Checkpoint (progress_of run.old) (progress_of run.new) result }
     ensures limit { run.new.recorder.limit ≡ run.old.recorder.limit }
 {
     run.checkpoint()?;

@@ -9,7 +9,7 @@ use Rattle.rule_machine.specs.Network.{present, without_edge}
 use Rattle.rule_machine.specs.State.{State, IsState}
 use Rattle.rule_machine.specs.RuleTable.{RuleTable, acts, rule_at, enabled_names}
 use Rattle.rule_machine.specs.Disturbance.{after_link}
-use Rattle.rule_set.specs.Near.{SameAt}
+use Rattle.rule_set.specs.Target.{SameAt}
 use Rattle.machine_laws.specs.Enabled.{quiet_at, act_none}
 use Rattle.enabled_set.specs.Members.{is_in, members}
 use Rattle.rule_engine.specs.Kept.{is_on, AreOn, IsKept}

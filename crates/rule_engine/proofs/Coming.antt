@@ -6,7 +6,7 @@ use Rattle.rule_machine.specs.Network.{Network, IsNetwork, present, with_node}
 use Rattle.rule_machine.specs.State.{State, IsState}
 use Rattle.rule_machine.specs.RuleTable.{RuleTable, rule_at}
 use Rattle.rule_machine.specs.Disturbance.{after_join}
-use Rattle.rule_set.specs.Near.{SameAt}
+use Rattle.rule_set.specs.Target.{SameAt}
 use Rattle.machine_laws.specs.Edges.{present_other}
 use Rattle.machine_laws.specs.Keeps.{join_keeps}
 use Rattle.net_state.specs.Held.{without_place}

@@ -4,7 +4,7 @@ use Rattle.std.proofs.lemmas.List.Sums.{count_by-le-length, length-filter}
 use Rattle.std.proofs.lemmas.Nat.{mul-le}
 use Rattle.rule_machine.specs.Network.{Network, names, neighbours, linked, node_count, edge_count, edge_list}
 use Rattle.rule_machine.specs.State.{State, is_unanswered}
-use Rattle.rule_set.specs.Ends.{ends_open}
+use Rattle.rule_set.specs.Standing.{ends_open}
 use Rattle.charge_laws.specs.Charged.{charge_bound}
 use Rattle.charge_laws.specs.Counting.{sum_add}
 use Rattle.indexed_state.specs.Shares.{node_part}

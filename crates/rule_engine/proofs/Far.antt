@@ -7,7 +7,7 @@ use Rattle.std.proofs.lemmas.Map.Views.{tells_apart}
 use Rattle.rule_machine.specs.Network.{Network, pair_cmp, edge, linked, names, neighbours, with_edge, without_edge}
 use Rattle.rule_machine.specs.State.{State}
 use Rattle.rule_machine.specs.Disturbance.{after_link}
-use Rattle.rule_set.specs.Near.{SameAt}
+use Rattle.rule_set.specs.Target.{SameAt}
 use Rattle.machine_laws.specs.Edges.{pair_exact, contains-insert, contains-remove, edge_ends}
 
 -- the pair of an edge between other nodes is another pair

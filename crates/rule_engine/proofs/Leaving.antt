@@ -6,7 +6,7 @@ use Rattle.std.proofs.lemmas.List.{length-set, get_or-set_same, get_or-set_other
 use Rattle.rule_machine.specs.Network.{present, neighbours}
 use Rattle.rule_machine.specs.State.{State, IsState}
 use Rattle.rule_machine.specs.RuleTable.{RuleTable}
-use Rattle.rule_set.specs.Near.{SameAt}
+use Rattle.rule_set.specs.Target.{SameAt}
 use Rattle.machine_laws.specs.Edges.{present_other}
 use Rattle.net_state.specs.Held.{without_place}
 use Rattle.machine_laws.specs.Neighbours.{present_range}

@@ -6,7 +6,7 @@ use Rattle.indexed_state.specs.Indexed.{Indexed}
 use Rattle.rule_machine.specs.declared.choice.Item.{Item}
 use Rattle.rule_machine.specs.declared.event.Event.{Event}
 use Rattle.rule_machine.specs.declared.event.Event.TheVariants.{Step}
-use Rattle.rule_machine.specs.declared.moved.Moved.{Moved}
+use Rattle.rule_machine.specs.declared.act.Moved.{Moved}
 use Rattle.rule_machine.specs.declared.reply.Reply.{Reply}
 use Rattle.rule_machine.specs.declared.reply.Reply.TheVariants.{Refused, Moves}
 use Rattle.rule_machine.specs.declared.refusal.Refusal.{Refusal}

@@ -3,7 +3,7 @@ use Rattle.std.specs.Prelude.{◌≡◌, ℕ, ◌+◌, Bool, true, false, ◌&&�
 use Rattle.std.specs.List.{list_any, filter_map}
 use Rattle.std.specs.Option.{option_or}
 use Rattle.rule_machine.specs.declared.choice.Item.{Item}
-use Rattle.rule_machine.specs.declared.moved.Moved.{Moved}
+use Rattle.rule_machine.specs.declared.act.Moved.{Moved}
 use Rattle.rule_machine.specs.declared.verdict.Verdict.{Verdict}
 use Rattle.rule_machine.specs.declared.verdict.Outcome.{Outcome}
 use Rattle.rule_machine.specs.declared.verdict.Outcome.TheVariants as outcome

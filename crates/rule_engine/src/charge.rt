@@ -5,7 +5,7 @@ ghost use Rattle.charge_laws.specs.Charged.{charge_bound};
 ghost use Rattle.rule_machine.specs.Answer.{spent_after};
 ghost use Rattle.rule_machine.specs.Network.{names, edge_list};
 ghost use Rattle.rule_machine.specs.Stable.{mutual_pairs};
-ghost use Rattle.rule_set.specs.Ends.{ends_open};
+ghost use Rattle.rule_set.specs.Standing.{ends_open};
 ghost use Rattle.indexed_state.specs.Shares.{node_part};
 
 use graph_store::{EdgeStore, MAX_EDGES};

@@ -6,8 +6,8 @@ ghost use Rattle.rule_engine.specs.Choosing.{moves_by};
 ghost use Rattle.rule_engine.specs.Marks.{Ascend};
 
 use crate::guard::outcome;
-use crate::judge::accepted;
 use crate::moves::Gathered;
+use crate::taking::accepted;
 use indexed_state::IndexedState;
 use rule_machine::{Item, Refusal};
 use rule_set::Rules;

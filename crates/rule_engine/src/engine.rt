@@ -27,10 +27,10 @@ use crate::edits::{
     refused_unlink,
 };
 use crate::guard::{outcome, put_reply_to_one, rule_enabled, take_items};
-use crate::judge::{refused_size, take_verdicts};
 use crate::listing::{enabled_rules, mutual_edges};
 use crate::look::{look_after_write, look_at, look_at_target};
 use crate::moves::{Gathered, step_reply};
+use crate::taking::{refused_size, take_verdicts};
 use enabled_set::EnabledSet;
 use graph_store::{EdgeStore, GraphFault};
 use indexed_state::IndexedState;

@@ -9,8 +9,8 @@ ghost use Rattle.rule_engine.specs.Choosing.{IsToldOf, moves_by};
 ghost use Rattle.rule_engine.specs.Marks.{AreClear, AreMarks, is_named};
 
 use crate::climbing::{ascend, take_ascending};
-use crate::judge::{Taken, accepted, take_outcome};
 use crate::moves::Gathered;
+use crate::taking::{Taken, accepted, take_outcome};
 use enabled_set::EnabledSet;
 use indexed_state::IndexedState;
 use rule_machine::{Act, Item, Listing, Moved, Node, Outcome, Refusal, Reply};

@@ -23,11 +23,11 @@ mod cost;
 mod edits;
 mod engine;
 mod guard;
-mod judge;
 mod listing;
 mod look;
 mod moves;
 mod net;
+mod taking;
 
 pub use enabled_set::EnabledSet;
 pub use graph_store::{Edge, GraphFault, Node};

@@ -1,7 +1,7 @@
 -- Bases: what is left of a run where its older entries are dropped; and logs in which bases stand among entries.
 use Rattle.std.specs.Prelude.{◌≡◌, ℕ, ◌+◌, ◌≤◌, false, List, [], ◌∷◌, map, Option, None, Some}
-use Rattle.rule_machine.specs.declared.epoch.Start.{Start}
-use Rattle.rule_machine.specs.declared.epoch.Start.TheVariants.{At, Forgotten}
+use Rattle.rule_machine.specs.declared.base.Start.{Start}
+use Rattle.rule_machine.specs.declared.base.Start.TheVariants.{At, Forgotten}
 use Rattle.rule_machine.specs.declared.base.Place.{Place}
 use Rattle.rule_machine.specs.declared.base.Base.{Base}
 use Rattle.rule_machine.specs.Network.{Network, names, edge_list}

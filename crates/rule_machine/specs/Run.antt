@@ -1,8 +1,8 @@
 -- Runs: what a log of events and replies says of the machine.
 use Rattle.std.specs.Prelude.{◌≡◌, ℕ, ◌+◌, List, [], ◌∷◌, ◌++◌, length, refl}
 use Rattle.std.specs.Coded.{Coded, code_by, coded×, coded_ℕ}
-use Rattle.rule_machine.specs.declared.epoch.Start.{Start}
-use Rattle.rule_machine.specs.declared.epoch.Start.TheVariants.{At}
+use Rattle.rule_machine.specs.declared.base.Start.{Start}
+use Rattle.rule_machine.specs.declared.base.Start.TheVariants.{At}
 use Rattle.rule_machine.specs.declared.event.Event.{Event}
 use Rattle.rule_machine.specs.declared.reply.Reply.{Reply}
 use Rattle.rule_machine.specs.declared.reply.Reply.TheVariants.{Accepted, Refused, Moves, Shown, EnabledAre, Pairs, Counts}

@@ -4,7 +4,7 @@ use Rattle.std.specs.List.Sorted.{IsStrictlyIncreasing}
 use Rattle.rule_machine.specs.declared.act.Act.{Act}
 use Rattle.rule_machine.specs.declared.act.Act.TheVariants.{Update, Marry, Seduce, Abandon}
 use Rattle.rule_machine.specs.declared.choice.Item.{Item}
-use Rattle.rule_machine.specs.declared.moved.Moved.{Moved}
+use Rattle.rule_machine.specs.declared.act.Moved.{Moved}
 use Rattle.rule_machine.specs.State.{State, Registers, with_pointer, with_flag, married}
 use Rattle.rule_machine.specs.RuleTable.{RuleTable, rule_at}
 

@@ -1,4 +1,4 @@
-//! What is left of a run where its older entries are dropped.
+//! What a log may begin with, and where an epoch begins.
 
 use crate::{Edge, Listing, Node};
 
@@ -24,4 +24,13 @@ pub struct Base {
     pub nodes: Listing<Place>,
     /// The edges, by rising lower ends, and those of one lower end by rising higher ends.
     pub edges: Listing<Edge>,
+}
+
+/// Where the entries between two accepted disturbances begin.
+#[derive(Clone, Copy, Debug, PartialEq, Eq)]
+pub enum Start {
+    /// Behind the entry with this number, an accepted disturbance; 0 where the run begins.
+    At(u32),
+    /// Before the base from which on entries are kept.
+    Forgotten,
 }

@@ -1,5 +1,3 @@
-pub mod Near
 pub mod Glance
 pub mod Target
 pub mod Standing
-pub mod Ends

@@ -1,7 +1,8 @@
--- What the charge looks at, at a node.
-use Rattle.std.specs.Prelude.{◌≡◌, ℕ}
+-- What the charge looks at, at a node and at the ends of an edge.
+use Rattle.std.specs.Prelude.{◌≡◌, ℕ, Bool, not, ◌&&◌}
 use Rattle.rule_machine.specs.State.{State, pointer, flag, married, has_suitor}
 use Rattle.rule_set.specs.declared.standing.Standing.{Standing}
+use Rattle.rule_machine.specs.Charge.{is_courted}
 
 -- it says of its node what a state has there
 pub record IsStanding (s : State) (it : Standing) : Type 0 where
@@ -16,3 +17,9 @@ pub record IsSameStanding (s u : State) (v : ℕ) : Type 0 where
   pub flagged : flag s v ≡ flag u v
   pub paired : married s v ≡ married u v
   pub courted : has_suitor s v ≡ has_suitor u v
+
+-- an edge is open by what its ends are: neither is married, and, where courted nodes close the edges between them, not
+-- both are courted
+abbrev pub ends_open : Bool → State → ℕ × ℕ → Bool
+ends_open courted_close s e =
+    not (married s e.0) && not (married s e.1) && not (courted_close && (is_courted s e.0 && is_courted s e.1))

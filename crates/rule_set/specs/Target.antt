@@ -1,9 +1,21 @@
--- The target that a node's rule takes.
-use Rattle.std.specs.Prelude.{ℕ, Option, None, Some, option_and_then, if◌then◌else◌}
+-- What is shown at a node, the registers of the node and of its neighbours, and the target that its rule takes.
+use Rattle.std.specs.Prelude.{ℕ, Option, None, Some, option_and_then, if◌then◌else◌, ◌≡◌, ◌⊎◌, IsTrue}
 use Rattle.rule_machine.specs.declared.act.Act.{Act}
-use Rattle.rule_machine.specs.State.{State}
+use Rattle.rule_machine.specs.State.{State, pointer, flag}
 use Rattle.rule_machine.specs.RuleTable.{RuleTable, rule_at, least_target}
 pub use Rattle.rule_machine.specs.Step.{takes_target}
+use Rattle.rule_machine.specs.Network.{linked, neighbours}
+
+-- w is v or a neighbour of v
+abbrev pub IsNear : State → ℕ → ℕ → Type 0
+IsNear s v w = (w ≡ v) ⊎ IsTrue (linked s.network v w)
+
+-- two states show the same at v
+pub record SameAt (s u : State) (v : ℕ) : Type 0 where
+  pub neighbours : neighbours s.network v ≡ neighbours u.network v
+  pub linked : (w : ℕ) → linked s.network v w ≡ linked u.network v w
+  pub pointers : (w : ℕ) → IsNear s v w → pointer s w ≡ pointer u w
+  pub flags : (w : ℕ) → IsNear s v w → flag s w ≡ flag u w
 
 -- the wish if the rule allows it, and else none; with no wish the least allowed target, if the rule takes one
 abbrev pub target_by : RuleTable → State → ℕ → Option ℕ → Act → Option (Option ℕ)

@@ -4,8 +4,7 @@ use Rattle.std.proofs.lemmas.List.Sums.{sum_by-cons}
 use Rattle.rule_machine.specs.Network.{names, edge_list}
 use Rattle.rule_machine.specs.State.{State, IsState, pointer, holds_at, is_unanswered}
 use Rattle.rule_machine.specs.Charge.{hsu_huang_charge}
-use Rattle.rule_set.specs.Ends.{ends_open}
-use Rattle.rule_set.specs.Standing.{IsSameStanding}
+use Rattle.rule_set.specs.Standing.{ends_open, IsSameStanding}
 use Rattle.charge_laws.specs.ClosedByPointers.{hsu_huang_closes, hsu_huang_split}
 
 abbrev pub nothing : State → ℕ → ℕ

@@ -5,7 +5,7 @@ use Rattle.rule_machine.specs.declared.act.Act.TheVariants.{Update, Marry, Seduc
 use Rattle.rule_machine.specs.State.{State, IsState, pointer, points, is_at, holds_at, has_suitor}
 use Rattle.rule_machine.specs.RuleTable.{rule_at, is_open, first_open}
 use Rattle.rule_machine.specs.HsuHuang.{hsu_huang, hsu_huang_opens}
-use Rattle.rule_set.specs.Near.{SameAt}
+use Rattle.rule_set.specs.Target.{SameAt}
 use Rattle.rule_set.specs.Glance.{SameGlance}
 use Rattle.machine_laws.specs.Shown.{same_find, same_pointer, same_suitor}
 use Rattle.machine_laws.specs.Pointers.{pointer_linked}

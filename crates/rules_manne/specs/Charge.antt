@@ -4,8 +4,7 @@ use Rattle.std.proofs.lemmas.Bool.{and_right, true≢false}
 use Rattle.rule_machine.specs.Network.{names, edge_list}
 use Rattle.rule_machine.specs.State.{State, IsState, pointer, flag, holds_at, is_unanswered, married}
 use Rattle.rule_machine.specs.Charge.{manne_node_charge, manne_charge}
-use Rattle.rule_set.specs.Ends.{ends_open}
-use Rattle.rule_set.specs.Standing.{IsSameStanding, IsStanding}
+use Rattle.rule_set.specs.Standing.{ends_open, IsSameStanding, IsStanding}
 use Rattle.rule_set.specs.declared.standing.Standing.{Standing}
 use Rattle.machine_laws.specs.Pointers.{married_from, married_some}
 use Rattle.charge_laws.specs.Counting.{count_agree}

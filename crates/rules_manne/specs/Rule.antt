@@ -7,7 +7,7 @@ use Rattle.rule_machine.specs.Network.{neighbours}
 use Rattle.rule_machine.specs.State.{State, IsState, pointer, flag, points, is_at, holds_at, has_suitor, is_settled}
 use Rattle.rule_machine.specs.RuleTable.{rule_at}
 use Rattle.rule_machine.specs.Manne.{manne, manne_opens, may_court}
-use Rattle.rule_set.specs.Near.{SameAt}
+use Rattle.rule_set.specs.Target.{SameAt}
 use Rattle.rule_set.specs.Glance.{SameGlance}
 use Rattle.machine_laws.specs.Shown.{same_find, same_pointer, same_suitor, same_married}
 use Rattle.machine_laws.specs.Pointers.{pointer_linked}

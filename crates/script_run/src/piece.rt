@@ -4,7 +4,7 @@ ghost use Rattle.std.specs.Prelude.{◌≡◌, ◌<◌, ◌≤◌, ◌+◌, ◌^
 ghost use Rattle.script_text.specs.Script.{Progress, lines_of};
 ghost use Rattle.script_run.specs.declared.stop.End.TheVariants.{Whole, Unread};
 ghost use Rattle.script_run.specs.Halted.{Halts, Hands};
-ghost use Rattle.line_run.specs.Line.{progress};
+ghost use Rattle.line_run.specs.Line.{progress_of};
 ghost use Rattle.script_run.specs.Line.{LineEnds};
 ghost use Rattle.script_run.specs.Place.{Stands, PieceEnds};
 
@@ -32,7 +32,7 @@ impl<R: Rules + Sync> Run<R> {
         end: &[u8],
     ) -> Result<Option<Stop>, Want>
         requires { place.old.lines + 1 < 2 ^ 64 }
-        ensures ends { LineEnds R.table self.old.line.recorder.limit (place.old.lines + 1) (place.old.begun.items ++ end.now) (progress self.old.line.rules self.old.line.recorder self.old.line.text.items) (progress self.new.line.rules self.new.line.recorder self.new.line.text.items) result }
+        ensures ends { LineEnds R.table self.old.line.recorder.limit (place.old.lines + 1) (place.old.begun.items ++ end.now) (progress_of self.old.line) (progress_of self.new.line) result }
         ensures limit { self.new.line.recorder.limit ≡ self.old.line.recorder.limit }
         ensures lines { OnOk result (place.new.lines ≡ place.old.lines + 1) }
         ensures begun { OnOk result (place.new.begun.items ≡ []) }
@@ -60,8 +60,8 @@ impl<R: Rules + Sync> Run<R> {
     ) -> Result<Option<End>, OutputFault>
         requires { place.old.lines + length place.old.begun.items + length piece.now < 2 ^ 64 }
         ensures piece { (start : Progress) (old : Option (List ℕ)) (read : List ℕ)
-            → Stands R.table self.old.line.recorder.limit start old read place.old.begun.items piece.now place.old.lines (progress self.old.line.rules self.old.line.recorder self.old.line.text.items) (Out.contents writer.old)
-            → PieceEnds R.table self.old.line.recorder.limit start old read place.new.begun.items place.new.lines (progress self.new.line.rules self.new.line.recorder self.new.line.text.items) (Out.contents writer.new) result }
+            → Stands R.table self.old.line.recorder.limit start old read place.old.begun.items piece.now place.old.lines (progress_of self.old.line) (Out.contents writer.old)
+            → PieceEnds R.table self.old.line.recorder.limit start old read place.new.begun.items place.new.lines (progress_of self.new.line) (Out.contents writer.new) result }
         ensures stops { IfOk result (λ end. IfSome end (λ how. how ≡ Whole → ⊥)) }
         ensures reads { IfOk result (λ end. IfSome end (λ how. how ≡ Unread → ⊥)) }
         ensures room { IfOk result (λ end. IsNone end → place.new.lines + length place.new.begun.items ≤ place.old.lines + length place.old.begun.items + length piece.now) }
@@ -97,7 +97,7 @@ impl<R: Rules + Sync> Run<R> {
         requires { place.now.lines + 1 < 2 ^ 64 }
         ensures reads { result ≡ Unread → ⊥ }
         ensures last { (start : Progress) (old known : Option (List ℕ)) (read : List ℕ)
-            → Stands R.table self.old.line.recorder.limit start old read place.now.begun.items [] place.now.lines (progress self.old.line.rules self.old.line.recorder self.old.line.text.items) known
+            → Stands R.table self.old.line.recorder.limit start old read place.now.begun.items [] place.now.lines (progress_of self.old.line) known
             → Halts R.table self.old.line.recorder.limit (lines_of read) start result (λ text. Hands old known text self.new.line.text.items) }
         ensures limit { self.new.line.recorder.limit ≡ self.old.line.recorder.limit }
     {

@@ -8,7 +8,7 @@ ghost use Rattle.byte_streams.specs.Beginning.{AppendsBeginning};
 ghost use Rattle.byte_streams.specs.Ended.{IsEnded};
 ghost use Rattle.script_run.specs.Halted.{Halts, Hands, answered};
 ghost use Rattle.line_run.specs.Beginning.{beginning};
-ghost use Rattle.line_run.specs.Line.{progress};
+ghost use Rattle.line_run.specs.Line.{progress_of};
 ghost use Rattle.script_run.specs.Line.{CommandGrows, LineEnds};
 ghost use Rattle.script_run.specs.declared.stop.End.TheVariants.{Whole, Unread};
 ghost use Rattle.script_run.specs.Outcome.{Ends, LeadsTo};
@@ -40,7 +40,7 @@ pub struct Run<R: Rules> {
 
 impl<R: Rules> Run<R> {
     fn new(alloc: Global, options: &Options) -> Result<Run<R>, Want>
-        ensures begins { IfOk result (λ run. progress run.line.rules run.line.recorder run.line.text.items ≡ beginning options.now.rules options.now.nodes options.now.present) }
+        ensures begins { IfOk result (λ run. progress_of run.line ≡ beginning options.now.rules options.now.nodes options.now.present) }
         ensures limit { IfOk result (λ run. run.line.recorder.limit ≡ options.now.limit) }
     {
         let (nodes, present) = (options.nodes(), options.present());
@@ -61,7 +61,7 @@ impl<R: Rules + Sync> Run<R> {
         line: &[u8],
     ) -> Result<bool, Want>
         requires { Says line.now command.now }
-        ensures ends { CommandGrows R.table self.old.line.recorder.limit command.now (progress self.old.line.rules self.old.line.recorder self.old.line.text.items) (progress self.new.line.rules self.new.line.recorder self.new.line.text.items) result }
+        ensures ends { CommandGrows R.table self.old.line.recorder.limit command.now (progress_of self.old.line) (progress_of self.new.line) result }
         ensures limit { self.new.line.recorder.limit ≡ self.old.line.recorder.limit }
     {
         match command {
@@ -80,7 +80,7 @@ impl<R: Rules + Sync> Run<R> {
         number: u64,
         line: &[u8],
     ) -> Result<Option<Stop>, Want>
-        ensures ends { LineEnds R.table self.old.line.recorder.limit number line.now (progress self.old.line.rules self.old.line.recorder self.old.line.text.items) (progress self.new.line.rules self.new.line.recorder self.new.line.text.items) result }
+        ensures ends { LineEnds R.table self.old.line.recorder.limit number line.now (progress_of self.old.line) (progress_of self.new.line) result }
         ensures limit { self.new.line.recorder.limit ≡ self.old.line.recorder.limit }
     {
         if line.is_empty() {
@@ -111,7 +111,7 @@ impl<R: Rules + Sync> Run<R> {
         number: u64,
         line: &[u8],
     ) -> Result<Option<Stop>, Want>
-        ensures ends { LineEnds R.table self.old.line.recorder.limit number line.now (progress self.old.line.rules self.old.line.recorder self.old.line.text.items) (progress self.new.line.rules self.new.line.recorder self.new.line.text.items) result }
+        ensures ends { LineEnds R.table self.old.line.recorder.limit number line.now (progress_of self.old.line) (progress_of self.new.line) result }
         ensures limit { self.new.line.recorder.limit ≡ self.old.line.recorder.limit }
     {
         if self.workers > 1 && line.len() >= WIDE {
@@ -136,10 +136,10 @@ impl<R: Rules + Sync> Run<R> {
         writer: &mut Out,
     ) -> Result<End, OutputFault>
         ensures ok { IfOk result (λ end. IfSome (In.remaining reader.old.reader) (λ script.
-            Halts R.table self.old.line.recorder.limit (lines_of script) (progress self.old.line.rules self.old.line.recorder self.old.line.text.items) end
+            Halts R.table self.old.line.recorder.limit (lines_of script) (progress_of self.old.line) end
             (λ text. Hands (Out.contents writer.old) (Out.contents writer.new) text self.new.line.text.items))) }
         ensures fault { OnErr result (IfSome (In.remaining reader.old.reader) (λ script. (end : Progress)
-            × LeadsTo R.table self.old.line.recorder.limit (lines_of script) (progress self.old.line.rules self.old.line.recorder self.old.line.text.items) end
+            × LeadsTo R.table self.old.line.recorder.limit (lines_of script) (progress_of self.old.line) end
             × AppendsBeginning (Out.contents writer.old) (Out.contents writer.new) end.text)) }
         ensures read { IfOk result (λ end. end ≡ Whole → IsAtEnd (In.remaining reader.new.reader)) }
         ensures unread { IfOk result (λ end. end ≡ Unread → IsEnded reader.new.failed reader.new.count) }

@@ -3,7 +3,7 @@
 ghost use Rattle.std.specs.Prelude.{◌≡◌, ◌<◌, IsOk, IsTrue};
 ghost use Rattle.rule_machine.specs.declared.event.Event.TheVariants.{Step};
 ghost use Rattle.line_text.specs.EventText.{event_text};
-ghost use Rattle.line_run.specs.Line.{progress};
+ghost use Rattle.line_run.specs.Line.{progress_of};
 ghost use Rattle.script_run.specs.Line.{StepEnds};
 
 use crate::paying_workers;
@@ -37,7 +37,7 @@ impl<R: Rules + Sync> Run<R> {
         line: &[u8],
     ) -> Result<bool, Want>
         requires { line.now ≡ event_text (Step choice.now) }
-        ensures ends { StepEnds R.table self.old.line.recorder.limit (Step choice.now) (progress self.old.line.rules self.old.line.recorder self.old.line.text.items) (progress self.new.line.rules self.new.line.recorder self.new.line.text.items) result }
+        ensures ends { StepEnds R.table self.old.line.recorder.limit (Step choice.now) (progress_of self.old.line) (progress_of self.new.line) result }
         ensures full { self.old.line.recorder.len ≡ self.old.line.recorder.limit → IsOk result }
         ensures limit { self.new.line.recorder.limit ≡ self.old.line.recorder.limit }
     {

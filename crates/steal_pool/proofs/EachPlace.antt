@@ -5,9 +5,9 @@ use Rattle.std.specs.List.{sum_by, range_with_len}
 use Rattle.std.proofs.lemmas.List.{map-append}
 use Rattle.std.proofs.lemmas.List.Sums.{sum_by-append, sum_by_push}
 use Rattle.place_deque.specs.declared.block.Block.{Block}
-use Rattle.place_deque.specs.declared.end.End.{End}
-use Rattle.place_deque.specs.declared.tally.Tally.{Tally}
-use Rattle.place_deque.specs.Tallies.{tally, places, places_in, ArePlaces, AreAllPlaces}
+use Rattle.place_deque.specs.declared.end.DequeEnd.{DequeEnd}
+use Rattle.place_deque.specs.declared.ledger.Ledger.{Ledger}
+use Rattle.place_deque.specs.Ledgers.{ledger, places, places_in, ArePlaces, AreAllPlaces}
 use Rattle.place_deque.specs.Ends.{end_taken, AreJoined}
 use Rattle.rule_machine.specs.declared.choice.Item.{Item}
 use Rattle.rule_machine.specs.declared.verdict.Verdict.{Verdict}
@@ -15,8 +15,8 @@ use Rattle.rule_machine.specs.State.{State}
 use Rattle.rule_machine.specs.RuleTable.{RuleTable}
 use Rattle.rule_engine.specs.Choosing.{verdicts_of}
 use Rattle.steal_pool.specs.declared.hand.Hand.{Hand}
-use Rattle.steal_pool.specs.declared.hand.Share.{Share}
-use Rattle.steal_pool.specs.Hands.{hand_number, share_taken, all_taken, AreOf, AreJudged}
+use Rattle.steal_pool.specs.declared.hand.Judged.{Judged}
+use Rattle.steal_pool.specs.Hands.{hand_number, judged_places, all_taken, AreOf, AreJudged}
 use Rattle.steal_pool.specs.Once.{times, StandOnce, AllStandOnce, places_of}
 use Rattle.steal_pool.proofs.Laying.{more_numbers, place_from}
 
@@ -55,36 +55,36 @@ no_item [] verdicts are = refl
 no_item (p ∷ ps) [] are = absurd cc
 no_item (p ∷ ps) (v ∷ vs) are = absurd cc
 
-none_taken : (t : RuleTable) (s : State) (shares : List Share) → All (AreJudged t s []) shares → all_taken shares ≡ []
+none_taken : (t : RuleTable) (s : State) (shares : List Judged) → All (AreJudged t s []) shares → all_taken shares ≡ []
 none_taken t s [] all = refl
 none_taken t s (x ∷ xs) all =
-    ap (λ (l : List ℕ). l ++ all_taken xs) (no_item (share_taken x) _ (all 0 x (omega arith))) ∙ none_taken t s xs (λ k d within. all (suc k) d (omega arith))
+    ap (λ (l : List ℕ). l ++ all_taken xs) (no_item (judged_places x) _ (all 0 x (omega arith))) ∙ none_taken t s xs (λ k d within. all (suc k) d (omega arith))
 
-pub none_stand : (t : RuleTable) (s : State) (items : List Item) (shares : List Share) → length items ≡ 0 → All (AreJudged t s items) shares → AllStandOnce (length items) (all_taken shares ++ [])
+pub none_stand : (t : RuleTable) (s : State) (items : List Item) (shares : List Judged) → length items ≡ 0 → All (AreJudged t s items) shares → AllStandOnce (length items) (all_taken shares ++ [])
 none_stand t s [] shares none all = all_stand 0 (all_taken shares ++ []) (λ h. omega (arith, ap (sum_by h) (none_taken t s shares all), sum_by-append h (all_taken shares) []))
 none_stand t s (i ∷ is) shares none all = absurd (omega (arith, none))
 
 -- what was taken by one share more
-last_taken : (h : ℕ → ℕ) (xs : List Share) (x : Share) → sum_by h (all_taken (xs ++ x ∷ [])) ≡ sum_by h (all_taken xs) + sum_by h (share_taken x)
-last_taken h [] x = omega (arith, sum_by-append h (share_taken x) [])
-last_taken h (y ∷ ys) x = omega (arith, last_taken h ys x, sum_by-append h (share_taken y) (all_taken ys), sum_by-append h (share_taken y) (all_taken (ys ++ x ∷ [])))
+last_taken : (h : ℕ → ℕ) (xs : List Judged) (x : Judged) → sum_by h (all_taken (xs ++ x ∷ [])) ≡ sum_by h (all_taken xs) + sum_by h (judged_places x)
+last_taken h [] x = omega (arith, sum_by-append h (judged_places x) [])
+last_taken h (y ∷ ys) x = omega (arith, last_taken h ys x, sum_by-append h (judged_places y) (all_taken ys), sum_by-append h (judged_places y) (all_taken (ys ++ x ∷ [])))
 
 -- the end of one share more
-pub moves_taken : (h : ℕ → ℕ) (ends ends' : List End) (shares rest all : List Share) (share : Share) → ends' ≡ ends ++ share.end ∷ [] → shares ≡ rest ++ share ∷ [] → sum_by (λ e. sum_by h (end_taken e)) ends + sum_by h (all_taken shares) ≡ sum_by h (all_taken all) → sum_by (λ e. sum_by h (end_taken e)) ends' + sum_by h (all_taken rest) ≡ sum_by h (all_taken all)
+pub moves_taken : (h : ℕ → ℕ) (ends ends' : List DequeEnd) (shares rest all : List Judged) (share : Judged) → ends' ≡ ends ++ share.end ∷ [] → shares ≡ rest ++ share ∷ [] → sum_by (λ e. sum_by h (end_taken e)) ends + sum_by h (all_taken shares) ≡ sum_by h (all_taken all) → sum_by (λ e. sum_by h (end_taken e)) ends' + sum_by h (all_taken rest) ≡ sum_by h (all_taken all)
 moves_taken h ends ends' shares rest all share more less same =
-    let weigh : End → ℕ = λ e. sum_by h (end_taken e) in
+    let weigh : DequeEnd → ℕ = λ e. sum_by h (end_taken e) in
     let to : sum_by weigh ends' ≡ sum_by weigh ends + weigh share.end = ap (sum_by weigh) more ∙ sum_by_push weigh ends share.end in
-    let from : sum_by h (all_taken shares) ≡ sum_by h (all_taken rest) + sum_by h (share_taken share) = ap (λ l. sum_by h (all_taken l)) less ∙ last_taken h rest share in
+    let from : sum_by h (all_taken shares) ≡ sum_by h (all_taken rest) + sum_by h (judged_places share) = ap (λ l. sum_by h (all_taken l)) less ∙ last_taken h rest share in
     omega arith
 
 -- what is taken once all shares are joined, and what they took, are all places
-pub all_merged : (count : ℕ) (shares : List Share) (ends : List End) (v : Tally) (left : List ℕ) → AreJoined count ends v → ((h : ℕ → ℕ) → sum_by (λ e. sum_by h (end_taken e)) ends ≡ sum_by h (all_taken shares)) → AreAllPlaces count (v.taken ++ left) → AllStandOnce count (all_taken shares ++ left)
+pub all_merged : (count : ℕ) (shares : List Judged) (ends : List DequeEnd) (v : Ledger) (left : List ℕ) → AreJoined count ends v → ((h : ℕ → ℕ) → sum_by (λ e. sum_by h (end_taken e)) ends ≡ sum_by h (all_taken shares)) → AreAllPlaces count (v.taken ++ left) → AllStandOnce count (all_taken shares ++ left)
 all_merged count shares ends v left joined same all = all_stand count (all_taken shares ++ left) (λ h. omega (arith, joined.taken h, same h, all h, sum_by-append h v.taken left, sum_by-append h (all_taken shares) left))
 
 -- one block more behind those that were taken since
-pub took_more : (first left : List ℕ) (v w : Tally) (block : Block) → w ≡ tally v.parts v.count (v.taken ++ places_in (block ∷ [])) → v.taken ≡ first ++ left → w.taken ≡ first ++ (left ++ places_in (block ∷ []))
+pub took_more : (first left : List ℕ) (v w : Ledger) (block : Block) → w ≡ ledger v.parts v.count (v.taken ++ places_in (block ∷ [])) → v.taken ≡ first ++ left → w.taken ≡ first ++ (left ++ places_in (block ∷ []))
 took_more first left v w block took before =
-    ap (λ (u : Tally). u.taken) took ∙ ap (λ (l : List ℕ). l ++ places_in (block ∷ [])) before ∙ append_assoc first left (places_in (block ∷ []))
+    ap (λ (u : Ledger). u.taken) took ∙ ap (λ (l : List ℕ). l ++ places_in (block ∷ [])) before ∙ append_assoc first left (places_in (block ∷ []))
 
 -- one hand more, with the next number
 pub one_numbered : (hands hands' : List Hand) (hand : Hand) → hands' ≡ hands ++ hand ∷ [] → hand_number hand ≡ length hands → map hand_number hands ≡ range_with_len 0 (length hands) → map hand_number hands' ≡ range_with_len 0 (length hands')

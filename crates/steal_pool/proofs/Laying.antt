@@ -7,10 +7,10 @@ use Rattle.std.proofs.lemmas.List.FromFn.{length-range_with_len}
 use Rattle.std.proofs.lemmas.List.Sums.{sum_by-append, sum_by-cons, sum_by_push}
 use Rattle.std.proofs.lemmas.List.Elements.{All-nil, All-cons, All-append, All-take, All-drop}
 use Rattle.place_deque.specs.declared.block.Block.{Block}
-use Rattle.place_deque.specs.Tallies.{tally, Takes, KnowsAll, AreAllPlaces, block_places, places_in}
+use Rattle.place_deque.specs.Ledgers.{ledger, Takes, KnowsAll, AreAllPlaces, block_places, places_in}
 use Rattle.std.proofs.lemmas.List.{map-append, append-nil, length-map, take-append-drop}
 use lib.Seq.{take-append_seam, drop-append_seam}
-use Rattle.place_deque.specs.declared.tally.Tally.{Tally}
+use Rattle.place_deque.specs.declared.ledger.Ledger.{Ledger}
 use Rattle.place_deque.specs.Ends.{Hold, AreAllEnds}
 use Rattle.place_deque.proofs.Joinings.{moved}
 use Rattle.place_deque.proofs.Balances.{has_place, one_block}
@@ -20,8 +20,8 @@ use Rattle.rule_machine.specs.State.{State}
 use Rattle.rule_machine.specs.RuleTable.{RuleTable}
 use Rattle.rule_engine.specs.Choosing.{verdict_of, verdicts_from, verdicts_of}
 use Rattle.steal_pool.specs.declared.hand.Hand.{Hand}
-use Rattle.steal_pool.specs.declared.hand.Share.{Share}
-use Rattle.steal_pool.specs.Hands.{hand_hold, share_hold, AreOf}
+use Rattle.steal_pool.specs.declared.hand.Judged.{Judged}
+use Rattle.steal_pool.specs.Hands.{hand_hold, judged_hold, AreOf}
 use Rattle.steal_pool.specs.Laid.{laid, Fit, at_place, taken_in, IsRight}
 
 -- as many verdicts as items
@@ -178,9 +178,9 @@ writes_one all table times first place verdict from is below r =
     omega (arith, sum_by_push (at_place k) (range_with_len first (place - first)) place)) r below
 
 -- what was taken, with one block more
-pub takes_block : (v w : Tally) (block : Block) → w ≡ tally v.parts v.count (v.taken ++ places_in (block ∷ [])) → (k : ℕ) → taken_in w k ≡ taken_in v k + sum_by (at_place k) (block_places block)
+pub takes_block : (v w : Ledger) (block : Block) → w ≡ ledger v.parts v.count (v.taken ++ places_in (block ∷ [])) → (k : ℕ) → taken_in w k ≡ taken_in v k + sum_by (at_place k) (block_places block)
 takes_block v w block took k =
-    let all : sum_by (at_place k) w.taken ≡ sum_by (at_place k) (v.taken ++ places_in (block ∷ [])) = ap (λ (u : Tally). sum_by (at_place k) u.taken) took in
+    let all : sum_by (at_place k) w.taken ≡ sum_by (at_place k) (v.taken ++ places_in (block ∷ [])) = ap (λ (u : Ledger). sum_by (at_place k) u.taken) took in
     let one : sum_by (at_place k) (places_in (block ∷ [])) ≡ sum_by (at_place k) (block_places block) = ap (sum_by (at_place k)) (one_block block) in
     omega (arith, sum_by-append (at_place k) v.taken (places_in (block ∷ [])))
 
@@ -192,10 +192,10 @@ pub as_long : {X Y : Type 0} → (xs xs' : List X) (ys ys' : List Y) (x : X) (y 
 as_long xs xs' ys ys' x y more less size = omega (arith, ap length more, ap length less, length-append xs (x ∷ []), length-append ys' (y ∷ []))
 
 -- whoever has the whole and found nothing knows that all places were taken
-pub all_known : (v : Tally) (count : ℕ) → v.parts ≡ 64 → v.count ≡ count → KnowsAll v → AreAllPlaces count v.taken
+pub all_known : (v : Ledger) (count : ℕ) → v.parts ≡ 64 → v.count ≡ count → KnowsAll v → AreAllPlaces count v.taken
 all_known v count whole is knows = subst (λ (n : ℕ). AreAllPlaces n v.taken) is (knows whole)
 
-pub finds_none : (v w : Tally) (result : Option Block) → result ≡ None → MatchOption result ((w ≡ v) × KnowsAll v) (λ block. Takes v (block ∷ []) w) → KnowsAll v
+pub finds_none : (v w : Ledger) (result : Option Block) → result ≡ None → MatchOption result ((w ≡ v) × KnowsAll v) (λ block. Takes v (block ∷ []) w) → KnowsAll v
 finds_none v w None none told = told.1
 finds_none v w (Some block) none told = absurd cc
 
@@ -205,9 +205,9 @@ unmapped f P [] all = All-nil (λ x. P (f x))
 unmapped f P (x ∷ xs) all = All-cons (λ y. P (f y)) x xs (all 0 (f x) (omega arith)) (unmapped f P xs (λ k d within. all (suc k) d (omega arith)))
 
 -- both halves of a list of hands
-pub halves_held : (k : ℕ) (hands low high : List Hand) (ours theirs shares : List Share) → low ≡ take k hands → high ≡ drop k hands → map share_hold ours ≡ map hand_hold low → map share_hold theirs ≡ map hand_hold high → shares ≡ ours ++ theirs → map share_hold shares ≡ map hand_hold hands
+pub halves_held : (k : ℕ) (hands low high : List Hand) (ours theirs shares : List Judged) → low ≡ take k hands → high ≡ drop k hands → map judged_hold ours ≡ map hand_hold low → map judged_hold theirs ≡ map hand_hold high → shares ≡ ours ++ theirs → map judged_hold shares ≡ map hand_hold hands
 halves_held k hands low high ours theirs shares first second mine other all =
-    ap (map share_hold) all ∙ map-append share_hold ours theirs ∙ ap (λ l. l ++ map share_hold theirs) mine ∙ ap (λ l. map hand_hold low ++ l) other ∙ sym (map-append hand_hold low high) ∙ ap (λ l. map hand_hold (l ++ high)) first ∙ ap (λ l. map hand_hold (take k hands ++ l)) second ∙ ap (map hand_hold) (take-append-drop k hands)
+    ap (map judged_hold) all ∙ map-append judged_hold ours theirs ∙ ap (λ l. l ++ map judged_hold theirs) mine ∙ ap (λ l. map hand_hold low ++ l) other ∙ sym (map-append hand_hold low high) ∙ ap (λ l. map hand_hold (l ++ high)) first ∙ ap (λ l. map hand_hold (take k hands ++ l)) second ∙ ap (map hand_hold) (take-append-drop k hands)
 
-pub halves_judged : (P : Share → Type 0) (ours theirs shares : List Share) → All P ours → All P theirs → shares ≡ ours ++ theirs → All P shares
+pub halves_judged : (P : Judged → Type 0) (ours theirs shares : List Judged) → All P ours → All P theirs → shares ≡ ours ++ theirs → All P shares
 halves_judged P ours theirs shares mine other all = subst (All P) (sym all) (All-append P ours theirs mine other)

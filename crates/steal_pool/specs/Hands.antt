@@ -7,7 +7,7 @@ use Rattle.rule_machine.specs.State.{State}
 use Rattle.rule_machine.specs.RuleTable.{RuleTable}
 use Rattle.rule_engine.specs.Choosing.{verdicts_of}
 use Rattle.steal_pool.specs.declared.hand.Hand.{Hand}
-use Rattle.steal_pool.specs.declared.hand.Share.{Share}
+use Rattle.steal_pool.specs.declared.hand.Judged.{Judged}
 
 -- which deque a hand is an end of, how many places were put on that, and its part of the whole
 abbrev pub hand_hold : Hand → Hold
@@ -17,25 +17,25 @@ hand_hold hand = end_hold hand.end
 abbrev pub hand_number : Hand → ℕ
 hand_number hand = hand.worker
 
-abbrev pub share_hold : Share → Hold
-share_hold share = end_hold share.end
+abbrev pub judged_hold : Judged → Hold
+judged_hold share = end_hold share.end
 
 -- the places that the worker took, in that order
-abbrev pub share_taken : Share → List ℕ
-share_taken share = end_taken share.end
+abbrev pub judged_places : Judged → List ℕ
+judged_places share = end_taken share.end
 
 -- the places that the workers of these shares took, one worker's behind another's
-abbrev pub all_taken : List Share → List ℕ
+abbrev pub all_taken : List Judged → List ℕ
 all_taken [] = []
-all_taken (share ∷ shares) = share_taken share ++ all_taken shares
+all_taken (share ∷ shares) = judged_places share ++ all_taken shares
 
-abbrev pub share_verdicts : Share → List Verdict
-share_verdicts share = share.verdicts.items
+abbrev pub judged_verdicts : Judged → List Verdict
+judged_verdicts share = share.verdicts.items
 
 -- these verdicts are those at these places, of all
 abbrev pub AreOf : List Verdict → List ℕ → List Verdict → Type 0
 AreOf all places verdicts = map Some verdicts ≡ map (slice_get all) places
 
 -- the share has the verdict of each place that was taken, and no other
-abbrev pub AreJudged : RuleTable → State → List Item → Share → Type 0
-AreJudged t s items share = AreOf (verdicts_of t s items) (share_taken share) (share_verdicts share)
+abbrev pub AreJudged : RuleTable → State → List Item → Judged → Type 0
+AreJudged t s items share = AreOf (verdicts_of t s items) (judged_places share) (judged_verdicts share)

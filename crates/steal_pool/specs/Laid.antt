@@ -1,8 +1,8 @@
 -- Verdicts that are laid out by place.
 use Rattle.std.specs.Prelude.{◌≡◌, ℕ, ◌+◌, ◌-◌, ◌<◌, List, [], ◌∷◌, length, slice_get, slice_set, All}
 use Rattle.std.specs.List.{sum_by}
-use Rattle.place_deque.specs.declared.tally.Tally.{Tally}
-use Rattle.place_deque.specs.declared.end.End.{End}
+use Rattle.place_deque.specs.declared.ledger.Ledger.{Ledger}
+use Rattle.place_deque.specs.declared.end.DequeEnd.{DequeEnd}
 use Rattle.place_deque.specs.Ends.{end_taken}
 use Rattle.rule_machine.specs.declared.verdict.Verdict.{Verdict}
 
@@ -20,10 +20,10 @@ abbrev pub at_place : ℕ → ℕ → ℕ
 at_place k y = 1 - ((y - k) + (k - y))
 
 -- how often a place was taken, by these ends or by whoever knows this
-abbrev pub taken_by : List End → ℕ → ℕ
+abbrev pub taken_by : List DequeEnd → ℕ → ℕ
 taken_by ends k = sum_by (λ e. sum_by (at_place k) (end_taken e)) ends
 
-abbrev pub taken_in : Tally → ℕ → ℕ
+abbrev pub taken_in : Ledger → ℕ → ℕ
 taken_in v k = sum_by (at_place k) v.taken
 
 -- the table has as many places as there are verdicts in all, and at each place that was taken the one that stands there

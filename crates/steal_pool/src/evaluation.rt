@@ -4,10 +4,10 @@ ghost use Rattle.std.specs.Prelude.{◌≡◌, ◌<◌, ◌≤◌, length, map, 
 ghost use Rattle.std.specs.Thread.{IsSync};
 ghost use Rattle.rule_engine.specs.Choosing.{verdicts_of};
 ghost use Rattle.steal_pool.specs.Faults.{Explains};
-ghost use Rattle.steal_pool.specs.Hands.{hand_hold, share_hold, AreJudged};
+ghost use Rattle.steal_pool.specs.Hands.{hand_hold, judged_hold, AreJudged};
 
 use crate::dealing::{MAX_WORKERS, deal};
-use crate::{Gate, Hand, PoolFault, Share, merge};
+use crate::{Gate, Hand, Judged, PoolFault, merge};
 use rule_engine::{Choice, Net, Rules, Verdict, Want};
 use std::alloc::Global;
 use std::sync::Wait;
@@ -84,9 +84,9 @@ fn work_all<R: Rules + Sync, G: Gate + Sync, T: Threads + Wait + Sync>(
     choice: &Choice,
     gate: &G,
     mut low: Vec<Hand>,
-) -> Result<Vec<Share>, Want>
+) -> Result<Vec<Judged>, Want>
     requires { All (λ hand. (hand_hold hand).count ≡ length choice.now) low.items }
-    ensures hold { IfOk result (λ shares. map share_hold shares.items ≡ map hand_hold low.items) }
+    ensures hold { IfOk result (λ shares. map judged_hold shares.items ≡ map hand_hold low.items) }
     ensures judged { IfOk result (λ shares. All (AreJudged R.table net.now.state choice.now) shares.items) }
 {
     if low.len() < 2 {
@@ -95,13 +95,13 @@ fn work_all<R: Rules + Sync, G: Gate + Sync, T: Threads + Wait + Sync>(
     let high = low.split_off(low.len() / 2)?;
     let (ours, theirs) = join(
         rt,
-        move || -> Result<Vec<Share>, Want>
+        move || -> Result<Vec<Judged>, Want>
             requires { IsSync T.row × IsSync G.row × IsSync R.row × All (λ hand. (hand_hold hand).count ≡ length choice.now) low.items }
-            ensures { IfOk result (λ shares. (map share_hold shares.items ≡ map hand_hold low.items) × All (AreJudged R.table net.entry.now.state choice.entry.now) shares.items) }
+            ensures { IfOk result (λ shares. (map judged_hold shares.items ≡ map hand_hold low.items) × All (AreJudged R.table net.entry.now.state choice.entry.now) shares.items) }
         { work_all(rt, net, choice, gate, low) },
-        move || -> Result<Vec<Share>, Want>
+        move || -> Result<Vec<Judged>, Want>
             requires { IsSync T.row × IsSync G.row × IsSync R.row × All (λ hand. (hand_hold hand).count ≡ length choice.now) high.items }
-            ensures { IfOk result (λ shares. (map share_hold shares.items ≡ map hand_hold high.items) × All (AreJudged R.table net.entry.now.state choice.entry.now) shares.items) }
+            ensures { IfOk result (λ shares. (map judged_hold shares.items ≡ map hand_hold high.items) × All (AreJudged R.table net.entry.now.state choice.entry.now) shares.items) }
         { work_all(rt, net, choice, gate, high) },
     );
     let mut shares = ours?;
@@ -117,10 +117,10 @@ fn work_first<R: Rules, G: Gate, W: Wait>(
     choice: &Choice,
     gate: &G,
     mut hands: Vec<Hand>,
-) -> Result<Vec<Share>, Want>
+) -> Result<Vec<Judged>, Want>
     requires few { length hands.items < 2 }
     requires choice { All (λ hand. (hand_hold hand).count ≡ length choice.now) hands.items }
-    ensures hold { IfOk result (λ shares. map share_hold shares.items ≡ map hand_hold hands.items) }
+    ensures hold { IfOk result (λ shares. map judged_hold shares.items ≡ map hand_hold hands.items) }
     ensures judged { IfOk result (λ shares. All (AreJudged R.table net.now.state choice.now) shares.items) }
 {
     let mut shares = Vec::new(*hands.allocator());

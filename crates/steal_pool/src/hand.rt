@@ -4,7 +4,7 @@ ghost use Rattle.std.specs.Prelude.{◌≡◌, []};
 ghost use Rattle.place_deque.specs.Ends.{end_hold, end_taken};
 ghost use Rattle.steal_pool.specs.Once.{StandOnce, places_of};
 
-use place_deque::End;
+use place_deque::DequeEnd;
 use rule_engine::Verdict;
 use std::alloc::Global;
 
@@ -13,14 +13,14 @@ use std::alloc::Global;
 pub struct Hand {
     pub(crate) alloc: Global,
     pub(crate) worker: u32,
-    pub(crate) end: End,
+    pub(crate) end: DequeEnd,
     ghost fresh: { end_taken end ≡ [] },
 }
 
 /// What one worker took from the deque, each place judged once, with its end.
 #[derive(Drop)]
-pub struct Share {
-    pub(crate) end: End,
+pub struct Judged {
+    pub(crate) end: DequeEnd,
     pub(crate) verdicts: Vec<Verdict>,
     ghost taken: { places_of verdicts.items ≡ end_taken end },
     ghost once: { StandOnce (end_hold end).count (places_of verdicts.items) },

@@ -2,15 +2,15 @@
 
 ghost use Rattle.std.specs.Prelude.{◌≡◌, ◌<◌, ◌≤◌, ◌+◌, ℕ, List, ◌++◌, length, map, All, IfOk};
 ghost use Rattle.std.specs.List.{sum_by};
-ghost use Rattle.place_deque.specs.Ends.{end_hold, end_taken, owner_tally, AreAllEnds};
-ghost use Rattle.place_deque.specs.Tallies.{block_places, AreAllPlaces};
+ghost use Rattle.place_deque.specs.Ends.{end_hold, end_taken, owner_ledger, AreAllEnds};
+ghost use Rattle.place_deque.specs.Ledgers.{block_places, AreAllPlaces};
 ghost use Rattle.rule_engine.specs.Choosing.{verdicts_of};
-ghost use Rattle.steal_pool.specs.Hands.{all_taken, share_hold, AreJudged};
+ghost use Rattle.steal_pool.specs.Hands.{all_taken, judged_hold, AreJudged};
 ghost use Rattle.steal_pool.specs.Laid.{at_place, laid, Fit, IsRight, taken_by, taken_in};
 ghost use Rattle.steal_pool.specs.Once.{AllStandOnce};
 
-use crate::Share;
-use place_deque::{Block, End, Owner, gather};
+use crate::Judged;
+use place_deque::{Block, DequeEnd, Owner, gather};
 use rule_engine::{Choice, Net, Outcome, Rules, Verdict, Want};
 use std::alloc::Global;
 
@@ -19,11 +19,11 @@ use std::alloc::Global;
 /// or here, so none is missing and none is doubled. At want of memory the shares are used up.
 pub fn merge<R: Rules>(
     alloc: Global,
-    shares: Vec<Share>,
+    shares: Vec<Judged>,
     net: &Net<R>,
     choice: &Choice,
 ) -> Result<Vec<Verdict>, Want>
-    requires all { AreAllEnds (length choice.now) (map share_hold shares.items) }
+    requires all { AreAllEnds (length choice.now) (map judged_hold shares.items) }
     requires judged { All (AreJudged R.table net.now.state choice.now) shares.items }
     ensures verdicts { IfOk result (λ verdicts. verdicts.items ≡ verdicts_of R.table net.now.state choice.now) }
     ensures places { IfOk result (λ _. (left : List ℕ) × AllStandOnce (length choice.now) (all_taken shares.items ++ left)) }
@@ -46,13 +46,13 @@ pub fn merge<R: Rules>(
 // Writes the verdicts of all shares at their places, and gives the ends of the shares.
 fn lay_out<R: Rules>(
     alloc: Global,
-    mut shares: Vec<Share>,
+    mut shares: Vec<Judged>,
     net: &Net<R>,
     choice: &Choice,
     table: &mut [Verdict],
-) -> Result<Vec<End>, Want>
+) -> Result<Vec<DequeEnd>, Want>
     requires size { length table.old ≡ length choice.now }
-    requires all { AreAllEnds (length choice.now) (map share_hold shares.items) }
+    requires all { AreAllEnds (length choice.now) (map judged_hold shares.items) }
     requires judged { All (AreJudged R.table net.now.state choice.now) shares.items }
     ensures all { IfOk result (λ ends. AreAllEnds (length choice.now) (map end_hold ends.items)) }
     ensures right { IfOk result (λ ends. IsRight (verdicts_of R.table net.now.state choice.now) table.new (taken_by ends.items)) }
@@ -60,7 +60,7 @@ fn lay_out<R: Rules>(
 {
     let mut ends = Vec::with_capacity(alloc, shares.len())?;
     while let Some(share) = shares.pop() {
-        let Share { end, verdicts } = share;
+        let Judged { end, verdicts } = share;
         lay(table, &verdicts);
         ends.push(end)?;
     }
@@ -79,11 +79,11 @@ fn lay(table: &mut [Verdict], verdicts: &[Verdict])
 
 // Takes the blocks that are left on the deque and judges them.
 fn judge_left<R: Rules>(mut owner: Owner, net: &Net<R>, choice: &Choice, table: &mut [Verdict])
-    requires whole { (owner_tally owner).parts ≡ 64 }
-    requires count { (owner_tally owner).count ≡ length choice.now }
-    requires right { IsRight (verdicts_of R.table net.now.state choice.now) table.old (taken_in (owner_tally owner)) }
+    requires whole { (owner_ledger owner).parts ≡ 64 }
+    requires count { (owner_ledger owner).count ≡ length choice.now }
+    requires right { IsRight (verdicts_of R.table net.now.state choice.now) table.old (taken_in (owner_ledger owner)) }
     ensures verdicts { table.new ≡ verdicts_of R.table net.now.state choice.now }
-    ensures places { (left : List ℕ) × AreAllPlaces (length choice.now) ((owner_tally owner).taken ++ left) }
+    ensures places { (left : List ℕ) × AreAllPlaces (length choice.now) ((owner_ledger owner).taken ++ left) }
 {
     while let Some(block) = owner.take() {
         write_block(net, choice, block, table);

@@ -1,12 +1,12 @@
 //! What a worker does.
 
 ghost use Rattle.std.specs.Prelude.{◌≡◌, ◌≤◌, ◌+◌, ◌-◌, ℕ, List, ◌++◌, length, IfOk, vec_capacity};
-ghost use Rattle.place_deque.specs.Tallies.{block_places};
+ghost use Rattle.place_deque.specs.Ledgers.{block_places};
 ghost use Rattle.rule_engine.specs.Choosing.{verdicts_of};
-ghost use Rattle.steal_pool.specs.Hands.{hand_hold, share_hold, share_taken, share_verdicts, AreJudged, AreOf};
+ghost use Rattle.steal_pool.specs.Hands.{hand_hold, judged_hold, judged_places, judged_verdicts, AreJudged, AreOf};
 ghost use Rattle.steal_pool.specs.Once.{StandOnce, places_of};
 
-use crate::{Gate, Hand, Share};
+use crate::{Gate, Hand, Judged};
 use place_deque::Block;
 use rule_engine::{Choice, Net, Rules, Verdict, Want};
 use std::sync::Wait;
@@ -22,11 +22,11 @@ impl Hand {
         net: &Net<R>,
         choice: &Choice,
         gate: &G,
-    ) -> Result<Share, Want>
+    ) -> Result<Judged, Want>
         requires choice { (hand_hold self).count ≡ length choice.now }
-        ensures hold { IfOk result (λ share. share_hold share ≡ hand_hold self) }
+        ensures hold { IfOk result (λ share. judged_hold share ≡ hand_hold self) }
         ensures judged { IfOk result (AreJudged R.table net.now.state choice.now) }
-        ensures once { IfOk result (λ share. StandOnce (length choice.now) (places_of (share_verdicts share))) }
+        ensures once { IfOk result (λ share. StandOnce (length choice.now) (places_of (judged_verdicts share))) }
     {
         let Hand {
             alloc,
@@ -39,7 +39,7 @@ impl Hand {
         }
         // what is left of the room goes back at once, so that the next list need not ask the system for more
         verdicts.shrink_to_fit();
-        Ok(Share { end, verdicts })
+        Ok(Judged { end, verdicts })
     }
 }
 
@@ -64,12 +64,12 @@ fn judge_block<R: Rules, G: Gate, W: Wait>(
     }
 }
 
-impl Share {
+impl Judged {
     /// What `Net::verdict` gives for each place that the worker took, once, in the order in which it took them, and no other.
     pub fn verdicts(&self) -> &[Verdict]
-        ensures verdicts { result.now ≡ share_verdicts self.now }
-        ensures taken { places_of result.now ≡ share_taken self.now }
-        ensures once { StandOnce (share_hold self.now).count (places_of result.now) }
+        ensures verdicts { result.now ≡ judged_verdicts self.now }
+        ensures taken { places_of result.now ≡ judged_places self.now }
+        ensures once { StandOnce (judged_hold self.now).count (places_of result.now) }
     {
         &self.verdicts
     }

@@ -13,7 +13,7 @@ use Rattle.machine_laws.specs.Accepted.{state_after_keeps}
 use Rattle.step_log.specs.Recording.{Recording, IsRecording}
 
 -- with one more entry it is one
-pub entered_is_recording : (t : RuleTable) → IsTable t → (r : Recording) → IsRecording r → r.len < r.limit → (event : Event) (m : Moment) → m ≡ moment_after t (record { state = r.state; spent = r.spent }) event → IsRecording (record { state = m.state; spent = m.spent; len = r.len + 1; limit = r.limit; first = r.first })
+pub entered_is_recording : (t : RuleTable) → IsTable t → (r : Recording) → IsRecording r → r.len < r.limit → (event : Event) (m : Moment) → m ≡ moment_after t (record { state = r.state; spent = r.spent }) event → IsRecording (record { state = m.state; spent = m.spent; len = r.len + 1; limit = r.limit; present = r.present })
 entered_is_recording t table r is below event m after = record {
   is_state = subst (λ (n : Moment). IsState n.state) (sym after) (state_after_keeps t table r.state is.is_state event);
   room = omega (arith, below);

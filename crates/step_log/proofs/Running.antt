@@ -1,8 +1,8 @@
 -- One more entry at the end of what a journal keeps, and a checkpoint.
 use Rattle.std.proofs.Common.{◌≡◌, ℕ, ◌+◌, ◌<◌, ◌≤◌, true, List, [], ◌∷◌, ◌++◌, length, map, Some, refl, sym, ap, ap₂, ◌∙◌, subst, arith}
 use Rattle.std.proofs.lemmas.List.{length-append}
-use Rattle.rule_machine.specs.declared.epoch.Start.{Start}
-use Rattle.rule_machine.specs.declared.epoch.Start.TheVariants.{At, Forgotten}
+use Rattle.rule_machine.specs.declared.base.Start.{Start}
+use Rattle.rule_machine.specs.declared.base.Start.TheVariants.{At, Forgotten}
 use Rattle.rule_machine.specs.declared.event.Event.{Event}
 use Rattle.rule_machine.specs.declared.reply.Reply.{Reply}
 use Rattle.rule_machine.specs.State.{IsState}
@@ -29,7 +29,7 @@ use Rattle.step_log.proofs.Telling.{told_add}
 -- what is kept ends in a state
 pub ends_in_state : (t : RuleTable) (weight : ℕ) → IsTable t → (kept : Kept) → IsKept t weight kept → IsState kept.state
 ends_in_state t weight table kept is =
-    runs_end_in_states t table is.start (begins_in_state t (charge_bound weight) kept.state.network.size kept.first kept.base is.start is.begins) kept.entries (moment_in kept) is.run
+    runs_end_in_states t table is.start (begins_in_state t (charge_bound weight) kept.state.network.size kept.present kept.base is.start is.begins) kept.entries (moment_in kept) is.run
 
 -- the reply to the event that comes next is of its kind
 pub next_fits : (t : RuleTable) (weight : ℕ) → IsTable t → (kept : Kept) → IsKept t weight kept → (event : Event) → fits event (reply_of t kept.state kept.spent event) ≡ true
@@ -53,7 +53,7 @@ kept_with_is_journal t weight table kept over begun is below event next are =
     record {
       is_kept = record {
         start = k.start;
-        begins = subst (λ (n : ℕ). BeginsAt t (charge_bound weight) n kept.first kept.base k.start) (sym size) k.begins;
+        begins = subst (λ (n : ℕ). BeginsAt t (charge_bound weight) n kept.present kept.base k.start) (sym size) k.begins;
         run = run_add t k.start m kept.entries entry after k.run answers;
         size = omega (arith, k.size, size);
         room = omega (arith, length-append kept.entries (entry ∷ []), below);
@@ -64,14 +64,14 @@ kept_with_is_journal t weight table kept over begun is below event next are =
     }
 
 -- a journal with the moment after the next event, with its entry and with what that makes of the epochs
-pub next_is_journal : (t : RuleTable) (weight : ℕ) → IsTable t → (kept : Kept) (over : List Epoch) (begun : Start) → IsJournal t weight kept over begun → last_number kept < kept.limit → (event : Event) (reply : Reply) (m : Moment) (entries : List Entry) (next : List Epoch) (now : Start) → reply ≡ reply_of t kept.state kept.spent event → m ≡ moment_after t (moment_in kept) event → entries ≡ kept.entries ++ (event, reply) ∷ [] → map of_run next ≡ map of_run over ++ ended_by reply (open_at begun (moment_in kept)) → now ≡ begun_by reply (last_number kept + 1) begun → IsJournal t weight (record { state = m.state; spent = m.spent; base = kept.base; entries = entries; limit = kept.limit; first = kept.first }) next now
+pub next_is_journal : (t : RuleTable) (weight : ℕ) → IsTable t → (kept : Kept) (over : List Epoch) (begun : Start) → IsJournal t weight kept over begun → last_number kept < kept.limit → (event : Event) (reply : Reply) (m : Moment) (entries : List Entry) (next : List Epoch) (now : Start) → reply ≡ reply_of t kept.state kept.spent event → m ≡ moment_after t (moment_in kept) event → entries ≡ kept.entries ++ (event, reply) ∷ [] → map of_run next ≡ map of_run over ++ ended_by reply (open_at begun (moment_in kept)) → now ≡ begun_by reply (last_number kept + 1) begun → IsJournal t weight (record { state = m.state; spent = m.spent; base = kept.base; entries = entries; limit = kept.limit; present = kept.present }) next now
 next_is_journal t weight table kept over begun is below event reply m entries next now replies after added ended starts =
     let before = moment_in kept in
     let held = added ∙ ap (λ (r : Reply). kept.entries ++ (event, r) ∷ []) replies in
     let over_is = ended ∙ ap (λ (r : Reply). map of_run over ++ ended_by r (open_at begun before)) replies in
     let now_is = starts ∙ ap (λ (r : Reply). begun_by r (last_number kept + 1) begun) replies in
-    subst (λ (k : Start). IsJournal t weight (record { state = m.state; spent = m.spent; base = kept.base; entries = entries; limit = kept.limit; first = kept.first }) next k) (sym now_is)
-    (subst (λ (l : Kept). IsJournal t weight l next (begun_by (reply_of t kept.state kept.spent event) (last_number kept + 1) begun)) (sym (ap₂ (λ (n : Moment) (es : List Entry). record { state = n.state; spent = n.spent; base = kept.base; entries = es; limit = kept.limit; first = kept.first }) after held))
+    subst (λ (k : Start). IsJournal t weight (record { state = m.state; spent = m.spent; base = kept.base; entries = entries; limit = kept.limit; present = kept.present }) next k) (sym now_is)
+    (subst (λ (l : Kept). IsJournal t weight l next (begun_by (reply_of t kept.state kept.spent event) (last_number kept + 1) begun)) (sym (ap₂ (λ (n : Moment) (es : List Entry). record { state = n.state; spent = n.spent; base = kept.base; entries = es; limit = kept.limit; present = kept.present }) after held))
     (kept_with_is_journal t weight table kept over begun is below event next over_is))
 
 -- with the base at which its network stands, and no entry
@@ -79,7 +79,7 @@ pub checkpointed_is_journal : (t : RuleTable) (weight : ℕ) → IsTable t → I
 checkpointed_is_journal t weight table charged flagless kept k short over none = record {
   is_kept = record {
     start = moment_in kept;
-    begins = may_begin_again t weight table charged flagless kept.state.network.size kept.first (last_number kept) kept.base k.start k.begins kept.entries (moment_in kept) k.run;
+    begins = may_begin_again t weight table charged flagless kept.state.network.size kept.present (last_number kept) kept.base k.start k.begins kept.entries (moment_in kept) k.run;
     run = refl;
     size = k.size;
     room = omega (arith, k.room);

@@ -2,7 +2,7 @@
 use Rattle.std.proofs.Common.{◌≡◌, ◌≢◌, ℕ, ◌+◌, ◌*◌, ◌≤◌, List, [], ◌∷◌, ◌++◌, length, map, All, append_assoc, refl, sym, ap, ap₂, ◌∙◌, subst, arith}
 use Rattle.std.proofs.lemmas.List.{append-nil, map-append, length-map}
 use Rattle.std.proofs.lemmas.List.Elements.{All-nil, All-cons, All-head, All-tail}
-use Rattle.rule_machine.specs.declared.epoch.Start.{Start}
+use Rattle.rule_machine.specs.declared.base.Start.{Start}
 use Rattle.rule_machine.specs.declared.event.Event.{Event}
 use Rattle.rule_machine.specs.declared.reply.Reply.{Reply}
 use Rattle.rule_machine.specs.declared.reply.Reply.TheVariants.{Accepted, Refused, Moves, Shown, EnabledAre, Pairs, Counts}
@@ -10,8 +10,7 @@ use Rattle.rule_machine.specs.Network.{node_count, edge_count}
 use Rattle.rule_machine.specs.State.{State}
 use Rattle.rule_machine.specs.RuleTable.{RuleTable}
 use Rattle.rule_machine.specs.Answer.{Answers, spent_after}
-use Rattle.rule_machine.specs.Run.{Entry, Moment, epochs_by, epochs_from, open_at}
-use Rattle.rule_machine.specs.Run.{Epoch as EpochOf}
+use Rattle.rule_machine.specs.Run.{Entry, Moment, epochs_by, epochs_from, open_at, Epoch as EpochOf}
 use Rattle.machine_laws.specs.LeastMoves.{IsTable}
 use Rattle.charge_laws.specs.Begun.{begins_in_state, begins_once, begins_within}
 use Rattle.charge_laws.specs.Charged.{charge_bound, IsCharged}
@@ -123,7 +122,7 @@ told_along t weight kept over begun is =
 pub told_epochs : (t : RuleTable) (weight : ℕ) (kept : Kept) (over : List Epoch) (begun : Start) → IsJournal t weight kept over begun → (epochs : List Epoch) → map of_run epochs ≡ map of_run over ++ open_at begun (moment_in kept) ∷ [] → AreEpochs t weight kept epochs
 told_epochs t weight kept over begun is epochs are = record {
   exact = λ start path begins same along.
-      let one : is.is_kept.start ≡ start = begins_once t (charge_bound weight) kept.state.network.size kept.first kept.base is.is_kept.start start is.is_kept.begins begins in
+      let one : is.is_kept.start ≡ start = begins_once t (charge_bound weight) kept.state.network.size kept.present kept.base is.is_kept.start start is.is_kept.begins begins in
       let along' : IsPath t is.is_kept.start path = subst (λ (m : Moment). IsPath t m path) (sym one) along in
       are ∙ told_along t weight kept over begun is
       ∙ ap₂ (λ (m : Moment) (p : List (Entry × State)). epochs_along kept m p) one (path_once t is.is_kept.start is.told.path path (is.told.entries ∙ sym same) is.told.is_path along');
@@ -138,8 +137,8 @@ told_epochs t weight kept over begun is epochs are = record {
 pub bounded_along : (t : RuleTable) (weight : ℕ) → IsTable t → IsCharged t weight → (kept : Kept) (start : Moment) (path : List (Entry × State)) → Begins t weight kept start → IsPath t start path → All (λ (e : EpochOf). e.moves ≤ 2 * e.edges + weight * e.nodes) (epochs_along kept start path)
 bounded_along t weight table charged kept start path begins along =
     epochs_are_bounded t weight table charged start
-    (begins_in_state t (charge_bound weight) kept.state.network.size kept.first kept.base start begins)
-    (begins_within t weight charged kept.state.network.size kept.first kept.base start begins)
+    (begins_in_state t (charge_bound weight) kept.state.network.size kept.present kept.base start begins)
+    (begins_within t weight charged kept.state.network.size kept.present kept.base start begins)
     (dropped kept.base + 1) (open_at (begun_at kept.base) start) (record { moves = refl; edges = refl; nodes = refl }) path along
 
 pub told_bounded : (t : RuleTable) (weight : ℕ) → IsTable t → IsCharged t weight → (kept : Kept) (over : List Epoch) (begun : Start) → IsJournal t weight kept over begun → (epochs : List Epoch) → map of_run epochs ≡ map of_run over ++ open_at begun (moment_in kept) ∷ [] → All (IsBounded weight) epochs

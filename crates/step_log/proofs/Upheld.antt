@@ -26,7 +26,7 @@ run_goes_on t start some rest middle end here run =
 -- whatever leads somewhere leads there from this beginning
 from_there : (t : RuleTable) (weight : ℕ) (kept : Kept) (start : Moment) → Begins t weight kept start → (entries : List Entry) (m : Moment) → LeadsTo t weight kept entries m → Run t start entries m
 from_there t weight kept start begins entries m (other, begins', run) =
-    subst (λ (n : Moment). Run t n entries m) (begins_once t (charge_bound weight) kept.state.network.size kept.first kept.base other start begins' begins) run
+    subst (λ (n : Moment). Run t n entries m) (begins_once t (charge_bound weight) kept.state.network.size kept.present kept.base other start begins' begins) run
 
 -- each beginning of what is kept leads to one moment
 pub leads_somewhere : (t : RuleTable) (weight : ℕ) (kept : Kept) → Upholds t weight kept → (before after : List Entry) → before ++ after ≡ kept.entries → (m : Moment) × LeadsTo t weight kept before m × ((n : Moment) → LeadsTo t weight kept before n → n ≡ m)
@@ -42,7 +42,7 @@ leads_somewhere t weight kept upholds before after same =
 pub upheld : (t : RuleTable) (weight : ℕ) → IsTable t → IsCharged t weight → ((s : State) → IsState s → enabled_names t s ≡ [] → IsStable t.flags s) → ((s : State) → IsState s → IsStable t.flags s → enabled_names t s ≡ []) → (kept : Kept) → IsKept t weight kept → Upholds t weight kept
 upheld t weight table charged settles rests kept is =
     let start = is.start in
-    let opened = begins_in_state t (charge_bound weight) kept.state.network.size kept.first kept.base start is.begins in
+    let opened = begins_in_state t (charge_bound weight) kept.state.network.size kept.present kept.base start is.begins in
     record {
       run = (start, is.begins, is.run);
       quiet = λ before after m same here.

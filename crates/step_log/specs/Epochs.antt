@@ -1,14 +1,13 @@
 -- The epochs of a log, and those that a journal keeps of them.
 use Rattle.std.specs.Prelude.{◌≡◌, ℕ, ◌+◌, ◌*◌, ◌≤◌, List, [], ◌∷◌, ◌++◌, map}
-use Rattle.rule_machine.specs.declared.epoch.Start.{Start}
-use Rattle.rule_machine.specs.declared.epoch.Start.TheVariants.{At}
+use Rattle.rule_machine.specs.declared.base.Start.{Start}
+use Rattle.rule_machine.specs.declared.base.Start.TheVariants.{At}
 use Rattle.rule_machine.specs.declared.reply.Reply.{Reply}
 use Rattle.rule_machine.specs.declared.reply.Reply.TheVariants.{Accepted}
 use Rattle.rule_machine.specs.State.{State}
 use Rattle.rule_machine.specs.RuleTable.{RuleTable}
 use Rattle.rule_machine.specs.Answer.{spent_after}
-use Rattle.rule_machine.specs.Run.{Entry, Moment, epochs_by, epochs_from, open_at}
-use Rattle.rule_machine.specs.Run.{Epoch as EpochOf}
+use Rattle.rule_machine.specs.Run.{Entry, Moment, epochs_by, epochs_from, open_at, Epoch as EpochOf}
 use Rattle.rule_machine.specs.Base.{begun_at, dropped}
 use Rattle.charge_laws.specs.Epochs.{IsPath}
 use Rattle.step_log.specs.declared.epoch.Epoch.{Epoch}

@@ -1,7 +1,7 @@
 -- A journal as contracts see it, and when an entry is prepared for it.
 use Rattle.std.specs.Prelude.{◌≡◌, ℕ, ◌+◌, ◌<◌, List, map, Option}
 use Rattle.rule_machine.specs.declared.base.Base.{Base}
-use Rattle.rule_machine.specs.declared.epoch.Start.{Start}
+use Rattle.rule_machine.specs.declared.base.Start.{Start}
 use Rattle.rule_machine.specs.declared.reply.Reply.TheVariants.{Accepted}
 use Rattle.rule_machine.specs.State.{State}
 use Rattle.rule_machine.specs.RuleTable.{RuleTable}
@@ -21,7 +21,7 @@ pub record Held : Type 0 where
   pub base : Option Base
   pub entries : List Entry
   pub limit : ℕ
-  pub first : ℕ
+  pub present : ℕ
   pub room : List ℕ
   pub spare : ℕ
   pub spare_epochs : ℕ
@@ -29,11 +29,11 @@ pub record Held : Type 0 where
 -- what it keeps alone
 abbrev pub kept_of : Held → Kept
 kept_of held =
-    record { state = held.state; spent = held.spent; base = held.base; entries = held.entries; limit = held.limit; first = held.first }
+    record { state = held.state; spent = held.spent; base = held.base; entries = held.entries; limit = held.limit; present = held.present }
 
 -- the log, where nothing was dropped
 abbrev pub log_of : Held → Log
-log_of held = record { state = held.state; spent = held.spent; entries = held.entries; limit = held.limit; first = held.first }
+log_of held = record { state = held.state; spent = held.spent; entries = held.entries; limit = held.limit; present = held.present }
 
 -- its network
 abbrev pub net_of : Held → NetView

@@ -19,7 +19,7 @@ pub record Kept : Type 0 where
   pub base : Option Base
   pub entries : List Entry
   pub limit : ℕ
-  pub first : ℕ
+  pub present : ℕ
 
 -- where its network is
 abbrev pub moment_in : Kept → Moment
@@ -31,7 +31,7 @@ last_number kept = dropped kept.base + length kept.entries
 
 -- where its entries begin
 abbrev pub Begins : RuleTable → ℕ → Kept → Moment → Type 0
-Begins t weight kept start = BeginsAt t (charge_bound weight) kept.state.network.size kept.first kept.base start
+Begins t weight kept start = BeginsAt t (charge_bound weight) kept.state.network.size kept.present kept.base start
 
 -- a base that a graph can have
 abbrev pub IsShort : Option Base → Type 0
@@ -51,12 +51,12 @@ pub record IsKept (t : RuleTable) (weight : ℕ) (kept : Kept) : Type 0 where
 -- what is kept of a log of which nothing was dropped
 abbrev pub whole : Log → Kept
 whole log =
-    record { state = log.state; spent = log.spent; base = None; entries = log.entries; limit = log.limit; first = log.first }
+    record { state = log.state; spent = log.spent; base = None; entries = log.entries; limit = log.limit; present = log.present }
 
 -- the log, where nothing was dropped
 abbrev pub log_in : Kept → Log
 log_in kept =
-    record { state = kept.state; spent = kept.spent; entries = kept.entries; limit = kept.limit; first = kept.first }
+    record { state = kept.state; spent = kept.spent; entries = kept.entries; limit = kept.limit; present = kept.present }
 
 -- the event with the reply to it
 abbrev pub next_entry : RuleTable → Kept → Event → Entry
@@ -71,7 +71,7 @@ kept_with t kept event =
       base = kept.base;
       entries = kept.entries ++ next_entry t kept event ∷ [];
       limit = kept.limit;
-      first = kept.first;
+      present = kept.present;
     }
 
 -- what the caller is told of it
@@ -88,5 +88,5 @@ checkpointed kept =
       base = Some (base_of (last_number kept) (moment_in kept));
       entries = [];
       limit = kept.limit;
-      first = kept.first;
+      present = kept.present;
     }

@@ -15,19 +15,19 @@ pub record Log : Type 0 where
   pub spent : ℕ
   pub entries : List Entry
   pub limit : ℕ
-  pub first : ℕ
+  pub present : ℕ
 
 -- the entries are a run of the machine from the opening state to the state and what is spent, and they are not too many
 pub record IsLog (t : RuleTable) (log : Log) : Type 0 where
-  pub run : Run t (beginning_with log.state.network.size log.first) log.entries (record { state = log.state; spent = log.spent })
+  pub run : Run t (beginning_with log.state.network.size log.present) log.entries (record { state = log.state; spent = log.spent })
   pub size : log.state.network.size ≤ 65535
   pub room : length log.entries ≤ log.limit
   pub limit : log.limit ≤ max_entries
 
 -- the log before any event, with the first of the names present, so many
 abbrev pub empty_log_with : ℕ → ℕ → ℕ → Log
-empty_log_with size first limit =
-    record { state = opening_with size first; spent = 0; entries = []; limit = limit; first = first }
+empty_log_with size present limit =
+    record { state = opening_with size present; spent = 0; entries = []; limit = limit; present = present }
 
 -- the one in which all are
 abbrev pub empty_log : ℕ → ℕ → Log
@@ -45,7 +45,7 @@ recorded t log event =
       spent = spent_by t log.state log.spent event;
       entries = log.entries ++ entry_of t log event ∷ [];
       limit = log.limit;
-      first = log.first;
+      present = log.present;
     }
 
 -- what the caller is told of it

@@ -16,7 +16,7 @@ pub record Recording : Type 0 where
   pub spent : ℕ
   pub len : ℕ
   pub limit : ℕ
-  pub first : ℕ
+  pub present : ℕ
 
 -- the network is one, and the entries are not too many
 pub record IsRecording (r : Recording) : Type 0 where
@@ -26,8 +26,8 @@ pub record IsRecording (r : Recording) : Type 0 where
 
 -- the recording before any event, with the first of the names present, so many
 abbrev pub opening_recording_with : ℕ → ℕ → ℕ → Recording
-opening_recording_with size first limit =
-    record { state = opening_with size first; spent = 0; len = 0; limit = limit; first = first }
+opening_recording_with size present limit =
+    record { state = opening_with size present; spent = 0; len = 0; limit = limit; present = present }
 
 -- the one in which all are
 abbrev pub opening_recording : ℕ → ℕ → Recording
@@ -36,4 +36,4 @@ opening_recording nodes limit = opening_recording_with nodes nodes limit
 -- the recording after the event's entry
 abbrev pub entered : RuleTable → Recording → Event → Recording
 entered t r event =
-    record { state = state_after t r.state event; spent = spent_by t r.state r.spent event; len = r.len + 1; limit = r.limit; first = r.first }
+    record { state = state_after t r.state event; spent = spent_by t r.state r.spent event; len = r.len + 1; limit = r.limit; present = r.present }

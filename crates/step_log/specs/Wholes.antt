@@ -14,7 +14,7 @@ whole_is_log t weight log is = record {
 }
 
 pub kept_whole : (kept : Kept) → kept.base ≡ None → kept ≡ whole (log_in kept)
-kept_whole kept none = ap (λ base. record { state = kept.state; spent = kept.spent; base = base; entries = kept.entries; limit = kept.limit; first = kept.first }) none
+kept_whole kept none = ap (λ base. record { state = kept.state; spent = kept.spent; base = base; entries = kept.entries; limit = kept.limit; present = kept.present }) none
 
 pub kept_is_log : (t : RuleTable) (weight : ℕ) (kept : Kept) → kept.base ≡ None → IsKept t weight kept → IsLog t (log_in kept)
 kept_is_log t weight kept none is = whole_is_log t weight (log_in kept) (subst (IsKept t weight) (kept_whole kept none) is)

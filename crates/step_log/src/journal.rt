@@ -37,7 +37,7 @@ pub struct Journal<R: Rules> {
     pub(crate) base: Option<Base>,
     pub(crate) entries: Vec<Entry>,
     pub(crate) limit: u32,
-    pub(crate) first: u32,
+    pub(crate) present: u32,
     pub(crate) epochs: Epochs,
 }
 
@@ -57,13 +57,13 @@ impl<R: Rules> Model for Journal<R> {
       base = j.base;
       entries = j.entries.items;
       limit = j.limit;
-      first = j.first;
+      present = j.present;
       room = j.net.room;
       spare = vec_capacity j.entries - length j.entries.items;
       spare_epochs = vec_capacity j.epochs.over - length j.epochs.over.items;
     } };
 
-    ghost invariant = { λ j. IsJournal R.table R.NODE_WEIGHT (record { state = j.net.state; spent = j.net.spent; base = j.base; entries = j.entries.items; limit = j.limit; first = j.first }) j.epochs.over.items j.epochs.begun };
+    ghost invariant = { λ j. IsJournal R.table R.NODE_WEIGHT (record { state = j.net.state; spent = j.net.spent; base = j.base; entries = j.entries.items; limit = j.limit; present = j.present }) j.epochs.over.items j.epochs.begun };
 }
 
 impl<R: Rules> Journal<R> {
@@ -107,7 +107,7 @@ impl<R: Rules> Journal<R> {
             base: None,
             entries: Vec::new(alloc),
             limit: limit.min(MAX_ENTRIES),
-            first: present,
+            present,
             epochs: Epochs::new(alloc, Start::At(0)),
         })
     }

@@ -25,7 +25,7 @@ pub struct Recorder<R: Rules> {
     net: Net<R>,
     len: u32,
     limit: u32,
-    first: u32,
+    present: u32,
 }
 
 impl<R: Rules> Model for Recorder<R> {
@@ -37,9 +37,9 @@ impl<R: Rules> Model for Recorder<R> {
 
     ghost coded = { Prim.hlevel (codes, state_code) };
 
-    ghost view = { λ r. record { state = r.net.state; spent = r.net.spent; len = r.len; limit = r.limit; first = r.first } };
+    ghost view = { λ r. record { state = r.net.state; spent = r.net.spent; len = r.len; limit = r.limit; present = r.present } };
 
-    ghost invariant = { λ r. IsRecording (record { state = r.net.state; spent = r.net.spent; len = r.len; limit = r.limit; first = r.first }) };
+    ghost invariant = { λ r. IsRecording (record { state = r.net.state; spent = r.net.spent; len = r.len; limit = r.limit; present = r.present }) };
 }
 
 impl<R: Rules> Recorder<R> {
@@ -81,7 +81,7 @@ impl<R: Rules> Recorder<R> {
             net: Net::with_present(alloc, nodes, present)?,
             len: 0,
             limit: limit.min(MAX_ENTRIES),
-            first: present,
+            present,
         })
     }
 

@@ -114,14 +114,14 @@ drew_steps setting words left old new (Ok told) took = drew_step setting words l
 drew_steps setting words left old new (Err fault) took = tt
 
 -- the receipt of a turn that was answered is the one that was added
-first_of : (r other : Receipt) → r ∷ [] ≡ other ∷ [] → r ≡ other
-first_of r other same = cc
+present_of : (r other : Receipt) → r ∷ [] ≡ other ∷ [] → r ≡ other
+present_of r other same = cc
 
 turn_at : (setting : Setting) (draws : Draws) (words left : Stream) (old : List Receipt) (new : ClerkView) (told : Option Reply) (receipt : Receipt) (took : Draw setting draws words left old new told) (event : Option Event)
     → (event, left) ≡ draws setting.table took.log.state words → IsTold setting.table took.log event old new.receipts told → is_some told ≡ true → new.receipts ≡ old ++ receipt ∷ [] → IsTurn (scene_of setting new) draws words receipt left
 turn_at setting draws words left old new told receipt took None is (none, same) some added = absurd (false≢true (sym (ap is_some none) ∙ some))
 turn_at setting draws words left old new told receipt took (Some event) is (answer, more) some added =
-    let same : receipt_of setting.table took.log event ≡ receipt = first_of (receipt_of setting.table took.log event) receipt (append_cancel_left old _ _ (sym more ∙ added)) in
+    let same : receipt_of setting.table took.log event ≡ receipt = present_of (receipt_of setting.table took.log event) receipt (append_cancel_left old _ _ (sym more ∙ added)) in
     let begins : IsPrefix took.log.entries (noted new.note) = subst (λ (o : Option Reply). IfSome o (λ _. IsPrefix took.log.entries (noted new.note))) answer took.begins in
     subst (λ r. IsTurn (scene_of setting new) draws words r left) same (record { log = took.log; own = took.own; begins = begins; drawn = is; told = refl })
 

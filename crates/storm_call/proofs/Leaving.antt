@@ -10,7 +10,7 @@ use Rattle.storm_call.specs.Storm.{IsStorm}
 use Rattle.storm_call.specs.Outcome.{Leaves, asked_setting}
 
 pub leaves_as_asked : (t : RuleTable) (weight : ℕ) (asked : Asked) (nodes present limit roamers turns : ℕ) (scripts : List (List ScriptLine)) (fault : Option CallFault) (kept : Kept) → nodes ≡ asked.nodes → present ≡ asked.present → limit ≡ asked.limit → roamers ≡ asked.roamers → turns ≡ asked.turns → IsKept t weight kept → Upholds t weight kept
-    → (kept.state.network.size ≡ nodes) × (kept.first ≡ present) × (kept.limit ≡ limit) → IsStorm (record { table = t; nodes = nodes; present = present; limit = limit }) kept scripts roamers turns fault → Leaves t weight asked scripts fault kept
+    → (kept.state.network.size ≡ nodes) × (kept.present ≡ present) × (kept.limit ≡ limit) → IsStorm (record { table = t; nodes = nodes; present = present; limit = limit }) kept scripts roamers turns fault → Leaves t weight asked scripts fault kept
 leaves_as_asked t weight asked nodes present limit roamers turns scripts fault kept as_many begun as_far workers each run upheld size storm =
     let there : IsStorm (asked_setting t asked) kept scripts asked.roamers asked.turns fault =
     subst (λ (n : ℕ). IsStorm (asked_setting t asked) kept scripts asked.roamers n fault) each

@@ -4,9 +4,8 @@ use Rattle.rule_machine.specs.declared.base.Base.{Base}
 use Rattle.rule_machine.specs.declared.rules.RuleSet.{RuleSet}
 use Rattle.rule_machine.specs.Run.{Entry}
 use Rattle.rule_machine.specs.Base.{dropped}
-use Rattle.line_text.specs.EntryText.{header_line}
+use Rattle.line_text.specs.EntryText.{header_line, entry_lines}
 use Rattle.line_text.specs.BaseText.{base_text}
-use Rattle.line_text.specs.LogText.{entry_lines}
 
 -- the header, for so many names, of which so many were present at the start; or the base of so many names
 abbrev pub opening_text : RuleSet → ℕ → ℕ → ℕ → Option Base → List ℕ

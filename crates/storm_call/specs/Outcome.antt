@@ -35,7 +35,7 @@ asked_setting t asked = record { table = t; nodes = asked.nodes; present = asked
 pub record Leaves (t : RuleTable) (weight : ℕ) (asked : Asked) (scripts : List (List ScriptLine)) (fault : Option CallFault) (kept : Kept) : Type 0 where
   pub run : IsKept t weight kept
   pub nodes_are : kept.state.network.size ≡ asked.nodes
-  pub present_is : kept.first ≡ asked.present
+  pub present_is : kept.present ≡ asked.present
   pub limit_is : kept.limit ≡ asked.limit
   pub storm : IsStorm (asked_setting t asked) kept scripts asked.roamers asked.turns fault
   pub headline : Headline t weight kept storm.clerks

@@ -10,7 +10,7 @@ use Rattle.std.specs.Prelude.{◌≡◌, ℕ, ◌<◌, ◌≤◌, List, [], ◌�
 use Rattle.std.specs.List.{All, list_any}
 use Rattle.std.specs.Option.{is_some, option_or}
 use Rattle.rule_machine.specs.declared.choice.Item.{Item}
-use Rattle.rule_machine.specs.declared.moved.Moved.{Moved}
+use Rattle.rule_machine.specs.declared.act.Moved.{Moved}
 use Rattle.rule_machine.specs.declared.event.Event.TheVariants.{Step}
 use Rattle.rule_machine.specs.declared.reply.Reply.TheVariants.{Accepted, Moves}
 use Rattle.fault_injector.specs.Drawn.{is_register_fault}

@@ -1,8 +1,8 @@
 //! A log as a transcript.
 
 ghost use Rattle.std.specs.Prelude.{◌≡◌, ◌+◌, ◌++◌, OnOk, OnErr};
-ghost use Rattle.line_text.specs.LogText.{entry_lines};
-ghost use Rattle.line_text.specs.Growth.{Extends};
+ghost use Rattle.line_text.specs.EntryText.{entry_lines};
+ghost use Rattle.line_text.specs.Words.{Extends};
 ghost use Rattle.rule_machine.specs.Base.{dropped};
 ghost use Rattle.storm_call.specs.KeptText.{kept_text, opening_text};
 

@@ -58,7 +58,7 @@ pub fn play_scripts<R: Rules + Send + Sync, G: Gate + Sync, T: Threads + Wait + 
     ensures storm { IfOk result (λ left. IsStorm (setting_of R.table net) (kept_of left.0) scripts.now crew.roamers crew.turns left.1) }
     ensures run { IfOk result (λ left. IsKept R.table R.NODE_WEIGHT (kept_of left.0)) }
     ensures upheld { IfOk result (λ left. Upholds R.table R.NODE_WEIGHT (kept_of left.0)) }
-    ensures size { IfOk result (λ left. (left.0.state.network.size ≡ nodes_of net) × (left.0.first ≡ present_of net) × (left.0.limit ≡ limit_of net)) }
+    ensures size { IfOk result (λ left. (left.0.state.network.size ≡ nodes_of net) × (left.0.present ≡ present_of net) × (left.0.limit ≡ limit_of net)) }
 {
     let count = scripts.len() + crew.roamers as usize;
     let Ok(mut clerks) = clerks_of(alloc, &net, count) else {

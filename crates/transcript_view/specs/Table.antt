@@ -1,8 +1,8 @@
 -- The table of epochs: a header, and a line for each epoch, in its order.
 use Rattle.std.specs.Prelude.{ℕ, List, ◌++◌, Option, None, Some, codes}
 use Rattle.std.specs.List.{flat_map}
-use Rattle.rule_machine.specs.declared.epoch.Start.{Start}
-use Rattle.rule_machine.specs.declared.epoch.Start.TheVariants.{At, Forgotten}
+use Rattle.rule_machine.specs.declared.base.Start.{Start}
+use Rattle.rule_machine.specs.declared.base.Start.TheVariants.{At, Forgotten}
 use Rattle.rule_machine.specs.declared.rules.RuleSet.{RuleSet}
 use Rattle.line_text.specs.Words.{number_text}
 use Rattle.auditor.specs.declared.epoch.CostedEpoch.{CostedEpoch}

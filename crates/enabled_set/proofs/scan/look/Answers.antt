@@ -1,5 +1,5 @@
 use Rattle.std.proofs.Common.{◌%◌, ap, ◌∙◌}
-use Rattle.enabled_set.specs.Words.{has_bit, is_on}
+use Rattle.enabled_set.specs.Members.{has_bit, is_on}
 use Rattle.enabled_set.proofs.scan.look.Goals as goal
 
 pub returns : goal.returns

@@ -1,5 +1,5 @@
 use Rattle.std.proofs.Common.{◌≡◌, ◌+◌, ◌*◌, ℕ, ap, arith}
-use Rattle.enabled_set.specs.Words.{is_on}
+use Rattle.enabled_set.specs.Members.{is_on}
 use Rattle.enabled_set.specs.Counts.{tally}
 use Rattle.enabled_set.proofs.Passes.{word_ones, words_step, ones_few}
 use Rattle.enabled_set.proofs.Halves.{passed_none, passed_more, passed_all}

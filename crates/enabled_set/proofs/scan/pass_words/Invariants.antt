@@ -1,5 +1,5 @@
 use Rattle.std.proofs.Common.{◌+◌, ◌*◌, ◌≤◌}
-use Rattle.enabled_set.specs.Words.{is_on}
+use Rattle.enabled_set.specs.Members.{is_on}
 use Rattle.enabled_set.specs.Counts.{tally}
 use Rattle.enabled_set.proofs.Halves.{IsPassed}
 use Rattle.enabled_set.proofs.scan.pass_words.Given as goal

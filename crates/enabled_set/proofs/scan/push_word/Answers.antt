@@ -1,6 +1,6 @@
 use Rattle.std.proofs.Common.{◌≡◌, ◌+◌, ◌*◌, get_or, refl, ap, ◌∙◌, sym, arith, ⊎_elim}
 use Rattle.std.proofs.lemmas.Bool.{cases_eq, true≢false}
-use Rattle.enabled_set.specs.Words.{has_bit, is_on}
+use Rattle.enabled_set.specs.Members.{has_bit, is_on}
 use Rattle.enabled_set.specs.Counts.{below}
 use Rattle.enabled_set.proofs.Nth.{word_all, word_name, word_first, word_fewer, word_step, word_rest}
 use Rattle.enabled_set.proofs.scan.push_word.Goals as goal

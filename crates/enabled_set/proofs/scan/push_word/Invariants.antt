@@ -1,5 +1,5 @@
 use Rattle.std.proofs.Common.{◌≡◌, ℕ, ◌+◌, ◌*◌, ◌<◌, ◌++◌, true, map, get_or}
-use Rattle.enabled_set.specs.Words.{has_bit, is_on}
+use Rattle.enabled_set.specs.Members.{has_bit, is_on}
 use Rattle.enabled_set.specs.Counts.{tally, below}
 use Rattle.enabled_set.proofs.scan.push_word.Given as goal
 

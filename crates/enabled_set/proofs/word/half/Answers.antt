@@ -1,5 +1,5 @@
 use Rattle.std.proofs.Common.{arith}
-use Rattle.enabled_set.specs.Words.{has_bit}
+use Rattle.enabled_set.specs.Members.{has_bit}
 use Rattle.enabled_set.specs.Counts.{tally}
 use Rattle.enabled_set.proofs.Bits.{ones_there}
 use Rattle.enabled_set.proofs.Halves.{halved}

@@ -1,7 +1,6 @@
 use Rattle.std.proofs.Common.{◌≡◌, ◌++◌, length}
 use Rattle.std.specs.List.{AllByRecursion}
-use Rattle.line_text.specs.Growth.{Extends}
-use Rattle.line_text.specs.Words.{space_ended}
+use Rattle.line_text.specs.Words.{Extends, space_ended}
 use Rattle.line_text.proofs.word.put_each.Given as goal
 
 abbrev pub invariant-loop-left : goal.invariant-loop-left

@@ -1,8 +1,8 @@
 use Rattle.std.proofs.Common.{◌≡◌, ◌∙◌, List, fold, ap}
-use Rattle.rule_machine.specs.declared.moved.Moved.{Moved}
+use Rattle.rule_machine.specs.declared.act.Moved.{Moved}
 use Rattle.rule_machine.specs.State.{State, IsState}
 use Rattle.rule_machine.specs.Step.{after_moves, registers_after}
-use Rattle.machine_laws.specs.Passes.{flag_read, pointer_written, written_in_two}
+use Rattle.machine_laws.specs.TwoPasses.{flag_read, pointer_written, written_in_two}
 use Rattle.net_state.proofs.disturb.make_moves.Goals as goal
 
 -- the state in which these are the registers

@@ -1,9 +1,9 @@
 use Rattle.std.proofs.Common.{rules, ◌≡◌, ◌≢◌, ◌<◌, ◌+◌, ℕ, List, length, fold, drop, get_or, drop-cons, suc, refl, ap, sym, add-one, ◌∙◌}
 use Rattle.rule_machine.specs.declared.act.Act.{Act}
 use Rattle.rule_machine.specs.declared.act.Act.TheVariants.{Update, Marry, Seduce, Abandon}
-use Rattle.rule_machine.specs.declared.moved.Moved.{Moved}
+use Rattle.rule_machine.specs.declared.act.Moved.{Moved}
 use Rattle.rule_machine.specs.State.{State, Registers, with_flag}
-use Rattle.machine_laws.specs.Passes.{flag_read, flag_read_by, is_answered_at}
+use Rattle.machine_laws.specs.TwoPasses.{flag_read, flag_read_by, is_answered_at}
 use Rattle.net_state.proofs.disturb.write_flags.Goals as goal
 use Rattle.net_state.proofs.disturb.write_flags.Goals.{then-eq, else-eq}
 

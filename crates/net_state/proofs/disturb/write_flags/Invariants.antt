@@ -1,5 +1,5 @@
 use Rattle.std.proofs.Common.{◌≡◌, fold, drop}
-use Rattle.machine_laws.specs.Passes.{flag_read}
+use Rattle.machine_laws.specs.TwoPasses.{flag_read}
 use Rattle.net_state.proofs.disturb.write_flags.Given as goal
 
 abbrev pub invariant-loop-moved : goal.invariant-loop-moved

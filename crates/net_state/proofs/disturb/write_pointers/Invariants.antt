@@ -1,5 +1,5 @@
 use Rattle.std.proofs.Common.{◌≡◌, fold, drop}
-use Rattle.machine_laws.specs.Passes.{pointer_written}
+use Rattle.machine_laws.specs.TwoPasses.{pointer_written}
 use Rattle.net_state.proofs.disturb.write_pointers.Given as goal
 
 abbrev pub invariant-loop-moved : goal.invariant-loop-moved

@@ -1,5 +1,5 @@
 use Rattle.std.proofs.Common.{ap, arith}
-use Rattle.place_deque.specs.declared.tally.Tally.{Tally}
+use Rattle.place_deque.specs.declared.ledger.Ledger.{Ledger}
 use Rattle.place_deque.proofs.Joinings.{made_all, made_fresh}
 use Rattle.place_deque.proofs.end.ends.Goals as goal
 
@@ -11,4 +11,4 @@ returns-clause-all c =
 pub returns-clause-fresh : goal.returns-clause-fresh
 returns-clause-fresh c =
     let loop = c.loop-made.invariant in
-    made_fresh _ _ c.loop-made.owner c.loop-made.ends.items c.push-2.new.self.items loop.parts (ap (λ (v : Tally). v.taken) loop.known) c.in_ok-push-2.ensures.items
+    made_fresh _ _ c.loop-made.owner c.loop-made.ends.items c.push-2.new.self.items loop.parts (ap (λ (v : Ledger). v.taken) loop.known) c.in_ok-push-2.ensures.items

@@ -1,7 +1,7 @@
 use Rattle.std.proofs.Common.{[], ◌∷◌, ◌++◌, length, ap, ◌∙◌, subst, rules}
-use Rattle.place_deque.specs.declared.tally.Tally.{Tally}
-use Rattle.place_deque.specs.Tallies.{places_in, AreAllPlaces}
-use Rattle.place_deque.specs.Ends.{owner_tally}
+use Rattle.place_deque.specs.declared.ledger.Ledger.{Ledger}
+use Rattle.place_deque.specs.Ledgers.{places_in, AreAllPlaces}
+use Rattle.place_deque.specs.Ends.{owner_ledger}
 use Rattle.steal_pool.specs.Laid.{taken_in}
 use Rattle.rule_engine.specs.Choosing.{verdicts_of}
 use Rattle.steal_pool.proofs.EachPlace.{took_more}
@@ -13,10 +13,10 @@ loop-block-preserved g c =
     let loop = c.loop-block.invariant in
     let took = c.in-Some.ensures.taken.0 in
     record {
-      whole = ap (λ (v : Tally). v.parts) took ∙ loop.whole;
-      count = ap (λ (v : Tally). v.count) took ∙ loop.count;
-      right = reweighed (verdicts_of g.R.Rules.table c.args.net.now.state c.args.choice.now) c.write_block.new.table _ (taken_in (owner_tally c.take.new.self)) (takes_block (owner_tally c.loop-block.owner) (owner_tally c.take.new.self) c.in-Some.block took) (c.write_block.ensures (taken_in (owner_tally c.loop-block.owner)) loop.right);
-      taken = (loop.taken.0 ++ places_in (c.in-Some.block ∷ []), took_more (owner_tally c.args.owner).taken loop.taken.0 (owner_tally c.loop-block.owner) (owner_tally c.take.new.self) c.in-Some.block took loop.taken.1);
+      whole = ap (λ (v : Ledger). v.parts) took ∙ loop.whole;
+      count = ap (λ (v : Ledger). v.count) took ∙ loop.count;
+      right = reweighed (verdicts_of g.R.Rules.table c.args.net.now.state c.args.choice.now) c.write_block.new.table _ (taken_in (owner_ledger c.take.new.self)) (takes_block (owner_ledger c.loop-block.owner) (owner_ledger c.take.new.self) c.in-Some.block took) (c.write_block.ensures (taken_in (owner_ledger c.loop-block.owner)) loop.right);
+      taken = (loop.taken.0 ++ places_in (c.in-Some.block ∷ []), took_more (owner_ledger c.args.owner).taken loop.taken.0 (owner_ledger c.loop-block.owner) (owner_ledger c.take.new.self) c.in-Some.block took loop.taken.1);
     }
 
 pub write_block-requires-clause-size : goal.write_block-requires-clause-size
@@ -25,11 +25,11 @@ write_block-requires-clause-size g c = c.loop-block.invariant.right.size ∙ ver
 pub returns-clause-places : goal.returns-clause-places
 returns-clause-places g c =
     let loop = c.loop-block.invariant in
-    let v = owner_tally c.loop-block.owner in
-    (loop.taken.0, subst (AreAllPlaces (length c.args.choice.now)) loop.taken.1 (all_known v _ loop.whole loop.count (finds_none v (owner_tally c.take.new.self) c.take.result (search rules) c.take.ensures.taken)))
+    let v = owner_ledger c.loop-block.owner in
+    (loop.taken.0, subst (AreAllPlaces (length c.args.choice.now)) loop.taken.1 (all_known v _ loop.whole loop.count (finds_none v (owner_ledger c.take.new.self) c.take.result (search rules) c.take.ensures.taken)))
 
 pub returns-clause-verdicts : goal.returns-clause-verdicts
 returns-clause-verdicts g c =
     let loop = c.loop-block.invariant in
-    let v = owner_tally c.loop-block.owner in
-    all_laid g.R.Rules.table c.args.net.now.state c.args.choice.now v.taken c.loop-block.table (all_known v _ loop.whole loop.count (finds_none v (owner_tally c.take.new.self) c.take.result (search rules) c.take.ensures.taken)) loop.right
+    let v = owner_ledger c.loop-block.owner in
+    all_laid g.R.Rules.table c.args.net.now.state c.args.choice.now v.taken c.loop-block.table (all_known v _ loop.whole loop.count (finds_none v (owner_ledger c.take.new.self) c.take.result (search rules) c.take.ensures.taken)) loop.right

@@ -2,7 +2,7 @@ use Rattle.std.proofs.Common.{◌≡◌, ℕ, List, [], ◌++◌, length, take, 
 use lib.Seq.{take-append_seam}
 use Rattle.rule_machine.specs.declared.choice.Item.{Item}
 use Rattle.rule_machine.specs.declared.verdict.Verdict.{Verdict}
-use Rattle.place_deque.specs.Ends.{owner_tally, AreJoined}
+use Rattle.place_deque.specs.Ends.{owner_ledger, AreJoined}
 use Rattle.rule_engine.specs.Choosing.{verdicts_of}
 use Rattle.steal_pool.specs.Laid.{at_place, IsRight, taken_by, taken_in}
 use Rattle.steal_pool.proofs.Laying.{verdicts_length, reweighed}
@@ -19,11 +19,11 @@ judge_left-requires-clause-right g c =
     let all = verdicts_of g.R.Rules.table c.args.net.now.state c.args.choice.now in
     let size : vec_len c.in_ok-verdicts.verdicts ≡ length c.lay_out.new.table = omega (arith, c.in_ok-verdicts.ensures.len, ap length c.items-2.ensures.items, c.in_ok-ends.ensures.right.size, verdicts_length g.R.Rules.table c.args.net.now.state 0 c.args.choice.now) in
     let same : c.deref_mut-2.result.now ≡ c.lay_out.new.table = c.deref_mut-2.ensures.value ∙ ap (λ (n : ℕ). take n (c.lay_out.new.table ++ drop (length c.lay_out.new.table) c.in_ok-verdicts.verdicts.items)) size ∙ take-append_seam c.lay_out.new.table (drop (length c.lay_out.new.table) c.in_ok-verdicts.verdicts.items) in
-    reweighed all c.deref_mut-2.result.now (taken_by c.in_ok-ends.ends.items) (taken_in (owner_tally c.gather-owner.result)) (λ k. c.gather-owner.ensures.taken (at_place k))
+    reweighed all c.deref_mut-2.result.now (taken_by c.in_ok-ends.ends.items) (taken_in (owner_ledger c.gather-owner.result)) (λ k. c.gather-owner.ensures.taken (at_place k))
     (subst (λ (z : List Verdict). IsRight all z (taken_by c.in_ok-ends.ends.items)) (sym same) c.in_ok-ends.ensures.right)
 
 pub returns-clause-places : goal.returns-clause-places
 returns-clause-places g c =
     let rest = c.judge_left.ensures.places in
-    let joined = subst (λ (l : List Item). AreJoined (length l) c.in_ok-ends.ends.items (owner_tally c.gather-owner.result)) c.items-3.ensures.items c.gather-owner.ensures in
-    (rest.0, all_merged (length c.args.choice.now) c.args.shares.items c.in_ok-ends.ends.items (owner_tally c.gather-owner.result) rest.0 joined c.in_ok-ends.ensures.taken rest.1)
+    let joined = subst (λ (l : List Item). AreJoined (length l) c.in_ok-ends.ends.items (owner_ledger c.gather-owner.result)) c.items-3.ensures.items c.gather-owner.ensures in
+    (rest.0, all_merged (length c.args.choice.now) c.args.shares.items c.in_ok-ends.ends.items (owner_ledger c.gather-owner.result) rest.0 joined c.in_ok-ends.ensures.taken rest.1)

@@ -1,7 +1,6 @@
 use Rattle.std.proofs.Common.{◌≡◌, ◌+◌, ◌-◌, ◌++◌, ℕ, Some, drop, slice_get, subst, arith}
 use Rattle.rule_machine.specs.Base.{dropped}
-use Rattle.line_text.specs.EntryText.{entry_line}
-use Rattle.line_text.specs.LogText.{entry_lines}
+use Rattle.line_text.specs.EntryText.{entry_line, entry_lines}
 use Rattle.storm_call.proofs.Writing.{one_more, grown_more}
 use Rattle.storm_call.proofs.log.append_entries.Goals as goal
 

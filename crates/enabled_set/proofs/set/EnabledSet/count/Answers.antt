@@ -1,6 +1,5 @@
 use Rattle.std.proofs.Common.{length, sym, ap, ◌∙◌}
-use Rattle.enabled_set.specs.Members.{members}
-use Rattle.enabled_set.specs.Words.{places_of}
+use Rattle.enabled_set.specs.Members.{members, places_of}
 use Rattle.enabled_set.proofs.Members.{length-members}
 use Rattle.enabled_set.proofs.set.EnabledSet.count.Goals as goal
 

@@ -1,6 +1,5 @@
 use Rattle.std.proofs.Common.{◌≡◌, ◌∙◌, ◌+◌, ◌*◌, ◌<◌, ◌≤◌, ℕ, List, Bool, true, false, get_or, ap, sym, subst, arith, MatchOption, SomeIff}
-use Rattle.enabled_set.specs.Members.{is_in}
-use Rattle.enabled_set.specs.Words.{places_of}
+use Rattle.enabled_set.specs.Members.{is_in, places_of}
 use Rattle.enabled_set.proofs.Nth.{block_none, block_some, named}
 use Rattle.enabled_set.proofs.set.EnabledSet.first_in.Goals as goal
 

@@ -1,5 +1,5 @@
 use Rattle.std.proofs.Common.{◌+◌, ◌<◌, Bool, List, true, length, ◌/◌, arith, ap, sym, subst, ◌∙◌, set}
-use Rattle.enabled_set.specs.Words.{places_of}
+use Rattle.enabled_set.specs.Members.{places_of}
 use Rattle.enabled_set.specs.Counts.{IsCounted}
 use Rattle.enabled_set.proofs.Places.{length-places_of}
 use Rattle.enabled_set.proofs.Stretches.{count_few}

@@ -1,8 +1,7 @@
 use Rattle.std.proofs.Common.{◌≤◌, ◌<◌, slice_get, get_or, length, ap, refl, sym, subst, ◌∙◌, arith}
 use Rattle.std.proofs.lemmas.List.{get_or_read}
 use Rattle.std.specs.Prelude.{SomeIff}
-use Rattle.enabled_set.specs.Members.{members}
-use Rattle.enabled_set.specs.Words.{has_bit, places_of}
+use Rattle.enabled_set.specs.Members.{members, has_bit, places_of}
 use Rattle.enabled_set.specs.Counts.{tally}
 use Rattle.enabled_set.proofs.Nth.{enough_lots, enough_groups, enough_words, word_there, passed, nth_none, nth_some}
 use Rattle.enabled_set.proofs.set.EnabledSet.nth.Goals as goal

@@ -1,6 +1,5 @@
 use Rattle.std.proofs.Common.{◌*◌, ◌≤◌, length, ap, sym, ◌∙◌, arith}
-use Rattle.enabled_set.specs.Members.{members}
-use Rattle.enabled_set.specs.Words.{is_on, places_of}
+use Rattle.enabled_set.specs.Members.{members, is_on, places_of}
 use Rattle.enabled_set.proofs.Members.{below_none}
 use Rattle.enabled_set.proofs.Nth.{below_all}
 use Rattle.enabled_set.proofs.set.EnabledSet.to_list.Goals as goal

@@ -1,5 +1,5 @@
 use Rattle.std.proofs.Common.{◌≡◌, ◌*◌}
-use Rattle.enabled_set.specs.Words.{is_on}
+use Rattle.enabled_set.specs.Members.{is_on}
 use Rattle.enabled_set.specs.Counts.{below}
 use Rattle.enabled_set.proofs.set.EnabledSet.to_list.Given as goal
 

@@ -2,7 +2,7 @@ use Rattle.std.proofs.Common.{◌≡◌, ◌≤◌, ◌<◌, ◌+◌, ℕ, List,
 use Rattle.std.specs.Prelude.{All, IsTrue}
 use Rattle.std.proofs.lemmas.List.{with_items_is, length-set}
 use Rattle.rule_machine.specs.Network.{present}
-use Rattle.graph_store.specs.declared.end.End.{End}
+use Rattle.graph_store.specs.declared.ends.End.{End}
 use Rattle.graph_store.specs.Graph.{Graph}
 use Rattle.graph_store.specs.Ends.{are_open, end_at, open_among}
 use Rattle.graph_store.specs.Rows.{contents, row_at, edges_of, network_of}

@@ -2,7 +2,7 @@ use Rattle.std.proofs.Common.{◌≡◌, ◌+◌, [], replicate, ap, sym, subst,
 use Rattle.rule_machine.specs.Network.{first_names}
 use Rattle.graph_store.specs.Rows.{contents, network_of, IsStore}
 use Rattle.graph_store.specs.Ends.{AreCounted}
-use Rattle.graph_store.specs.declared.end.End.TheVariants.{Shut}
+use Rattle.graph_store.specs.declared.ends.End.TheVariants.{Shut}
 use Rattle.graph_store.proofs.Opened.{none_counted}
 use Rattle.graph_store.proofs.Store.{empty_network, empty_store}
 use Rattle.graph_store.proofs.Results.{from_map_err}

@@ -1,7 +1,7 @@
 use Rattle.std.proofs.Common.{◌∙◌, ◌≤◌, ℕ, cond, refl, ap, subst, sym}
 use Rattle.std.proofs.lemmas.Bool.{true≢false}
 use Rattle.std.proofs.lemmas.List.{get_or-set_other}
-use Rattle.graph_store.specs.declared.end.End.TheVariants.{Shut}
+use Rattle.graph_store.specs.declared.ends.End.TheVariants.{Shut}
 use Rattle.graph_store.specs.Ends.{end_at}
 use Rattle.rule_machine.specs.Network.{present}
 use Rattle.rule_machine.specs.State.{State, IsState}

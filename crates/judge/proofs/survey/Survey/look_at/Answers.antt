@@ -1,7 +1,7 @@
 use Rattle.std.proofs.Common.{◌∙◌, Bool, List, refl, ap, subst, sym}
 use Rattle.std.proofs.lemmas.Bool.{true≢false}
 use Rattle.std.proofs.lemmas.List.{get_or-set_other}
-use Rattle.graph_store.specs.declared.end.End.TheVariants.{Shut}
+use Rattle.graph_store.specs.declared.ends.End.TheVariants.{Shut}
 use Rattle.graph_store.specs.Ends.{end_at}
 use Rattle.rule_machine.specs.State.{State}
 use Rattle.judge.specs.Shares.{AreTold}

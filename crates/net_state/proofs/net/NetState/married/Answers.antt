@@ -1,6 +1,6 @@
 use Rattle.std.proofs.Common.{◌≡◌, ◌∙◌, sym, subst}
 use Rattle.rule_machine.specs.State.{married}
-use Rattle.machine_laws.specs.Passes.{married_answered}
+use Rattle.machine_laws.specs.TwoPasses.{married_answered}
 use Rattle.net_state.specs.Held.{Held, state_of}
 use Rattle.net_state.proofs.net.NetState.married.Goals as goal
 

@@ -1,5 +1,5 @@
 use Rattle.std.proofs.Common.{ap}
-use Rattle.place_deque.specs.declared.tally.Tally.{Tally}
+use Rattle.place_deque.specs.declared.ledger.Ledger.{Ledger}
 use Rattle.place_deque.proofs.Balances.{begins, puts}
 use Rattle.place_deque.proofs.handles.Owner.filled.Goals as goal
 
@@ -7,4 +7,4 @@ pub fifo_as-requires : goal.fifo_as-requires
 fifo_as-requires c = begins
 
 pub push_as-requires-clause-pushes : goal.push_as-requires-clause-pushes
-push_as-requires-clause-pushes c = puts _ _ _ (ap (λ (v : Tally). v.parts) c.loop-first.invariant.known) (ap (λ (v : Tally). v.count) c.loop-first.invariant.known)
+push_as-requires-clause-pushes c = puts _ _ _ (ap (λ (v : Ledger). v.parts) c.loop-first.invariant.known) (ap (λ (v : Ledger). v.count) c.loop-first.invariant.known)

@@ -1,12 +1,12 @@
 use Rattle.std.proofs.Common.{◌≡◌, ◌≤◌, ◌-◌, []}
 use Rattle.crossbeam_deque.specs.Handles.{worker_flavor, worker_view}
-use Rattle.place_deque.specs.Tallies.{tally}
+use Rattle.place_deque.specs.Ledgers.{ledger}
 use Rattle.place_deque.proofs.handles.Owner.filled.Given as goal
 
 abbrev pub invariant-loop-first : goal.invariant-loop-first
 invariant-loop-first l = record {
   in_order : worker_flavor l.worker ≡ 0;
-  known : worker_view l.worker ≡ tally 64 l.first [];
+  known : worker_view l.worker ≡ ledger 64 l.first [];
   within : l.first ≤ l.count;
   numbers : l.number ≤ l.first;
 }

@@ -1,6 +1,6 @@
 use Rattle.std.proofs.Common.{ℕ, ◌≤◌, length, ap, subst, arith}
 use Rattle.crossbeam_deque.specs.Handles.{view}
-use Rattle.place_deque.specs.declared.tally.Tally.{Tally}
+use Rattle.place_deque.specs.declared.ledger.Ledger.{Ledger}
 use Rattle.place_deque.proofs.Balances.{takes, found_few, within}
 use Rattle.place_deque.proofs.handles.Thief.take.Goals as goal
 
@@ -13,5 +13,5 @@ steal_as-requires-clause-empty g c = let front = c.loop.self.in_order in found_f
 pub returns-in-Success-clause-within : goal.returns-in-Success-clause-within
 returns-in-Success-clause-within g c =
     let here = c.in-Success.ensures.rule in
-    subst (λ (n : ℕ). (c.in-Success.block.end ≤ n) × (length (view c.steal_as.new.pass).taken ≤ n)) (ap (λ (v : Tally). v.count) c.loop.invariant.1)
-    (within (view c.loop.self.pass).count c.in-Success.block (view c.loop.self.pass).taken (view c.steal_as.new.pass).taken (ap (λ (v : Tally). v.taken) here.0) here.1)
+    subst (λ (n : ℕ). (c.in-Success.block.end ≤ n) × (length (view c.steal_as.new.pass).taken ≤ n)) (ap (λ (v : Ledger). v.count) c.loop.invariant.1)
+    (within (view c.loop.self.pass).count c.in-Success.block (view c.loop.self.pass).taken (view c.steal_as.new.pass).taken (ap (λ (v : Ledger). v.taken) here.0) here.1)

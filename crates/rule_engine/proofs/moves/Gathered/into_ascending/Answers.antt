@@ -1,6 +1,6 @@
 use Rattle.std.proofs.Common.{rules, sym, subst}
 use Rattle.std.proofs.lemmas.List.Sorted.{IsNonDecreasingBy-from_sort_by_key}
-use Rattle.rule_machine.specs.declared.moved.Moved.{Moved}
+use Rattle.rule_machine.specs.declared.act.Moved.{Moved}
 use Rattle.rule_engine.specs.Choosing.{AreLeast}
 use Rattle.rule_engine.proofs.Ascending.{least_from_sorted}
 use Rattle.rule_engine.proofs.moves.Gathered.into_ascending.Goals as goal

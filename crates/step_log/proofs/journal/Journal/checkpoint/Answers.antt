@@ -1,7 +1,7 @@
 use Rattle.std.proofs.Common.{◌≡◌, ◌∙◌, ℕ, List, Some, ap, ap₂, sym, subst}
 use Rattle.rule_machine.specs.declared.base.Base.{Base}
-use Rattle.rule_machine.specs.declared.epoch.Start.{Start}
-use Rattle.rule_machine.specs.declared.epoch.Start.TheVariants.{Forgotten}
+use Rattle.rule_machine.specs.declared.base.Start.{Start}
+use Rattle.rule_machine.specs.declared.base.Start.TheVariants.{Forgotten}
 use Rattle.rule_machine.specs.Run.{Entry}
 use Rattle.rule_machine.specs.Base.{base_of}
 use Rattle.machine_laws.specs.LeastMoves.{IsTable}
@@ -19,12 +19,12 @@ invariant_of-self g c =
     let table : IsTable t = record { allowed_is_neighbour = laws.allowed_is_neighbour; allowed_takes_target = laws.allowed_takes_target; has_target = laws.has_target } in
     let charged : IsCharged t weight = record { falls = laws.charge_falls; bounded = laws.charge_is_bounded; zero_is_stable = laws.no_charge_is_stable } in
     let j = c.self.inside in
-    let kept : Kept = record { state = j.net.state; spent = j.net.spent; base = j.base; entries = j.entries.items; limit = j.limit; first = j.first } in
+    let kept : Kept = record { state = j.net.state; spent = j.net.spent; base = j.base; entries = j.entries.items; limit = j.limit; present = j.present } in
     let made = c.in_ok-base.base in
     let number : c.len-number.result ≡ last_number kept = c.len-number.ensures.number ∙ ap (λ (held : Held). last_number (kept_of held)) (sym c.self.view_is) in
     let is : made ≡ base_of (last_number kept) (moment_in kept) = c.in_ok-base.ensures.base ∙ ap (λ (n : ℕ). base_of n (moment_in kept)) number in
     let short : IsShort (Some (base_of (last_number kept) (moment_in kept))) = subst (λ (b : Base). IsShort (Some b)) is c.in_ok-base.ensures.few in
     let over = c.new-2.result.over.items in
     let there = checkpointed_is_journal t weight table charged laws.no_update kept c.self.invariant.is_kept short over c.new-2.ensures.over in
-    subst (λ (s : Start). IsJournal t weight (record { state = j.net.state; spent = j.net.spent; base = Some made; entries = c.new.result.items; limit = j.limit; first = j.first }) over s) (sym c.new-2.ensures.begun)
-    (subst (λ (k : Kept). IsJournal t weight k over Forgotten) (sym (ap₂ (λ (b : Base) (es : List Entry). record { state = j.net.state; spent = j.net.spent; base = Some b; entries = es; limit = j.limit; first = j.first }) is c.new.ensures.items)) there)
+    subst (λ (s : Start). IsJournal t weight (record { state = j.net.state; spent = j.net.spent; base = Some made; entries = c.new.result.items; limit = j.limit; present = j.present }) over s) (sym c.new-2.ensures.begun)
+    (subst (λ (k : Kept). IsJournal t weight k over Forgotten) (sym (ap₂ (λ (b : Base) (es : List Entry). record { state = j.net.state; spent = j.net.spent; base = Some b; entries = es; limit = j.limit; present = j.present }) is c.new.ensures.items)) there)

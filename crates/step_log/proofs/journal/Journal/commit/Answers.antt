@@ -25,7 +25,7 @@ invariant_of-self g c =
     let inside = c.self.inside in
     let over = inside.epochs.over.items in
     let begun = inside.epochs.begun in
-    let before : Kept = record { state = inside.net.state; spent = inside.net.spent; base = inside.base; entries = inside.entries.items; limit = inside.limit; first = inside.first } in
+    let before : Kept = record { state = inside.net.state; spent = inside.net.spent; base = inside.base; entries = inside.entries.items; limit = inside.limit; present = inside.present } in
     let now : Moment = record { state = inside.net.state; spent = inside.net.spent } in
     let after : Moment = record { state = c.commit.new.self.state; spent = c.commit.new.self.spent } in
     let ready = subst (λ (held : Held). IsReady t held c.args.prepared) (sym c.self.view_is) c.requires in

@@ -9,5 +9,5 @@ pub returns-clause-log : goal.returns-clause-log
 returns-clause-log g c =
     let t = g.R.Rules.table in
     let j = c.self.inside in
-    let kept : Kept = record { state = j.net.state; spent = j.net.spent; base = j.base; entries = j.entries.items; limit = j.limit; first = j.first } in
+    let kept : Kept = record { state = j.net.state; spent = j.net.spent; base = j.base; entries = j.entries.items; limit = j.limit; present = j.present } in
     subst (λ (held : Held). held.base ≡ None → IsLog t (log_of held)) c.self.view_is (λ none. kept_is_log t g.R.Rules.NODE_WEIGHT kept none c.self.invariant.is_kept)

@@ -11,5 +11,5 @@ new-requires g c =
     let laws = g.met.R.Rules in
     let table : IsTable g.R.Rules.table = record { allowed_is_neighbour = laws.allowed_is_neighbour; allowed_takes_target = laws.allowed_takes_target; has_target = laws.has_target } in
     let held = c.self.inside in
-    let before : Kept = record { state = held.net.state; spent = held.net.spent; base = held.base; entries = held.entries.items; limit = held.limit; first = held.first } in
+    let before : Kept = record { state = held.net.state; spent = held.net.spent; base = held.base; entries = held.entries.items; limit = held.limit; present = held.present } in
     ap (fits (Step c.args.choice)) c.in_ok-reply.ensures.reply ∙ next_fits g.R.Rules.table g.R.Rules.NODE_WEIGHT table before c.self.invariant.is_kept (Step c.args.choice)

@@ -6,7 +6,7 @@ use std::collections::LinkedList;
 
 /// What a pass knows: its parts of the 64 that make up the whole, how many places were put, and which it has taken. No value
 /// of it is made.
-pub struct Tally {
+pub struct Ledger {
     pub parts: u64,
     pub count: u64,
     pub taken: LinkedList<u32>,
@@ -15,23 +15,23 @@ pub struct Tally {
 /// The rule: what was put is what was taken and what the deque holds, each place once.
 pub struct EachOnce;
 
-impl Protocol<Block, Tally> for EachOnce {
+impl Protocol<Block, Ledger> for EachOnce {
     ghost use Rattle.std.specs.Prelude.{[]};
-    ghost use Rattle.place_deque.specs.Tallies.{tally, Balanced};
+    ghost use Rattle.place_deque.specs.Ledgers.{ledger, Balanced};
 
     ghost holds = { Balanced };
 
-    ghost first = { tally 64 0 [] };
+    ghost first = { ledger 64 0 [] };
 
-    ghost guest = { tally 0 0 [] };
+    ghost guest = { ledger 0 0 [] };
 }
 
 /// A block is put.
 pub(crate) struct Put;
 
-impl Outcome<Block, Tally> for Put {
+impl Outcome<Block, Ledger> for Put {
     ghost use Rattle.std.specs.Prelude.{◌≡◌};
-    ghost use Rattle.place_deque.specs.Tallies.{with_put};
+    ghost use Rattle.place_deque.specs.Ledgers.{with_put};
 
     ghost then = { λ v xs w. w ≡ with_put v xs };
 }
@@ -39,8 +39,8 @@ impl Outcome<Block, Tally> for Put {
 /// A block is taken, or none is found.
 pub(crate) struct Took;
 
-impl Outcome<Block, Tally> for Took {
-    ghost use Rattle.place_deque.specs.Tallies.{Takes, KnowsAll};
+impl Outcome<Block, Ledger> for Took {
+    ghost use Rattle.place_deque.specs.Ledgers.{Takes, KnowsAll};
 
     ghost then = { Takes };
 
@@ -50,19 +50,19 @@ impl Outcome<Block, Tally> for Took {
 /// A pass is shared out in two, or joined to another.
 pub(crate) struct Cut;
 
-impl Split<Tally> for Cut {
-    ghost use Rattle.place_deque.specs.Tallies.{rest_of, part_of};
+impl Split<Ledger> for Cut {
+    ghost use Rattle.place_deque.specs.Ledgers.{rest_of, part_of};
 
     ghost left = { rest_of };
 
     ghost right = { part_of };
 }
 
-impl Join<Tally> for Cut {
+impl Join<Ledger> for Cut {
     ghost use Rattle.std.specs.Prelude.{[]};
-    ghost use Rattle.place_deque.specs.Tallies.{joined, tally};
+    ghost use Rattle.place_deque.specs.Ledgers.{joined, ledger};
 
     ghost both = { joined };
 
-    ghost spent = { tally 0 0 [] };
+    ghost spent = { ledger 0 0 [] };
 }

@@ -1,7 +1,7 @@
 use Rattle.std.proofs.Common.{◌≡◌, [], IsTrue, take, drop, length}
 use Rattle.rule_engine.specs.Choosing.{moves_of, verdicts_refusal}
 use Rattle.rule_engine.specs.Marks.{AreMarks, is_judged}
-use Rattle.rule_engine.proofs.judge.take_up_to_refusal.Given as goal
+use Rattle.rule_engine.proofs.taking.take_up_to_refusal.Given as goal
 
 abbrev pub invariant-loop-place : goal.invariant-loop-place
 invariant-loop-place l = record {

@@ -7,7 +7,7 @@ use Rattle.rule_engine.specs.Marks.{HasPlace}
 use Rattle.rule_engine.proofs.Found.{verdicts_refusal_more}
 use Rattle.rule_engine.proofs.Marked.{passes, verdict_refused}
 use Rattle.rule_engine.proofs.Scanned.{found_next}
-use Rattle.rule_engine.proofs.judge.take_up_to_refusal.Goals as goal
+use Rattle.rule_engine.proofs.taking.take_up_to_refusal.Goals as goal
 
 pub returns-in-Some-clause-refusal : goal.returns-in-Some-clause-refusal
 returns-in-Some-clause-refusal c =

@@ -1,7 +1,7 @@
 use Rattle.std.proofs.Common.{◌<◌, length, arith}
 use Rattle.rule_machine.specs.declared.verdict.Verdict.{Verdict}
 use Rattle.rule_engine.proofs.Marked.{marked_place}
-use Rattle.rule_engine.proofs.judge.unmark_verdicts.Goals as goal
+use Rattle.rule_engine.proofs.taking.unmark_verdicts.Goals as goal
 
 pub remove-requires : goal.remove-requires
 remove-requires c =

@@ -1,6 +1,6 @@
 use Rattle.std.proofs.Common.{◌≡◌, drop, length}
 use Rattle.rule_engine.proofs.Marked.{AreLeft}
-use Rattle.rule_engine.proofs.judge.unmark_verdicts.Given as goal
+use Rattle.rule_engine.proofs.taking.unmark_verdicts.Given as goal
 
 abbrev pub invariant-loop-verdict : goal.invariant-loop-verdict
 invariant-loop-verdict l = record {

@@ -1,6 +1,6 @@
 use Rattle.std.proofs.Common.{◌∙◌}
 use Rattle.rule_engine.proofs.Marked.{clear_same}
-use Rattle.rule_engine.proofs.judge.take_verdicts.Goals as goal
+use Rattle.rule_engine.proofs.taking.take_verdicts.Goals as goal
 
 pub returns-clause-kept : goal.returns-clause-kept
 returns-clause-kept c = clear_same c.args.chosen.now c.unmark_verdicts.new.chosen (c.unmark_verdicts.ensures.len ∙ c.take_up_to_refusal-taken.ensures.len) c.requires.clear c.unmark_verdicts.ensures.clear

@@ -4,10 +4,10 @@ use Rattle.std.specs.List.{sum_by, range_with_len}
 use mathlib.Core.Option.{some}
 use lib.ListN.{get_elem?}
 use Rattle.place_deque.specs.declared.block.Block.{Block}
-use Rattle.place_deque.specs.declared.tally.Tally.{Tally}
+use Rattle.place_deque.specs.declared.ledger.Ledger.{Ledger}
 
-abbrev pub tally : ℕ → ℕ → List ℕ → Tally
-tally parts count taken = record { parts = parts; count = count; taken = taken }
+abbrev pub ledger : ℕ → ℕ → List ℕ → Ledger
+ledger parts count taken = record { parts = parts; count = count; taken = taken }
 
 -- the places 0 to count - 1
 abbrev pub places : ℕ → List ℕ
@@ -23,32 +23,32 @@ places_in [] = []
 places_in (b ∷ bs) = block_places b ++ places_in bs
 
 -- a pass with no part has taken nothing, and one with a part knows how many places were put
-abbrev pub Knows : ℕ → Tally → Type 0
+abbrev pub Knows : ℕ → Ledger → Type 0
 Knows count v = (v.parts ≡ 0 → v.taken ≡ []) × (0 < v.parts → v.count ≡ count)
 
 -- However places are weighed, the places that were put weigh what the passes have taken and what the deque holds: each is in one of them, once.
 -- The parts of all passes make up the whole.
-pub record Balanced (items : List Block) (views : List Tally) : Type 0 where
+pub record Balanced (items : List Block) (views : List Ledger) : Type 0 where
   pub count : ℕ
   pub whole : sum_by (λ v. v.parts) views ≡ 64
   pub once : (h : ℕ → ℕ) → sum_by (λ v. sum_by h v.taken) views + sum_by h (places_in items) ≡ sum_by h (places count)
-  pub known : (port : ℕ) (v : Tally) → get_elem? views port ≡ some v → Knows count v
+  pub known : (port : ℕ) (v : Ledger) → get_elem? views port ≡ some v → Knows count v
 
 -- the places up to the end of a block were put
-abbrev pub with_put : Tally → List Block → Tally
+abbrev pub with_put : Ledger → List Block → Ledger
 with_put v [] = v
-with_put v (b ∷ bs) = tally v.parts b.end v.taken
+with_put v (b ∷ bs) = ledger v.parts b.end v.taken
 
 -- these are some of the places that were put, each once
 abbrev pub ArePlaces : ℕ → List ℕ → Type 0
 ArePlaces count taken = (h : ℕ → ℕ) → sum_by h taken ≤ sum_by h (places count)
 
 -- the places of these blocks were taken
-abbrev pub Takes : Tally → List Block → Tally → Type 0
-Takes v xs w = (w ≡ tally v.parts v.count (v.taken ++ places_in xs)) × ArePlaces v.count w.taken
+abbrev pub Takes : Ledger → List Block → Ledger → Type 0
+Takes v xs w = (w ≡ ledger v.parts v.count (v.taken ++ places_in xs)) × ArePlaces v.count w.taken
 
 -- the block lies among the places that were put, and no more were taken than these
-abbrev pub IsWithin : Tally → Tally → Block → Type 0
+abbrev pub IsWithin : Ledger → Ledger → Block → Type 0
 IsWithin before after block = (block.end ≤ before.count) × (length after.taken ≤ before.count)
 
 -- these are all places that were put, each once
@@ -56,16 +56,16 @@ abbrev pub AreAllPlaces : ℕ → List ℕ → Type 0
 AreAllPlaces count taken = (h : ℕ → ℕ) → sum_by h taken ≡ sum_by h (places count)
 
 -- whoever has the whole and finds no place knows that all were taken
-abbrev pub KnowsAll : Tally → Type 0
+abbrev pub KnowsAll : Ledger → Type 0
 KnowsAll v = v.parts ≡ 64 → AreAllPlaces v.count v.taken
 
 -- what a pass keeps when it is shared out in two, and what the other has
-abbrev pub rest_of : Tally → Tally
-rest_of v = tally (v.parts - 1) v.count v.taken
+abbrev pub rest_of : Ledger → Ledger
+rest_of v = ledger (v.parts - 1) v.count v.taken
 
-abbrev pub part_of : Tally → Tally
-part_of v = tally 1 v.count []
+abbrev pub part_of : Ledger → Ledger
+part_of v = ledger 1 v.count []
 
 -- what a pass knows when it has joined another
-abbrev pub joined : Tally → Tally → Tally
-joined v w = tally (v.parts + w.parts) v.count (v.taken ++ w.taken)
+abbrev pub joined : Ledger → Ledger → Ledger
+joined v w = ledger (v.parts + w.parts) v.count (v.taken ++ w.taken)

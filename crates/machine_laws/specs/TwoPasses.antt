@@ -2,7 +2,7 @@
 use Rattle.std.proofs.Common.{◌≡◌, ℕ, Bool, true, false, List, [], ◌∷◌, fold, Option, None, Some, is_some, refl, sym, ap, ◌∙◌, ⊎_elim}
 use Rattle.rule_machine.specs.declared.act.Act.{Act}
 use Rattle.rule_machine.specs.declared.act.Act.TheVariants.{Update, Marry, Seduce, Abandon}
-use Rattle.rule_machine.specs.declared.moved.Moved.{Moved}
+use Rattle.rule_machine.specs.declared.act.Moved.{Moved}
 use Rattle.rule_machine.specs.State.{State, Registers, IsState, pointer, pointer_of, with_pointer, with_flag, holds_at, points, married, partner}
 use Rattle.rule_machine.specs.Step.{written, after_move, registers_after}
 use Rattle.machine_laws.specs.Neighbours.{option_cases}
