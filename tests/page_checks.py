@@ -79,14 +79,14 @@ def spread(name):
 
 
 def definitions(top):
-    """What is said of the files of definitions that PROMISES.md and DEFINITIONS.md name: each is there."""
-    for page, column in ((top / "docs/PROMISES.md", 1), (top / "docs/DEFINITIONS.md", 2)):
+    """What is said of the files of definitions that PROMISES.md, DEFINITIONS.md and WORDS.md name: each is there."""
+    for page, column in ((top / "docs/PROMISES.md", 1), (top / "docs/DEFINITIONS.md", 2), (top / "docs/WORDS.md", 2)):
         for number, cells in rows(page):
             if len(cells) <= column or (column == 1 and len(cells) != 4) or cells[column] in ("defined in", "file"):
                 continue
             for name in itertools.chain.from_iterable(spread(quoted) for quoted in QUOTED.findall(cells[column])):
                 places = [top / "crates" / name.removeprefix("crates/"), top / "crates/rule_machine/specs" / name]
-                there = any(place.exists() or place.with_name(place.name + ".antt").exists() for place in places)
+                there = any(place.with_name(place.name + ending).exists() for place in places for ending in ("", ".antt", ".rt"))
                 # a name in parentheses is a definition in the file before it
                 yield there or f"(`{name}`)" in cells[column], f"{page.name}:{number}: no definitions in {name}"
 

@@ -5,6 +5,7 @@ use Rattle.rule_machine.specs.declared.event.Event.TheVariants.{Step, Enabled, M
 use Rattle.rule_machine.specs.declared.reply.Reply.{Reply}
 use Rattle.rule_machine.specs.declared.rules.RuleSet.{RuleSet}
 use Rattle.log_entry.specs.Kinds.{fits}
+pub use Rattle.log_entry.specs.Kinds.{max_entries}
 pub use Rattle.line_text.specs.ReplyText.{IsMoved, IsEnabled, IsPair, IsReply}
 use Rattle.line_text.specs.Words.{IsName}
 use Rattle.line_text.specs.ReplyText.{IsCount}
@@ -13,10 +14,6 @@ use Rattle.line_text.specs.BaseText.{base_head, base_counts, place_text, link_te
 use Rattle.entry_grammar.specs.declared.base_line.BaseLine.{BaseLine}
 use Rattle.entry_grammar.specs.declared.base_line.BaseLine.TheVariants.{Head, Base, Place, Link}
 use Rattle.line_text.specs.EntryText.{header_text, entry_text}
-
--- the most entries that a log holds
-abbrev pub max_entries : ℕ
-max_entries = 16777216
 
 -- the line is the one spelling of the entry with this number: an event, and a reply of its kind
 pub record SpellsEntry (line : List ℕ) (number : ℕ) (entry : Event × Reply) : Type 0 where

@@ -13,12 +13,9 @@ use crate::cut::{before, behind, cut_far};
 use crate::fault::EntryFault;
 use crate::reply::read_reply;
 use line_text::{number_in_front, put_entry, read_command};
-use log_entry::Entry;
+use log_entry::{Entry, MAX_ENTRIES};
 use rule_machine::Want;
 use std::alloc::Global;
-
-/// The most entries that a log holds.
-const MAX_ENTRIES: u32 = 16_777_216;
 
 // A line's number, and the texts of its event and its reply.
 fn parts(line: &[u8]) -> Option<(u32, &[u8], &[u8])>

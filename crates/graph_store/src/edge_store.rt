@@ -15,12 +15,9 @@ use crate::rows::{
 };
 use crate::{End, GraphFault};
 use enabled_set::EnabledSet;
-use rule_machine::{Edge, MAX_NAME, Node, Want};
+use rule_machine::{Edge, MAX_EDGES, MAX_NAME, Node, Want};
 use std::alloc::Global;
 use std::marker::Model;
-
-/// The most edges that a graph has.
-pub const MAX_EDGES: u32 = 1_048_576;
 
 /// The names 1 to n, those of them that are nodes, and the edges between these, seen in contracts as the network of the three, for
 /// how many more neighbours each name has room, and what each name makes of the edges at it. Each name has the sorted list of its

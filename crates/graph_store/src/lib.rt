@@ -20,8 +20,8 @@ mod fault;
 mod roll;
 mod rows;
 
-pub use edge_store::{EdgeStore, MAX_EDGES};
+pub use edge_store::EdgeStore;
 pub use ends::End;
 pub use fault::GraphFault;
 pub use roll::first_names;
-pub use rule_machine::{Edge, Node};
+pub use rule_machine::{Edge, MAX_EDGES, Node};

@@ -1,5 +1,5 @@
--- Which replies are of an event's kind, whatever they say.
-use Rattle.std.specs.Prelude.{Bool, true, false, cond, ◌&&◌, List, is_some, is_none, length, nat_le}
+-- How many entries a log holds, and which replies are of an event's kind, whatever they say.
+use Rattle.std.specs.Prelude.{ℕ, Bool, true, false, cond, ◌&&◌, List, is_some, is_none, length, nat_le}
 use Rattle.std.specs.List.{list_all}
 use Rattle.rule_machine.specs.declared.act.Moved.{Moved}
 use Rattle.rule_machine.specs.declared.event.Event.{Event}
@@ -7,6 +7,10 @@ use Rattle.rule_machine.specs.declared.event.Event.TheVariants.{Link, Unlink, Po
 use Rattle.rule_machine.specs.declared.reply.Reply.{Reply}
 use Rattle.rule_machine.specs.declared.reply.Reply.TheVariants.{Accepted, Refused, Moves, Shown, EnabledAre, Pairs, Counts}
 pub use Rattle.rule_machine.specs.Step.{takes_target}
+
+-- the most entries that a log may hold
+abbrev pub max_entries : ℕ
+max_entries = 16777216
 
 -- a move has a target exactly where its rule takes one
 abbrev pub is_move : Moved → Bool

@@ -10,9 +10,6 @@ use rule_machine::{Edge, Node, Want};
 use std::alloc::Global;
 use std::marker::Model;
 
-/// The most edges that a network has.
-pub const MAX_EDGES: usize = 1_048_576;
-
 /// A set of edges, ascending by lower end, then by higher end; seen in contracts as the set of its pairs.
 #[derive(Drop)]
 pub struct EdgeSet {

@@ -8,9 +8,8 @@ ghost use Rattle.rule_machine.specs.Refuse as refuse;
 ghost use Rattle.rule_machine.specs.Tables.{table_of};
 
 use crate::PlainNet;
-use crate::edge_set::MAX_EDGES;
 use crate::rules::{is_central, uses_flags};
-use rule_machine::{Act, Event, Item, Node, Refusal, RuleSet};
+use rule_machine::{Act, Event, Item, MAX_EDGES, Node, Refusal, RuleSet};
 
 impl PlainNet {
     /// Why an event is refused, if it is: the first reason in their fixed order.
@@ -52,7 +51,7 @@ impl PlainNet {
             Some(Refusal::SelfLoop)
         } else if self.linked(a, b) {
             Some(Refusal::AlreadyLinked)
-        } else if self.edges().len() >= MAX_EDGES {
+        } else if self.edges().len() >= MAX_EDGES as usize {
             Some(Refusal::TooManyEdges)
         } else {
             None

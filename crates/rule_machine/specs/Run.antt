@@ -1,13 +1,12 @@
 -- Runs: what a log of events and replies says of the machine.
-use Rattle.std.specs.Prelude.{◌≡◌, ℕ, ◌+◌, List, [], ◌∷◌, ◌++◌, length, refl}
-use Rattle.std.specs.Coded.{Coded, code_by, coded×, coded_ℕ}
+use Rattle.std.specs.Prelude.{◌≡◌, ℕ, ◌+◌, List, [], ◌∷◌, ◌++◌, length}
 use Rattle.rule_machine.specs.declared.base.Start.{Start}
 use Rattle.rule_machine.specs.declared.base.Start.TheVariants.{At}
 use Rattle.rule_machine.specs.declared.event.Event.{Event}
 use Rattle.rule_machine.specs.declared.reply.Reply.{Reply}
 use Rattle.rule_machine.specs.declared.reply.Reply.TheVariants.{Accepted, Refused, Moves, Shown, EnabledAre, Pairs, Counts}
 use Rattle.rule_machine.specs.Network.{node_count, edge_count}
-use Rattle.rule_machine.specs.State.{State, state_code, opening_with}
+use Rattle.rule_machine.specs.State.{State, opening_with}
 use Rattle.rule_machine.specs.RuleTable.{RuleTable}
 use Rattle.rule_machine.specs.Answer.{Answers, spent_after}
 use Rattle.rule_machine.specs.Least.{state_after, spent_by}
@@ -20,10 +19,6 @@ Entry = Event × Reply
 pub record Moment : Type 0 where
   pub state : State
   pub spent : ℕ
-
-abbrev pub moment_code : Coded Moment
-moment_code =
-    code_by (State × ℕ) (coded× state_code coded_ℕ) (λ m. (m.state, m.spent)) (λ p. record { state = p.0; spent = p.1 }) (λ _. refl)
 
 -- where the reply with the least targets leaves the machine
 abbrev pub moment_after : RuleTable → Moment → Event → Moment

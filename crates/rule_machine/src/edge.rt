@@ -5,6 +5,9 @@ ghost use Rattle.std.specs.Prelude.{◌≡◌, ◌≢◌, ◌<◌, SomeIff, min,
 use crate::Node;
 use std::marker::Model;
 
+/// The most edges of a network.
+pub const MAX_EDGES: u32 = 1_048_576;
+
 /// An undirected edge between two different nodes, seen in contracts as the pair of its ends, the lower name first.
 #[derive(Clone, Copy, Debug, PartialEq, Eq, PartialOrd, Ord)]
 pub struct Edge {

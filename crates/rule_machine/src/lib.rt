@@ -32,7 +32,7 @@ pub use act::{Act, Moved};
 pub use base::{Base, Place, Start};
 pub use choice::{Choice, Item, MAX_ITEMS};
 pub use counts::Counts;
-pub use edge::Edge;
+pub use edge::{Edge, MAX_EDGES};
 pub use event::Event;
 pub use listing::Listing;
 pub use memory::Want;

@@ -2,18 +2,12 @@
 
 ghost use Rattle.std.specs.Prelude.{◌≡◌, ◌<◌, ◌≤◌, ◌↔◌, max, min, IsNone, IfSome};
 
-use rule_machine::RuleSet;
+use rule_machine::{MAX_NAME, RuleSet};
+use script_text::MAX_TURNS;
+use steal_pool::MAX_WORKERS;
 use step_log::MAX_ENTRIES;
 
-/// The most nodes of a network.
-const MAX_NODES: u32 = 65_535;
-
-/// The most workers that evaluate a step, and the most that roam.
-const MAX_WORKERS: u32 = 64;
-
-/// The most turns of a roaming worker, and how many it has where nothing is said.
-const MAX_TURNS: u32 = 1_000_000;
-
+/// How many turns a roaming worker has where nothing is said.
 const USUAL_TURNS: u32 = 1_000;
 
 /// The rule set, how many names there are and how many of them are present at the start, how many entries there may be, how many
@@ -45,7 +39,7 @@ impl Options {
         ensures none { IsNone result ↔ 65535 < nodes }
         ensures options { IfSome result (λ options. asked_of options ≡ record { rules = rules; nodes = nodes; present = nodes; limit = 16777216; workers = 1; roamers = 0; turns = 1000 }) }
     {
-        if nodes > MAX_NODES {
+        if nodes > MAX_NAME {
             return None;
         }
         Some(Options {

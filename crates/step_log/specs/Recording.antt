@@ -4,10 +4,7 @@ use Rattle.rule_machine.specs.declared.event.Event.{Event}
 use Rattle.rule_machine.specs.State.{State, IsState, opening_with}
 use Rattle.rule_machine.specs.RuleTable.{RuleTable}
 use Rattle.rule_machine.specs.Least.{state_after, spent_by}
-
--- the most entries that a log may hold
-abbrev pub max_entries : ℕ
-max_entries = 16777216
+pub use Rattle.log_entry.specs.Kinds.{max_entries}
 
 -- the state of a network, the moves since it was last disturbed, how many entries led to it, how many there may be, and how many of
 -- the names were present at the start, from 1 on

@@ -194,8 +194,7 @@ impl<R: Rules> Journal<R> {
     pub fn prepare(&mut self, event: Event) -> Result<Prepared, RecordFault>
         ensures receipt { IfOk result (λ prepared. prepared ≡ next_receipt R.table (kept_of self.old) event) }
         ensures ready { IfOk result (λ prepared. IsReady R.table self.new prepared) }
-        ensures full { last_number (kept_of self.old) ≡ self.old.limit → IsErrOf result LogFull }
-        ensures not_full { IsErrOf result LogFull → last_number (kept_of self.old) ≡ self.old.limit }
+        ensures full { IsErrOf result LogFull ↔ (last_number (kept_of self.old) ≡ self.old.limit) }
         ensures kept { kept_of self.new ≡ kept_of self.old }
     {
         let seq = self.make_room()?;
@@ -215,8 +214,7 @@ impl<R: Rules> Journal<R> {
         requires { verdicts.now ≡ verdicts_of R.table self.old.state choice }
         ensures receipt { IfOk result (λ prepared. prepared ≡ next_receipt R.table (kept_of self.old) (Step choice)) }
         ensures ready { IfOk result (λ prepared. IsReady R.table self.new prepared) }
-        ensures full { last_number (kept_of self.old) ≡ self.old.limit → IsErrOf result LogFull }
-        ensures not_full { IsErrOf result LogFull → last_number (kept_of self.old) ≡ self.old.limit }
+        ensures full { IsErrOf result LogFull ↔ (last_number (kept_of self.old) ≡ self.old.limit) }
         ensures kept { kept_of self.new ≡ kept_of self.old }
     {
         let seq = self.make_room()?;
@@ -244,8 +242,7 @@ impl<R: Rules> Journal<R> {
     pub fn record(&mut self, event: Event) -> Result<Receipt, RecordFault>
         ensures receipt { IfOk result (λ receipt. receipt ≡ next_receipt R.table (kept_of self.old) event) }
         ensures log { OnOk result (kept_of self.new ≡ kept_with R.table (kept_of self.old) event) }
-        ensures full { last_number (kept_of self.old) ≡ self.old.limit → IsErrOf result LogFull }
-        ensures not_full { IsErrOf result LogFull → last_number (kept_of self.old) ≡ self.old.limit }
+        ensures full { IsErrOf result LogFull ↔ (last_number (kept_of self.old) ≡ self.old.limit) }
         ensures kept { OnErr result (kept_of self.new ≡ kept_of self.old) }
     {
         let prepared = self.prepare(event)?;
@@ -263,8 +260,7 @@ impl<R: Rules> Journal<R> {
         requires { verdicts.now ≡ verdicts_of R.table self.old.state choice }
         ensures receipt { IfOk result (λ receipt. receipt ≡ next_receipt R.table (kept_of self.old) (Step choice)) }
         ensures log { OnOk result (kept_of self.new ≡ kept_with R.table (kept_of self.old) (Step choice)) }
-        ensures full { last_number (kept_of self.old) ≡ self.old.limit → IsErrOf result LogFull }
-        ensures not_full { IsErrOf result LogFull → last_number (kept_of self.old) ≡ self.old.limit }
+        ensures full { IsErrOf result LogFull ↔ (last_number (kept_of self.old) ≡ self.old.limit) }
         ensures kept { OnErr result (kept_of self.new ≡ kept_of self.old) }
     {
         let prepared = self.prepare_step(choice, verdicts)?;
@@ -279,8 +275,7 @@ impl<R: Rules> Journal<R> {
         ensures kept { kept_of self.new ≡ kept_of self.old }
         ensures net { self.new.room ≡ self.old.room }
         ensures epochs { self.new.spare_epochs ≡ self.old.spare_epochs }
-        ensures full { last_number (kept_of self.old) ≡ self.old.limit → IsErrOf result LogFull }
-        ensures not_full { IsErrOf result LogFull → last_number (kept_of self.old) ≡ self.old.limit }
+        ensures full { IsErrOf result LogFull ↔ (last_number (kept_of self.old) ≡ self.old.limit) }
     {
         let last = self.len();
         if last >= self.limit {

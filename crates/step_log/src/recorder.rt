@@ -148,8 +148,7 @@ impl<R: Rules> Recorder<R> {
         ensures below { OnOk result (self.old.len < self.old.limit) }
         ensures recording { OnOk result (self.new ≡ entered R.table self.old event.now) }
         ensures text { OnOk result (text.new.items ≡ text.old.items ++ entry_line (self.old.len + 1) event.now (reply_of R.table self.old.state self.old.spent event.now)) }
-        ensures full { self.old.len ≡ self.old.limit → IsErrOf result LogFull }
-        ensures not_full { IsErrOf result LogFull → self.old.len ≡ self.old.limit }
+        ensures full { IsErrOf result LogFull ↔ (self.old.len ≡ self.old.limit) }
         ensures kept { OnErr result (self.new ≡ self.old) }
         ensures kept_text { OnErr result (text.new.items ≡ text.old.items) }
     {
@@ -172,8 +171,7 @@ impl<R: Rules> Recorder<R> {
         ensures machine { IfOk result (λ answer. Answers R.table self.old.state self.old.spent (Step choice.now) answer.reply self.new.state) }
         ensures below { OnOk result (self.old.len < self.old.limit) }
         ensures recording { OnOk result (self.new ≡ entered R.table self.old (Step choice.now)) }
-        ensures full { self.old.len ≡ self.old.limit → IsErrOf result LogFull }
-        ensures not_full { IsErrOf result LogFull → self.old.len ≡ self.old.limit }
+        ensures full { IsErrOf result LogFull ↔ (self.old.len ≡ self.old.limit) }
         ensures kept { OnErr result (self.new ≡ self.old) }
     {
         if self.is_full() {
