@@ -1,7 +1,6 @@
 -- What a clerk's note tells, beside a later note and beside the log.
-use Rattle.std.proofs.Common.{◌≡◌, ℕ, suc, ◌≤◌, List, [], ◌∷◌, ◌++◌, length, Option, None, Some, Result, Ok, Err, IfOk, IfErr, OnOk, MatchOption, inl, inr, ⊎_elim, refl, sym, ap, subst, arith}
-use Rattle.std.specs.List.{All, slice_get}
-use Rattle.std.proofs.lemmas.List.Elements.{All-nil, All-cons, All-weaker}
+use Rattle.std.proofs.Common.{◌≡◌, ℕ, ◌≤◌, List, [], ◌∷◌, ◌++◌, length, Option, None, Some, Result, Ok, Err, IfOk, IfErr, MatchOption, inl, inr, ⊎_elim, refl, sym, ap, subst, arith}
+use Rattle.std.specs.List.{All}
 use mathlib.Core.List.{IsPrefix}
 use Rattle.rule_machine.specs.Run.{Entry}
 use Rattle.board.specs.OneLog.{AreComparable}
@@ -9,12 +8,9 @@ use Rattle.board.specs.Views.{Told}
 use Rattle.board.proofs.Fronts.{prefix_self, prefix_whole}
 use Rattle.step_log.specs.declared.receipt.Receipt.{Receipt}
 use Rattle.locked_net.specs.Receipts.{ClerkView, front_from, front_of, noted, RiseAbove, IsClerk}
-use Rattle.locked_net.specs.Above.{IsPartNoted, IsPartMet}
-use Rattle.locked_net.specs.Headline.{Headline}
+use Rattle.locked_net.specs.Above.{IsPartNoted}
 use Rattle.locked_net.specs.Looks.{IsPublished}
 use Rattle.locked_net.specs.Settings.{Setting}
-use Rattle.locked_net.specs.Settled.{Settled}
-use Rattle.locked_net.proofs.Above.{above_len}
 use Rattle.logbook.specs.Pages.{Book}
 use Rattle.step_log.specs.Kept.{Kept}
 
@@ -34,10 +30,6 @@ pub none_follows : {A : Type 0} (found : Option A) (Has : A → Type 0) (note : 
 none_follows None Has note other none is = subst (λ (o : Option Told). AreComparable other (noted o)) (sym is) (inr (other, refl))
 none_follows (Some a) Has note other none is = absurd (none a refl)
 
-pub none_meets : {A : Type 0} (found : Option A) (Has : A → Type 0) (note : Option Told) (other : List Entry) → ((a : A) → found ≡ Some a → ⊥) → MatchOption found (note ≡ None) Has → AreComparable (noted note) other
-none_meets None Has own other none is = subst (λ (o : Option Told). AreComparable (noted o) other) (sym is) (inl (other, refl))
-none_meets (Some a) Has own other none is = absurd (none a refl)
-
 -- ---- a later note of a clerk
 
 low_front : (low : ℕ) (receipts : List Receipt) → RiseAbove low receipts → low ≤ front_from low receipts
@@ -56,38 +48,14 @@ later_note old new own was is added comparable =
 
 -- ---- the log
 
--- what is kept is a part of the log that is noted; a clerk's note that tells no more entries than that log begins it
-pub part_met : (setting : Setting) (book : Book) (kept : Kept) (note : Told) (clerks : List ClerkView) → IsPublished setting book kept note → All (λ clerk. IsClerk clerk × AreComparable (noted clerk.note) note.log) clerks → IsPartMet setting kept clerks
-part_met setting book kept note clerks is met =
-    let Begins : List Entry → ClerkView → Type 0 = λ log clerk. front_of clerk.receipts ≤ length log → IsPrefix (noted clerk.note) log in
-    let begin = All-weaker (λ (clerk : ClerkView). IsClerk clerk × AreComparable (noted clerk.note) note.log) (Begins note.log)
-    (λ clerk m within. shorter_begins (noted clerk.note) note.log m.1 (omega (arith, m.0.ends, within))) clerks met in
-    record { part = is.part; begins = subst (λ (log : List Entry). All (Begins log) clerks) is.published begin }
-
-front_within : (most low : ℕ) (receipts : List Receipt) → low ≤ most → ((p : ℕ) (receipt : Receipt) → slice_get receipts p ≡ Some receipt → receipt.seq ≤ most) → front_from low receipts ≤ most
-front_within most low [] few all = few
-front_within most low (receipt ∷ receipts) few all = front_within most receipt.seq receipts (all 0 receipt refl) (λ p other at. all (suc p) other at)
-
-all_at : {X : Type 0} (P : X → Type 0) (xs : List X) → ((k : ℕ) (x : X) → slice_get xs k ≡ Some x → P x) → All P xs
-all_at P [] at = All-nil P
-all_at P (x ∷ xs) at = All-cons P x xs (at 0 x refl) (all_at P xs (λ k y here. at (suc k) y here))
-
--- where they are settled no receipt has a number beyond the log, and so each note begins it
-pub settled_notes : (setting : Setting) (kept : Kept) (clerks : List ClerkView) → IsPartMet setting kept clerks → Settled kept clerks → IsPartNoted setting kept clerks
-settled_notes setting kept clerks met settled =
-    let count = above_len setting.table met.part.log kept met.part.above in
-    let within = all_at (λ (clerk : ClerkView). front_of clerk.receipts ≤ length met.part.log.entries) clerks
-    (λ c clerk here. front_within (length met.part.log.entries) 0 clerk.receipts (omega arith)
-    (λ p receipt at. let told = settled.told c p clerk receipt here at in omega (arith, told.within, count))) in
-    record { part = met.part; begins = λ k d lt. met.begins k d lt (within k d lt) }
-
-pub noted_at_ok : {A E : Type 0} (setting : Setting) (weight : ℕ) (kept : Kept) (clerks : List ClerkView) (result : Result A E) → IsPartMet setting kept clerks → OnOk result (Headline setting.table weight kept clerks) → OnOk result (IsPartNoted setting kept clerks)
-noted_at_ok setting weight kept clerks (Ok a) met told = settled_notes setting kept clerks met told.told
-noted_at_ok setting weight kept clerks (Err e) met told = tt
+-- what is kept is a part of the log that is noted, and each clerk's note tells a beginning of that
+pub part_noted : (setting : Setting) (book : Book) (kept : Kept) (note : Told) (clerks : List ClerkView) → IsPublished setting book kept note → All (λ clerk. IsPrefix (noted clerk.note) note.log) clerks → IsPartNoted setting kept clerks
+part_noted setting book kept note clerks is begin =
+    record { part = is.part; begins = subst (λ (log : List Entry). All (λ clerk. IsPrefix (noted clerk.note) log) clerks) is.published begin }
 
 -- ---- what holds of a journal holds of it where it comes back
 
-pub holds_at_ok : {A E : Type 0} (P : A → Type 0) (whole : A) (result : Result A E) → OnOk result (P whole) → IfOk result (λ a. a ≡ whole) → IfOk result P
+pub holds_at_ok : {A E : Type 0} (P : A → Type 0) (whole : A) (result : Result A E) → P whole → IfOk result (λ a. a ≡ whole) → IfOk result P
 holds_at_ok P whole (Ok a) holds same = subst P (sym same) holds
 holds_at_ok P whole (Err e) holds same = tt
 

@@ -1,5 +1,5 @@
 -- A whole log, with each entry from the opening state on, and what a journal keeps of it: the part above its base.
-use Rattle.std.specs.Prelude.{◌≡◌, ℕ, ◌≤◌, ◌++◌, List, Option, None, Some, length}
+use Rattle.std.specs.Prelude.{◌≡◌, ℕ, ◌++◌, List, Option, None, Some, length}
 use Rattle.std.specs.List.{All}
 use mathlib.Core.List.{IsPrefix}
 use Rattle.rule_machine.specs.declared.base.Base.{Base}
@@ -9,7 +9,7 @@ use Rattle.rule_machine.specs.Base.{base_of, dropped}
 use Rattle.step_log.specs.Log.{Log}
 use Rattle.step_log.specs.Held.{Held, kept_of}
 use Rattle.step_log.specs.Kept.{Kept, IsKept}
-use Rattle.locked_net.specs.Receipts.{ClerkView, front_of, noted}
+use Rattle.locked_net.specs.Receipts.{ClerkView, noted}
 use Rattle.locked_net.specs.Settings.{Setting, IsLogIn}
 
 -- the base, if there is one, tells the moment to which these entries lead
@@ -49,8 +49,3 @@ IsBack setting weight journal =
 pub record IsPartNoted (setting : Setting) (kept : Kept) (clerks : List ClerkView) : Type 0 where
   pub part : IsPart setting kept
   pub begins : All (λ clerk. IsPrefix (noted clerk.note) part.log.entries) clerks
-
--- So it does of each whose last receipt has a number of this log.
-pub record IsPartMet (setting : Setting) (kept : Kept) (clerks : List ClerkView) : Type 0 where
-  pub part : IsPart setting kept
-  pub begins : All (λ clerk. front_of clerk.receipts ≤ length part.log.entries → IsPrefix (noted clerk.note) part.log.entries) clerks

@@ -1,18 +1,19 @@
 //! How a locked network ends.
 
-ghost use Rattle.std.specs.Prelude.{◌≡◌, IfOk, IfErr, OnOk};
+ghost use Rattle.std.specs.Prelude.{◌≡◌, ◌≢◌, false, IfOk, IfErr, OnOk, IsTrue};
 ghost use Rattle.std.specs.List.{All};
-ghost use Rattle.board.specs.OneLog.{AreComparable};
+ghost use mathlib.Core.List.{IsPrefix};
 ghost use Rattle.step_log.specs.Held.{kept_of};
 ghost use Rattle.step_log.specs.Kept.{IsKept};
-ghost use Rattle.locked_net.specs.Above.{IsBack, IsPart, IsPartNoted, IsPartMet};
+ghost use Rattle.locked_net.specs.Above.{IsBack, IsPart, IsPartNoted};
 ghost use Rattle.locked_net.specs.Headline.{Headline};
 ghost use Rattle.locked_net.specs.Nets.{book_of, nodes_of, present_of, limit_of, setting_of};
-ghost use Rattle.locked_net.specs.Receipts.{IsClerk, IsOfBook, noted};
+ghost use Rattle.locked_net.specs.Receipts.{IsOfBook, noted};
 ghost use Rattle.locked_net.specs.Settled.{Settled, Unsettles};
+ghost use Rattle.locked_net.specs.declared.settle_fault.SettleFault.TheVariants.{Memory};
 
 use crate::settling::settled_with;
-use crate::{Clerk, LockedNet, Unsettled};
+use crate::{Clerk, LockedNet, SettleFault, Unsettled};
 use board::Note;
 use rule_engine::Rules;
 use std::alloc::Global;
@@ -45,8 +46,8 @@ pub fn settle<R: Rules, W: Wait>(
 
 /// Takes the journal out of a network that nobody calls any more, and settles its clerks against it, of whom each has called
 /// this network, or nobody: what each one's note tells is then a beginning of the whole log, of which the journal keeps the part
-/// above its base. So it is of the journal that comes back with a fault, for each clerk whose last receipt has a number of that log.
-/// All else as `settle` says.
+/// above its base. So it is of the journal that comes back with a fault, but for `Memory`, which stands for a note that is no such
+/// beginning too: that never comes. All else as `settle` says.
 pub fn settle_own<R: Rules, W: Wait>(
     rt: &W,
     net: LockedNet<R>,
@@ -61,31 +62,39 @@ pub fn settle_own<R: Rules, W: Wait>(
     ensures size { IfOk result (λ journal. (journal.state.network.size ≡ nodes_of net) × (journal.present ≡ present_of net) × (journal.limit ≡ limit_of net)) }
     ensures fault { IfErr result (λ unsettled. Unsettles (kept_of unsettled.journal) clerks.items unsettled.why) }
     ensures back { IfErr result (λ unsettled. IsBack (setting_of R.table net) R.NODE_WEIGHT unsettled.journal) }
-    ensures back_noted { IfErr result (λ unsettled. IsPartMet (setting_of R.table net) (kept_of unsettled.journal) clerks.items) }
+    ensures back_noted { IfErr result (λ unsettled. (unsettled.why ≢ Memory) → IsPartNoted (setting_of R.table net) (kept_of unsettled.journal) clerks.items) }
 {
     let alloc = net.alloc();
     let (journal, last) = net.into_noted(rt);
-    meet_all(&clerks, &last);
+    if !all_begin(&clerks, &last) {
+        let why = SettleFault::Memory;
+        return Err(Unsettled { why, journal });
+    }
     settle_journal(alloc, journal, &clerks)
 }
 
-/// Of what each clerk's note tells and what another note of its network tells, one begins the other. Nothing else is found out.
-fn meet_all(clerks: &[Clerk], last: &Note)
+/// Whether what each clerk's note tells is seen to begin what another note of its network tells.
+fn all_begin(clerks: &[Clerk], last: &Note) -> bool
     requires { All (IsOfBook last.now.book) clerks.now }
-    ensures { All (λ clerk. IsClerk clerk × AreComparable (noted clerk.note) last.now.log) clerks.now }
+    ensures yes { IsTrue result → All (λ clerk. IsPrefix (noted clerk.note) last.now.log) clerks.now }
 {
     for clerk in clerks {
-        meet(clerk, last);
+        if !begins(clerk, last) {
+            return false;
+        }
     }
+    true
 }
 
-/// So it is of one clerk.
-fn meet(clerk: &Clerk, last: &Note)
+/// Whether what a clerk's note tells is seen to begin what another note of its network tells.
+fn begins(clerk: &Clerk, last: &Note) -> bool
     requires { IsOfBook last.now.book clerk.now }
-    ensures { IsClerk clerk.now × AreComparable (noted clerk.now.note) last.now.log }
+    ensures yes { IsTrue result → IsPrefix (noted clerk.now.note) last.now.log }
+    ensures no { result ≡ false → IsPrefix last.now.log (noted clerk.now.note) }
 {
-    if let Some(note) = clerk.note() {
-        note.meets(last);
+    match clerk.note() {
+        Some(note) => note.begins(last),
+        None => true,
     }
 }
 
