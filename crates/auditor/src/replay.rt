@@ -20,11 +20,9 @@ use crate::{Damage, JudgeFault, Summary};
 use entry_grammar::{BaseFault, BaseLine, read_base, read_base_line, read_header, split_line};
 use judge::Judge;
 use line_text::{after, put_base};
+use log_entry::MAX_ENTRIES;
 use rule_machine::{RuleSet, Start, Want};
 use std::alloc::Global;
-
-/// The most entries that a log has.
-const MAX_ENTRIES: u32 = 16_777_216;
 
 /// The rules of a transcript and how many names there are, where its first epoch began, how far its audit has come, and how many
 /// lines that is. While a base comes in pieces: the text that it has to have, and how many bytes of that have come.
