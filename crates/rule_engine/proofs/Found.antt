@@ -6,7 +6,8 @@ use Rattle.std.proofs.lemmas.List.{map-id, drop_more, take_more}
 use Rattle.std.proofs.lemmas.List.FromFn.{map-range_with_len_more}
 use Rattle.std.proofs.lemmas.List.Elements.{filter_map-append}
 use Rattle.rule_machine.specs.declared.verdict.Verdict.{Verdict}
-pub use Rattle.indexed_state.proofs.Summed.{one_byte, few_bytes}
+pub use Rattle.enabled_set.proofs.Sums.{one_byte}
+pub use Rattle.indexed_state.proofs.Summed.{few_bytes}
 use Rattle.rule_engine.specs.Choosing.{refused_by, verdicts_refusal}
 
 -- the names of a range, and the next one
