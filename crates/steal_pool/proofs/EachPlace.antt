@@ -39,15 +39,15 @@ pub all_stand : (count : ℕ) (taken : List ℕ) → AreAllPlaces count taken �
 all_stand count taken are = λ place. are (λ x. cond (nat_eq place x) 1 0) ∙ each_once count place
 
 -- the verdicts at these places stand there
-pub judged_places : (t : RuleTable) (s : State) (items : List Item) (taken : List ℕ) (verdicts : List Verdict) → AreOf (verdicts_of t s items) taken verdicts → places_of verdicts ≡ taken
-judged_places t s items [] [] are = refl
-judged_places t s items [] (v ∷ vs) are = absurd cc
-judged_places t s items (p ∷ ps) [] are = absurd cc
-judged_places t s items (p ∷ ps) (v ∷ vs) are =
+pub judges_its_places : (t : RuleTable) (s : State) (items : List Item) (taken : List ℕ) (verdicts : List Verdict) → AreOf (verdicts_of t s items) taken verdicts → places_of verdicts ≡ taken
+judges_its_places t s items [] [] are = refl
+judges_its_places t s items [] (v ∷ vs) are = absurd cc
+judges_its_places t s items (p ∷ ps) [] are = absurd cc
+judges_its_places t s items (p ∷ ps) (v ∷ vs) are =
     let first : slice_get (verdicts_of t s items) p ≡ Some v = cc in
     let rest : AreOf (verdicts_of t s items) ps vs = cc in
     let here : v.place ≡ p = (place_from t s 0 items p v first).1 ∙ omega arith in
-    ap (λ (n : ℕ). n ∷ places_of vs) here ∙ ap (λ (l : List ℕ). p ∷ l) (judged_places t s items ps vs rest)
+    ap (λ (n : ℕ). n ∷ places_of vs) here ∙ ap (λ (l : List ℕ). p ∷ l) (judges_its_places t s items ps vs rest)
 
 -- of no item no verdict is had, so none was taken
 no_item : (taken : List ℕ) (verdicts : List Verdict) → AreOf [] taken verdicts → taken ≡ []

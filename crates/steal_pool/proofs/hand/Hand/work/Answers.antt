@@ -3,7 +3,7 @@ use Rattle.place_deque.specs.Ends.{Hold, end_hold, end_taken}
 use Rattle.rule_engine.specs.Choosing.{verdicts_of}
 use Rattle.steal_pool.specs.Hands.{AreOf}
 use Rattle.steal_pool.specs.Once.{StandOnce, places_of}
-use Rattle.steal_pool.proofs.EachPlace.{some_stand, judged_places}
+use Rattle.steal_pool.proofs.EachPlace.{some_stand, judges_its_places}
 use Rattle.steal_pool.proofs.Laying.{as_many, more_taken}
 use Rattle.steal_pool.proofs.hand.Hand.work.Goals as goal
 
@@ -27,7 +27,7 @@ pub invariant_of-result : goal.invariant_of-result
 invariant_of-result g c =
     let loop = c.loop-block.invariant in
     let kept = c.in_default.ensures in
-    let at : places_of c.shrink_to_fit.new.self.items ≡ end_taken c.loop-block.end = ap places_of c.shrink_to_fit.ensures.items ∙ judged_places g.R.Rules.table c.args.net.now.state c.args.choice.now (end_taken c.loop-block.end) c.loop-block.verdicts.items loop.judged in
+    let at : places_of c.shrink_to_fit.new.self.items ≡ end_taken c.loop-block.end = ap places_of c.shrink_to_fit.ensures.items ∙ judges_its_places g.R.Rules.table c.args.net.now.state c.args.choice.now (end_taken c.loop-block.end) c.loop-block.verdicts.items loop.judged in
     let count : length c.args.choice.now ≡ (end_hold c.take.new.self).count = sym (ap (λ (h : Hold). h.count) (kept.hold ∙ loop.hold) ∙ c.requires.choice) in
     record {
       taken = at ∙ sym kept.taken;
@@ -37,5 +37,5 @@ invariant_of-result g c =
 pub returns-clause-once : goal.returns-clause-once
 returns-clause-once g c =
     let loop = c.loop-block.invariant in
-    let at : places_of c.shrink_to_fit.new.self.items ≡ end_taken c.loop-block.end = ap places_of c.shrink_to_fit.ensures.items ∙ judged_places g.R.Rules.table c.args.net.now.state c.args.choice.now (end_taken c.loop-block.end) c.loop-block.verdicts.items loop.judged in
+    let at : places_of c.shrink_to_fit.new.self.items ≡ end_taken c.loop-block.end = ap places_of c.shrink_to_fit.ensures.items ∙ judges_its_places g.R.Rules.table c.args.net.now.state c.args.choice.now (end_taken c.loop-block.end) c.loop-block.verdicts.items loop.judged in
     subst (StandOnce (length c.args.choice.now)) (sym at) loop.once
