@@ -26,9 +26,10 @@ enum {
     RUDEKPI_BAD_LINE = 1,     /* the line is neither empty nor a command; nothing was done */
     RUDEKPI_LOG_FULL = 2,     /* an entry was wanted when there were 16,777,216 */
     RUDEKPI_NO_MEMORY = 3,    /* a growth of memory was refused; the session lives on */
-    RUDEKPI_NO_SESSION = 4,   /* the slot has none */
+    RUDEKPI_NO_SESSION = 4,   /* the slot has none, or no audit */
     RUDEKPI_BAD_ARGUMENT = 5, /* what was asked for is out of its range; nothing was done */
-    RUDEKPI_REFUSED = 6       /* the machine refused the event, which its entry says; the network is as before */
+    RUDEKPI_REFUSED = 6,      /* the machine refused the event, which its entry says; the network is as before */
+    RUDEKPI_DAMAGED = 7       /* what an audit was fed is no transcript, whatever comes behind */
 };
 
 /* The rules: those of Hsu and Huang (1992), where one enabled node moves at a time; those of Manne, Mjelde, Pilard and Tixeuil
@@ -176,6 +177,18 @@ uint32_t rudekpi_transcript(struct rudekpi_slot *slot, bool keeps);
  * NO_SESSION; BAD_ARGUMENT for a name that is 0 or above 65,535. `partner` is written in each case. */
 uint32_t rudekpi_partner(struct rudekpi_slot *slot, uint32_t node, uint32_t *partner);
 
+/* What an edit or a fault would cost if it came now, in moves: by how much it would let the charge grow at most, and with it the moves
+ * that may come before the next edit or fault. 0 also where the machine would refuse it. It is told from the pointers and the degrees
+ * of the nodes that it touches (docs/BOUNDS.md has the table), whatever the size of the network; nothing is done, and no entry added.
+ * DONE; NO_SESSION; BAD_ARGUMENT for a name that is 0 or above 65,535, but for a target, of which 0 is null. `cost` is written in each
+ * case, 0 where the answer is not DONE. */
+uint32_t rudekpi_cost_of_link(struct rudekpi_slot *slot, uint32_t a, uint32_t b, uint32_t *cost);
+uint32_t rudekpi_cost_of_unlink(struct rudekpi_slot *slot, uint32_t a, uint32_t b, uint32_t *cost);
+uint32_t rudekpi_cost_of_join(struct rudekpi_slot *slot, uint32_t node, uint32_t *cost);
+uint32_t rudekpi_cost_of_leave(struct rudekpi_slot *slot, uint32_t node, uint32_t *cost);
+uint32_t rudekpi_cost_of_point(struct rudekpi_slot *slot, uint32_t node, uint32_t target, uint32_t *cost);
+uint32_t rudekpi_cost_of_flag(struct rudekpi_slot *slot, uint32_t node, bool value, uint32_t *cost);
+
 /* What an audit finds. */
 struct rudekpi_verdict {
     uint32_t kind;    /* one of the following */
@@ -197,6 +210,28 @@ enum {
 /* Judges a transcript, without the engine that writes them: accepts exactly those of runs, and names the first damage of other
  * bytes. Costs what the program's `audit` costs. Takes no slot, so any thread may call it. */
 void rudekpi_audit(const uint8_t *bytes, size_t length, struct rudekpi_verdict *verdict);
+
+/* Where an audit is kept that is fed a transcript as it comes: what C has to keep of a slot holds of it, too. */
+struct rudekpi_audit_slot {
+    void *at;
+    bool full;
+};
+
+/* Begins an audit that was fed nothing, in the place of what the slot had. DONE; NO_MEMORY: the slot is empty then. */
+uint32_t rudekpi_audit_new(struct rudekpi_audit_slot *slot);
+
+/* Feeds the audit the bytes that come next, cut anywhere. DONE where nothing wrong was found by now; DAMAGED where what it was fed is no
+ * transcript, whatever comes behind; NO_MEMORY, after which it judges nothing any more; NO_SESSION. What is answered once in place of
+ * DONE, each later call answers. It keeps a line or a base that is not whole yet, and no other text. Costs what rudekpi_audit costs of
+ * the lines that end in these bytes. */
+uint32_t rudekpi_audit_feed(struct rudekpi_audit_slot *slot, const uint8_t *bytes, size_t length);
+
+/* Tells the verdict on all that the audit was fed, which is that of rudekpi_audit on the whole, and ends it; the slot is empty then. DONE;
+ * NO_SESSION, where the verdict is UNJUDGED. Where memory was refused, now or before, it is UNJUDGED. */
+uint32_t rudekpi_audit_finish(struct rudekpi_audit_slot *slot, struct rudekpi_verdict *verdict);
+
+/* Ends the audit without a verdict and gives its memory back; the slot is empty then, as it may be before. */
+void rudekpi_audit_free(struct rudekpi_audit_slot *slot);
 
 #ifdef __cplusplus
 }
