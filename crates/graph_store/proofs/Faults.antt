@@ -9,10 +9,10 @@ use Rattle.rule_machine.specs.Network.{Network, present, linked, edge, edge_coun
 use Rattle.rule_machine.specs.Refuse.{max_edges}
 use Rattle.graph_store.specs.declared.fault.GraphFault.TheVariants.{UnknownNode, SelfLoop, AlreadyLinked, NotLinked, TooManyEdges}
 use Rattle.graph_store.specs.Fault.{ends_fault, link_fault, unlink_fault}
-use Rattle.graph_store.specs.Rows.{contents, row_at, has, network_of, IsRows, IsPlaceOf, IsGapFor}
+use Rattle.graph_store.specs.Rows.{contents, row_at, has, network_of, IsRows, IsPlaceOf}
 use Rattle.graph_store.proofs.PairOrder.{count-some}
 use Rattle.graph_store.proofs.Contents.{row_read, length_contents}
-use Rattle.graph_store.proofs.Rising.{there_at_place, absent_at_gap}
+use Rattle.graph_store.proofs.Rising.{there_at_place}
 use Rattle.graph_store.proofs.Store.{present_bounds, linked_by, linked_present}
 
 -- what is known of two ends where none of their tests fails
@@ -95,11 +95,6 @@ row_here size roll rows net v p r row seen good here same is items =
 pub linked_at_place : (size : ℕ) (roll : List Bool) (rows : List (List ℕ)) (net : Network) (a b i : ℕ) (row : List ℕ) → network_of size roll rows ≡ net → IsRows size roll rows → row ≡ row_at rows a → IsPlaceOf row b i → linked net a b ≡ true
 linked_at_place size roll rows net a b i row seen good is place =
     sym (linked_by size roll rows net a b seen good) ∙ ap (λ l. has l b) (sym is) ∙ there_at_place row b i place
-
--- and not where one is missing there
-pub apart_at_gap : (size : ℕ) (roll : List Bool) (rows : List (List ℕ)) (net : Network) (a b i : ℕ) (row : List ℕ) → network_of size roll rows ≡ net → IsRows size roll rows → row ≡ row_at rows a → IsGapFor row b i → linked net a b ≡ false
-apart_at_gap size roll rows net a b i row seen good is gap =
-    sym (linked_by size roll rows net a b seen good) ∙ ap (λ l. has l b) (sym is) ∙ absent_at_gap row b i gap
 
 -- an edge is the same from either end
 pub linked_back : (size : ℕ) (roll : List Bool) (rows : List (List ℕ)) (net : Network) (a b : ℕ) → network_of size roll rows ≡ net → IsRows size roll rows → linked net a b ≡ linked net b a

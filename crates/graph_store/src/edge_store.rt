@@ -1,11 +1,12 @@
 //! The edges of a network.
 
-ghost use Rattle.std.specs.Prelude.{◌≡◌, ◌≢◌, ◌≤◌, false, length, [], slice_get, slice_set, IfOk, IfErr, OnOk, OnErr, MatchOption, IsTrue, All, None, Some};
+ghost use Rattle.std.specs.Prelude.{◌≡◌, ◌≢◌, ◌≤◌, ℕ, false, length, [], slice_get, slice_set, IfOk, IfErr, OnOk, OnErr, MatchOption, IsTrue, All, None, Some};
+ghost use Rattle.std.specs.List.Sorted.{IsStrictlyIncreasing};
 ghost use Rattle.rule_machine.specs.Network.{Network, edgeless, edgeless_with, with_node, without_node, names, node_count, edge_count, edge_list, present, linked, neighbours, with_edge, without_edge};
 ghost use Rattle.graph_store.specs.Fault.{nodes_fault, ends_fault, join_fault, leave_fault, link_fault, unlink_fault, Explains};
 ghost use Rattle.graph_store.specs.Ends.{end_at, open_edges};
 ghost use Rattle.graph_store.specs.Graph.{HasRoomFor};
-ghost use Rattle.graph_store.specs.Rows.{IsGapFor, IsPlaceOf};
+ghost use Rattle.graph_store.specs.Rows.{has, IsGapFor, IsPlaceOf};
 ghost use Rattle.graph_store.specs.declared.fault.GraphFault.TheVariants.{Memory};
 
 use crate::ends::{are_open, shut_ends, turn_end};
@@ -145,6 +146,8 @@ impl EdgeStore {
         ensures all { result.now ≡ neighbours self.now.network node }
         ensures present { All (λ w. IsTrue (present self.now.network w)) result.now }
         ensures linked { All (λ w. IsTrue (linked self.now.network node w)) result.now }
+        ensures rising { IsStrictlyIncreasing result.now }
+        ensures found { (w : ℕ) → has result.now w ≡ linked self.now.network node w }
     {
         &self.rows[node.place()]
     }
@@ -207,7 +210,7 @@ impl EdgeStore {
         ensures fault { IfErr result (λ fault. link_fault self.now.network a b ≡ Some fault) }
     {
         self.check_ends(a, b)?;
-        let Err(place) = find_place(&self.rows[a.place()], b) else {
+        let Err(place) = find_place(self.neighbours(a), b) else {
             return Err(GraphFault::AlreadyLinked);
         };
         if self.edges >= MAX_EDGES {
@@ -229,7 +232,7 @@ impl EdgeStore {
         requires apart { linked self.now.network v w ≡ false }
         ensures { IsGapFor (neighbours self.now.network v) w result }
     {
-        find_gap(&self.rows[v.place()], w)
+        find_gap(self.neighbours(v), w)
     }
 
     // The place where `w` belongs among the neighbours of `v`: by two looks, where it is the last place that was found.
@@ -238,7 +241,7 @@ impl EdgeStore {
         requires apart { linked self.now.network v w ≡ false }
         ensures { IsGapFor (neighbours self.now.network v) w result }
     {
-        guess_gap(&self.rows[v.place()], self.last_gap, w)
+        guess_gap(self.neighbours(v), self.last_gap, w)
     }
 
     // Makes room for the edge between two nodes.

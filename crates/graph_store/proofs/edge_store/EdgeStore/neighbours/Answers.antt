@@ -1,10 +1,11 @@
 use Rattle.std.proofs.Common.{◌≡◌, arith, ap, sym, subst, refl, ◌∙◌}
 use Rattle.std.specs.Prelude.{All, IsTrue}
+use Rattle.std.specs.List.Sorted.{IsStrictlyIncreasing}
 use Rattle.rule_machine.specs.Network.{Network, neighbours, linked, present}
 use Rattle.graph_store.specs.Graph.{Graph}
-use Rattle.graph_store.specs.Rows.{contents, row_at}
+use Rattle.graph_store.specs.Rows.{contents, has, row_at}
 use Rattle.graph_store.proofs.Contents.{row_read, length_contents}
-use Rattle.graph_store.proofs.Store.{neighbours_row, all_linked, all_present, present_bounds}
+use Rattle.graph_store.proofs.Store.{linked_by, neighbours_row, all_linked, all_present, present_bounds}
 use Rattle.graph_store.proofs.edge_store.EdgeStore.neighbours.Goals as goal
 
 -- what is returned is the node's row
@@ -28,3 +29,10 @@ pub returns-clause-linked : goal.returns-clause-linked
 returns-clause-linked c =
     subst (λ l. All (λ w. IsTrue (linked c.args.self.now.network c.args.node w)) l) (sym (row_is c))
     (subst (λ net. All (λ w. IsTrue (linked net c.args.node w)) (row_at (contents c.self.inside.rows.items) c.args.node)) (ap (λ (g : Graph). g.network) c.self.view_is) (all_linked c.self.inside.nodes c.self.inside.here (contents c.self.inside.rows.items) c.args.node c.self.invariant.0.is_rows))
+
+pub returns-clause-rising : goal.returns-clause-rising
+returns-clause-rising c = subst IsStrictlyIncreasing (sym (row_is c)) (c.self.invariant.0.is_rows.rising c.args.node)
+
+pub returns-clause-found : goal.returns-clause-found
+returns-clause-found c w =
+    ap (λ l. has l w) (row_is c) ∙ linked_by c.self.inside.nodes c.self.inside.here (contents c.self.inside.rows.items) c.args.self.now.network c.args.node w (ap (λ (g : Graph). g.network) c.self.view_is) c.self.invariant.0.is_rows
