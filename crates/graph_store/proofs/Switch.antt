@@ -7,7 +7,7 @@ use Rattle.std.proofs.lemmas.Bool.{ne_eqb, eqb-true, and_left, and_parts, or_fro
 use Rattle.std.proofs.lemmas.Bool.Decides.{nat_tests}
 use Rattle.std.proofs.lemmas.List.{get_or-set_same, get_or-set_other, length-set}
 use Rattle.rule_machine.specs.Network.{Network, PairSet, edge, linked, present, with_edge, without_edge}
-use Rattle.graph_store.specs.Rows.{has, row_at, edges_of, network_of, IsRows, IsStore, IsPlaceOf, IsGapFor}
+use Rattle.graph_store.specs.Rows.{has, row_at, edges_of, network_of, put_both, take_both, IsRows, IsStore, IsPlaceOf, IsGapFor}
 use Rattle.graph_store.proofs.PairOrder.{same_pair, has-insert as has_pair-insert, has-remove as has_pair-remove, count-insert, count-remove, same_pairs}
 use Rattle.graph_store.proofs.Pairs.{and-false, has-edges_of}
 use Rattle.graph_store.proofs.Rising.{absent_at_gap, there_at_place, has-insert, has-remove, rising-insert, rising-remove}
@@ -188,7 +188,7 @@ edges_off a b rows rows' apart new =
     ∙ sym (has_pair-remove (edges_of rows) (edge a b) (x, y) ∙ ap (λ t. not (same_pair (x, y) (edge a b)) && t) (has-edges_of rows x y)))
 
 -- a store with an edge put in at its two gaps is the store of the network with that edge
-pub link_rows : (size : ℕ) (roll : List Bool) (edges a b i j : ℕ) (rows rows' : List (List ℕ)) → IsStore size roll edges rows → a ≢ b → present (network_of size roll rows) a ≡ true → present (network_of size roll rows) b ≡ true → IsGapFor (row_at rows a) b i → IsGapFor (row_at rows b) a j → edges < 1048576 → rows' ≡ set (set rows a (insert (row_at rows a) i b)) b (insert (row_at rows b) j a) → IsStore size roll (edges + 1) rows' × (network_of size roll rows' ≡ with_edge (network_of size roll rows) a b)
+pub link_rows : (size : ℕ) (roll : List Bool) (edges a b i j : ℕ) (rows rows' : List (List ℕ)) → IsStore size roll edges rows → a ≢ b → present (network_of size roll rows) a ≡ true → present (network_of size roll rows) b ≡ true → IsGapFor (row_at rows a) b i → IsGapFor (row_at rows b) a j → edges < 1048576 → rows' ≡ put_both rows a i b j → IsStore size roll (edges + 1) rows' × (network_of size roll rows' ≡ with_edge (network_of size roll rows) a b)
 link_rows size roll edges a b i j rows rows' store apart in_a in_b gap_a gap_b few is =
     let good = store.is_rows in
     let places : length rows ≡ size + 1 = good.places in
@@ -205,7 +205,7 @@ link_rows size roll edges a b i j rows rows' store apart in_a in_b gap_a gap_b f
     )
 
 -- a store with an edge taken out at its two places is the store of the network without that edge
-pub unlink_rows : (size : ℕ) (roll : List Bool) (edges a b i j : ℕ) (rows rows' : List (List ℕ)) → IsStore size roll edges rows → a ≢ b → present (network_of size roll rows) a ≡ true → present (network_of size roll rows) b ≡ true → IsPlaceOf (row_at rows a) b i → IsPlaceOf (row_at rows b) a j → rows' ≡ set (set rows a (remove (row_at rows a) i)) b (remove (row_at rows b) j) → IsStore size roll (edges - 1) rows' × (network_of size roll rows' ≡ without_edge (network_of size roll rows) a b)
+pub unlink_rows : (size : ℕ) (roll : List Bool) (edges a b i j : ℕ) (rows rows' : List (List ℕ)) → IsStore size roll edges rows → a ≢ b → present (network_of size roll rows) a ≡ true → present (network_of size roll rows) b ≡ true → IsPlaceOf (row_at rows a) b i → IsPlaceOf (row_at rows b) a j → rows' ≡ take_both rows a i b j → IsStore size roll (edges - 1) rows' × (network_of size roll rows' ≡ without_edge (network_of size roll rows) a b)
 unlink_rows size roll edges a b i j rows rows' store apart in_a in_b place_a place_b is =
     let good = store.is_rows in
     let places : length rows ≡ size + 1 = good.places in

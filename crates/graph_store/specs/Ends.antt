@@ -42,6 +42,10 @@ are_open a b = not (is_shut a) && not (is_shut b) && not (is_courted a && is_cou
 abbrev pub end_at : List End → ℕ → End
 end_at ends v = slice_index_or ends v Shut
 
+-- how many of these names leave an edge open to one that makes this of its edges
+abbrev pub open_to : List End → End → List ℕ → ℕ
+open_to ends end names = count_by (λ w. are_open end (end_at ends w)) names
+
 -- how many of these edges are open
 abbrev pub open_among : List End → PairSet → ℕ
 open_among ends edges = count_by (λ e. are_open (end_at ends e.0) (end_at ends e.1)) (map.keys edges)

@@ -1,9 +1,13 @@
 -- A store of edges as contracts see it.
-use Rattle.std.specs.Prelude.{ℕ, ◌<◌, List, slice_index_or, refl}
+use Rattle.std.specs.Prelude.{ℕ, ◌<◌, ◌-◌, Bool, List, map, slice_index_or, refl}
 use Rattle.std.specs.Coded.{Coded, code_by, coded×, coded_ℕ, coded_list}
+use Rattle.std.specs.Vec.{vec_len, vec_capacity}
+use Rattle.std.specs.declared.vec.Vec.{Vec}
+use Rattle.std.specs.declared.alloc.Global.{Global}
 use Rattle.rule_machine.specs.Network.{Network, network_code}
 use Rattle.graph_store.specs.declared.ends.End.{End}
 use Rattle.graph_store.specs.Ends.{end_code}
+use Rattle.graph_store.specs.Rows.{contents, network_of}
 
 -- the network, for how many more neighbours each name has room, and what each makes of the edges at it: the lists have a place
 -- for each name
@@ -15,6 +19,14 @@ pub record Graph : Type 0 where
 abbrev pub graph_code : Coded Graph
 graph_code =
     code_by (Network × (List ℕ × List End)) (coded× network_code (coded× (coded_list coded_ℕ) (coded_list end_code))) (λ g. (g.network, (g.room, g.ends))) (λ p. record { network = p.0; room = p.1.0; ends = p.1.1 }) (λ _. refl)
+
+-- the graph of a store by its parts
+abbrev pub graph_of : ℕ → List Bool → List (Vec ℕ Global) → List End → Graph
+graph_of size roll rows ends = record {
+  network = network_of size roll (contents rows);
+  room = map (λ row. vec_capacity row - vec_len row) rows;
+  ends = ends;
+}
 
 -- an edge between these two takes no memory
 pub record HasRoomFor (room : List ℕ) (a b : ℕ) : Type 0 where

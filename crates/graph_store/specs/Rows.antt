@@ -1,6 +1,6 @@
 -- Neighbour lists as a network: the row of a name stands at its place, and place 0 is nobody's.
-use Rattle.std.specs.Prelude.{◌≡◌, ℕ, ◌+◌, ◌<◌, ◌≤◌, Bool, true, false, List, [], ◌∷◌, ◌++◌, map, filter, length, nat_eq, nat_lt, slice_index, slice_index_or, IsTrue}
-use Rattle.std.specs.List.{list_any}
+use Rattle.std.specs.Prelude.{◌≡◌, ℕ, ◌+◌, ◌<◌, ◌≤◌, Bool, true, false, List, [], ◌∷◌, ◌++◌, map, filter, length, nat_eq, nat_lt, slice_index, slice_index_or, slice_set, IsTrue}
+use Rattle.std.specs.List.{insert, list_any, remove}
 use Rattle.std.specs.List.Sorted.{IsStrictlyIncreasing}
 use Rattle.std.specs.Vec.{vec_len, vec_capacity}
 use Rattle.std.specs.declared.vec.Vec.{Vec}
@@ -48,6 +48,16 @@ pub record IsStore (size : ℕ) (roll : List Bool) (edges : ℕ) (rows : List (L
   pub few_nodes : size ≤ 65535
   pub counted : edge_count (network_of size roll rows) ≡ edges
   pub few_edges : edges ≤ 1048576
+
+-- the rows with two names put into each other's, at these places
+abbrev pub put_both : List (List ℕ) → ℕ → ℕ → ℕ → ℕ → List (List ℕ)
+put_both rows a i b j =
+    slice_set (slice_set rows a (insert (row_at rows a) i b)) b (insert (row_at rows b) j a)
+
+-- and with the two taken out of each other's
+abbrev pub take_both : List (List ℕ) → ℕ → ℕ → ℕ → ℕ → List (List ℕ)
+take_both rows a i b j =
+    slice_set (slice_set rows a (remove (row_at rows a) i)) b (remove (row_at rows b) j)
 
 -- w stands in the row at place i
 abbrev pub IsPlaceOf : List ℕ → ℕ → ℕ → Type 0

@@ -37,17 +37,15 @@ pub struct EdgeStore {
 }
 
 impl Model for EdgeStore {
-    ghost use Rattle.std.specs.Prelude.{map, ◌-◌};
-    ghost use Rattle.std.specs.Vec.{vec_len, vec_capacity};
-    ghost use Rattle.graph_store.specs.Graph.{Graph, graph_code};
-    ghost use Rattle.graph_store.specs.Rows.{contents, network_of, IsStore};
+    ghost use Rattle.graph_store.specs.Graph.{Graph, graph_code, graph_of};
+    ghost use Rattle.graph_store.specs.Rows.{contents, IsStore};
     ghost use Rattle.graph_store.specs.Ends.{AreCounted};
 
     ghost Value = { Graph };
 
     ghost coded = { graph_code };
 
-    ghost view = { λ s. record { network = network_of s.nodes s.here (contents s.rows.items); room = map (λ row. vec_capacity row - vec_len row) s.rows.items; ends = s.ends.items } };
+    ghost view = { λ s. graph_of s.nodes s.here s.rows.items s.ends.items };
 
     ghost invariant = { λ s. IsStore s.nodes s.here s.edges (contents s.rows.items) × AreCounted s.nodes (contents s.rows.items) s.ends.items s.open_edges };
 }

@@ -1,7 +1,7 @@
 //! What a name makes of the edges at it, and how many edges are open by what all names make of theirs.
 
-ghost use Rattle.std.specs.Prelude.{◌≡◌, ◌+◌, ◌<◌, ◌≤◌, All, IfOk, count_by, length, replicate, slice_set};
-ghost use Rattle.graph_store.specs.Ends.{are_open, end_at};
+ghost use Rattle.std.specs.Prelude.{◌≡◌, ◌+◌, ◌<◌, ◌≤◌, All, IfOk, length, replicate, slice_set};
+ghost use Rattle.graph_store.specs.Ends.{are_open, end_at, open_to};
 ghost use Rattle.graph_store.specs.declared.ends.End.TheVariants.{Shut};
 
 use rule_machine::{Node, Want};
@@ -51,7 +51,7 @@ pub fn are_open(ends: &[End], a: Node, b: Node) -> bool
 fn open_to(row: &[Node], ends: &[End], end: End) -> u32
     requires few { length row.now ≤ 65536 }
     requires within { All (λ w. w < length ends.now) row.now }
-    ensures count { result ≡ count_by (λ w. are_open end (end_at ends.now w)) row.now }
+    ensures count { result ≡ open_to ends.now end row.now }
     ensures few { result ≤ 65536 }
 {
     let mut count = 0;
@@ -67,9 +67,9 @@ pub fn turn_end(row: &[Node], ends: &mut [End], count: u32, v: Node, end: End) -
     requires within { All (λ w. w < length ends.old) row.now }
     requires here { v < length ends.old }
     requires room { count ≤ 1048576 }
-    requires counted { count_by (λ w. are_open (end_at ends.old v) (end_at ends.old w)) row.now ≤ count }
+    requires counted { open_to ends.old (end_at ends.old v) row.now ≤ count }
     ensures ends { ends.new ≡ slice_set ends.old v end }
-    ensures count { result + count_by (λ w. are_open (end_at ends.old v) (end_at ends.old w)) row.now ≡ count + count_by (λ w. are_open end (end_at ends.old w)) row.now }
+    ensures count { result + open_to ends.old (end_at ends.old v) row.now ≡ count + open_to ends.old end row.now }
 {
     let shut = open_to(row, ends, ends[v.place()]);
     let opened = open_to(row, ends, end);

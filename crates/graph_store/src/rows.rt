@@ -4,7 +4,7 @@ ghost use Rattle.std.specs.Prelude.{◌≡◌, ◌++◌, filter, map, nat_lt, �
 ghost use Rattle.std.specs.List.{insert, remove};
 ghost use Rattle.std.specs.List.Sorted.{IsStrictlyIncreasing};
 ghost use Rattle.std.specs.Vec.{vec_len, vec_capacity};
-ghost use Rattle.graph_store.specs.Rows.{contents, pairs_from, row_at, has, IsPlaceOf, IsGapFor, IsPartFor, HasRoom};
+ghost use Rattle.graph_store.specs.Rows.{contents, pairs_from, put_both, row_at, take_both, has, IsPlaceOf, IsGapFor, IsPartFor, HasRoom};
 
 use rule_machine::{Edge, Node, Want};
 use std::alloc::Global;
@@ -219,7 +219,7 @@ pub fn put_both(rows: &mut [Vec<Node>], a: Node, place_in_a: usize, b: Node, pla
     requires inside_b { place_in_b ≤ length (row_at (contents rows.old) b) }
     requires room_in_a { HasRoom rows.old a }
     requires room_in_b { HasRoom rows.old b }
-    ensures { contents rows.new ≡ slice_set (slice_set (contents rows.old) a (insert (row_at (contents rows.old) a) place_in_a b)) b (insert (row_at (contents rows.old) b) place_in_b a) }
+    ensures { contents rows.new ≡ put_both (contents rows.old) a place_in_a b place_in_b }
 {
     put_in(rows, a, place_in_a, b);
     put_in(rows, b, place_in_b, a);
@@ -259,7 +259,7 @@ pub fn take_both(rows: &mut [Vec<Node>], a: Node, place_in_a: usize, b: Node, pl
     requires b_known { b < length rows.old }
     requires inside_a { place_in_a < length (row_at (contents rows.old) a) }
     requires inside_b { place_in_b < length (row_at (contents rows.old) b) }
-    ensures { contents rows.new ≡ slice_set (slice_set (contents rows.old) a (remove (row_at (contents rows.old) a) place_in_a)) b (remove (row_at (contents rows.old) b) place_in_b) }
+    ensures { contents rows.new ≡ take_both (contents rows.old) a place_in_a b place_in_b }
 {
     take_out(rows, a, place_in_a);
     take_out(rows, b, place_in_b);

@@ -1,13 +1,12 @@
-use Rattle.std.proofs.Common.{◌≡◌, ◌+◌, ◌≤◌, ℕ, List, length, arith, ap, sym, subst, ◌∙◌, set}
+use Rattle.std.proofs.Common.{◌≡◌, ◌+◌, ◌≤◌, ℕ, List, length, arith, ap, sym, subst, ◌∙◌}
 use Rattle.std.specs.declared.vec.Vec.{Vec}
 use Rattle.std.specs.declared.alloc.Global.{Global}
-use Rattle.std.specs.List.{insert}
 use Rattle.std.specs.Vec.{with_items}
 use Rattle.std.proofs.lemmas.Bool.{eqb-false}
 use Rattle.std.proofs.lemmas.List.{with_items_is}
 use Rattle.rule_machine.specs.Network.{Network, with_edge, edge_count}
 use Rattle.graph_store.specs.Graph.{Graph}
-use Rattle.graph_store.specs.Rows.{contents, row_at, network_of, IsStore, IsGapFor}
+use Rattle.graph_store.specs.Rows.{contents, row_at, network_of, put_both, IsStore, IsGapFor}
 use Rattle.graph_store.proofs.Faults.{may_link, known}
 use Rattle.graph_store.specs.Ends.{open_among}
 use Rattle.graph_store.proofs.Opened.{bool_few, few_open, open_linked, open_number}
@@ -32,7 +31,7 @@ linked_now c =
     let ends = may_link c.args.self.now.network c.args.a c.args.b c.requires.free in
     let row_a = neighbours_by c.self.inside.nodes c.self.inside.here (contents c.self.inside.rows.items) c.args.self.now.network c.args.a seen c.self.invariant.0.is_rows in
     let row_b = neighbours_by c.self.inside.nodes c.self.inside.here (contents c.self.inside.rows.items) c.args.self.now.network c.args.b seen c.self.invariant.0.is_rows in
-    let after : List (Vec ℕ Global) → List (List ℕ) = λ l. set (set (contents l) c.args.a (insert (row_at (contents l) c.args.a) c.args.place_in_a c.args.b)) c.args.b (insert (row_at (contents l) c.args.b) c.args.place_in_b c.args.a) in
+    let after : List (Vec ℕ Global) → List (List ℕ) = λ l. put_both (contents l) c.args.a c.args.place_in_a c.args.b c.args.place_in_b in
     let kept : length c.put_both.new.rows ≡ c.self.inside.rows.len = omega (arith, c.put_both.auto.rows, c.deref_mut.ensures.len) in
     let is = ap contents (with_items_is c.self.inside.rows c.put_both.new.rows kept) ∙ c.put_both.ensures ∙ ap after c.deref_mut.ensures.value in
     let count : edge_count c.args.self.now.network ≡ c.self.inside.edges = ap edge_count (sym seen) ∙ c.self.invariant.0.counted in

@@ -1,14 +1,13 @@
-use Rattle.std.proofs.Common.{◌≡◌, ◌-◌, ◌<◌, ℕ, List, length, arith, ap, sym, refl, subst, ◌∙◌, set}
+use Rattle.std.proofs.Common.{◌≡◌, ◌-◌, ◌<◌, ℕ, List, length, arith, ap, sym, refl, subst, ◌∙◌}
 use Rattle.std.specs.declared.vec.Vec.{Vec}
 use Rattle.std.specs.declared.alloc.Global.{Global}
-use Rattle.std.specs.List.{remove}
 use Rattle.std.specs.Vec.{with_items}
 use Rattle.std.proofs.lemmas.List.{with_items_is}
 use Rattle.std.specs.FinMap as map
 use Rattle.rule_machine.specs.Network.{Network, edge, without_edge, edge_count}
 use Rattle.graph_store.specs.Graph.{Graph}
 use Rattle.graph_store.specs.Ends.{open_among}
-use Rattle.graph_store.specs.Rows.{contents, row_at, network_of, IsStore, IsPlaceOf}
+use Rattle.graph_store.specs.Rows.{contents, row_at, network_of, take_both, IsStore, IsPlaceOf}
 use Rattle.graph_store.proofs.Faults.{are_joined, has_row, known, some_edge}
 use Rattle.graph_store.proofs.Opened.{open_number, open_unlinked}
 use Rattle.graph_store.proofs.Store.{neighbours_by, present_bounds}
@@ -74,7 +73,7 @@ unlinked_now c =
     let rows = contents c.self.inside.rows.items in
     let row_a = neighbours_by c.self.inside.nodes c.self.inside.here rows c.args.self.now.network c.args.a seen c.self.invariant.0.is_rows in
     let row_b = neighbours_by c.self.inside.nodes c.self.inside.here rows c.args.self.now.network c.args.b seen c.self.invariant.0.is_rows in
-    let after : List (Vec ℕ Global) → List (List ℕ) = λ l. set (set (contents l) c.args.a (remove (row_at (contents l) c.args.a) c.find_edge-place_in_a.result)) c.args.b (remove (row_at (contents l) c.args.b) c.find_edge-place_in_b.result) in
+    let after : List (Vec ℕ Global) → List (List ℕ) = λ l. take_both (contents l) c.args.a c.find_edge-place_in_a.result c.args.b c.find_edge-place_in_b.result in
     let kept : length c.take_both.new.rows ≡ c.self.inside.rows.len = omega (arith, c.take_both.auto.rows, c.deref_mut.ensures.len) in
     let is = ap contents (with_items_is c.self.inside.rows c.take_both.new.rows kept) ∙ c.take_both.ensures ∙ ap after c.deref_mut.ensures.value in
     let new = unlink_rows c.self.inside.nodes c.self.inside.here c.self.inside.edges c.args.a c.args.b c.find_edge-place_in_a.result c.find_edge-place_in_b.result rows _ c.self.invariant.0 both.apart (known c.self.inside.nodes c.self.inside.here rows c.args.self.now.network c.args.a seen both.here) (known c.self.inside.nodes c.self.inside.here rows c.args.self.now.network c.args.b seen both.there) (subst (λ l. IsPlaceOf l c.args.b c.find_edge-place_in_a.result) (sym row_a) c.find_edge-place_in_a.ensures) (subst (λ l. IsPlaceOf l c.args.a c.find_edge-place_in_b.result) (sym row_b) c.find_edge-place_in_b.ensures) is in
