@@ -2,7 +2,7 @@
 
 ghost use Rattle.std.specs.Prelude.{◌≡◌, ◌≢◌, ◌≤◌, ℕ, false, length, [], slice_get, slice_set, IfOk, IfErr, OnOk, OnErr, MatchOption, IsTrue, All, None, Some};
 ghost use Rattle.std.specs.List.Sorted.{IsStrictlyIncreasing};
-ghost use Rattle.rule_machine.specs.Network.{Network, edgeless, edgeless_with, with_node, without_node, names, node_count, edge_count, edge_list, present, linked, neighbours, with_edge, without_edge};
+ghost use Rattle.rule_machine.specs.Network.{edgeless, edgeless_with, with_node, without_node, names, first_names, node_count, edge_count, edge_list, present, linked, neighbours, with_edge, without_edge};
 ghost use Rattle.graph_store.specs.Fault.{nodes_fault, ends_fault, join_fault, leave_fault, link_fault, unlink_fault, Explains};
 ghost use Rattle.graph_store.specs.Ends.{end_at, open_edges};
 ghost use Rattle.graph_store.specs.Graph.{HasRoomFor};
@@ -10,7 +10,6 @@ ghost use Rattle.graph_store.specs.Rows.{has, IsGapFor, IsPlaceOf};
 ghost use Rattle.graph_store.specs.declared.fault.GraphFault.TheVariants.{Memory};
 
 use crate::ends::{are_open, shut_ends, turn_end};
-use crate::roll::first_names;
 use crate::rows::{
     empty_rows, find_gap, find_place, guess_gap, list_pairs, put_both, reserve_both, take_both,
 };
@@ -405,4 +404,17 @@ impl EdgeStore {
     {
         self.here.remove(v);
     }
+}
+
+/// The set of the names 1 to `count`, for names up to `size`; takes what `EnabledSet::new` takes.
+pub fn first_names(alloc: Global, size: u32, count: u32) -> Result<EnabledSet, Want>
+    requires few { size ≤ 65535 }
+    requires within { count ≤ size }
+    ensures { IfOk result (λ set. set ≡ first_names size count) }
+{
+    let mut set = EnabledSet::new(alloc, size)?;
+    for name in 1..count + 1 {
+        set.insert(Node::new(name).unwrap());
+    }
+    Ok(set)
 }

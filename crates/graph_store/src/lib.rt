@@ -17,11 +17,9 @@
 mod edge_store;
 mod ends;
 mod fault;
-mod roll;
 mod rows;
 
-pub use edge_store::EdgeStore;
+pub use edge_store::{EdgeStore, first_names};
 pub use ends::End;
 pub use fault::GraphFault;
-pub use roll::first_names;
 pub use rule_machine::{Edge, MAX_EDGES, Node};
