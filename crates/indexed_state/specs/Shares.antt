@@ -1,5 +1,5 @@
 -- What each node brings to the totals of its network.
-use Rattle.std.specs.Prelude.{◌≡◌, ◌≢◌, ℕ, ◌+◌, ◌≤◌, Bool, false, cond, ◌&&◌, List, length, count_by, sum_by, Option, Some, None, is_some, option_and_then, slice_index_or, IsTrue, if◌then◌else◌}
+use Rattle.std.specs.Prelude.{◌≡◌, ℕ, ◌+◌, ◌≤◌, Bool, false, cond, ◌&&◌, List, length, count_by, sum_by, Option, Some, None, is_some, option_and_then, slice_index_or, IsTrue, if◌then◌else◌}
 use Rattle.enabled_set.specs.Members.{is_in}
 use Rattle.graph_store.specs.declared.ends.End.{End}
 use Rattle.graph_store.specs.declared.ends.End.TheVariants.{Shut, Courted, Free}
@@ -40,12 +40,6 @@ no_share = record { added = 0; closing = 0 }
 
 abbrev pub share_at : List Share → ℕ → Share
 share_at each v = slice_index_or each v no_share
-
--- w is another node than v, and not one that its pointer was at or is at
-pub record IsElsewhere (v : ℕ) (was is : Option ℕ) (w : ℕ) : Type 0 where
-  pub other : w ≢ v
-  pub not_was : is_at was w ≡ false
-  pub not_is : is_at is w ≡ false
 
 -- both parts of a share fit sixteen bits
 abbrev pub IsLight : Share → Type 0

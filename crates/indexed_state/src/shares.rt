@@ -4,7 +4,8 @@ ghost use Rattle.std.specs.Prelude.{◌≡◌, ◌≢◌, All, ℕ, ◌+◌, ◌
 ghost use Rattle.enabled_set.specs.Members.{is_in};
 ghost use Rattle.rule_machine.specs.Network.{first_names};
 ghost use Rattle.rule_machine.specs.State.{is_at};
-ghost use Rattle.indexed_state.specs.Shares.{no_share, AreSummed, IsElsewhere, IsLight};
+ghost use Rattle.indexed_state.specs.Shares.{no_share, AreSummed, IsLight};
+ghost use Rattle.net_state.specs.Held.{IsElsewhere};
 
 use enabled_set::EnabledSet;
 use graph_store::first_names;

@@ -1,52 +1,29 @@
--- What a name brings depends on no more than the rounds of the names that it asks: their registers, their neighbours, and who
--- points at them.
-use Rattle.std.proofs.Common.{◌≡◌, ◌≢◌, ℕ, ◌+◌, ◌<◌, Bool, true, false, cond, not, ◌&&◌, ◌||◌, List, length, set, filter, find, nat_eq, nat_lt, nat_le, Option, None, Some, is_some, is_none, IsTrue, refl, sym, ap, ap₂, subst, ◌∙◌, ⊎_elim}
-use Rattle.std.specs.Ordering.{eq_by_cmp}
-use Rattle.std.proofs.lemmas.Bool.{cases_eq, false_from_ne_true, eq-eqb, or_left}
-use Rattle.std.proofs.lemmas.Map.Views.{tells_apart}
+-- What a name brings depends on no more than what is round the names that it asks.
+use Rattle.std.proofs.Common.{◌≡◌, ℕ, ◌+◌, Bool, true, false, cond, not, ◌&&◌, ◌||◌, List, length, set, find, nat_eq, nat_lt, nat_le, Option, None, Some, is_some, is_none, IsTrue, refl, sym, ap, ap₂, subst, ◌∙◌}
+use Rattle.std.proofs.lemmas.Bool.{eq-eqb, or_left}
 use Rattle.enabled_set.specs.Members.{is_in}
 use Rattle.rule_machine.specs.declared.act.Act.{Act}
 use Rattle.rule_machine.specs.declared.act.Act.TheVariants.{Update, Marry, Seduce, Abandon}
 use Rattle.rule_machine.specs.declared.rules.RuleSet.{RuleSet}
 use Rattle.rule_machine.specs.declared.rules.RuleSet.TheVariants.{Hh, Manne}
-use Rattle.rule_machine.specs.Network.{Network, IsNetwork, pair_cmp, edge, linked, names, neighbours, present, with_edge, without_edge}
-use Rattle.rule_machine.specs.State.{State, Registers, IsState, is_at, holds_at, is_unanswered, partner, pointer, flag, points, married, has_suitor, with_pointer}
-use Rattle.rule_machine.specs.Disturbance.{after_point, after_flag}
+use Rattle.rule_machine.specs.Network.{linked, neighbours}
+use Rattle.rule_machine.specs.State.{State, IsState, is_at, holds_at, is_unanswered, pointer, flag, points, married, has_suitor}
 use Rattle.rule_machine.specs.HsuHuang.{hsu_huang, hsu_huang_opens}
 use Rattle.rule_machine.specs.Manne.{manne, may_court}
 use Rattle.rule_machine.specs.RuleTable.{is_open, rule_at}
 use Rattle.rule_machine.specs.Stable.{pair_above}
 use Rattle.rule_machine.specs.Tables.{table_of}
-use Rattle.machine_laws.specs.Edges.{pair_exact, contains-insert, contains-remove, edge_ends, present_other}
-use Rattle.machine_laws.specs.Neighbours.{near_agree, neighbours_range}
+use Rattle.machine_laws.specs.Neighbours.{near_agree}
 use Rattle.machine_laws.specs.Pointers.{points_from, pointer_linked}
-use Rattle.machine_laws.specs.Writes.{pointer-with_pointer_other, pointer-with_pointer_same, flag-with_flag_other}
 use Rattle.graph_store.specs.declared.ends.End.{End}
 use Rattle.graph_store.specs.declared.ends.End.TheVariants.{Shut, Courted, Free}
+use Rattle.net_state.proofs.Rounds.{IsSameRound, round_seated, same_suitors, same_partner, same_marriage}
 use Rattle.judge.specs.declared.share.Share.{Share}
-use Rattle.judge.specs.Shares.{asks, closes, end_of, flag_charge, share_at, IsElsewhere, IsToldAt, AreTold}
+use Rattle.judge.specs.Shares.{asks, closes, end_of, flag_charge, share_at, IsMarked, IsToldAt, AreTold}
 
--- two states have the same round a name
-pub record IsSameRound (s u : State) (v : ℕ) : Type 0 where
-  pub here : present s.network v ≡ present u.network v
-  pub near : neighbours s.network v ≡ neighbours u.network v
-  pub link : (x : ℕ) → linked s.network v x ≡ linked u.network v x
-  pub own_pointer : pointer s v ≡ pointer u v
-  pub own_flag : flag s v ≡ flag u v
-  pub pointed : (x : ℕ) → points s.registers x v ≡ points u.registers x v
-
--- and the same of all that it asks
+-- two states are the same round all that a name asks
 abbrev pub AreSameRounds : State → State → ℕ → Type 0
 AreSameRounds s u v = (w : ℕ) → asks s v w ≡ true → IsSameRound s u w
-
-same_suitors : (s u : State) (v : ℕ) → IsSameRound s u v → has_suitor s v ≡ has_suitor u v
-same_suitors s u v round = λ i. is_some (find (λ w. round.pointed w i) (round.near i))
-
-same_partner : (s u : State) (v : ℕ) → IsSameRound s u v → partner s v ≡ partner u v
-same_partner s u v round = λ i. find (λ w. is_at (round.own_pointer i) w && round.pointed w i) (round.near i)
-
-same_marriage : (s u : State) (v : ℕ) → IsSameRound s u v → married s v ≡ married u v
-same_marriage s u v round = ap is_some (same_partner s u v round)
 
 -- ---- whom a name asks
 
@@ -224,90 +201,33 @@ told_again rules s u ends each v good rounds told =
     }
 
 -- and so is all that is fresh, where no more than this changed
-pub told_after : (rules : RuleSet) (s u : State) (ends ends' : List End) (each each' : List Share) (touched touched' due due' : List Bool) → IsState u → u.network.size ≡ s.network.size → ends' ≡ ends → each' ≡ each → due' ≡ due → length touched' ≡ length touched → ((v : ℕ) → is_in touched' v ≡ false → (is_in touched v ≡ false) × IsSameRound s u v) → AreTold rules s ends each touched due → AreTold rules u ends' each' touched' due'
-told_after rules s u ends ends' each each' touched touched' due due' good size same_ends same_each same_due same_places elsewhere told = record {
+pub told_after : {t : State} (rules : RuleSet) (s u : State) (ends ends' : List End) (each each' : List Share) (touched touched' due due' : List Bool) → IsState u → u ≡ t → t.network.size ≡ s.network.size → ends' ≡ ends → each' ≡ each → due' ≡ due → length touched' ≡ length touched → ((v : ℕ) → is_in touched' v ≡ false → (is_in touched v ≡ false) × IsSameRound s t v) → AreTold rules s ends each touched due → AreTold rules u ends' each' touched' due'
+told_after {t = t} rules s u ends ends' each each' touched touched' due due' good now size same_ends same_each same_due same_places elsewhere told = record {
   sound = good;
-  places = ap length same_each ∙ told.places ∙ sym (ap (λ n. n + 1) size);
-  touched_places = same_places ∙ told.touched_places ∙ sym (ap (λ n. n + 1) size);
-  due_places = ap length same_due ∙ told.due_places ∙ sym (ap (λ n. n + 1) size);
+  places = ap length same_each ∙ told.places ∙ sym (ap (λ n. n + 1) sizes);
+  touched_places = same_places ∙ told.touched_places ∙ sym (ap (λ n. n + 1) sizes);
+  due_places = ap length same_due ∙ told.due_places ∙ sym (ap (λ n. n + 1) sizes);
   nobody = ap (λ l. share_at l 0) same_each ∙ told.nobody;
   told = λ v fresh.
-      let here : IsSameRound s u v = (elsewhere v (fresh.untouched v (itself u v))).1 in
-      let away : (w : ℕ) → asks s v w ≡ true → (is_in touched w ≡ false) × IsSameRound s u w = λ w asked. elsewhere w (fresh.untouched w (sym (same_asks s u v w here) ∙ asked)) in
+      let here = (round_of v (fresh.untouched v (itself u v))).1 in
+      let away : (w : ℕ) → asks s v w ≡ true → (is_in touched w ≡ false) × IsSameRound s u w = λ w asked. round_of w (fresh.untouched w (sym (same_asks s u v w here) ∙ asked)) in
       let was = told.told v (record { not_due = ap (λ l. is_in l v) (sym same_due) ∙ fresh.not_due; untouched = λ w asked. (away w asked).0 }) in
       subst (λ (l : List Share). IsToldAt rules u ends' l v) (sym same_each)
       (subst (λ (l : List End). IsToldAt rules u l each v) (sym same_ends)
       (told_again rules s u ends each v told.sound (λ w asked. (away w asked).1) was));
-}
+} where
+  sizes : u.network.size ≡ s.network.size
+  sizes = ap (λ (x : State). x.network.size) now ∙ size
 
--- ---- what changes where
+  round_of : (v : ℕ) → is_in touched' v ≡ false → (is_in touched v ≡ false) × IsSameRound s u v
+  round_of v fresh = let it = elsewhere v fresh in (it.0, subst (λ x. IsSameRound s x v) (sym now) it.1)
 
--- a pointer is written
-pub round_pointed : (s : State) (v : ℕ) (target : Option ℕ) (w : ℕ) → v < length s.registers.pointers → IsElsewhere v (pointer s v) target w → IsSameRound s (after_point s v target) w
-round_pointed s v target w within apart = record {
-  here = refl;
-  near = refl;
-  link = λ x. refl;
-  own_pointer = sym (pointer-with_pointer_other s.registers v target w apart.other);
-  own_flag = refl;
-  pointed = λ x.
-      ⊎_elim
-      (λ (same : x ≡ v).
-      ap (λ y. points s.registers y w) same ∙ apart.not_was
-      ∙ sym (ap (λ y. points (with_pointer s.registers v target) y w) same ∙ ap (λ o. is_at o w) (pointer-with_pointer_same s.registers v target within) ∙ apart.not_is))
-      (λ (other : x ≢ v). sym (ap (λ o. is_at o w) (pointer-with_pointer_other s.registers v target x other)))
-      (cases_eq x v);
-}
-
--- a flag is written
-pub round_flagged : (s : State) (v : ℕ) (value : Bool) (w : ℕ) → w ≢ v → IsSameRound s (after_flag s v value) w
-round_flagged s v value w apart = record {
-  here = refl;
-  near = refl;
-  link = λ x. refl;
-  own_pointer = refl;
-  own_flag = sym (flag-with_flag_other s.registers v value w apart);
-  pointed = λ x. refl;
-}
-
--- an edge comes or goes at two other nodes
-other_edge : (a b k x : ℕ) → k ≢ a → k ≢ b → eq_by_cmp pair_cmp (edge k x) (edge a b) ≡ false
-other_edge a b k x not_a not_b =
-    false_from_ne_true _ (λ same. ⊎_elim (λ p. not_a p.0) (λ p. not_b p.0) (edge_ends a b k x (tells_apart pair_exact (edge k x) (edge a b) same)))
-
-pub round_linked : (s : State) (a b w : ℕ) → w ≢ a → w ≢ b → IsSameRound s (record s { network = with_edge s.network a b }) w
-round_linked s a b w not_a not_b =
-    let link : (x : ℕ) → linked s.network w x ≡ linked (with_edge s.network a b) w x = λ x.
-    sym (contains-insert s.network.edges (edge a b) (edge w x) ∙ ap (λ t. t || linked s.network w x) (other_edge a b w x not_a not_b)) in
-    record {
-      here = refl;
-      near = λ i. filter (λ x. link x i) (names s.network);
-      link = link;
-      own_pointer = refl;
-      own_flag = refl;
-      pointed = λ x. refl;
-    }
-
-pub round_unlinked : (s : State) (a b w : ℕ) → w ≢ a → w ≢ b → IsSameRound s (record s { network = without_edge s.network a b }) w
-round_unlinked s a b w not_a not_b =
-    let link : (x : ℕ) → linked s.network w x ≡ linked (without_edge s.network a b) w x = λ x.
-    sym (contains-remove s.network.edges (edge a b) (edge w x) ∙ ap (λ t. not t && linked s.network w x) (other_edge a b w x not_a not_b)) in
-    record {
-      here = refl;
-      near = λ i. filter (λ x. link x i) (names s.network);
-      link = link;
-      own_pointer = refl;
-      own_flag = refl;
-      pointed = λ x. refl;
-    }
-
--- a name becomes present or absent, without an edge
-pub round_seated : (net : Network) (r : Registers) (v : ℕ) (b : Bool) (w : ℕ) → IsNetwork net → IsNetwork (record net { here = set net.here v b }) → w ≢ v → IsSameRound (record { network = net; registers = r }) (record { network = record net { here = set net.here v b }; registers = r }) w
-round_seated net r v b w good also apart = record {
-  here = sym (present_other net v b w apart);
-  near = neighbours_range net w good ∙ sym (neighbours_range (record net { here = set net.here v b }) w also);
-  link = λ x. refl;
-  own_pointer = refl;
-  own_flag = refl;
-  pointed = λ x. refl;
-}
+-- where a name became present or absent, without an edge
+pub told_seated : (rules : RuleSet) (s u : State) (v : ℕ) (b : Bool) (ends ends' : List End) (each each' : List Share) (touched touched' due due' : List Bool) → IsState u → u ≡ record s { network = record s.network { here = set s.network.here v b } } → ends' ≡ ends → each' ≡ each → due' ≡ due → IsMarked touched touched' v → AreTold rules s ends each touched due → AreTold rules u ends' each' touched' due'
+told_seated rules s u v b ends ends' each each' touched touched' due due' good now same_ends same_each same_due marked told =
+    let kept = subst IsState now good in
+    told_after rules s u ends ends' each each' touched touched' due due' good now refl same_ends same_each same_due marked.places
+    (λ w none.
+    let fact = marked.others w none in
+    (fact.0, round_seated s.network s.registers v b w told.sound.is_network kept.is_network fact.1))
+    told

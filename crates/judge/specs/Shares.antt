@@ -1,10 +1,10 @@
 -- What each name brings to the totals of its network, what it makes of the edges at it, and how long what is kept of that is right.
-use Rattle.std.specs.Prelude.{◌≡◌, ◌≢◌, ℕ, ◌+◌, ◌≤◌, Bool, false, true, cond, ◌&&◌, ◌||◌, List, length, sum_by, Option, None, is_none, is_some, nat_eq, slice_index_or, IsTrue}
+use Rattle.std.specs.Prelude.{◌≡◌, ◌≢◌, ℕ, ◌+◌, ◌≤◌, Bool, false, true, cond, ◌&&◌, ◌||◌, List, length, sum_by, None, is_none, is_some, nat_eq, slice_index_or, IsTrue}
 use Rattle.enabled_set.specs.Members.{is_in}
 use Rattle.rule_machine.specs.declared.rules.RuleSet.{RuleSet}
 use Rattle.rule_machine.specs.declared.rules.RuleSet.TheVariants.{Hh, Manne}
 use Rattle.rule_machine.specs.Network.{linked, present}
-use Rattle.rule_machine.specs.State.{State, IsState, is_at, is_unanswered, married, pointer, points}
+use Rattle.rule_machine.specs.State.{State, IsState, is_unanswered, married, pointer, points}
 use Rattle.rule_machine.specs.Charge.{is_courted, manne_node_charge}
 use Rattle.rule_machine.specs.RuleTable.{enabled_names, rule_at}
 use Rattle.rule_machine.specs.Stable.{mutual_pairs}
@@ -72,12 +72,6 @@ pub record AreTotals (rules : RuleSet) (s : State) (totals : Totals) : Type 0 wh
   pub pairs : totals.pairs ≡ length (mutual_pairs s)
   pub enabled : totals.enabled ≡ length (enabled_names (table_of rules) s)
   pub charge : totals.charge ≡ (table_of rules).charge s
-
--- w is another node than v, and not one that its pointer was at or is at
-pub record IsElsewhere (v : ℕ) (was is : Option ℕ) (w : ℕ) : Type 0 where
-  pub other : w ≢ v
-  pub not_was : is_at was w ≡ false
-  pub not_is : is_at is w ≡ false
 
 -- the second set is the first with v
 pub record IsMarked (was is : List Bool) (v : ℕ) : Type 0 where

@@ -3,7 +3,8 @@
 ghost use Rattle.std.specs.Prelude.{◌≡◌, All, ℕ, ◌+◌, ◌<◌, ◌≤◌, true, false, length, replicate, slice_set, IfOk, IfSome};
 ghost use Rattle.enabled_set.specs.Members.{is_in};
 ghost use Rattle.rule_machine.specs.Network.{first_names};
-ghost use Rattle.judge.specs.Shares.{no_share, AreSummed, IsElsewhere, IsLight, IsMarked};
+ghost use Rattle.judge.specs.Shares.{no_share, AreSummed, IsLight, IsMarked};
+ghost use Rattle.net_state.specs.Held.{IsElsewhere};
 
 use crate::share::{NO_SHARE, Share};
 use enabled_set::EnabledSet;

@@ -1,8 +1,8 @@
 -- A network with its registers as contracts see it.
-use Rattle.std.specs.Prelude.{ℕ, false, slice_set, List, Option, None, Some, if◌then◌else◌, refl}
+use Rattle.std.specs.Prelude.{◌≡◌, ◌≢◌, ℕ, false, slice_set, List, Option, None, Some, if◌then◌else◌, refl}
 use Rattle.std.specs.Coded.{Coded, code_by, coded×, coded_ℕ, coded_list}
 use Rattle.rule_machine.specs.Network.{Network, present}
-use Rattle.rule_machine.specs.State.{State, Registers, state_code}
+use Rattle.rule_machine.specs.State.{State, Registers, is_at, state_code}
 use Rattle.rule_machine.specs.Base.{place_at}
 use Rattle.rule_machine.specs.declared.base.Place.{Place}
 use Rattle.graph_store.specs.declared.ends.End.{End}
@@ -28,3 +28,9 @@ without_place s v = record s { network = record s.network { here = slice_set s.n
 -- a name with its registers, where it is a node of the state
 abbrev pub place_in : State → ℕ → Option Place
 place_in s v = if present s.network v then Some (place_at s v) else None
+
+-- w is another node than v, and not one that its pointer was at or is at
+pub record IsElsewhere (v : ℕ) (was is : Option ℕ) (w : ℕ) : Type 0 where
+  pub other : w ≢ v
+  pub not_was : is_at was w ≡ false
+  pub not_is : is_at is w ≡ false

@@ -1,12 +1,11 @@
-use Rattle.std.proofs.Common.{◌≡◌, None, refl, sym, ap, subst, ◌∙◌, arith}
-use Rattle.rule_machine.specs.Network.{with_edge}
+use Rattle.std.proofs.Common.{◌≡◌, None, refl, sym, subst, ◌∙◌, arith}
 use Rattle.rule_machine.specs.State.{State}
 use Rattle.machine_laws.specs.Neighbours.{present_range}
 use Rattle.graph_store.specs.Fault.{link_fault}
 use Rattle.net_state.proofs.Edges.{new_edge}
-use Rattle.suitor_index.proofs.Linked.{edge_linked}
 use Rattle.indexed_state.specs.Indexed.{Indexed}
-use Rattle.indexed_state.proofs.Rounds.{IsSameRound, round_linked, told_after}
+use Rattle.net_state.proofs.Rounds.{round_linked}
+use Rattle.indexed_state.proofs.Rounds.{told_after}
 use Rattle.indexed_state.proofs.state.IndexedState.link_reserved.Goals as goal
 
 pub mark-requires : goal.mark-requires
@@ -27,17 +26,13 @@ pub invariant_of-self : goal.invariant_of-self
 invariant_of-self g c =
     let s : State = c.self.inside.index.state in
     let u = c.link_reserved.new.self in
-    let a = c.args.a in
-    let b = c.args.b in
-    let free : link_fault s.network a b ≡ None = subst (λ (n : Indexed). link_fault n.state.network a b ≡ None) (sym c.self.view_is) c.requires.free in
     let was = c.self.inside.shares in
-    let now = c.mark-2.new.self in
-    let edge = edge_linked s.network (with_edge s.network a b) s.registers a b c.self.invariant.0 (new_edge s.network a b free).accepted refl in (
+    let now = c.mark-2.new.self in (
       c.link_reserved.ensures.sound,
-      told_after g.R.Rules.COURTED_CLOSE g.R.Rules.closes g.R.Rules.adds s u.state c.self.inside.index.ends u.ends was.each.items now.each.items was.lower_ends now.lower_ends was.stale now.stale (record { closes_by_target = g.met.R.Rules.closes_by_target; adds_by_standing = g.met.R.Rules.adds_by_standing }) c.self.invariant.0 c.link_reserved.ensures.sound (ap (λ (t : State). t.network.size) c.link_reserved.ensures.state) c.link_reserved.ensures.ends (c.mark-2.ensures.kept.0 ∙ c.mark.ensures.kept.0) (c.mark-2.ensures.kept.1 ∙ c.mark.ensures.kept.1) (c.mark-2.ensures.places ∙ c.mark.ensures.places)
+      told_after g.R.Rules.COURTED_CLOSE g.R.Rules.closes g.R.Rules.adds s u.state c.self.inside.index.ends u.ends was.each.items now.each.items was.lower_ends now.lower_ends was.stale now.stale (record { closes_by_target = g.met.R.Rules.closes_by_target; adds_by_standing = g.met.R.Rules.adds_by_standing }) c.self.invariant.0 c.link_reserved.ensures.sound c.link_reserved.ensures.state refl c.link_reserved.ensures.ends (c.mark-2.ensures.kept.0 ∙ c.mark.ensures.kept.0) (c.mark-2.ensures.kept.1 ∙ c.mark.ensures.kept.1) (c.mark-2.ensures.places ∙ c.mark.ensures.places)
           (λ v fresh.
           let second = c.mark-2.ensures.marked v fresh in
           let first = c.mark.ensures.marked v second.0 in
-          (first.0, subst (λ (t : State). IsSameRound s t v) (sym c.link_reserved.ensures.state) (round_linked s.network (with_edge s.network a b) s.registers a b v edge first.1 second.1)))
+          (first.0, round_linked s c.args.a c.args.b v first.1 second.1))
           c.self.invariant.1,
     )

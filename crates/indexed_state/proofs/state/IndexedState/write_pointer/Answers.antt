@@ -1,13 +1,13 @@
-use Rattle.std.proofs.Common.{◌<◌, length, IfSome, IsTrue, sym, ap, subst, ◌∙◌, arith}
+use Rattle.std.proofs.Common.{◌<◌, length, IfSome, IsTrue, sym, ap, subst, ◌∙◌, arith, refl}
 use Rattle.rule_machine.specs.Network.{linked, present}
 use Rattle.rule_machine.specs.State.{State, pointer}
 use Rattle.machine_laws.specs.Neighbours.{linked_back, linked_present, present_range}
 use Rattle.machine_laws.specs.Pointers.{pointer_linked}
 use Rattle.machine_laws.specs.Writes.{if_some_at, if_some_from}
-use Rattle.net_state.specs.Held.{Held}
+use Rattle.net_state.specs.Held.{Held, IsElsewhere}
 use Rattle.indexed_state.specs.Indexed.{Indexed}
-use Rattle.indexed_state.specs.Shares.{IsElsewhere}
-use Rattle.indexed_state.proofs.Rounds.{IsSameRound, round_pointed, told_after}
+use Rattle.net_state.proofs.Rounds.{round_pointed}
+use Rattle.indexed_state.proofs.Rounds.{told_after}
 use Rattle.indexed_state.proofs.state.IndexedState.write_pointer.Goals as goal
 
 pub invariant_of-self : goal.invariant_of-self
@@ -20,11 +20,11 @@ invariant_of-self g c =
     let within = present_range s.network c.args.v here in
     let places : c.args.v < length s.registers.pointers = omega (arith, within.1, c.self.invariant.0.pointers_len) in (
       c.write_pointer-change.ensures.sound,
-      told_after g.R.Rules.COURTED_CLOSE g.R.Rules.closes g.R.Rules.adds s u.state c.self.inside.index.ends u.ends was.each.items now.each.items was.lower_ends now.lower_ends was.stale now.stale (record { closes_by_target = g.met.R.Rules.closes_by_target; adds_by_standing = g.met.R.Rules.adds_by_standing }) c.self.invariant.0 c.write_pointer-change.ensures.sound (ap (λ (n : Held). n.state.network.size) c.write_pointer-change.ensures.value) (ap (λ (n : Held). n.ends) c.write_pointer-change.ensures.value) c.mark_pointer.ensures.kept.0 c.mark_pointer.ensures.kept.1 c.mark_pointer.ensures.places
+      told_after g.R.Rules.COURTED_CLOSE g.R.Rules.closes g.R.Rules.adds s u.state c.self.inside.index.ends u.ends was.each.items now.each.items was.lower_ends now.lower_ends was.stale now.stale (record { closes_by_target = g.met.R.Rules.closes_by_target; adds_by_standing = g.met.R.Rules.adds_by_standing }) c.self.invariant.0 c.write_pointer-change.ensures.sound (ap (λ (n : Held). n.state) c.write_pointer-change.ensures.value) refl (ap (λ (n : Held). n.ends) c.write_pointer-change.ensures.value) c.mark_pointer.ensures.kept.0 c.mark_pointer.ensures.kept.1 c.mark_pointer.ensures.places
           (λ v fresh.
           let fact = c.mark_pointer.ensures.marked v fresh in
           let apart : IsElsewhere c.args.v (pointer s c.args.v) c.args.target v = subst (λ o. IsElsewhere c.args.v o c.args.target v) c.write_pointer-change.ensures.left fact.1 in
-          (fact.0, subst (λ (n : Held). IsSameRound s n.state v) (sym c.write_pointer-change.ensures.value) (round_pointed s c.args.v c.args.target v places apart)))
+          (fact.0, round_pointed s c.args.v c.args.target v places apart))
           c.self.invariant.1,
     )
 

@@ -1,30 +1,24 @@
-use Rattle.std.proofs.Common.{IsTrue, refl, sym, ap, subst, ◌∙◌, arith}
-use Rattle.rule_machine.specs.Network.{linked, without_edge}
-use Rattle.rule_machine.specs.State.{State, points}
+use Rattle.std.proofs.Common.{IsTrue, refl, sym, subst, ◌∙◌, arith}
+use Rattle.rule_machine.specs.Network.{linked}
+use Rattle.rule_machine.specs.State.{State}
 use Rattle.machine_laws.specs.Neighbours.{linked_back, linked_present, present_range}
-use Rattle.suitor_index.proofs.Linked.{edge_unlinked}
 use Rattle.indexed_state.specs.Indexed.{Indexed}
-use Rattle.indexed_state.proofs.Rounds.{IsSameRound, round_unlinked, told_after}
+use Rattle.net_state.proofs.Rounds.{round_unlinked}
+use Rattle.indexed_state.proofs.Rounds.{told_after}
 use Rattle.indexed_state.proofs.state.IndexedStateDisturb.take_out.Goals as goal
 
 pub invariant_of-self : goal.invariant_of-self
 invariant_of-self g c =
     let s : State = c.self.inside.index.state in
     let u = c.take_out.new.self in
-    let a = c.args.a in
-    let b = c.args.b in
     let was = c.self.inside.shares in
-    let now = c.mark-2.new.self in
-    let linked_before = subst (λ (n : Indexed). IsTrue (linked n.state.network a b)) (sym c.self.view_is) c.requires.linked in
-    let there = ap (λ (n : Indexed). points n.state.registers a b) c.self.view_is ∙ c.requires.not_there in
-    let back = ap (λ (n : Indexed). points n.state.registers b a) c.self.view_is ∙ c.requires.not_back in
-    let edge = edge_unlinked (without_edge s.network a b) s.network s.registers a b c.self.invariant.0 linked_before there back refl in (
+    let now = c.mark-2.new.self in (
       c.take_out.ensures.sound,
-      told_after g.R.Rules.COURTED_CLOSE g.R.Rules.closes g.R.Rules.adds s u.state c.self.inside.index.ends u.ends was.each.items now.each.items was.lower_ends now.lower_ends was.stale now.stale (record { closes_by_target = g.met.R.Rules.closes_by_target; adds_by_standing = g.met.R.Rules.adds_by_standing }) c.self.invariant.0 c.take_out.ensures.sound (ap (λ (t : State). t.network.size) c.take_out.ensures.state) c.take_out.ensures.ends (c.mark-2.ensures.kept.0 ∙ c.mark.ensures.kept.0) (c.mark-2.ensures.kept.1 ∙ c.mark.ensures.kept.1) (c.mark-2.ensures.places ∙ c.mark.ensures.places)
+      told_after g.R.Rules.COURTED_CLOSE g.R.Rules.closes g.R.Rules.adds s u.state c.self.inside.index.ends u.ends was.each.items now.each.items was.lower_ends now.lower_ends was.stale now.stale (record { closes_by_target = g.met.R.Rules.closes_by_target; adds_by_standing = g.met.R.Rules.adds_by_standing }) c.self.invariant.0 c.take_out.ensures.sound c.take_out.ensures.state refl c.take_out.ensures.ends (c.mark-2.ensures.kept.0 ∙ c.mark.ensures.kept.0) (c.mark-2.ensures.kept.1 ∙ c.mark.ensures.kept.1) (c.mark-2.ensures.places ∙ c.mark.ensures.places)
           (λ v fresh.
           let second = c.mark-2.ensures.marked v fresh in
           let first = c.mark.ensures.marked v second.0 in
-          (first.0, subst (λ (t : State). IsSameRound s t v) (sym c.take_out.ensures.state) (round_unlinked (without_edge s.network a b) s.network s.registers a b v edge first.1 second.1)))
+          (first.0, round_unlinked s c.args.a c.args.b v first.1 second.1))
           c.self.invariant.1,
     )
 

@@ -1,6 +1,6 @@
-use Rattle.std.proofs.Common.{◌∙◌, sym, ap, subst}
-use Rattle.rule_machine.specs.State.{State}
-use Rattle.judge.proofs.Rounds.{IsSameRound, round_linked, told_after}
+use Rattle.std.proofs.Common.{◌∙◌, refl}
+use Rattle.net_state.proofs.Rounds.{round_linked}
+use Rattle.judge.proofs.Rounds.{told_after}
 use Rattle.judge.proofs.survey.Survey.link.Goals as goal
 
 pub invariant_of-self-2 : goal.invariant_of-self-2
@@ -10,10 +10,10 @@ invariant_of-self-2 c =
     let u = c.link.new.net in
     let now = c.touch-2.new.self in
     record {
-      told = told_after it.rules s u.state it.net.ends u.ends it.shares.each.items now.each.items it.shares.touched now.touched it.shares.due now.due c.in_ok-link.ensures.sound (ap (λ (t : State). t.network.size) c.in_ok-link.ensures.ok) c.in_ok-link.ensures.ends (c.touch-2.ensures.kept.0 ∙ c.touch.ensures.kept.0) (c.touch-2.ensures.kept.1 ∙ c.touch.ensures.kept.1) (c.touch-2.ensures.marked.places ∙ c.touch.ensures.marked.places)
+      told = told_after it.rules s u.state it.net.ends u.ends it.shares.each.items now.each.items it.shares.touched now.touched it.shares.due now.due c.in_ok-link.ensures.sound c.in_ok-link.ensures.ok refl c.in_ok-link.ensures.ends (c.touch-2.ensures.kept.0 ∙ c.touch.ensures.kept.0) (c.touch-2.ensures.kept.1 ∙ c.touch.ensures.kept.1) (c.touch-2.ensures.marked.places ∙ c.touch.ensures.marked.places)
           (λ v none.
           let second = c.touch-2.ensures.marked.others v none in
           let first = c.touch.ensures.marked.others v second.0 in
-          (first.0, subst (λ (t : State). IsSameRound s t v) (sym c.in_ok-link.ensures.ok) (round_linked s c.args.a c.args.b v first.1 second.1)))
+          (first.0, round_linked s c.args.a c.args.b v first.1 second.1))
           it.told;
     }

@@ -1,6 +1,7 @@
-use Rattle.std.proofs.Common.{sym, ap, subst}
+use Rattle.std.proofs.Common.{ap, refl}
 use Rattle.net_state.specs.Held.{Held}
-use Rattle.judge.proofs.Rounds.{IsSameRound, round_flagged, told_after}
+use Rattle.net_state.proofs.Rounds.{round_flagged}
+use Rattle.judge.proofs.Rounds.{told_after}
 use Rattle.judge.proofs.survey.SurveyDisturb.set_flag.Goals as goal
 
 pub invariant_of-self : goal.invariant_of-self
@@ -10,9 +11,9 @@ invariant_of-self c =
     let u = c.set_flag.new.self in
     let now = c.touch.new.self in
     record {
-      told = told_after it.rules s u.state it.net.ends u.ends it.shares.each.items now.each.items it.shares.touched now.touched it.shares.due now.due c.set_flag.ensures.sound (ap (λ (n : Held). n.state.network.size) c.set_flag.ensures.value) (ap (λ (n : Held). n.ends) c.set_flag.ensures.value) c.touch.ensures.kept.0 c.touch.ensures.kept.1 c.touch.ensures.marked.places
+      told = told_after it.rules s u.state it.net.ends u.ends it.shares.each.items now.each.items it.shares.touched now.touched it.shares.due now.due c.set_flag.ensures.sound (ap (λ (n : Held). n.state) c.set_flag.ensures.value) refl (ap (λ (n : Held). n.ends) c.set_flag.ensures.value) c.touch.ensures.kept.0 c.touch.ensures.kept.1 c.touch.ensures.marked.places
           (λ w none.
           let fact = c.touch.ensures.marked.others w none in
-          (fact.0, subst (λ (n : Held). IsSameRound s n.state w) (sym c.set_flag.ensures.value) (round_flagged s c.args.v c.args.value w fact.1)))
+          (fact.0, round_flagged s c.args.v c.args.value w fact.1))
           it.told;
     }

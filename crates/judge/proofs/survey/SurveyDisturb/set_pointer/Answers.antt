@@ -1,9 +1,9 @@
-use Rattle.std.proofs.Common.{◌<◌, length, sym, ap, subst, arith}
+use Rattle.std.proofs.Common.{◌<◌, length, ap, subst, arith, refl}
 use Rattle.rule_machine.specs.State.{pointer}
 use Rattle.machine_laws.specs.Neighbours.{present_range}
-use Rattle.net_state.specs.Held.{Held}
-use Rattle.judge.specs.Shares.{IsElsewhere}
-use Rattle.judge.proofs.Rounds.{IsSameRound, round_pointed, told_after}
+use Rattle.net_state.specs.Held.{Held, IsElsewhere}
+use Rattle.net_state.proofs.Rounds.{round_pointed}
+use Rattle.judge.proofs.Rounds.{told_after}
 use Rattle.judge.proofs.survey.SurveyDisturb.set_pointer.Goals as goal
 
 pub invariant_of-self : goal.invariant_of-self
@@ -16,10 +16,10 @@ invariant_of-self c =
     let within = present_range s.network v c.requires.present in
     let places : v < length s.registers.pointers = omega (arith, within.1, it.told.sound.pointers_len) in
     record {
-      told = told_after it.rules s u.state it.net.ends u.ends it.shares.each.items now.each.items it.shares.touched now.touched it.shares.due now.due c.set_pointer.ensures.sound (ap (λ (n : Held). n.state.network.size) c.set_pointer.ensures.value) (ap (λ (n : Held). n.ends) c.set_pointer.ensures.value) c.touch_pointer.ensures.kept.0 c.touch_pointer.ensures.kept.1 c.touch_pointer.ensures.places
+      told = told_after it.rules s u.state it.net.ends u.ends it.shares.each.items now.each.items it.shares.touched now.touched it.shares.due now.due c.set_pointer.ensures.sound (ap (λ (n : Held). n.state) c.set_pointer.ensures.value) refl (ap (λ (n : Held). n.ends) c.set_pointer.ensures.value) c.touch_pointer.ensures.kept.0 c.touch_pointer.ensures.kept.1 c.touch_pointer.ensures.places
           (λ w none.
           let fact = c.touch_pointer.ensures.marked w none in
           let apart : IsElsewhere v (pointer s v) c.args.target w = subst (λ o. IsElsewhere v o c.args.target w) c.pointer-was.ensures fact.1 in
-          (fact.0, subst (λ (n : Held). IsSameRound s n.state w) (sym c.set_pointer.ensures.value) (round_pointed s v c.args.target w places apart)))
+          (fact.0, round_pointed s v c.args.target w places apart))
           it.told;
     }

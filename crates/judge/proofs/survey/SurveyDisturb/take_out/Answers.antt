@@ -1,6 +1,6 @@
-use Rattle.std.proofs.Common.{◌∙◌, sym, ap, subst}
-use Rattle.rule_machine.specs.State.{State}
-use Rattle.judge.proofs.Rounds.{IsSameRound, round_unlinked, told_after}
+use Rattle.std.proofs.Common.{◌∙◌, refl}
+use Rattle.net_state.proofs.Rounds.{round_unlinked}
+use Rattle.judge.proofs.Rounds.{told_after}
 use Rattle.judge.proofs.survey.SurveyDisturb.take_out.Goals as goal
 
 pub invariant_of-self : goal.invariant_of-self
@@ -10,10 +10,10 @@ invariant_of-self c =
     let u = c.take_out.new.self in
     let now = c.touch-2.new.self in
     record {
-      told = told_after it.rules s u.state it.net.ends u.ends it.shares.each.items now.each.items it.shares.touched now.touched it.shares.due now.due c.take_out.ensures.sound (ap (λ (t : State). t.network.size) c.take_out.ensures.state) c.take_out.ensures.ends (c.touch-2.ensures.kept.0 ∙ c.touch.ensures.kept.0) (c.touch-2.ensures.kept.1 ∙ c.touch.ensures.kept.1) (c.touch-2.ensures.marked.places ∙ c.touch.ensures.marked.places)
+      told = told_after it.rules s u.state it.net.ends u.ends it.shares.each.items now.each.items it.shares.touched now.touched it.shares.due now.due c.take_out.ensures.sound c.take_out.ensures.state refl c.take_out.ensures.ends (c.touch-2.ensures.kept.0 ∙ c.touch.ensures.kept.0) (c.touch-2.ensures.kept.1 ∙ c.touch.ensures.kept.1) (c.touch-2.ensures.marked.places ∙ c.touch.ensures.marked.places)
           (λ v none.
           let second = c.touch-2.ensures.marked.others v none in
           let first = c.touch.ensures.marked.others v second.0 in
-          (first.0, subst (λ (t : State). IsSameRound s t v) (sym c.take_out.ensures.state) (round_unlinked s c.args.a c.args.b v first.1 second.1)))
+          (first.0, round_unlinked s c.args.a c.args.b v first.1 second.1))
           it.told;
     }
