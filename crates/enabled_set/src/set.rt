@@ -1,7 +1,7 @@
 //! The set of names.
 
-ghost use Rattle.std.specs.Prelude.{◌≡◌, ℕ, ◌+◌, ◌*◌, ◌<◌, ◌≤◌, true, false, length, replicate, slice_get, slice_set, IfOk, MatchOption};
-ghost use Rattle.enabled_set.specs.Members.{is_in, members};
+ghost use Rattle.std.specs.Prelude.{◌≡◌, ◌+◌, ◌*◌, ◌<◌, ◌≤◌, true, false, length, replicate, slice_get, slice_set, IfOk};
+ghost use Rattle.enabled_set.specs.Members.{IsFoundIn, is_in, members};
 
 use crate::scan::{look, pass_in_8, pass_in_16, pass_words, push_word, word_at};
 use crate::word::{bit_is_set, find_bit, first_bit, with_bit, without_bit};
@@ -108,7 +108,7 @@ impl EnabledSet {
     #[inline(always)]
     pub fn first_in(&self, block: usize) -> Option<Node>
         requires { block ≤ 1032 }
-        ensures { MatchOption result ((v : ℕ) → 64 * block ≤ v → v < 64 * block + 64 → is_in self.now v ≡ false) (λ v. is_in self.now v ≡ true) }
+        ensures { IsFoundIn self.now block result }
     {
         let at = first_bit(word_at(&self.words, block))?;
         let name = (64 * block + at) as u16;

@@ -5,9 +5,10 @@ use Rattle.graph_store.specs.declared.ends.End.{End}
 use Rattle.graph_store.specs.declared.ends.End.TheVariants.{Shut, Courted, Free}
 use Rattle.graph_store.specs.Ends.{end_at}
 use Rattle.rule_machine.specs.Network.{present, neighbours}
-use Rattle.rule_machine.specs.State.{State, Registers, is_at, points, is_unanswered, married}
+use Rattle.rule_machine.specs.State.{State, Registers, IsState, is_at, points, is_unanswered, married}
 use Rattle.rule_machine.specs.Stable.{pair_above}
 use Rattle.rule_machine.specs.Charge.{is_courted}
+use Rattle.net_state.specs.Held.{Held}
 use Rattle.indexed_state.specs.declared.shares.Share.{Share}
 
 -- the node that v points at, if it points back, where these are the pointers
@@ -63,3 +64,8 @@ pub record AreTold (courted_close : Bool) (closes : State → ℕ → Bool) (add
   pub lower_places : length lower ≡ s.network.size + 1
   pub stale_places : length stale ≡ s.network.size + 1
   pub told : (v : ℕ) → is_in stale v ≡ false → IsToldAt courted_close closes adds s ends each lower v
+
+-- the state is one, and what is kept beside it is so
+abbrev pub IsTold : Bool → (State → ℕ → Bool) → (State → ℕ → ℕ) → Held → List Share → List Bool → List Bool → Type 0
+IsTold courted_close closes adds held each lower stale =
+    IsState held.state × AreTold courted_close closes adds held.state held.ends each lower stale

@@ -33,8 +33,7 @@ pub struct IndexedState<R: Rules> {
 
 impl<R: Rules> Model for IndexedState<R> {
     ghost use Rattle.indexed_state.specs.Indexed.{Indexed, indexed_code};
-    ghost use Rattle.indexed_state.specs.Shares.{AreTold};
-    ghost use Rattle.rule_machine.specs.State.{IsState};
+    ghost use Rattle.indexed_state.specs.Shares.{IsTold};
 
     ghost Value = { Indexed };
 
@@ -42,7 +41,7 @@ impl<R: Rules> Model for IndexedState<R> {
 
     ghost view = { λ n. record { state = n.index.state; room = n.index.room; ends = n.index.ends; stale = n.shares.stale } };
 
-    ghost invariant = { λ n. IsState n.index.state × AreTold R.COURTED_CLOSE R.closes R.adds n.index.state n.index.ends n.shares.each.items n.shares.lower_ends n.shares.stale };
+    ghost invariant = { λ n. IsTold R.COURTED_CLOSE R.closes R.adds n.index n.shares.each.items n.shares.lower_ends n.shares.stale };
 }
 
 impl<R: Rules> IndexedState<R> {

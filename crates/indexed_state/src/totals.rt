@@ -2,7 +2,7 @@
 
 ghost use Rattle.std.specs.Prelude.{◌≡◌, ◌&&◌, ℕ, ◌+◌, ◌*◌, ◌<◌, ◌≤◌, true, false, not, filter, length, slice_set, cond, count_by, sum_by, IfOk, IfSome, IsTrue, MatchOption};
 ghost use Rattle.std.specs.List.{range_with_len};
-ghost use Rattle.enabled_set.specs.Members.{is_in};
+ghost use Rattle.enabled_set.specs.Members.{IsFoundIn, is_in};
 ghost use Rattle.rule_machine.specs.Network.{names, present, edge_list};
 ghost use Rattle.rule_machine.specs.Stable.{mutual_pairs};
 ghost use Rattle.rule_machine.specs.State.{State, IsState, holds_at, points};
@@ -170,7 +170,7 @@ impl<R: Rules> IndexedState<R> {
     #[inline(always)]
     fn first_stale(&self, block: usize) -> Option<Node>
         requires { block ≤ 1032 }
-        ensures first { MatchOption result ((v : ℕ) → 64 * block ≤ v → v < 64 * block + 64 → is_in self.now.stale v ≡ false) (λ v. is_in self.now.stale v ≡ true) }
+        ensures first { IsFoundIn self.now.stale block result }
         ensures within { IfSome result (λ v. v ≤ self.now.state.network.size) }
     {
         self.shares.stale.first_in(block)

@@ -1,10 +1,15 @@
 -- Bases at which a judge begins, and that it tells.
-use Rattle.std.specs.Prelude.{◌≡◌, ℕ, ◌<◌, List, [], ◌∷◌}
+use Rattle.std.specs.Prelude.{◌≡◌, ℕ, ◌<◌, ◌≤◌, List, [], ◌∷◌, length}
 use Rattle.std.specs.declared.cmp.Ordering.TheVariants.{Less}
+use Rattle.rule_machine.specs.declared.base.Base.{Base}
 use Rattle.rule_machine.specs.declared.base.Place.{Place}
-use Rattle.rule_machine.specs.Network.{pair_cmp, edge_list}
-use Rattle.rule_machine.specs.State.{State}
-use Rattle.rule_machine.specs.Base.{places}
+use Rattle.rule_machine.specs.declared.rules.RuleSet.{RuleSet}
+use Rattle.rule_machine.specs.Network.{Network, pair_cmp, edge_list, names}
+use Rattle.rule_machine.specs.State.{State, IsState}
+use Rattle.rule_machine.specs.Base.{IsBegun, places}
+use Rattle.rule_machine.specs.Run.{Moment}
+use Rattle.rule_machine.specs.Tables.{table_of, weight_of}
+use Rattle.charge_laws.specs.Charged.{charge_bound}
 
 -- the names are above a name, and rise
 abbrev pub NamesRise : ℕ → List Place → Type 0
@@ -21,3 +26,23 @@ pub record HasLines (size : ℕ) (nodes : List Place) (edges : List (ℕ × ℕ)
   pub size_is : s.network.size ≡ size
   pub nodes_are : places s ≡ nodes
   pub edges_are : edge_list s.network ≡ edges
+
+-- no state of these nodes has these edges
+abbrev pub NoStateLinks : Network → List (ℕ × ℕ) → Type 0
+NoStateLinks net edges =
+    (s : State) → IsState s → names s.network ≡ names net → edge_list s.network ≡ edges → ⊥
+
+-- no state of these nodes and edges has these registers
+abbrev pub NoStateHolds : Network → List Place → Type 0
+NoStateHolds net nodes =
+    (s : State) → IsState s → names s.network ≡ names net → edge_list s.network ≡ edge_list net → places s ≡ nodes → ⊥
+
+-- a run may begin at a base in this state, and the base has no more edges than a network
+abbrev pub BeginsAt : RuleSet → ℕ → Base → State → Type 0
+BeginsAt rules size base s =
+    IsBegun (table_of rules) (charge_bound (weight_of rules)) size base (record { state = s; spent = base.spent }) × (length base.edges ≤ 1048576)
+
+-- it may begin there in no moment, or the base has more edges than a network
+abbrev pub BeginsNowhere : RuleSet → ℕ → Base → Type 0
+BeginsNowhere rules size base =
+    (start : Moment) → IsBegun (table_of rules) (charge_bound (weight_of rules)) size base start → length base.edges ≤ 1048576 → ⊥

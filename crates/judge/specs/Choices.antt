@@ -1,5 +1,5 @@
 -- A table with a place for each name, at which the item of a choice stands that names it, with the rule that is enabled there.
-use Rattle.std.specs.Prelude.{◌≡◌, ℕ, ◌+◌, length, Bool, false, not, List, Option, None, Some, IfSome, IsTrue, if◌then◌else◌, nat_eq, option_map, slice_index_or}
+use Rattle.std.specs.Prelude.{◌≡◌, ℕ, ◌+◌, length, Bool, false, not, List, Option, None, Some, Result, IfSome, MatchResult, IsTrue, if◌then◌else◌, nat_eq, option_map, slice_index_or}
 use Rattle.std.specs.List.{list_any}
 use Rattle.rule_machine.specs.declared.act.Act.{Act}
 use Rattle.rule_machine.specs.declared.choice.Item.{Item}
@@ -52,11 +52,20 @@ IsWithin table items = (v : ℕ) → is_named items v ≡ false → ruled_at tab
 abbrev pub IsClear : List (Option RuledItem) → Type 0
 IsClear table = (v : ℕ) → ruled_at table v ≡ None
 
+-- why an item of a node is refused for its rule
+abbrev pub refused_rule : RuleTable → State → Item → Option Refusal
+refused_rule t s item = rule_refusal t s item (rule_at t s item.node)
+
 -- why an item is refused whose node may stand in the choice before
 abbrev pub refused_item : RuleTable → State → Item → Bool → Option Refusal
 refused_item t s item twice =
     if not (present s.network item.node) then Some UnknownNode
-    else (if twice then Some ChosenTwice else rule_refusal t s item (rule_at t s item.node))
+    else (if twice then Some ChosenTwice else refused_rule t s item)
+
+-- what is found of an item that is refused for this reason, if it is: the reason, or the rule that it has
+abbrev pub IsFound : RuleTable → State → Item → Option Refusal → Result Act Refusal → Type 0
+IsFound t s item refusal found =
+    MatchResult found (λ act. (refusal ≡ None) × IsRuled t s item act) (λ reason. refusal ≡ Some reason)
 
 -- whether a move is the one that this item, if there is one, asks for
 abbrev pub is_move_by : RuleTable → State → Option Item → Moved → Bool

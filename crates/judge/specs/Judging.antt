@@ -1,5 +1,5 @@
 -- What a judge says of an event and its reply beside whether it is right.
-use Rattle.std.specs.Prelude.{◌≡◌, Bool, true, false, List, [], None, IsTrue}
+use Rattle.std.specs.Prelude.{◌≡◌, ℕ, Bool, true, false, List, [], None, IsTrue}
 use Rattle.rule_machine.specs.declared.choice.Item.{Item}
 use Rattle.rule_machine.specs.declared.event.Event.{Event}
 use Rattle.rule_machine.specs.declared.event.Event.TheVariants.{Link, Unlink, Point, Flag, Step, Show, Enabled, Matching, Status, Join, Leave}
@@ -8,6 +8,8 @@ use Rattle.rule_machine.specs.declared.reply.Reply.TheVariants.{Accepted}
 use Rattle.rule_machine.specs.State.{State}
 use Rattle.rule_machine.specs.RuleTable.{RuleTable}
 use Rattle.rule_machine.specs.Refuse.{refusal_of}
+use Rattle.rule_machine.specs.Answer.{Answers, Does}
+use Rattle.machine_laws.specs.Followed.{followed}
 
 abbrev pub is_link : Event → Bool
 is_link (Link a b) = true
@@ -27,6 +29,18 @@ pub record TakesMemory (t : RuleTable) (s : State) (event : Event) (reply : Repl
   pub link : IsTrue (is_link event)
   pub accepted : refusal_of t s event ≡ None
   pub reply_is : reply ≡ Accepted
+
+-- this reply to an event that is not refused is right, in the state to which it leads
+abbrev pub IsRight : RuleTable → State → ℕ → Event → Reply → Type 0
+IsRight t s spent event reply = Does t s spent event reply (followed s event reply)
+
+-- such a reply is right in no state, and the state stays
+abbrev pub DoesWrong : RuleTable → State → ℕ → Event → Reply → State → Type 0
+DoesWrong t s spent event reply now = ((u : State) → Does t s spent event reply u → ⊥) × (now ≡ s)
+
+-- the machine may not give this reply, whatever state it leaves, and the state stays
+abbrev pub IsWrong : RuleTable → State → ℕ → Event → Reply → State → Type 0
+IsWrong t s spent event reply now = ((u : State) → Answers t s spent event reply u → ⊥) × (now ≡ s)
 
 -- the items of a step
 abbrev pub items_of : Event → List Item

@@ -3,11 +3,10 @@
 ghost use Rattle.std.specs.Prelude.{◌≡◌, ◌≤◌, ◌+◌, ◌↔◌, ℕ, IfOk, IfSome, IsTrue, None, false, length, nat_le};
 ghost use Rattle.std.specs.List.{list_any};
 ghost use Rattle.charge_laws.specs.Charged.{charge_bound};
-ghost use Rattle.rule_machine.specs.Base.{IsBegun, base_of, places};
-ghost use Rattle.rule_machine.specs.Run.{Moment};
+ghost use Rattle.rule_machine.specs.Base.{base_of, places};
 ghost use Rattle.rule_machine.specs.State.{IsState, flag};
 ghost use Rattle.rule_machine.specs.Tables.{table_of, weight_of};
-ghost use Rattle.judge.specs.Bases.{NamesRise, EdgesRise};
+ghost use Rattle.judge.specs.Bases.{BeginsAt, BeginsNowhere, NamesRise, EdgesRise};
 
 use crate::lines::from_lines;
 use crate::rules::uses_flags;
@@ -73,8 +72,8 @@ impl Judge {
         requires few { size ≤ 65535 }
         requires nodes_rise { NamesRise 0 base.now.nodes }
         requires edges_rise { EdgesRise (0, 0) base.now.edges }
-        ensures begun { IfOk result (λ found. IfSome found (λ judge. IsBegun (table_of rules) (charge_bound (weight_of rules)) size base.now (record { state = judge; spent = base.now.spent }) × (length base.now.edges ≤ 1048576))) }
-        ensures none { IfOk result (λ found. found ≡ None → (start : Moment) → IsBegun (table_of rules) (charge_bound (weight_of rules)) size base.now start → length base.now.edges ≤ 1048576 → ⊥) }
+        ensures begun { IfOk result (λ found. IfSome found (BeginsAt rules size base.now)) }
+        ensures none { IfOk result (λ found. found ≡ None → BeginsNowhere rules size base.now) }
     {
         let nodes = base.nodes.as_slice();
         let edges = base.edges.as_slice();

@@ -4,11 +4,10 @@ ghost use Rattle.std.specs.Prelude.{◌≡◌, ◌↔◌, ℕ, None, false, IsTr
 ghost use Rattle.rule_machine.specs.Answer.{Answers, Does};
 ghost use Rattle.rule_machine.specs.Refuse.{refusal_of};
 ghost use Rattle.rule_machine.specs.RuleTable.{RuleTable};
-ghost use Rattle.rule_machine.specs.State.{State};
 ghost use Rattle.rule_machine.specs.Tables.{table_of};
 ghost use Rattle.machine_laws.specs.Followed.{followed, disturbed};
 ghost use Rattle.judge.specs.Choices.{Holds, IsWithin, IsReady};
-ghost use Rattle.judge.specs.Judging.{TakesMemory, is_link, items_of};
+ghost use Rattle.judge.specs.Judging.{DoesWrong, IsRight, IsWrong, TakesMemory, is_link, items_of};
 
 use crate::edits::point;
 use crate::questions::{are_enabled, are_mutual, has_counts};
@@ -33,8 +32,8 @@ pub(crate) fn judge_reply(
     chosen: &mut Chosen,
 ) -> Result<bool, Want>
     requires { IsReady survey.old.net.state.network.size chosen.old }
-    ensures right { IfOk result (λ right. IsTrue right → Answers (table_of rules) survey.old.net.state spent event.now reply.now survey.new.net.state) }
-    ensures wrong { IfOk result (λ right. right ≡ false → ((s : State) → Answers (table_of rules) survey.old.net.state spent event.now reply.now s → ⊥) × (survey.new.net.state ≡ survey.old.net.state)) }
+    ensures right { IfOk result (λ ok. IsTrue ok → Answers (table_of rules) survey.old.net.state spent event.now reply.now survey.new.net.state) }
+    ensures wrong { IfOk result (λ ok. ok ≡ false → IsWrong (table_of rules) survey.old.net.state spent event.now reply.now survey.new.net.state) }
     ensures err { OnErr result (survey.new.net.state ≡ survey.old.net.state) }
     ensures want { OnErr result (TakesMemory (table_of rules) survey.old.net.state event.now reply.now) }
     ensures size { survey.new.net.state.network.size ≡ survey.old.net.state.network.size }
@@ -78,8 +77,8 @@ fn judge_accepted(
 ) -> Result<bool, Want>
     requires accepted { refusal_of (table_of rules) survey.old.net.state event.now ≡ None }
     requires held { Holds (table_of rules) survey.old.net.state chosen.old (items_of event.now) }
-    ensures right { IfOk result (λ right. IsTrue right → Does (table_of rules) survey.old.net.state spent event.now reply.now survey.new.net.state) }
-    ensures wrong { IfOk result (λ right. right ≡ false → ((s : State) → Does (table_of rules) survey.old.net.state spent event.now reply.now s → ⊥) × (survey.new.net.state ≡ survey.old.net.state)) }
+    ensures right { IfOk result (λ ok. IsTrue ok → Does (table_of rules) survey.old.net.state spent event.now reply.now survey.new.net.state) }
+    ensures wrong { IfOk result (λ ok. ok ≡ false → DoesWrong (table_of rules) survey.old.net.state spent event.now reply.now survey.new.net.state) }
     ensures err { OnErr result (survey.new.net.state ≡ survey.old.net.state) }
     ensures want { OnErr result (IsTrue (is_link event.now) × (reply.now ≡ Reply.Accepted)) }
     ensures size { survey.new.net.state.network.size ≡ survey.old.net.state.network.size }
@@ -104,7 +103,7 @@ fn may_accept(
 ) -> bool
     requires accepted { refusal_of (table_of rules) survey.old.net.state event.now ≡ None }
     requires held { Holds (table_of rules) survey.old.net.state chosen.old (items_of event.now) }
-    ensures value { IsTrue result ↔ Does (table_of rules) survey.old.net.state spent event.now reply.now (followed survey.old.net.state event.now reply.now) }
+    ensures value { IsTrue result ↔ IsRight (table_of rules) survey.old.net.state spent event.now reply.now }
     ensures kept { survey.new.net.state ≡ survey.old.net.state }
     ensures within { IsWithin chosen.new (items_of event.now) }
     ensures len { length chosen.new ≡ length chosen.old }
@@ -134,7 +133,7 @@ fn may_move(
 ) -> bool
     requires accepted { refusal_of (table_of rules) net.now.state (Event.Step items.now) ≡ None }
     requires held { Holds (table_of rules) net.now.state chosen.old items.now }
-    ensures value { (spent : ℕ) → IsTrue result ↔ Does (table_of rules) net.now.state spent (Event.Step items.now) reply.now (followed net.now.state (Event.Step items.now) reply.now) }
+    ensures value { (spent : ℕ) → IsTrue result ↔ IsRight (table_of rules) net.now.state spent (Event.Step items.now) reply.now }
     ensures within { IsWithin chosen.new items.now }
     ensures len { length chosen.new ≡ length chosen.old }
 {
@@ -147,7 +146,7 @@ fn may_move(
 /// Carries out an event as a reply says that the machine may give.
 fn follow(survey: &mut Survey, rules: RuleSet, event: &Event, reply: &Reply) -> Result<(), Want>
     requires accepted { refusal_of (table_of rules) survey.old.net.state event.now ≡ None }
-    requires right { (spent : ℕ) × Does (table_of rules) survey.old.net.state spent event.now reply.now (followed survey.old.net.state event.now reply.now) }
+    requires right { (spent : ℕ) × IsRight (table_of rules) survey.old.net.state spent event.now reply.now }
     ensures ok { OnOk result (survey.new.net.state ≡ followed survey.old.net.state event.now reply.now) }
     ensures err { OnErr result (survey.new.net.state ≡ survey.old.net.state) }
     ensures want { OnErr result (IsTrue (is_link event.now) × (reply.now ≡ Reply.Accepted)) }

@@ -4,7 +4,7 @@ ghost use Rattle.std.specs.Prelude.{◌≡◌, ◌≤◌, ℕ, [], IfOk, IfSome,
 ghost use Rattle.rule_machine.specs.Base.{places};
 ghost use Rattle.rule_machine.specs.Network.{edge_list, names, present};
 ghost use Rattle.rule_machine.specs.State.{State, IsState};
-ghost use Rattle.judge.specs.Bases.{NamesRise, EdgesRise, HasLines};
+ghost use Rattle.judge.specs.Bases.{NamesRise, NoStateHolds, NoStateLinks, EdgesRise, HasLines};
 
 use crate::edits::{link, opened, write};
 use crate::refusals::point_refusal;
@@ -64,7 +64,7 @@ fn link_all(net: &mut NetState, edges: &[Edge]) -> Result<bool, Want>
     requires few { length edges.now ≤ 1048576 }
     requires rise { EdgesRise (0, 0) edges.now }
     ensures linked { IfOk result (λ done. IsTrue done → edge_list net.new.state.network ≡ edges.now) }
-    ensures stranger { IfOk result (λ done. done ≡ false → (s : State) → IsState s → names s.network ≡ names net.old.state.network → edge_list s.network ≡ edges.now → ⊥) }
+    ensures stranger { IfOk result (λ done. done ≡ false → NoStateLinks net.old.state.network edges.now) }
     ensures size { net.new.state.network.size ≡ net.old.state.network.size }
     ensures here { net.new.state.network.here ≡ net.old.state.network.here }
 {
@@ -85,7 +85,7 @@ fn write_all(net: &mut NetState, nodes: &[Place]) -> bool
     requires named { names net.old.state.network ≡ map (λ p. p.node) nodes.now }
     requires rise { NamesRise 0 nodes.now }
     ensures written { IsTrue result → places net.new.state ≡ nodes.now }
-    ensures stranger { result ≡ false → (s : State) → IsState s → names s.network ≡ names net.old.state.network → edge_list s.network ≡ edge_list net.old.state.network → places s ≡ nodes.now → ⊥ }
+    ensures stranger { result ≡ false → NoStateHolds net.old.state.network nodes.now }
     ensures network { net.new.state.network ≡ net.old.state.network }
 {
     for place in nodes {

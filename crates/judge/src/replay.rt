@@ -5,7 +5,7 @@ ghost use Rattle.rule_machine.specs.Answer.{Answers};
 ghost use Rattle.rule_machine.specs.State.{State, opening, opening_with};
 ghost use Rattle.rule_machine.specs.Tables.{table_of};
 ghost use Rattle.judge.specs.Costs.{cost_by};
-ghost use Rattle.judge.specs.Judging.{TakesMemory};
+ghost use Rattle.judge.specs.Judging.{IsWrong, TakesMemory};
 
 use crate::edits::opened;
 use crate::judging::judge_reply;
@@ -81,7 +81,7 @@ impl Judge {
         reply: &Reply,
     ) -> Result<bool, Want>
         ensures right { IfOk result (λ right. IsTrue right → Answers (table_of rules) self.old spent event.now reply.now self.new) }
-        ensures wrong { IfOk result (λ right. right ≡ false → ((s : State) → Answers (table_of rules) self.old spent event.now reply.now s → ⊥) × (self.new ≡ self.old)) }
+        ensures wrong { IfOk result (λ right. right ≡ false → IsWrong (table_of rules) self.old spent event.now reply.now self.new) }
         ensures err { OnErr result (self.new ≡ self.old) }
         ensures want { OnErr result (TakesMemory (table_of rules) self.old event.now reply.now) }
     {

@@ -1,6 +1,6 @@
 //! Whether moves are those of a step.
 
-ghost use Rattle.std.specs.Prelude.{◌≡◌, ◌+◌, ◌↔◌, [], IfSome, IsTrue, MatchResult, None, Some, length, map, option_map};
+ghost use Rattle.std.specs.Prelude.{◌≡◌, ◌+◌, ◌↔◌, [], IfSome, IsTrue, None, Some, length, map, option_map};
 ghost use Rattle.std.specs.List.{list_all};
 ghost use Rattle.std.specs.List.Sorted.{IsStrictlyIncreasing};
 ghost use Rattle.rule_machine.specs.Network.{present};
@@ -9,7 +9,7 @@ ghost use Rattle.rule_machine.specs.Refuse as refuse;
 ghost use Rattle.rule_machine.specs.Step.{IsStep, after_moves};
 ghost use Rattle.rule_machine.specs.Tables.{table_of};
 ghost use Rattle.machine_laws.specs.Judged as judged;
-ghost use Rattle.judge.specs.Choices.{item_at, Holds, IsWithin, IsClear, IsRuled, AreRuled, refused_item, is_move_by};
+ghost use Rattle.judge.specs.Choices.{item_at, Holds, IsFound, IsWithin, IsClear, IsRuled, AreRuled, refused_item, refused_rule, is_move_by};
 
 use crate::Chosen;
 use crate::choices::RuledItem;
@@ -67,7 +67,7 @@ fn items_refusal(
 
 /// The rule of an item's node, or why the item is refused, where its node may have been chosen before.
 fn taken(net: &NetState, rules: RuleSet, item: Item, twice: bool) -> Result<Act, Refusal>
-    ensures { MatchResult result (λ act. (refused_item (table_of rules) net.now.state item twice ≡ None) × IsRuled (table_of rules) net.now.state item act) (λ refusal. refused_item (table_of rules) net.now.state item twice ≡ Some refusal) }
+    ensures { IsFound (table_of rules) net.now.state item (refused_item (table_of rules) net.now.state item twice) result }
 {
     if !net.has(item.node) {
         Err(Refusal::UnknownNode)
@@ -81,7 +81,7 @@ fn taken(net: &NetState, rules: RuleSet, item: Item, twice: bool) -> Result<Act,
 /// The rule of an item's node, or why there is none that the item may have.
 fn ruled(net: &NetState, rules: RuleSet, item: Item) -> Result<Act, Refusal>
     requires { IsTrue (present net.now.state.network item.node) }
-    ensures { MatchResult result (λ act. (refuse.rule_refusal (table_of rules) net.now.state item (rule_at (table_of rules) net.now.state item.node) ≡ None) × IsRuled (table_of rules) net.now.state item act) (λ refusal. refuse.rule_refusal (table_of rules) net.now.state item (rule_at (table_of rules) net.now.state item.node) ≡ Some refusal) }
+    ensures { IsFound (table_of rules) net.now.state item (refused_rule (table_of rules) net.now.state item) result }
 {
     match rule_at(net, rules, item.node) {
         Some(act) if allows_wish(net, rules, act, item) => Ok(act),

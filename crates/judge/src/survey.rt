@@ -14,7 +14,8 @@ use net_state::{Disturb, NetState};
 use rule_machine::{Node, RuleSet, Want};
 use std::alloc::Global;
 
-/// A network with its registers, and beside it what each name brings to its totals by the rules by which it was last asked. A write touches the names of which it changes something; what depends on these is looked at again by the next question.
+/// A network with its registers, and beside it what each name brings to its totals by the rules by which it was last asked. A write
+/// touches the names of which it changes something; what depends on these is looked at again by the next question.
 #[derive(Drop)]
 pub(crate) struct Survey {
     pub(crate) net: NetState,

@@ -1,7 +1,7 @@
 //! What questions ask of all names: looks at those alone that may bring something else than when this was last asked.
 
-ghost use Rattle.std.specs.Prelude.{◌≡◌, ◌+◌, ◌*◌, ◌<◌, ◌≤◌, ℕ, true, false, length, slice_set, IfSome, IsTrue, MatchOption, None, cond};
-ghost use Rattle.enabled_set.specs.Members.{is_in};
+ghost use Rattle.std.specs.Prelude.{◌≡◌, ◌+◌, ◌*◌, ◌<◌, ◌≤◌, ℕ, true, false, length, slice_set, IfSome, IsTrue, None, cond};
+ghost use Rattle.enabled_set.specs.Members.{IsFoundIn, is_in};
 ghost use Rattle.rule_machine.specs.Network.{linked, present};
 ghost use Rattle.rule_machine.specs.RuleTable as table;
 ghost use Rattle.rule_machine.specs.Tables.{table_of};
@@ -71,7 +71,7 @@ impl Survey {
     #[inline(always)]
     fn first_touched(&self, block: usize) -> Option<Node>
         requires { block ≤ 1032 }
-        ensures first { MatchOption result ((v : ℕ) → 64 * block ≤ v → v < 64 * block + 64 → is_in self.now.shares.touched v ≡ false) (λ v. is_in self.now.shares.touched v ≡ true) }
+        ensures first { IsFoundIn self.now.shares.touched block result }
         ensures within { IfSome result (λ v. v ≤ self.now.net.state.network.size) }
     {
         self.shares.touched.first_in(block)
@@ -81,7 +81,7 @@ impl Survey {
     #[inline(always)]
     fn first_due(&self, block: usize) -> Option<Node>
         requires { block ≤ 1032 }
-        ensures first { MatchOption result ((v : ℕ) → 64 * block ≤ v → v < 64 * block + 64 → is_in self.now.shares.due v ≡ false) (λ v. is_in self.now.shares.due v ≡ true) }
+        ensures first { IsFoundIn self.now.shares.due block result }
         ensures within { IfSome result (λ v. v ≤ self.now.net.state.network.size) }
     {
         self.shares.due.first_in(block)

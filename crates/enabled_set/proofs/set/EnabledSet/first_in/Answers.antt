@@ -1,5 +1,5 @@
-use Rattle.std.proofs.Common.{◌≡◌, ◌∙◌, ◌+◌, ◌*◌, ◌<◌, ◌≤◌, ℕ, List, Bool, true, false, get_or, ap, sym, subst, arith, MatchOption, SomeIff}
-use Rattle.enabled_set.specs.Members.{is_in, places_of}
+use Rattle.std.proofs.Common.{◌∙◌, ◌+◌, ◌*◌, ◌≤◌, ℕ, List, Bool, get_or, ap, sym, subst, arith, SomeIff}
+use Rattle.enabled_set.specs.Members.{is_in, places_of, IsFoundIn}
 use Rattle.enabled_set.proofs.Nth.{block_none, block_some, named}
 use Rattle.enabled_set.proofs.set.EnabledSet.first_in.Goals as goal
 
@@ -13,7 +13,7 @@ overflow_cast-name c =
 pub returns-in_err-at : goal.returns-in_err-at
 returns-in_err-at c =
     let word = c.word_at.ensures ∙ ap (λ words. get_or words c.args.block 0) c.deref.ensures.value in
-    subst (λ o. MatchOption o ((w : ℕ) → 64 * c.args.block ≤ w → w < 64 * c.args.block + 64 → is_in c.args.self.now w ≡ false) (λ w. is_in c.args.self.now w ≡ true)) (sym c.from_residual.ensures)
+    subst (IsFoundIn c.args.self.now c.args.block) (sym c.from_residual.ensures)
     (λ w low high.
     sym (ap (λ (bits : List Bool). is_in bits w) c.self.view_is)
     ∙ block_none (places_of c.self.inside.len c.self.inside.words.items) c.self.inside.words.items c.self.inside.by_512.items c.self.inside.by_4096.items c.self.inside.total c.word_at.result c.args.block c.self.invariant word c.in_err-at.ensures w low high)
@@ -25,5 +25,5 @@ returns c =
     let v : ℕ = 64 * c.args.block + c.in_ok-at.at in
     let member = block_some (places_of c.self.inside.len c.self.inside.words.items) c.self.inside.words.items c.self.inside.by_512.items c.self.inside.by_4096.items c.self.inside.total c.word_at.result c.args.block c.in_ok-at.at c.self.invariant word bit.0 bit.1 in
     let node = named c.new.result v (subst (λ n. SomeIff c.new.result ((1 ≤ n) × (n ≤ 65535)) n) c.from.ensures c.new.ensures) (member.1, member.2) in
-    subst (λ o. MatchOption o ((w : ℕ) → 64 * c.args.block ≤ w → w < 64 * c.args.block + 64 → is_in c.args.self.now w ≡ false) (λ w. is_in c.args.self.now w ≡ true)) (sym node)
+    subst (IsFoundIn c.args.self.now c.args.block) (sym node)
     (sym (ap (λ (bits : List Bool). is_in bits v) c.self.view_is) ∙ member.0)
