@@ -187,10 +187,5 @@ fn fits_daemon(rules: RuleSet, moves: &[Moved]) -> bool
 fn are_ascending(moves: &[Moved]) -> bool
     ensures { IsTrue result ↔ IsStrictlyIncreasing (map (λ m. m.node) moves.now) }
 {
-    for place in 1..moves.len() {
-        if moves[place].node <= moves[place - 1].node {
-            return false;
-        }
-    }
-    true
+    moves.is_sorted_by(|a, b| a.node < b.node)
 }
