@@ -3,7 +3,7 @@ use Rattle.std.proofs.Common.{suc, zero, Bool, map, ◌≡◌, ℕ, ◌+◌, ◌
 use Rattle.std.specs.List.{range_with_len}
 use Rattle.std.proofs.lemmas.List.{map-append}
 use Rattle.std.proofs.lemmas.List.FromFn.{length-range_with_len}
-use Rattle.plain_machine.specs.Names.{AreNames}
+use Rattle.plain_machine.specs.Lists.{AreNames}
 
 -- a range with one more number at its end
 pub range_more : (a n : ℕ) → range_with_len a (n + 1) ≡ range_with_len a n ++ (a + n) ∷ []

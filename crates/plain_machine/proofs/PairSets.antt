@@ -13,7 +13,7 @@ use Rattle.std.proofs.lemmas.Bool.Decides.{nat_tests}
 use Rattle.std.specs.FinMap as finite
 use Rattle.std.specs.FinMap.Entries.{put, by_order, below_all, where_key, is_sorted-where_key, find-where_key}
 use Rattle.rule_machine.specs.Network.{edge, pair_cmp, pair_set}
-use Rattle.plain_machine.specs.Ascending.{marked, same_pair, is_below, IsAscending}
+use Rattle.plain_machine.specs.Lists.{marked, same_pair, is_below, IsAscending}
 
 -- the order of pairs is total
 pub pair_cmp_total : IsTotalOrder pair_cmp

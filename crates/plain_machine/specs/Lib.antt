@@ -1,5 +1,3 @@
 pub mod Memory
-pub mod Ascending
-pub mod Names
-pub mod Spurned
-pub mod Charged
+pub mod Lists
+pub mod Rules

@@ -4,7 +4,7 @@ ghost use Rattle.std.specs.Prelude.{◌≡◌, ◌≤◌, not, count_by};
 ghost use Rattle.rule_machine.specs.Network.{names, edge_list};
 ghost use Rattle.rule_machine.specs.State as state;
 ghost use Rattle.rule_machine.specs.Tables.{table_of};
-ghost use Rattle.plain_machine.specs.Charged.{is_closed};
+ghost use Rattle.plain_machine.specs.Rules.{is_closed};
 
 use crate::PlainNet;
 use rule_machine::RuleSet;

@@ -4,7 +4,7 @@ ghost use Rattle.std.specs.Prelude.{◌≡◌, ℕ, false, not, ◌<◌, ◌≤�
 ghost use Rattle.std.specs.List.{list_any, position_or_len};
 ghost use Rattle.std.specs.FinMap as map;
 ghost use Rattle.rule_machine.specs.Network.{edge, is_end, PairSet};
-ghost use Rattle.plain_machine.specs.Ascending.{same_pair, is_below};
+ghost use Rattle.plain_machine.specs.Lists.{same_pair, is_below};
 
 use rule_machine::{Edge, Node, Want};
 use std::alloc::Global;
@@ -18,7 +18,7 @@ pub struct EdgeSet {
 
 impl Model for EdgeSet {
     ghost use Rattle.rule_machine.specs.Network.{PairSet, pair_set};
-    ghost use Rattle.plain_machine.specs.Ascending.{IsAscending, pair_set_code};
+    ghost use Rattle.plain_machine.specs.Lists.{IsAscending, pair_set_code};
 
     ghost Value = { PairSet };
 

@@ -5,7 +5,7 @@ ghost use Rattle.rule_machine.specs.Network.{names, neighbours};
 ghost use Rattle.rule_machine.specs.Charge as charge;
 ghost use Rattle.rule_machine.specs.State as state;
 ghost use Rattle.rule_machine.specs.Manne.{manne_allowed, manne_guard, may_court};
-ghost use Rattle.plain_machine.specs.Spurned.{is_spurned};
+ghost use Rattle.plain_machine.specs.Rules.{is_spurned};
 
 use crate::PlainNet;
 use rule_machine::{Act, Edge, Node};

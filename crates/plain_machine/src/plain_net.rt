@@ -25,7 +25,7 @@ pub struct PlainNet {
 
 impl Model for PlainNet {
     ghost use Rattle.rule_machine.specs.State.{State, state_code};
-    ghost use Rattle.plain_machine.specs.Names.{AreNames};
+    ghost use Rattle.plain_machine.specs.Lists.{AreNames};
 
     ghost Value = { State };
 

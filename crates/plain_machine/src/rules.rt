@@ -2,7 +2,7 @@
 
 ghost use Rattle.std.specs.Prelude.{◌≡◌, ◌≤◌};
 ghost use Rattle.rule_machine.specs.Tables.{table_of};
-ghost use Rattle.plain_machine.specs.Charged.{flag_charges, is_closed};
+ghost use Rattle.plain_machine.specs.Rules.{flag_charges, is_closed};
 
 use crate::{PlainNet, hsu_huang, manne};
 use rule_machine::{Act, Edge, Node, RuleSet};

@@ -1,6 +1,6 @@
 use Rattle.std.proofs.Common.{◌≡◌, false, take}
 use Rattle.std.specs.List.{list_any}
-use Rattle.plain_machine.specs.Ascending.{same_pair}
+use Rattle.plain_machine.specs.Lists.{same_pair}
 use Rattle.plain_machine.proofs.edge_set.has_pair.Given as goal
 
 abbrev pub invariant-loop-e : goal.invariant-loop-e

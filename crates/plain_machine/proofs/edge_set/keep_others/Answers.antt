@@ -1,6 +1,6 @@
 use Rattle.std.proofs.Common.{not, rules, tests}
 use Rattle.std.proofs.lemmas.Fn.{filter_same}
-use Rattle.plain_machine.specs.Ascending.{same_pair}
+use Rattle.plain_machine.specs.Lists.{same_pair}
 use Rattle.plain_machine.proofs.edge_set.keep_others.Goals as goal
 
 pub returns : goal.returns

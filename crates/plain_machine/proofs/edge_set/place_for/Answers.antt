@@ -2,7 +2,7 @@ use Rattle.std.proofs.Common.{ap, ◌∙◌, rules, tests, length}
 use Rattle.std.specs.Option.{unwrap_or}
 use Rattle.std.proofs.lemmas.Iterator.{YieldsList-from_slice}
 use Rattle.std.proofs.lemmas.Iterator.Search.{position_from_yields_List}
-use Rattle.plain_machine.specs.Ascending.{is_below}
+use Rattle.plain_machine.specs.Lists.{is_below}
 use Rattle.plain_machine.proofs.PairSets.{unwrap_position, position_or_len-le}
 use Rattle.plain_machine.proofs.edge_set.place_for.Goals as goal
 

@@ -1,7 +1,7 @@
 use Rattle.std.proofs.Common.{◌∙◌, sym, ap}
 use Rattle.std.specs.List.{list_any}
 use Rattle.std.specs.FinMap as map
-use Rattle.plain_machine.specs.Ascending.{same_pair}
+use Rattle.plain_machine.specs.Lists.{same_pair}
 use Rattle.plain_machine.proofs.PairSets.{contains_key-pair_set, edge_below, edge_above}
 use Rattle.plain_machine.proofs.edge_set.EdgeSet.contains.Goals as goal
 

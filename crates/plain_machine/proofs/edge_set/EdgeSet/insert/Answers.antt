@@ -2,7 +2,7 @@ use Rattle.std.proofs.Common.{◌≡◌, ℕ, ◌<◌, false, length, List, ◌�
 use Rattle.std.specs.List.{insert, list_any, position_or_len}
 use Rattle.std.specs.FinMap as map
 use Rattle.rule_machine.specs.Network.{pair_set}
-use Rattle.plain_machine.specs.Ascending.{IsAscending, same_pair, is_below}
+use Rattle.plain_machine.specs.Lists.{IsAscending, same_pair, is_below}
 use Rattle.plain_machine.proofs.PairSets.{pair_set-insert, insert_ascending, contains_key-pair_set, len-pair_set, position_or_len-le}
 use Rattle.plain_machine.proofs.edge_set.EdgeSet.insert.Goals as goal
 

@@ -1,7 +1,7 @@
 use Rattle.std.proofs.Common.{◌∙◌, not, sym, ap, subst}
 use Rattle.std.specs.FinMap as map
 use Rattle.rule_machine.specs.Network.{pair_set, is_end}
-use Rattle.plain_machine.specs.Ascending.{IsAscending}
+use Rattle.plain_machine.specs.Lists.{IsAscending}
 use Rattle.plain_machine.proofs.PairSets.{pair_set-kept, filter_ascending}
 use Rattle.plain_machine.proofs.edge_set.EdgeSet.remove_at.Goals as goal
 

@@ -1,6 +1,6 @@
 use Rattle.std.proofs.Common.{◌≡◌, ◌≤◌, not, take}
 use Rattle.std.specs.Prelude.{count_by}
-use Rattle.plain_machine.specs.Charged.{is_closed}
+use Rattle.plain_machine.specs.Rules.{is_closed}
 use Rattle.plain_machine.proofs.plain_net.PlainNet.open_edges.Given as goal
 
 abbrev pub invariant-loop-e : goal.invariant-loop-e

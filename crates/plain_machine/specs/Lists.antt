@@ -1,10 +1,16 @@
--- Lists of pairs that can stand for a network's edges.
-use Rattle.std.specs.Prelude.{ℕ, ◌≤◌, Bool, ◌&&◌, List, map, length, IsTrue, nat_eq}
+-- Lists that can stand for a network's names, and for its edges.
+use Rattle.std.specs.Prelude.{◌≡◌, ℕ, ◌≤◌, Bool, ◌&&◌, List, map, length, IsTrue, nat_eq}
+use Rattle.std.specs.List.{range_with_len}
 use Rattle.std.specs.Ordering.{is_lt}
 use Rattle.std.specs.Coded.{Coded, coded×, coded_ℕ}
 use base.Stored.{coded_unit}
 use Rattle.std.specs.FinMap as finite
 use Rattle.rule_machine.specs.Network.{PairSet, pair_cmp}
+
+-- all names, present or not: 1, 2 and so on, not beyond 65,535
+pub record AreNames (names : List ℕ) : Type 0 where
+  pub from_one : names ≡ range_with_len 1 (length names)
+  pub few : length names ≤ 65535
 
 abbrev pub pair_set_code : Coded PairSet
 pair_set_code = finite.code (coded× coded_ℕ coded_ℕ) coded_unit

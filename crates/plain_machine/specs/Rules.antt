@@ -1,9 +1,9 @@
--- What edges and flags add to a charge.
-use Rattle.std.specs.Prelude.{ℕ, Bool, sum_by}
+-- What the two rule sets make of edges, flags and pointers.
+use Rattle.std.specs.Prelude.{ℕ, Bool, not, ◌&&◌, ◌||◌, nat_le, sum_by}
 use Rattle.rule_machine.specs.declared.rules.RuleSet.{RuleSet}
 use Rattle.rule_machine.specs.declared.rules.RuleSet.TheVariants.{Hh, Manne}
 use Rattle.rule_machine.specs.Network.{names}
-use Rattle.rule_machine.specs.State.{State}
+use Rattle.rule_machine.specs.State.{State, pointer, flag, points, holds_at}
 use Rattle.rule_machine.specs.Charge.{hsu_huang_closed, manne_closed, manne_node_charge}
 
 -- whether an edge is closed: it adds nothing
@@ -15,3 +15,7 @@ is_closed Manne s e = manne_closed s e
 abbrev pub flag_charges : RuleSet → State → ℕ
 flag_charges Hh s = 0
 flag_charges Manne s = sum_by (manne_node_charge s) (names s.network)
+
+-- whether Manne's rules take a pointer back: it is at a node that does not point back, and that is flagged or not above v
+abbrev pub is_spurned : State → ℕ → Bool
+is_spurned s v = holds_at (λ w. not (points s.registers w v) && (flag s w || nat_le w v)) (pointer s v)
