@@ -1,28 +1,18 @@
 -- Counts and sums that grow by one name, and what they come to.
-use Rattle.std.proofs.Common.{◌≡◌, ℕ, ◌+◌, ◌*◌, ◌≤◌, Bool, cond, length, count_by, sum_by, arith}
-use Rattle.std.proofs.lemmas.List.Sums.{count_by-le-length, length-filter}
+use Rattle.std.proofs.Common.{◌≡◌, ℕ, ◌+◌, ◌*◌, ◌≤◌, Bool, cond, count_by, sum_by, arith}
 use Rattle.std.proofs.lemmas.Nat.{mul-le}
-use Rattle.rule_machine.specs.Network.{Network, names, neighbours, linked, node_count, edge_count, edge_list}
+use Rattle.rule_machine.specs.Network.{Network, names, node_count, edge_count, edge_list}
 use Rattle.rule_machine.specs.State.{State, is_unanswered}
 use Rattle.rule_set.specs.Standing.{ends_open}
 use Rattle.charge_laws.specs.Charged.{charge_bound}
 use Rattle.charge_laws.specs.Counting.{sum_add}
 use Rattle.indexed_state.specs.Shares.{node_part}
-use Rattle.indexed_state.proofs.Named.{few_names}
 
 -- what was counted comes to the charge
 pub charge_counted : (courted_close : Bool) (closes : ℕ → Bool) (adds : ℕ → ℕ) (s : State) (charge open_ones added closing : ℕ) → charge + 2 * count_by closes (names s.network) ≡ 2 * count_by (ends_open courted_close s) (edge_list s.network) + count_by (is_unanswered s) (names s.network) + sum_by adds (names s.network) → open_ones ≡ count_by (ends_open courted_close s) (edge_list s.network) → added ≡ sum_by (node_part adds s) (names s.network) → closing ≡ count_by closes (names s.network) → charge + 2 * closing ≡ 2 * open_ones + added
 charge_counted courted_close closes adds s charge open_ones added closing law opened add close =
     let parts = sum_add (λ v. cond (is_unanswered s v) 1 0) adds (names s.network) in
     omega (arith, law, opened, parts, add, close)
-
--- a node has no more neighbours than there may be names
-pub few_neighbours : (net : Network) (v : ℕ) → length (neighbours net v) ≤ net.size
-few_neighbours net v =
-    let passing = length-filter (linked net v) (names net) in
-    let most = count_by-le-length (linked net v) (names net) in
-    let fewer = few_names net in
-    omega (arith, passing, most, fewer)
 
 -- what is within the bound fits 32 bits
 pub bound_fits : (weight : ℕ) (net : Network) → weight ≤ 3 → node_count net ≤ 65535 → edge_count net ≤ 1048576 → charge_bound weight net ≤ 2293757
