@@ -189,6 +189,8 @@ impl<R: Rules> IndexedState<R> {
 impl<R: Rules> Disturb for IndexedState<R> {
     ghost state = { λ n. n.state };
 
+    ghost ends = { λ n. n.ends };
+
     fn net(&self) -> &NetState {
         self.index.net()
     }

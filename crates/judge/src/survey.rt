@@ -63,6 +63,8 @@ impl Survey {
 impl Disturb for Survey {
     ghost state = { λ it. it.net.state };
 
+    ghost ends = { λ it. it.net.ends };
+
     fn net(&self) -> &NetState {
         // By its contract the state is sound.
         let _ = self.net.registers();

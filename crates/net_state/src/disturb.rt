@@ -1,6 +1,7 @@
 //! Disturbances of several steps.
 
-ghost use Rattle.std.specs.Prelude.{◌≡◌, All, IfSome, IsTrue, MatchOption, None, [], false, fold};
+ghost use Rattle.std.specs.Prelude.{◌≡◌, All, IfSome, IsTrue, List, MatchOption, None, [], false, fold};
+ghost use Rattle.graph_store.specs.declared.ends.End.{End};
 ghost use Rattle.rule_machine.specs.Network.{present, linked, neighbours, without_edge};
 ghost use Rattle.rule_machine.specs.State.{State, IsState, flag, points};
 ghost use Rattle.rule_machine.specs.Disturbance.{after_unlink, after_point, after_flag, after_leave, without_pointer};
@@ -18,6 +19,9 @@ use rule_machine::{Act, Moved, Node};
 pub trait Disturb {
     /// The state.
     ghost state: { Self → State };
+
+    /// What each name makes of the edges at it.
+    ghost ends: { Self → List End };
 
     /// The network with its registers.
     fn net(&self) -> &NetState
@@ -43,6 +47,7 @@ pub trait Disturb {
         requires not_there { points (state self.old).registers a b ≡ false }
         requires not_back { points (state self.old).registers b a ≡ false }
         ensures value { state self.new ≡ record (state self.old) { network = without_edge (state self.old).network a b } }
+        ensures ends { ends self.new ≡ ends self.old }
         ensures sound { IsState (state self.new) };
 
     /// Frees the name of a node that has no edge and whose flag is false. Takes no memory.
@@ -51,6 +56,7 @@ pub trait Disturb {
         requires alone { neighbours (state self.old).network v ≡ [] }
         requires unflagged { flag (state self.old) v ≡ false }
         ensures value { state self.new ≡ without_place (state self.old) v }
+        ensures ends { ends self.new ≡ ends self.old }
         ensures sound { IsState (state self.new) };
 }
 
@@ -153,6 +159,8 @@ pub fn make_moves<D: Disturb>(it: &mut D, moves: &[Moved])
 impl Disturb for NetState {
     ghost state = { λ n. n.state };
 
+    ghost ends = { λ n. n.ends };
+
     fn net(&self) -> &NetState {
         // By the invariant, which a look at a field opens, the state is sound.
         let _ = &self.store;
@@ -168,10 +176,10 @@ impl Disturb for NetState {
     }
 
     fn take_out(&mut self, a: Node, b: Node) {
-        NetState::take_out(self, a, b);
+        self.store.take_out(a, b);
     }
 
     fn free_name(&mut self, v: Node) {
-        NetState::free_name(self, v);
+        self.store.part(v);
     }
 }

@@ -1,13 +1,12 @@
 //! The steps of which disturbances are made, and those that are one step.
 
-ghost use Rattle.std.specs.Prelude.{◌≡◌, ◌≤◌, IfErr, IfSome, IsTrue, None, OnErr, OnOk, [], false, slice_set};
-ghost use Rattle.rule_machine.specs.Network.{present, linked, neighbours, without_edge};
-ghost use Rattle.rule_machine.specs.State.{IsState, flag, points};
+ghost use Rattle.std.specs.Prelude.{◌≡◌, ◌≤◌, IfErr, IfSome, IsTrue, None, OnErr, OnOk, false, slice_set};
+ghost use Rattle.rule_machine.specs.Network.{present, linked};
+ghost use Rattle.rule_machine.specs.State.{IsState};
 ghost use Rattle.rule_machine.specs.Disturbance.{after_link, after_point, after_flag, after_join};
 ghost use Rattle.graph_store.specs.Fault.{link_fault, Explains};
 ghost use Rattle.graph_store.specs.Graph.{HasRoomFor};
 ghost use Rattle.graph_store.specs.Ends.{end_at};
-ghost use Rattle.net_state.specs.Held.{without_place};
 
 use crate::NetState;
 use graph_store::{End, GraphFault};
@@ -50,18 +49,6 @@ impl NetState {
         self.store.link_reserved(a, b);
     }
 
-    /// Removes an edge that no pointer crosses: a shift in two neighbour lists. Takes no memory.
-    pub fn take_out(&mut self, a: Node, b: Node)
-        requires linked { IsTrue (linked self.old.state.network a b) }
-        requires not_there { points self.old.state.registers a b ≡ false }
-        requires not_back { points self.old.state.registers b a ≡ false }
-        ensures state { self.new.state ≡ record self.old.state { network = without_edge self.old.state.network a b } }
-        ensures ends { self.new.ends ≡ self.old.ends }
-        ensures sound { IsState self.new.state }
-    {
-        self.store.take_out(a, b);
-    }
-
     /// Writes a node's pointer, to null or to a neighbour. One write.
     #[inline(always)]
     pub fn set_pointer(&mut self, v: Node, target: Option<Node>)
@@ -93,18 +80,6 @@ impl NetState {
     {
         prove!(v.name() >= 1);
         self.store.join(v).unwrap();
-    }
-
-    /// Frees the name of a node that has no edge and whose flag is false. Takes no memory.
-    pub fn free_name(&mut self, v: Node)
-        requires present { IsTrue (present self.old.state.network v) }
-        requires alone { neighbours self.old.state.network v ≡ [] }
-        requires unflagged { flag self.old.state v ≡ false }
-        ensures state { self.new.state ≡ without_place self.old.state v }
-        ensures ends { self.new.ends ≡ self.old.ends }
-        ensures sound { IsState self.new.state }
-    {
-        self.store.part(v);
     }
 
     /// Says what a name makes of the edges at it from now on, where at first each name shuts them: one look where that was said

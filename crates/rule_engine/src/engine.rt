@@ -364,6 +364,8 @@ impl<R: Rules> Engine<R> {
 impl<R: Rules> Disturb for Engine<R> {
     ghost state = { λ n. n.state };
 
+    ghost ends = { λ n. n.ends };
+
     fn net(&self) -> &NetState {
         self.state.net()
     }

@@ -1,15 +1,14 @@
 //! How a network changes, and with it what is counted at its nodes.
 
-ghost use Rattle.std.specs.Prelude.{◌≡◌, ◌<◌, ◌≤◌, ◌&&◌, IfErr, IfSome, IsTrue, None, OnOk, [], false, true, length, nat_eq, not, slice_set};
+ghost use Rattle.std.specs.Prelude.{◌≡◌, ◌<◌, ◌≤◌, ◌&&◌, IfErr, IfSome, IsTrue, None, OnOk, false, true, length, nat_eq, not, slice_set};
 ghost use Rattle.std.specs.Bool.{beq};
 ghost use Rattle.graph_store.specs.Ends.{end_at};
 ghost use Rattle.graph_store.specs.Fault.{link_fault, Explains};
 ghost use Rattle.graph_store.specs.Graph.{HasRoomFor};
-ghost use Rattle.net_state.specs.Held.{without_place};
 ghost use Rattle.rule_machine.specs.Disturbance.{after_link, after_point, after_flag, after_join};
-ghost use Rattle.rule_machine.specs.Network.{present, linked, neighbours, without_edge};
+ghost use Rattle.rule_machine.specs.Network.{present, linked};
 ghost use Rattle.rule_machine.specs.RuleTable as RuleTable;
-ghost use Rattle.rule_machine.specs.State.{IsState, pointer, flag, points};
+ghost use Rattle.rule_machine.specs.State.{IsState, pointer, flag};
 ghost use Rattle.suitor_index.specs.Tallies.{asks_for, tally_of};
 ghost use Rattle.suitor_index.specs.Told.{IsOpenTo};
 
@@ -57,22 +56,6 @@ impl<R: Rules> SuitorIndex<R> {
         let tallies = self.tallies.as_mut_slice();
         count_end::<R>(tallies, a, b, &self.net);
         count_end::<R>(tallies, b, a, &self.net);
-    }
-
-    /// Removes an edge that no pointer crosses: a shift in two neighbour lists, and a write at each end that asks for the other, at
-    /// most. Takes no memory.
-    pub fn take_out(&mut self, a: Node, b: Node)
-        requires linked { IsTrue (linked self.old.state.network a b) }
-        requires not_there { points self.old.state.registers a b ≡ false }
-        requires not_back { points self.old.state.registers b a ≡ false }
-        ensures state { self.new.state ≡ record self.old.state { network = without_edge self.old.state.network a b } }
-        ensures ends { self.new.ends ≡ self.old.ends }
-        ensures sound { IsState self.new.state }
-    {
-        self.net.take_out(a, b);
-        let tallies = self.tallies.as_mut_slice();
-        discount_end::<R>(tallies, b, a, &self.net);
-        discount_end::<R>(tallies, a, b, &self.net);
     }
 
     /// Writes a node's pointer, to null or to a neighbour, and tells what that changed: a write at its old target and at the new
@@ -135,18 +118,6 @@ impl<R: Rules> SuitorIndex<R> {
         self.tallies[v.place()] = NOTHING;
     }
 
-    /// Frees the name of a node that has no edge and whose flag is false. Takes no memory.
-    pub fn free_name(&mut self, v: Node)
-        requires present { IsTrue (present self.old.state.network v) }
-        requires alone { neighbours self.old.state.network v ≡ [] }
-        requires unflagged { flag self.old.state v ≡ false }
-        ensures state { self.new.state ≡ without_place self.old.state v }
-        ensures ends { self.new.ends ≡ self.old.ends }
-        ensures sound { IsState self.new.state }
-    {
-        self.net.free_name(v);
-    }
-
     /// Says what a name makes of the edges at it from now on, where at first each name shuts them: one look where that was said
     /// before, else one at each neighbour. Takes no memory.
     pub fn turn(&mut self, v: Node, end: End)
@@ -163,6 +134,8 @@ impl<R: Rules> SuitorIndex<R> {
 impl<R: Rules> Disturb for SuitorIndex<R> {
     ghost state = { λ n. n.state };
 
+    ghost ends = { λ n. n.ends };
+
     fn net(&self) -> &NetState {
         SuitorIndex::net(self)
     }
@@ -175,12 +148,16 @@ impl<R: Rules> Disturb for SuitorIndex<R> {
         let _turned = self.write_flag(v, value);
     }
 
+    /// Beside the shift a write at each end that asks for the other, at most.
     fn take_out(&mut self, a: Node, b: Node) {
-        SuitorIndex::take_out(self, a, b);
+        self.net.take_out(a, b);
+        let tallies = self.tallies.as_mut_slice();
+        discount_end::<R>(tallies, b, a, &self.net);
+        discount_end::<R>(tallies, a, b, &self.net);
     }
 
     fn free_name(&mut self, v: Node) {
-        SuitorIndex::free_name(self, v);
+        self.net.free_name(v);
     }
 }
 

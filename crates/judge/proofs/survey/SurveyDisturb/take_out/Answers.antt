@@ -10,7 +10,7 @@ invariant_of-self c =
     let u = c.take_out.new.self in
     let now = c.touch-2.new.self in
     record {
-      told = told_after it.rules s u.state it.net.ends u.ends it.shares.each.items now.each.items it.shares.touched now.touched it.shares.due now.due c.take_out.ensures.sound c.take_out.ensures.state refl c.take_out.ensures.ends (c.touch-2.ensures.kept.0 ∙ c.touch.ensures.kept.0) (c.touch-2.ensures.kept.1 ∙ c.touch.ensures.kept.1) (c.touch-2.ensures.marked.places ∙ c.touch.ensures.marked.places)
+      told = told_after it.rules s u.state it.net.ends u.ends it.shares.each.items now.each.items it.shares.touched now.touched it.shares.due now.due c.take_out.ensures.sound c.take_out.ensures.value refl c.take_out.ensures.ends (c.touch-2.ensures.kept.0 ∙ c.touch.ensures.kept.0) (c.touch-2.ensures.kept.1 ∙ c.touch.ensures.kept.1) (c.touch-2.ensures.marked.places ∙ c.touch.ensures.marked.places)
           (λ v none.
           let second = c.touch-2.ensures.marked.others v none in
           let first = c.touch.ensures.marked.others v second.0 in

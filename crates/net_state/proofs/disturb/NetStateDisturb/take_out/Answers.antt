@@ -5,7 +5,7 @@ use Rattle.rule_machine.specs.Disturbance.{without_pointer}
 use Rattle.machine_laws.specs.Keeps.{unlink_keeps}
 use Rattle.net_state.specs.Held.{Held, state_of}
 use Rattle.net_state.proofs.Edges.{stays}
-use Rattle.net_state.proofs.net.NetState.take_out.Goals as goal
+use Rattle.net_state.proofs.disturb.NetStateDisturb.take_out.Goals as goal
 
 pub invariant_of-self : goal.invariant_of-self
 invariant_of-self c =

@@ -3,7 +3,7 @@ use Rattle.rule_machine.specs.Network.{Network, neighbours}
 use Rattle.rule_machine.specs.State.{Registers, IsState, flag, flag_of}
 use Rattle.net_state.specs.Held.{Held, state_of}
 use Rattle.machine_laws.specs.Parted.{parted_is_state}
-use Rattle.net_state.proofs.net.NetState.free_name.Goals as goal
+use Rattle.net_state.proofs.disturb.NetStateDisturb.free_name.Goals as goal
 
 pub invariant_of-self : goal.invariant_of-self
 invariant_of-self c =

@@ -5,14 +5,14 @@ use Rattle.suitor_index.specs.Tallies.{IsIndexOf}
 use Rattle.suitor_index.proofs.Changed.{written_whole}
 use Rattle.suitor_index.proofs.Ends.{index_less}
 use Rattle.suitor_index.proofs.Linked.{before_unlink, edge_swapped, end_counted, second_counted}
-use Rattle.suitor_index.proofs.index.SuitorIndex.take_out.Goals as goal
+use Rattle.suitor_index.proofs.changes.SuitorIndexDisturb.take_out.Goals as goal
 
 pub discount_end-requires-clause-counted : goal.discount_end-requires-clause-counted
 discount_end-requires-clause-counted g c =
     let n : Held = c.self.inside.net in
     let u : State = c.take_out.new.self.state in
     let start = c.as_mut_slice-tallies.result.now in
-    let before = before_unlink g.R.Rules.ABOVE g.R.Rules.table.opens n c.args.self.now c.take_out.new.self c.args.a c.args.b c.self.inside.tallies.items start c.self.invariant c.as_mut_slice-tallies.ensures.value c.self.view_is c.requires.linked c.requires.not_there c.requires.not_back c.take_out.ensures.state in
+    let before = before_unlink g.R.Rules.ABOVE g.R.Rules.table.opens n c.args.self.now c.take_out.new.self c.args.a c.args.b c.self.inside.tallies.items start c.self.invariant c.as_mut_slice-tallies.ensures.value c.self.view_is c.requires.linked c.requires.not_there c.requires.not_back c.take_out.ensures.value in
     end_counted g.R.Rules.ABOVE g.R.Rules.table.opens u.network n.state.network u.registers c.args.b c.args.a start (edge_swapped u.network n.state.network u.registers c.args.a c.args.b before.0) before.1
 
 pub discount_end-requires-2-clause-counted : goal.discount_end-requires-2-clause-counted
@@ -20,7 +20,7 @@ discount_end-requires-2-clause-counted g c =
     let n : Held = c.self.inside.net in
     let u : State = c.take_out.new.self.state in
     let start = c.as_mut_slice-tallies.result.now in
-    let before = before_unlink g.R.Rules.ABOVE g.R.Rules.table.opens n c.args.self.now c.take_out.new.self c.args.a c.args.b c.self.inside.tallies.items start c.self.invariant c.as_mut_slice-tallies.ensures.value c.self.view_is c.requires.linked c.requires.not_there c.requires.not_back c.take_out.ensures.state in
+    let before = before_unlink g.R.Rules.ABOVE g.R.Rules.table.opens n c.args.self.now c.take_out.new.self c.args.a c.args.b c.self.inside.tallies.items start c.self.invariant c.as_mut_slice-tallies.ensures.value c.self.view_is c.requires.linked c.requires.not_there c.requires.not_back c.take_out.ensures.value in
     second_counted g.R.Rules.ABOVE g.R.Rules.table.opens u.network n.state.network u.registers c.args.a c.args.b start c.discount_end.new.tallies before.0 before.1 c.discount_end.ensures
 
 pub invariant_of-self : goal.invariant_of-self
@@ -30,7 +30,7 @@ invariant_of-self g c =
     let n : Held = c.self.inside.net in
     let u : State = c.take_out.new.self.state in
     let start = c.as_mut_slice-tallies.result.now in
-    let before = before_unlink above opens n c.args.self.now c.take_out.new.self c.args.a c.args.b c.self.inside.tallies.items start c.self.invariant c.as_mut_slice-tallies.ensures.value c.self.view_is c.requires.linked c.requires.not_there c.requires.not_back c.take_out.ensures.state in
+    let before = before_unlink above opens n c.args.self.now c.take_out.new.self c.args.a c.args.b c.self.inside.tallies.items start c.self.invariant c.as_mut_slice-tallies.ensures.value c.self.view_is c.requires.linked c.requires.not_there c.requires.not_back c.take_out.ensures.value in
     let whole = written_whole c.self.inside.tallies.len c.discount_end-2.new.tallies _ (c.self.inside.tallies.ok.0 ∙ ap length (sym c.as_mut_slice-tallies.ensures.value) ∙ c.discount_end.ensures.places ∙ c.discount_end-2.ensures.places) in
     record {
       is_state = c.take_out.ensures.sound;

@@ -4,7 +4,7 @@ use Rattle.rule_machine.specs.State.{State, IsState}
 use Rattle.net_state.specs.Held.{Held, without_place}
 use Rattle.suitor_index.proofs.Nodes.{index_parted}
 use Rattle.suitor_index.specs.Tallies.{IsIndexOf}
-use Rattle.suitor_index.proofs.index.SuitorIndex.free_name.Goals as goal
+use Rattle.suitor_index.proofs.changes.SuitorIndexDisturb.free_name.Goals as goal
 
 pub invariant_of-self : goal.invariant_of-self
 invariant_of-self g c =
@@ -13,7 +13,7 @@ invariant_of-self g c =
     let n : Held = c.self.inside.net in
     let ts = c.self.inside.tallies.items in
     let v = c.args.v in
-    let at : without_place n.state v ≡ c.free_name.new.self.state = sym c.free_name.ensures.state in
+    let at : without_place n.state v ≡ c.free_name.new.self.state = sym c.free_name.ensures.value in
     let here = subst (λ (h : Held). IsTrue (present h.state.network v)) (sym c.self.view_is) c.requires.present in
     let now : IsState (without_place n.state v) = subst IsState (sym at) c.free_name.ensures.sound in
     record {
