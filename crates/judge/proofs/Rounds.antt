@@ -83,6 +83,14 @@ near_apart : (settled : Bool) (w : ℕ) (c d m n vain : Bool) → rule_of settle
 near_apart true w c d m n vain = refl
 near_apart false w c d m n vain = refl
 
+-- who is near is asked only where the node points nowhere
+rule_alike : (o p : Option ℕ) (a b c d m n x y : Bool) → o ≡ p → a ≡ b → c ≡ d → (o ≡ None → m ≡ n) → x ≡ y → rule_of a o c m x ≡ rule_of b p d n y
+rule_alike None p a b c d m n x y same settled courted near vain =
+    let alike = near refl in
+    λ i. rule_of (settled i) (same i) (courted i) (alike i) (vain i)
+rule_alike (Some w) p a b c d m n x y same settled courted near vain =
+    near_apart a w c d m n x ∙ (λ i. rule_of (settled i) (same i) d n (vain i))
+
 abbrev hsu_huang_vain : State → ℕ → ℕ → Bool
 hsu_huang_vain s v w = is_some (pointer s w) && not (points s.registers w v)
 
@@ -93,67 +101,22 @@ abbrev settled_of : State → ℕ → Bool
 settled_of s v = cond (married s v) (flag s v) (not (flag s v))
 
 hsu_huang_alike : (s u : State) (v : ℕ) → IsState s → AreSameRounds s u v → rule_at hsu_huang s v ≡ rule_at hsu_huang u v
-hsu_huang_alike s u v good rounds = go (pointer s v) refl
-  where
-    vain : holds_at (hsu_huang_vain s v) (pointer s v) ≡ holds_at (hsu_huang_vain u v) (pointer u v)
-    vain =
-        held_alike (hsu_huang_vain s v) (hsu_huang_vain u v) (pointer s v) (pointer u v) (own s u v rounds).own_pointer (λ w at.
-        ap₂ (λ o b. is_some o && not b) (rounds w (at_target s v w good at)).own_pointer ((own s u v rounds).pointed w))
-
-    near_s : Bool
-    near_s = is_some (find (is_open hsu_huang_opens s) (neighbours s.network v))
-
-    near_u : Bool
-    near_u = is_some (find (is_open hsu_huang_opens u) (neighbours u.network v))
-
-    courted : has_suitor s v ≡ has_suitor u v
-    courted = same_suitors s u v (own s u v rounds)
-
-    same : pointer s v ≡ pointer u v
-    same = (own s u v rounds).own_pointer
-
-    go : (o : Option ℕ) → pointer s v ≡ o → rule_at hsu_huang s v ≡ rule_at hsu_huang u v
-    go None null =
-        let near : near_s ≡ near_u = ap is_some (near_alike s u v (is_open hsu_huang_opens s) (is_open hsu_huang_opens u) rounds null (λ w round. ap is_none round.own_pointer)) in
-        λ i. rule_of true (same i) (courted i) (near i) (vain i)
-    go (Some w) at =
-        ap (λ o. rule_of true o (has_suitor s v) near_s (holds_at (hsu_huang_vain s v) (pointer s v))) at
-        ∙ near_apart true w (has_suitor s v) (has_suitor u v) near_s near_u (holds_at (hsu_huang_vain s v) (pointer s v))
-        ∙ ap (λ o. rule_of true o (has_suitor u v) near_u (holds_at (hsu_huang_vain s v) (pointer s v))) (sym at)
-        ∙ ap₂ (λ o b. rule_of true o (has_suitor u v) near_u b) same vain
+hsu_huang_alike s u v good rounds =
+    let round = own s u v rounds in
+    rule_alike (pointer s v) (pointer u v) true true (has_suitor s v) (has_suitor u v) _ _ _ _ round.own_pointer refl (same_suitors s u v round)
+    (λ null. ap is_some (near_alike s u v (is_open hsu_huang_opens s) (is_open hsu_huang_opens u) rounds null (λ w at. ap is_none at.own_pointer)))
+    (held_alike (hsu_huang_vain s v) (hsu_huang_vain u v) (pointer s v) (pointer u v) round.own_pointer (λ w at.
+    ap₂ (λ o b. is_some o && not b) (rounds w (at_target s v w good at)).own_pointer (round.pointed w)))
 
 manne_alike : (s u : State) (v : ℕ) → IsState s → AreSameRounds s u v → rule_at manne s v ≡ rule_at manne u v
-manne_alike s u v good rounds = go (pointer s v) refl
-  where
-    vain : holds_at (manne_vain s v) (pointer s v) ≡ holds_at (manne_vain u v) (pointer u v)
-    vain =
-        held_alike (manne_vain s v) (manne_vain u v) (pointer s v) (pointer u v) (own s u v rounds).own_pointer (λ w at.
-        ap₂ (λ b f. not b && (f || nat_le w v)) ((own s u v rounds).pointed w) (rounds w (at_target s v w good at)).own_flag)
-
-    near_s : Bool
-    near_s = is_some (find (may_court s v) (neighbours s.network v))
-
-    near_u : Bool
-    near_u = is_some (find (may_court u v) (neighbours u.network v))
-
-    courted : has_suitor s v ≡ has_suitor u v
-    courted = same_suitors s u v (own s u v rounds)
-
-    same : pointer s v ≡ pointer u v
-    same = (own s u v rounds).own_pointer
-
-    settled : settled_of s v ≡ settled_of u v
-    settled = ap₂ (λ m f. cond m f (not f)) (same_marriage s u v (own s u v rounds)) (own s u v rounds).own_flag
-
-    go : (o : Option ℕ) → pointer s v ≡ o → rule_at manne s v ≡ rule_at manne u v
-    go None null =
-        let near : near_s ≡ near_u = ap is_some (near_alike s u v (may_court s v) (may_court u v) rounds null (λ w round. ap₂ (λ o f. (is_none o && not f) && nat_lt v w) round.own_pointer round.own_flag)) in
-        λ i. rule_of (settled i) (same i) (courted i) (near i) (vain i)
-    go (Some w) at =
-        ap (λ o. rule_of (settled_of s v) o (has_suitor s v) near_s (holds_at (manne_vain s v) (pointer s v))) at
-        ∙ near_apart (settled_of s v) w (has_suitor s v) (has_suitor u v) near_s near_u (holds_at (manne_vain s v) (pointer s v))
-        ∙ ap (λ o. rule_of (settled_of s v) o (has_suitor u v) near_u (holds_at (manne_vain s v) (pointer s v))) (sym at)
-        ∙ (λ i. rule_of (settled i) (same i) (has_suitor u v) near_u (vain i))
+manne_alike s u v good rounds =
+    let round = own s u v rounds in
+    rule_alike (pointer s v) (pointer u v) (settled_of s v) (settled_of u v) (has_suitor s v) (has_suitor u v) _ _ _ _ round.own_pointer
+    (ap₂ (λ m f. cond m f (not f)) (same_marriage s u v round) round.own_flag)
+    (same_suitors s u v round)
+    (λ null. ap is_some (near_alike s u v (may_court s v) (may_court u v) rounds null (λ w at. ap₂ (λ o f. (is_none o && not f) && nat_lt v w) at.own_pointer at.own_flag)))
+    (held_alike (manne_vain s v) (manne_vain u v) (pointer s v) (pointer u v) round.own_pointer (λ w at.
+    ap₂ (λ b f. not b && (f || nat_le w v)) (round.pointed w) (rounds w (at_target s v w good at)).own_flag))
 
 rules_alike : (rules : RuleSet) (s u : State) (v : ℕ) → IsState s → AreSameRounds s u v → rule_at (table_of rules) s v ≡ rule_at (table_of rules) u v
 rules_alike Hh s u v good rounds = hsu_huang_alike s u v good rounds
