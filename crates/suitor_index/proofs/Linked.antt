@@ -18,7 +18,6 @@ use Rattle.suitor_index.specs.declared.tally.Tally.{Tally}
 use Rattle.net_state.specs.Held.{Held, state_of}
 use Rattle.suitor_index.specs.Tallies.{tally_of, asks_for, IsIndexOf, IsIndexed}
 use Rattle.suitor_index.specs.Told.{one_if, IsOpenTo}
-use Rattle.suitor_index.proofs.Loops.{open_still}
 use Rattle.suitor_index.proofs.Turned.{tally_small}
 use Rattle.suitor_index.proofs.Ends.{IsEdgeMore, end_of, tally_more}
 
@@ -149,6 +148,13 @@ end_counted above opens net more r a b start e index counts =
     let now = t.reached in
     let x = ap (λ (y : Tally). y.reached) was in
     omega (arith, now, end_here above opens r a b counts, x)
+
+-- a place that does not pass is as it was
+open_still : (p : ℕ → Bool) (a b : List Tally) (w : ℕ) → IsOpenTo p a b → p w ≡ false → (tally_of b w).reached ≡ (tally_of a w).reached
+open_still p a b w told fails =
+    let now = told.reached w in
+    let none : one_if (p w) ≡ 0 = ap one_if fails in
+    omega arith
 
 -- once the first end is told, the other is as it was
 pub second_room : (above : Bool) (opens : Option ℕ → Bool → Bool) (net more : Network) (r : Registers) (a b : ℕ) (start half : List Tally) → IsEdgeMore net more r a b → IsIndexOf above opens (state_of net r) start → net.size ≤ 65535 → IsOpenTo (end_of above opens r b a) start half → (asks_for above b a && opens (pointer_of r a) (flag_of r a)) ≡ true → (tally_of half b).reached < 65535

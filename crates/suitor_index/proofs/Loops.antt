@@ -1,15 +1,15 @@
--- A node that is counted as open at one name after another.
-use Rattle.std.proofs.Common.{◌≡◌, ◌≢◌, ℕ, ◌+◌, ◌<◌, ◌≤◌, Bool, true, false, ◌&&◌, ◌||◌, List, length, get_or, take, nat_eq, nat_lt, refl, sym, ap, ap₂, ◌∙◌, ⊎_elim, arith}
+-- A node that is counted at one name after another, as open or not as it is now.
+use Rattle.std.proofs.Common.{◌≡◌, ◌≢◌, ℕ, ◌+◌, ◌<◌, ◌≤◌, Bool, true, false, cond, ◌&&◌, ◌||◌, List, length, get_or, take, nat_eq, nat_lt, refl, sym, ap, ap₂, subst, ◌∙◌, ⊎_elim, arith}
 use Rattle.std.specs.List.{list_any}
 use Rattle.std.specs.Cmp.{both_ways}
 use Rattle.std.specs.List.Sorted.{IsStrictlyIncreasing}
-use Rattle.std.proofs.lemmas.Bool.{and_parts, cases_eq, le-ltb, ltb-false, ltb-true, or_cases, ne_eqb, eqb-true, eq-eqb, false_from_ne_true, true≢false}
+use Rattle.std.proofs.lemmas.Bool.{and_parts, cases_eq, le-ltb, ltb-false, ltb-true, or_cases, ne_eqb, eqb-true, eq-eqb, true≢false}
 use Rattle.std.proofs.lemmas.List.{get_or-take, get_or_default, length-take}
 use Rattle.std.proofs.lemmas.List.Folds.{Any-from_list_any, list_any_none, list_any_more, list_any_at}
 use Rattle.std.proofs.lemmas.List.Kept.{AllPairs-from_increasing}
 use Rattle.suitor_index.specs.declared.tally.Tally.{Tally}
 use Rattle.suitor_index.specs.Tallies.{tally_of, asks_for}
-use Rattle.suitor_index.specs.Told.{IsOpenTo, one_if}
+use Rattle.suitor_index.specs.Told.{CanTurn, IsTurned, one_if}
 
 -- two tests that don't both pass are counted one after the other
 one_or : (a b : Bool) → (b ≡ true → a ≡ false) → one_if (a || b) ≡ one_if a + one_if b
@@ -17,22 +17,28 @@ one_or true true apart = absurd (let h = apart refl in cc)
 one_or true false apart = refl
 one_or false b apart = omega arith
 
--- the places of two tests that don't both pass
-pub open_both : (p q r : ℕ → Bool) (a b c : List Tally) → ((k : ℕ) → q k ≡ true → p k ≡ false) → ((k : ℕ) → r k ≡ (p k || q k)) → IsOpenTo p a b → IsOpenTo q b c → IsOpenTo r a c
-open_both p q r a b c apart joined first second = record {
+-- what was and is counted at the places of two tests that don't both pass
+turned_sum : (was is : Bool) (x y z p q r : ℕ) → r ≡ p + q → y + cond was p 0 ≡ x + cond is p 0 → z + cond was q 0 ≡ y + cond is q 0 → z + cond was r 0 ≡ x + cond is r 0
+turned_sum true true x y z p q r e first second = omega arith
+turned_sum true false x y z p q r e first second = omega arith
+turned_sum false true x y z p q r e first second = omega arith
+turned_sum false false x y z p q r e first second = omega arith
+
+pub turned_both : (was is : Bool) (p q r : ℕ → Bool) (a b c : List Tally) → ((k : ℕ) → q k ≡ true → p k ≡ false) → ((k : ℕ) → r k ≡ (p k || q k)) → IsTurned p was is a b → IsTurned q was is b c → IsTurned r was is a c
+turned_both was is p q r a b c apart joined first second = record {
   places = second.places ∙ first.places;
   suitors = λ k. second.suitors k ∙ first.suitors k;
   sum = λ k. second.sum k ∙ first.sum k;
-  reached = λ k. let e = ap one_if (joined k) ∙ one_or (p k) (q k) (apart k) in let f = first.reached k in let s = second.reached k in omega arith;
+  reached = λ k. turned_sum was is _ _ _ _ _ _ (ap one_if (joined k) ∙ one_or (p k) (q k) (apart k)) (first.reached k) (second.reached k);
 }
 
 -- the same places by another test
-pub open_alike : (p q : ℕ → Bool) (a b : List Tally) → ((k : ℕ) → p k ≡ q k) → IsOpenTo p a b → IsOpenTo q a b
-open_alike p q a b same told = record {
+pub turned_alike : (was is : Bool) (p q : ℕ → Bool) (a b : List Tally) → ((k : ℕ) → p k ≡ q k) → IsTurned p was is a b → IsTurned q was is a b
+turned_alike was is p q a b same told = record {
   places = told.places;
   suitors = told.suitors;
   sum = told.sum;
-  reached = λ k. told.reached k ∙ ap (λ t. (tally_of a k).reached + one_if t) (same k);
+  reached = λ k. subst (λ t. (tally_of b k).reached + cond was (one_if t) 0 ≡ (tally_of a k).reached + cond is (one_if t) 0) (same k) (told.reached k);
 }
 
 -- a name of a rising list stands nowhere before its place
@@ -56,12 +62,23 @@ near_apart nodes i w k rising inside is same = ap (λ x. list_any (nat_eq x) (ta
 pub near_there : (nodes : List ℕ) (i w : ℕ) → i < length nodes → w ≡ get_or nodes i w → list_any (nat_eq w) nodes ≡ true
 near_there nodes i w inside is = list_any_at (nat_eq w) nodes i w inside (eq-eqb w (get_or nodes i w) is)
 
--- a place that does not pass is as it was
-pub open_still : (p : ℕ → Bool) (a b : List Tally) (w : ℕ) → IsOpenTo p a b → p w ≡ false → (tally_of b w).reached ≡ (tally_of a w).reached
-open_still p a b w told fails =
-    let now = told.reached w in
-    let none : one_if (p w) ≡ 0 = ap one_if fails in
-    omega arith
+-- at a place that does not pass a node can turn as before
+still : (was is t : Bool) (x y : ℕ) → t ≡ false → y + cond was (one_if t) 0 ≡ x + cond is (one_if t) 0 → y ≡ x
+still was is true x y e same = absurd (true≢false e)
+still true true false x y e same = omega arith
+still true false false x y e same = omega arith
+still false true false x y e same = omega arith
+still false false false x y e same = omega arith
+
+can_turn_by : (was is : Bool) (s t : Tally) → t.reached ≡ s.reached → CanTurn was is s → CanTurn was is t
+can_turn_by true true s t same can = can
+can_turn_by true false s t same can = omega arith
+can_turn_by false true s t same can = omega arith
+can_turn_by false false s t same can = can
+
+pub can_turn_still : (was is : Bool) (p : ℕ → Bool) (a b : List Tally) (w : ℕ) → IsTurned p was is a b → p w ≡ false → CanTurn was is (tally_of a w) → CanTurn was is (tally_of b w)
+can_turn_still was is p a b w told fails =
+    can_turn_by was is (tally_of a w) (tally_of b w) (still was is (p w) _ _ fails (told.reached w))
 
 -- v is asked for at each of the names so far
 abbrev pub AllAsk : Bool → ℕ → List ℕ → Type 0
@@ -115,17 +132,3 @@ asked_so_far above v nodes i w k rising inside is none so_far = both_ways _ _ th
     back both =
         let parts = and_parts (list_any (nat_eq k) nodes) (asks_for above k v) both in
         any_before nodes i w k rising inside is parts.0 (λ later. true≢false (sym parts.1 ∙ later_ask_not above v w k none later))
-
--- the same two of the next before those so far
-pub near_more_back : (nodes : List ℕ) (i w k : ℕ) → i < length nodes → w ≡ get_or nodes i w → list_any (nat_eq k) (take (i + 1) nodes) ≡ (nat_eq k w || list_any (nat_eq k) (take i nodes))
-near_more_back nodes i w k inside is = near_more nodes i w k inside is ∙ swapped (list_any (nat_eq k) (take i nodes)) (nat_eq k w)
-  where
-    swapped : (a b : Bool) → (a || b) ≡ (b || a)
-    swapped true true = refl
-    swapped true false = refl
-    swapped false true = refl
-    swapped false false = refl
-
-pub near_apart_back : (nodes : List ℕ) (i w k : ℕ) → IsStrictlyIncreasing nodes → i < length nodes → w ≡ get_or nodes i w → list_any (nat_eq k) (take i nodes) ≡ true → nat_eq k w ≡ false
-near_apart_back nodes i w k rising inside is there =
-    false_from_ne_true (nat_eq k w) (λ same. true≢false (sym there ∙ near_apart nodes i w k rising inside is same))

@@ -53,49 +53,35 @@ pub(crate) fn close_at(tallies: &mut [Tally], w: Node)
     tallies[w.place()].reached -= 1;
 }
 
-/// Counts v as open at those of these nodes, which are by rising names, whose guard asks for it. Where guards ask for higher
-/// names alone, ends at the first that is not below v.
-pub(crate) fn open_at_all<R: Rules>(tallies: &mut [Tally], nodes: &[Node], v: Node)
-    requires rising { IsStrictlyIncreasing nodes.now }
-    requires within { (k : ℕ) → list_any (nat_eq k) nodes.now ≡ true → k < length tallies.old }
-    requires room { (k : ℕ) → (list_any (nat_eq k) nodes.now && asks_for R.ABOVE k v) ≡ true → (tally_of tallies.old k).reached < 65535 }
-    ensures { IsOpenTo (λ k. list_any (nat_eq k) nodes.now && asks_for R.ABOVE k v) tallies.old tallies.new }
+/// Counts an open node more or less at a node, where one was open or not and is now.
+#[inline(always)]
+fn turn_at(tallies: &mut [Tally], w: Node, was: bool, is: bool)
+    requires within { w < length tallies.old }
+    requires turns { CanTurn was is (tally_of tallies.old w) }
+    ensures { IsTurned (λ k. nat_eq k w) was is tallies.old tallies.new }
 {
-    for &w in nodes {
-        if !asks_for::<R>(w, v) {
-            return;
-        }
-        open_at(tallies, w);
-    }
-}
-
-/// Counts v as open no longer at those of these nodes, which are by rising names, whose guard asks for it. Where guards ask for
-/// higher names alone, ends at the first that is not below v.
-pub(crate) fn close_at_all<R: Rules>(tallies: &mut [Tally], nodes: &[Node], v: Node)
-    requires rising { IsStrictlyIncreasing nodes.now }
-    requires within { (k : ℕ) → list_any (nat_eq k) nodes.now ≡ true → k < length tallies.old }
-    requires counted { (k : ℕ) → (list_any (nat_eq k) nodes.now && asks_for R.ABOVE k v) ≡ true → 1 ≤ (tally_of tallies.old k).reached }
-    ensures { IsOpenTo (λ k. list_any (nat_eq k) nodes.now && asks_for R.ABOVE k v) tallies.new tallies.old }
-{
-    for &w in nodes {
-        if !asks_for::<R>(w, v) {
-            return;
-        }
-        close_at(tallies, w);
+    match (was, is) {
+        (false, true) => open_at(tallies, w),
+        (true, false) => close_at(tallies, w),
+        _ => {}
     }
 }
 
 /// Counts v at those of these nodes, which are by rising names, whose guard asks for it, as open or not as it is now, where it
-/// was so before.
+/// was so before. Where guards ask for higher names alone, ends at the first that is not below v.
 pub(crate) fn turn<R: Rules>(tallies: &mut [Tally], nodes: &[Node], v: Node, was: bool, is: bool)
     requires rising { IsStrictlyIncreasing nodes.now }
     requires within { (k : ℕ) → list_any (nat_eq k) nodes.now ≡ true → k < length tallies.old }
     requires turns { (k : ℕ) → (list_any (nat_eq k) nodes.now && asks_for R.ABOVE k v) ≡ true → CanTurn was is (tally_of tallies.old k) }
     ensures { IsTurned (λ k. list_any (nat_eq k) nodes.now && asks_for R.ABOVE k v) was is tallies.old tallies.new }
 {
-    match (was, is) {
-        (false, true) => open_at_all::<R>(tallies, nodes, v),
-        (true, false) => close_at_all::<R>(tallies, nodes, v),
-        _ => {}
+    if was == is {
+        return;
+    }
+    for &w in nodes {
+        if !asks_for::<R>(w, v) {
+            return;
+        }
+        turn_at(tallies, w, was, is);
     }
 }
