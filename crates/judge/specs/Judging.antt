@@ -2,7 +2,7 @@
 use Rattle.std.specs.Prelude.{◌≡◌, ℕ, Bool, true, false, List, [], None, IsTrue}
 use Rattle.rule_machine.specs.declared.choice.Item.{Item}
 use Rattle.rule_machine.specs.declared.event.Event.{Event}
-use Rattle.rule_machine.specs.declared.event.Event.TheVariants.{Link, Unlink, Point, Flag, Step, Show, Enabled, Matching, Status, Join, Leave}
+use Rattle.rule_machine.specs.declared.event.Event.TheVariants.{Link, Step}
 use Rattle.rule_machine.specs.declared.reply.Reply.{Reply}
 use Rattle.rule_machine.specs.declared.reply.Reply.TheVariants.{Accepted}
 use Rattle.rule_machine.specs.State.{State}
@@ -13,16 +13,7 @@ use Rattle.machine_laws.specs.Followed.{followed}
 
 abbrev pub is_link : Event → Bool
 is_link (Link a b) = true
-is_link (Unlink a b) = false
-is_link (Point v target) = false
-is_link (Flag v value) = false
-is_link (Join v) = false
-is_link (Leave v) = false
-is_link (Step items) = false
-is_link (Show v) = false
-is_link Enabled = false
-is_link Matching = false
-is_link Status = false
+is_link event = false
 
 -- a link that is not refused, and a reply that accepts it
 pub record TakesMemory (t : RuleTable) (s : State) (event : Event) (reply : Reply) : Type 0 where
@@ -44,14 +35,5 @@ IsWrong t s spent event reply now = ((u : State) → Answers t s spent event rep
 
 -- the items of a step
 abbrev pub items_of : Event → List Item
-items_of (Link a b) = []
-items_of (Unlink a b) = []
-items_of (Point v target) = []
-items_of (Flag v value) = []
-items_of (Join v) = []
-items_of (Leave v) = []
 items_of (Step items) = items
-items_of (Show v) = []
-items_of Enabled = []
-items_of Matching = []
-items_of Status = []
+items_of event = []
