@@ -5,7 +5,7 @@ use Rattle.rule_machine.specs.State.{State}
 use Rattle.rule_machine.specs.Run.{Entry}
 use Rattle.entry_grammar.specs.Lines.{first_line}
 use Rattle.entry_grammar.specs.Spelling.{SpellsEntry}
-use Rattle.judge.specs.Costs.{cost_by}
+use Rattle.judge.specs.Judging.{cost_by}
 use Rattle.auditor.specs.Epochs.{IsNextCost}
 use Rattle.auditor.proofs.Ending.{entry_once}
 

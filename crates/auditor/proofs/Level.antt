@@ -10,7 +10,7 @@ use Rattle.rule_machine.specs.Answer.{Answers, spent_after}
 use Rattle.rule_machine.specs.Tables.{table_of}
 use Rattle.charge_laws.specs.Epochs.{IsPath}
 use Rattle.machine_laws.specs.Determined.{answers_once}
-use Rattle.judge.specs.Costs.{cost_by}
+use Rattle.judge.specs.Judging.{cost_by}
 use Rattle.auditor.specs.declared.epoch.CostedEpoch.{CostedEpoch}
 use Rattle.auditor.specs.Parts.{Opening, size_of}
 use Rattle.auditor.specs.Damage.{Follows}

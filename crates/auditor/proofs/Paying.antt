@@ -13,7 +13,7 @@ use Rattle.charge_laws.specs.Charged.{moves_in, moves_of}
 use Rattle.charge_laws.specs.Costs.{cost_of, costs_of, log_of}
 use Rattle.charge_laws.specs.CostsOfRuns.{hsu_huang_path_costs, manne_path_costs}
 use Rattle.charge_laws.specs.Epochs.{IsPath}
-use Rattle.judge.specs.Costs.{cost_by}
+use Rattle.judge.specs.Judging.{cost_by}
 use Rattle.auditor.specs.declared.epoch.CostedEpoch.{CostedEpoch}
 use Rattle.auditor.specs.Epochs.{AreEpochs, ArePaid, costs_along, costs_by, first_epoch, paid_by}
 use Rattle.auditor.proofs.Spent.{opens_in_state}

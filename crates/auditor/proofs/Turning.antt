@@ -15,7 +15,7 @@ use Rattle.rule_machine.specs.Answer.{Answers, spent_after}
 use Rattle.rule_machine.specs.Tables.{table_of, weight_of}
 use Rattle.machine_laws.specs.Bases.{passes_run}
 use Rattle.charge_laws.specs.Epochs.{IsPath, epochs_are_bounded}
-use Rattle.judge.specs.Costs.{cost_by}
+use Rattle.judge.specs.Judging.{cost_by}
 use Rattle.auditor.specs.declared.epoch.CostedEpoch.{CostedEpoch}
 use Rattle.auditor.specs.declared.replay.Replay.{Replay}
 use Rattle.auditor.specs.Transcript.{Comes}

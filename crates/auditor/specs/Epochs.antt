@@ -9,7 +9,7 @@ use Rattle.rule_machine.specs.Base.{Part, Told, Kept, Stand, begun_at, entries_i
 use Rattle.rule_machine.specs.Run.{Entry, Epoch, Moment, epoch_at, epochs_by, epochs_from, open_at}
 use Rattle.rule_machine.specs.Tables.{table_of, weight_of}
 use Rattle.charge_laws.specs.Epochs.{IsPath}
-use Rattle.judge.specs.Costs.{cost_by}
+use Rattle.judge.specs.Judging.{cost_by}
 use Rattle.auditor.specs.declared.epoch.CostedEpoch.{CostedEpoch}
 use Rattle.auditor.specs.Damage.{EntryComes}
 use Rattle.auditor.specs.Parts.{Opening, base_in}

@@ -3,7 +3,7 @@
 ghost use Rattle.std.specs.Prelude.{◌≡◌, ◌≤◌, ◌+◌, ◌++◌, ◌∷◌, [], All, Err, IfErr, IfOk, OnOk};
 ghost use Rattle.rule_machine.specs.Base.{Part};
 ghost use Rattle.rule_machine.specs.Run.{epoch_at, open_at};
-ghost use Rattle.judge.specs.Costs.{cost_by};
+ghost use Rattle.judge.specs.Judging.{cost_by};
 ghost use Rattle.auditor.specs.Epochs.{AreEpochs, ArePaid, IsNextCost, IsWithinItsBound, epochs_in, rows_at};
 ghost use Rattle.auditor.specs.Position.{counted_part, stand_of};
 ghost use Rattle.auditor.specs.Verdict.{IsJudged};

@@ -5,11 +5,14 @@ use Rattle.rule_machine.specs.declared.event.Event.{Event}
 use Rattle.rule_machine.specs.declared.event.Event.TheVariants.{Link, Step}
 use Rattle.rule_machine.specs.declared.reply.Reply.{Reply}
 use Rattle.rule_machine.specs.declared.reply.Reply.TheVariants.{Accepted}
+use Rattle.rule_machine.specs.declared.rules.RuleSet.{RuleSet}
+use Rattle.rule_machine.specs.declared.rules.RuleSet.TheVariants.{Hh, Manne}
 use Rattle.rule_machine.specs.State.{State}
 use Rattle.rule_machine.specs.RuleTable.{RuleTable}
 use Rattle.rule_machine.specs.Refuse.{refusal_of}
 use Rattle.rule_machine.specs.Answer.{Answers, Does}
 use Rattle.machine_laws.specs.Followed.{followed}
+use Rattle.charge_laws.specs.Costs.{hsu_huang_cost, manne_cost}
 
 abbrev pub is_link : Event → Bool
 is_link (Link a b) = true
@@ -37,3 +40,8 @@ IsWrong t s spent event reply now = ((u : State) → Answers t s spent event rep
 abbrev pub items_of : Event → List Item
 items_of (Step items) = items
 items_of event = []
+
+-- what an event costs by these rules
+abbrev pub cost_by : RuleSet → State → Event → ℕ
+cost_by Hh = hsu_huang_cost
+cost_by Manne = manne_cost

@@ -3,4 +3,3 @@ pub mod Shares
 pub mod Judging
 pub mod Rising
 pub mod Bases
-pub mod Costs

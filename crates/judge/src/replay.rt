@@ -4,8 +4,7 @@ ghost use Rattle.std.specs.Prelude.{◌≡◌, ◌≤◌, false, IsTrue, IfOk, O
 ghost use Rattle.rule_machine.specs.Answer.{Answers};
 ghost use Rattle.rule_machine.specs.State.{State, opening, opening_with};
 ghost use Rattle.rule_machine.specs.Tables.{table_of};
-ghost use Rattle.judge.specs.Costs.{cost_by};
-ghost use Rattle.judge.specs.Judging.{IsWrong, TakesMemory};
+ghost use Rattle.judge.specs.Judging.{IsWrong, TakesMemory, cost_by};
 
 use crate::edits::opened;
 use crate::judging::judge_reply;

@@ -4,7 +4,7 @@ ghost use Rattle.std.specs.Prelude.{◌≡◌, ◌≤◌, IsTrue};
 ghost use Rattle.rule_machine.specs.Network.{present};
 ghost use Rattle.rule_machine.specs.RuleTable as table;
 ghost use Rattle.rule_machine.specs.Tables.{table_of};
-ghost use Rattle.judge.specs.Costs.{cost_by};
+ghost use Rattle.judge.specs.Judging.{cost_by};
 ghost use Rattle.judge.specs.Shares.{closes, end_of, flag_charge};
 
 use crate::{hsu_huang, manne};

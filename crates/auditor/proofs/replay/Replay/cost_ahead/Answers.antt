@@ -1,6 +1,6 @@
 use Rattle.std.proofs.Common.{◌∙◌, ap}
 use Rattle.rule_machine.specs.declared.event.Event.{Event}
-use Rattle.judge.specs.Costs.{cost_by}
+use Rattle.judge.specs.Judging.{cost_by}
 use Rattle.auditor.proofs.Ahead.{entry_ahead}
 use Rattle.auditor.proofs.replay.Replay.cost_ahead.Goals as goal
 
