@@ -1,12 +1,15 @@
 -- What a new edge says of its ends, and pointers that do not cross.
-use Rattle.std.proofs.Common.{◌≡◌, ℕ, Bool, true, false, cond, not, ◌&&◌, Some, None, Result, Ok, Err, OnOk, OnErr, IsTrue, nat_eq, nat_le, refl, sym, ap, subst, ◌∙◌}
+use Rattle.std.proofs.Common.{◌≡◌, ℕ, Bool, true, false, cond, not, ◌&&◌, ◌||◌, Some, None, Result, Ok, Err, OnOk, OnErr, IsTrue, nat_eq, nat_le, refl, sym, ap, subst, ◌∙◌, ⊎_elim}
+use Rattle.std.specs.Ordering.{eq_by_cmp}
 use Rattle.std.proofs.lemmas.Bool.{true≢false, false_from_ne_true, eq-eqb, ne_eqb}
+use Rattle.std.proofs.lemmas.Map.Views.{tells_apart}
 use Rattle.std.proofs.lemmas.Option.{none-some}
 use Rattle.rule_machine.specs.declared.refusal.Refusal.TheVariants.{UnknownNode, SelfLoop, AlreadyLinked, NotLinked, TooManyEdges}
-use Rattle.rule_machine.specs.Network.{Network, IsNetwork, present, linked, edge_count, with_edge}
+use Rattle.rule_machine.specs.Network.{Network, IsNetwork, pair_cmp, edge, present, linked, edge_count, with_edge, without_edge}
 use Rattle.rule_machine.specs.State.{Registers, IsState, points, pointer_of, with_pointer}
 use Rattle.rule_machine.specs.Disturbance.{without_pointer}
 use Rattle.rule_machine.specs.Refuse.{both_present, link_refusal, unlink_refusal, max_edges}
+use Rattle.machine_laws.specs.Edges.{pair_exact, contains-insert, contains-remove, edge_ends}
 use Rattle.machine_laws.specs.Keeps.{link_keeps}
 use Rattle.machine_laws.specs.Neighbours.{linked_back, linked_apart, linked_present}
 use Rattle.machine_laws.specs.Search.{cond-none}
@@ -73,6 +76,20 @@ crossing_cleared r a b =
 
 pub pointer_cleared : (r : Registers) (v w : ℕ) → points (without_pointer r v w) v w ≡ false
 pointer_cleared r v w = false_from_ne_true _ (λ at. without_pointer_gone r v w (some_from_is_at (pointer_of (without_pointer r v w) v) w at))
+
+-- ---- an edge that comes or goes between two other names
+
+other_pair : (a b k x : ℕ) → (k ≡ a → x ≡ b → ⊥) → (k ≡ b → x ≡ a → ⊥) → eq_by_cmp pair_cmp (edge k x) (edge a b) ≡ false
+other_pair a b k x not_ab not_ba =
+    false_from_ne_true _ (λ same. ⊎_elim (λ p. not_ab p.0 p.1) (λ p. not_ba p.0 p.1) (edge_ends a b k x (tells_apart pair_exact (edge k x) (edge a b) same)))
+
+pub linked_with_other : (net : Network) (a b k x : ℕ) → (k ≡ a → x ≡ b → ⊥) → (k ≡ b → x ≡ a → ⊥) → linked (with_edge net a b) k x ≡ linked net k x
+linked_with_other net a b k x not_ab not_ba =
+    contains-insert net.edges (edge a b) (edge k x) ∙ ap (λ t. t || linked net k x) (other_pair a b k x not_ab not_ba)
+
+pub linked_without_other : (net : Network) (a b k x : ℕ) → (k ≡ a → x ≡ b → ⊥) → (k ≡ b → x ≡ a → ⊥) → linked (without_edge net a b) k x ≡ linked net k x
+linked_without_other net a b k x not_ab not_ba =
+    contains-remove net.edges (edge a b) (edge k x) ∙ ap (λ t. not t && linked net k x) (other_pair a b k x not_ab not_ba)
 
 -- ---- an edge that goes
 

@@ -1,15 +1,14 @@
 -- What is round a name in two states (its registers, its neighbours, who points at it), and which writes leave that as it is.
-use Rattle.std.proofs.Common.{◌≡◌, ◌≢◌, ℕ, ◌<◌, Bool, false, not, ◌&&◌, ◌||◌, length, set, filter, find, Option, is_some, sym, refl, ap, ◌∙◌, ⊎_elim}
-use Rattle.std.specs.Ordering.{eq_by_cmp}
-use Rattle.std.proofs.lemmas.Bool.{cases_eq, false_from_ne_true}
-use Rattle.std.proofs.lemmas.Map.Views.{tells_apart}
-use Rattle.rule_machine.specs.Network.{Network, IsNetwork, pair_cmp, edge, linked, names, neighbours, present, with_edge, without_edge}
+use Rattle.std.proofs.Common.{◌≡◌, ◌≢◌, ℕ, ◌<◌, Bool, ◌&&◌, length, set, filter, find, Option, is_some, sym, refl, ap, ◌∙◌, ⊎_elim}
+use Rattle.std.proofs.lemmas.Bool.{cases_eq}
+use Rattle.rule_machine.specs.Network.{Network, IsNetwork, linked, names, neighbours, present, with_edge, without_edge}
 use Rattle.rule_machine.specs.State.{State, Registers, is_at, partner, pointer, flag, points, married, has_suitor, with_pointer}
 use Rattle.rule_machine.specs.Disturbance.{after_point, after_flag}
-use Rattle.machine_laws.specs.Edges.{pair_exact, contains-insert, contains-remove, edge_ends, present_other}
+use Rattle.machine_laws.specs.Edges.{present_other}
 use Rattle.machine_laws.specs.Neighbours.{neighbours_range}
 use Rattle.machine_laws.specs.Writes.{pointer-with_pointer_other, pointer-with_pointer_same, flag-with_flag_other}
 use Rattle.net_state.specs.Held.{IsElsewhere}
+use Rattle.net_state.proofs.Edges.{linked_with_other, linked_without_other}
 
 -- two states have the same round a name
 pub record IsSameRound (s u : State) (v : ℕ) : Type 0 where
@@ -58,14 +57,9 @@ round_flagged s v value w apart = record {
 }
 
 -- an edge comes or goes at two other nodes
-other_edge : (a b k x : ℕ) → k ≢ a → k ≢ b → eq_by_cmp pair_cmp (edge k x) (edge a b) ≡ false
-other_edge a b k x not_a not_b =
-    false_from_ne_true _ (λ same. ⊎_elim (λ p. not_a p.0) (λ p. not_b p.0) (edge_ends a b k x (tells_apart pair_exact (edge k x) (edge a b) same)))
-
 pub round_linked : (s : State) (a b w : ℕ) → w ≢ a → w ≢ b → IsSameRound s (record s { network = with_edge s.network a b }) w
 round_linked s a b w not_a not_b =
-    let link : (x : ℕ) → linked s.network w x ≡ linked (with_edge s.network a b) w x = λ x.
-    sym (contains-insert s.network.edges (edge a b) (edge w x) ∙ ap (λ t. t || linked s.network w x) (other_edge a b w x not_a not_b)) in
+    let link : (x : ℕ) → linked s.network w x ≡ linked (with_edge s.network a b) w x = λ x. sym (linked_with_other s.network a b w x (λ e f. not_a e) (λ e f. not_b e)) in
     record {
       here = refl;
       near = λ i. filter (λ x. link x i) (names s.network);
@@ -77,8 +71,7 @@ round_linked s a b w not_a not_b =
 
 pub round_unlinked : (s : State) (a b w : ℕ) → w ≢ a → w ≢ b → IsSameRound s (record s { network = without_edge s.network a b }) w
 round_unlinked s a b w not_a not_b =
-    let link : (x : ℕ) → linked s.network w x ≡ linked (without_edge s.network a b) w x = λ x.
-    sym (contains-remove s.network.edges (edge a b) (edge w x) ∙ ap (λ t. not t && linked s.network w x) (other_edge a b w x not_a not_b)) in
+    let link : (x : ℕ) → linked s.network w x ≡ linked (without_edge s.network a b) w x = λ x. sym (linked_without_other s.network a b w x (λ e f. not_a e) (λ e f. not_b e)) in
     record {
       here = refl;
       near = λ i. filter (λ x. link x i) (names s.network);

@@ -1,16 +1,15 @@
 -- An index that is told of an edge.
-use Rattle.std.proofs.Common.{◌≡◌, ◌≢◌, ℕ, ◌<◌, ◌≤◌, Bool, true, false, not, ◌&&◌, ◌||◌, List, Option, None, nat_eq, IsTrue, refl, sym, ap, subst, ◌∙◌, ⊎_elim, arith}
+use Rattle.std.proofs.Common.{◌≡◌, ◌≢◌, ℕ, ◌<◌, ◌≤◌, Bool, true, false, not, ◌&&◌, List, Option, None, nat_eq, IsTrue, refl, sym, ap, subst, ◌∙◌, arith}
 use Rattle.std.specs.Ordering.{eq_by_cmp}
 use Rattle.std.proofs.lemmas.Bool.{and_parts, eq-eqb, ne_eqb, false_from_ne_true, true≢false, or_left, and_right}
 use Rattle.std.proofs.lemmas.Cmp.{eq_by_cmp_equiv}
-use Rattle.std.proofs.lemmas.Map.Views.{tells_apart}
 use Rattle.rule_machine.specs.Network.{Network, pair_cmp, edge, linked, present, with_edge, without_edge}
 use Rattle.rule_machine.specs.State.{State, Registers, IsState, points, pointer_of, flag_of}
 use Rattle.rule_machine.specs.Disturbance.{after_link}
 use Rattle.graph_store.specs.Fault.{link_fault}
-use Rattle.net_state.proofs.Edges.{new_edge}
+use Rattle.net_state.proofs.Edges.{linked_with_other, linked_without_other, new_edge}
 use Rattle.rule_machine.specs.Refuse.{link_refusal, both_present}
-use Rattle.machine_laws.specs.Edges.{pair_total, pair_exact, contains-insert, contains-remove, edge_ends, linked_comm}
+use Rattle.machine_laws.specs.Edges.{pair_total, contains-insert, contains-remove, linked_comm}
 use Rattle.machine_laws.specs.Search.{cond-none}
 use Rattle.machine_laws.specs.Neighbours.{linked_apart, linked_present, linked_back}
 use Rattle.machine_laws.specs.Pointers.{points_true, pointer_linked}
@@ -23,12 +22,6 @@ use Rattle.suitor_index.proofs.Ends.{IsEdgeMore, end_of, tally_more}
 
 same_pair : (a b : ℕ) → eq_by_cmp pair_cmp (edge a b) (edge a b) ≡ true
 same_pair a b = (eq_by_cmp_equiv pair_total).refl (edge a b)
-
-other_pair : (a b k x : ℕ) → (k ≡ a → x ≡ b → ⊥) → (k ≡ b → x ≡ a → ⊥) → eq_by_cmp pair_cmp (edge k x) (edge a b) ≡ false
-other_pair a b k x not_ab not_ba =
-    false_from_ne_true _ (
-    λ same. ⊎_elim (λ p. not_ab p.0 p.1) (λ p. not_ba p.0 p.1) (edge_ends a b k x (tells_apart pair_exact (edge k x) (edge a b) same))
-    )
 
 no_pointer_across : (net : Network) (r : Registers) (a b : ℕ) → IsState (state_of net r) → linked net a b ≡ false → points r a b ≡ false
 no_pointer_across net r a b good absent =
@@ -53,7 +46,7 @@ edge_linked net more r a b good accepted change =
       absent_back = back;
       there = there;
       there_back = linked_comm more b a ∙ there;
-      others = λ k x not_ab not_ba. sym (ap (λ n. linked n k x) change ∙ contains-insert net.edges (edge a b) (edge k x) ∙ ap (λ t. t || linked net k x) (other_pair a b k x not_ab not_ba));
+      others = λ k x not_ab not_ba. sym (ap (λ n. linked n k x) change ∙ linked_with_other net a b k x not_ab not_ba);
       not_there = no_pointer_across net r a b good new.0;
       not_back = no_pointer_across net r b a good back;
     }
@@ -79,7 +72,7 @@ edge_unlinked net more r a b good there not_there not_back change =
       absent_back = linked_comm net b a ∙ absent;
       there = there;
       there_back = linked_comm more b a ∙ there;
-      others = λ k x not_ab not_ba. ap (λ n. linked n k x) change ∙ contains-remove more.edges (edge a b) (edge k x) ∙ ap (λ t. not t && linked more k x) (other_pair a b k x not_ab not_ba);
+      others = λ k x not_ab not_ba. ap (λ n. linked n k x) change ∙ linked_without_other more a b k x not_ab not_ba;
       not_there = not_there;
       not_back = not_back;
     }
