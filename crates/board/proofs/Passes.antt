@@ -19,13 +19,3 @@ passed_more f xs k d within = rw add-one (go f xs k d within) where
   go f [] k d within = absurd (omega arith)
   go f (x ∷ xs) zero d within = refl
   go f (x ∷ xs) (suc k) d within = ap (λ rest. f x ∷ rest) (go f xs k d (omega (arith, within)))
-
--- the first element is next
-pub passed_none : {X : Type 0} (f : X → X) (xs : List X) → passed f xs 0 ≡ xs
-passed_none f [] = refl
-passed_none f (x ∷ xs) = refl
-
--- all elements are written
-pub passed_all : {X : Type 0} (f : X → X) (xs : List X) → passed f xs (length xs) ≡ map f xs
-passed_all f [] = refl
-passed_all f (x ∷ xs) = ap (λ rest. f x ∷ rest) (passed_all f xs)

@@ -1,9 +1,8 @@
 -- Which fault a call has, and the row that a call reads.
-use Rattle.std.proofs.Common.{◌≡◌, ◌≢◌, ℕ, ◌<◌, ◌≤◌, min, max, Bool, true, false, cond, not, ◌&&◌, List, length, get_or, None, Some, eqb, sym, refl, ap, ◌∙◌, arith}
+use Rattle.std.proofs.Common.{◌≡◌, ◌≢◌, ℕ, ◌<◌, ◌≤◌, Bool, true, false, cond, not, ◌&&◌, List, length, get_or, None, Some, eqb, sym, refl, ap, ◌∙◌, arith}
 use Rattle.std.specs.Prelude.{nat_le}
 use Rattle.std.specs.declared.vec.Vec.{Vec}
 use Rattle.std.specs.declared.alloc.Global.{Global}
-use Rattle.std.specs.FinMap as map
 use Rattle.std.proofs.lemmas.Bool.{leb-false, true≢false}
 use Rattle.rule_machine.specs.Network.{Network, present, linked, edge, edge_count}
 use Rattle.rule_machine.specs.Refuse.{max_edges}
@@ -32,7 +31,6 @@ pub record MayLink (net : Network) (a b : ℕ) : Type 0 where
   pub here_b : present net b ≡ true
   pub apart : eqb a b ≡ false
   pub fresh : linked net a b ≡ false
-  pub fresh_back : linked net b a ≡ false
   pub few : edge_count net < max_edges
 
 -- what is known where no test of an edge fails
@@ -44,13 +42,6 @@ good_edge true true false true m h = absurd cc
 good_edge true true false false true h = absurd cc
 good_edge true true false false false h = (refl, refl, refl, refl, refl)
 
--- an edge is the same from either end
-linked_flip : (net : Network) (a b : ℕ) → linked net b a ≡ linked net a b
-linked_flip net a b =
-    let low : min b a ≡ min a b = omega arith in
-    let high : max b a ≡ max a b = omega arith in
-    λ i. map.contains_key net.edges (low i, high i)
-
 -- two names that an edge may join are nodes, different and not linked, and there are not too many edges
 pub may_link : (net : Network) (a b : ℕ) → link_fault net a b ≡ None → MayLink net a b
 may_link net a b free =
@@ -60,7 +51,6 @@ may_link net a b free =
       here_b = known.1;
       apart = known.2;
       fresh = known.3;
-      fresh_back = linked_flip net a b ∙ known.3;
       few = leb-false max_edges (edge_count net) known.4;
     }
 

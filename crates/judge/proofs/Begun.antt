@@ -67,14 +67,6 @@ same_moment t bound size base s start good lines begun =
     base_tells base.number start (record { state = s; spent = base.spent }) begun.is_state good (begun.size_is ∙ sym lines.size_is)
     (sym begun.lines ∙ sym (has_base size base s lines))
 
--- whoever begins has the lines
-pub lines_of : (t : RuleTable) (bound : Network → ℕ) (size : ℕ) (base : Base) (start : Moment) → IsBegun t bound size base start → HasLines size base.nodes base.edges start.state
-lines_of t bound size base start begun = record {
-  size_is = begun.size_is;
-  nodes_are = sym (ap (λ (b : Base). b.nodes) begun.lines);
-  edges_are = sym (ap (λ (b : Base). b.edges) begun.lines);
-}
-
 -- the lines of the state that is made
 pub lines_made : (size : ℕ) (base : Base) (nodes : List Place) (edges : List (ℕ × ℕ)) (found : Option Held) (n : Held) → IfSome found (λ m. HasLines size nodes edges m.state) → found ≡ Some n → nodes ≡ base.nodes → edges ≡ base.edges → HasLines size base.nodes base.edges n.state
 lines_made size base nodes edges found n lines is same_nodes same_edges =

@@ -1,4 +1,3 @@
-pub mod Keeping
 pub mod Moving
 pub mod Listed
 pub mod Rising

@@ -5,13 +5,10 @@ use Rattle.rule_machine.specs.declared.rules.RuleSet.TheVariants.{Manne}
 use Rattle.rule_machine.specs.Network.{linked, present}
 use Rattle.rule_machine.specs.State.{State, IsState, flag, holds_at, married, partner, pointer, points}
 use Rattle.rule_machine.specs.Stable.{pair_above}
-use Rattle.machine_laws.specs.Neighbours.{linked_apart, linked_present}
-use Rattle.machine_laws.specs.Pointers.{married_from, none_is, null_unmarried, partner_from, points_from, points_true, suitor_linked, unanswered_unmarried}
+use Rattle.machine_laws.specs.Neighbours.{linked_apart}
+use Rattle.machine_laws.specs.Pointers.{married_from, none_is, null_unmarried, partner_from, points_from, points_true, unanswered_unmarried}
 use Rattle.judge.specs.Rising.{pair_at}
 use Rattle.judge.specs.Shares.{asks, closes}
-
-pub target_present : (s : State) (v w : ℕ) → IsState s → pointer s v ≡ Some w → IsTrue (present s.network w)
-target_present s v w good at = linked_present s.network w v good.is_network (suitor_linked s w v good at)
 
 -- it is the lower end of a pair if its target is above it and points back
 pub lower_end : (s : State) (v w : ℕ) → IsState s → IsTrue (present s.network v) → pointer s v ≡ Some w → (b : Bool) → points s.registers w v ≡ b → is_some (pair_at s v) ≡ (nat_lt v w && b)
