@@ -1,8 +1,8 @@
 -- Sets of names of which each block is gone through.
-use Rattle.std.proofs.Common.{◌≡◌, ◌≢◌, ℕ, ◌+◌, ◌*◌, ◌<◌, ◌≤◌, Bool, true, false, List, length, set, sym, ap, ◌∙◌, ⊎_elim, arith}
+use Rattle.std.proofs.Common.{◌≡◌, ◌≢◌, ℕ, ◌+◌, ◌*◌, ◌/◌, ◌<◌, ◌≤◌, Bool, true, false, List, None, Some, length, set, sym, ap, subst, ◌∙◌, ⊎_elim, arith}
 use Rattle.std.proofs.lemmas.Bool.{cases_eq, cases_lt}
 use Rattle.std.proofs.lemmas.List.{get_or_past, get_or-set_other, get_or-set_same, length-set}
-use Rattle.enabled_set.specs.Members.{is_in, members}
+use Rattle.enabled_set.specs.Members.{is_in, members, FirstFrom}
 use Rattle.enabled_set.specs.Counts.{tally}
 use Rattle.enabled_set.proofs.Members.{inside, length-members}
 use Rattle.enabled_set.proofs.Counting.{past_above, tally_put}
@@ -19,15 +19,16 @@ still_none bits bits' v w cleared none =
     (λ (apart : w ≢ v). ap (λ l. is_in l w) cleared ∙ get_or-set_other bits v w false false apart ∙ none)
     (cases_eq w v)
 
--- what holds in all blocks holds everywhere
-pub none_anywhere : (bits : List Bool) (blocks : ℕ) → length bits ≤ 64 * blocks → ((v : ℕ) → v < 64 * blocks → is_in bits v ≡ false) → (v : ℕ) → is_in bits v ≡ false
-none_anywhere bits blocks covered none v =
-    ⊎_elim (λ (within : v < 64 * blocks). none v within) (λ (past : 64 * blocks ≤ v). get_or_past bits v false (omega (arith, covered, past))) (cases_lt v (64 * blocks))
+-- without the first member from a block on, there is none before that member's block, where there was none before this one
+pub none_further : (bits bits' : List Bool) (block v place : ℕ) → place ≡ v → FirstFrom bits block (Some v) → bits' ≡ set bits v false → ((w : ℕ) → w < 64 * block → is_in bits w ≡ false) → (w : ℕ) → w < 64 * (place / 64) → is_in bits' w ≡ false
+none_further bits bits' block v place at first cleared before w below =
+    let front = subst (λ (p : ℕ). w < 64 * (p / 64)) at below in
+    still_none bits bits' v w cleared (⊎_elim (λ (low : w < 64 * block). before w low) (λ (high : 64 * block ≤ w). first.1 w high front) (cases_lt w (64 * block)))
 
--- none of one block more
-pub none_further : (bits bits' : List Bool) (block : ℕ) → ((v : ℕ) → v < 64 * block → is_in bits v ≡ false) → ((v : ℕ) → is_in bits v ≡ false → is_in bits' v ≡ false) → ((v : ℕ) → 64 * block ≤ v → v < 64 * block + 64 → is_in bits' v ≡ false) → (v : ℕ) → v < 64 * (block + 1) → is_in bits' v ≡ false
-none_further bits bits' block before fewer here v below =
-    ⊎_elim (λ (low : v < 64 * block). fewer v (before v low)) (λ (high : 64 * block ≤ v). here v high (omega (arith, below))) (cases_lt v (64 * block))
+-- and where there is no first one, there is none
+pub none_anywhere : (bits : List Bool) (block : ℕ) → FirstFrom bits block None → ((w : ℕ) → w < 64 * block → is_in bits w ≡ false) → (w : ℕ) → is_in bits w ≡ false
+none_anywhere bits block none before w =
+    ⊎_elim (λ (low : w < 64 * block). before w low) (λ (high : 64 * block ≤ w). none w high) (cases_lt w (64 * block))
 
 -- a set without one of its members has fewer
 pub one_fewer : (bits bits' : List Bool) (v : ℕ) → is_in bits v ≡ true → bits' ≡ set bits v false → length (members bits') < length (members bits)

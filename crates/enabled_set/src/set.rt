@@ -1,10 +1,10 @@
 //! The set of names.
 
-ghost use Rattle.std.specs.Prelude.{◌≡◌, ◌+◌, ◌*◌, ◌<◌, ◌≤◌, true, false, length, replicate, slice_get, slice_set, IfOk};
-ghost use Rattle.enabled_set.specs.Members.{IsFoundIn, is_in, members};
+ghost use Rattle.std.specs.Prelude.{◌≡◌, ℕ, ◌+◌, ◌*◌, ◌<◌, ◌≤◌, true, false, length, replicate, slice_get, slice_set, IfOk, MatchOption};
+ghost use Rattle.enabled_set.specs.Members.{is_in, members, FirstFrom};
 
-use crate::scan::{look, pass_in_8, pass_in_16, pass_words, push_word, word_at};
-use crate::word::{bit_is_set, find_bit, first_bit, with_bit, without_bit};
+use crate::scan::{look, next_word, pass_in_8, pass_in_16, pass_words, push_word, word_at};
+use crate::word::{bit_is_set, find_bit, with_bit, without_bit};
 use rule_machine::{Node, Want};
 use std::alloc::Global;
 use std::marker::Model;
@@ -96,21 +96,14 @@ impl EnabledSet {
         Ok(list)
     }
 
-    /// How many blocks of 64 names there are, from 0 on, in which each place is; at most 1,032.
-    pub fn blocks(&self) -> usize
-        ensures all { length self.now ≤ 64 * result }
-        ensures few { result ≤ 1032 }
-    {
-        self.words.len()
-    }
-
-    /// The first member among the 64 names of a block. A look at one word.
+    /// The first member among the names in blocks of 64 from this block on, of which the first is 0. A look at each word up to its
+    /// own.
     #[inline(always)]
-    pub fn first_in(&self, block: usize) -> Option<Node>
-        requires { block ≤ 1032 }
-        ensures { IsFoundIn self.now block result }
+    pub fn first_from(&self, block: usize) -> Option<Node>
+        ensures { FirstFrom self.now block result }
     {
-        let at = first_bit(word_at(&self.words, block))?;
+        let block = next_word(&self.words, block)?;
+        let at = word_at(&self.words, block).trailing_zeros() as usize;
         let name = (64 * block + at) as u16;
         Node::new(u32::from(name))
     }

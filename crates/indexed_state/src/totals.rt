@@ -2,7 +2,7 @@
 
 ghost use Rattle.std.specs.Prelude.{◌≡◌, ◌&&◌, ℕ, ◌+◌, ◌*◌, ◌<◌, ◌≤◌, true, false, not, filter, length, slice_set, cond, count_by, sum_by, IfOk, IfSome, IsTrue, MatchOption};
 ghost use Rattle.std.specs.List.{range_with_len};
-ghost use Rattle.enabled_set.specs.Members.{IsFoundIn, is_in};
+ghost use Rattle.enabled_set.specs.Members.{is_in};
 ghost use Rattle.rule_machine.specs.Network.{names, present, edge_list};
 ghost use Rattle.rule_machine.specs.Stable.{mutual_pairs};
 ghost use Rattle.rule_machine.specs.State.{State, IsState, holds_at, points};
@@ -166,38 +166,16 @@ impl<R: Rules> IndexedState<R> {
         }
     }
 
-    /// The first of the 64 names of a block that is stale.
-    #[inline(always)]
-    fn first_stale(&self, block: usize) -> Option<Node>
-        requires { block ≤ 1032 }
-        ensures first { IsFoundIn self.now.stale block result }
-        ensures within { IfSome result (λ v. v ≤ self.now.state.network.size) }
-    {
-        self.shares.stale.first_in(block)
-    }
-
-    /// Looks again at each stale name of a block, so that none is stale.
-    fn look_again_in(&mut self, block: usize)
-        requires { block ≤ 1032 }
-        ensures state { self.new.state ≡ self.old.state }
-        ensures room { self.new.room ≡ self.old.room }
-        ensures places { length self.new.stale ≡ length self.old.stale }
-        ensures fresh { (v : ℕ) → is_in self.old.stale v ≡ false → is_in self.new.stale v ≡ false }
-        ensures told { (v : ℕ) → 64 * block ≤ v → v < 64 * block + 64 → is_in self.new.stale v ≡ false }
-    {
-        while let Some(v) = self.first_stale(block) {
-            self.look_at(v);
-        }
-    }
-
-    /// Looks again at each stale name, so that none is stale. A look at each block, and at each stale name.
+    /// Looks again at each stale name, so that none is stale. A look at each 64 names, and at each stale name.
     fn look_again(&mut self)
         ensures state { self.new.state ≡ self.old.state }
         ensures room { self.new.room ≡ self.old.room }
         ensures told { (v : ℕ) → is_in self.new.stale v ≡ false }
     {
-        for block in 0..self.shares.stale.blocks() {
-            self.look_again_in(block);
+        let mut block = 0;
+        while let Some(v) = self.shares.stale.first_from(block) {
+            self.look_at(v);
+            block = v.place() / 64;
         }
     }
 

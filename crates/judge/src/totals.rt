@@ -1,7 +1,7 @@
 //! What questions ask of all names: looks at those alone that may bring something else than when this was last asked.
 
 ghost use Rattle.std.specs.Prelude.{◌≡◌, ◌+◌, ◌*◌, ◌<◌, ◌≤◌, ℕ, true, false, length, slice_set, IfSome, IsTrue, None, cond};
-ghost use Rattle.enabled_set.specs.Members.{IsFoundIn, is_in};
+ghost use Rattle.enabled_set.specs.Members.{is_in};
 ghost use Rattle.rule_machine.specs.Network.{linked, present};
 ghost use Rattle.rule_machine.specs.RuleTable as table;
 ghost use Rattle.rule_machine.specs.Tables.{table_of};
@@ -67,46 +67,15 @@ impl Survey {
         self.shares.touched.remove(v);
     }
 
-    /// The first of the 64 names of a block that is touched.
-    #[inline(always)]
-    fn first_touched(&self, block: usize) -> Option<Node>
-        requires { block ≤ 1032 }
-        ensures first { IsFoundIn self.now.shares.touched block result }
-        ensures within { IfSome result (λ v. v ≤ self.now.net.state.network.size) }
-    {
-        self.shares.touched.first_in(block)
-    }
-
-    /// The first of the 64 names of a block that is due.
-    #[inline(always)]
-    fn first_due(&self, block: usize) -> Option<Node>
-        requires { block ≤ 1032 }
-        ensures first { IsFoundIn self.now.shares.due block result }
-        ensures within { IfSome result (λ v. v ≤ self.now.net.state.network.size) }
-    {
-        self.shares.due.first_in(block)
-    }
-
-    /// Marks as due what depends on the touched names of a block.
-    fn spread_in(&mut self, block: usize)
-        requires { block ≤ 1032 }
-        ensures kept { (self.new.net.state ≡ self.old.net.state) × (self.new.rules ≡ self.old.rules) }
-        ensures places { length self.new.shares.touched ≡ length self.old.shares.touched }
-        ensures fewer { (v : ℕ) → is_in self.old.shares.touched v ≡ false → is_in self.new.shares.touched v ≡ false }
-        ensures none { (v : ℕ) → 64 * block ≤ v → v < 64 * block + 64 → is_in self.new.shares.touched v ≡ false }
-    {
-        while let Some(v) = self.first_touched(block) {
-            self.spread_from(v);
-        }
-    }
-
-    /// Marks as due what depends on touched names. A look at each block, at each touched name, and at its neighbours.
+    /// Marks as due what depends on touched names. A look at each 64 names, at each touched name, and at its neighbours.
     fn spread(&mut self)
         ensures kept { (self.new.net.state ≡ self.old.net.state) × (self.new.rules ≡ self.old.rules) }
         ensures none { (v : ℕ) → is_in self.new.shares.touched v ≡ false }
     {
-        for block in 0..self.shares.touched.blocks() {
-            self.spread_in(block);
+        let mut block = 0;
+        while let Some(v) = self.shares.touched.first_from(block) {
+            self.spread_from(v);
+            block = v.place() / 64;
         }
     }
 
@@ -125,28 +94,16 @@ impl Survey {
         }
     }
 
-    /// Looks again at each due name of a block.
-    fn look_in(&mut self, block: usize)
-        requires { block ≤ 1032 }
-        ensures kept { (self.new.net.state ≡ self.old.net.state) × (self.new.rules ≡ self.old.rules) }
-        ensures touched { self.new.shares.touched ≡ self.old.shares.touched }
-        ensures places { length self.new.shares.due ≡ length self.old.shares.due }
-        ensures fewer { (v : ℕ) → is_in self.old.shares.due v ≡ false → is_in self.new.shares.due v ≡ false }
-        ensures none { (v : ℕ) → 64 * block ≤ v → v < 64 * block + 64 → is_in self.new.shares.due v ≡ false }
-    {
-        while let Some(v) = self.first_due(block) {
-            self.look_at(v);
-        }
-    }
-
-    /// Looks again at each due name.
+    /// Looks again at each due name. A look at each 64 names, and at each due name.
     fn look(&mut self)
         ensures kept { (self.new.net.state ≡ self.old.net.state) × (self.new.rules ≡ self.old.rules) }
         ensures touched { self.new.shares.touched ≡ self.old.shares.touched }
         ensures none { (v : ℕ) → is_in self.new.shares.due v ≡ false }
     {
-        for block in 0..self.shares.due.blocks() {
-            self.look_in(block);
+        let mut block = 0;
+        while let Some(v) = self.shares.due.first_from(block) {
+            self.look_at(v);
+            block = v.place() / 64;
         }
     }
 

@@ -36,6 +36,7 @@ impl Entry {
     /// The entry of an event and a reply; `None` where the reply is not of the event's kind: a disturbance is accepted,
     /// a step has 1 to 65,535 moves, each with a target exactly where its rule takes one, a question has its answer of
     /// at most 65,535 items, and any of these but `Enabled`, `Matching` and `Status` may be refused.
+    #[inline(always)]
     pub fn new(event: Event, reply: Reply) -> Option<Entry>
         ensures { SomeIff result (IsTrue (fits event reply)) (event, reply) }
     {
