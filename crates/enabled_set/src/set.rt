@@ -1,6 +1,6 @@
 //! The set of names.
 
-ghost use Rattle.std.specs.Prelude.{◌≡◌, ℕ, ◌+◌, ◌*◌, ◌<◌, ◌≤◌, true, false, length, replicate, slice_get, slice_set, IfOk, MatchOption};
+ghost use Rattle.std.specs.Prelude.{◌≡◌, ◌+◌, ◌*◌, ◌<◌, ◌≤◌, true, false, length, replicate, slice_get, slice_set, IfOk};
 ghost use Rattle.enabled_set.specs.Members.{is_in, members, FirstFrom};
 
 use crate::scan::{look, next_word, pass_in_8, pass_in_16, pass_words, push_word, word_at};
