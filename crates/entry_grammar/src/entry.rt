@@ -55,6 +55,7 @@ pub fn entry_text(alloc: Global, number: u32, entry: &Entry) -> Result<Vec<u8>, 
 
 /// Reads an entry and its number from a line without its LF. `Memory` is answered at most where the line's event is a step,
 /// `enabled` or `matching`, which go with lists: every other line, a bad one too, is read without memory.
+#[inline(always)]
 pub fn read_entry(alloc: Global, line: &[u8]) -> Result<(u32, Entry), EntryFault>
     ensures ok { IfOk result (λ found. SpellsEntry line.now found.0 found.1) }
     ensures not_a_line { IfErr result (λ fault. fault ≡ NotALine
