@@ -13,7 +13,6 @@ pub mod Windows
 pub mod Reaching
 pub mod Opened
 pub mod Spent
-mod Refusing
 pub mod Going
 pub mod Passing
 pub mod Reading

@@ -23,7 +23,6 @@ use Rattle.entry_grammar.specs.declared.base_line.BaseLine.TheVariants.{Head}
 use Rattle.entry_grammar.specs.Lines.{first_line}
 use Rattle.entry_grammar.specs.Spelling.{SpellsBaseLine, SpellsHeader, base_line_text}
 use Rattle.entry_grammar.specs.BaseLines.{IsAbove, NodesRise, EdgesRise, IsShaped, BreaksAt, base_lines}
-use Rattle.entry_grammar.proofs.BaseLines.{spells_base_line_once}
 use Rattle.auditor.specs.declared.damage.Damage.TheVariants.{BadBase}
 use Rattle.auditor.specs.declared.damage.JudgeFault.TheVariants.{Damaged}
 use Rattle.auditor.specs.Damage.{SpellsNoHead}
@@ -136,12 +135,3 @@ breaks_few rest number b =
 
 pub no_head : (line : List ℕ) → ((found : BaseLine) → SpellsBaseLine line found → ⊥) → SpellsNoHead line
 no_head line none rules size few is = none (Head rules size) (record { fits = few; is = is })
-
-pub other_head : (line : List ℕ) (found : BaseLine) → SpellsBaseLine line found → ((rules : RuleSet) (size : ℕ) → found ≡ Head rules size → ⊥) → SpellsNoHead line
-other_head line found spells none rules size few is =
-    none rules size (spells_base_line_once line found (Head rules size) spells (record { fits = few; is = is }))
-
-pub a_head : (line : List ℕ) (found : BaseLine) (rules : RuleSet) (size : ℕ) → SpellsBaseLine line found → found ≡ Head rules size → (size ≤ 65535) × (line ≡ base_head rules size)
-a_head line found rules size spells is =
-    let head = subst (SpellsBaseLine line) is spells in
-    (head.fits, head.is)
