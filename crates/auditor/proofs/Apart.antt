@@ -43,15 +43,15 @@ pub record MetBehind (bytes : List ℕ) (stop : Option ℕ) (d : Damage) : Type 
 pub met_fails : (bytes : List ℕ) (stop : Option ℕ) (d : Damage) (damage : IsDamage bytes d) → IsLookedAt bytes stop d damage → FailsFirst bytes d ⊎ MetBehind bytes stop d
 met_fails bytes stop BadHeader x looked = inl x
 met_fails bytes stop (NotALine line) x looked = inr (record {
-  behind = record { rules = x.rules; log = x.log; end = x.end; rest = x.rest; follows = x.follows; fails = (x.number, x.other, x.damage) };
+  behind = record { rules = x.rules; log = x.log; end = x.end; rest = x.rest; follows = x.follows; fails = (x.line_is, x.other, x.damage) };
   before = looked;
 })
 met_fails bytes stop (OutOfOrder line) x looked = inr (record {
-  behind = record { rules = x.rules; log = x.log; end = x.end; rest = x.rest; follows = x.follows; fails = (x.number, (x.seq, x.entry, x.comes, x.damage)) };
+  behind = record { rules = x.rules; log = x.log; end = x.end; rest = x.rest; follows = x.follows; fails = (x.line_is, (x.number, x.entry, x.comes, x.damage)) };
   before = looked;
 })
 met_fails bytes stop (NotTheMachines line) x looked = inr (record {
-  behind = record { rules = x.rules; log = x.log; end = x.end; rest = x.rest; follows = x.follows; fails = (x.number, (x.entry, x.comes, x.damage)) };
+  behind = record { rules = x.rules; log = x.log; end = x.end; rest = x.rest; follows = x.follows; fails = (x.line_is, (x.entry, x.comes, x.damage)) };
   before = looked;
 })
 met_fails bytes stop (BadBase line) (inl x) looked = inl x

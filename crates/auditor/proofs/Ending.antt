@@ -112,7 +112,7 @@ transcript_ends bytes rules opening log end is = record {
 abbrev pub Fails : Split → Damage → Type 0
 Fails at BadHeader = ⊥
 Fails at (NotALine line) = IsLineBehind line at.good × (BeginsBase at.rest → ⊥) × HasNoEntry at.rest (first_line at.rest)
-Fails at (OutOfOrder line) = IsLineBehind line at.good × ((seq : ℕ) × (entry : Entry) × EntryComes at.rest seq entry × (seq ≢ at.end.count + 1))
+Fails at (OutOfOrder line) = IsLineBehind line at.good × ((number : ℕ) × (entry : Entry) × EntryComes at.rest number entry × (number ≢ at.end.count + 1))
 Fails at (NotTheMachines line) =
     IsLineBehind line at.good × ((entry : Entry) × EntryComes at.rest (at.end.count + 1) entry × ((s : State) → Answers (table_of at.rules) at.end.moment.state at.end.moment.spent entry.0 entry.1 s → ⊥))
 Fails at (BadBase line) =
@@ -142,17 +142,17 @@ base_fails bytes line x = record {
   end = x.end;
   rest = x.rest;
   follows = x.follows;
-  fails = (x.begins, (x.parting, x.number));
+  fails = (x.begins, (x.parting, x.line_is));
 }
 
 pub damage_fails : (bytes : List ℕ) (d : Damage) → IsDamage bytes d → FailsFirst bytes d ⊎ FailsBehind bytes d
 damage_fails bytes BadHeader x = inl x
 damage_fails bytes (NotALine line) x =
-    inr (record { rules = x.rules; log = x.log; end = x.end; rest = x.rest; follows = x.follows; fails = (x.number, x.other, x.damage) })
+    inr (record { rules = x.rules; log = x.log; end = x.end; rest = x.rest; follows = x.follows; fails = (x.line_is, x.other, x.damage) })
 damage_fails bytes (OutOfOrder line) x =
-    inr (record { rules = x.rules; log = x.log; end = x.end; rest = x.rest; follows = x.follows; fails = (x.number, (x.seq, x.entry, x.comes, x.damage)) })
+    inr (record { rules = x.rules; log = x.log; end = x.end; rest = x.rest; follows = x.follows; fails = (x.line_is, (x.number, x.entry, x.comes, x.damage)) })
 damage_fails bytes (NotTheMachines line) x =
-    inr (record { rules = x.rules; log = x.log; end = x.end; rest = x.rest; follows = x.follows; fails = (x.number, (x.entry, x.comes, x.damage)) })
+    inr (record { rules = x.rules; log = x.log; end = x.end; rest = x.rest; follows = x.follows; fails = (x.line_is, (x.entry, x.comes, x.damage)) })
 damage_fails bytes (BadBase line) (inl x) = inl x
 damage_fails bytes (BadBase line) (inr x) = inr (base_fails bytes line x)
 
@@ -209,12 +209,12 @@ fails_stops at (NotALine line) x = stops
     stops : Stops at.rules (size_of at.opening) at.end at.rest
     stops (Told entry) next behind comes = none_comes at.rest (at.end.count + 1) entry x.2 (told_comes at.rules (size_of at.opening) at.end at.rest entry next behind comes)
     stops (Kept base) next behind comes = x.1 (kept_begins at.rules (size_of at.opening) at.end at.rest base next behind comes)
-fails_stops at (OutOfOrder line) (number, (seq, other, comes, damage)) = stops
+fails_stops at (OutOfOrder line) (line_is, (number, other, comes, damage)) = stops
   where
     stops : Stops at.rules (size_of at.opening) at.end at.rest
-    stops (Told entry) next behind told = damage (entry_once at.rest seq (at.end.count + 1) other entry comes (told_comes at.rules (size_of at.opening) at.end at.rest entry next behind told)).0
-    stops (Kept base) next behind kept = comes_no_base at.rest seq other comes (kept_begins at.rules (size_of at.opening) at.end at.rest base next behind kept)
-fails_stops at (NotTheMachines line) (number, (other, comes, damage)) = stops
+    stops (Told entry) next behind told = damage (entry_once at.rest number (at.end.count + 1) other entry comes (told_comes at.rules (size_of at.opening) at.end at.rest entry next behind told)).0
+    stops (Kept base) next behind kept = comes_no_base at.rest number other comes (kept_begins at.rules (size_of at.opening) at.end at.rest base next behind kept)
+fails_stops at (NotTheMachines line) (line_is, (other, comes, damage)) = stops
   where
     stops : Stops at.rules (size_of at.opening) at.end at.rest
     stops (Told entry) next behind told =
@@ -222,7 +222,7 @@ fails_stops at (NotTheMachines line) (number, (other, comes, damage)) = stops
         let answers = told.steps.1 in
         damage told.steps.0 (subst (λ (z : Entry). Answers (table_of at.rules) at.end.moment.state at.end.moment.spent z.0 z.1 told.steps.0) (sym same) answers)
     stops (Kept base) next behind kept = comes_no_base at.rest (at.end.count + 1) other comes (kept_begins at.rules (size_of at.opening) at.end at.rest base next behind kept)
-fails_stops at (BadBase line) (begins, (parting, number)) = stops
+fails_stops at (BadBase line) (begins, (parting, line_is)) = stops
   where
     stops : Stops at.rules (size_of at.opening) at.end at.rest
     stops (Told entry) next behind told = comes_no_base at.rest (at.end.count + 1) entry (told_comes at.rules (size_of at.opening) at.end at.rest entry next behind told) begins
@@ -246,8 +246,8 @@ begins_rest rest begins e = nothing _ (sym begins.1 ∙ e)
 pub fails_some : (at : Split) (d : Damage) → Fails at d → at.rest ≢ []
 fails_some at BadHeader x = absurd x
 fails_some at (NotALine line) x = some_rest at.rest x.2
-fails_some at (OutOfOrder line) (number, (seq, entry, comes, damage)) = comes_rest at.rest seq entry comes
-fails_some at (NotTheMachines line) (number, (entry, comes, damage)) = comes_rest at.rest (at.end.count + 1) entry comes
+fails_some at (OutOfOrder line) (line_is, (number, entry, comes, damage)) = comes_rest at.rest number entry comes
+fails_some at (NotTheMachines line) (line_is, (entry, comes, damage)) = comes_rest at.rest (at.end.count + 1) entry comes
 fails_some at (BadBase line) x = begins_rest at.rest x.0
 
 pub failure_ends : (bytes : List ℕ) (d : Damage) (x : FailsBehind bytes d) → Ended bytes (split_at bytes x.rules x.log x.end x.rest x.follows)
@@ -278,28 +278,28 @@ pub fails_once : (at : Split) (d e : Damage) → Fails at d → Fails at e → d
 fails_once at BadHeader e x y = absurd x
 fails_once at (NotALine k) BadHeader x y = absurd y
 fails_once at (NotALine k) (NotALine l) x y = ap (λ (n : ℕ). NotALine n) (line_same k l at.good x.0 y.0)
-fails_once at (NotALine k) (OutOfOrder l) x (number, (seq, entry, comes, damage)) = absurd (none_comes at.rest seq entry x.2 comes)
-fails_once at (NotALine k) (NotTheMachines l) x (number, (entry, comes, damage)) = absurd (none_comes at.rest (at.end.count + 1) entry x.2 comes)
+fails_once at (NotALine k) (OutOfOrder l) x (line_is, (number, entry, comes, damage)) = absurd (none_comes at.rest number entry x.2 comes)
+fails_once at (NotALine k) (NotTheMachines l) x (line_is, (entry, comes, damage)) = absurd (none_comes at.rest (at.end.count + 1) entry x.2 comes)
 fails_once at (NotALine k) (BadBase l) x y = absurd (x.1 y.0)
 fails_once at (OutOfOrder k) BadHeader x y = absurd y
-fails_once at (OutOfOrder k) (NotALine l) (number, (seq, entry, comes, damage)) y = absurd (none_comes at.rest seq entry y.2 comes)
+fails_once at (OutOfOrder k) (NotALine l) (line_is, (number, entry, comes, damage)) y = absurd (none_comes at.rest number entry y.2 comes)
 fails_once at (OutOfOrder k) (OutOfOrder l) x y = ap (λ (n : ℕ). OutOfOrder n) (line_same k l at.good x.0 y.0)
-fails_once at (OutOfOrder k) (NotTheMachines l) (number, (seq, entry, comes, damage)) (numbered, (other, came, broken)) =
-    absurd (damage (entry_once at.rest seq (at.end.count + 1) entry other comes came).0)
-fails_once at (OutOfOrder k) (BadBase l) (number, (seq, entry, comes, damage)) y = absurd (comes_no_base at.rest seq entry comes y.0)
+fails_once at (OutOfOrder k) (NotTheMachines l) (line_is, (number, entry, comes, damage)) (also_is, (other, came, broken)) =
+    absurd (damage (entry_once at.rest number (at.end.count + 1) entry other comes came).0)
+fails_once at (OutOfOrder k) (BadBase l) (line_is, (number, entry, comes, damage)) y = absurd (comes_no_base at.rest number entry comes y.0)
 fails_once at (NotTheMachines k) BadHeader x y = absurd y
-fails_once at (NotTheMachines k) (NotALine l) (number, (entry, comes, damage)) y = absurd (none_comes at.rest (at.end.count + 1) entry y.2 comes)
-fails_once at (NotTheMachines k) (OutOfOrder l) (numbered, (other, came, broken)) (number, (seq, entry, comes, damage)) =
-    absurd (damage (entry_once at.rest seq (at.end.count + 1) entry other comes came).0)
+fails_once at (NotTheMachines k) (NotALine l) (line_is, (entry, comes, damage)) y = absurd (none_comes at.rest (at.end.count + 1) entry y.2 comes)
+fails_once at (NotTheMachines k) (OutOfOrder l) (also_is, (other, came, broken)) (line_is, (number, entry, comes, damage)) =
+    absurd (damage (entry_once at.rest number (at.end.count + 1) entry other comes came).0)
 fails_once at (NotTheMachines k) (NotTheMachines l) x y = ap (λ (n : ℕ). NotTheMachines n) (line_same k l at.good x.0 y.0)
-fails_once at (NotTheMachines k) (BadBase l) (number, (entry, comes, damage)) y = absurd (comes_no_base at.rest (at.end.count + 1) entry comes y.0)
+fails_once at (NotTheMachines k) (BadBase l) (line_is, (entry, comes, damage)) y = absurd (comes_no_base at.rest (at.end.count + 1) entry comes y.0)
 fails_once at (BadBase k) BadHeader x y = absurd y
 fails_once at (BadBase k) (NotALine l) x y = absurd (y.1 x.0)
-fails_once at (BadBase k) (OutOfOrder l) x (number, (seq, entry, comes, damage)) = absurd (comes_no_base at.rest seq entry comes x.0)
-fails_once at (BadBase k) (NotTheMachines l) x (number, (entry, comes, damage)) = absurd (comes_no_base at.rest (at.end.count + 1) entry comes x.0)
-fails_once at (BadBase k) (BadBase l) (begins, (p, number)) (began, (q, numbered)) =
+fails_once at (BadBase k) (OutOfOrder l) x (line_is, (number, entry, comes, damage)) = absurd (comes_no_base at.rest number entry comes x.0)
+fails_once at (BadBase k) (NotTheMachines l) x (line_is, (entry, comes, damage)) = absurd (comes_no_base at.rest (at.end.count + 1) entry comes x.0)
+fails_once at (BadBase k) (BadBase l) (begins, (p, line_is)) (began, (q, also_is)) =
     let common = parting_once (base_text at.rules (size_of at.opening) (base_of at.end.count at.end.moment)) at.rest p q in
-    ap (λ (n : ℕ). BadBase n) (line_same k l (at.good ++ q.common) (subst (λ (c : List ℕ). IsLineBehind k (at.good ++ c)) common number) numbered)
+    ap (λ (n : ℕ). BadBase n) (line_same k l (at.good ++ q.common) (subst (λ (c : List ℕ). IsLineBehind k (at.good ++ c)) common line_is) also_is)
 
 pub first_once : (bytes : List ℕ) (d e : Damage) → FailsFirst bytes d → FailsFirst bytes e → d ≡ e
 first_once bytes BadHeader BadHeader x y = refl

@@ -19,7 +19,7 @@ use Rattle.entry_grammar.proofs.Headers.{spells_header_once}
 use Rattle.entry_grammar.proofs.BaseLines.{spells_base_line_once}
 use Rattle.entry_grammar.proofs.FirstLines.{line_free}
 use Rattle.entry_grammar.proofs.BaseOnce.{base_text_is, base_once, base_unbroken, breaks_once}
-use Rattle.auditor.specs.Parts.{Opening, Named, Based, IsOpening, Opens, size_of, first_of, base_in, opening_text, parts_text}
+use Rattle.auditor.specs.Parts.{Opening, Named, Based, IsOpening, Opens, size_of, present_of, base_in, opening_text, parts_text}
 use Rattle.auditor.specs.Damage.{Follows, HasBadHeader, HasBadStart, BreaksOff, BeginsNowhere}
 use Rattle.auditor.proofs.Feedless.{header_free}
 
@@ -94,7 +94,7 @@ stand m n = record { moment = m; count = n }
 
 start_once : (rules : RuleSet) (o : Opening) (start begin : Stand) → Opens rules o start → Opens rules o begin → start ≡ begin
 start_once rules o start begin x y =
-    ap₂ (λ (m : Moment) (n : ℕ). stand m n) (begins_once (table_of rules) (charge_bound (weight_of rules)) (size_of o) (first_of o) (base_in o) start.moment begin.moment x.begins y.begins) (x.count ∙ sym y.count)
+    ap₂ (λ (m : Moment) (n : ℕ). stand m n) (begins_once (table_of rules) (charge_bound (weight_of rules)) (size_of o) (present_of o) (base_in o) start.moment begin.moment x.begins y.begins) (x.count ∙ sym y.count)
 
 opens_same : (r q : RuleSet) (o u : Opening) (start : Stand) → r ≡ q → o ≡ u → Opens q u start → Opens r o start
 opens_same r q o u start rules openings x =

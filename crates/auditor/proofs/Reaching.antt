@@ -158,7 +158,7 @@ reached_end bytes rules size p rest r none =
     }
 
 pub damaged_line : (bytes : List ℕ) (rules : RuleSet) (size : ℕ) (p : Position) (rest : List ℕ) (line : ℕ) → IsReached bytes rules size p rest → ((good : List ℕ) → bytes ≡ good ++ rest → IsLineBehind line good) → (BeginsBase rest → ⊥) → HasNoEntry rest (first_line rest) → IsMetBehind bytes p.number (Damaged (NotALine line))
-damaged_line bytes rules size p rest line r number other damage last before =
+damaged_line bytes rules size p rest line r line_is other damage last before =
     record {
       is = record {
         rules = rules;
@@ -166,7 +166,7 @@ damaged_line bytes rules size p rest line r number other damage last before =
         end = stand_of p;
         rest = rest;
         follows = r.follows;
-        number = number r.follows.good r.follows.splits;
+        line_is = line_is r.follows.good r.follows.splits;
         other = other;
         damage = damage;
       };
@@ -174,7 +174,7 @@ damaged_line bytes rules size p rest line r number other damage last before =
     }
 
 damaged_number : (bytes text behind : List ℕ) (rules : RuleSet) (size : ℕ) (p : Position) (rest : List ℕ) (line : ℕ) → IsReached bytes rules size p rest → ((good : List ℕ) → bytes ≡ good ++ rest → IsLineBehind line good) → first_line rest ≡ Some (text, behind) → BadNumber text p → IsMetBehind bytes p.number (Damaged (OutOfOrder line))
-damaged_number bytes text behind rules size p rest line r number cut bad last before =
+damaged_number bytes text behind rules size p rest line r line_is cut bad last before =
     record {
       is = record {
         rules = rules;
@@ -182,8 +182,8 @@ damaged_number bytes text behind rules size p rest line r number cut bad last be
         end = stand_of p;
         rest = rest;
         follows = r.follows;
-        number = number r.follows.good r.follows.splits;
-        seq = bad.seq;
+        line_is = line_is r.follows.good r.follows.splits;
+        number = bad.number;
         entry = bad.entry;
         comes = record { line = text; more = behind; is = cut; spells = bad.spells };
         damage = bad.other;
@@ -192,7 +192,7 @@ damaged_number bytes text behind rules size p rest line r number cut bad last be
     }
 
 damaged_reply : (bytes text behind : List ℕ) (rules : RuleSet) (size : ℕ) (p : Position) (rest : List ℕ) (line : ℕ) → IsReached bytes rules size p rest → ((good : List ℕ) → bytes ≡ good ++ rest → IsLineBehind line good) → first_line rest ≡ Some (text, behind) → BadReply (table_of rules) text p → IsMetBehind bytes p.number (Damaged (NotTheMachines line))
-damaged_reply bytes text behind rules size p rest line r number cut bad last before =
+damaged_reply bytes text behind rules size p rest line r line_is cut bad last before =
     record {
       is = record {
         rules = rules;
@@ -200,7 +200,7 @@ damaged_reply bytes text behind rules size p rest line r number cut bad last bef
         end = stand_of p;
         rest = rest;
         follows = r.follows;
-        number = number r.follows.good r.follows.splits;
+        line_is = line_is r.follows.good r.follows.splits;
         entry = bad.entry;
         comes = record { line = text; more = behind; is = cut; spells = bad.spells };
         damage = bad.never;
@@ -210,17 +210,17 @@ damaged_reply bytes text behind rules size p rest line r number cut bad last bef
 
 -- what the check of a line finds is the damage of the bytes
 pub damaged : (bytes text behind : List ℕ) (rules : RuleSet) (size : ℕ) (p q : Position) (rest : List ℕ) (found : Flaw) (line : ℕ) → IsReached bytes rules size p rest → ((good : List ℕ) → bytes ≡ good ++ rest → IsLineBehind line good) → (BeginsBase rest → ⊥) → first_line rest ≡ Some (text, behind) → LineJudged (table_of rules) text p q (Err found) → IsMetBehind bytes p.number (flaw_at found line)
-damaged bytes text behind rules size p q rest flaw.NotALine line r number other cut judged =
-    damaged_line bytes rules size p rest line r number other (subst (λ (found : Option (List ℕ × List ℕ)). HasNoEntry rest found) (sym cut) judged)
-damaged bytes text behind rules size p q rest flaw.OutOfOrder line r number other cut judged =
-    damaged_number bytes text behind rules size p rest line r number cut judged
-damaged bytes text behind rules size p q rest flaw.NotTheMachines line r number other cut judged =
-    damaged_reply bytes text behind rules size p rest line r number cut judged
-damaged bytes text behind rules size p q rest flaw.Memory line r number other cut judged = tt
+damaged bytes text behind rules size p q rest flaw.NotALine line r line_is other cut judged =
+    damaged_line bytes rules size p rest line r line_is other (subst (λ (found : Option (List ℕ × List ℕ)). HasNoEntry rest found) (sym cut) judged)
+damaged bytes text behind rules size p q rest flaw.OutOfOrder line r line_is other cut judged =
+    damaged_number bytes text behind rules size p rest line r line_is cut judged
+damaged bytes text behind rules size p q rest flaw.NotTheMachines line r line_is other cut judged =
+    damaged_reply bytes text behind rules size p rest line r line_is cut judged
+damaged bytes text behind rules size p q rest flaw.Memory line r line_is other cut judged = tt
 
 -- and a base that is not the one of where the run stands
 pub damaged_base : (bytes : List ℕ) (rules : RuleSet) (size : ℕ) (p : Position) (rest wanted : List ℕ) (base : Base) (line len : ℕ) → IsReached bytes rules size p rest → BeginsBase rest → base ≡ base_of p.number (stand_of p).moment → wanted ≡ base_text rules size base → PartAt wanted rest len → ((good : List ℕ) → bytes ≡ good ++ rest → IsLineBehind line (good ++ take len rest)) → IsMetBehind bytes p.number (Damaged (BadBase line))
-damaged_base bytes rules size p rest wanted base line len r begins is text parted number last before =
+damaged_base bytes rules size p rest wanted base line len r begins is text parted line_is last before =
     let whole : wanted ≡ base_text rules (size_of r.follows.opening) (base_of p.number (stand_of p).moment) =
     text ∙ ap (λ (n : ℕ). base_text rules n base) (sym r.size_is) ∙ ap (base_text rules (size_of r.follows.opening)) is in
     let parting = parted.parting in
@@ -241,7 +241,7 @@ damaged_base bytes rules size p rest wanted base line len r begins is text parte
           some = parting.some;
           apart = parting.apart;
         };
-        number = subst (λ (c : List ℕ). IsLineBehind line (r.follows.good ++ c)) parted.common_is (number r.follows.good r.follows.splits);
+        line_is = subst (λ (c : List ℕ). IsLineBehind line (r.follows.good ++ c)) parted.common_is (line_is r.follows.good r.follows.splits);
       });
       looked_at = before;
     }

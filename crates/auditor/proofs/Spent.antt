@@ -18,7 +18,7 @@ use Rattle.charge_laws.specs.Laws.{hsu_huang_charged, manne_charged}
 use Rattle.charge_laws.specs.Runs.{run_within}
 use Rattle.charge_laws.specs.Tables.{hsu_huang_table, manne_table}
 use Rattle.auditor.specs.Accepted.{IsReached}
-use Rattle.auditor.specs.Parts.{Opens, Opening, base_in, first_of, size_of}
+use Rattle.auditor.specs.Parts.{Opens, Opening, base_in, present_of, size_of}
 use Rattle.auditor.specs.Position.{Position, stand_of}
 
 pub is_table : (rules : RuleSet) → IsTable (table_of rules)
@@ -31,11 +31,11 @@ is_charged Manne = manne_charged
 
 pub opens_in_state : (rules : RuleSet) (o : Opening) (start : Stand) → Opens rules o start → IsState start.moment.state
 opens_in_state rules o start opens =
-    begins_in_state (table_of rules) (charge_bound (weight_of rules)) (size_of o) (first_of o) (base_in o) start.moment opens.begins
+    begins_in_state (table_of rules) (charge_bound (weight_of rules)) (size_of o) (present_of o) (base_in o) start.moment opens.begins
 
 pub opens_within : (rules : RuleSet) (o : Opening) (start : Stand) → Opens rules o start → IsWithinBound (table_of rules) (weight_of rules) start.moment
 opens_within rules o start opens =
-    begins_within (table_of rules) (weight_of rules) (is_charged rules) (size_of o) (first_of o) (base_in o) start.moment opens.begins
+    begins_within (table_of rules) (weight_of rules) (is_charged rules) (size_of o) (present_of o) (base_in o) start.moment opens.begins
 
 light : (rules : RuleSet) (spent charge edges nodes : ℕ) → spent + charge ≤ 2 * edges + weight_of rules * nodes → spent ≤ 2 * edges + 3 * nodes
 light Hh spent charge edges nodes within = omega (arith, within)

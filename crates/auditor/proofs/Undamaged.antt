@@ -103,7 +103,7 @@ left bytes rules log end rest neither follows none =
 
 no_line : (bytes : List ℕ) (rules : RuleSet) (log : List Part) (end : Stand) (rest : List ℕ) → Neither bytes → Follows bytes rules log end rest → (BeginsBase rest → ⊥) → HasNoEntry rest (first_line rest) → ⊥
 no_line bytes rules log end rest neither follows other damage =
-    neither.undamaged (NotALine (line_feeds follows.good + 1)) (record { rules = rules; log = log; end = end; rest = rest; follows = follows; number = refl; other = other; damage = damage })
+    neither.undamaged (NotALine (line_feeds follows.good + 1)) (record { rules = rules; log = log; end = end; rest = rest; follows = follows; line_is = refl; other = other; damage = damage })
 
 no_other_number : (bytes line more : List ℕ) (rules : RuleSet) (log : List Part) (end : Stand) (rest : List ℕ) (number : ℕ) (entry : Entry) → Neither bytes → Follows bytes rules log end rest → first_line rest ≡ Some (line, more) → SpellsEntry line number entry → number ≢ end.count + 1 → ⊥
 no_other_number bytes line more rules log end rest number entry neither follows cut spells other =
@@ -113,8 +113,8 @@ no_other_number bytes line more rules log end rest number entry neither follows 
       end = end;
       rest = rest;
       follows = follows;
-      number = refl;
-      seq = number;
+      line_is = refl;
+      number = number;
       entry = entry;
       comes = record { line = line; more = more; is = cut; spells = spells };
       damage = other;
@@ -128,7 +128,7 @@ no_other_reply bytes line more rules log end rest entry neither follows cut spel
       end = end;
       rest = rest;
       follows = follows;
-      number = refl;
+      line_is = refl;
       entry = entry;
       comes = record { line = line; more = more; is = cut; spells = spells };
       damage = never;
@@ -168,7 +168,7 @@ next_part bytes rules log end rest neither f none = by (first_line rest) refl
     same_base : BeginsBase rest → Begins (base_text rules (size_of f.opening) (base_of end.count end.moment)) rest ⊎ Parting (base_text rules (size_of f.opening) (base_of end.count end.moment)) rest → ⊥
     same_base begins (inl x) = none (Kept (base_of end.count end.moment)) end x.behind (kept_comes bytes rules log end rest f x)
     same_base begins (inr p) =
-        neither.undamaged (BadBase (line_feeds (f.good ++ p.common) + 1)) (inr (record { rules = rules; log = log; end = end; rest = rest; follows = f; begins = begins; parting = p; number = refl }))
+        neither.undamaged (BadBase (line_feeds (f.good ++ p.common) + 1)) (inr (record { rules = rules; log = log; end = end; rest = rest; follows = f; begins = begins; parting = p; line_is = refl }))
 
     no_base : BeginsBase rest → ⊥
     no_base begins = same_base begins (begins_or_parts (base_text rules (size_of f.opening) (base_of end.count end.moment)) rest)

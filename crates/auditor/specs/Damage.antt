@@ -69,7 +69,7 @@ pub record EndsInNoLine (bytes : List ℕ) (line : ℕ) : Type 0 where
   pub end : Stand
   pub rest : List ℕ
   pub follows : Follows bytes rules log end rest
-  pub number : IsLineBehind line follows.good
+  pub line_is : IsLineBehind line follows.good
   pub other : BeginsBase rest → ⊥
   pub damage : HasNoEntry rest (first_line rest)
 
@@ -80,11 +80,11 @@ pub record EndsOutOfOrder (bytes : List ℕ) (line : ℕ) : Type 0 where
   pub end : Stand
   pub rest : List ℕ
   pub follows : Follows bytes rules log end rest
-  pub number : IsLineBehind line follows.good
-  pub seq : ℕ
+  pub line_is : IsLineBehind line follows.good
+  pub number : ℕ
   pub entry : Entry
-  pub comes : EntryComes rest seq entry
-  pub damage : seq ≢ end.count + 1
+  pub comes : EntryComes rest number entry
+  pub damage : number ≢ end.count + 1
 
 -- it is the next entry, and the machine may not give its reply
 pub record EndsNotTheMachines (bytes : List ℕ) (line : ℕ) : Type 0 where
@@ -93,7 +93,7 @@ pub record EndsNotTheMachines (bytes : List ℕ) (line : ℕ) : Type 0 where
   pub end : Stand
   pub rest : List ℕ
   pub follows : Follows bytes rules log end rest
-  pub number : IsLineBehind line follows.good
+  pub line_is : IsLineBehind line follows.good
   pub entry : Entry
   pub comes : EntryComes rest (end.count + 1) entry
   pub damage : (s : State) → Answers (table_of rules) end.moment.state end.moment.spent entry.0 entry.1 s → ⊥
@@ -117,7 +117,7 @@ pub record EndsInBadBase (bytes : List ℕ) (line : ℕ) : Type 0 where
   pub follows : Follows bytes rules log end rest
   pub begins : BeginsBase rest
   pub parting : Parting (base_text rules (size_of follows.opening) (base_of end.count end.moment)) rest
-  pub number : IsLineBehind line (follows.good ++ parting.common)
+  pub line_is : IsLineBehind line (follows.good ++ parting.common)
 
 -- the lines behind the first are no base's, from this one of them on
 pub record BreaksOff (rest : List ℕ) (line : ℕ) : Type 0 where

@@ -24,9 +24,9 @@ size_of (Named size count) = size
 size_of (Based size base) = size
 
 -- how many of them are present at the opening state
-abbrev pub first_of : Opening → ℕ
-first_of (Named size count) = count
-first_of (Based size base) = 0
+abbrev pub present_of : Opening → ℕ
+present_of (Named size count) = count
+present_of (Based size base) = 0
 
 abbrev pub base_in : Opening → Option Base
 base_in (Named size count) = None
@@ -50,7 +50,7 @@ IsOpening (Based size base) = IsFirstBase size base
 -- where the run of a transcript begins: at the opening state, or where its base says, with the base's entries counted
 pub record Opens (rules : RuleSet) (opening : Opening) (start : Stand) : Type 0 where
   pub fits : IsOpening opening
-  pub begins : BeginsAt (table_of rules) (charge_bound (weight_of rules)) (size_of opening) (first_of opening) (base_in opening) start.moment
+  pub begins : BeginsAt (table_of rules) (charge_bound (weight_of rules)) (size_of opening) (present_of opening) (base_in opening) start.moment
   pub count : start.count ≡ dropped (base_in opening)
 
 -- how many entries there are behind a part

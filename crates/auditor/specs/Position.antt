@@ -64,10 +64,10 @@ pub record GoodLine (t : RuleTable) (line : List ℕ) (before after : Position) 
 
 -- the line is an entry with another number
 pub record BadNumber (line : List ℕ) (before : Position) : Type 0 where
-  pub seq : ℕ
+  pub number : ℕ
   pub entry : Entry
-  pub spells : SpellsEntry line seq entry
-  pub other : seq ≢ before.number + 1
+  pub spells : SpellsEntry line number entry
+  pub other : number ≢ before.number + 1
 
 -- the line is the next entry, and the machine may not give its reply
 pub record BadReply (t : RuleTable) (line : List ℕ) (before : Position) : Type 0 where

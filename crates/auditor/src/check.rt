@@ -127,12 +127,12 @@ impl Audit {
     ) -> Result<(), Flaw>
         ensures { LineJudged (table_of rules) line.now self.old self.new result }
     {
-        let (seq, entry) = match read_entry(alloc, line) {
+        let (number, entry) = match read_entry(alloc, line) {
             Ok(found) => found,
             Err(EntryFault::NotALine) => return Err(Flaw::NotALine),
             Err(EntryFault::Memory) => return Err(Flaw::Memory),
         };
-        if seq != self.number + 1 {
+        if number != self.number + 1 {
             return Err(Flaw::OutOfOrder);
         }
         let judged = self
@@ -145,7 +145,7 @@ impl Audit {
             return Err(Flaw::NotTheMachines);
         }
         self.spent = spent_after(self.spent, entry.reply());
-        self.number = seq;
+        self.number = number;
         self.counted = self.counted.with_reply(entry.reply());
         Ok(())
     }
