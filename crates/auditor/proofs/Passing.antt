@@ -10,13 +10,13 @@ use Rattle.rule_machine.specs.Tables.{table_of}
 use Rattle.line_text.specs.BaseText.{base_head, base_text}
 use Rattle.entry_grammar.specs.Lines.{first_line}
 use Rattle.entry_grammar.specs.BaseLines.{BreaksAt, IsShaped, base_lines}
-use Rattle.auditor.specs.declared.check.Flaw.{Flaw}
 use Rattle.auditor.specs.declared.damage.Damage.TheVariants.{BadHeader, BadBase, NotALine}
+use Rattle.auditor.specs.declared.damage.JudgeFault.{JudgeFault}
 use Rattle.auditor.specs.declared.damage.JudgeFault.TheVariants.{Damaged}
 use Rattle.auditor.specs.declared.replay.Replay.{Replay}
 use Rattle.auditor.specs.Damage.{BeginsBase, HasBadHeader, HasNoEntry, SpellsNoHead, SpellsNoHeader, line_feeds}
 use Rattle.auditor.specs.Parts.{Based, Opens}
-use Rattle.auditor.specs.Parted.{AreSameUpTo, ArePartedAt, flaw_at}
+use Rattle.auditor.specs.Parted.{AreSameUpTo, ArePartedAt}
 use Rattle.auditor.specs.Position.{GoodLine, IsFurther, LineJudged, Position, stand_of}
 use Rattle.auditor.specs.Reached.{IsMetBehind, IsMetFirst}
 use Rattle.auditor.specs.Replays.{HasCutStart, IsAt, IsCompared, IsMetAt, IsPassed, IsUnended, Waits, Wants, base_wanted}
@@ -96,7 +96,7 @@ compared_alike replay rest compared = record {
 }
 
 -- what the check of a line finds is the damage whatever comes behind it
-pub entry_damaged : (old : Replay) (q : Position) (line rest behind : List ℕ) (found : Flaw) (at : ℕ) → at ≡ old.lines + 1 → (BeginsBase rest → ⊥) → first_line rest ≡ Some (line, behind) → LineJudged (table_of old.rules) line old.audit q (Err found) → IsMetAt old rest (flaw_at found at)
+pub entry_damaged : (old : Replay) (q : Position) (line rest behind : List ℕ) (found : JudgeFault) (at : ℕ) → at ≡ old.lines + 1 → (BeginsBase rest → ⊥) → first_line rest ≡ Some (line, behind) → LineJudged (table_of old.rules) line at old.audit q (Err found) → IsMetAt old rest found
 entry_damaged old q line rest behind found at is other cut judged bytes more here =
     damaged bytes line (behind ++ more) old.rules old.size old.audit q (rest ++ more) found at here.reached
     (λ good e. is ∙ ap (λ (n : ℕ). n + 1) (here.counted good e)) (λ begins. other (begins_less rest more line behind cut begins)) (first_line-more rest more line behind cut) judged

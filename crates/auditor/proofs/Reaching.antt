@@ -15,16 +15,14 @@ use Rattle.entry_grammar.specs.Spelling.{SpellsHeader}
 use Rattle.entry_grammar.specs.BaseLines.{base_lines}
 use Rattle.entry_grammar.proofs.BaseOnce.{base_text_is}
 use Rattle.entry_grammar.proofs.Cutting.{first_line-splits}
-use Rattle.auditor.specs.declared.check.Flaw.{Flaw}
-use Rattle.auditor.specs.declared.check.Flaw.TheVariants as flaw
-use Rattle.auditor.specs.declared.damage.Damage.TheVariants.{NotALine, OutOfOrder, NotTheMachines, BadBase}
-use Rattle.auditor.specs.declared.damage.JudgeFault.TheVariants.{Damaged}
+use Rattle.auditor.specs.declared.damage.Damage.TheVariants.{BadHeader, NotALine, OutOfOrder, NotTheMachines, BadBase}
+use Rattle.auditor.specs.declared.damage.JudgeFault.{JudgeFault}
+use Rattle.auditor.specs.declared.damage.JudgeFault.TheVariants.{Damaged, Memory}
 use Rattle.auditor.specs.declared.summary.Summary.{Summary}
 use Rattle.auditor.specs.Parts.{Opening, Opens, opening_text, size_of}
 use Rattle.auditor.specs.Transcript.{IsTranscript, Comes, disturbances_in, moves_in}
 use Rattle.auditor.specs.Damage.{Follows, BeginsBase, IsLineBehind, HasNoEntry}
 use Rattle.auditor.specs.Position.{Position, stand_of, position_at, counted_more, counted_part, GoodLine, BadNumber, BadReply, LineJudged, IsFurther}
-use Rattle.auditor.specs.Parted.{flaw_at}
 use Rattle.auditor.specs.Accepted.{Counts, IsAccepted, IsReached}
 use Rattle.auditor.specs.Reached.{IsMetBehind}
 use Rattle.auditor.proofs.Counted.{PartAt}
@@ -209,14 +207,16 @@ damaged_reply bytes text behind rules size p rest line r line_is cut bad last be
     }
 
 -- what the check of a line finds is the damage of the bytes
-pub damaged : (bytes text behind : List ℕ) (rules : RuleSet) (size : ℕ) (p q : Position) (rest : List ℕ) (found : Flaw) (line : ℕ) → IsReached bytes rules size p rest → ((good : List ℕ) → bytes ≡ good ++ rest → IsLineBehind line good) → (BeginsBase rest → ⊥) → first_line rest ≡ Some (text, behind) → LineJudged (table_of rules) text p q (Err found) → IsMetBehind bytes p.number (flaw_at found line)
-damaged bytes text behind rules size p q rest flaw.NotALine line r line_is other cut judged =
-    damaged_line bytes rules size p rest line r line_is other (subst (λ (found : Option (List ℕ × List ℕ)). HasNoEntry rest found) (sym cut) judged)
-damaged bytes text behind rules size p q rest flaw.OutOfOrder line r line_is other cut judged =
-    damaged_number bytes text behind rules size p rest line r line_is cut judged
-damaged bytes text behind rules size p q rest flaw.NotTheMachines line r line_is other cut judged =
-    damaged_reply bytes text behind rules size p rest line r line_is cut judged
-damaged bytes text behind rules size p q rest flaw.Memory line r line_is other cut judged = tt
+pub damaged : (bytes text behind : List ℕ) (rules : RuleSet) (size : ℕ) (p q : Position) (rest : List ℕ) (found : JudgeFault) (line : ℕ) → IsReached bytes rules size p rest → ((good : List ℕ) → bytes ≡ good ++ rest → IsLineBehind line good) → (BeginsBase rest → ⊥) → first_line rest ≡ Some (text, behind) → LineJudged (table_of rules) text line p q (Err found) → IsMetBehind bytes p.number found
+damaged bytes text behind rules size p q rest (Damaged (NotALine at)) line r line_is other cut (same, none) =
+    damaged_line bytes rules size p rest at r (λ good e. same ∙ line_is good e) other (subst (λ (found : Option (List ℕ × List ℕ)). HasNoEntry rest found) (sym cut) none)
+damaged bytes text behind rules size p q rest (Damaged (OutOfOrder at)) line r line_is other cut (same, bad) =
+    damaged_number bytes text behind rules size p rest at r (λ good e. same ∙ line_is good e) cut bad
+damaged bytes text behind rules size p q rest (Damaged (NotTheMachines at)) line r line_is other cut (same, bad) =
+    damaged_reply bytes text behind rules size p rest at r (λ good e. same ∙ line_is good e) cut bad
+damaged bytes text behind rules size p q rest (Damaged BadHeader) line r line_is other cut judged = absurd judged
+damaged bytes text behind rules size p q rest (Damaged (BadBase at)) line r line_is other cut judged = absurd judged
+damaged bytes text behind rules size p q rest Memory line r line_is other cut judged = tt
 
 -- and a base that is not the one of where the run stands
 pub damaged_base : (bytes : List ℕ) (rules : RuleSet) (size : ℕ) (p : Position) (rest wanted : List ℕ) (base : Base) (line len : ℕ) → IsReached bytes rules size p rest → BeginsBase rest → base ≡ base_of p.number (stand_of p).moment → wanted ≡ base_text rules size base → PartAt wanted rest len → ((good : List ℕ) → bytes ≡ good ++ rest → IsLineBehind line (good ++ take len rest)) → IsMetBehind bytes p.number (Damaged (BadBase line))

@@ -8,8 +8,10 @@ use Rattle.rule_machine.specs.Base.{Part, Told, Kept, Stand}
 use Rattle.rule_machine.specs.Run.{Entry}
 use Rattle.rule_machine.specs.Answer.{Answers, spent_after}
 use Rattle.entry_grammar.specs.Spelling.{SpellsEntry, max_entries}
-use Rattle.auditor.specs.declared.check.Flaw.{Flaw}
-use Rattle.auditor.specs.declared.check.Flaw.TheVariants.{NotALine, OutOfOrder, NotTheMachines, Memory}
+use Rattle.auditor.specs.declared.damage.Damage.{Damage}
+use Rattle.auditor.specs.declared.damage.Damage.TheVariants.{BadHeader, NotALine, OutOfOrder, NotTheMachines, BadBase}
+use Rattle.auditor.specs.declared.damage.JudgeFault.{JudgeFault}
+use Rattle.auditor.specs.declared.damage.JudgeFault.TheVariants.{Damaged, Memory}
 use Rattle.auditor.specs.declared.summary.Summary.{Summary}
 use Rattle.auditor.specs.Transcript.{Comes, disturbances_in, moves_in}
 use Rattle.auditor.specs.Damage.{SpellsNoEntry}
@@ -54,34 +56,40 @@ pub record AreCounted (spent number : ℕ) (c : Summary) : Type 0 where
   pub made : spent ≤ c.moves + 4294967295
 
 -- the line is the next entry, the machine may give its reply, and it is counted
-pub record GoodLine (t : RuleTable) (line : List ℕ) (before after : Position) : Type 0 where
+pub record GoodLine (t : RuleTable) (text : List ℕ) (before after : Position) : Type 0 where
   pub entry : Entry
-  pub spells : SpellsEntry line (before.number + 1) entry
+  pub spells : SpellsEntry text (before.number + 1) entry
   pub answers : Answers t before.state before.spent entry.0 entry.1 after.state
   pub spends : after.spent ≡ spent_after before.spent entry.1
   pub number : after.number ≡ before.number + 1
   pub counted : after.counted ≡ counted_more before.counted entry.1
 
 -- the line is an entry with another number
-pub record BadNumber (line : List ℕ) (before : Position) : Type 0 where
+pub record BadNumber (text : List ℕ) (before : Position) : Type 0 where
   pub number : ℕ
   pub entry : Entry
-  pub spells : SpellsEntry line number entry
+  pub spells : SpellsEntry text number entry
   pub other : number ≢ before.number + 1
 
 -- the line is the next entry, and the machine may not give its reply
-pub record BadReply (t : RuleTable) (line : List ℕ) (before : Position) : Type 0 where
+pub record BadReply (t : RuleTable) (text : List ℕ) (before : Position) : Type 0 where
   pub entry : Entry
-  pub spells : SpellsEntry line (before.number + 1) entry
+  pub spells : SpellsEntry text (before.number + 1) entry
   pub never : (s : State) → Answers t before.state before.spent entry.0 entry.1 s → ⊥
 
--- what the check of the next line says of it; of want of memory nothing is said
-abbrev pub LineJudged : RuleTable → List ℕ → Position → Position → Result Unit Flaw → Type 0
-LineJudged t line before after (Ok done) = GoodLine t line before after
-LineJudged t line before after (Err NotALine) = SpellsNoEntry line
-LineJudged t line before after (Err OutOfOrder) = BadNumber line before
-LineJudged t line before after (Err NotTheMachines) = BadReply t line before
-LineJudged t line before after (Err Memory) = Unit {0}
+-- this is the damage of the line with this number
+abbrev pub LineDamaged : RuleTable → List ℕ → ℕ → Position → Damage → Type 0
+LineDamaged t text line before (NotALine at) = (at ≡ line) × SpellsNoEntry text
+LineDamaged t text line before (OutOfOrder at) = (at ≡ line) × BadNumber text before
+LineDamaged t text line before (NotTheMachines at) = (at ≡ line) × BadReply t text before
+LineDamaged t text line before BadHeader = ⊥
+LineDamaged t text line before (BadBase at) = ⊥
+
+-- what the check of the next line, which has this number, says of it; of want of memory nothing is said
+abbrev pub LineJudged : RuleTable → List ℕ → ℕ → Position → Position → Result Unit JudgeFault → Type 0
+LineJudged t text line before after (Ok done) = GoodLine t text before after
+LineJudged t text line before after (Err (Damaged damage)) = LineDamaged t text line before damage
+LineJudged t text line before after (Err Memory) = Unit {0}
 
 -- the next part comes, it leads from one position to the other and is counted there, and the rest follows
 pub record IsFurther (rules : RuleSet) (size : ℕ) (before : Position) (rest : List ℕ) (after : Position) (behind : List ℕ) : Type 0 where

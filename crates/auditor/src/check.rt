@@ -4,7 +4,6 @@ ghost use Rattle.std.specs.Prelude.{◌≡◌, ◌≤◌, ◌+◌, ◌*◌, IfOk
 ghost use Rattle.rule_machine.specs.Base.{base_of};
 ghost use Rattle.rule_machine.specs.Network.{edge_count, node_count};
 ghost use Rattle.rule_machine.specs.Tables.{table_of};
-ghost use Rattle.auditor.specs.Parted.{flaw_at};
 ghost use Rattle.auditor.specs.Position.{LineJudged, position_at, stand_of};
 
 use crate::summary::spent_after;
@@ -23,33 +22,6 @@ pub(crate) struct Audit {
     spent: u64,
     number: u32,
     counted: Summary,
-}
-
-/// What is wrong with a line, or why it was not judged.
-#[derive(Clone, Copy)]
-pub(crate) enum Flaw {
-    /// It is the text of no entry.
-    NotALine,
-    /// It is an entry with another number than the next.
-    OutOfOrder,
-    /// It is the next entry, and the machine may not give this reply.
-    NotTheMachines,
-    /// A growth of memory was refused.
-    Memory,
-}
-
-impl Flaw {
-    /// The fault of the line with this number.
-    pub(crate) fn told_at(self, line: u64) -> JudgeFault
-        ensures { result ≡ flaw_at self line }
-    {
-        match self {
-            Flaw::NotALine => JudgeFault::Damaged(Damage::NotALine { line }),
-            Flaw::OutOfOrder => JudgeFault::Damaged(Damage::OutOfOrder { line }),
-            Flaw::NotTheMachines => JudgeFault::Damaged(Damage::NotTheMachines { line }),
-            Flaw::Memory => JudgeFault::Memory,
-        }
-    }
 }
 
 impl Model for Audit {
@@ -118,31 +90,34 @@ impl Audit {
         Ok(Base { spent, ..base })
     }
 
-    /// Checks that the line is the next entry, and that the machine may give its reply.
+    /// Checks that the line with this text and this number is the next entry, and that the machine may give its reply.
     pub(crate) fn check_line(
         &mut self,
         alloc: Global,
         rules: RuleSet,
-        line: &[u8],
-    ) -> Result<(), Flaw>
-        ensures { LineJudged (table_of rules) line.now self.old self.new result }
+        text: &[u8],
+        line: u64,
+    ) -> Result<(), JudgeFault>
+        ensures { LineJudged (table_of rules) text.now line self.old self.new result }
     {
-        let (number, entry) = match read_entry(alloc, line) {
+        let (number, entry) = match read_entry(alloc, text) {
             Ok(found) => found,
-            Err(EntryFault::NotALine) => return Err(Flaw::NotALine),
-            Err(EntryFault::Memory) => return Err(Flaw::Memory),
+            Err(EntryFault::NotALine) => {
+                return Err(JudgeFault::Damaged(Damage::NotALine { line }));
+            }
+            Err(EntryFault::Memory) => return Err(JudgeFault::Memory),
         };
         if number != self.number + 1 {
-            return Err(Flaw::OutOfOrder);
+            return Err(JudgeFault::Damaged(Damage::OutOfOrder { line }));
         }
         let judged = self
             .judge
             .replay(rules, self.spent, entry.event(), entry.reply());
         let Ok(right) = judged else {
-            return Err(Flaw::Memory);
+            return Err(JudgeFault::Memory);
         };
         if !right {
-            return Err(Flaw::NotTheMachines);
+            return Err(JudgeFault::Damaged(Damage::NotTheMachines { line }));
         }
         self.spent = spent_after(self.spent, entry.reply());
         self.number = number;

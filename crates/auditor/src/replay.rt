@@ -201,9 +201,9 @@ impl Replay {
             return Ok(None);
         };
         self.lines += 1;
-        match self.audit.check_line(alloc, self.rules, line) {
+        match self.audit.check_line(alloc, self.rules, line, self.lines) {
             Ok(()) => Ok(Some(behind)),
-            Err(flaw) => Err(flaw.told_at(self.lines)),
+            Err(fault) => Err(fault),
         }
     }
 

@@ -1,10 +1,10 @@
-use Rattle.std.proofs.Common.{◌≡◌, ◌∙◌, ◌+◌, ℕ, false, sym, ap, subst, arith}
+use Rattle.std.proofs.Common.{◌≡◌, ◌∙◌, ◌+◌, ℕ, false, refl, sym, ap, subst, arith}
 use Rattle.entry_grammar.specs.Spelling.{SpellsEntry}
 use Rattle.rule_machine.specs.Answer.{Answers, spent_after}
 use Rattle.rule_machine.specs.declared.event.Event.{Event}
 use Rattle.rule_machine.specs.declared.reply.Reply.{Reply}
 use Rattle.rule_machine.specs.Tables.{table_of}
-use Rattle.auditor.specs.Position.{Position, counted_more}
+use Rattle.auditor.specs.Position.{BadReply, Position, counted_more}
 use Rattle.auditor.proofs.check.Audit.check_line.Goals as goal
 
 pub returns-then-not-right : goal.returns-then-not-right
@@ -13,15 +13,16 @@ returns-then-not-right c =
     let entry = c.in-Ok.found.1 in
     let number : c.in-Ok.found.0 ≡ c.args.self.now.number + 1 = grind arith in
     let wrong : c.in-Ok-judged.right ≡ false = grind arith in
-    record {
+    let bad : BadReply t c.args.text.now c.args.self.now = record {
       entry = entry;
-      spells = subst (λ (n : ℕ). SpellsEntry c.args.line.now n entry) number c.in-Ok.ensures.ok;
+      spells = subst (λ (n : ℕ). SpellsEntry c.args.text.now n entry) number c.in-Ok.ensures.ok;
       never = λ s answers.
           (c.in-Ok-judged.ensures.wrong wrong).0 s
           (subst (λ (e : Event). Answers t c.self.inside.judge c.self.inside.spent e c.reply.result.now s) (sym c.event.ensures.value)
           (subst (λ (r : Reply). Answers t c.self.inside.judge c.self.inside.spent entry.0 r s) (sym c.reply.ensures.value)
           (subst (λ (p : Position). Answers t p.state p.spent entry.0 entry.1 s) (sym c.self.view_is) answers)));
-    }
+    } in
+    (refl, bad)
 
 pub returns : goal.returns
 returns c =
@@ -32,7 +33,7 @@ returns c =
     let told : Answers t c.self.inside.judge c.self.inside.spent c.event.result.now c.reply.result.now after = c.in-Ok-judged.ensures.right (grind arith) in
     record {
       entry = entry;
-      spells = subst (λ (n : ℕ). SpellsEntry c.args.line.now n entry) number c.in-Ok.ensures.ok;
+      spells = subst (λ (n : ℕ). SpellsEntry c.args.text.now n entry) number c.in-Ok.ensures.ok;
       answers =
           subst (λ (p : Position). Answers t p.state p.spent entry.0 entry.1 after) c.self.view_is
           (subst (λ (r : Reply). Answers t c.self.inside.judge c.self.inside.spent entry.0 r after) c.reply.ensures.value

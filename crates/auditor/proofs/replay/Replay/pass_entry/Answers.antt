@@ -1,5 +1,4 @@
-use Rattle.std.proofs.Common.{◌+◌, refl, subst, sym, arith}
-use Rattle.auditor.specs.Replays.{IsMetAt}
+use Rattle.std.proofs.Common.{◌+◌, refl, arith}
 use Rattle.auditor.proofs.Going.{somewhere_few}
 use Rattle.auditor.proofs.Passing.{entry_damaged, entry_passed}
 use Rattle.auditor.proofs.replay.Replay.pass_entry.Goals as goal
@@ -16,5 +15,4 @@ returns-in-Ok-clause-ahead c =
 pub returns-in-Err-clause-fault : goal.returns-in-Err-clause-fault
 returns-in-Err-clause-fault c =
     let self = c.args.self.now in
-    subst (IsMetAt self c.args.rest.now) (sym c.told_at.ensures)
-    (entry_damaged self c.check_line.new.self c.in-Some.line.now c.args.rest.now c.in-Some.behind.now c.in-Err.flaw (self.lines + 1) refl c.requires.other c.in-Some.ensures.line c.in-Err.ensures)
+    entry_damaged self c.check_line.new.self c.in-Some.line.now c.args.rest.now c.in-Some.behind.now c.in-Err.fault (self.lines + 1) refl c.requires.other c.in-Some.ensures.line c.in-Err.ensures
