@@ -13,7 +13,7 @@ use Rattle.auditor.specs.Reached.{EndsAt, HasForgotten, HasTooFew, IsBefore, IsL
 use Rattle.auditor.proofs.Steps.{passes_rise}
 use Rattle.auditor.proofs.Chains.{chain_beyond}
 use Rattle.auditor.proofs.Openings.{parts_behind}
-use Rattle.auditor.proofs.Ending.{Split, Ended, FailsFirst, FailsBehind, base_fails, begun, chain_behind, chain_same, ended_once, fails_some, failure_ends, first_good, followed, no_damage, run_once, split_at, stops_same, transcript_ends, whole}
+use Rattle.auditor.proofs.Ending.{Split, Ended, FailsFirst, FailsBehind, base_fails, begun, chain_behind, chain_same, ended_once, fails_some, failure_ends, first_good, followed, no_damage, run_once, split_at, split_of, stops_same, transcript_ends, whole}
 use Rattle.auditor.proofs.Level.{over}
 
 -- no transcript goes on behind where the text ends
@@ -38,20 +38,20 @@ apart bytes (Some k) r log end rest b f ends e some before = not_beyond bytes r 
 -- it stands at the start, or behind fewer entries than were asked for
 pub record MetBehind (bytes : List ℕ) (stop : Option ℕ) (d : Damage) : Type 0 where
   pub behind : FailsBehind bytes d
-  pub before : IsBefore stop behind.end.count
+  pub before : IsBefore stop behind.at.end.count
 
 pub met_fails : (bytes : List ℕ) (stop : Option ℕ) (d : Damage) (damage : IsDamage bytes d) → IsLookedAt bytes stop d damage → FailsFirst bytes d ⊎ MetBehind bytes stop d
 met_fails bytes stop BadHeader x looked = inl x
 met_fails bytes stop (NotALine line) x looked = inr (record {
-  behind = record { rules = x.rules; log = x.log; end = x.end; rest = x.rest; follows = x.follows; fails = (x.line_is, x.other, x.damage) };
+  behind = record { at = x.at; fails = (x.line_is, x.other, x.damage) };
   before = looked;
 })
 met_fails bytes stop (OutOfOrder line) x looked = inr (record {
-  behind = record { rules = x.rules; log = x.log; end = x.end; rest = x.rest; follows = x.follows; fails = (x.line_is, (x.number, x.entry, x.comes, x.damage)) };
+  behind = record { at = x.at; fails = (x.line_is, (x.number, x.entry, x.comes, x.damage)) };
   before = looked;
 })
 met_fails bytes stop (NotTheMachines line) x looked = inr (record {
-  behind = record { rules = x.rules; log = x.log; end = x.end; rest = x.rest; follows = x.follows; fails = (x.line_is, (x.entry, x.comes, x.damage)) };
+  behind = record { at = x.at; fails = (x.line_is, (x.entry, x.comes, x.damage)) };
   before = looked;
 })
 met_fails bytes stop (BadBase line) (inl x) looked = inl x
@@ -65,7 +65,7 @@ good_no_damage bytes stop rules s d x met = by (met_fails bytes stop d met.is me
     by (inl first) = first_good bytes d rules x.log x.end x.rest first x.follows
     by (inr m) =
         let b = m.behind in
-        let place = split_at bytes b.rules b.log b.end b.rest b.follows in
+        let place = split_of bytes b.at in
         apart bytes stop rules x.log x.end x.rest place x.follows x.ends (failure_ends bytes d b) (fails_some place d b.fails) m.before
 
 -- ---- too few
@@ -122,7 +122,7 @@ forgotten_no_damage bytes stop asked base d x met = by (met_fails bytes stop d m
     by : FailsFirst bytes d ⊎ MetBehind bytes stop d → ⊥
     by (inl first) = first_good bytes d x.rules [] x.end x.rest first x.follows
     by (inr m) =
-        let b = m.behind in
-        let below = forgotten_below bytes stop asked base b.rules b.log b.end b.rest x b.follows in
-        let before : b.end.count < asked = subst (λ (o : Option ℕ). IsBefore o b.end.count) x.last_is m.before in
+        let at = m.behind.at in
+        let below = forgotten_below bytes stop asked base at.rules at.log at.end at.rest x at.follows in
+        let before : at.end.count < asked = subst (λ (o : Option ℕ). IsBefore o at.end.count) x.last_is m.before in
         omega (arith, below, before)

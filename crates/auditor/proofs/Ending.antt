@@ -21,7 +21,7 @@ use Rattle.auditor.specs.declared.damage.Damage.TheVariants.{BadHeader, NotALine
 use Rattle.auditor.specs.declared.summary.Summary.{Summary}
 use Rattle.auditor.specs.Parts.{Opening, size_of}
 use Rattle.auditor.specs.Transcript.{IsTranscript, Comes, epoch_count, move_count}
-use Rattle.auditor.specs.Damage.{Follows, EntryComes, BeginsBase, Parting, IsLineBehind, HasNoEntry, HasBadHeader, HasBadStart, EndsInBadBase, IsDamage}
+use Rattle.auditor.specs.Damage.{Follows, Beginning, EntryComes, BeginsBase, Parting, IsLineBehind, HasNoEntry, HasBadHeader, HasBadStart, EndsInBadBase, IsDamage}
 use Rattle.auditor.specs.Accepted.{Counts, IsAccepted}
 use Rattle.auditor.specs.Once.{SameRun}
 use Rattle.auditor.proofs.Feedless.{entry_free}
@@ -74,6 +74,9 @@ followed bytes at x = record { opening = at.opening; good = at.good; transcript 
 
 abbrev pub split_at : (bytes : List ℕ) (rules : RuleSet) (log : List Part) (end : Stand) (rest : List ℕ) → Follows bytes rules log end rest → Split
 split_at bytes rules log end rest f = record { rules = rules; opening = f.opening; good = f.good; log = log; end = end; rest = rest }
+
+abbrev pub split_of : (bytes : List ℕ) → Beginning bytes → Split
+split_of bytes at = split_at bytes at.rules at.log at.end at.rest at.follows
 
 pub ends_here : (bytes : List ℕ) (rules : RuleSet) (log : List Part) (end : Stand) (rest : List ℕ) (f : Follows bytes rules log end rest) → Stops rules (size_of f.opening) end rest → Ended bytes (split_at bytes rules log end rest f)
 ends_here bytes rules log end rest f stops = record { transcript = f.transcript; splits = f.splits; stops = stops }
@@ -128,31 +131,20 @@ FailsFirst bytes (BadBase line) = HasBadStart bytes line
 
 -- behind a transcript something fails
 pub record FailsBehind (bytes : List ℕ) (d : Damage) : Type 0 where
-  pub rules : RuleSet
-  pub log : List Part
-  pub end : Stand
-  pub rest : List ℕ
-  pub follows : Follows bytes rules log end rest
-  pub fails : Fails (split_at bytes rules log end rest follows) d
+  pub at : Beginning bytes
+  pub fails : Fails (split_of bytes at) d
 
 abbrev pub base_fails : (bytes : List ℕ) (line : ℕ) → EndsInBadBase bytes line → FailsBehind bytes (BadBase line)
-base_fails bytes line x = record {
-  rules = x.rules;
-  log = x.log;
-  end = x.end;
-  rest = x.rest;
-  follows = x.follows;
-  fails = (x.begins, (x.parting, x.line_is));
-}
+base_fails bytes line x = record { at = x.at; fails = (x.begins, (x.parting, x.line_is)) }
 
 pub damage_fails : (bytes : List ℕ) (d : Damage) → IsDamage bytes d → FailsFirst bytes d ⊎ FailsBehind bytes d
 damage_fails bytes BadHeader x = inl x
 damage_fails bytes (NotALine line) x =
-    inr (record { rules = x.rules; log = x.log; end = x.end; rest = x.rest; follows = x.follows; fails = (x.line_is, x.other, x.damage) })
+    inr (record { at = x.at; fails = (x.line_is, x.other, x.damage) })
 damage_fails bytes (OutOfOrder line) x =
-    inr (record { rules = x.rules; log = x.log; end = x.end; rest = x.rest; follows = x.follows; fails = (x.line_is, (x.number, x.entry, x.comes, x.damage)) })
+    inr (record { at = x.at; fails = (x.line_is, (x.number, x.entry, x.comes, x.damage)) })
 damage_fails bytes (NotTheMachines line) x =
-    inr (record { rules = x.rules; log = x.log; end = x.end; rest = x.rest; follows = x.follows; fails = (x.line_is, (x.entry, x.comes, x.damage)) })
+    inr (record { at = x.at; fails = (x.line_is, (x.entry, x.comes, x.damage)) })
 damage_fails bytes (BadBase line) (inl x) = inl x
 damage_fails bytes (BadBase line) (inr x) = inr (base_fails bytes line x)
 
@@ -250,9 +242,10 @@ fails_some at (OutOfOrder line) (line_is, (number, entry, comes, damage)) = come
 fails_some at (NotTheMachines line) (line_is, (entry, comes, damage)) = comes_rest at.rest (at.end.count + 1) entry comes
 fails_some at (BadBase line) x = begins_rest at.rest x.0
 
-pub failure_ends : (bytes : List ℕ) (d : Damage) (x : FailsBehind bytes d) → Ended bytes (split_at bytes x.rules x.log x.end x.rest x.follows)
+pub failure_ends : (bytes : List ℕ) (d : Damage) (x : FailsBehind bytes d) → Ended bytes (split_of bytes x.at)
 failure_ends bytes d x =
-    ends_here bytes x.rules x.log x.end x.rest x.follows (fails_stops (split_at bytes x.rules x.log x.end x.rest x.follows) d x.fails)
+    let at = x.at in
+    ends_here bytes at.rules at.log at.end at.rest at.follows (fails_stops (split_of bytes at) d x.fails)
 
 -- ---- one way
 
@@ -326,8 +319,8 @@ first_good bytes (BadBase line) rules log end rest x f = start_good bytes line r
 
 behind_once : (bytes : List ℕ) (d e : Damage) → FailsBehind bytes d → FailsBehind bytes e → d ≡ e
 behind_once bytes d e x y =
-    let a = split_at bytes x.rules x.log x.end x.rest x.follows in
-    let b = split_at bytes y.rules y.log y.end y.rest y.follows in
+    let a = split_of bytes x.at in
+    let b = split_of bytes y.at in
     let same : a ≡ b = ended_once bytes a b (failure_ends bytes d x) (failure_ends bytes e y) in
     fails_once b d e (subst (λ (z : Split). Fails z d) same x.fails) y.fails
 
@@ -336,8 +329,8 @@ damage_once bytes d e x y = by (damage_fails bytes d x) (damage_fails bytes e y)
   where
     by : FailsFirst bytes d ⊎ FailsBehind bytes d → FailsFirst bytes e ⊎ FailsBehind bytes e → d ≡ e
     by (inl a) (inl b) = first_once bytes d e a b
-    by (inl a) (inr b) = absurd (first_good bytes d b.rules b.log b.end b.rest a b.follows)
-    by (inr a) (inl b) = absurd (first_good bytes e a.rules a.log a.end a.rest b a.follows)
+    by (inl a) (inr b) = absurd (first_good bytes d b.at.rules b.at.log b.at.end b.at.rest a b.at.follows)
+    by (inr a) (inl b) = absurd (first_good bytes e a.at.rules a.at.log a.at.end a.at.rest b a.at.follows)
     by (inr a) (inr b) = behind_once bytes d e a b
 
 -- ---- transcripts
@@ -369,7 +362,7 @@ no_damage bytes rules opening log end d is x = by (damage_fails bytes d x)
     by : FailsFirst bytes d ⊎ FailsBehind bytes d → ⊥
     by (inl a) = first_good bytes d rules log end [] a (followed bytes (whole bytes rules opening log end) (transcript_ends bytes rules opening log end is))
     by (inr a) =
-        let place = split_at bytes a.rules a.log a.end a.rest a.follows in
+        let place = split_of bytes a.at in
         let once = ended_once bytes place (whole bytes rules opening log end) (failure_ends bytes d a) (transcript_ends bytes rules opening log end is) in
         fails_some place d a.fails (ap (λ (z : Split). z.rest) once)
 

@@ -21,7 +21,7 @@ use Rattle.auditor.specs.declared.damage.JudgeFault.TheVariants.{Damaged, Memory
 use Rattle.auditor.specs.declared.summary.Summary.{Summary}
 use Rattle.auditor.specs.Parts.{Opening, Opens, opening_text, size_of}
 use Rattle.auditor.specs.Transcript.{IsTranscript, Comes, disturbances_in, moves_in}
-use Rattle.auditor.specs.Damage.{Follows, BeginsBase, IsLineBehind, HasNoEntry}
+use Rattle.auditor.specs.Damage.{Follows, Beginning, BeginsBase, IsLineBehind, HasNoEntry}
 use Rattle.auditor.specs.Position.{Position, stand_of, position_at, counted_more, counted_part, GoodLine, BadNumber, BadReply, LineJudged, IsFurther}
 use Rattle.auditor.specs.Accepted.{Counts, IsAccepted, IsReached}
 use Rattle.auditor.specs.Reached.{IsMetBehind}
@@ -155,15 +155,14 @@ reached_end bytes rules size p rest r none =
       counts = r.counts;
     }
 
+abbrev beginning : (bytes : List ℕ) (rules : RuleSet) (size : ℕ) (p : Position) (rest : List ℕ) → IsReached bytes rules size p rest → Beginning bytes
+beginning bytes rules size p rest r = record { rules = rules; log = r.log; end = stand_of p; rest = rest; follows = r.follows }
+
 pub damaged_line : (bytes : List ℕ) (rules : RuleSet) (size : ℕ) (p : Position) (rest : List ℕ) (line : ℕ) → IsReached bytes rules size p rest → ((good : List ℕ) → bytes ≡ good ++ rest → IsLineBehind line good) → (BeginsBase rest → ⊥) → HasNoEntry rest (first_line rest) → IsMetBehind bytes p.number (Damaged (NotALine line))
 damaged_line bytes rules size p rest line r line_is other damage last before =
     record {
       is = record {
-        rules = rules;
-        log = r.log;
-        end = stand_of p;
-        rest = rest;
-        follows = r.follows;
+        at = beginning bytes rules size p rest r;
         line_is = line_is r.follows.good r.follows.splits;
         other = other;
         damage = damage;
@@ -175,11 +174,7 @@ damaged_number : (bytes text behind : List ℕ) (rules : RuleSet) (size : ℕ) (
 damaged_number bytes text behind rules size p rest line r line_is cut bad last before =
     record {
       is = record {
-        rules = rules;
-        log = r.log;
-        end = stand_of p;
-        rest = rest;
-        follows = r.follows;
+        at = beginning bytes rules size p rest r;
         line_is = line_is r.follows.good r.follows.splits;
         number = bad.number;
         entry = bad.entry;
@@ -193,11 +188,7 @@ damaged_reply : (bytes text behind : List ℕ) (rules : RuleSet) (size : ℕ) (p
 damaged_reply bytes text behind rules size p rest line r line_is cut bad last before =
     record {
       is = record {
-        rules = rules;
-        log = r.log;
-        end = stand_of p;
-        rest = rest;
-        follows = r.follows;
+        at = beginning bytes rules size p rest r;
         line_is = line_is r.follows.good r.follows.splits;
         entry = bad.entry;
         comes = record { line = text; more = behind; is = cut; spells = bad.spells };
@@ -226,11 +217,7 @@ damaged_base bytes rules size p rest wanted base line len r begins is text parte
     let parting = parted.parting in
     record {
       is = inr (record {
-        rules = rules;
-        log = r.log;
-        end = stand_of p;
-        rest = rest;
-        follows = r.follows;
+        at = beginning bytes rules size p rest r;
         begins = begins;
         parting = record {
           common = parting.common;

@@ -17,7 +17,7 @@ use Rattle.auditor.specs.declared.damage.Damage.TheVariants.{BadHeader, NotALine
 use Rattle.auditor.specs.declared.summary.Summary.{Summary}
 use Rattle.auditor.specs.Parts.{Named, Based, Opens, size_of}
 use Rattle.auditor.specs.Transcript.{Comes, IsTranscript, epoch_count, move_count}
-use Rattle.auditor.specs.Damage.{BeginsBase, Follows, HasBadHeader, HasNoEntry, IsDamage, Parting, SpellsNoHead, SpellsNoHeader, line_feeds}
+use Rattle.auditor.specs.Damage.{Beginning, BeginsBase, HasBadHeader, HasNoEntry, IsDamage, Parting, SpellsNoHead, SpellsNoHeader, line_feeds}
 use Rattle.auditor.specs.Accepted.{IsAccepted}
 use Rattle.auditor.proofs.Steps.{follows_more}
 use Rattle.auditor.proofs.Chains.{entry_line_is, part_some}
@@ -88,31 +88,28 @@ record Neither (bytes : List ℕ) : Type 0 where
   refused : (c : Summary) → IsAccepted bytes c → ⊥
 
 -- something is left, since what there is would be a transcript
-left : (bytes : List ℕ) (rules : RuleSet) (log : List Part) (end : Stand) (rest : List ℕ) → Neither bytes → Follows bytes rules log end rest → rest ≢ []
-left bytes rules log end rest neither follows none =
-    let all : bytes ≡ follows.good = follows.splits ∙ ap (λ (z : List ℕ). follows.good ++ z) none ∙ append-nil follows.good in
-    let entries = entries_in log in
+left : (bytes : List ℕ) (at : Beginning bytes) → Neither bytes → at.rest ≢ []
+left bytes at neither none =
+    let f = at.follows in
+    let all : bytes ≡ f.good = f.splits ∙ ap (λ (z : List ℕ). f.good ++ z) none ∙ append-nil f.good in
+    let entries = entries_in at.log in
     neither.refused (record { entries = length entries; epochs = epoch_count entries; moves = move_count entries }) (record {
-      rules = rules;
-      opening = follows.opening;
-      log = log;
-      end = end;
-      transcript = subst (λ (b : List ℕ). IsTranscript b rules follows.opening log end) (sym all) follows.transcript;
+      rules = at.rules;
+      opening = f.opening;
+      log = at.log;
+      end = at.end;
+      transcript = subst (λ (b : List ℕ). IsTranscript b at.rules f.opening at.log at.end) (sym all) f.transcript;
       counts = record { entries = refl; epochs = refl; moves = refl };
     })
 
-no_line : (bytes : List ℕ) (rules : RuleSet) (log : List Part) (end : Stand) (rest : List ℕ) → Neither bytes → Follows bytes rules log end rest → (BeginsBase rest → ⊥) → HasNoEntry rest (first_line rest) → ⊥
-no_line bytes rules log end rest neither follows other damage =
-    neither.undamaged (NotALine (line_feeds follows.good + 1)) (record { rules = rules; log = log; end = end; rest = rest; follows = follows; line_is = refl; other = other; damage = damage })
+no_line : (bytes : List ℕ) (at : Beginning bytes) → Neither bytes → (BeginsBase at.rest → ⊥) → HasNoEntry at.rest (first_line at.rest) → ⊥
+no_line bytes at neither other damage =
+    neither.undamaged (NotALine (line_feeds at.follows.good + 1)) (record { at = at; line_is = refl; other = other; damage = damage })
 
-no_other_number : (bytes line more : List ℕ) (rules : RuleSet) (log : List Part) (end : Stand) (rest : List ℕ) (number : ℕ) (entry : Entry) → Neither bytes → Follows bytes rules log end rest → first_line rest ≡ Some (line, more) → SpellsEntry line number entry → number ≢ end.count + 1 → ⊥
-no_other_number bytes line more rules log end rest number entry neither follows cut spells other =
-    neither.undamaged (OutOfOrder (line_feeds follows.good + 1)) (record {
-      rules = rules;
-      log = log;
-      end = end;
-      rest = rest;
-      follows = follows;
+no_other_number : (bytes line more : List ℕ) (at : Beginning bytes) (number : ℕ) (entry : Entry) → Neither bytes → first_line at.rest ≡ Some (line, more) → SpellsEntry line number entry → number ≢ at.end.count + 1 → ⊥
+no_other_number bytes line more at number entry neither cut spells other =
+    neither.undamaged (OutOfOrder (line_feeds at.follows.good + 1)) (record {
+      at = at;
       line_is = refl;
       number = number;
       entry = entry;
@@ -120,14 +117,10 @@ no_other_number bytes line more rules log end rest number entry neither follows 
       damage = other;
     })
 
-no_other_reply : (bytes line more : List ℕ) (rules : RuleSet) (log : List Part) (end : Stand) (rest : List ℕ) (entry : Entry) → Neither bytes → Follows bytes rules log end rest → first_line rest ≡ Some (line, more) → SpellsEntry line (end.count + 1) entry → ((s : State) → Answers (table_of rules) end.moment.state end.moment.spent entry.0 entry.1 s → ⊥) → ⊥
-no_other_reply bytes line more rules log end rest entry neither follows cut spells never =
-    neither.undamaged (NotTheMachines (line_feeds follows.good + 1)) (record {
-      rules = rules;
-      log = log;
-      end = end;
-      rest = rest;
-      follows = follows;
+no_other_reply : (bytes line more : List ℕ) (at : Beginning bytes) (entry : Entry) → Neither bytes → first_line at.rest ≡ Some (line, more) → SpellsEntry line (at.end.count + 1) entry → ((s : State) → Answers (table_of at.rules) at.end.moment.state at.end.moment.spent entry.0 entry.1 s → ⊥) → ⊥
+no_other_reply bytes line more at entry neither cut spells never =
+    neither.undamaged (NotTheMachines (line_feeds at.follows.good + 1)) (record {
+      at = at;
       line_is = refl;
       entry = entry;
       comes = record { line = line; more = more; is = cut; spells = spells };
@@ -158,41 +151,51 @@ told_comes rules size line more rest end entry s cut spells answers = record {
   is = first_line-splits rest line more cut ∙ ap (λ (l : List ℕ). l ++ 10 ∷ more) spells.is ∙ sym (entry_line_is (end.count + 1) entry more);
 }
 
-kept_comes : (bytes : List ℕ) (rules : RuleSet) (log : List Part) (end : Stand) (rest : List ℕ) (f : Follows bytes rules log end rest) (x : Begins (base_text rules (size_of f.opening) (base_of end.count end.moment)) rest) → Comes rules (size_of f.opening) end rest (Kept (base_of end.count end.moment)) end x.behind
-kept_comes bytes rules log end rest f x = record { fits = tt; within = f.transcript.not_too_many; steps = (refl, refl); is = x.is }
+-- the text of the base that may come there
+abbrev base_text_at : (bytes : List ℕ) → Beginning bytes → List ℕ
+base_text_at bytes at = base_text at.rules (size_of at.follows.opening) (base_of at.end.count at.end.moment)
+
+kept_comes : (bytes : List ℕ) (at : Beginning bytes) (x : Begins (base_text_at bytes at) at.rest) → Comes at.rules (size_of at.follows.opening) at.end at.rest (Kept (base_of at.end.count at.end.moment)) at.end x.behind
+kept_comes bytes at x = record { fits = tt; within = at.follows.transcript.not_too_many; steps = (refl, refl); is = x.is }
 
 -- a part comes that the machine may have given
-next_part : (bytes : List ℕ) (rules : RuleSet) (log : List Part) (end : Stand) (rest : List ℕ) → Neither bytes → (f : Follows bytes rules log end rest) → ((part : Part) (next : Stand) (behind : List ℕ) → Comes rules (size_of f.opening) end rest part next behind → ⊥) → ⊥
-next_part bytes rules log end rest neither f none = by (first_line rest) refl
+next_part : (bytes : List ℕ) (at : Beginning bytes) → Neither bytes → ((part : Part) (next : Stand) (behind : List ℕ) → Comes at.rules (size_of at.follows.opening) at.end at.rest part next behind → ⊥) → ⊥
+next_part bytes at neither none = by (first_line at.rest) refl
   where
-    same_base : BeginsBase rest → Begins (base_text rules (size_of f.opening) (base_of end.count end.moment)) rest ⊎ Parting (base_text rules (size_of f.opening) (base_of end.count end.moment)) rest → ⊥
-    same_base begins (inl x) = none (Kept (base_of end.count end.moment)) end x.behind (kept_comes bytes rules log end rest f x)
+    same_base : BeginsBase at.rest → Begins (base_text_at bytes at) at.rest ⊎ Parting (base_text_at bytes at) at.rest → ⊥
+    same_base begins (inl x) = none (Kept (base_of at.end.count at.end.moment)) at.end x.behind (kept_comes bytes at x)
     same_base begins (inr p) =
-        neither.undamaged (BadBase (line_feeds (f.good ++ p.common) + 1)) (inr (record { rules = rules; log = log; end = end; rest = rest; follows = f; begins = begins; parting = p; line_is = refl }))
+        neither.undamaged (BadBase (line_feeds (at.follows.good ++ p.common) + 1)) (inr (record { at = at; begins = begins; parting = p; line_is = refl }))
 
-    no_base : BeginsBase rest → ⊥
-    no_base begins = same_base begins (begins_or_parts (base_text rules (size_of f.opening) (base_of end.count end.moment)) rest)
+    no_base : BeginsBase at.rest → ⊥
+    no_base begins = same_base begins (begins_or_parts (base_text_at bytes at) at.rest)
 
-    no_entry : (line more : List ℕ) → first_line rest ≡ Some (line, more) → (number : ℕ) (entry : Entry) → SpellsEntry line number entry → ⊥
+    no_entry : (line more : List ℕ) → first_line at.rest ≡ Some (line, more) → (number : ℕ) (entry : Entry) → SpellsEntry line number entry → ⊥
     no_entry line more cut number entry spells =
-        no_other_number bytes line more rules log end rest number entry neither f cut spells (λ same.
+        no_other_number bytes line more at number entry neither cut spells (λ same.
         let next = subst (λ (n : ℕ). SpellsEntry line n entry) same spells in
-        no_other_reply bytes line more rules log end rest entry neither f cut next (λ s answers.
-        none (Told entry) (told_to s end entry) more (told_comes rules (size_of f.opening) line more rest end entry s cut next answers)))
+        no_other_reply bytes line more at entry neither cut next (λ s answers.
+        none (Told entry) (told_to s at.end entry) more (told_comes at.rules (size_of at.follows.opening) line more at.rest at.end entry s cut next answers)))
 
-    by : (found : Option (List ℕ × List ℕ)) → first_line rest ≡ found → ⊥
+    by : (found : Option (List ℕ × List ℕ)) → first_line at.rest ≡ found → ⊥
     by None cut =
-        no_line bytes rules log end rest neither f no_base (subst (λ (found : Option (List ℕ × List ℕ)). HasNoEntry rest found) (sym cut) (left bytes rules log end rest neither f))
+        no_line bytes at neither no_base (subst (λ (found : Option (List ℕ × List ℕ)). HasNoEntry at.rest found) (sym cut) (left bytes at neither))
     by (Some (line, more)) cut =
-        no_line bytes rules log end rest neither f no_base (subst (λ (found : Option (List ℕ × List ℕ)). HasNoEntry rest found) (sym cut) (no_entry line more cut))
+        no_line bytes at neither no_base (subst (λ (found : Option (List ℕ × List ℕ)). HasNoEntry at.rest found) (sym cut) (no_entry line more cut))
 
 -- There is always a further part: the text would have no end.
-walk : (fuel : ℕ) (bytes : List ℕ) (rules : RuleSet) (log : List Part) (end : Stand) (rest : List ℕ) → length rest ≤ fuel → Neither bytes → Follows bytes rules log end rest → ⊥
-walk zero bytes rules log end rest few neither follows = left bytes rules log end rest neither follows (nil_from_length rest (omega (arith, few)))
-walk (suc fuel) bytes rules log end rest few neither follows =
-    next_part bytes rules log end rest neither follows (λ part next behind comes.
-    walk fuel bytes rules (log ++ part ∷ []) next behind (comes_shorter rules (size_of follows.opening) end rest part next behind fuel comes few) neither
-    (follows_more bytes rest behind rules log end next part follows comes))
+walk : (fuel : ℕ) (bytes : List ℕ) (at : Beginning bytes) → length at.rest ≤ fuel → Neither bytes → ⊥
+walk zero bytes at few neither = left bytes at neither (nil_from_length at.rest (omega (arith, few)))
+walk (suc fuel) bytes at few neither =
+    next_part bytes at neither (λ part next behind comes.
+    walk fuel bytes
+    (record {
+      rules = at.rules;
+      log = at.log ++ part ∷ [];
+      end = next;
+      rest = behind;
+      follows = follows_more bytes at.rest behind at.rules at.log at.end next part at.follows comes;
+    }) (comes_shorter at.rules (size_of at.follows.opening) at.end at.rest part next behind fuel comes few) neither)
 
 -- ---- how it begins
 
@@ -201,8 +204,8 @@ no_header : (bytes line rest : List ℕ) (rules : RuleSet) (size count : ℕ) �
 no_header bytes line rest rules size count neither cut spells =
     let start : Stand = record { moment = beginning_with size count; count = 0 } in
     let opens : Opens rules (Named size count) start = record { fits = record { few = spells.few; within = spells.within }; begins = refl; count = refl } in
-    walk (length rest) bytes rules [] start rest (omega arith) neither
-    (opened_follows bytes rest rules (Named size count) start opens (omega arith) (header_splits bytes line rest rules size count cut spells))
+    let follows = opened_follows bytes rest rules (Named size count) start opens (omega arith) (header_splits bytes line rest rules size count cut spells) in
+    walk (length rest) bytes (record { rules = rules; log = []; end = start; rest = rest; follows = follows }) (omega arith) neither
 
 -- nor does a base
 no_head : (bytes line rest : List ℕ) (rules : RuleSet) (size : ℕ) → Neither bytes → first_line bytes ≡ Some (line, rest) → size ≤ 65535 → line ≡ base_head rules size → ⊥
@@ -211,8 +214,8 @@ no_head bytes line rest rules size neither cut few head =
     base_or_breaks rest
     (λ base more shaped is.
     neither.undamaged (BadBase 2) (nowhere bytes rest more rules size base few first shaped is (λ start opens.
-    walk (length more) bytes rules [] start more (omega arith) neither
-    (opened_follows bytes more rules (Based size base) start opens (omega (arith, opens.count, opens.fits.number)) (base_splits bytes rest more rules size base first is))) None).is)
+    let follows = opened_follows bytes more rules (Based size base) start opens (omega (arith, opens.count, opens.fits.number)) (base_splits bytes rest more rules size base first is) in
+    walk (length more) bytes (record { rules = rules; log = []; end = start; rest = more; follows = follows }) (omega arith) neither) None).is)
     (λ k breaks. neither.undamaged (BadBase (k + 1)) (broken bytes rest rules size k few first breaks None).is)
 
 begins : (bytes : List ℕ) → Neither bytes → (found : Option (List ℕ × List ℕ)) → first_line bytes ≡ found → ⊥

@@ -51,6 +51,14 @@ pub record Follows (bytes : List ℕ) (rules : RuleSet) (log : List Part) (end :
   pub transcript : IsTranscript good rules opening log end
   pub splits : bytes ≡ good ++ rest
 
+-- a transcript that the bytes begin with, and the rest behind it
+pub record Beginning (bytes : List ℕ) : Type 0 where
+  pub rules : RuleSet
+  pub log : List Part
+  pub end : Stand
+  pub rest : List ℕ
+  pub follows : Follows bytes rules log end rest
+
 -- the first line behind a transcript is the entry with this number
 pub record EntryComes (rest : List ℕ) (number : ℕ) (entry : Entry) : Type 0 where
   pub line : List ℕ
@@ -64,39 +72,27 @@ IsLineBehind line good = line ≡ line_feeds good + 1
 
 -- the first line behind a transcript is no entry, and no base begins there
 pub record EndsInNoLine (bytes : List ℕ) (line : ℕ) : Type 0 where
-  pub rules : RuleSet
-  pub log : List Part
-  pub end : Stand
-  pub rest : List ℕ
-  pub follows : Follows bytes rules log end rest
-  pub line_is : IsLineBehind line follows.good
-  pub other : BeginsBase rest → ⊥
-  pub damage : HasNoEntry rest (first_line rest)
+  pub at : Beginning bytes
+  pub line_is : IsLineBehind line at.follows.good
+  pub other : BeginsBase at.rest → ⊥
+  pub damage : HasNoEntry at.rest (first_line at.rest)
 
 -- it is an entry with another number than the next
 pub record EndsOutOfOrder (bytes : List ℕ) (line : ℕ) : Type 0 where
-  pub rules : RuleSet
-  pub log : List Part
-  pub end : Stand
-  pub rest : List ℕ
-  pub follows : Follows bytes rules log end rest
-  pub line_is : IsLineBehind line follows.good
+  pub at : Beginning bytes
+  pub line_is : IsLineBehind line at.follows.good
   pub number : ℕ
   pub entry : Entry
-  pub comes : EntryComes rest number entry
-  pub damage : number ≢ end.count + 1
+  pub comes : EntryComes at.rest number entry
+  pub damage : number ≢ at.end.count + 1
 
 -- it is the next entry, and the machine may not give its reply
 pub record EndsNotTheMachines (bytes : List ℕ) (line : ℕ) : Type 0 where
-  pub rules : RuleSet
-  pub log : List Part
-  pub end : Stand
-  pub rest : List ℕ
-  pub follows : Follows bytes rules log end rest
-  pub line_is : IsLineBehind line follows.good
+  pub at : Beginning bytes
+  pub line_is : IsLineBehind line at.follows.good
   pub entry : Entry
-  pub comes : EntryComes rest (end.count + 1) entry
-  pub damage : (s : State) → Answers (table_of rules) end.moment.state end.moment.spent entry.0 entry.1 s → ⊥
+  pub comes : EntryComes at.rest (at.end.count + 1) entry
+  pub damage : (s : State) → Answers (table_of at.rules) at.end.moment.state at.end.moment.spent entry.0 entry.1 s → ⊥
 
 -- how far two texts are the same, where the bytes do not begin with the text
 pub record Parting (text bytes : List ℕ) : Type 0 where
@@ -110,14 +106,10 @@ pub record Parting (text bytes : List ℕ) : Type 0 where
 
 -- behind a transcript a base comes, which is not that of where it stands: the line is the first that differs
 pub record EndsInBadBase (bytes : List ℕ) (line : ℕ) : Type 0 where
-  pub rules : RuleSet
-  pub log : List Part
-  pub end : Stand
-  pub rest : List ℕ
-  pub follows : Follows bytes rules log end rest
-  pub begins : BeginsBase rest
-  pub parting : Parting (base_text rules (size_of follows.opening) (base_of end.count end.moment)) rest
-  pub line_is : IsLineBehind line (follows.good ++ parting.common)
+  pub at : Beginning bytes
+  pub begins : BeginsBase at.rest
+  pub parting : Parting (base_text at.rules (size_of at.follows.opening) (base_of at.end.count at.end.moment)) at.rest
+  pub line_is : IsLineBehind line (at.follows.good ++ parting.common)
 
 -- the lines behind the first are no base's, from this one of them on
 pub record BreaksOff (rest : List ℕ) (line : ℕ) : Type 0 where

@@ -79,10 +79,10 @@ base_looked_at last count (inr ends) = IsBefore last (count ends)
 -- the damage stands in what the transcript begins with, or behind fewer entries than were asked for
 abbrev pub IsLookedAt : (bytes : List ℕ) → Option ℕ → (d : Damage) → IsDamage bytes d → Type 0
 IsLookedAt bytes last BadHeader damage = Unit {0}
-IsLookedAt bytes last (NotALine line) damage = IsBefore last damage.end.count
-IsLookedAt bytes last (OutOfOrder line) damage = IsBefore last damage.end.count
-IsLookedAt bytes last (NotTheMachines line) damage = IsBefore last damage.end.count
-IsLookedAt bytes last (BadBase line) damage = base_looked_at last (λ ends. ends.end.count) damage
+IsLookedAt bytes last (NotALine line) damage = IsBefore last damage.at.end.count
+IsLookedAt bytes last (OutOfOrder line) damage = IsBefore last damage.at.end.count
+IsLookedAt bytes last (NotTheMachines line) damage = IsBefore last damage.at.end.count
+IsLookedAt bytes last (BadBase line) damage = base_looked_at last (λ ends. ends.at.end.count) damage
 
 -- the first damage, in a line that is looked at
 pub record IsMetDamage (bytes : List ℕ) (last : Option ℕ) (damage : Damage) : Type 0 where
