@@ -20,10 +20,9 @@ use Rattle.auditor.specs.declared.damage.Damage.{Damage}
 use Rattle.auditor.specs.declared.damage.Damage.TheVariants.{BadHeader, NotALine, OutOfOrder, NotTheMachines, BadBase}
 use Rattle.auditor.specs.declared.summary.Summary.{Summary}
 use Rattle.auditor.specs.Parts.{Opening, size_of}
-use Rattle.auditor.specs.Transcript.{IsTranscript, Comes, epoch_count, move_count}
+use Rattle.auditor.specs.Transcript.{IsTranscript, SameRun, Comes, epoch_count, move_count}
 use Rattle.auditor.specs.Damage.{Follows, Beginning, EntryComes, BeginsBase, Parting, IsLineBehind, HasNoEntry, HasBadHeader, HasBadStart, EndsInBadBase, IsDamage}
 use Rattle.auditor.specs.Accepted.{Counts, IsAccepted}
-use Rattle.auditor.specs.Once.{SameRun}
 use Rattle.auditor.proofs.Feedless.{entry_free}
 use Rattle.auditor.proofs.Chains.{BeginsOther, Chain, Stops, chain_of, chain_meet, entry_other, nothing_stops, other_no_base, told_spells, told_is}
 use Rattle.auditor.proofs.Openings.{SameOpening, first_line-free, follows_text, opening_once, parts_behind, header_good, start_good, header_no_start, start_once_bad}

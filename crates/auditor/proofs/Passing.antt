@@ -16,10 +16,9 @@ use Rattle.auditor.specs.declared.damage.JudgeFault.TheVariants.{Damaged}
 use Rattle.auditor.specs.declared.replay.Replay.{Replay}
 use Rattle.auditor.specs.Damage.{BeginsBase, HasBadHeader, HasNoEntry, SpellsNoHead, SpellsNoHeader, line_feeds}
 use Rattle.auditor.specs.Parts.{Based, Opens}
-use Rattle.auditor.specs.Parted.{AreSameUpTo, ArePartedAt}
 use Rattle.auditor.specs.Position.{GoodLine, IsFurther, LineJudged, Position, stand_of}
 use Rattle.auditor.specs.Reached.{IsMetBehind, IsMetFirst}
-use Rattle.auditor.specs.Replays.{HasCutStart, IsAt, IsCompared, IsMetAt, IsPassed, IsUnended, Waits, Wants, base_wanted}
+use Rattle.auditor.specs.Replays.{AreSameUpTo, ArePartedAt, HasCutStart, IsAt, IsCompared, IsMetAt, IsPassed, IsUnended, Waits, Wants, base_wanted}
 use Rattle.auditor.proofs.Opened.{broken, nowhere}
 use Rattle.auditor.proofs.Reaching.{base_further, damaged, damaged_base, damaged_line, entry_further}
 use Rattle.auditor.proofs.Windows.{begins_less, begins_more, breaks_last, breaks_more, feeds_append, feeds_behind, first_line-more, no_line_no_feed, one_feed, part_more, same_end, same_whole}

@@ -14,7 +14,7 @@ use Rattle.entry_grammar.proofs.Cutting.{first_line-splits}
 use Rattle.entry_grammar.proofs.FirstLines.{line_free}
 use Rattle.entry_grammar.proofs.Free.{cons_parts, free_by}
 use Rattle.auditor.specs.Damage.{BeginsBase, line_feeds}
-use Rattle.auditor.specs.Parted.{AreSameUpTo, ArePartedAt}
+use Rattle.auditor.specs.Replays.{AreSameUpTo, ArePartedAt}
 use Rattle.auditor.proofs.Counted.{PartAt, feeds_few, feeds_first, part_inside}
 use Rattle.auditor.proofs.Openings.{first_line-free}
 

@@ -2,10 +2,8 @@ pub mod Parts
 pub mod Transcript
 pub mod Damage
 pub mod Position
-pub mod Parted
 pub mod Accepted
 pub mod Verdict
-pub mod Once
 pub mod Reached
 pub mod Replays
 pub mod Epochs

@@ -1,5 +1,5 @@
 -- How far the code is that goes through a transcript, of which it keeps no more than what follows.
-use Rattle.std.specs.Prelude.{◌≡◌, ◌≢◌, ℕ, ◌+◌, ◌<◌, ◌≤◌, ◌^◌, ◌⊎◌, List, [], ◌++◌, length, Option, None, Some, Err}
+use Rattle.std.specs.Prelude.{◌≡◌, ◌≢◌, ℕ, ◌+◌, ◌<◌, ◌≤◌, ◌^◌, ◌⊎◌, List, [], ◌++◌, length, take, slice_index, Option, None, Some, Err}
 use Rattle.rule_machine.specs.declared.rules.RuleSet.{RuleSet}
 use Rattle.rule_machine.specs.Base.{base_of}
 use Rattle.line_text.specs.BaseText.{base_head, base_text}
@@ -10,10 +10,19 @@ use Rattle.auditor.specs.declared.judging.Trial.{Trial}
 use Rattle.auditor.specs.declared.replay.Replay.{Replay}
 use Rattle.auditor.specs.Accepted.{IsReached}
 use Rattle.auditor.specs.Damage.{BeginsBase, line_feeds}
-use Rattle.auditor.specs.Parted.{AreSameUpTo}
 use Rattle.auditor.specs.Position.{IsFurther, stand_of}
 use Rattle.auditor.specs.Reached.{IsMetBehind, IsOpened}
 use Rattle.auditor.specs.Verdict.{IsJudged}
+
+-- two texts are the same so far
+pub record AreSameUpTo (text bytes : List ℕ) (len : ℕ) : Type 0 where
+  pub within : len ≤ length text
+  pub inside : len ≤ length bytes
+  pub alike : take len text ≡ take len bytes
+
+-- and if both go on, then with another byte each
+abbrev pub ArePartedAt : List ℕ → List ℕ → ℕ → Type 0
+ArePartedAt text bytes len = len < length text → len < length bytes → slice_index text len ≢ slice_index bytes len
 
 -- The bytes begin with the transcript of a run that has led to where the replay is, its lines were counted, and the rest follows.
 pub record IsAt (bytes : List ℕ) (replay : Replay) (rest : List ℕ) : Type 0 where

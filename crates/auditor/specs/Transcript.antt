@@ -31,6 +31,13 @@ pub record IsTranscript (bytes : List ℕ) (rules : RuleSet) (opening : Opening)
   pub not_too_many : end.count ≤ max_entries
   pub passes : Passes (table_of rules) start log end
 
+-- two runs are one: the rule set, what the transcript begins with, its parts and its end are the same
+pub record SameRun (r q : RuleSet) (o p : Opening) (log also : List Part) (end last : Stand) : Type 0 where
+  pub rules : r ≡ q
+  pub openings : o ≡ p
+  pub parts : log ≡ also
+  pub ends : end ≡ last
+
 -- From a stand the text goes on with this part, which leads to the next stand, and the rest follows.
 pub record Comes (rules : RuleSet) (size : ℕ) (at : Stand) (rest : List ℕ) (part : Part) (next : Stand) (behind : List ℕ) : Type 0 where
   pub fits : IsPart part

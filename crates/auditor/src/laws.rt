@@ -6,10 +6,9 @@ ghost use Rattle.rule_machine.specs.Base.{Part, Stand};
 ghost use Rattle.auditor.specs.declared.damage.Damage.{Damage};
 ghost use Rattle.auditor.specs.declared.summary.Summary.{Summary};
 ghost use Rattle.auditor.specs.Parts.{Opening};
-ghost use Rattle.auditor.specs.Transcript.{IsTranscript};
+ghost use Rattle.auditor.specs.Transcript.{IsTranscript, SameRun};
 ghost use Rattle.auditor.specs.Damage.{IsDamage};
 ghost use Rattle.auditor.specs.Accepted.{IsAccepted};
-ghost use Rattle.auditor.specs.Once.{SameRun};
 
 /// A text is the transcript of one run at most: the rule set, the header or the base that it begins with, the entries and the
 /// bases among them, and where the machine is at the end are determined by the bytes.

@@ -2,7 +2,7 @@
 
 ghost use Rattle.std.specs.Prelude.{◌≡◌, ◌≤◌, ℕ, List, ◌++◌, length, take};
 ghost use Rattle.auditor.specs.Damage.{line_feeds};
-ghost use Rattle.auditor.specs.Parted.{AreSameUpTo, ArePartedAt};
+ghost use Rattle.auditor.specs.Replays.{AreSameUpTo, ArePartedAt};
 
 /// How many lines end in the bytes. One look at each byte.
 pub(crate) fn line_feeds(bytes: &[u8]) -> u64

@@ -3,8 +3,7 @@ use Rattle.std.proofs.lemmas.List.{length-drop, take_all}
 use Rattle.std.proofs.Math.Logic.{∥∥₁_elim}
 use Rattle.std.proofs.Props.{props}
 use Rattle.auditor.specs.Damage.{line_feeds}
-use Rattle.auditor.specs.Parted.{AreSameUpTo, ArePartedAt}
-use Rattle.auditor.specs.Replays.{IsPassed}
+use Rattle.auditor.specs.Replays.{AreSameUpTo, ArePartedAt, IsPassed}
 use Rattle.auditor.proofs.Counted.{feeds_few}
 use Rattle.auditor.proofs.Going.{somewhere_few}
 use Rattle.auditor.proofs.Passing.{base_damaged, base_passed, base_waits, wanted_still, wants_made}
