@@ -4,7 +4,7 @@ use Rattle.std.proofs.Math.Seq.{take-append_seam}
 use Rattle.std.proofs.lemmas.List.{length-append}
 use Rattle.rudekpi_c.specs.declared.session.Session.{Session}
 use Rattle.rudekpi_c.specs.Session.{stands, rules_of, limit_of, shown, GoesOn}
-use Rattle.rudekpi_c.specs.Slot.{Handed, text_length}
+use Rattle.rudekpi_c.specs.Slot.{Handed}
 
 stays : (s : Session) → GoesOn s s
 stays s = record { rules = refl; limit = refl; keeps = refl }
@@ -34,7 +34,3 @@ handed_all rest {new = new} {s = s} {t = t} {text = text} {copied = copied} was 
         none = λ less. absurd (omega (arith, less, room, long));
       },
     )
-
--- how long the text is
-pub long_as : {old : Option Session} {s : Session} {text : List ℕ} → old ≡ Some s → text ≡ (stands s).text → length text ≡ text_length old
-long_as {old} {s} {text} was same = ap length same ∙ ap text_length (sym was)

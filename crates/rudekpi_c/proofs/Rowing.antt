@@ -1,25 +1,8 @@
--- Items that are gone through one after another.
+-- Rows that are written one after another.
 use Rattle.std.proofs.Common.{◌≡◌, ◌∙◌, ℕ, suc, ◌+◌, ◌<◌, ◌≤◌, List, [], ◌∷◌, ◌++◌, map, take, drop, set, length, get_or, sym, ap, subst, arith, append_assoc}
 use Rattle.std.proofs.Math.Seq.{drop-cons, set-append_seam}
 use Rattle.std.proofs.lemmas.List.{map_more, length-map, length-take-le}
-use Rattle.std.specs.List.{AllByRecursion}
 
--- what is said of all that are left is said of the next, and of those behind it
-pub all_next : {X Y : Type 0} (P : Y → Type 0) (f : X → Y) (xs : List X) (i : ℕ) (d : X) → i < length xs
-    → AllByRecursion P (map f (drop i xs)) → P (f (get_or xs i d)) × AllByRecursion P (map f (drop (i + 1) xs))
-all_next P f xs i d less all =
-    let more : suc i ≡ i + 1 = omega arith in
-    let rest : map f (drop i xs) ≡ f (get_or xs i d) ∷ map f (drop (suc i) xs) = ap (map f) (drop-cons xs i d less) in
-    subst (λ n. P (f (get_or xs i d)) × AllByRecursion P (map f (drop n xs))) more (subst (AllByRecursion P) rest all)
-
-pub all_with : {X Y : Type 0} (P : Y → Type 0) (f : X → Y) (xs : List X) (i : ℕ) (d : X) → i < length xs
-    → P (f (get_or xs i d)) → AllByRecursion P (map f (drop (i + 1) xs)) → AllByRecursion P (map f (drop i xs))
-all_with P f xs i d less one others =
-    let more : i + 1 ≡ suc i = omega arith in
-    let rest : map f (drop i xs) ≡ f (get_or xs i d) ∷ map f (drop (suc i) xs) = ap (map f) (drop-cons xs i d less) in
-    subst (AllByRecursion P) (sym rest) (one, subst (λ n. AllByRecursion P (map f (drop n xs))) more others)
-
--- one more item's row is written
 pub row_more : {X Y : Type 0} (row : X → Y) (xs : List X) (ys : List Y) (i : ℕ) (x : X) → i < length xs → length xs ≤ length ys → x ≡ get_or xs i x
     → set (map row (take i xs) ++ drop i ys) i (row x) ≡ map row (take (i + 1) xs) ++ drop (i + 1) ys
 row_more {X = X} row xs ys i x less room is =
