@@ -6,7 +6,6 @@ pub mod Counted
 pub mod Held
 pub mod Judged
 pub mod Looked
-pub mod Rows
 pub mod Session
 pub mod Slot
 pub mod Told

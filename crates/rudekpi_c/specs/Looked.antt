@@ -2,9 +2,8 @@
 use Rattle.std.specs.Prelude.{◌≡◌, ◌⊎◌, ℕ, Bool, List, [], Option, None, Some}
 use Rattle.rule_machine.specs.State.{partner}
 use Rattle.line_text.specs.Words.{IsName}
-use Rattle.rudekpi_c.specs.Rows.{number_of}
 use Rattle.rudekpi_c.specs.Session.{stands, rules_of, limit_of, shown}
-use Rattle.rudekpi_c.specs.Told.{rows_of}
+use Rattle.rudekpi_c.specs.Told.{number_of, rows_of}
 use Rattle.rudekpi_c.specs.declared.row.Row.{Row}
 use Rattle.rudekpi_c.specs.declared.session.Session.{Session}
 

@@ -1,11 +1,36 @@
 -- A reply in numbers.
-use Rattle.std.specs.Prelude.{ℕ, List, [], map, length}
+use Rattle.std.specs.Prelude.{ℕ, Option, None, Some, List, [], map, length}
+use Rattle.rule_machine.specs.declared.act.Act.{Act}
+use Rattle.rule_machine.specs.declared.act.Act.TheVariants.{Update, Marry, Seduce, Abandon}
+use Rattle.rule_machine.specs.declared.act.Moved.{Moved}
 use Rattle.rule_machine.specs.declared.reply.Reply.{Reply}
 use Rattle.rule_machine.specs.declared.reply.Reply.TheVariants.{Refused, Moves, Shown, EnabledAre, Pairs}
 use Rattle.rule_machine.specs.Refuse.{refusal_number}
 use Rattle.rudekpi_c.specs.declared.row.Row.{Row}
 use Rattle.rudekpi_c.specs.declared.told.Told.{Told}
-use Rattle.rudekpi_c.specs.Rows.{number_of, move_row, enabled_row, pair_row}
+
+-- a name, or 0 for none
+abbrev pub number_of : Option ℕ → ℕ
+number_of None = 0
+number_of (Some w) = w
+
+abbrev pub rule_number : Act → ℕ
+rule_number Update = 1
+rule_number Marry = 2
+rule_number Seduce = 3
+rule_number Abandon = 4
+
+-- a move: who, by which rule, and where it points now
+abbrev pub move_row : Moved → Row
+move_row m = record { node = m.node; rule = rule_number m.act; other = number_of m.target }
+
+-- an enabled node and its rule
+abbrev pub enabled_row : ℕ × Act → Row
+enabled_row e = record { node = e.0; rule = rule_number e.1; other = 0 }
+
+-- a pair, the lower name first
+abbrev pub pair_row : ℕ × ℕ → Row
+pair_row p = record { node = p.0; rule = 0; other = p.1 }
 
 -- why it was refused, or 0
 abbrev pub refusal_in : Reply → ℕ

@@ -1,8 +1,7 @@
 //! What C is told of a command.
 
 ghost use Rattle.std.specs.Prelude.{◌≡◌, ◌≤◌, ◌++◌, ◌<◌, length, map, drop};
-ghost use Rattle.rudekpi_c.specs.Told.{told_of, untold, refusal_in, target_in, rows_of};
-ghost use Rattle.rudekpi_c.specs.Rows.{number_of};
+ghost use Rattle.rudekpi_c.specs.Told.{told_of, untold, number_of, refusal_in, target_in, rows_of};
 
 use crate::row::{Row, put_rows};
 use rule_machine::{Node, Reply};
