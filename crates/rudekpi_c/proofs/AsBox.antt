@@ -1,7 +1,8 @@
--- The boxes of a session and of an audit, at whose types their parts and their handles own what they own.
-use mir.Syntax.{impl, tnil, dnil}
+-- The boxes of a session and of an audit, and what a box is taken apart into.
+use mir.Syntax.{Sym, Ty, impl, ty_struct, ty_ptr, tcons, tnil, dnil}
 use mathlib.Core.List.{[]}
-use denote.Signature.{Slot, plain}
+use denote.RattleType.{RattleType}
+use Rattle.core.proofs.alloc.Calls.{Al, α}
 use Rattle.std_alloc.proofs.BoxSteps.Form.{Bx}
 use Rattle.std_heap.specs.contracts.Global as heap
 use Rattle.std_heap.specs.contracts.GlobalAllocator.TheImpl.{ghosts, dict}
@@ -11,35 +12,19 @@ use Rattle.auditor.proofs.pieces.PieceAudit.TheLaws as audit_laws
 use Rattle.rudekpi_c.specs.contracts.session.Session as session
 use Rattle.rudekpi_c.proofs.session.Session.TheLaws as session_laws
 use Rattle.rudekpi_c.specs.contracts.parts.Parts as parts
-use Rattle.rudekpi_c.specs.contracts.handle.Handle as handle
-use Rattle.rudekpi_c.specs.contracts.audit_slot.AuditHandle as audit_handle
+
+abbrev global : Al
+global = record { row = heap.the_row; laws = heap_laws.the_row_laws; g = ghosts; d = dict; drops = impl [] tnil dnil }
 
 abbrev pub session_box : Bx
-session_box = record {
-  row = session.the_row;
-  laws = session_laws.the_row_laws;
-  al = record { row = heap.the_row; laws = heap_laws.the_row_laws; g = ghosts; d = dict; drops = impl [] tnil dnil };
-}
+session_box = record { row = session.the_row; laws = session_laws.the_row_laws; al = global }
 
 abbrev pub audit_box : Bx
-audit_box = record {
-  row = audit.the_row;
-  laws = audit_laws.the_row_laws;
-  al = record { row = heap.the_row; laws = heap_laws.the_row_laws; g = ghosts; d = dict; drops = impl [] tnil dnil };
-}
+audit_box = record { row = audit.the_row; laws = audit_laws.the_row_laws; al = global }
 
--- what a function takes that is given the parts, the handle, an allocator
-abbrev pub takes_parts : Slot 0
-takes_parts = plain (λ _. parts.the_row session.the_row heap.the_row ghosts)
+abbrev pub parts_of : Bx → RattleType
+parts_of E = parts.the_row E.row E.al.row E.al.g
 
-abbrev pub takes_handle : Slot 0
-takes_handle = plain (λ _. handle.the_row)
-
-abbrev pub takes_audit_parts : Slot 0
-takes_audit_parts = plain (λ _. parts.the_row audit.the_row heap.the_row ghosts)
-
-abbrev pub takes_audit_handle : Slot 0
-takes_audit_handle = plain (λ _. audit_handle.the_row)
-
-abbrev pub takes_allocator : Slot 0
-takes_allocator = plain (λ _. heap.the_row)
+-- a struct of an address and the allocator, by its name
+abbrev pub pair : Bx → Sym → Ty
+pair E name = ty_struct name (tcons ty_ptr (tcons (α E.al) tnil))

@@ -1,4 +1,6 @@
 mod AsBox
+mod Moving
+mod Nulling
 mod Walks
 pub mod Auditing
 pub mod Calling

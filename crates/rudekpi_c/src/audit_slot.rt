@@ -1,4 +1,4 @@
-//! Where C keeps an audit that it feeds.
+//! Where C keeps an audit that it feeds. What C sees has no type parameter, so this stands beside where it keeps a session.
 
 ghost use Rattle.std.specs.Prelude.{◌≡◌, ◌↔◌, None, Some, Option, IsTrue, IsNone, IfSome};
 ghost use Rattle.auditor.specs.declared.pieces.PieceAudit.{PieceAudit};

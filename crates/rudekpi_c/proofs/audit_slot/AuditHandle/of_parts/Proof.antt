@@ -1,44 +1,23 @@
 -- `of_parts` moves two fields, and what the parts own goes with them.
-use Rattle.rudekpi_c.proofs.Walks.{refl, sym, subst, List, [], ◌∷◌, ◌++◌, Ura, Val, SProp, ent, emp, id⊢, ftrue, fsep, Fun, tables, tables_of, Memory, Routine, WpFn, Tables, WpFn-mono, Logic, Item, ‵, raw, ◌⊛◌, ◌$◌, ◌∵◌, !, qed, by, move, drop, use1, join, split, fsplit, fjoin, suffices, done, whole, sub, agg, stop, fld, no_more, and_then, of_opd, returns, enter, alloc_all, pass_all, free_all, look_at, get, get_in, sets, yes, type_at, nothing, triple_of, entered, says, Stays, stay_dropped, walk_of, ends_at, Goes-dropped, walk_Meets, D, B, word, box_typed, box_out, box_in}
-use types.Kit as kit
+use Rattle.rudekpi_c.proofs.Walks.{◌≡◌, refl, emp, id⊢, fact_i, tables, tables_of}
 use Rattle.std.specs.Prelude.{Some}
-use Rattle.rudekpi_c.proofs.AsBox.{audit_box, takes_audit_parts}
-use Rattle.rudekpi_c.specs.contracts.audit_slot.AuditHandle.of_parts as F
+use Rattle.rudekpi_c.specs.contracts.audit_slot.AuditHandle as handle
+use Rattle.rudekpi_c.proofs.AsBox.{audit_box, parts_of}
+use Rattle.rudekpi_c.proofs.Moving.{moves}
 use Rattle.rudekpi_c.specs.contracts.audit_slot.AuditHandle.of_parts.Key.{name as #self}
 use Rattle.rudekpi_c.proofs.audit_slot.AuditHandle.of_parts.Statement as stated
 use Rattle.rudekpi_c.proofs.audit_slot.AuditHandle.of_parts.Code as code
 
-abbrev stayed : Stays (F.ended).signature.params (F.ended).kept
-stayed = (stay_dropped takes_audit_parts yes, tt)
-
-module _ {M : Type 1} {𝓤 : Ura M} (𝓛 : Logic 𝓤) (at_mem : Memory → SProp 𝓤) (run : Routine → Fun 𝓤) (𝓣 : Tables 𝓤 𝓛.H) where
-  open 𝓛 use {H}
-
-  walk : (z : (walk_of 𝓛 F.ended stayed (F.clauses 𝓛 at_mem run)).Ghost)
-      → ent 𝓤 ((walk_of 𝓛 F.ended stayed (F.clauses 𝓛 at_mem run)).pre z) (WpFn 𝓤 H 𝓣.C 𝓣.Λ code.function (z.0.4.0 ++ []) ((walk_of 𝓛 F.ended stayed (F.clauses 𝓛 at_mem run)).post z))
-  walk z =
-      let Post = (walk_of 𝓛 F.ended stayed (F.clauses 𝓛 at_mem run)).post z in
-      let v : D audit_box = record { ptr = z.0.3.0.at; alloc = z.0.3.0.alloc; value = z.0.3.0.value } in
-      let To = type_at (F.signature).result tt in
-      let made : To.Denot = record { at = v.ptr; alloc = v.alloc; value = Some v.value } in
-      qed 𝓛 ((‵ ftrue ⊛ ‵ (fsep ((B audit_box).own_val v z.0.4.0) ftrue)) ∷ raw (emp 𝓤) ∷ []) ∵ split ! $ drop ! $ fsplit ! $
-      box_out audit_box ! v z.0.4.0 (λ b o hv at_b words fits. box_in audit_box ! v b o v.value at_b refl $
-      use1 𝓛 (‵ (To.own_val made (word audit_box hv b o ∷ []))) (id⊢ 𝓤 _) $ move ! (1 ∷ 2 ∷ []) $ drop ! $ drop ! $
-      let w = word audit_box hv b o in
-      let Γ : List (Item 𝓤) = ‵ (To.own_val made (w ∷ [])) ∷ [] in
-      by ! (subst (λ (us : List Val). ent 𝓤 (kit.⋆ 𝓛 Γ) (WpFn 𝓤 H 𝓣.C 𝓣.Λ code.function (us ++ []) Post)) (sym words)
-      (qed 𝓛 Γ ∵ enter ! 𝓣.C 𝓣.Λ code.function (w ∷ []) _ $ alloc_all ! (λ ls. pass_all ! refl (box_typed audit_box hv b o fits, tt) $
-      sets ! (of_opd ! (get_in ! (fld ! refl (stop !)) (sub ! 0 refl (whole !)))) refl (tt, tt) $
-      sets ! (of_opd ! (get_in ! (fld ! refl (stop !)) (sub ! 1 refl (whole !)))) refl fits $
-      sets ! (of_opd ! (get ! refl)) refl (tt, tt) $
-      sets ! (agg ! (and_then ! (get ! refl) (and_then ! (get ! refl) (no_more !)))) refl (box_typed audit_box hv b o fits) $ returns ! (look_at ! 0 refl) $ free_all ! refl $
-      suffices ! _ (ends_at 𝓛 F.ended stayed (F.clauses 𝓛 at_mem run) z w made (tt, tt) (tt, tt)) $ says ! refl $
-      nothing ! $ nothing ! $ fjoin ! $ join ! $ nothing ! $ join ! $ done !))))
-
 pub of_parts_spec : {M : Type 1} → stated.statement M
 unfolding tables_of
 of_parts_spec 𝓤 𝓛 𝓜 𝓡 wired =
-    let 𝓣 : Tables 𝓤 𝓛.H = tables_of 𝓤 𝓛.H 𝓜 (tables 𝓤 𝓛.H 𝓜 𝓡 𝓡.env) in
-    entered 𝓤 𝓛.H (triple_of 𝓛 F.signature (F.spec 𝓛 𝓜.mem 𝓡.returns)) 𝓣.C 𝓣.Λ #self code.function (code.unfolded 𝓤 𝓛.H 𝓜 𝓡 wired)
-    (walk_Meets 𝓛 F.ended stayed (Goes-dropped 𝓛 0 takes_audit_parts yes (λ κs x f. refl), tt) (F.clauses 𝓛 𝓜.mem 𝓡.returns) (WpFn 𝓤 𝓛.H 𝓣.C 𝓣.Λ code.function) (WpFn-mono 𝓤 𝓛.H 𝓛.laws 𝓣 code.function)
-    (walk 𝓛 𝓜.mem 𝓡.returns 𝓣))
+    moves audit_box (parts_of audit_box) handle.the_row 𝓛 (λ p. emp 𝓤) (λ p h. h.value ≡ Some p.value) (λ p. Unit {0}) (λ p. fact_i 𝓤 (Unit {0}) (emp 𝓤) tt)
+    (λ p _. record {
+      box = record { ptr = p.at; alloc = p.alloc; value = p.value };
+      made = record { at = p.at; alloc = p.alloc; value = Some p.value };
+      opens = λ vs. id⊢ 𝓤 _;
+      shuts = λ vs. id⊢ 𝓤 _;
+      said = refl;
+      last = tt;
+    })
+    (tables_of 𝓤 𝓛.H 𝓜 (tables 𝓤 𝓛.H 𝓜 𝓡 𝓡.env)) _ _ (λ κs x f. refl) #self (code.unfolded 𝓤 𝓛.H 𝓜 𝓡 wired)
