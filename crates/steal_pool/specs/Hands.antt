@@ -1,5 +1,5 @@
 -- What clauses say of hands and shares.
-use Rattle.std.specs.Prelude.{◌≡◌, ℕ, List, [], ◌∷◌, ◌++◌, map, Some, slice_get}
+use Rattle.std.specs.Prelude.{◌≡◌, ℕ, List, [], ◌∷◌, ◌++◌, map, Some, slice_get, All}
 use Rattle.place_deque.specs.Ends.{Hold, end_hold, end_taken}
 use Rattle.rule_machine.specs.declared.choice.Item.{Item}
 use Rattle.rule_machine.specs.declared.verdict.Verdict.{Verdict}
@@ -36,6 +36,14 @@ judged_verdicts share = share.verdicts.items
 abbrev pub AreOf : List Verdict → List ℕ → List Verdict → Type 0
 AreOf all places verdicts = map Some verdicts ≡ map (slice_get all) places
 
+-- behind the verdicts of whichever places were taken stand those of these places
+abbrev pub GoOnWith : List Verdict → List ℕ → List Verdict → List Verdict → Type 0
+GoOnWith all places old new = (taken : List ℕ) → AreOf all taken old → AreOf all (taken ++ places) new
+
 -- the share has the verdict of each place that was taken, and no other
 abbrev pub AreJudged : RuleTable → State → List Item → Judged → Type 0
 AreJudged t s items share = AreOf (verdicts_of t s items) (judged_places share) (judged_verdicts share)
+
+-- these are the shares of the hands, in their order, each with its verdicts
+abbrev pub AreShares : RuleTable → State → List Item → List Hand → List Judged → Type 0
+AreShares t s items hands shares = (map judged_hold shares ≡ map hand_hold hands) × All (AreJudged t s items) shares

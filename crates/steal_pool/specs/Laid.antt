@@ -30,3 +30,7 @@ taken_in v k = sum_by (at_place k) v.taken
 pub record IsRight (all table : List Verdict) (times : ℕ → ℕ) : Type 0 where
   pub size : length table ≡ length all
   pub right : (k : ℕ) → k < length all → 0 < times k → slice_get table k ≡ slice_get all k
+
+-- so it is of the new table with these places more, if it was of the old
+abbrev pub IsRightWith : List Verdict → List ℕ → List Verdict → List Verdict → Type 0
+IsRightWith all places old new = (times : ℕ → ℕ) → IsRight all old times → IsRight all new (λ k. times k + sum_by (at_place k) places)

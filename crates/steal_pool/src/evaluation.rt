@@ -4,7 +4,7 @@ ghost use Rattle.std.specs.Prelude.{◌≡◌, ◌<◌, ◌≤◌, length, map, 
 ghost use Rattle.std.specs.Thread.{IsSync};
 ghost use Rattle.rule_engine.specs.Choosing.{verdicts_of};
 ghost use Rattle.steal_pool.specs.Faults.{Explains};
-ghost use Rattle.steal_pool.specs.Hands.{hand_hold, judged_hold, AreJudged};
+ghost use Rattle.steal_pool.specs.Hands.{hand_hold, judged_hold, AreJudged, AreShares};
 
 use crate::dealing::{MAX_WORKERS, deal};
 use crate::{Gate, Hand, Judged, PoolFault, merge};
@@ -97,11 +97,11 @@ fn work_all<R: Rules + Sync, G: Gate + Sync, T: Threads + Wait + Sync>(
         rt,
         move || -> Result<Vec<Judged>, Want>
             requires { IsSync T.row × IsSync G.row × IsSync R.row × All (λ hand. (hand_hold hand).count ≡ length choice.now) low.items }
-            ensures { IfOk result (λ shares. (map judged_hold shares.items ≡ map hand_hold low.items) × All (AreJudged R.table net.entry.now.state choice.entry.now) shares.items) }
+            ensures { IfOk result (λ shares. AreShares R.table net.entry.now.state choice.entry.now low.items shares.items) }
         { work_all(rt, net, choice, gate, low) },
         move || -> Result<Vec<Judged>, Want>
             requires { IsSync T.row × IsSync G.row × IsSync R.row × All (λ hand. (hand_hold hand).count ≡ length choice.now) high.items }
-            ensures { IfOk result (λ shares. (map judged_hold shares.items ≡ map hand_hold high.items) × All (AreJudged R.table net.entry.now.state choice.entry.now) shares.items) }
+            ensures { IfOk result (λ shares. AreShares R.table net.entry.now.state choice.entry.now high.items shares.items) }
         { work_all(rt, net, choice, gate, high) },
     );
     let mut shares = ours?;

@@ -1,12 +1,12 @@
 //! The verdicts of all shares, by place.
 
-ghost use Rattle.std.specs.Prelude.{◌≡◌, ◌<◌, ◌≤◌, ◌+◌, ℕ, List, ◌++◌, length, map, All, IfOk};
+ghost use Rattle.std.specs.Prelude.{◌≡◌, ◌<◌, ◌≤◌, ℕ, List, ◌++◌, length, map, All, IfOk};
 ghost use Rattle.std.specs.List.{sum_by};
 ghost use Rattle.place_deque.specs.Ends.{end_hold, end_taken, owner_ledger, AreAllEnds};
 ghost use Rattle.place_deque.specs.Ledgers.{block_places, AreAllPlaces};
 ghost use Rattle.rule_engine.specs.Choosing.{verdicts_of};
 ghost use Rattle.steal_pool.specs.Hands.{all_taken, judged_hold, AreJudged};
-ghost use Rattle.steal_pool.specs.Laid.{at_place, laid, Fit, IsRight, taken_by, taken_in};
+ghost use Rattle.steal_pool.specs.Laid.{laid, Fit, IsRight, IsRightWith, taken_by, taken_in};
 ghost use Rattle.steal_pool.specs.Once.{AllStandOnce};
 
 use crate::Judged;
@@ -94,7 +94,7 @@ fn judge_left<R: Rules>(mut owner: Owner, net: &Net<R>, choice: &Choice, table: 
 fn write_block<R: Rules>(net: &Net<R>, choice: &Choice, block: Block, table: &mut [Verdict])
     requires within { block.end ≤ length choice.now }
     requires size { length table.old ≡ length choice.now }
-    ensures { (times : ℕ → ℕ) → IsRight (verdicts_of R.table net.now.state choice.now) table.old times → IsRight (verdicts_of R.table net.now.state choice.now) table.new (λ k. times k + sum_by (at_place k) (block_places block)) }
+    ensures { IsRightWith (verdicts_of R.table net.now.state choice.now) (block_places block) table.old table.new }
 {
     for place in block.first..block.end {
         table[place as usize] = net.verdict(choice, place);

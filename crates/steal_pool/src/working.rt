@@ -1,15 +1,22 @@
 //! What a worker does.
 
-ghost use Rattle.std.specs.Prelude.{◌≡◌, ◌≤◌, ◌+◌, ◌-◌, ℕ, List, ◌++◌, length, IfOk, vec_capacity};
+ghost use Rattle.std.specs.Prelude.{◌≡◌, ◌≤◌, ◌+◌, ◌-◌, length, IfOk, vec_capacity};
 ghost use Rattle.place_deque.specs.Ledgers.{block_places};
 ghost use Rattle.rule_engine.specs.Choosing.{verdicts_of};
-ghost use Rattle.steal_pool.specs.Hands.{hand_hold, judged_hold, judged_places, judged_verdicts, AreJudged, AreOf};
+ghost use Rattle.steal_pool.specs.Hands.{hand_hold, judged_hold, judged_places, judged_verdicts, AreJudged, GoOnWith};
 ghost use Rattle.steal_pool.specs.Once.{StandOnce, places_of};
 
 use crate::{Gate, Hand, Judged};
 use place_deque::Block;
 use rule_engine::{Choice, Net, Rules, Verdict, Want};
 use std::sync::Wait;
+
+/// A worker, by its number, and the gate that it passes before each place.
+#[derive(Drop)]
+struct Worker<'a, G: Gate> {
+    number: u32,
+    gate: &'a G,
+}
 
 impl Hand {
     /// Takes places of the choice until none is found, a block of them at a time, and judges each; before each it passes the gate with its own number and
@@ -30,12 +37,13 @@ impl Hand {
     {
         let Hand {
             alloc,
-            worker,
+            worker: number,
             mut end,
         } = self;
+        let worker = Worker { number, gate };
         let mut verdicts = Vec::with_capacity(alloc, choice.items().len())?;
         while let Some(block) = end.take(rt) {
-            judge_block(rt, net, choice, gate, worker, block, &mut verdicts);
+            judge_block(rt, &worker, net, choice, block, &mut verdicts);
         }
         // what is left of the room goes back at once, so that the next list need not ask the system for more
         verdicts.shrink_to_fit();
@@ -46,20 +54,19 @@ impl Hand {
 // Judges each place of a block, behind the gate, into verdicts with room for them.
 fn judge_block<R: Rules, G: Gate, W: Wait>(
     rt: &W,
+    worker: &Worker<G>,
     net: &Net<R>,
     choice: &Choice,
-    gate: &G,
-    worker: u32,
     block: Block,
     verdicts: &mut Vec<Verdict>,
 )
     requires within { block.end ≤ length choice.now }
     requires room { length verdicts.old.items + (block.end - block.first) ≤ vec_capacity verdicts.old }
-    ensures judged { (taken : List ℕ) → AreOf (verdicts_of R.table net.now.state choice.now) taken verdicts.old.items → AreOf (verdicts_of R.table net.now.state choice.now) (taken ++ block_places block) verdicts.new.items }
+    ensures judged { GoOnWith (verdicts_of R.table net.now.state choice.now) (block_places block) verdicts.old.items verdicts.new.items }
     ensures room { vec_capacity verdicts.old ≤ vec_capacity verdicts.new }
 {
     for place in block.first..block.end {
-        gate.pass(rt, worker, place);
+        worker.gate.pass(rt, worker.number, place);
         verdicts.push(net.verdict(choice, place)).unwrap();
     }
 }
