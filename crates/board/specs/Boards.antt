@@ -1,8 +1,9 @@
 -- How the parts of a board, of a reader and of a look hang together.
-use Rattle.std.specs.Prelude.{◌≡◌, ◌⊎◌, ◌+◌, ◌<◌, List, [], ◌∷◌, length, map, fold, Option, Some}
+use Rattle.std.specs.Prelude.{◌≡◌, ◌⊎◌, ◌+◌, ◌<◌, Bool, List, [], ◌∷◌, ◌++◌, length, map, fold, MatchBool, Option, Some}
 use mathlib.Core.List.{IsPrefix}
 use Rattle.rule_machine.specs.Run.{Entry}
 use Rattle.logbook.specs.Pages.{Book}
+use Rattle.board.specs.declared.history.Front.{Front}
 use Rattle.board.specs.declared.image.Posted.{Posted}
 use Rattle.board.specs.History.{Mark, published, posted, shown, max_marks}
 use Rattle.board.specs.Row.{Extent}
@@ -15,6 +16,10 @@ entries_of pending = map (λ p. p.entry) pending
 -- a copy that took in an entry
 abbrev pub absorbed : Sight → Posted → Sight
 absorbed x p = after x p.entry p.front p.past.seen.log p.past.seen.book
+
+-- what was pending goes on with this entry where it was appended, and stays where it was not
+abbrev pub Appends : Bool → Posted → List Posted → List Posted → Type 0
+Appends appended p old new = MatchBool appended (new ≡ old ++ p ∷ []) (new ≡ old)
 
 -- the copy that has all that is pending may be shown after x
 abbrev pub IsReady : (Extent → List Entry → Type 0) → Sight → List Posted → Type 0
@@ -36,6 +41,10 @@ pub record IsBoard (law : Extent → List Entry → Type 0) (x : Sight) (known :
   pub list : published marks ≡ shown x.marks
   pub ready : (pending ≡ []) ⊎ ((p : Posted) × (pending ≡ p ∷ []) × Fits x marks book p)
   pub is_announced : published announced ≡ shown x.marks
+
+-- So they do where the history was last seen to end here, and this beginning of it was announced.
+abbrev pub IsBoardOf : (Extent → List Entry → Type 0) → Sight → Option Sight → List Posted → Front → Front → Type 0
+IsBoardOf law x known pending last announced = IsBoard law x known pending last.seen.log last.seen.book announced.seen.log
 
 -- a reader knows a copy, which goes on from what it saw
 pub record IsReader (known : Option Sight) (seen : List Mark) (seen_in : Book) (learnt_in : Book) : Type 0 where

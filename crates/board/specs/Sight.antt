@@ -3,7 +3,7 @@ use Rattle.std.specs.Prelude.{ℕ, Bool, false, List, Option, None, Some, length
 use Rattle.rule_machine.specs.Run.{Entry}
 use Rattle.logbook.specs.Pages.{Book}
 use Rattle.board.specs.History.{Mark}
-use Rattle.board.specs.Row.{Row, Extent, pointer_in, partner_in, effect, here_at_start, here_by}
+use Rattle.board.specs.Row.{Row, Extent, pointer_in, partner_in, effect, here_at_start, here_by, pointers_after, here_after}
 
 -- the pointers, and at which places there is a node; how many nodes there were before any entry; the number of entries that made both,
 -- and the beginning of the history that shows these entries
@@ -36,3 +36,7 @@ held_in row place = if nat_lt place (length row) then Some (pointer_in row place
 -- the same where there is a node at the place, and none elsewhere
 abbrev pub found_in : Row → List Bool → ℕ → Option (Option ℕ × Option ℕ)
 found_in row here place = if slice_index_or here place false then held_in row place else None
+
+-- what is found at a place after these entries
+abbrev pub found_after : Extent → List Entry → ℕ → Option (Option ℕ × Option ℕ)
+found_after extent log place = found_in (pointers_after extent.places log) (here_after extent log) place

@@ -1,12 +1,12 @@
 //! The board: what publishes entries.
 
-ghost use Rattle.std.specs.Prelude.{◌≡◌, ◌^◌, ◌<◌, ◌∷◌, ◌++◌, [], None, length, drop, fold, IfOk, OnOk, OnErr, IsOk, MatchBool};
+ghost use Rattle.std.specs.Prelude.{◌≡◌, ◌^◌, ◌<◌, ◌∷◌, ◌++◌, [], None, length, drop, fold, IfOk, OnOk, OnErr, IsOk};
 ghost use Rattle.left_right.specs.Sides.{view as known};
 ghost use Rattle.rule_machine.specs.Run.{Entry as Logged};
 ghost use Rattle.board.specs.History.{published};
 ghost use Rattle.board.specs.Sight.{blank, extent_of};
 ghost use Rattle.board.specs.Rule.{Sees};
-ghost use Rattle.board.specs.Boards.{IsReady, absorbed};
+ghost use Rattle.board.specs.Boards.{IsReady, Appends, absorbed};
 
 use crate::history::{Front, History, Posts, Publishes};
 use crate::image::{Image, Posted};
@@ -47,7 +47,7 @@ impl<L: Law> Model for Board<L> {
     ghost use Rattle.board.specs.History.{shown};
     ghost use Rattle.board.specs.Sight.{extent_of};
     ghost use Rattle.board.specs.Views.{Standing};
-    ghost use Rattle.board.specs.Boards.{IsBoard, entries_of};
+    ghost use Rattle.board.specs.Boards.{IsBoardOf, entries_of};
 
     ghost Value = { Standing };
 
@@ -59,7 +59,8 @@ impl<L: Law> Model for Board<L> {
       name = record { book = b.announced.seen.book; extent = extent_of b.writer.desk.shown.value };
     } };
 
-    ghost invariant = { λ b. IsBoard L.holds b.writer.desk.shown.value (known b.writer.desk.place) (drop b.writer.behind b.writer.log.items) b.history.front.seen.log b.history.front.seen.book b.announced.seen.log };
+    ghost invariant = { λ b. IsBoardOf L.holds b.writer.desk.shown.value (known b.writer.desk.place)
+        (drop b.writer.behind b.writer.log.items) b.history.front b.announced };
 }
 
 fn copied(entry: &Entry) -> Result<Entry, AllocError>
@@ -75,7 +76,7 @@ fn copied(entry: &Entry) -> Result<Entry, AllocError>
 /// Whether there was memory for one more entry to be pending.
 fn append<L: Law>(writer: &mut Copies<L>, posted: Posted) -> bool
     ensures desk { writer.new.desk ≡ writer.old.desk }
-    ensures pending { MatchBool result (drop writer.new.behind writer.new.log.items ≡ drop writer.old.behind writer.old.log.items ++ posted ∷ []) (drop writer.new.behind writer.new.log.items ≡ drop writer.old.behind writer.old.log.items) }
+    ensures pending { Appends result posted (drop writer.old.behind writer.old.log.items) (drop writer.new.behind writer.new.log.items) }
 {
     match writer.append(posted) {
         Ok(()) => true,

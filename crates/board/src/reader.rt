@@ -5,8 +5,7 @@ ghost use mathlib.Core.List.{IsPrefix};
 ghost use Rattle.left_right.specs.Sides.{view as known};
 ghost use Rattle.board.specs.History.{published, shown};
 ghost use Rattle.board.specs.OneLog.{IsOneLog, AreOneLog, AreComparable};
-ghost use Rattle.board.specs.Row.{pointers_after, here_after, pointer_in, partner_in};
-ghost use Rattle.board.specs.Sight.{Sight, found_in};
+ghost use Rattle.board.specs.Sight.{Sight, found_in, found_after};
 ghost use Rattle.board.specs.Rule.{Sees};
 ghost use Rattle.board.specs.Views.{extent_seen};
 ghost use Rattle.board.specs.Boards.{IsReader};
@@ -109,7 +108,7 @@ impl<L: Law> Reader<L> {
         ensures learnt { IfSome result (λ look. IsPrefix self.old.learnt self.new.list) }
         ensures law { IfSome result (λ look. L.holds self.new.name.extent self.new.list) }
         ensures front { IfSome result (λ look. look.front ≡ length self.new.list) }
-        ensures found { IfSome result (λ look. look.found ≡ found_in (pointers_after self.new.name.extent.places self.new.list) (here_after self.new.name.extent self.new.list) place) }
+        ensures found { IfSome result (λ look. look.found ≡ found_after self.new.name.extent self.new.list place) }
     {
         let Glance { look, past } = replace_with(&mut self.seat, place, peek::<L>)?;
         if !self.learnt.is_shown_at(&past) {
