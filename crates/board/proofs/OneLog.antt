@@ -6,8 +6,7 @@ use mathlib.Core.List.{IsPrefix}
 use mathlib.Core.Logic.{dite}
 use native.Mathlib.Decide.{dec_le}
 use Rattle.rule_machine.specs.Run.{Entry}
-use Rattle.board.specs.History.{Mark, marked, published, posted, shown}
-use Rattle.board.specs.OneLog.{but_last, IsOneLog, AreOneLog, AreComparable}
+use Rattle.board.specs.History.{Mark, marked, published, posted, shown, but_last, IsOneLog, AreOneLog, AreComparable}
 use Rattle.board.proofs.Fronts.{prefix_more, prefix_trans, prefix_shorter, published_grows}
 
 -- at most one entry is posted

@@ -1,5 +1,7 @@
--- The history of a board: the entries that were posted, which of them were published, and what adding a mark tells.
-use Rattle.std.specs.Prelude.{ℕ, ◌≡◌, ◌==◌, true, List, [], ◌∷◌, ◌++◌, length, Option, None, Some, MatchBool, fold}
+-- The history of a board: the entries that were posted, which of them were published, what two beginnings of it have to do with each
+-- other, and what adding a mark tells.
+use Rattle.std.specs.Prelude.{ℕ, ◌≡◌, ◌⊎◌, ◌-◌, ◌==◌, true, List, [], ◌∷◌, ◌++◌, length, take, Option, None, Some, MatchBool, fold}
+use mathlib.Core.List.{IsPrefix}
 use Rattle.logbook.specs.Pages.{Cell, Step, View, Book, Named}
 use Rattle.rule_machine.specs.Run.{Entry}
 
@@ -25,6 +27,24 @@ posted marks = (standing marks).1
 -- what is published once the posted entry is
 abbrev pub shown : List Mark → List Entry
 shown marks = published marks ++ posted marks
+
+-- ---- what two beginnings of one history have to do with each other
+
+abbrev pub but_last : List Entry → List Entry
+but_last log = take (length log - 1) log
+
+-- Of what was told and of a view: one begins the other. A copy carries the history as it was before the copy's last entry was published, so
+-- where more was told than the view has, nothing is said of the view's last entry.
+abbrev pub IsOneLog : List Entry → List Entry → Type 0
+IsOneLog told view = IsPrefix told view ⊎ IsPrefix (but_last view) told
+
+-- the same of two views
+abbrev pub AreOneLog : List Entry → List Entry → Type 0
+AreOneLog one other = IsPrefix (but_last one) other ⊎ IsPrefix (but_last other) one
+
+-- of what two readers learnt one begins the other
+abbrev pub AreComparable : List Entry → List Entry → Type 0
+AreComparable one other = IsPrefix one other ⊎ IsPrefix other one
 
 -- ---- the rule of the history
 

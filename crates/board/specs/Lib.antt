@@ -1,6 +1,5 @@
 pub mod Boards
 pub mod History
-pub mod OneLog
 pub mod Row
 pub mod Rule
 pub mod Sight

@@ -2,8 +2,7 @@
 
 ghost use Rattle.std.specs.Prelude.{◌≡◌, ◌⊎◌, ◌+◌, ◌<◌, ◌∷◌, ◌++◌, [], false, None, length, IsTrue, MatchBool};
 ghost use mathlib.Core.List.{IsPrefix};
-ghost use Rattle.board.specs.History.{published, shown, head_of, max_marks};
-ghost use Rattle.board.specs.OneLog.{IsOneLog, AreOneLog, AreComparable};
+ghost use Rattle.board.specs.History.{published, shown, head_of, max_marks, IsOneLog, AreOneLog, AreComparable};
 
 use log_entry::Entry;
 use logbook::{Gain, Offer, Plain, Play, Rule, Seen, Start, Word};

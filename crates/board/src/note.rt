@@ -2,7 +2,7 @@
 
 ghost use Rattle.std.specs.Prelude.{◌≡◌, false, IsTrue};
 ghost use mathlib.Core.List.{IsPrefix};
-ghost use Rattle.board.specs.OneLog.{AreComparable};
+ghost use Rattle.board.specs.History.{AreComparable};
 
 use crate::history::Front;
 use std::marker::Model;

@@ -3,8 +3,7 @@
 ghost use Rattle.std.specs.Prelude.{◌≡◌, ◌<◌, ◌≤◌, length, IfSome, IfNone, MatchOption};
 ghost use mathlib.Core.List.{IsPrefix};
 ghost use Rattle.left_right.specs.Sides.{view as known};
-ghost use Rattle.board.specs.History.{published, shown};
-ghost use Rattle.board.specs.OneLog.{IsOneLog, AreOneLog, AreComparable};
+ghost use Rattle.board.specs.History.{published, shown, IsOneLog, AreOneLog, AreComparable};
 ghost use Rattle.board.specs.Sight.{Sight, found_in, found_after};
 ghost use Rattle.board.specs.Rule.{Sees};
 ghost use Rattle.board.specs.Views.{extent_seen};

@@ -3,7 +3,7 @@ use Rattle.std.proofs.Common.{◌≡◌, ℕ, ◌≤◌, List, [], ◌∷◌, �
 use Rattle.std.specs.List.{All}
 use mathlib.Core.List.{IsPrefix}
 use Rattle.rule_machine.specs.Run.{Entry}
-use Rattle.board.specs.OneLog.{AreComparable}
+use Rattle.board.specs.History.{AreComparable}
 use Rattle.board.specs.Views.{Told}
 use Rattle.board.proofs.Fronts.{prefix_self, prefix_whole}
 use Rattle.step_log.specs.declared.receipt.Receipt.{Receipt}

@@ -4,7 +4,7 @@ ghost use Rattle.std.specs.Prelude.{◌≡◌, false, length, IsTrue, IfOk, IfEr
 ghost use mathlib.Core.List.{IsPrefix};
 ghost use Rattle.rule_machine.specs.Network.{present};
 ghost use Rattle.rule_machine.specs.State.{pointer};
-ghost use Rattle.board.specs.OneLog.{IsOneLog, AreOneLog, AreComparable};
+ghost use Rattle.board.specs.History.{IsOneLog, AreOneLog, AreComparable};
 ghost use Rattle.board.specs.Row.{partner_in};
 ghost use Rattle.locked_net.specs.Receipts.{StandsLast};
 ghost use Rattle.locked_net.specs.Seen.{Shows, OnView, IfUnknown};

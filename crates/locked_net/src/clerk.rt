@@ -1,7 +1,7 @@
 //! Who calls a network and keeps what it was told.
 
 ghost use Rattle.std.specs.Prelude.{◌≡◌, None, Some, IfSome, MatchOption};
-ghost use Rattle.board.specs.OneLog.{AreComparable};
+ghost use Rattle.board.specs.History.{AreComparable};
 ghost use Rattle.locked_net.specs.Receipts.{fresh, front_of, seen_by, noted, IsClerk, IsOfBook, RiseAbove};
 
 use board::Note;

@@ -18,7 +18,7 @@ use Rattle.daemon.proofs.Rests.{rests}
 use Rattle.seeded_turns.specs.Drawn.{Draws, drawn_step}
 use Rattle.step_log.specs.declared.receipt.Receipt.{Receipt}
 use Rattle.step_log.specs.Log.{Log, receipt_of}
-use Rattle.board.specs.OneLog.{AreComparable}
+use Rattle.board.specs.History.{AreComparable}
 use Rattle.board.specs.Views.{Told}
 use Rattle.locked_net.specs.Receipts.{ClerkView, front_from, front_of, base_from, seen_by, noted, IsClerk}
 use Rattle.locked_net.specs.Settings.{Setting}

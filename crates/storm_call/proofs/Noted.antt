@@ -8,7 +8,7 @@ use mathlib.Core.List.{IsPrefix}
 use Rattle.logbook.specs.Pages.{Book}
 use Rattle.rule_machine.specs.declared.event.Event.{Event}
 use Rattle.rule_machine.specs.declared.reply.Reply.{Reply}
-use Rattle.board.specs.OneLog.{AreComparable}
+use Rattle.board.specs.History.{AreComparable}
 use Rattle.board.specs.Views.{Told}
 use Rattle.locked_net.specs.Receipts.{ClerkView, front_of, base_from, seen_by, noted, IsClerk, HasNoteOf, IsOfBook}
 use Rattle.locked_net.specs.Calls.{Keeps}
