@@ -1,3 +1,4 @@
+pub mod Wholes
 pub mod Recording
 pub mod Rising
 pub mod Fitting

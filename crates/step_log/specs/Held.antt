@@ -39,6 +39,11 @@ log_of held = record { state = held.state; spent = held.spent; entries = held.en
 abbrev pub net_of : Held → NetView
 net_of held = record { state = held.state; spent = held.spent; room = held.room }
 
+-- what is kept where a network stands, with this base and these entries behind it, and with the limit and the nodes of the start
+abbrev pub kept_at : NetView → Option Base → List Entry → ℕ → ℕ → Kept
+kept_at net base entries limit present =
+    record { state = net.state; spent = net.spent; base = base; entries = entries; limit = limit; present = present }
+
 -- What a journal keeps is a run from where it begins, and its epochs are told: those that are over, and where the one began that goes on.
 pub record IsJournal (t : RuleTable) (weight : ℕ) (kept : Kept) (over : List Epoch) (begun : Start) : Type 0 where
   pub is_kept : IsKept t weight kept

@@ -1,7 +1,6 @@
 pub mod Recording
 pub mod Log
 pub mod Kept
-pub mod Wholes
 pub mod Epochs
 pub mod Held
 pub mod Headline

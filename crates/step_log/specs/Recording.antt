@@ -1,9 +1,10 @@
 -- How far a recording has come, and what an event makes of it.
-use Rattle.std.specs.Prelude.{ℕ, ◌+◌, ◌≤◌}
+use Rattle.std.specs.Prelude.{ℕ, ◌+◌, ◌≤◌, List}
 use Rattle.rule_machine.specs.declared.event.Event.{Event}
 use Rattle.rule_machine.specs.State.{State, IsState, opening_with}
 use Rattle.rule_machine.specs.RuleTable.{RuleTable}
-use Rattle.rule_machine.specs.Least.{state_after, spent_by}
+use Rattle.rule_machine.specs.Least.{reply_of, state_after, spent_by}
+use Rattle.line_text.specs.EntryText.{entry_line}
 pub use Rattle.log_entry.specs.Kinds.{max_entries}
 
 -- the state of a network, the moves since it was last disturbed, how many entries led to it, how many there may be, and how many of
@@ -34,3 +35,7 @@ opening_recording nodes limit = opening_recording_with nodes nodes limit
 abbrev pub entered : RuleTable → Recording → Event → Recording
 entered t r event =
     record { state = state_after t r.state event; spent = spent_by t r.state r.spent event; len = r.len + 1; limit = r.limit; present = r.present }
+
+-- the line of that entry, with its LF
+abbrev pub entered_line : RuleTable → Recording → Event → List ℕ
+entered_line t r event = entry_line (r.len + 1) event (reply_of t r.state r.spent event)

@@ -45,7 +45,7 @@ impl<R: Rules> Model for Journal<R> {
     ghost use Rattle.std.specs.Prelude.{◌-◌, length, vec_capacity};
     ghost use Rattle.std.specs.Coded.{codes};
     ghost use Rattle.rule_machine.specs.State.{state_code};
-    ghost use Rattle.step_log.specs.Held.{Held, IsJournal};
+    ghost use Rattle.step_log.specs.Held.{Held, IsJournal, kept_at};
 
     ghost Value = { Held };
 
@@ -63,7 +63,7 @@ impl<R: Rules> Model for Journal<R> {
       spare_epochs = vec_capacity j.epochs.over - length j.epochs.over.items;
     } };
 
-    ghost invariant = { λ j. IsJournal R.table R.NODE_WEIGHT (record { state = j.net.state; spent = j.net.spent; base = j.base; entries = j.entries.items; limit = j.limit; present = j.present }) j.epochs.over.items j.epochs.begun };
+    ghost invariant = { λ j. IsJournal R.table R.NODE_WEIGHT (kept_at j.net j.base j.entries.items j.limit j.present) j.epochs.over.items j.epochs.begun };
 }
 
 impl<R: Rules> Journal<R> {

@@ -11,7 +11,7 @@ ghost use Rattle.rule_engine.specs.Choosing.{verdicts_of};
 ghost use Rattle.line_text.specs.EntryText.{entry_line};
 ghost use Rattle.line_text.specs.EventText.{event_text};
 ghost use Rattle.step_log.specs.declared.fault.RecordFault.TheVariants.{LogFull};
-ghost use Rattle.step_log.specs.Recording.{max_entries, opening_recording, opening_recording_with, entered};
+ghost use Rattle.step_log.specs.Recording.{max_entries, opening_recording, opening_recording_with, entered, entered_line};
 
 use crate::{Answer, MAX_ENTRIES, RecordFault};
 use line_text::{put_entry, put_entry_of_line};
@@ -147,7 +147,7 @@ impl<R: Rules> Recorder<R> {
         ensures machine { OnOk result (Answers R.table self.old.state self.old.spent event.now reply.new self.new.state) }
         ensures below { OnOk result (self.old.len < self.old.limit) }
         ensures recording { OnOk result (self.new ≡ entered R.table self.old event.now) }
-        ensures text { OnOk result (text.new.items ≡ text.old.items ++ entry_line (self.old.len + 1) event.now (reply_of R.table self.old.state self.old.spent event.now)) }
+        ensures text { OnOk result (text.new.items ≡ text.old.items ++ entered_line R.table self.old event.now) }
         ensures full { IsErrOf result LogFull ↔ (self.old.len ≡ self.old.limit) }
         ensures kept { OnErr result (self.new ≡ self.old) }
         ensures kept_text { OnErr result (text.new.items ≡ text.old.items) }

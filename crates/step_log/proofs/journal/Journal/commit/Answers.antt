@@ -5,7 +5,7 @@ use Rattle.rule_machine.specs.Run.{Entry, Moment, moment_after, open_at}
 use Rattle.machine_laws.specs.LeastMoves.{IsTable}
 use Rattle.step_log.specs.declared.receipt.Receipt.{Receipt}
 use Rattle.step_log.specs.Epochs.{begun_by, ended_by, of_run}
-use Rattle.step_log.specs.Held.{Held, IsReady}
+use Rattle.step_log.specs.Held.{Held, IsReady, kept_at}
 use Rattle.step_log.specs.Kept.{Kept}
 use Rattle.step_log.proofs.Running.{next_is_journal}
 use Rattle.step_log.proofs.journal.Journal.commit.Goals as goal
@@ -25,7 +25,7 @@ invariant_of-self g c =
     let inside = c.self.inside in
     let over = inside.epochs.over.items in
     let begun = inside.epochs.begun in
-    let before : Kept = record { state = inside.net.state; spent = inside.net.spent; base = inside.base; entries = inside.entries.items; limit = inside.limit; present = inside.present } in
+    let before : Kept = kept_at inside.net inside.base inside.entries.items inside.limit inside.present in
     let now : Moment = record { state = inside.net.state; spent = inside.net.spent } in
     let after : Moment = record { state = c.commit.new.self.state; spent = c.commit.new.self.spent } in
     let ready = subst (λ (held : Held). IsReady t held c.args.prepared) (sym c.self.view_is) c.requires in
