@@ -17,7 +17,7 @@ use Rattle.rule_machine.specs.RuleTable.{RuleTable, enabled_names}
 use Rattle.step_log.specs.declared.receipt.Receipt.{Receipt}
 use Rattle.step_log.specs.Log.{Log, receipt_of}
 use Rattle.board.specs.Views.{Told}
-use Rattle.locked_net.specs.Receipts.{front_of, noted}
+use Rattle.locked_net.specs.Receipts.{ClerkView, front_of, noted}
 use Rattle.locked_net.specs.Settings.{Setting, IsLogIn}
 use Rattle.locked_net.specs.Calls.{call_fault, checkpoint_fault, Explains}
 use Rattle.locked_net.specs.Stepping.{ExplainsStep}
@@ -36,6 +36,10 @@ ByDaemon chooses t old new s event = ChoosesStep t (λ names choice. chooses nam
 -- the fault that these words draw, and those are left
 abbrev pub DrawsFault : RuleTable → Stream → Stream → State → Option Event → Type 0
 DrawsFault t words left s event = (event, left) ≡ drawn s.network t.flags words
+
+-- the fault that an injector draws by the words to come, which takes these on, as an event
+abbrev pub ByInjector : {G : Type 0} → (G → Stream) → RuleTable → G → G → State → Option Event → Type 0
+ByInjector stream t old new s event = DrawsFault t (stream old) (stream new) s event
 
 -- nothing was answered exactly where there is no node
 abbrev pub NoneIfEmpty : Option Reply → State → Option Event → Type 0
@@ -60,6 +64,10 @@ pub record TakesChoice (setting : Setting) (Chooses : State → Option Event →
   pub free : call_fault (front_of old) log ≡ None
   pub taken : ChoosesOn setting.table log Chooses old new told
   pub begins : IfSome told (λ _. IsPrefix log.entries (noted note))
+
+-- the same of a clerk as it was and as it is
+abbrev pub ClerkTakes : Setting → (State → Option Event → Type 0) → ClerkView → ClerkView → Option Reply → Type 0
+ClerkTakes setting Chooses old new told = TakesChoice setting Chooses old.receipts new.receipts new.note told
 
 -- A log has this fault for a clerk who has seen so many entries, and gives it for want of memory where it has none.
 pub record Refuses (setting : Setting) (seen : ℕ) (fault : CallFault) : Type 0 where

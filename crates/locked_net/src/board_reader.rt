@@ -147,7 +147,8 @@ impl<R: Rules> BoardReader<R> {
     }
 
     /// Takes in a clerk's note: each later view has all that was published when the clerk got its last receipt, and so the
-    /// entry of that receipt. What the note tells and the view are of one log. The clerk must be one that has called the reader's own network, or nobody; it stays as it is.
+    /// entry of that receipt. What the note tells and the view are of one log. The clerk must be one that has called the reader's
+    /// own network, or nobody; it stays as it is.
     #[tactic(auto, using(crate::proofs::Seeing::noted_last))]
     pub fn learn(&mut self, clerk: &mut Clerk)
         requires { IfSome clerk.old.note (λ told. told.book ≡ self.old.name.book) }

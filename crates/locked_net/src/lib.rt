@@ -1,10 +1,10 @@
 //! One network for many callers, each of whom keeps receipts, and the settling of these against the log.
 //!
 //! A `LockedNet` is a network behind a lock. Each caller has a `Clerk`, whose `call` waits for the lock, records one event and keeps the
-//! receipt; a worker `roam`s with one of its own. Who `hold`s the lock for several calls has a `HeldNet`, of which contracts see the log. In the end `settle` takes the network and all clerks: at `Ok` the log is a run of the
-//! rule machine, each receipt is the log's entry at its number, and each entry is one clerk's. That is the claim of the whole, the clause
-//! `headline`. A `BoardReader` asks where a node points without lock, memory or waiting, and is answered from a run with all that it has
-//! seen.
+//! receipt; a worker `roam`s with one of its own. Who `hold`s the lock for several calls has a `HeldNet`, of which contracts see the log.
+//! In the end `settle` takes the network and all clerks: at `Ok` the log is a run of the rule machine, each receipt is the log's entry at
+//! its number, and each entry is one clerk's. That is the claim of the whole, the clause `headline`. A `BoardReader` asks where a node
+//! points without lock, memory or waiting, and is answered from a run with all that it has seen.
 //!
 //! A call costs what recording costs and a publication. That a lock is had, and in which order, is not claimed. A network can't be
 //! dropped: `settle` or `into_journal` ends it.

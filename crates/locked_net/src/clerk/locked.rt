@@ -5,7 +5,7 @@ ghost use Rattle.rule_machine.specs.declared.event.Event.TheVariants.{Step};
 ghost use Rattle.locked_net.specs.Nets.{book_of, setting_of};
 ghost use Rattle.locked_net.specs.Receipts.{HasNoteOf, front_of, seen_by};
 ghost use Rattle.locked_net.specs.Calls.{MayAnswer, Keeps, KeepsStep, KeepsFault};
-ghost use Rattle.locked_net.specs.Choosing.{ByDaemon, DrawsFault, NoneIfEmpty, TakesChoice, Refuses, RefusesStep};
+ghost use Rattle.locked_net.specs.Choosing.{ByDaemon, ByInjector, ClerkTakes, NoneIfEmpty, Refuses, RefusesStep};
 ghost use Rattle.locked_net.specs.Stepping.{MayAnswerStep};
 ghost use Rattle.locked_net.specs.declared.call_fault.CallFault.TheVariants.{Memory};
 
@@ -89,7 +89,7 @@ impl Clerk {
         ensures base { self.new.base ≡ self.old.base }
         ensures above { IfOk result (λ told. IfSome told (λ _. seen_by self.old < front_of self.new.receipts)) }
         ensures step { IfOk result (λ told. MatchOption told (self.new ≡ self.old) (KeepsStep R.table.central self.old.receipts self.new.receipts)) }
-        ensures chosen { IfOk result (TakesChoice (setting_of R.table net.now) (ByDaemon D.chooses R.table daemon.old daemon.new) self.old.receipts self.new.receipts self.new.note) }
+        ensures chosen { IfOk result (ClerkTakes (setting_of R.table net.now) (ByDaemon D.chooses R.table daemon.old daemon.new) self.old self.new) }
         ensures fault { IfErr result (λ fault. MayAnswer (seen_by self.old) fault) }
         ensures refused { IfErr result (Refuses (setting_of R.table net.now) (seen_by self.old)) }
         ensures kept { OnErr result (self.new ≡ self.old) }
@@ -110,13 +110,12 @@ impl Clerk {
         net: &LockedNet<R>,
         injector: &mut Injector<G>,
     ) -> Result<Option<Reply>, CallFault>
-        ensures none { IfOk result (λ told. TakesChoice (setting_of R.table net.now) (NoneIfEmpty told) self.old.receipts self.new.receipts self.new.note told) }
+        ensures none { IfOk result (λ told. ClerkTakes (setting_of R.table net.now) (NoneIfEmpty told) self.old self.new told) }
         ensures note { IfOk result (λ told. IfSome told (λ _. HasNoteOf (book_of net.now) self.new)) }
         ensures base { self.new.base ≡ self.old.base }
         ensures above { IfOk result (λ told. IfSome told (λ _. seen_by self.old < front_of self.new.receipts)) }
         ensures register { IfOk result (λ told. MatchOption told (self.new ≡ self.old) (KeepsFault self.old.receipts self.new.receipts)) }
-        ensures drawn { IfOk result (TakesChoice (setting_of R.table net.now)
-            (DrawsFault R.table (G.stream injector.old) (G.stream injector.new)) self.old.receipts self.new.receipts self.new.note) }
+        ensures drawn { IfOk result (ClerkTakes (setting_of R.table net.now) (ByInjector G.stream R.table injector.old injector.new) self.old self.new) }
         ensures fault { IfErr result (λ fault. MayAnswer (seen_by self.old) fault) }
         ensures refused { IfErr result (Refuses (setting_of R.table net.now) (seen_by self.old)) }
         ensures kept { OnErr result (self.new ≡ self.old) }

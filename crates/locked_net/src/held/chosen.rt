@@ -6,7 +6,7 @@ ghost use Rattle.rule_machine.specs.Network.{node_count};
 ghost use Rattle.locked_net.specs.Receipts.{HasNoteOf, front_of, seen_by, noted};
 ghost use Rattle.locked_net.specs.Keys.{KeepsKey};
 ghost use Rattle.locked_net.specs.Calls.{call_fault, Explains, Drives, Breaks};
-ghost use Rattle.locked_net.specs.Choosing.{ByDaemon, DrawsFault, ChoosesOn};
+ghost use Rattle.locked_net.specs.Choosing.{ByDaemon, ByInjector, ChoosesOn};
 ghost use Rattle.locked_net.specs.declared.call_fault.CallFault.TheVariants.{Memory};
 
 use crate::{CallFault, Clerk, HeldNet};
@@ -55,7 +55,7 @@ impl<R: Rules> HeldNet<'_, R> {
         ensures register { IfOk result (λ told. MatchOption told
             ((clerk.new ≡ clerk.old) × (self.new ≡ self.old))
             (λ reply. Breaks R.table self.old.log self.new.log clerk.old.receipts clerk.new.receipts reply)) }
-        ensures drawn { IfOk result (ChoosesOn R.table self.old.log (DrawsFault R.table (G.stream injector.old) (G.stream injector.new)) clerk.old.receipts clerk.new.receipts) }
+        ensures drawn { IfOk result (ChoosesOn R.table self.old.log (ByInjector G.stream R.table injector.old injector.new) clerk.old.receipts clerk.new.receipts) }
         ensures none { IfOk result (λ told. IsNone told ↔ (node_count self.old.log.state.network ≡ 0)) }
         ensures note { IfOk result (λ told. IfSome told (λ _. HasNoteOf self.old.name.book clerk.new)) }
         ensures base { clerk.new.base ≡ clerk.old.base }
