@@ -11,8 +11,8 @@ use Rattle.rule_machine.specs.State.{State, pointer}
 use Rattle.rule_machine.specs.RuleTable.{RuleTable}
 use Rattle.rule_machine.specs.Run.{Entry, Moment, beginning_with}
 use Rattle.board.specs.Row.{Row, Extent, pointer_in, partner_in, effect, pointers_after, here_after, IsRun}
-use Rattle.board.specs.Sight.{held_in, found_in}
-use Rattle.board.specs.Views.{Name, Told}
+use Rattle.board.specs.Sight.{held_in, found_after}
+use Rattle.board.specs.Views.{Name, Reading, Told}
 use Rattle.board.proofs.Machine.{run_pointers, run_here, run_size}
 use Rattle.board.proofs.Rows.{effect_length}
 use Rattle.step_log.specs.declared.receipt.Receipt.{Receipt}
@@ -102,15 +102,17 @@ shows t extent log P (size, end, is, run) f =
 -- a look at a place of a log that is a run found this
 pub record IsLooked (t : RuleTable) (extent : Extent) (place : ℕ) (log : List Entry) (found : Option (Option ℕ × Option ℕ)) : Type 0 where
   pub run : IsRun t extent log
-  pub is : found ≡ found_in (pointers_after extent.places log) (here_after extent log) place
+  pub is : found ≡ found_after extent log place
 
-pub looked : (t : RuleTable) (seen own : Name) (at place : ℕ) (log : List Entry) (found : Option (Option ℕ × Option ℕ)) → seen ≡ own → at ≡ place → IsRun t seen.extent log
-    → found ≡ found_in (pointers_after seen.extent.places log) (here_after seen.extent log) at → IsLooked t own.extent place log found
-looked t seen own at place log found named placed run is = record {
-  run = subst (λ (n : Name). IsRun t n.extent log) named run;
-  is = subst (λ v. found ≡ found_in (pointers_after own.extent.places log) (here_after own.extent log) v) placed
-      (subst (λ (n : Name). found ≡ found_in (pointers_after n.extent.places log) (here_after n.extent log) at) named is);
-}
+-- so did a reader's that was the one handed in, where the board's reader inside looked
+pub looked : (t : RuleTable) (inside reader : Reading) (name : Name) (at place : ℕ) (log : List Entry) (found : Option (Option ℕ × Option ℕ)) → inside ≡ reader → name ≡ inside.name → at ≡ place
+    → IsRun t name.extent log → found ≡ found_after name.extent log at → IsLooked t reader.name.extent place log found
+looked t inside reader name at place log found same kept placed run is =
+    let named : name ≡ reader.name = kept ∙ ap (λ (r : Reading). r.name) same in
+    record {
+      run = subst (λ (n : Name). IsRun t n.extent log) named run;
+      is = subst (λ v. found ≡ found_after reader.name.extent log v) placed (subst (λ (n : Name). found ≡ found_after n.extent log at) named is);
+    }
 
 -- nothing is found only where no node has the name
 pub absent : (t : RuleTable) (extent : Extent) (place : ℕ) (log : List Entry) (found : Option (Option ℕ × Option ℕ)) → IsLooked t extent place log found → ((here : Option ℕ × Option ℕ) → found ≡ Some here → ⊥)
@@ -148,6 +150,12 @@ is_shown t extent place log found held low look some =
       pointer_is = shows t extent log (λ s. held.0 ≡ pointer s place) look.run (λ s end. at.pointer_is ∙ ap (λ (r : Row). pointer_in r place) (sym end.pointers));
       partner_is = shows t extent log (λ s. held.1 ≡ partner_in s.registers.pointers place) look.run (λ s end. at.partner_is ∙ ap (λ (r : Row). partner_in r place) (sym end.pointers));
     }
+
+-- so is what a reader finds where the board's reader inside looked
+pub shown_by : (t : RuleTable) (inside reader : Reading) (name : Name) (at place : ℕ) (log : List Entry) (found : Option (Option ℕ × Option ℕ)) (held : Option ℕ × Option ℕ) → inside ≡ reader → name ≡ inside.name → at ≡ place
+    → 1 ≤ at → IsRun t name.extent log → found ≡ found_after name.extent log at → found ≡ Some held → IsShown t reader.name.extent place log held
+shown_by t inside reader name at place log found held same kept placed low run is some =
+    is_shown t reader.name.extent place log found held (omega (arith, low, placed)) (looked t inside reader name at place log found same kept placed run is) some
 
 -- ---- a longer log
 
