@@ -13,8 +13,7 @@ use Rattle.board.specs.Views.{Told}
 use Rattle.step_log.specs.Log.{Log, entry_of, recorded, receipt_of}
 use Rattle.locked_net.specs.Receipts.{ClerkView, front_of, noted}
 use Rattle.locked_net.specs.Settings.{Setting, IsLogIn}
-use Rattle.locked_net.specs.Calls.{call_fault, checkpoint_fault, Explains, Breaks, KeepsFault}
-use Rattle.locked_net.specs.Stepping.{ExplainsStep}
+use Rattle.locked_net.specs.Calls.{call_fault, checkpoint_fault, Explains, Breaks, KeepsFault, ExplainsStep}
 use Rattle.locked_net.specs.Choosing.{ChoosesStep, ChoosesOn, TakesChoice, HoldsAll, Refuses, RefusesCheckpoint, RefusesStep}
 use Rattle.locked_net.specs.declared.call_fault.CallFault.{CallFault}
 use Rattle.locked_net.specs.declared.step_fault.StepFault.{StepFault}

@@ -1,5 +1,5 @@
 -- What a call makes of a clerk's receipts, and which call is not answered.
-use Rattle.std.specs.Prelude.{◌≡◌, ℕ, ◌<◌, List, [], ◌∷◌, ◌++◌, length, Option, None, Some, if◌then◌else◌, nat_eq, nat_lt, IsTrue, Bool}
+use Rattle.std.specs.Prelude.{◌≡◌, ℕ, zero, suc, ◌<◌, List, [], ◌∷◌, ◌++◌, length, Option, None, Some, if◌then◌else◌, nat_eq, nat_lt, IsTrue, Bool}
 use Rattle.rule_machine.specs.declared.choice.Item.{Item}
 use Rattle.rule_machine.specs.declared.act.Moved.{Moved}
 use Rattle.rule_machine.specs.RuleTable.{RuleTable}
@@ -12,9 +12,14 @@ use Rattle.step_log.specs.declared.fault.RecordFault.{RecordFault}
 use Rattle.step_log.specs.declared.fault.RecordFault.TheVariants as record_fault
 use Rattle.step_log.specs.declared.receipt.Receipt.{Receipt}
 use Rattle.step_log.specs.Log.{Log, recorded, receipt_of}
+use Rattle.steal_pool.specs.declared.fault.PoolFault.{PoolFault}
+use Rattle.steal_pool.specs.declared.fault.PoolFault.TheVariants.{ZeroWorkers}
+use Rattle.steal_pool.specs.declared.fault.PoolFault.TheVariants as pool_fault
 use Rattle.locked_net.specs.Receipts.{front_of}
 use Rattle.locked_net.specs.declared.call_fault.CallFault.{CallFault}
 use Rattle.locked_net.specs.declared.call_fault.CallFault.TheVariants.{Behind, LogFull, Memory}
+use Rattle.locked_net.specs.declared.step_fault.StepFault.{StepFault}
+use Rattle.locked_net.specs.declared.step_fault.StepFault.TheVariants.{Call, Pool}
 
 -- why a clerk who has seen that many entries is not answered, before anything is asked of memory
 abbrev pub call_fault : ℕ → Log → Option CallFault
@@ -90,3 +95,25 @@ pub record Breaks (t : RuleTable) (before after : Log) (old new : List Receipt) 
   pub told : Tells t before after old new event reply
   pub register : IsTrue (is_register_fault event)
   pub accepted : reply ≡ Accepted
+
+-- ---- where workers judge a step
+
+-- an answer is the fault in the call, then that there are no workers, and want of memory only where it is neither
+abbrev pub ExplainsStep : Option CallFault → ℕ → StepFault → Type 0
+ExplainsStep (Some found) workers fault = fault ≡ Call found
+ExplainsStep None zero fault = fault ≡ Pool ZeroWorkers
+ExplainsStep None (suc others) fault = fault ≡ Call Memory
+
+-- what a clerk who does not see the log can tell of a fault
+abbrev pub MayAnswerStep : ℕ → ℕ → StepFault → Type 0
+MayAnswerStep seen workers (Call (Behind front told)) = (told ≡ seen) × (front < seen)
+MayAnswerStep seen workers (Call LogFull) = Unit {0}
+MayAnswerStep seen workers (Call Memory) = 0 < workers
+MayAnswerStep seen workers (Pool ZeroWorkers) = workers ≡ 0
+MayAnswerStep seen workers (Pool other) = ⊥
+
+-- the workers' fault as a step's
+abbrev pub step_fault : PoolFault → StepFault
+step_fault pool_fault.ZeroWorkers = Pool ZeroWorkers
+step_fault pool_fault.Thread = Pool pool_fault.Thread
+step_fault pool_fault.Memory = Call Memory

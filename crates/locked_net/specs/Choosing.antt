@@ -19,8 +19,7 @@ use Rattle.step_log.specs.Log.{Log, receipt_of}
 use Rattle.board.specs.Views.{Told}
 use Rattle.locked_net.specs.Receipts.{ClerkView, front_of, noted}
 use Rattle.locked_net.specs.Settings.{Setting, IsLogIn}
-use Rattle.locked_net.specs.Calls.{call_fault, checkpoint_fault, Explains}
-use Rattle.locked_net.specs.Stepping.{ExplainsStep}
+use Rattle.locked_net.specs.Calls.{call_fault, checkpoint_fault, Explains, ExplainsStep}
 use Rattle.locked_net.specs.declared.call_fault.CallFault.{CallFault}
 use Rattle.locked_net.specs.declared.step_fault.StepFault.{StepFault}
 

@@ -1,4 +1,5 @@
--- What lies behind a network's lock, as contracts see it: a whole log, the base of what is kept of it, and what is published of it.
+-- What lies behind a network's lock, as contracts see it: a whole log, the base of what is kept of it, and what is published of it; and
+-- which of that no event changes.
 use Rattle.std.specs.Prelude.{◌≡◌, ◌+◌, [], length, Option, Some}
 use Rattle.rule_machine.specs.declared.base.Base.{Base}
 use Rattle.rule_machine.specs.Base.{base_of}
@@ -7,6 +8,7 @@ use Rattle.board.specs.Views.{Name, Standing}
 use Rattle.step_log.specs.Kept.{Kept}
 use Rattle.step_log.specs.Log.{Log, IsLog}
 use Rattle.locked_net.specs.Above.{IsAbove, log_over}
+use Rattle.locked_net.specs.declared.key.NetKey.{NetKey}
 
 -- the log, with the entries that were dropped too; the base, if there is one; and the name of the board that has the log
 pub record DeskView : Type 0 where
@@ -25,3 +27,24 @@ pub record IsDesk (t : RuleTable) (kept : Kept) (board : Standing) : Type 0 wher
   pub above : IsAbove t (log_over kept board.list) kept
   pub posted : board.posted ≡ []
   pub extent : board.name.extent ≡ record { places = kept.state.network.size + 1; present = kept.present }
+
+-- ---- what no event changes: how many names there are, how many nodes there were at the start, how many entries the log may hold, and
+-- which board publishes it; and, beside the lock's key, the base
+
+-- the board's history, and a place for each name, and place 0, which is nobody's; the nodes of the start
+abbrev pub name_from : NetKey → Name
+name_from key = record { book = key.opening.book; extent = record { places = key.nodes + 1; present = key.present } }
+
+pub record IsOfKey (key : NetKey) (desk : DeskView) : Type 0 where
+  pub nodes : desk.log.state.network.size ≡ key.nodes
+  pub present : desk.log.present ≡ key.present
+  pub limit : desk.log.limit ≡ key.limit
+  pub name : desk.name ≡ name_from key
+
+-- all five are as they were
+pub record KeepsKey (old new : DeskView) : Type 0 where
+  pub nodes : new.log.state.network.size ≡ old.log.state.network.size
+  pub present : new.log.present ≡ old.log.present
+  pub limit : new.log.limit ≡ old.log.limit
+  pub name : new.name ≡ old.name
+  pub base : new.base ≡ old.base

@@ -5,12 +5,10 @@ pub mod Above
 pub mod Calls
 pub mod Choosing
 pub mod Marks
-pub mod Keys
 pub mod Desks
 pub mod Nets
 pub mod Looks
 pub mod Roaming
 pub mod Roamed
-pub mod Stepping
 pub mod Seen
 pub mod Headline

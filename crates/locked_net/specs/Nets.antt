@@ -6,7 +6,7 @@ use Rattle.board.specs.Views.{Name, Reading}
 use Rattle.step_log.specs.Log.{Log}
 use Rattle.keyed_lock.specs.Locks.{key_of}
 use Rattle.locked_net.specs.Settings.{Setting, IsLogIn}
-use Rattle.locked_net.specs.Keys.{name_from}
+use Rattle.locked_net.specs.Desks.{name_from}
 use Rattle.locked_net.specs.declared.key.NetKey.{NetKey}
 use Rattle.locked_net.specs.declared.net.LockedNet.{LockedNet}
 

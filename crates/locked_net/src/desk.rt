@@ -10,9 +10,8 @@ ghost use Rattle.step_log.specs.Held.{IsReady, kept_of};
 ghost use Rattle.step_log.specs.Kept.{IsKept};
 ghost use Rattle.step_log.specs.Log.{IsLog, max_entries, recorded, receipt_of};
 ghost use Rattle.locked_net.specs.Above.{IsAbove, log_over};
-ghost use Rattle.locked_net.specs.Desks.{IsDesk, based};
+ghost use Rattle.locked_net.specs.Desks.{IsDesk, based, KeepsKey};
 ghost use Rattle.locked_net.specs.Looks.{BoundsGrowth};
-ghost use Rattle.locked_net.specs.Keys.{KeepsKey};
 
 use crate::SeenCost;
 use board::{Board, NoPlace, Note, Reader, Runs};

@@ -33,8 +33,7 @@ impl<'a, R: Rules> Model for HeldNet<'a, R> {
     ghost use Rattle.rule_machine.specs.State.{state_code};
     ghost use Rattle.logbook.specs.Pages.{book_coded};
     ghost use Rattle.keyed_lock.specs.Locks.{IsHoldOf};
-    ghost use Rattle.locked_net.specs.Desks.{DeskView};
-    ghost use Rattle.locked_net.specs.Keys.{IsOfKey};
+    ghost use Rattle.locked_net.specs.Desks.{DeskView, IsOfKey};
     ghost use Rattle.locked_net.specs.Nets.{net_key_of};
 
     ghost Value = { DeskView };

@@ -19,7 +19,7 @@ pub(crate) struct NetKey {
 pub(crate) struct OfKey;
 
 impl<R: Rules> Invariant<Desk<R>, NetKey> for OfKey {
-    ghost use Rattle.locked_net.specs.Keys.{IsOfKey};
+    ghost use Rattle.locked_net.specs.Desks.{IsOfKey};
 
     ghost holds = { λ key desk. IsOfKey key desk };
 }

@@ -26,7 +26,7 @@ pub struct LockedNet<R: Rules> {
 
 impl<R: Rules> LockedNet<R> {
     ghost use Rattle.keyed_lock.specs.Locks.{IsHoldOf};
-    ghost use Rattle.locked_net.specs.Keys.{IsOfKey};
+    ghost use Rattle.locked_net.specs.Desks.{IsOfKey};
     ghost use Rattle.locked_net.specs.Above.{IsPart};
     ghost use Rattle.locked_net.specs.Looks.{IsPublished};
     ghost use Rattle.locked_net.specs.Nets.{net_key_of, nodes_of, present_of, limit_of, book_of, name_of, setting_of, HasSeenLog};

@@ -29,7 +29,7 @@ impl From<CallFault> for StepFault {
 
 impl From<PoolFault> for StepFault {
     ghost use Rattle.std.specs.Prelude.{◌≡◌};
-    ghost use Rattle.locked_net.specs.Stepping.{step_fault};
+    ghost use Rattle.locked_net.specs.Calls.{step_fault};
 
     ghost from_gives = { λ why fault. fault ≡ step_fault why };
 

@@ -5,7 +5,7 @@ ghost use Rattle.rule_machine.specs.declared.event.Event.TheVariants.{Step};
 ghost use Rattle.rule_engine.specs.Choosing.{verdicts_of};
 ghost use Rattle.step_log.specs.Log.{recorded, receipt_of};
 ghost use Rattle.locked_net.specs.Receipts.{HasNoteOf, front_of};
-ghost use Rattle.locked_net.specs.Keys.{KeepsKey};
+ghost use Rattle.locked_net.specs.Desks.{KeepsKey};
 ghost use Rattle.locked_net.specs.Calls.{call_fault};
 ghost use Rattle.locked_net.specs.declared.call_fault.CallFault.TheVariants.{Memory};
 

@@ -3,7 +3,7 @@
 ghost use Rattle.std.specs.Prelude.{◌≡◌, ◌<◌, ◌++◌, ◌∷◌, [], None, IfOk, IfErr, OnOk, OnErr};
 ghost use Rattle.step_log.specs.Log.{recorded, receipt_of};
 ghost use Rattle.locked_net.specs.Receipts.{HasNoteOf, front_of, seen_by};
-ghost use Rattle.locked_net.specs.Keys.{KeepsKey};
+ghost use Rattle.locked_net.specs.Desks.{KeepsKey};
 ghost use Rattle.locked_net.specs.Calls.{call_fault, Explains};
 
 use crate::{CallFault, Clerk, HeldNet};

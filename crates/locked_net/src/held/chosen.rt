@@ -4,7 +4,7 @@ ghost use Rattle.std.specs.Prelude.{◌≡◌, ◌≢◌, ◌<◌, ◌↔◌, No
 ghost use mathlib.Core.List.{IsPrefix};
 ghost use Rattle.rule_machine.specs.Network.{node_count};
 ghost use Rattle.locked_net.specs.Receipts.{HasNoteOf, front_of, seen_by, noted};
-ghost use Rattle.locked_net.specs.Keys.{KeepsKey};
+ghost use Rattle.locked_net.specs.Desks.{KeepsKey};
 ghost use Rattle.locked_net.specs.Calls.{call_fault, Explains, Drives, Breaks};
 ghost use Rattle.locked_net.specs.Choosing.{ByDaemon, ByInjector, ChoosesOn};
 ghost use Rattle.locked_net.specs.declared.call_fault.CallFault.TheVariants.{Memory};

@@ -3,7 +3,7 @@
 ghost use Rattle.std.specs.Prelude.{◌≡◌, ◌++◌, ◌∷◌, [], None, Some, IfOk, IfErr, OnOk, OnErr};
 ghost use Rattle.step_log.specs.Log.{IsLog, recorded, receipt_of};
 ghost use Rattle.locked_net.specs.Receipts.{HasNoteOf, front_of};
-ghost use Rattle.locked_net.specs.Keys.{KeepsKey};
+ghost use Rattle.locked_net.specs.Desks.{KeepsKey};
 ghost use Rattle.locked_net.specs.Calls.{call_fault, Explains};
 ghost use Rattle.locked_net.specs.Roamed.{KeepsNote};
 ghost use Rattle.locked_net.specs.Roaming.{mover, lone_step, log_after_turn, receipts_of_turn, fault_of_turn, FaultInTurn};
