@@ -1,6 +1,6 @@
 -- What is kept of a whole log: how many entries there are, what the next one's receipt is, and that it is a part of the log behind
 -- the next entry and behind a checkpoint.
-use Rattle.std.proofs.Common.{◌≡◌, ℕ, ◌+◌, ◌<◌, ◌≤◌, [], ◌∷◌, ◌++◌, length, refl, sym, ap, ap₂, ◌∙◌, subst, append_assoc, length-append, arith}
+use Rattle.std.proofs.Common.{◌≡◌, ℕ, ◌+◌, ◌<◌, [], ◌∷◌, ◌++◌, length, refl, sym, ap, ap₂, ◌∙◌, subst, append_assoc, length-append, arith}
 use Rattle.std.proofs.lemmas.List.{append-nil}
 use Rattle.rule_machine.specs.declared.event.Event.{Event}
 use Rattle.rule_machine.specs.State.{State, IsState}
@@ -13,8 +13,8 @@ use Rattle.machine_laws.specs.LeastAnswers.{least_answers}
 use Rattle.machine_laws.specs.Keeps.{opening_is_state}
 use Rattle.machine_laws.specs.Runs.{runs_end_in_states, run_add}
 use Rattle.machine_laws.specs.Sizes.{runs_keep_size}
-use Rattle.step_log.specs.Kept.{Kept, checkpointed, kept_with, last_number, moment_in, next_entry, next_receipt, whole}
-use Rattle.step_log.specs.Log.{Log, IsLog, empty_log_with, entry_of, max_entries, receipt_of, recorded}
+use Rattle.step_log.specs.Kept.{Kept, checkpointed, kept_with, last_number, moment_in, next_entry, whole}
+use Rattle.step_log.specs.Log.{Log, IsLog, entry_of, recorded}
 use Rattle.locked_net.specs.Above.{IsAbove, TellsEnd}
 
 -- where a log ends
@@ -28,11 +28,6 @@ above_len t log kept above =
 
 pub same_end : (t : RuleTable) (log : Log) (kept : Kept) → IsAbove t log kept → moment_in kept ≡ end_of log
 same_end t log kept above = ap₂ (λ (s : State) (n : ℕ). record { state = s; spent = n }) above.state above.spent
-
--- the receipt of the next entry
-pub receipt_above : (t : RuleTable) (log : Log) (kept : Kept) → IsAbove t log kept → (event : Event) → next_receipt t kept event ≡ receipt_of t log event
-receipt_above t log kept above event =
-    ap₂ (λ (n : ℕ) (m : Moment). record { seq = n + 1; event = event; reply = reply_of t m.state m.spent event }) (sym (above_len t log kept above)) (same_end t log kept above)
 
 -- the base at which the network stands
 pub base_above : (t : RuleTable) (log : Log) (kept : Kept) → IsAbove t log kept → base_of (last_number kept) (moment_in kept) ≡ base_of (length log.entries) (end_of log)
@@ -95,9 +90,3 @@ checkpoint_above t log kept is above = record {
   limit = above.limit;
   present = above.present;
 }
-
-pub whole_above : (t : RuleTable) (log : Log) → IsAbove t log (whole log)
-whole_above t log = record { below = []; splits = refl; count = refl; tells = tt; state = refl; spent = refl; limit = refl; present = refl }
-
-pub opening_is_log : (t : RuleTable) (size first limit : ℕ) → size ≤ 65535 → limit ≤ max_entries → IsLog t (empty_log_with size first limit)
-opening_is_log t size first limit small within = record { run = refl; size = small; room = omega arith; limit = within }

@@ -240,14 +240,6 @@ is_kept kept receipt entry above there same =
     let within = slice_get_within kept.entries (receipt.seq - dropped kept.base - 1) entry there in
     record { numbered = omega (arith, above); within = omega (arith, within, above); same = λ _. there ∙ ap Some same }
 
--- one that was dropped has a number alone
-pub is_dropped : (kept : Kept) (receipt : Receipt) → 0 < receipt.seq → receipt.seq ≤ dropped kept.base → IsEntryAbove kept receipt
-is_dropped kept receipt numbered low = record {
-  numbered = numbered;
-  within = omega (arith, low);
-  same = λ above. absurd (omega (arith, low, above));
-}
-
 -- the receipt that is read at a place of a clerk's list stands there
 pub standing : (clerks : List ClerkView) (c p : ℕ) (clerk : ClerkView) (items : List Receipt) (receipt : Receipt) → c < length clerks → clerk ≡ get_or clerks c clerk → items ≡ clerk.receipts → p < length items → receipt ≡ get_or items p receipt → StandsAt clerks c p receipt
 standing clerks c p clerk items receipt there is same inside read = record {

@@ -1,5 +1,5 @@
--- What a desk publishes is a run of the rules, and it is a desk behind the next entry, behind a checkpoint, and at the start.
-use Rattle.std.proofs.Common.{◌≡◌, ◌+◌, ◌<◌, ◌≤◌, ℕ, List, [], ◌∷◌, ◌++◌, length, Result, Ok, Err, OnOk, OnErr, refl, sym, ap, ap₂, ◌∙◌, subst, arith}
+-- What a desk publishes is a run of the rules, and it is a desk behind the next entry, and behind a checkpoint.
+use Rattle.std.proofs.Common.{◌≡◌, ◌+◌, ◌<◌, ℕ, [], ◌∷◌, ◌++◌, length, Result, Ok, Err, OnOk, OnErr, refl, sym, ap, ◌∙◌, subst, arith}
 use Rattle.rule_machine.specs.declared.event.Event.{Event}
 use Rattle.rule_machine.specs.RuleTable.{RuleTable}
 use Rattle.rule_machine.specs.Run.{Entry, Run, beginning_with}
@@ -7,11 +7,11 @@ use Rattle.machine_laws.specs.LeastMoves.{IsTable}
 use Rattle.board.specs.Row.{Extent, IsRun}
 use Rattle.board.specs.Views.{Standing}
 use Rattle.step_log.specs.Held.{Held, kept_of}
-use Rattle.step_log.specs.Kept.{Kept, checkpointed, kept_with, last_number, next_entry, whole}
-use Rattle.step_log.specs.Log.{Log, IsLog, empty_log_with, max_entries, recorded}
-use Rattle.locked_net.specs.Above.{IsAbove, log_over}
+use Rattle.step_log.specs.Kept.{Kept, checkpointed, kept_with, last_number, next_entry}
+use Rattle.step_log.specs.Log.{recorded}
+use Rattle.locked_net.specs.Above.{log_over}
 use Rattle.locked_net.specs.Desks.{IsDesk}
-use Rattle.locked_net.proofs.Above.{above_len, end_of, recorded_is_log, recorded_size, recorded_above, checkpoint_above, whole_above, opening_is_log}
+use Rattle.locked_net.proofs.Above.{above_len, end_of, recorded_is_log, recorded_size, recorded_above, checkpoint_above}
 
 -- the board's entries and the next one are a run
 run_more : (t : RuleTable) → IsTable t → (kept : Kept) (board : Standing) (event : Event) → IsDesk t kept board → last_number kept < kept.limit → IsRun t board.name.extent (board.list ++ next_entry t kept event ∷ [])
@@ -48,10 +48,6 @@ desk_after t table kept after board now event entry desk below next told shown =
     subst (λ (k : Kept). IsDesk t k now) (sym told)
     (subst (IsDesk t (kept_with t kept event)) (sym (shown ∙ ap (λ (e : Entry). record { list = board.list ++ e ∷ []; posted = []; name = board.name }) next)) there)
 
--- the whole log then
-pub log_after : (t : RuleTable) (kept after : Kept) (list now : List Entry) (event : Event) (entry : Entry) → entry ≡ next_entry t kept event → after ≡ kept_with t kept event → now ≡ list ++ entry ∷ [] → log_over after now ≡ recorded t (log_over kept list) event
-log_after t kept after list now event entry next told shown = ap₂ log_over told (shown ∙ ap (λ (e : Entry). list ++ e ∷ []) next)
-
 -- behind a checkpoint
 pub desk_checkpointed : (t : RuleTable) (kept after : Kept) (board : Standing) → IsDesk t kept board → after ≡ checkpointed kept → IsDesk t after board
 desk_checkpointed t kept after board desk told =
@@ -61,17 +57,3 @@ desk_checkpointed t kept after board desk told =
 pub desk_kept : {A B : Type 0} (t : RuleTable) (held after : Held) (board : Standing) (result : Result A B) → IsDesk t (kept_of held) board → OnOk result (kept_of after ≡ checkpointed (kept_of held)) → OnErr result (after ≡ held) → IsDesk t (kept_of after) board
 desk_kept t held after board (Ok number) desk told same = desk_checkpointed t (kept_of held) (kept_of after) board desk told
 desk_kept t held after board (Err fault) desk told same = subst (λ (h : Held). IsDesk t (kept_of h) board) (sym same) desk
-
--- at the start
-pub desk_opened : (t : RuleTable) (kept : Kept) (board : Standing) (size present limit : ℕ) → size ≤ 65535 → limit ≤ max_entries → kept ≡ whole (empty_log_with size present limit) → board.list ≡ [] → board.posted ≡ [] → board.name.extent ≡ record { places = size + 1; present = present }
-    → IsDesk t kept board
-desk_opened t kept board size present limit small within is list posted extent =
-    let log = empty_log_with size present limit in
-    let same : log_over (whole log) board.list ≡ log = ap (log_over (whole log)) list in
-    subst (λ (k : Kept). IsDesk t k board) (sym is)
-    record {
-      is_log = subst (IsLog t) (sym same) (opening_is_log t size present limit small within);
-      above = subst (λ (l : Log). IsAbove t l (whole log)) (sym same) (whole_above t log);
-      posted = posted;
-      extent = extent;
-    }

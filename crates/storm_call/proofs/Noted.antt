@@ -1,5 +1,5 @@
 -- Whose notes a clerk has, and what they tell after a call.
-use Rattle.std.proofs.Common.{◌≡◌, ◌∙◌, ◌<◌, ◌∷◌, [], ℕ, List, Bool, false, not, Option, None, Some, IfSome, IsSomeAnd, refl, ap, sym, subst, append-nil}
+use Rattle.std.proofs.Common.{◌≡◌, ◌∙◌, ◌<◌, ◌∷◌, [], Bool, false, not, Option, None, Some, IfSome, IsSomeAnd, refl, ap, sym, subst}
 use Rattle.std.specs.Option.{is_some}
 use Rattle.std.proofs.lemmas.Bool.{false≢true}
 use Rattle.std.proofs.lemmas.List.Elements.{All-nil, All-cons}
@@ -45,11 +45,6 @@ told_one scene event old new reply kept above =
     let receipt : Receipt = record { seq = kept.seq; event = event; reply = reply } in
     let P = λ (r : Receipt). base_from old.base < r.seq in
     record { own = receipt ∷ []; added = kept.added; fits = (refl, All-cons P receipt [] (last_above old new old.base receipt refl kept.added above) (All-nil P)) }
-
--- nothing was told
-pub told_none : (P : List Receipt → Type 0) (base : Option ℕ) (old new : List Receipt) → new ≡ old → P [] → Adds (λ own. P own × AreAbove base own) old new
-told_none P base old new same holds =
-    record { own = []; added = same ∙ sym (append-nil old); fits = (holds, All-nil (λ (r : Receipt). base_from base < r.seq)) }
 
 -- with one receipt more
 pub kept_grown : (old new : ClerkView) (before : Option Told) (event : Event) (reply : Reply) → before ≡ old.note → IsClerk old → Keeps old.receipts new.receipts event reply → AreComparable (noted before) (noted new.note) → IsClerk new
