@@ -15,6 +15,14 @@ use std::sync::Wait;
 use std::thread::{Threads, join_mut};
 use steal_pool::Gate;
 
+/// Scripts in two rows, the right one behind the left, and the number of the first.
+#[derive(Drop)]
+struct Halves<'a> {
+    first: u32,
+    left: &'a [Script],
+    right: &'a [Script],
+}
+
 /// Plays each script by the clerk at its place, all at once where threads can be had, and answers the first fault in their
 /// order. The first script has the number handed in.
 #[cycle(forks)]
@@ -38,7 +46,8 @@ pub(crate) fn play_all<R: Rules + Send + Sync, G: Gate + Sync, T: Threads + Wait
     let middle = scripts.len() / 2;
     let (left, right) = scripts.split_at(middle);
     let (ours, theirs) = clerks.split_at_mut(middle);
-    let (fault, other) = play_halves(rt, stage, first, left, right, ours, theirs);
+    let halves = Halves { first, left, right };
+    let (fault, other) = play_halves(rt, stage, &halves, ours, theirs);
     fault.or(other)
 }
 
@@ -47,22 +56,21 @@ pub(crate) fn play_all<R: Rules + Send + Sync, G: Gate + Sync, T: Threads + Wait
 fn play_halves<R: Rules + Send + Sync, G: Gate + Sync, T: Threads + Wait + Sync>(
     rt: &T,
     stage: &Stage<R, G>,
-    first: u32,
-    left: &[Script],
-    right: &[Script],
+    halves: &Halves,
     ours: &mut [Clerk],
     theirs: &mut [Clerk],
 ) -> (Option<CallFault>, Option<CallFault>)
-    requires left_size { length left.now ≡ length ours.old }
-    requires right_size { length right.now ≡ length theirs.old }
-    requires numbers { first + length left.now + length right.now < 2 ^ 32 }
+    requires left_size { length halves.now.left.now ≡ length ours.old }
+    requires right_size { length halves.now.right.now ≡ length theirs.old }
+    requires numbers { halves.now.first + length halves.now.left.now + length halves.now.right.now < 2 ^ 32 }
     requires left_fresh { All (λ clerk. clerk ≡ fresh) ours.old }
     requires right_fresh { All (λ clerk. clerk ≡ fresh) theirs.old }
-    ensures left { PlayedOn (setting_of R.table stage.now.net.now) left.now ours.new result.0 }
-    ensures right { PlayedOn (setting_of R.table stage.now.net.now) right.now theirs.new result.1 }
+    ensures left { PlayedOn (setting_of R.table stage.now.net.now) halves.now.left.now ours.new result.0 }
+    ensures right { PlayedOn (setting_of R.table stage.now.net.now) halves.now.right.now theirs.new result.1 }
     ensures left_notes { All (IsOfBook (book_of stage.now.net.now)) ours.new }
     ensures right_notes { All (IsOfBook (book_of stage.now.net.now)) theirs.new }
 {
+    let (first, left, right) = (halves.first, halves.left, halves.right);
     let second = first + left.len() as u32;
     join_mut(
         rt,

@@ -11,4 +11,4 @@ abbrev pub decreases-play_all : goal.decreases-play_all
 decreases-play_all g l = 4 * length l.scripts.now
 
 abbrev pub decreases-play_halves : goal.decreases-play_halves
-decreases-play_halves g l = 4 * max (length l.left.now) (length l.right.now) + 2
+decreases-play_halves g l = 4 * max (length l.halves.now.left.now) (length l.halves.now.right.now) + 2
