@@ -1,21 +1,14 @@
 -- What a call tells that looks behind a network's lock and records nothing.
-use Rattle.std.specs.Prelude.{◌≡◌, ℕ, ◌+◌, ◌≤◌}
+use Rattle.std.specs.Prelude.{◌≡◌, ℕ}
 use Rattle.rule_machine.specs.declared.event.Event.{Event}
-use Rattle.rule_machine.specs.declared.reply.Reply.TheVariants.{Accepted}
-use Rattle.rule_machine.specs.Answer.{Answers}
-use Rattle.rule_machine.specs.RuleTable.{RuleTable}
 use Rattle.rule_machine.specs.State.{State}
-use Rattle.rule_engine.specs.Costs.{cost_of}
+use Rattle.rule_engine.specs.Costs.{cost_of, BoundsGrowth}
 use Rattle.logbook.specs.Pages.{Book}
 use Rattle.board.specs.Views.{Told}
 use Rattle.step_log.specs.Kept.{Kept}
 use Rattle.step_log.specs.Log.{Log}
 use Rattle.locked_net.specs.Above.{IsPart}
 use Rattle.locked_net.specs.Settings.{Setting, IsLogIn}
-
--- where the event is accepted, the charge grows by no more than this
-abbrev pub BoundsGrowth : RuleTable → Log → Event → ℕ → Type 0
-BoundsGrowth t log event cost = (after : State) → Answers t log.state log.spent event Accepted after → t.charge after ≤ t.charge log.state + cost
 
 -- The log that lay behind the lock was just what the note tells, published in this history. In the state in which it ends the event costs so
 -- much, and where it is accepted the charge grows by no more.
@@ -25,7 +18,7 @@ pub record IsCostSeen (setting : Setting) (book : Book) (weighs : State → Even
   pub published : note.log ≡ log.entries
   pub in_book : note.book ≡ book
   pub costs : cost ≡ cost_of setting.table weighs log.state event
-  pub grows : BoundsGrowth setting.table log event cost
+  pub grows : BoundsGrowth setting.table log.state log.spent event cost
 
 -- What is kept is the part above its base of just the log that the note tells, published in this history.
 pub record IsPublished (setting : Setting) (book : Book) (kept : Kept) (note : Told) : Type 0 where

@@ -4,14 +4,13 @@ ghost use Rattle.std.specs.Prelude.{◌≡◌, ◌+◌, ◌≤◌, ◌↔◌, le
 ghost use Rattle.graph_store.specs.Fault.{nodes_fault, Explains};
 ghost use Rattle.rule_machine.specs.declared.event.Event.TheVariants.{Step};
 ghost use Rattle.rule_engine.specs.Choosing.{verdicts_of};
-ghost use Rattle.rule_engine.specs.Costs.{cost_of};
+ghost use Rattle.rule_engine.specs.Costs.{cost_of, BoundsGrowth};
 ghost use Rattle.step_log.specs.declared.fault.RecordFault.TheVariants.{LogFull};
 ghost use Rattle.step_log.specs.Held.{IsReady, kept_of};
 ghost use Rattle.step_log.specs.Kept.{IsKept};
 ghost use Rattle.step_log.specs.Log.{IsLog, max_entries, recorded, receipt_of};
 ghost use Rattle.locked_net.specs.Above.{IsAbove, log_over};
 ghost use Rattle.locked_net.specs.Desks.{IsDesk, based, KeepsKey};
-ghost use Rattle.locked_net.specs.Looks.{BoundsGrowth};
 
 use crate::SeenCost;
 use board::{Board, NoPlace, Note, Reader, Runs};
@@ -114,7 +113,7 @@ impl<R: Rules> Desk<R> {
     /// What an event would cost, with a note of what is published.
     pub(crate) fn cost_of(&self, event: &Event) -> SeenCost
         ensures cost { result.cost ≡ cost_of R.table R.cost self.now.log.state event.now }
-        ensures grows { BoundsGrowth R.table self.now.log event.now result.cost }
+        ensures grows { BoundsGrowth R.table self.now.log.state self.now.log.spent event.now result.cost }
         ensures note { (result.note.log ≡ self.now.log.entries) × (result.note.book ≡ self.now.name.book) }
         ensures run { IsLog R.table self.now.log }
     {

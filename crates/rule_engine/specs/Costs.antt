@@ -1,7 +1,9 @@
 -- What an event costs, as long as it is not carried out.
-use Rattle.std.specs.Prelude.{ℕ, Bool, false, cond, is_none}
+use Rattle.std.specs.Prelude.{ℕ, ◌+◌, ◌≤◌, Bool, false, cond, is_none}
 use Rattle.rule_machine.specs.declared.event.Event.{Event}
 use Rattle.rule_machine.specs.declared.event.Event.TheVariants.{Link, Unlink, Point, Flag, Join, Leave}
+use Rattle.rule_machine.specs.declared.reply.Reply.TheVariants.{Accepted}
+use Rattle.rule_machine.specs.Answer.{Answers}
 use Rattle.rule_machine.specs.State.{State}
 use Rattle.rule_machine.specs.RuleTable.{RuleTable}
 use Rattle.rule_machine.specs.Refuse.{refusal_of}
@@ -19,3 +21,7 @@ disturbs t s event = false
 -- the cost of a disturbance by its rule set; 0 for one that is refused, and for every other event
 abbrev pub cost_of : RuleTable → (State → Event → ℕ) → State → Event → ℕ
 cost_of t cost s event = cond (disturbs t s event) (cost s event) 0
+
+-- where the event is accepted, the charge grows by no more than this
+abbrev pub BoundsGrowth : RuleTable → State → ℕ → Event → ℕ → Type 0
+BoundsGrowth t s spent event cost = (after : State) → Answers t s spent event Accepted after → t.charge after ≤ t.charge s + cost

@@ -5,20 +5,19 @@ ghost use Rattle.enabled_set.specs.Members.{members};
 ghost use Rattle.graph_store.specs.Fault.{nodes_fault, Explains};
 ghost use Rattle.rule_machine.specs.Base.{base_of};
 ghost use Rattle.rule_machine.specs.Network.{node_count, edge_count};
-ghost use Rattle.rule_machine.specs.State.{State, IsState};
+ghost use Rattle.rule_machine.specs.State.{IsState};
 ghost use Rattle.rule_machine.specs.RuleTable.{enabled_names};
 ghost use Rattle.rule_machine.specs.Refuse.{refusal_of};
 ghost use Rattle.rule_machine.specs.Least.{reply_of, replies_of};
 ghost use Rattle.rule_machine.specs.Stable.{IsStable, IsMaximalMatching, mutual_pairs};
 ghost use Rattle.rule_machine.specs.Run.{Run, beginning, beginning_with, moment_after};
 ghost use Rattle.rule_machine.specs.Answer.{Answers};
-ghost use Rattle.rule_machine.specs.declared.reply.Reply.TheVariants.{Accepted};
 ghost use Rattle.machine_laws.specs.Half.{IsMatching};
 ghost use Rattle.rule_machine.specs.declared.event.Event.TheVariants.{Step};
 ghost use Rattle.rule_engine.specs.Kept.{guard_at, IsAnswered};
 ghost use Rattle.rule_engine.specs.Applied.{StopsAt, moment_after_all, takes_memory};
 ghost use Rattle.rule_engine.specs.Choosing.{verdict_of, verdicts_of};
-ghost use Rattle.rule_engine.specs.Costs.{cost_of};
+ghost use Rattle.rule_engine.specs.Costs.{cost_of, BoundsGrowth};
 ghost use Rattle.rule_engine.specs.Prepared.{IsPrepared, moment_of};
 
 use crate::charge::spent_after;
@@ -151,7 +150,7 @@ impl<R: Rules> Net<R> {
     /// degrees of the nodes that the event touches, whatever the size of the network, and nothing changes.
     pub fn cost_of(&self, event: &Event) -> u32
         ensures cost { result ≡ cost_of R.table R.cost self.now.state event.now }
-        ensures grows { (after : State) → Answers R.table self.now.state self.now.spent event.now Accepted after → R.table.charge after ≤ R.table.charge self.now.state + result }
+        ensures grows { BoundsGrowth R.table self.now.state self.now.spent event.now result }
     {
         let _ = self.engine.registers();
         self.engine.cost_of(event)

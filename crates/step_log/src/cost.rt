@@ -1,10 +1,7 @@
 //! What an event would cost where a journal stands.
 
-ghost use Rattle.std.specs.Prelude.{◌≡◌, ◌+◌, ◌≤◌};
-ghost use Rattle.rule_machine.specs.declared.reply.Reply.TheVariants.{Accepted};
-ghost use Rattle.rule_machine.specs.Answer.{Answers};
-ghost use Rattle.rule_machine.specs.State.{State};
-ghost use Rattle.rule_engine.specs.Costs.{cost_of};
+ghost use Rattle.std.specs.Prelude.{◌≡◌};
+ghost use Rattle.rule_engine.specs.Costs.{cost_of, BoundsGrowth};
 
 use crate::Journal;
 use rule_engine::{Event, Rules};
@@ -14,7 +11,7 @@ impl<R: Rules> Journal<R> {
     /// be refused, for a step and for a question. Nothing is recorded, and no memory taken; it costs what `Net::cost_of` does.
     pub fn cost_of(&self, event: &Event) -> u32
         ensures cost { result ≡ cost_of R.table R.cost self.now.state event.now }
-        ensures grows { (after : State) → Answers R.table self.now.state self.now.spent event.now Accepted after → R.table.charge after ≤ R.table.charge self.now.state + result }
+        ensures grows { BoundsGrowth R.table self.now.state self.now.spent event.now result }
     {
         self.net().cost_of(event)
     }

@@ -1,8 +1,7 @@
 //! Looks at a network whose lock is held.
 
 ghost use Rattle.std.specs.Prelude.{◌≡◌, IfOk};
-ghost use Rattle.rule_engine.specs.Costs.{cost_of};
-ghost use Rattle.locked_net.specs.Looks.{BoundsGrowth};
+ghost use Rattle.rule_engine.specs.Costs.{cost_of, BoundsGrowth};
 
 use crate::{HeldNet, SeenCost};
 use board::{NoPlace, Reader, Runs};
@@ -12,7 +11,7 @@ impl<R: Rules> HeldNet<'_, R> {
     /// What an event would cost, with a note of the log: `LockedNet::cost_of`, where the lock is held already.
     pub fn cost_of(&self, event: &Event) -> SeenCost
         ensures cost { result.cost ≡ cost_of R.table R.cost self.now.log.state event.now }
-        ensures grows { BoundsGrowth R.table self.now.log event.now result.cost }
+        ensures grows { BoundsGrowth R.table self.now.log.state self.now.log.spent event.now result.cost }
         ensures note { (result.note.log ≡ self.now.log.entries) × (result.note.book ≡ self.now.name.book) }
     {
         self.desk.cost_of(event)
