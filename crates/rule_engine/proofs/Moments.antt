@@ -20,6 +20,7 @@ use Rattle.charge_laws.specs.Laws.{beginning_is_within}
 use Rattle.charge_laws.specs.Runs.{answer_within}
 use Rattle.rule_engine.specs.Applied.{IsPaid, StopsAt, moment_after_all, takes_memory}
 use Rattle.rule_engine.specs.Kept.{moment}
+use Rattle.rule_engine.specs.Prepared.{NetView, IsPrepared}
 
 -- ---- what is spent
 
@@ -41,6 +42,11 @@ turn_answers t table m good event reply s told is =
 pub turn_is_paid : (t : RuleTable) (weight : ℕ) → IsTable t → IsCharged t weight → (m : Moment) → IsPaid t weight m → (event : Event) (reply : Reply) (s : State) → reply ≡ reply_of t m.state m.spent event → s ≡ state_after t m.state event → IsPaid t weight (moment s (spent_after m.spent reply))
 turn_is_paid t weight table charged m paid event reply s told is =
     answer_is_paid t weight table charged m paid event reply s (turn_answers t table m paid.is_state event reply s told is)
+
+-- so it is with a reply that was prepared
+pub prepared_is_paid : (t : RuleTable) (weight : ℕ) → IsTable t → IsCharged t weight → (inside net : NetView) → inside ≡ net → IsPaid t weight (moment inside.state inside.spent) → (event : Event) (reply : Reply) → IsPrepared t net event reply → (s : State) → s ≡ state_after t inside.state event → IsPaid t weight (moment s (spent_after inside.spent reply))
+prepared_is_paid t weight table charged inside net same paid event reply ready s is =
+    turn_is_paid t weight table charged (moment inside.state inside.spent) paid event reply s (subst (λ (n : NetView). reply ≡ reply_of t n.state n.spent event) (sym same) ready.reply_is) is
 
 -- ---- events in turn
 

@@ -6,7 +6,7 @@ use Rattle.rule_engine.specs.Applied.{IsPaid}
 use Rattle.rule_engine.specs.Kept.{moment}
 use Rattle.rule_engine.specs.Prepared.{NetView}
 use Rattle.rule_machine.specs.Answer.{Answers}
-use Rattle.rule_engine.proofs.Moments.{turn_answers, turn_is_paid}
+use Rattle.rule_engine.proofs.Moments.{turn_answers, prepared_is_paid}
 use Rattle.rule_engine.proofs.net.Net.commit.Goals as goal
 
 pub spent_after-self-inside-requires : goal.spent_after-self-inside-requires
@@ -14,12 +14,9 @@ spent_after-self-inside-requires g c =
     let laws = g.met.R.Rules in
     let t = g.R.Rules.table in
     let weight = g.R.Rules.NODE_WEIGHT in
-    let reply = c.args.reply.now in
     let table : IsTable t = record { allowed_is_neighbour = laws.allowed_is_neighbour; allowed_takes_target = laws.allowed_takes_target; has_target = laws.has_target } in
     let charged : IsCharged t weight = record { falls = laws.charge_falls; bounded = laws.charge_is_bounded; zero_is_stable = laws.no_charge_is_stable } in
-    let told : reply ≡ reply_of t c.self.inside.engine.state c.self.inside.spent c.args.event.now = subst (λ (n : NetView). reply ≡ reply_of t n.state n.spent c.args.event.now) (sym c.self.view_is) c.requires.reply_is in
-    let paid = turn_is_paid t weight table charged (moment c.self.inside.engine.state c.self.inside.spent) c.self.invariant c.args.event.now reply c.commit.new.self.state told c.commit.ensures in
-    let within = paid.within in
+    let within = (prepared_is_paid t weight table charged _ _ c.self.view_is c.self.invariant c.args.event.now c.args.reply.now c.requires c.commit.new.self.state c.commit.ensures).within in
     let bound = ap (charge_bound weight) c.store.ensures.network in
     omega (arith, within, bound)
 
@@ -28,12 +25,9 @@ invariant_of-self g c =
     let laws = g.met.R.Rules in
     let t = g.R.Rules.table in
     let weight = g.R.Rules.NODE_WEIGHT in
-    let reply = c.args.reply.now in
     let table : IsTable t = record { allowed_is_neighbour = laws.allowed_is_neighbour; allowed_takes_target = laws.allowed_takes_target; has_target = laws.has_target } in
     let charged : IsCharged t weight = record { falls = laws.charge_falls; bounded = laws.charge_is_bounded; zero_is_stable = laws.no_charge_is_stable } in
-    let told : reply ≡ reply_of t c.self.inside.engine.state c.self.inside.spent c.args.event.now = subst (λ (n : NetView). reply ≡ reply_of t n.state n.spent c.args.event.now) (sym c.self.view_is) c.requires.reply_is in
-    let paid = turn_is_paid t weight table charged (moment c.self.inside.engine.state c.self.inside.spent) c.self.invariant c.args.event.now reply c.commit.new.self.state told c.commit.ensures in
-    subst (λ n. IsPaid t weight (moment c.commit.new.self.state n)) (sym c.spent_after-self-inside.ensures) paid
+    subst (λ n. IsPaid t weight (moment c.commit.new.self.state n)) (sym c.spent_after-self-inside.ensures) (prepared_is_paid t weight table charged _ _ c.self.view_is c.self.invariant c.args.event.now c.args.reply.now c.requires c.commit.new.self.state c.commit.ensures)
 
 pub returns-clause-machine : goal.returns-clause-machine
 returns-clause-machine g c =
