@@ -9,7 +9,7 @@ use Rattle.rule_machine.specs.declared.event.Event.TheVariants.{Link, Unlink, Po
 use Rattle.rule_machine.specs.declared.act.Moved.{Moved}
 use Rattle.rule_machine.specs.declared.refusal.Refusal.{Refusal}
 use Rattle.rule_machine.specs.declared.reply.Reply.{Reply}
-use Rattle.rule_machine.specs.declared.reply.Reply.TheVariants.{Accepted, Refused, Moves, Shown, EnabledAre, Pairs, Counts}
+use Rattle.rule_machine.specs.declared.reply.Reply.TheVariants.{Accepted, Moves, Shown, EnabledAre, Pairs, Counts}
 use Rattle.rule_machine.specs.State.{State, Registers, with_pointer, points}
 use Rattle.rule_machine.specs.RuleTable.{RuleTable}
 use Rattle.rule_machine.specs.Refuse.{refusal_of}

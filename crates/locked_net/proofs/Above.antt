@@ -13,7 +13,7 @@ use Rattle.machine_laws.specs.LeastAnswers.{least_answers}
 use Rattle.machine_laws.specs.Keeps.{opening_is_state}
 use Rattle.machine_laws.specs.Runs.{runs_end_in_states, run_add}
 use Rattle.machine_laws.specs.Sizes.{runs_keep_size}
-use Rattle.step_log.specs.Kept.{Kept, checkpointed, kept_with, last_number, moment_in, next_entry, whole}
+use Rattle.step_log.specs.Kept.{Kept, checkpointed, kept_with, last_number, moment_in, next_entry}
 use Rattle.step_log.specs.Log.{Log, IsLog, entry_of, recorded}
 use Rattle.locked_net.specs.Above.{IsAbove, TellsEnd}
 
