@@ -1,0 +1,96 @@
+//! A writer of which nothing is tried twice.
+
+ghost use Rattle.std.specs.Prelude.{◌≡◌, ◌<◌, ◌≤◌, false, true, length, take, IfOk, OnErr, OnOk};
+ghost use Rattle.std.specs.Io.KnownBytes.{Appends, Keeps};
+ghost use Rattle.byte_streams.specs.Beginning.{AppendsBeginning, AppendsLess};
+
+use crate::OutputFault;
+use std::io::Write;
+
+/// A writer, with whether a write or a flush of it failed. Then no more are made: nothing is tried twice.
+#[derive(Drop)]
+pub struct Writes<Out> {
+    writer: Out,
+    failed: bool,
+}
+
+impl<Out: Write> Writes<Out> {
+    /// A writer of which no write was made.
+    pub fn new(writer: Out) -> Writes<Out>
+        ensures writer { result.writer ≡ writer }
+        ensures failed { result.failed ≡ false }
+    {
+        Writes {
+            writer,
+            failed: false,
+        }
+    }
+
+    // Writes once: how many of the bytes the writer took, one at the least. A fault where the write fails or takes none, and without a
+    // write behind one that failed.
+    fn write(&mut self, bytes: &[u8]) -> Result<usize, OutputFault>
+        requires some { 0 < length bytes.now }
+        ensures bytes { IfOk result (λ len. Appends (Out.contents self.old.writer) (Out.contents self.new.writer) (take len bytes.now)) }
+        ensures some { IfOk result (λ len. 0 < len) }
+        ensures few { IfOk result (λ len. len ≤ length bytes.now) }
+        ensures good { OnOk result (self.new.failed ≡ self.old.failed) }
+        ensures unwritten { OnErr result (self.new.failed ≡ true) }
+        ensures kept { OnErr result (Keeps (Out.contents self.old.writer) (Out.contents self.new.writer)) }
+    {
+        if self.failed {
+            return Err(OutputFault);
+        }
+        match self.writer.write(bytes) {
+            Ok(len) if len > 0 => Ok(len),
+            _ => {
+                self.failed = true;
+                Err(OutputFault)
+            }
+        }
+    }
+
+    /// Writes all the bytes. A fault at the first write that fails or takes no byte, and nothing is tried again, not even
+    /// an interrupted write: the writer has got less than all the bytes then.
+    pub fn write_whole(&mut self, bytes: &[u8]) -> Result<(), OutputFault>
+        ensures ok { OnOk result (Appends (Out.contents self.old.writer) (Out.contents self.new.writer) bytes.now) }
+        ensures good { OnOk result (self.new.failed ≡ self.old.failed) }
+        ensures fault { OnErr result (AppendsLess (Out.contents self.old.writer) (Out.contents self.new.writer) bytes.now) }
+        ensures unwritten { OnErr result (self.new.failed ≡ true) }
+    {
+        let mut rest = bytes;
+        while !rest.is_empty() {
+            let len = self.write(rest)?;
+            rest = &rest[len..];
+        }
+        Ok(())
+    }
+
+    /// Flushes the writer. A fault where that fails, and it is not tried again; and without a flush behind a write that failed.
+    pub fn flush_once(&mut self) -> Result<(), OutputFault>
+        ensures bytes { Keeps (Out.contents self.old.writer) (Out.contents self.new.writer) }
+        ensures good { OnOk result (self.new.failed ≡ self.old.failed) }
+        ensures unwritten { OnErr result (self.new.failed ≡ true) }
+    {
+        if self.failed {
+            return Err(OutputFault);
+        }
+        match self.writer.flush() {
+            Ok(()) => Ok(()),
+            Err(_) => {
+                self.failed = true;
+                Err(OutputFault)
+            }
+        }
+    }
+
+    /// Writes all the bytes and flushes the writer, each as `write_whole` and `flush_once` do.
+    pub fn finish(&mut self, bytes: &[u8]) -> Result<(), OutputFault>
+        ensures ok { OnOk result (Appends (Out.contents self.old.writer) (Out.contents self.new.writer) bytes.now) }
+        ensures good { OnOk result (self.new.failed ≡ self.old.failed) }
+        ensures fault { OnErr result (AppendsBeginning (Out.contents self.old.writer) (Out.contents self.new.writer) bytes.now) }
+        ensures unwritten { OnErr result (self.new.failed ≡ true) }
+    {
+        self.write_whole(bytes)?;
+        self.flush_once()
+    }
+}
