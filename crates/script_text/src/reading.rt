@@ -6,7 +6,7 @@ ghost use Rattle.script_text.specs.Texts.{TextHolds};
 ghost use Rattle.script_text.specs.Readers.{AllHold, IsFault, IsReaderFault};
 
 use crate::{Script, TextFault, TextsFault, read_text};
-use byte_streams::{InputFault, read_whole};
+use byte_streams::{InputFault, Reads, read_whole};
 use std::alloc::Global;
 use std::io::Read;
 
@@ -14,11 +14,12 @@ use std::io::Read;
 pub const MAX_SCRIPTS: usize = 64;
 
 // Reads the script with this number.
-fn read_from<In: Read>(alloc: Global, number: u32, reader: &mut In) -> Result<Script, TextsFault>
-    ensures script { IfOk result (λ script. IfSome (In.remaining reader.old) (λ text. TextHolds text script)) }
-    ensures fault { IfErr result (IsReaderFault number (In.remaining reader.old)) }
+fn read_from<In: Read + Drop>(alloc: Global, number: u32, reader: In) -> Result<Script, TextsFault>
+    ensures script { IfOk result (λ script. IfSome (In.remaining reader) (λ text. TextHolds text script)) }
+    ensures fault { IfErr result (IsReaderFault number (In.remaining reader)) }
 {
-    let text = match read_whole(alloc, reader) {
+    let mut reader = Reads::new(reader);
+    let text = match read_whole(alloc, &mut reader) {
         Ok(text) => text,
         Err(InputFault::Read) => return Err(TextsFault::Read),
         Err(InputFault::Memory) => return Err(TextsFault::Memory),
@@ -42,9 +43,8 @@ fn read_each<In: Read + Drop>(alloc: Global, readers: Vec<In>) -> Result<Vec<Scr
     let mut scripts = Vec::new(alloc);
     let mut number: u32 = 0;
     for reader in readers {
-        let mut reader = reader;
         number += 1;
-        let script = read_from(alloc, number, &mut reader)?;
+        let script = read_from(alloc, number, reader)?;
         if scripts.push(script).is_err() {
             return Err(TextsFault::Memory);
         }
