@@ -1,3 +1,3 @@
 pub mod Shifting
 pub mod Running
-pub mod Placing
+pub mod Standing

@@ -12,8 +12,8 @@ use Rattle.script_text.specs.Script.{Progress, CommandDoes, LineDoes, LinesDo}
 use Rattle.byte_streams.specs.Beginning.{AppendsBeginning, AppendsLess}
 use Rattle.line_run.specs.declared.stop.Stop.{Stop}
 use Rattle.line_run.specs.declared.stop.Stop.TheVariants.{BadLine, LogFull}
-use Rattle.script_run.specs.declared.stop.End.{End}
-use Rattle.script_run.specs.declared.stop.End.TheVariants.{Whole, Stopped, Unread, Memory}
+use Rattle.script_run.specs.declared.halt.Halt.{Halt}
+use Rattle.script_run.specs.declared.halt.Halt.TheVariants.{Whole, Stopped, Unread, Memory}
 use Rattle.script_run.specs.Outcome.{Ends, LeadsTo, Reaches}
 use Rattle.script_run.specs.Halted.{Hands, Halts, ended, answered}
 use Rattle.script_run.specs.Line.{LineEnds}
@@ -70,7 +70,7 @@ pub WritesPart-begun : (t : RuleTable) (limit : ℕ) (lines : List (List ℕ)) (
 WritesPart-begun t limit lines start old new (end, leads, begun) = (end, inl leads, begun)
 
 -- a beginning of what was held was written
-pub WritesPart-halted : (t : RuleTable) (limit : ℕ) (lines : List (List ℕ)) (start : Progress) (end : End) (old known new : Option (List ℕ)) (held : List ℕ)
+pub WritesPart-halted : (t : RuleTable) (limit : ℕ) (lines : List (List ℕ)) (start : Progress) (end : Halt) (old known new : Option (List ℕ)) (held : List ℕ)
     → Halts t limit lines start end (λ text. Hands old known text held) → AppendsBeginning known new held → WritesPart t limit lines start old new
 WritesPart-halted t limit lines start Whole old known new held (end, does, handed) begun =
     (end, inl (LeadsTo-before t limit lines [] lines start end (sym (append-nil lines)) does), Hands-begun old known new end.text held handed begun)
@@ -81,7 +81,7 @@ WritesPart-halted t limit lines start Unread old known new held (end, leads, han
 WritesPart-halted t limit lines start Memory old known new held (end, leads, handed) begun = (end, inl leads, Hands-begun old known new end.text held handed begun)
 
 -- the writer failed
-pub Ends-failed : {E : Type 0} (t : RuleTable) (limit limit' : ℕ) (lines : List (List ℕ)) (start start' : Progress) (result : Result End E) (old new : Option (List ℕ))
+pub Ends-failed : {E : Type 0} (t : RuleTable) (limit limit' : ℕ) (lines : List (List ℕ)) (start start' : Progress) (result : Result Halt E) (old new : Option (List ℕ))
     → limit ≡ limit' → start ≡ start' → IsErr result → WritesPart t limit lines start old new
     → Ends t limit' lines start' (answered result) (Appends old new) (AppendsBeginning old new)
 Ends-failed t limit limit' lines start start' (Ok end) old new f e is part = absurd (true≢false (sym is))
@@ -89,7 +89,7 @@ Ends-failed t limit limit' lines start start' (Err failed) old new f e is part =
     subst (λ n. WritesPart t n lines start' old new) f (subst (λ s. WritesPart t limit lines s old new) e part)
 
 -- all that was held was written
-Ends-written : (t : RuleTable) (limit : ℕ) (lines : List (List ℕ)) (start : Progress) (end : End) (old known new : Option (List ℕ)) (held : List ℕ)
+Ends-written : (t : RuleTable) (limit : ℕ) (lines : List (List ℕ)) (start : Progress) (end : Halt) (old known new : Option (List ℕ)) (held : List ℕ)
     → Halts t limit lines start end (λ text. Hands old known text held) → Appends known new held → Ends t limit lines start (ended end) (Appends old new) (AppendsBeginning old new)
 Ends-written t limit lines start Whole old known new held (end, does, handed) wrote = (end, does, Hands-all old known new end.text held handed wrote)
 Ends-written t limit lines start (Stopped (BadLine number)) old known new held (end, stops, handed) wrote = (end, stops, Hands-all old known new end.text held handed wrote)
@@ -98,7 +98,7 @@ Ends-written t limit lines start Unread old known new held (end, leads, handed) 
 Ends-written t limit lines start Memory old known new held (end, leads, handed) wrote =
     (end, inl leads, (length end.text, subst (Appends old new) (sym (take-length end.text)) (Hands-all old known new end.text held handed wrote)))
 
-pub Ends-finished : (t : RuleTable) (limit limit' : ℕ) (lines : List (List ℕ)) (start start' : Progress) (end : End) (old known new : Option (List ℕ)) (held held' : List ℕ)
+pub Ends-finished : (t : RuleTable) (limit limit' : ℕ) (lines : List (List ℕ)) (start start' : Progress) (end : Halt) (old known new : Option (List ℕ)) (held held' : List ℕ)
     → limit ≡ limit' → start ≡ start' → Halts t limit lines start end (λ text. Hands old known text held) → held' ≡ held → Appends known new held'
     → Ends t limit' lines start' (ended end) (Appends old new) (AppendsBeginning old new)
 Ends-finished t limit limit' lines start start' end old known new held held' f e halts same wrote =

@@ -16,7 +16,7 @@ use Rattle.seeded_turns.specs.Drawn.{Draws, seeded_stream, drawn_step, drawn_fau
 use Rattle.line_run.specs.Line.{TurnsBegin, CommandBegins, CommandEnds, LineBegins, LineEnds as LineRunEnds}
 use Rattle.line_run.specs.declared.stop.Stop.{Stop}
 use Rattle.line_run.specs.declared.stop.Stop.TheVariants.{BadLine, LogFull}
-use Rattle.script_run.specs.Line.{Grows, CommandGrows, LineEnds}
+use Rattle.script_run.specs.Line.{Grows, CommandGrows, LineGrows}
 use Rattle.script_text.specs.Script.{Progress, IsEntry, IsFull, EventDoes, TurnDoes, TurnsDo, TurnFills, TurnsFill, checkpointed, CommandDoes, CommandFills, LineDoes, MeetsFullLog}
 
 -- where a run stands
@@ -155,16 +155,16 @@ line_begun : (t : RuleTable) (limit : ℕ) (line : List ℕ) (before after : Pro
 line_begun t limit line before after (inl same) = same_grows before after same
 line_begun t limit line before after (inr (command, says, begun)) = command_begun t limit command before after begun
 
--- a line that was carried out, or stops the run
-pub line_done : {E : Type 0} (t : RuleTable) (limit number : ℕ) (line : List ℕ) (before after : Progress) (stop : Option Stop) (result : Result (Option Stop) E) → LineRunEnds t limit number line before after result → result ≡ Ok stop
-    → LineEnds {E = E} t limit number line before after (Ok stop)
-line_done {E} t limit number line before after None result ends is = subst (LineRunEnds t limit number line before after) is ends
-line_done {E} t limit number line before after (Some (BadLine n)) result ends is = subst (LineRunEnds t limit number line before after) is ends
-line_done {E} t limit number line before after (Some LogFull) result ends is = subst (LineRunEnds t limit number line before after) is ends
+pub line_grows : {E : Type 0} (t : RuleTable) (limit number : ℕ) (line : List ℕ) (before after : Progress) (result : Result (Option Stop) E) → LineRunEnds t limit number line before after result
+    → LineGrows t limit number line before after result
+line_grows t limit number line before after (Ok None) does = does
+line_grows t limit number line before after (Ok (Some (BadLine n))) bad = bad
+line_grows t limit number line before after (Ok (Some LogFull)) meets = meets
+line_grows t limit number line before after (Err want) begun = line_begun t limit line before after begun
 
-pub line_grows : {E : Type 0} (t : RuleTable) (limit number : ℕ) (line : List ℕ) (before after : Progress) (want : E) (result : Result (Option Stop) E) → LineRunEnds t limit number line before after result → result ≡ Err want
-    → Grows before.text after.text
-line_grows t limit number line before after want result ends is = line_begun t limit line before after (subst (LineRunEnds t limit number line before after) is ends)
+-- a line that was not begun has added no text
+pub unbegun_grows : (text : List ℕ) → Grows text text
+unbegun_grows text = ([], sym (append-nil text))
 
 -- a text that has grown is cut back to what it was
 pub cut_back : (old new cut : List ℕ) (n : ℕ) → Grows old new → n ≡ length old → cut ≡ take n new → cut ≡ old

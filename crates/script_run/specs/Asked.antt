@@ -17,3 +17,7 @@ pub record Asked : Type 0 where
 abbrev pub asked_of : Options → Asked
 asked_of o =
     record { rules = o.rules; nodes = o.nodes; present = o.present; limit = o.limit; workers = o.workers; roamers = o.roamers; turns = o.turns }
+
+-- all names are present, and the others are as they are where nothing is asked for
+abbrev pub usual : RuleSet → ℕ → Asked
+usual rules nodes = record { rules = rules; nodes = nodes; present = nodes; limit = 16777216; workers = 1; roamers = 0; turns = 1000 }

@@ -6,8 +6,8 @@ use Rattle.script_text.specs.Script.{Progress, LinesDo}
 use Rattle.script_run.specs.declared.fault.RunFault.{RunFault}
 use Rattle.script_run.specs.declared.fault.RunFault.TheVariants as fault
 use Rattle.line_run.specs.declared.stop.Stop.TheVariants.{BadLine, LogFull}
-use Rattle.script_run.specs.declared.stop.End.{End}
-use Rattle.script_run.specs.declared.stop.End.TheVariants.{Whole, Stopped, Unread, Memory}
+use Rattle.script_run.specs.declared.halt.Halt.{Halt}
+use Rattle.script_run.specs.declared.halt.Halt.TheVariants.{Whole, Stopped, Unread, Memory}
 use Rattle.script_run.specs.Outcome.{StopsAtBadLine, StopsAtFullLog, LeadsTo}
 
 -- of the text, what stands before the rest was written
@@ -17,7 +17,7 @@ pub record Hands (old new : Option (List ℕ)) (text rest : List ℕ) : Type 0 w
   pub splits : text ≡ sent ++ rest
 
 -- all lines were carried out, or those before a bad line, a full log, a failed read or want of memory, and P holds of the text to which they lead
-abbrev pub Halts : RuleTable → ℕ → List (List ℕ) → Progress → End → (List ℕ → Type 0) → Type 0
+abbrev pub Halts : RuleTable → ℕ → List (List ℕ) → Progress → Halt → (List ℕ → Type 0) → Type 0
 Halts t limit lines start Whole P = (end : Progress) × LinesDo t limit lines start end × P end.text
 Halts t limit lines start (Stopped (BadLine number)) P = (end : Progress) × StopsAtBadLine t limit lines start number end × P end.text
 Halts t limit lines start (Stopped LogFull) P = (end : Progress) × StopsAtFullLog t limit lines start end × P end.text
@@ -25,7 +25,7 @@ Halts t limit lines start Unread P = (end : Progress) × LeadsTo t limit lines s
 Halts t limit lines start Memory P = (end : Progress) × LeadsTo t limit lines start end × P end.text
 
 -- how a run ends that came so far
-abbrev pub ended : End → Result Unit RunFault
+abbrev pub ended : Halt → Result Unit RunFault
 ended Whole = Ok tt
 ended (Stopped (BadLine number)) = Err (fault.BadLine number)
 ended (Stopped LogFull) = Err fault.LogFull
@@ -33,6 +33,6 @@ ended Unread = Err fault.Read
 ended Memory = Err fault.Memory
 
 -- and where its writer may have failed
-abbrev pub answered : {E : Type 0} → Result End E → Result Unit RunFault
+abbrev pub answered : {E : Type 0} → Result Halt E → Result Unit RunFault
 answered (Ok end) = ended end
 answered (Err failed) = Err fault.Write

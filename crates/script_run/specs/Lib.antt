@@ -3,4 +3,4 @@ pub mod Line
 pub mod Halted
 pub mod Input
 pub mod Asked
-pub mod Place
+pub mod Reading

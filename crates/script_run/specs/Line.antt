@@ -4,6 +4,8 @@ use Rattle.rule_machine.specs.declared.event.Event.{Event}
 use Rattle.rule_machine.specs.RuleTable.{RuleTable}
 use Rattle.script_text.specs.declared.command.Command.{Command}
 use Rattle.script_text.specs.Script.{Progress, EventDoes, CommandDoes, CommandFills, LineDoes, IsBadLine, MeetsFullLog}
+use Rattle.line_run.specs.Line.{progress_of}
+use Rattle.line_run.specs.declared.run.Run.{Run}
 use Rattle.line_run.specs.declared.stop.Stop.{Stop}
 use Rattle.line_run.specs.declared.stop.Stop.TheVariants.{BadLine, LogFull}
 
@@ -23,9 +25,20 @@ CommandGrows t limit command before after (Ok true) = CommandDoes t limit comman
 CommandGrows t limit command before after (Ok false) = CommandFills t limit command before after
 CommandGrows t limit command before after (Err want) = Grows before.text after.text
 
--- the line with this number was carried out, or it is bad, or it meets a full log; at want of memory it has added no text
+-- the line with this number was carried out, or it is bad, or it meets a full log; at want of memory some text was added
+abbrev pub LineGrows : {E : Type 0} → RuleTable → ℕ → ℕ → List ℕ → Progress → Progress → Result (Option Stop) E → Type 0
+LineGrows t limit number line before after (Ok None) = LineDoes t limit line before after
+LineGrows t limit number line before after (Ok (Some (BadLine n))) = (n ≡ number) × IsBadLine line × (after ≡ before)
+LineGrows t limit number line before after (Ok (Some LogFull)) = MeetsFullLog t limit line before after
+LineGrows t limit number line before after (Err want) = Grows before.text after.text
+
+-- so it was, but at want of memory it has added no text
 abbrev pub LineEnds : {E : Type 0} → RuleTable → ℕ → ℕ → List ℕ → Progress → Progress → Result (Option Stop) E → Type 0
 LineEnds t limit number line before after (Ok None) = LineDoes t limit line before after
 LineEnds t limit number line before after (Ok (Some (BadLine n))) = (n ≡ number) × IsBadLine line × (after ≡ before)
 LineEnds t limit number line before after (Ok (Some LogFull)) = MeetsFullLog t limit line before after
 LineEnds t limit number line before after (Err want) = after.text ≡ before.text
+
+-- the line with this number was carried out by what carries out lines, which was so before it and is so behind it
+abbrev pub CarriesLine : {R E : Type 0} → RuleTable → Run R → Run R → ℕ → List ℕ → Result (Option Stop) E → Type 0
+CarriesLine t old new number line result = LineEnds t old.recorder.limit number line (progress_of old) (progress_of new) result

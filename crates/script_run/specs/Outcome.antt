@@ -47,8 +47,11 @@ Ends t limit lines start (Err Write) P Q = (end : Progress) × Reaches t limit l
 Ends t limit lines start (Err Memory) P Q = (end : Progress) × Reaches t limit lines start end × Q end.text
 Ends t limit lines start (Err (Pool why)) P Q = ⊥
 
+-- from this start the script was run under the rules of a table, and the writer has got what Ends says
+abbrev pub EndsFrom : RuleTable → ℕ → Progress → List ℕ → Option (List ℕ) → Option (List ℕ) → Result Unit RunFault → Type 0
+EndsFrom t limit start script old new result = Ends t limit (lines_of script) start result (Appends old new) (AppendsBeginning old new)
+
 -- the script was run, and the writer has got the header, the entries that the machine makes and the bases of its checkpoints, and
 -- nothing else; at a fault of the reader those of some first lines, and at one of the writer or of memory a beginning of them
 abbrev pub IsOutcome : RuleSet → ℕ → ℕ → ℕ → List ℕ → Option (List ℕ) → Option (List ℕ) → Result Unit RunFault → Type 0
-IsOutcome rules nodes present limit script old new result =
-    Ends (table_of rules) limit (lines_of script) (beginning rules nodes present) result (Appends old new) (AppendsBeginning old new)
+IsOutcome rules nodes present limit script old new result = EndsFrom (table_of rules) limit (beginning rules nodes present) script old new result

@@ -9,20 +9,19 @@
 //!
 //! ```rust
 //! let Some(options) = Options::new(RuleSet::Hh, 2) else { return Err(..) };
-//! run(rt, alloc, &mut Reads::new(stdin), &mut stdout, &options.with_workers(4))?;      // `RunFault`
+//! run(rt, alloc, &mut Reads::new(stdin), &mut Writes::new(stdout), &options.with_workers(4))?;      // `RunFault`
 //! ```
 #![tactic(auto)]
 
 mod fault;
+mod halt;
 mod options;
 mod paying;
 mod piece;
-mod place;
 mod reading;
 mod runner;
 mod script;
 mod stepping;
-mod stop;
 mod writing;
 
 pub use fault::RunFault;

@@ -31,13 +31,13 @@ pub struct Options {
 }
 
 impl Options {
-    ghost use Rattle.script_run.specs.Asked.{Asked, asked_of};
+    ghost use Rattle.script_run.specs.Asked.{Asked, asked_of, usual};
 
     /// A run under the rule set on the nodes 1 to `nodes`, all of them present, with at most `MAX_ENTRIES` entries, one worker,
     /// and, of a storm, none that roams; `None` above 65,535 nodes.
     pub fn new(rules: RuleSet, nodes: u32) -> Option<Options>
         ensures none { IsNone result ↔ 65535 < nodes }
-        ensures options { IfSome result (λ options. asked_of options ≡ record { rules = rules; nodes = nodes; present = nodes; limit = 16777216; workers = 1; roamers = 0; turns = 1000 }) }
+        ensures options { IfSome result (λ options. asked_of options ≡ usual rules nodes) }
     {
         if nodes > MAX_NAME {
             return None;

@@ -1,18 +1,18 @@
 //! The lines in a piece of a script.
 
-ghost use Rattle.std.specs.Prelude.{◌≡◌, ◌<◌, ◌≤◌, ◌+◌, ◌^◌, ◌++◌, ℕ, List, [], Option, length, IfOk, IfSome, IsNone, OnOk};
+ghost use Rattle.std.specs.Prelude.{◌≡◌, ◌<◌, ◌≤◌, ◌+◌, ◌^◌, ◌++◌, ℕ, List, [], Option, true, length, IfOk, IfSome, IsNone, OnErr, OnOk};
 ghost use Rattle.script_text.specs.Script.{Progress, lines_of};
-ghost use Rattle.script_run.specs.declared.stop.End.TheVariants.{Whole, Unread};
+ghost use Rattle.script_run.specs.declared.halt.Halt.TheVariants.{Whole, Unread};
 ghost use Rattle.script_run.specs.Halted.{Halts, Hands};
 ghost use Rattle.line_run.specs.Line.{progress_of};
-ghost use Rattle.script_run.specs.Line.{LineEnds};
-ghost use Rattle.script_run.specs.Place.{Stands, PieceEnds};
+ghost use Rattle.script_run.specs.Line.{CarriesLine};
+ghost use Rattle.script_run.specs.Reading.{Stands, CarriesPiece, extent};
 
-use crate::place::Place;
+use crate::halt::Halt;
+use crate::reading::Reading;
 use crate::runner::Run;
-use crate::stop::End;
 use crate::writing::hand_over;
-use byte_streams::OutputFault;
+use byte_streams::{OutputFault, Writes};
 use line_run::Stop;
 use rule_machine::Want;
 use rule_set::Rules;
@@ -28,23 +28,27 @@ impl<R: Rules + Sync> Run<R> {
         &mut self,
         rt: &T,
         alloc: Global,
-        place: &mut Place,
+        reading: &mut Reading,
         end: &[u8],
     ) -> Result<Option<Stop>, Want>
-        requires { place.old.lines + 1 < 2 ^ 64 }
-        ensures ends { LineEnds R.table self.old.line.recorder.limit (place.old.lines + 1) (place.old.begun.items ++ end.now) (progress_of self.old.line) (progress_of self.new.line) result }
+        requires { reading.old.lines + 1 < 2 ^ 64 }
+        ensures ends { CarriesLine R.table self.old.line self.new.line (reading.old.lines + 1) (reading.old.begun.items ++ end.now) result }
         ensures limit { self.new.line.recorder.limit ≡ self.old.line.recorder.limit }
-        ensures lines { OnOk result (place.new.lines ≡ place.old.lines + 1) }
-        ensures begun { OnOk result (place.new.begun.items ≡ []) }
+        ensures lines { OnOk result (reading.new.lines ≡ reading.old.lines + 1) }
+        ensures begun { OnOk result (reading.new.begun.items ≡ []) }
     {
-        place.lines += 1;
-        let joined = !place.begun.is_empty();
+        reading.lines += 1;
+        let joined = !reading.begun.is_empty();
         if joined {
-            place.begun.extend_from_slice(end)?;
+            reading.begun.extend_from_slice(end)?;
         }
-        let line = if joined { place.begun.as_slice() } else { end };
-        let stop = self.carry_out(rt, alloc, place.lines, line)?;
-        place.begun.clear();
+        let line = if joined {
+            reading.begun.as_slice()
+        } else {
+            end
+        };
+        let stop = self.carry_out(rt, alloc, reading.lines, line)?;
+        reading.begun.clear();
         Ok(stop)
     }
 
@@ -54,36 +58,36 @@ impl<R: Rules + Sync> Run<R> {
         &mut self,
         rt: &T,
         alloc: Global,
-        place: &mut Place,
+        reading: &mut Reading,
         piece: &[u8],
-        writer: &mut Out,
-    ) -> Result<Option<End>, OutputFault>
-        requires { place.old.lines + length place.old.begun.items + length piece.now < 2 ^ 64 }
-        ensures piece { (start : Progress) (old : Option (List ℕ)) (read : List ℕ)
-            → Stands R.table self.old.line.recorder.limit start old read place.old.begun.items piece.now place.old.lines (progress_of self.old.line) (Out.contents writer.old)
-            → PieceEnds R.table self.old.line.recorder.limit start old read place.new.begun.items place.new.lines (progress_of self.new.line) (Out.contents writer.new) result }
+        writer: &mut Writes<Out>,
+    ) -> Result<Option<Halt>, OutputFault>
+        requires { extent reading.old + length piece.now < 2 ^ 64 }
+        ensures piece { CarriesPiece R.table self.old.line.recorder.limit piece.now reading.old reading.new
+            (progress_of self.old.line) (progress_of self.new.line) (Out.contents writer.old.writer) (Out.contents writer.new.writer) result }
+        ensures unwritten { OnErr result (writer.new.failed ≡ true) }
         ensures stops { IfOk result (λ end. IfSome end (λ how. how ≡ Whole → ⊥)) }
         ensures reads { IfOk result (λ end. IfSome end (λ how. how ≡ Unread → ⊥)) }
-        ensures room { IfOk result (λ end. IsNone end → place.new.lines + length place.new.begun.items ≤ place.old.lines + length place.old.begun.items + length piece.now) }
+        ensures room { IfOk result (λ end. IsNone end → extent reading.new ≤ extent reading.old + length piece.now) }
         ensures limit { self.new.line.recorder.limit ≡ self.old.line.recorder.limit }
     {
         let mut rest = piece;
         while let Some((end, behind)) = ended_line(rest) {
-            match self.carry_out_ended(rt, alloc, place, end) {
+            match self.carry_out_ended(rt, alloc, reading, end) {
                 Ok(None) => {}
-                Ok(Some(stop)) => return Ok(Some(End::Stopped(stop))),
-                Err(_) => return Ok(Some(End::Memory)),
+                Ok(Some(stop)) => return Ok(Some(Halt::Stopped(stop))),
+                Err(_) => return Ok(Some(Halt::Memory)),
             }
             hand_over(writer, &mut self.line.text)?;
             rest = behind;
         }
-        if place.begun.len() + rest.len() > MAX_LINE {
-            let line = place.lines + 1;
-            return Ok(Some(End::Stopped(Stop::BadLine { line })));
+        if reading.begun.len() + rest.len() > MAX_LINE {
+            let line = reading.lines + 1;
+            return Ok(Some(Halt::Stopped(Stop::BadLine { line })));
         }
-        match place.begun.extend_from_slice(rest) {
+        match reading.begun.extend_from_slice(rest) {
             Ok(()) => Ok(None),
-            Err(_) => Ok(Some(End::Memory)),
+            Err(_) => Ok(Some(Halt::Memory)),
         }
     }
 
@@ -92,22 +96,22 @@ impl<R: Rules + Sync> Run<R> {
         &mut self,
         rt: &T,
         alloc: Global,
-        place: &Place,
-    ) -> End
-        requires { place.now.lines + 1 < 2 ^ 64 }
+        reading: &Reading,
+    ) -> Halt
+        requires { reading.now.lines + 1 < 2 ^ 64 }
         ensures reads { result ≡ Unread → ⊥ }
         ensures last { (start : Progress) (old known : Option (List ℕ)) (read : List ℕ)
-            → Stands R.table self.old.line.recorder.limit start old read place.now.begun.items [] place.now.lines (progress_of self.old.line) known
+            → Stands R.table self.old.line.recorder.limit start old read reading.now.begun.items [] reading.now.lines (progress_of self.old.line) known
             → Halts R.table self.old.line.recorder.limit (lines_of read) start result (λ text. Hands old known text self.new.line.text.items) }
         ensures limit { self.new.line.recorder.limit ≡ self.old.line.recorder.limit }
     {
-        if place.begun.is_empty() {
-            return End::Whole;
+        if reading.begun.is_empty() {
+            return Halt::Whole;
         }
-        match self.carry_out(rt, alloc, place.lines + 1, &place.begun) {
-            Ok(None) => End::Whole,
-            Ok(Some(stop)) => End::Stopped(stop),
-            Err(_) => End::Memory,
+        match self.carry_out(rt, alloc, reading.lines + 1, &reading.begun) {
+            Ok(None) => Halt::Whole,
+            Ok(Some(stop)) => Halt::Stopped(stop),
+            Err(_) => Halt::Memory,
         }
     }
 }

@@ -1,11 +1,32 @@
-//! The reads of a script.
+//! How far a script was read, and how it is read on.
 
 ghost use Rattle.std.specs.Prelude.{◌≡◌, ◌<◌, ◌≤◌, ◌+◌, [], length, take, IfOk, OnErr, OnOk};
 ghost use Rattle.std.specs.Io.KnownBytes.{Consumes, IsAtEnd};
 ghost use Rattle.byte_streams.specs.Ended.{IsEnded};
 
 use byte_streams::{InputFault, Reads};
+use std::alloc::Global;
 use std::io::Read;
+
+/// How far a script was read: how many lines were found whole, and what was read of the line behind them.
+#[derive(Drop)]
+pub struct Reading {
+    pub lines: u64,
+    pub begun: Vec<u8>,
+}
+
+impl Reading {
+    /// Where nothing was read.
+    pub fn new(alloc: Global) -> Reading
+        ensures lines { result.lines ≡ 0 }
+        ensures begun { result.begun.items ≡ [] }
+    {
+        Reading {
+            lines: 0,
+            begun: Vec::new(alloc),
+        }
+    }
+}
 
 /// Reads into the chunk once, where no text is left to be written. How many bytes the reader gave, which are the first of the
 /// chunk; none only at its end. `Read` where the read fails, and it is not tried again.

@@ -1,7 +1,7 @@
 //! A run under one set of rules.
 
-ghost use Rattle.std.specs.Prelude.{◌≡◌, IfOk, IfSome, OnErr};
-ghost use Rattle.std.specs.Io.KnownBytes.{Appends, IsAtEnd};
+ghost use Rattle.std.specs.Prelude.{◌≡◌, true, IfOk, IfSome, OnErr};
+ghost use Rattle.std.specs.Io.KnownBytes.{IsAtEnd};
 ghost use Rattle.script_text.specs.Command.{Says};
 ghost use Rattle.script_text.specs.Script.{Progress, lines_of};
 ghost use Rattle.byte_streams.specs.Beginning.{AppendsBeginning};
@@ -9,16 +9,15 @@ ghost use Rattle.byte_streams.specs.Ended.{IsEnded};
 ghost use Rattle.script_run.specs.Halted.{Halts, Hands, answered};
 ghost use Rattle.line_run.specs.Beginning.{beginning};
 ghost use Rattle.line_run.specs.Line.{progress_of};
-ghost use Rattle.script_run.specs.Line.{CommandGrows, LineEnds};
-ghost use Rattle.script_run.specs.declared.stop.End.TheVariants.{Whole, Unread};
-ghost use Rattle.script_run.specs.Outcome.{Ends, LeadsTo};
+ghost use Rattle.script_run.specs.Line.{CommandGrows, LineGrows, CarriesLine};
+ghost use Rattle.script_run.specs.declared.halt.Halt.TheVariants.{Whole, Unread};
+ghost use Rattle.script_run.specs.Outcome.{EndsFrom, LeadsTo};
 
 use crate::Options;
-use crate::place::Place;
-use crate::reading::read_on;
-use crate::stop::End;
+use crate::halt::Halt;
+use crate::reading::{Reading, read_on};
 use crate::writing::hand_over_all;
-use byte_streams::{OutputFault, Reads, chunk_of, finish};
+use byte_streams::{OutputFault, Reads, Writes, chunk_of};
 use line_run::{Run as LineRun, Stop};
 use rule_machine::{Event, Want};
 use rule_set::Rules;
@@ -72,7 +71,8 @@ impl<R: Rules + Sync> Run<R> {
         }
     }
 
-    // Carries out the line with this number, which may be a step of so many items that more than one worker pays for it.
+    // Carries out the line with this number, which may be a step of so many items that more than one worker pays for it. At want of
+    // memory some text may be added.
     fn carry_out_wide<T: Threads + Wait + Sync>(
         &mut self,
         rt: &T,
@@ -80,7 +80,7 @@ impl<R: Rules + Sync> Run<R> {
         number: u64,
         line: &[u8],
     ) -> Result<Option<Stop>, Want>
-        ensures ends { LineEnds R.table self.old.line.recorder.limit number line.now (progress_of self.old.line) (progress_of self.new.line) result }
+        ensures ends { LineGrows R.table self.old.line.recorder.limit number line.now (progress_of self.old.line) (progress_of self.new.line) result }
         ensures limit { self.new.line.recorder.limit ≡ self.old.line.recorder.limit }
     {
         if line.is_empty() {
@@ -90,15 +90,29 @@ impl<R: Rules + Sync> Run<R> {
         if !read_line_into(alloc, line, &mut command)? {
             return Ok(Some(Stop::BadLine { line: number }));
         }
-        let len = self.line.text.len();
         match self.follow(rt, alloc, &command, line) {
             Ok(true) => Ok(None),
             Ok(false) => Ok(Some(Stop::LogFull)),
-            Err(want) => {
-                self.line.text.truncate(len);
-                Err(want)
-            }
+            Err(want) => Err(want),
         }
+    }
+
+    // Carries out the line with this number, with workers where more than one may pay. At want of memory some text may be added.
+    #[inline(always)]
+    fn carry_out_line<T: Threads + Wait + Sync>(
+        &mut self,
+        rt: &T,
+        alloc: Global,
+        number: u64,
+        line: &[u8],
+    ) -> Result<Option<Stop>, Want>
+        ensures ends { LineGrows R.table self.old.line.recorder.limit number line.now (progress_of self.old.line) (progress_of self.new.line) result }
+        ensures limit { self.new.line.recorder.limit ≡ self.old.line.recorder.limit }
+    {
+        if self.workers > 1 && line.len() >= WIDE {
+            return self.carry_out_wide(rt, alloc, number, line);
+        }
+        self.line.carry_out(alloc, number, line)
     }
 
     // Carries out the line with this number: what in it stops the run, if anything does. At want of memory no text is added, of
@@ -111,14 +125,11 @@ impl<R: Rules + Sync> Run<R> {
         number: u64,
         line: &[u8],
     ) -> Result<Option<Stop>, Want>
-        ensures ends { LineEnds R.table self.old.line.recorder.limit number line.now (progress_of self.old.line) (progress_of self.new.line) result }
+        ensures ends { CarriesLine R.table self.old.line self.new.line number line.now result }
         ensures limit { self.new.line.recorder.limit ≡ self.old.line.recorder.limit }
     {
-        if self.workers > 1 && line.len() >= WIDE {
-            return self.carry_out_wide(rt, alloc, number, line);
-        }
         let len = self.line.text.len();
-        match self.line.carry_out(alloc, number, line) {
+        match self.carry_out_line(rt, alloc, number, line) {
             Ok(stop) => Ok(stop),
             Err(want) => {
                 self.line.text.truncate(len);
@@ -133,30 +144,37 @@ impl<R: Rules + Sync> Run<R> {
         rt: &T,
         alloc: Global,
         reader: &mut Reads<In>,
-        writer: &mut Out,
-    ) -> Result<End, OutputFault>
+        writer: &mut Writes<Out>,
+    ) -> Result<Halt, OutputFault>
         ensures ok { IfOk result (λ end. IfSome (In.remaining reader.old.reader) (λ script.
             Halts R.table self.old.line.recorder.limit (lines_of script) (progress_of self.old.line) end
-            (λ text. Hands (Out.contents writer.old) (Out.contents writer.new) text self.new.line.text.items))) }
+            (λ text. Hands (Out.contents writer.old.writer) (Out.contents writer.new.writer) text self.new.line.text.items))) }
         ensures fault { OnErr result (IfSome (In.remaining reader.old.reader) (λ script. (end : Progress)
             × LeadsTo R.table self.old.line.recorder.limit (lines_of script) (progress_of self.old.line) end
-            × AppendsBeginning (Out.contents writer.old) (Out.contents writer.new) end.text)) }
+            × AppendsBeginning (Out.contents writer.old.writer) (Out.contents writer.new.writer) end.text)) }
         ensures read { IfOk result (λ end. end ≡ Whole → IsAtEnd (In.remaining reader.new.reader)) }
         ensures unread { IfOk result (λ end. end ≡ Unread → IsEnded reader.new.failed reader.new.count) }
+        ensures unwritten { OnErr result (writer.new.failed ≡ true) }
     {
         let Ok(mut chunk) = chunk_of(alloc) else {
-            return Ok(End::Memory);
+            return Ok(Halt::Memory);
         };
-        let mut place = Place::new(alloc);
+        let mut reading = Reading::new(alloc);
         loop {
             hand_over_all(writer, &mut self.line.text)?;
             let Ok(len) = read_on(reader, &mut chunk, &self.line.text) else {
-                return Ok(End::Unread);
+                return Ok(Halt::Unread);
             };
             if len == 0 {
-                return Ok(self.carry_out_last(rt, alloc, &place));
+                return Ok(self.carry_out_last(rt, alloc, &reading));
             }
-            if let Some(end) = self.carry_out_piece(rt, alloc, &mut place, &chunk[..len], writer)? {
+            if let Some(end) = self.carry_out_piece(
+                rt,
+                alloc,
+                &mut reading,
+                &chunk[..len],
+                writer,
+            )? {
                 return Ok(end);
             }
         }
@@ -168,18 +186,20 @@ pub fn run_on<R: Rules + Sync, In: Read, Out: Write, T: Threads + Wait + Sync>(
     rt: &T,
     alloc: Global,
     reader: &mut Reads<In>,
-    writer: &mut Out,
+    writer: &mut Writes<Out>,
     options: &Options,
-) -> Result<End, OutputFault>
-    ensures outcome { IfSome (In.remaining reader.old.reader) (λ script. Ends R.table options.now.limit (lines_of script) (beginning options.now.rules options.now.nodes options.now.present) (answered result)
-        (Appends (Out.contents writer.old) (Out.contents writer.new)) (AppendsBeginning (Out.contents writer.old) (Out.contents writer.new))) }
+) -> Result<Halt, OutputFault>
+    ensures outcome { IfSome (In.remaining reader.old.reader) (λ script.
+        EndsFrom R.table options.now.limit (beginning options.now.rules options.now.nodes options.now.present) script
+        (Out.contents writer.old.writer) (Out.contents writer.new.writer) (answered result)) }
     ensures read { IfOk result (λ end. end ≡ Whole → IsAtEnd (In.remaining reader.new.reader)) }
     ensures unread { IfOk result (λ end. end ≡ Unread → IsEnded reader.new.failed reader.new.count) }
+    ensures unwritten { OnErr result (writer.new.failed ≡ true) }
 {
     let Ok(mut run) = Run::<R>::new(alloc, options) else {
-        return Ok(End::Memory);
+        return Ok(Halt::Memory);
     };
     let end = run.carry_out_all(rt, alloc, reader, writer)?;
-    finish(writer, &run.line.text)?;
+    writer.finish(&run.line.text)?;
     Ok(end)
 }

@@ -1,14 +1,14 @@
 //! The run of a script.
 
-ghost use Rattle.std.specs.Prelude.{OnOk, IfSome, IsErrOf};
+ghost use Rattle.std.specs.Prelude.{◌≡◌, true, OnOk, IfSome, IsErrOf};
 ghost use Rattle.std.specs.Io.KnownBytes.{IsAtEnd};
 ghost use Rattle.byte_streams.specs.Ended.{IsEnded};
-ghost use Rattle.script_run.specs.declared.fault.RunFault.TheVariants.{Read as Unread};
+ghost use Rattle.script_run.specs.declared.fault.RunFault.TheVariants.{Read as Unread, Write as Unwritten};
 ghost use Rattle.script_run.specs.Outcome.{IsOutcome};
 
 use crate::runner::run_on;
 use crate::{Options, RunFault};
-use byte_streams::Reads;
+use byte_streams::{Reads, Writes};
 use rule_machine::RuleSet;
 use rules_hsu_huang::HsuHuang;
 use rules_manne::Manne;
@@ -23,8 +23,9 @@ use std::thread::Threads;
 ///
 /// `BadLine` at the first line that is neither empty nor a command, also where it has more than 1,048,576 bytes and its end was
 /// not read; `LogFull` at a command whose entry is beyond the limit; `Read` only where a read failed, which is not tried again, or
-/// 4,294,967,295 were made: each after all text of the lines before was written. `Write` at the first error of the
-/// writer, and `Memory` if memory runs out, after a beginning of the transcript was written. No entry is kept: what is held beside
+/// 4,294,967,295 were made: each after all text of the lines before was written. `Write` only where a write or a flush failed, and
+/// nothing is written behind it; and `Memory` if memory runs out: each after a beginning of the transcript was written. No entry is
+/// kept: what is held beside
 /// the network is 65,536 bytes of the script and its last line as far as it was read, and of the text what is not written yet, 65,536
 /// bytes and that of one line; at a checkpoint its base too, which is let go with the line.
 ///
@@ -34,13 +35,15 @@ pub fn run<In: Read, Out: Write, T: Threads + Wait + Sync>(
     rt: &T,
     alloc: Global,
     reader: &mut Reads<In>,
-    writer: &mut Out,
+    writer: &mut Writes<Out>,
     options: &Options,
 ) -> Result<(), RunFault>
     ensures outcome { IfSome (In.remaining reader.old.reader) (λ script.
-        IsOutcome options.now.rules options.now.nodes options.now.present options.now.limit script (Out.contents writer.old) (Out.contents writer.new) result) }
+        IsOutcome options.now.rules options.now.nodes options.now.present options.now.limit script
+        (Out.contents writer.old.writer) (Out.contents writer.new.writer) result) }
     ensures read { OnOk result (IsAtEnd (In.remaining reader.new.reader)) }
     ensures unread { IsErrOf result Unread → IsEnded reader.new.failed reader.new.count }
+    ensures unwritten { IsErrOf result Unwritten → writer.new.failed ≡ true }
 {
     let end = match options.rules() {
         RuleSet::Hh => run_on::<HsuHuang, In, Out, T>(rt, alloc, reader, writer, options)?,

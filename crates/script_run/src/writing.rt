@@ -1,36 +1,44 @@
 //! When the text of a run is written.
 
-ghost use Rattle.std.specs.Prelude.{◌≡◌, ◌<◌, [], length, OnOk, OnErr};
+ghost use Rattle.std.specs.Prelude.{◌≡◌, ◌<◌, [], true, length, OnOk, OnErr};
 ghost use Rattle.byte_streams.specs.Beginning.{AppendsBeginning, AppendsLess};
 ghost use Rattle.script_run.specs.Halted.{Hands};
 
-use byte_streams::{OutputFault, finish, write_whole};
+use byte_streams::{OutputFault, Writes};
 use std::io::Write;
 
 /// How long a text grows before it is handed over.
 const CHUNK: usize = 65_536;
 
 /// Writes the text and empties it, if it has grown long.
-pub fn hand_over<Out: Write>(writer: &mut Out, text: &mut Vec<u8>) -> Result<(), OutputFault>
-    ensures ok { OnOk result (Hands (Out.contents writer.old) (Out.contents writer.new) text.old.items text.new.items) }
+pub fn hand_over<Out: Write>(
+    writer: &mut Writes<Out>,
+    text: &mut Vec<u8>,
+) -> Result<(), OutputFault>
+    ensures ok { OnOk result (Hands (Out.contents writer.old.writer) (Out.contents writer.new.writer) text.old.items text.new.items) }
     ensures short { OnOk result (length text.new.items < 65536) }
-    ensures fault { OnErr result (AppendsLess (Out.contents writer.old) (Out.contents writer.new) text.old.items) }
+    ensures fault { OnErr result (AppendsLess (Out.contents writer.old.writer) (Out.contents writer.new.writer) text.old.items) }
+    ensures unwritten { OnErr result (writer.new.failed ≡ true) }
 {
     if text.len() < CHUNK {
         return Ok(());
     }
-    write_whole(writer, text)?;
+    writer.write_whole(text)?;
     text.clear();
     Ok(())
 }
 
 /// Writes the text and empties it, and flushes the writer.
-pub fn hand_over_all<Out: Write>(writer: &mut Out, text: &mut Vec<u8>) -> Result<(), OutputFault>
-    ensures ok { OnOk result (Hands (Out.contents writer.old) (Out.contents writer.new) text.old.items text.new.items) }
+pub fn hand_over_all<Out: Write>(
+    writer: &mut Writes<Out>,
+    text: &mut Vec<u8>,
+) -> Result<(), OutputFault>
+    ensures ok { OnOk result (Hands (Out.contents writer.old.writer) (Out.contents writer.new.writer) text.old.items text.new.items) }
     ensures empty { OnOk result (text.new.items ≡ []) }
-    ensures fault { OnErr result (AppendsBeginning (Out.contents writer.old) (Out.contents writer.new) text.old.items) }
+    ensures fault { OnErr result (AppendsBeginning (Out.contents writer.old.writer) (Out.contents writer.new.writer) text.old.items) }
+    ensures unwritten { OnErr result (writer.new.failed ≡ true) }
 {
-    finish(writer, text)?;
+    writer.finish(text)?;
     text.clear();
     Ok(())
 }

@@ -12,7 +12,7 @@ use Rattle.script_run.proofs.runner.run_on.Goals as goal
 pub returns-in_default-clause-outcome : goal.returns-in_default-clause-outcome
 returns-in_default-clause-outcome g c =
     let options = c.args.options.now in
-    let old = g.Out.Write.contents c.args.writer.now in
+    let old = g.Out.Write.contents c.args.writer.now.writer in
     for_any (g.In.Read.remaining c.args.reader.now.reader) (λ script. WritesPart g.R.Rules.table options.limit (lines_of script) (beginning options.rules options.nodes options.present) old old)
     (λ script. WritesPart-none g.R.Rules.table options.limit (lines_of script) (beginning options.rules options.nodes options.present) old)
 
@@ -20,8 +20,8 @@ pub returns-in_err-end-clause-outcome : goal.returns-in_err-end-clause-outcome
 returns-in_err-end-clause-outcome g c =
     let options = c.args.options.now in
     let run = c.in-Ok.run'.line in
-    let old = g.Out.Write.contents c.args.writer.now in
-    let new = g.Out.Write.contents c.carry_out_all.new.writer in
+    let old = g.Out.Write.contents c.args.writer.now.writer in
+    let new = g.Out.Write.contents c.carry_out_all.new.writer.writer in
     let begun = progress run.rules run.recorder run.text.items in
     let first = beginning options.rules options.nodes options.present in
     for_known (g.In.Read.remaining c.args.reader.now.reader)
@@ -35,9 +35,9 @@ pub returns-in_err-finish-clause-outcome : goal.returns-in_err-finish-clause-out
 returns-in_err-finish-clause-outcome g c =
     let options = c.args.options.now in
     let run = c.in-Ok.run'.line in
-    let old = g.Out.Write.contents c.args.writer.now in
-    let known = g.Out.Write.contents c.carry_out_all.new.writer in
-    let new = g.Out.Write.contents c.finish.new.writer in
+    let old = g.Out.Write.contents c.args.writer.now.writer in
+    let known = g.Out.Write.contents c.carry_out_all.new.writer.writer in
+    let new = g.Out.Write.contents c.finish.new.self.writer in
     let held = c.carry_out_all.new.self.line.text.items in
     let begun = progress run.rules run.recorder run.text.items in
     let first = beginning options.rules options.nodes options.present in
@@ -53,9 +53,9 @@ pub returns-clause-outcome : goal.returns-clause-outcome
 returns-clause-outcome g c =
     let options = c.args.options.now in
     let run = c.in-Ok.run'.line in
-    let old = g.Out.Write.contents c.args.writer.now in
-    let known = g.Out.Write.contents c.carry_out_all.new.writer in
-    let new = g.Out.Write.contents c.finish.new.writer in
+    let old = g.Out.Write.contents c.args.writer.now.writer in
+    let known = g.Out.Write.contents c.carry_out_all.new.writer.writer in
+    let new = g.Out.Write.contents c.finish.new.self.writer in
     let held = c.carry_out_all.new.self.line.text.items in
     let begun = progress run.rules run.recorder run.text.items in
     let first = beginning options.rules options.nodes options.present in

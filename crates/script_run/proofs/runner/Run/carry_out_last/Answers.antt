@@ -1,37 +1,37 @@
 use Rattle.std.proofs.Common.{◌≡◌, ◌+◌, ℕ, List, [], subst, arith}
 use Rattle.line_run.specs.Line.{progress}
 use Rattle.script_run.specs.Line.{LineEnds}
-use Rattle.script_run.proofs.Placing.{none_of, Last-none, Last-whole, Last-stopped, Last-memory}
+use Rattle.script_run.proofs.Standing.{none_of, Last-none, Last-whole, Last-stopped, Last-memory}
 use Rattle.script_run.proofs.runner.Run.carry_out_last.Goals as goal
 
 pub returns-then-is_empty-clause-last : goal.returns-then-is_empty-clause-last
 returns-then-is_empty-clause-last g c start old known read h =
     let run = c.args.self.now.line in
-    let place = c.args.place.now in
-    Last-none g.R.Rules.table run.recorder.limit start old read place.begun.items place.lines (progress run.rules run.recorder run.text.items) known h (none_of place.begun.items (grind arith))
+    let reading = c.args.reading.now in
+    Last-none g.R.Rules.table run.recorder.limit start old read reading.begun.items reading.lines (progress run.rules run.recorder run.text.items) known h (none_of reading.begun.items (grind arith))
 
 pub returns-in-Ok-None-clause-last : goal.returns-in-Ok-None-clause-last
 returns-in-Ok-None-clause-last g c start old known read h =
     let run = c.args.self.now.line in
     let after = c.carry_out.new.self.line in
-    let place = c.args.place.now in
-    let some : place.begun.items ≡ [] → ⊥ = λ none. absurd (grind arith) in
-    let ends = subst (λ (line : List ℕ). LineEnds g.R.Rules.table run.recorder.limit (place.lines + 1) line (progress run.rules run.recorder run.text.items) (progress after.rules after.recorder after.text.items) c.carry_out.result) c.deref.ensures.value c.carry_out.ensures.ends in
-    Last-whole g.R.Rules.table run.recorder.limit start old read place.begun.items place.lines (progress run.rules run.recorder run.text.items) (progress after.rules after.recorder after.text.items) known c.carry_out.result h some ends (cc)
+    let reading = c.args.reading.now in
+    let some : reading.begun.items ≡ [] → ⊥ = λ none. absurd (grind arith) in
+    let ends = subst (λ (line : List ℕ). LineEnds g.R.Rules.table run.recorder.limit (reading.lines + 1) line (progress run.rules run.recorder run.text.items) (progress after.rules after.recorder after.text.items) c.carry_out.result) c.deref.ensures.value c.carry_out.ensures.ends in
+    Last-whole g.R.Rules.table run.recorder.limit start old read reading.begun.items reading.lines (progress run.rules run.recorder run.text.items) (progress after.rules after.recorder after.text.items) known c.carry_out.result h some ends (cc)
 
 pub returns-in-Ok-Some-clause-last : goal.returns-in-Ok-Some-clause-last
 returns-in-Ok-Some-clause-last g c start old known read h =
     let run = c.args.self.now.line in
     let after = c.carry_out.new.self.line in
-    let place = c.args.place.now in
-    let some : place.begun.items ≡ [] → ⊥ = λ none. absurd (grind arith) in
-    let ends = subst (λ (line : List ℕ). LineEnds g.R.Rules.table run.recorder.limit (place.lines + 1) line (progress run.rules run.recorder run.text.items) (progress after.rules after.recorder after.text.items) c.carry_out.result) c.deref.ensures.value c.carry_out.ensures.ends in
-    Last-stopped g.R.Rules.table run.recorder.limit start old read place.begun.items place.lines (progress run.rules run.recorder run.text.items) (progress after.rules after.recorder after.text.items) known c.in-Ok-Some.stop c.carry_out.result h some ends (cc)
+    let reading = c.args.reading.now in
+    let some : reading.begun.items ≡ [] → ⊥ = λ none. absurd (grind arith) in
+    let ends = subst (λ (line : List ℕ). LineEnds g.R.Rules.table run.recorder.limit (reading.lines + 1) line (progress run.rules run.recorder run.text.items) (progress after.rules after.recorder after.text.items) c.carry_out.result) c.deref.ensures.value c.carry_out.ensures.ends in
+    Last-stopped g.R.Rules.table run.recorder.limit start old read reading.begun.items reading.lines (progress run.rules run.recorder run.text.items) (progress after.rules after.recorder after.text.items) known c.in-Ok-Some.stop c.carry_out.result h some ends (cc)
 
 pub returns-in-Err-clause-last : goal.returns-in-Err-clause-last
 returns-in-Err-clause-last g c start old known read h =
     let run = c.args.self.now.line in
     let after = c.carry_out.new.self.line in
-    let place = c.args.place.now in
-    let ends = subst (λ (line : List ℕ). LineEnds g.R.Rules.table run.recorder.limit (place.lines + 1) line (progress run.rules run.recorder run.text.items) (progress after.rules after.recorder after.text.items) c.carry_out.result) c.deref.ensures.value c.carry_out.ensures.ends in
-    Last-memory g.R.Rules.table run.recorder.limit start old read place.begun.items place.lines (progress run.rules run.recorder run.text.items) (progress after.rules after.recorder after.text.items) known c.in-Err.field-0 c.carry_out.result h ends c.in-Err.is
+    let reading = c.args.reading.now in
+    let ends = subst (λ (line : List ℕ). LineEnds g.R.Rules.table run.recorder.limit (reading.lines + 1) line (progress run.rules run.recorder run.text.items) (progress after.rules after.recorder after.text.items) c.carry_out.result) c.deref.ensures.value c.carry_out.ensures.ends in
+    Last-memory g.R.Rules.table run.recorder.limit start old read reading.begun.items reading.lines (progress run.rules run.recorder run.text.items) (progress after.rules after.recorder after.text.items) known c.in-Err.field-0 c.carry_out.result h ends c.in-Err.is

@@ -1,9 +1,10 @@
 -- How far a script was read and carried out.
-use Rattle.std.specs.Prelude.{◌≡◌, ℕ, List, [], ◌++◌, length, Option, None, Some, Result, Ok, Err}
+use Rattle.std.specs.Prelude.{◌≡◌, ℕ, ◌+◌, List, [], ◌++◌, length, Option, None, Some, Result, Ok, Err}
 use Rattle.rule_machine.specs.RuleTable.{RuleTable}
 use Rattle.script_text.specs.Script.{Progress, LinesDo, IsLine, lines_of}
 use Rattle.byte_streams.specs.Beginning.{AppendsLess}
-use Rattle.script_run.specs.declared.stop.End.{End}
+use Rattle.script_run.specs.declared.halt.Halt.{Halt}
+use Rattle.script_run.specs.declared.reading.Reading.{Reading}
 use Rattle.script_run.specs.Halted.{Hands, Halts}
 use Rattle.script_run.specs.Outcome.{LeadsTo}
 
@@ -21,9 +22,19 @@ pub record Stands (t : RuleTable) (limit : ℕ) (start : Progress) (old : Option
 
 -- a piece was carried out up to the line that it begins; or the run ends in it, or the writer failed, whatever follows the bytes
 -- that were read
-abbrev pub PieceEnds : {E : Type 0} → RuleTable → ℕ → Progress → Option (List ℕ) → List ℕ → List ℕ → ℕ → Progress → Option (List ℕ) → Result (Option End) E → Type 0
+abbrev pub PieceEnds : {E : Type 0} → RuleTable → ℕ → Progress → Option (List ℕ) → List ℕ → List ℕ → ℕ → Progress → Option (List ℕ) → Result (Option Halt) E → Type 0
 PieceEnds t limit start old read begun n now known (Ok None) = Stands t limit start old read begun [] n now known
 PieceEnds t limit start old read begun n now known (Ok (Some end)) =
     (more : List ℕ) → Halts t limit (lines_of (read ++ more)) start end (λ text. Hands old known text now.text)
 PieceEnds t limit start old read begun n now known (Err failed) =
     (more : List ℕ) → (end : Progress) × LeadsTo t limit (lines_of (read ++ more)) start end × AppendsLess old known end.text
+
+-- wherever the run began, and whatever was read before the piece, it was carried out
+abbrev pub CarriesPiece : {E : Type 0} → RuleTable → ℕ → List ℕ → Reading → Reading → Progress → Progress → Option (List ℕ) → Option (List ℕ) → Result (Option Halt) E → Type 0
+CarriesPiece t limit piece old_reading new_reading before after had has result = (start : Progress) (old : Option (List ℕ)) (read : List ℕ)
+    → Stands t limit start old read old_reading.begun.items piece old_reading.lines before had
+    → PieceEnds t limit start old read new_reading.begun.items new_reading.lines after has result
+
+-- how many lines were found whole, and bytes read of the one behind them
+abbrev pub extent : Reading → ℕ
+extent reading = reading.lines + length reading.begun.items

@@ -8,7 +8,7 @@ use line_run::Stop;
 
 /// How far a script was carried out.
 #[derive(Clone, Copy)]
-pub enum End {
+pub enum Halt {
     /// To its end.
     Whole,
     /// Up to what stopped it.
@@ -19,17 +19,17 @@ pub enum End {
     Memory,
 }
 
-impl End {
+impl Halt {
     /// How a run ends that came so far.
     pub fn told(self) -> Result<(), RunFault>
         ensures { result ≡ ended self }
     {
         match self {
-            End::Whole => Ok(()),
-            End::Stopped(Stop::BadLine { line }) => Err(RunFault::BadLine { line }),
-            End::Stopped(Stop::LogFull) => Err(RunFault::LogFull),
-            End::Unread => Err(RunFault::Read),
-            End::Memory => Err(RunFault::Memory),
+            Halt::Whole => Ok(()),
+            Halt::Stopped(Stop::BadLine { line }) => Err(RunFault::BadLine { line }),
+            Halt::Stopped(Stop::LogFull) => Err(RunFault::LogFull),
+            Halt::Unread => Err(RunFault::Read),
+            Halt::Memory => Err(RunFault::Memory),
         }
     }
 }

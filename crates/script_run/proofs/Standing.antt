@@ -12,12 +12,12 @@ use Rattle.script_text.proofs.Lengths.{long_says_nothing}
 use Rattle.byte_streams.specs.Beginning.{AppendsBeginning, AppendsLess}
 use Rattle.line_run.specs.declared.stop.Stop.{Stop}
 use Rattle.line_run.specs.declared.stop.Stop.TheVariants.{BadLine, LogFull}
-use Rattle.script_run.specs.declared.stop.End.{End}
-use Rattle.script_run.specs.declared.stop.End.TheVariants.{Whole, Stopped, Unread, Memory}
+use Rattle.script_run.specs.declared.halt.Halt.{Halt}
+use Rattle.script_run.specs.declared.halt.Halt.TheVariants.{Whole, Stopped, Unread, Memory}
 use Rattle.script_run.specs.Outcome.{StopsAt, LeadsTo}
 use Rattle.script_run.specs.Halted.{Hands, Halts}
 use Rattle.script_run.specs.Line.{LineEnds}
-use Rattle.script_run.specs.Place.{Stands, PieceEnds}
+use Rattle.script_run.specs.Reading.{Stands, PieceEnds}
 use Rattle.script_run.proofs.Shifting.{at_line, line_adds, meeting_adds}
 use Rattle.script_run.proofs.Running.{LineEnds-done, LinesDo-more, LeadsTo-before, Hands-less, Hands-begun}
 
@@ -282,14 +282,14 @@ module _ (t : RuleTable) (limit : ℕ) (start : Progress) (old : Option (List �
       (Stands-memory read begun [] n now known after.text h (subst (LineEnds t limit (n + 1) begun now after) is ends) [])
 
   -- the writer failed
-  pub PieceEnds-failed : {E : Type 0} (read begun : List ℕ) (n : ℕ) (now : Progress) (known : Option (List ℕ)) (result : Result (Option End) E) → IsErr result
+  pub PieceEnds-failed : {E : Type 0} (read begun : List ℕ) (n : ℕ) (now : Progress) (known : Option (List ℕ)) (result : Result (Option Halt) E) → IsErr result
       → ((more : List ℕ) → (end : Progress) × LeadsTo t limit (lines_of (read ++ more)) start end × AppendsLess old known end.text)
       → PieceEnds t limit start old read begun n now known result
   PieceEnds-failed read begun n now known (Ok end) is failed = absurd (true≢false (sym is))
   PieceEnds-failed read begun n now known (Err fault) is failed = failed
 
   -- a piece is carried out behind what was read before it
-  pub piece_at : {E : Type 0} (k : ℕ) (read bytes begun begun' : List ℕ) (n n' : ℕ) (now now' : Progress) (known known' : Option (List ℕ)) (result : Result (Option End) E) → k ≡ limit
+  pub piece_at : {E : Type 0} (k : ℕ) (read bytes begun begun' : List ℕ) (n n' : ℕ) (now now' : Progress) (known known' : Option (List ℕ)) (result : Result (Option Halt) E) → k ≡ limit
       → ((start : Progress) (old : Option (List ℕ)) (read : List ℕ) → Stands t k start old read begun bytes n now known → PieceEnds t k start old read begun' n' now' known' result)
       → Stands t limit start old read begun [] n now known → PieceEnds t limit start old (read ++ bytes) begun' n' now' known' result
   piece_at k read bytes begun begun' n n' now now' known known' result same piece h =
@@ -297,7 +297,7 @@ module _ (t : RuleTable) (limit : ℕ) (start : Progress) (old : Option (List �
       subst P same (piece start old (read ++ bytes)) (Stands-read read begun bytes n now known h)
 
   -- a piece that was read behind all that was written so far is carried out
-  pub piece_read : {E : Type 0} (k : ℕ) (a b c : Option (List ℕ)) (read chunk buffer : List ℕ) (len : ℕ) (begun begun' : List ℕ) (n n' : ℕ) (now held now' : Progress) (known known' known'' : Option (List ℕ)) (result : Result (Option End) E)
+  pub piece_read : {E : Type 0} (k : ℕ) (a b c : Option (List ℕ)) (read chunk buffer : List ℕ) (len : ℕ) (begun begun' : List ℕ) (n n' : ℕ) (now held now' : Progress) (known known' known'' : Option (List ℕ)) (result : Result (Option Halt) E)
       → Consumes a b read → Stands t limit start old read begun [] n now known
       → now.rules ≡ held.rules → now.moment ≡ held.moment → now.count ≡ held.count → Hands known known' now.text held.text
       → chunk ≡ buffer → Consumes b c (take len chunk) → k ≡ limit
@@ -308,22 +308,22 @@ module _ (t : RuleTable) (limit : ℕ) (start : Progress) (old : Option (List �
     piece_at k read (take len buffer) begun begun' n n' held now' known' known'' result limits piece (Stands-handed read begun [] n now held known known' stands rules moment count handed),
   )
 
-  pub last_at : (k : ℕ) (read begun : List ℕ) (n : ℕ) (now : Progress) (known : Option (List ℕ)) (held : List ℕ) (end : End) → k ≡ limit
+  pub last_at : (k : ℕ) (read begun : List ℕ) (n : ℕ) (now : Progress) (known : Option (List ℕ)) (held : List ℕ) (end : Halt) → k ≡ limit
       → ((start : Progress) (old known : Option (List ℕ)) (read : List ℕ) → Stands t k start old read begun [] n now known → Halts t k (lines_of read) start end (λ text. Hands old known text held))
       → Stands t limit start old read begun [] n now known → Halts t limit (lines_of read) start end (λ text. Hands old known text held)
   last_at k read begun n now known held end same last h =
       let P : ℕ → Type 0 = λ m. Stands t m start old read begun [] n now known → Halts t m (lines_of read) start end (λ text. Hands old known text held) in
       subst P same (last start old known read) h
 
-  pub piece_goes_on : {E : Type 0} (read begun : List ℕ) (n : ℕ) (now : Progress) (known : Option (List ℕ)) (result : Result (Option End) E)
+  pub piece_goes_on : {E : Type 0} (read begun : List ℕ) (n : ℕ) (now : Progress) (known : Option (List ℕ)) (result : Result (Option Halt) E)
       → PieceEnds t limit start old read begun n now known result → result ≡ Ok None → Stands t limit start old read begun [] n now known
   piece_goes_on read begun n now known result piece is = subst (PieceEnds t limit start old read begun n now known) is piece
 
-  pub piece_stops : {E : Type 0} (read begun : List ℕ) (n : ℕ) (now : Progress) (known : Option (List ℕ)) (result : Result (Option End) E) (end : End)
+  pub piece_stops : {E : Type 0} (read begun : List ℕ) (n : ℕ) (now : Progress) (known : Option (List ℕ)) (result : Result (Option Halt) E) (end : Halt)
       → PieceEnds t limit start old read begun n now known result → result ≡ Ok (Some end) → (more : List ℕ) → Halts t limit (lines_of (read ++ more)) start end (λ text. Hands old known text now.text)
   piece_stops read begun n now known result end piece is = subst (PieceEnds t limit start old read begun n now known) is piece
 
-  pub piece_fails : {E : Type 0} (read begun : List ℕ) (n : ℕ) (now : Progress) (known : Option (List ℕ)) (result : Result (Option End) E) (fault : E)
+  pub piece_fails : {E : Type 0} (read begun : List ℕ) (n : ℕ) (now : Progress) (known : Option (List ℕ)) (result : Result (Option Halt) E) (fault : E)
       → PieceEnds t limit start old read begun n now known result → result ≡ Err fault
       → (more : List ℕ) → (end : Progress) × LeadsTo t limit (lines_of (read ++ more)) start end × AppendsBeginning old known end.text
   piece_fails read begun n now known result fault piece is more =
