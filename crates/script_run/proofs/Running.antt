@@ -6,9 +6,7 @@ use Rattle.std.specs.Io.KnownBytes.{Appends}
 use Rattle.std.proofs.KnownBytes.{Appends-nil, Appends-trans}
 use Rattle.rule_machine.specs.RuleTable.{RuleTable}
 use Rattle.std.specs.Prelude.{OnErr, IsErr, IfSome}
-use Rattle.script_text.specs.declared.command.Command.{Command}
-use Rattle.script_text.specs.Command.{Says}
-use Rattle.script_text.specs.Script.{Progress, CommandDoes, LineDoes, LinesDo}
+use Rattle.script_text.specs.Script.{Progress, LineDoes, LinesDo}
 use Rattle.byte_streams.specs.Beginning.{AppendsBeginning, AppendsLess}
 use Rattle.line_run.specs.declared.stop.Stop.{Stop}
 use Rattle.line_run.specs.declared.stop.Stop.TheVariants.{BadLine, LogFull}
@@ -44,11 +42,6 @@ pub Hands-begun : (old known new : Option (List ℕ)) (text held : List ℕ) →
 Hands-begun old known new text held h (n, wrote) =
     let front : take (length h.sent + n) text ≡ h.sent ++ take n held = ap (take (length h.sent + n)) h.splits ∙ take-append-add h.sent held n in
     (length h.sent + n, subst (Appends old new) (sym front) (Appends-trans old known new h.sent (take n held) h.wrote wrote))
-
--- a command that was followed
-pub LineDoes-command : (t : RuleTable) (limit : ℕ) (line : List ℕ) (command : Command) (before after : Progress) → (line ≡ [] → ⊥) → Says line command → CommandDoes t limit command before after → LineDoes t limit line before after
-LineDoes-command t limit [] command before after some says does = absurd (some refl)
-LineDoes-command t limit (b ∷ line) command before after some says does = (command, says, does)
 
 pub OnErr-holds : {T E P : Type 0} (result : Result T E) → P → OnErr result P
 OnErr-holds (Ok x) p = tt

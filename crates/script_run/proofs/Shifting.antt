@@ -162,10 +162,6 @@ line_grows t limit number line before after (Ok (Some (BadLine n))) bad = bad
 line_grows t limit number line before after (Ok (Some LogFull)) meets = meets
 line_grows t limit number line before after (Err want) begun = line_begun t limit line before after begun
 
--- a line that was not begun has added no text
-pub unbegun_grows : (text : List ℕ) → Grows text text
-unbegun_grows text = ([], sym (append-nil text))
-
 -- a text that has grown is cut back to what it was
 pub cut_back : (old new cut : List ℕ) (n : ℕ) → Grows old new → n ≡ length old → cut ≡ take n new → cut ≡ old
 cut_back old new cut n (more, grown) long is =

@@ -296,17 +296,18 @@ module _ (t : RuleTable) (limit : ℕ) (start : Progress) (old : Option (List �
       let P : ℕ → Type 0 = λ m. Stands t m start old (read ++ bytes) begun bytes n now known → PieceEnds t m start old (read ++ bytes) begun' n' now' known' result in
       subst P same (piece start old (read ++ bytes)) (Stands-read read begun bytes n now known h)
 
-  -- a piece that was read behind all that was written so far is carried out
-  pub piece_read : {E : Type 0} (k : ℕ) (a b c : Option (List ℕ)) (read chunk buffer : List ℕ) (len : ℕ) (begun begun' : List ℕ) (n n' : ℕ) (now held now' : Progress) (known known' known'' : Option (List ℕ)) (result : Result (Option Halt) E)
+  -- a piece that was read into a chunk, behind all that was written so far, is carried out
+  pub piece_read : {E : Type 0} {k room : ℕ} {read begun : List ℕ} {n : ℕ} {now : Progress} {known known' : Option (List ℕ)} (a b c : Option (List ℕ)) (chunk before buffer : List ℕ) (len : ℕ) (held : Progress) (begun' : List ℕ) (n' : ℕ) (now' : Progress) (known'' : Option (List ℕ)) (result : Result (Option Halt) E)
       → Consumes a b read → Stands t limit start old read begun [] n now known
       → now.rules ≡ held.rules → now.moment ≡ held.moment → now.count ≡ held.count → Hands known known' now.text held.text
-      → chunk ≡ buffer → Consumes b c (take len chunk) → k ≡ limit
+      → length chunk ≡ room → buffer ≡ take room (chunk ++ drop (length chunk) before) → Consumes b c (take len chunk) → k ≡ limit
       → ((start : Progress) (old : Option (List ℕ)) (read : List ℕ) → Stands t k start old read begun (take len buffer) n held known' → PieceEnds t k start old read begun' n' now' known'' result)
       → Consumes a c (read ++ take len buffer) × PieceEnds t limit start old (read ++ take len buffer) begun' n' now' known'' result
-  piece_read k a b c read chunk buffer len begun begun' n n' now held now' known known' known'' result used stands rules moment count handed same bytes limits piece = (
-    Consumes-trans a b c read (take len buffer) used (subst (λ l. Consumes b c (take len l)) same bytes),
-    piece_at k read (take len buffer) begun begun' n n' held now' known' known'' result limits piece (Stands-handed read begun [] n now held known known' stands rules moment count handed),
-  )
+  piece_read {E} {k} {room} {read} {begun} {n} {now} {known} {known'} a b c chunk before buffer len held begun' n' now' known'' result used stands rules moment count handed full is bytes limits piece =
+      let same : chunk ≡ buffer = sym (refilled room chunk before full) ∙ sym is in (
+        Consumes-trans a b c read (take len buffer) used (subst (λ l. Consumes b c (take len l)) same bytes),
+        piece_at k read (take len buffer) begun begun' n n' held now' known' known'' result limits piece (Stands-handed read begun [] n now held known known' stands rules moment count handed),
+      )
 
   pub last_at : (k : ℕ) (read begun : List ℕ) (n : ℕ) (now : Progress) (known : Option (List ℕ)) (held : List ℕ) (end : Halt) → k ≡ limit
       → ((start : Progress) (old known : Option (List ℕ)) (read : List ℕ) → Stands t k start old read begun [] n now known → Halts t k (lines_of read) start end (λ text. Hands old known text held))
@@ -315,16 +316,18 @@ module _ (t : RuleTable) (limit : ℕ) (start : Progress) (old : Option (List �
       let P : ℕ → Type 0 = λ m. Stands t m start old read begun [] n now known → Halts t m (lines_of read) start end (λ text. Hands old known text held) in
       subst P same (last start old known read) h
 
-  pub piece_goes_on : {E : Type 0} (read begun : List ℕ) (n : ℕ) (now : Progress) (known : Option (List ℕ)) (result : Result (Option Halt) E)
-      → PieceEnds t limit start old read begun n now known result → result ≡ Ok None → Stands t limit start old read begun [] n now known
-  piece_goes_on read begun n now known result piece is = subst (PieceEnds t limit start old read begun n now known) is piece
+  -- so the run stands behind it, or ends in it
+  pub piece_goes_on : {E : Type 0} (a c : Option (List ℕ)) (read begun : List ℕ) (n : ℕ) (now : Progress) (known : Option (List ℕ)) (result : Result (Option Halt) E)
+      → Consumes a c read × PieceEnds t limit start old read begun n now known result → result ≡ Ok None → Stands t limit start old read begun [] n now known
+  piece_goes_on a c read begun n now known result (used, piece) is = subst (PieceEnds t limit start old read begun n now known) is piece
 
-  pub piece_stops : {E : Type 0} (read begun : List ℕ) (n : ℕ) (now : Progress) (known : Option (List ℕ)) (result : Result (Option Halt) E) (end : Halt)
-      → PieceEnds t limit start old read begun n now known result → result ≡ Ok (Some end) → (more : List ℕ) → Halts t limit (lines_of (read ++ more)) start end (λ text. Hands old known text now.text)
-  piece_stops read begun n now known result end piece is = subst (PieceEnds t limit start old read begun n now known) is piece
+  pub piece_stops : {E : Type 0} {end : Halt} (a c : Option (List ℕ)) (read begun : List ℕ) (n : ℕ) (now : Progress) (known : Option (List ℕ)) (result : Result (Option Halt) E)
+      → Consumes a c read × PieceEnds t limit start old read begun n now known result → result ≡ Ok (Some end) → IfSome a (λ script. Halts t limit (lines_of script) start end (λ text. Hands old known text now.text))
+  piece_stops {E} {end} a c read begun n now known result (used, piece) is =
+      known_read a c read (λ script. Halts t limit (lines_of script) start end (λ text. Hands old known text now.text)) used (subst (PieceEnds t limit start old read begun n now known) is piece)
 
-  pub piece_fails : {E : Type 0} (read begun : List ℕ) (n : ℕ) (now : Progress) (known : Option (List ℕ)) (result : Result (Option Halt) E) (fault : E)
-      → PieceEnds t limit start old read begun n now known result → result ≡ Err fault
-      → (more : List ℕ) → (end : Progress) × LeadsTo t limit (lines_of (read ++ more)) start end × AppendsBeginning old known end.text
-  piece_fails read begun n now known result fault piece is more =
-      less_is_part (lines_of (read ++ more)) t limit start old known (subst (PieceEnds t limit start old read begun n now known) is piece more)
+  pub piece_fails : {E : Type 0} {fault : E} (a c : Option (List ℕ)) (read begun : List ℕ) (n : ℕ) (now : Progress) (known : Option (List ℕ)) (result : Result (Option Halt) E)
+      → Consumes a c read × PieceEnds t limit start old read begun n now known result → result ≡ Err fault → IfSome a (λ script. (end : Progress) × LeadsTo t limit (lines_of script) start end × AppendsBeginning old known end.text)
+  piece_fails {E} {fault} a c read begun n now known result (used, piece) is =
+      known_read a c read (λ script. (end : Progress) × LeadsTo t limit (lines_of script) start end × AppendsBeginning old known end.text) used
+      (λ more. less_is_part (lines_of (read ++ more)) t limit start old known (subst (PieceEnds t limit start old read begun n now known) is piece more))

@@ -10,7 +10,7 @@ use Rattle.script_run.specs.Outcome.{LeadsTo}
 use Rattle.script_run.specs.Halted.{Hands, Halts}
 use Rattle.line_run.specs.Line.{progress}
 use Rattle.script_run.proofs.Running.{OnErr-holds}
-use Rattle.script_run.proofs.Standing.{refilled, take_short, known_read, moved_on, Stands-none, Stands-handed, Stands-began, Stands-unread, Stands-memory, piece_read, last_at, piece_goes_on, piece_stops, piece_fails}
+use Rattle.script_run.proofs.Standing.{take_short, known_read, moved_on, Stands-none, Stands-handed, Stands-began, Stands-unread, Stands-memory, piece_read, last_at, piece_goes_on, piece_stops, piece_fails}
 use Rattle.script_run.proofs.runner.Run.carry_out_all.Goals as goal
 
 pub returns-in_default-clause-ok : goal.returns-in_default-clause-ok
@@ -85,65 +85,42 @@ pub returns-in_err-end-clause-fault : goal.returns-in_err-end-clause-fault
 returns-in_err-end-clause-fault g c =
     let begun = c.args.self.now.line in
     let run = c.loop-reading.self.line in
-    let reading = c.loop-reading.reading in
-    let after = c.carry_out_piece.new.self.line in
-    let later = c.carry_out_piece.new.reading in
     let start = progress begun.rules begun.recorder begun.text.items in
     let old = g.Out.Write.contents c.args.writer.now.writer in
-    let known' = g.Out.Write.contents c.carry_out_piece.new.writer.writer in
     let left = g.In.Read.remaining in
     let stood = c.loop-reading.invariant.stands in
-    let piece = take c.in-Ok-read_on.len c.deref-in-loop-reading.result.now in
-    let same : c.read_on.new.chunk ≡ c.deref-in-loop-reading.result.now = sym (refilled c.loop-reading.chunk.len c.read_on.new.chunk c.loop-reading.chunk.items (c.read_on.ensures.room ∙ c.deref_mut.ensures.len)) ∙ sym c.deref-in-loop-reading.ensures.value in
-    let done = piece_read g.R.Rules.table begun.recorder.limit start old run.recorder.limit (left c.args.reader.now.reader) (left c.loop-reading.reader.reader) (left c.read_on.new.reader.reader) stood.0 c.read_on.new.chunk c.deref-in-loop-reading.result.now c.in-Ok-read_on.len reading.begun.items later.begun.items reading.lines later.lines
-    (progress run.rules run.recorder run.text.items) (progress run.rules run.recorder c.hand_over_all.new.text.items) (progress after.rules after.recorder after.text.items) (g.Out.Write.contents c.loop-reading.writer.writer) (g.Out.Write.contents c.hand_over_all.new.writer.writer) known' c.carry_out_piece.result
-    stood.1 stood.2 refl refl refl c.in_ok-hand_over_all.ensures.ok same c.in-Ok-read_on.ensures.bytes c.loop-reading.invariant.limit c.carry_out_piece.ensures.piece in
-    OnErr-holds c.from_residual-in_err-end.result
-    (known_read (left c.args.reader.now.reader) (left c.read_on.new.reader.reader) (stood.0 ++ piece)
-    (λ script. (end : Progress) × LeadsTo g.R.Rules.table begun.recorder.limit (lines_of script) start end × AppendsBeginning old known' end.text) done.0
-    (piece_fails g.R.Rules.table begun.recorder.limit start old (stood.0 ++ piece) later.begun.items later.lines (progress after.rules after.recorder after.text.items) known' c.carry_out_piece.result c.in_err-end.field-0.0 done.1 c.in_err-end.was))
+    let done = piece_read g.R.Rules.table begun.recorder.limit start old (left c.args.reader.now.reader) (left c.loop-reading.reader.reader) (left c.read_on.new.reader.reader) c.read_on.new.chunk c.loop-reading.chunk.items c.deref-in-loop-reading.result.now c.in-Ok-read_on.len
+    (progress run.rules run.recorder c.hand_over_all.new.text.items) _ _ _ _ c.carry_out_piece.result stood.1 stood.2 refl refl refl c.in_ok-hand_over_all.ensures.ok
+    (c.read_on.ensures.room ∙ c.deref_mut.ensures.len) c.deref-in-loop-reading.ensures.value c.in-Ok-read_on.ensures.bytes c.loop-reading.invariant.limit c.carry_out_piece.ensures.piece in
+    OnErr-holds c.from_residual-in_err-end.result (piece_fails g.R.Rules.table begun.recorder.limit start old _ _ _ _ _ _ _ _ done c.in_err-end.was)
 
 pub returns-in-Some-clause-ok : goal.returns-in-Some-clause-ok
 returns-in-Some-clause-ok g c =
     let begun = c.args.self.now.line in
     let run = c.loop-reading.self.line in
-    let reading = c.loop-reading.reading in
-    let after = c.carry_out_piece.new.self.line in
-    let later = c.carry_out_piece.new.reading in
     let start = progress begun.rules begun.recorder begun.text.items in
     let old = g.Out.Write.contents c.args.writer.now.writer in
-    let known' = g.Out.Write.contents c.carry_out_piece.new.writer.writer in
     let left = g.In.Read.remaining in
     let stood = c.loop-reading.invariant.stands in
-    let piece = take c.in-Ok-read_on.len c.deref-in-loop-reading.result.now in
-    let same : c.read_on.new.chunk ≡ c.deref-in-loop-reading.result.now = sym (refilled c.loop-reading.chunk.len c.read_on.new.chunk c.loop-reading.chunk.items (c.read_on.ensures.room ∙ c.deref_mut.ensures.len)) ∙ sym c.deref-in-loop-reading.ensures.value in
-    let done = piece_read g.R.Rules.table begun.recorder.limit start old run.recorder.limit (left c.args.reader.now.reader) (left c.loop-reading.reader.reader) (left c.read_on.new.reader.reader) stood.0 c.read_on.new.chunk c.deref-in-loop-reading.result.now c.in-Ok-read_on.len reading.begun.items later.begun.items reading.lines later.lines
-    (progress run.rules run.recorder run.text.items) (progress run.rules run.recorder c.hand_over_all.new.text.items) (progress after.rules after.recorder after.text.items) (g.Out.Write.contents c.loop-reading.writer.writer) (g.Out.Write.contents c.hand_over_all.new.writer.writer) known' c.carry_out_piece.result
-    stood.1 stood.2 refl refl refl c.in_ok-hand_over_all.ensures.ok same c.in-Ok-read_on.ensures.bytes c.loop-reading.invariant.limit c.carry_out_piece.ensures.piece in
-    known_read (left c.args.reader.now.reader) (left c.read_on.new.reader.reader) (stood.0 ++ piece)
-    (λ script. Halts g.R.Rules.table begun.recorder.limit (lines_of script) start c.in-Some.end (λ text. Hands old known' text after.text.items)) done.0
-    (piece_stops g.R.Rules.table begun.recorder.limit start old (stood.0 ++ piece) later.begun.items later.lines (progress after.rules after.recorder after.text.items) known' c.carry_out_piece.result c.in-Some.end done.1 (c.in_ok-end.was ∙ ap (λ (o : Option Halt). Ok o) c.in-Some.is))
+    let done = piece_read g.R.Rules.table begun.recorder.limit start old (left c.args.reader.now.reader) (left c.loop-reading.reader.reader) (left c.read_on.new.reader.reader) c.read_on.new.chunk c.loop-reading.chunk.items c.deref-in-loop-reading.result.now c.in-Ok-read_on.len
+    (progress run.rules run.recorder c.hand_over_all.new.text.items) _ _ _ _ c.carry_out_piece.result stood.1 stood.2 refl refl refl c.in_ok-hand_over_all.ensures.ok
+    (c.read_on.ensures.room ∙ c.deref_mut.ensures.len) c.deref-in-loop-reading.ensures.value c.in-Ok-read_on.ensures.bytes c.loop-reading.invariant.limit c.carry_out_piece.ensures.piece in
+    piece_stops g.R.Rules.table begun.recorder.limit start old _ _ _ _ _ _ _ _ done (c.in_ok-end.was ∙ ap (λ (o : Option Halt). Ok o) c.in-Some.is)
 
 pub loop-reading-preserved : goal.loop-reading-preserved
 loop-reading-preserved g c =
     let begun = c.args.self.now.line in
     let run = c.loop-reading.self.line in
-    let reading = c.loop-reading.reading in
-    let after = c.carry_out_piece.new.self.line in
-    let later = c.carry_out_piece.new.reading in
     let start = progress begun.rules begun.recorder begun.text.items in
     let old = g.Out.Write.contents c.args.writer.now.writer in
-    let known' = g.Out.Write.contents c.carry_out_piece.new.writer.writer in
     let left = g.In.Read.remaining in
     let stood = c.loop-reading.invariant.stands in
-    let piece = take c.in-Ok-read_on.len c.deref-in-loop-reading.result.now in
-    let same : c.read_on.new.chunk ≡ c.deref-in-loop-reading.result.now = sym (refilled c.loop-reading.chunk.len c.read_on.new.chunk c.loop-reading.chunk.items (c.read_on.ensures.room ∙ c.deref_mut.ensures.len)) ∙ sym c.deref-in-loop-reading.ensures.value in
-    let done = piece_read g.R.Rules.table begun.recorder.limit start old run.recorder.limit (left c.args.reader.now.reader) (left c.loop-reading.reader.reader) (left c.read_on.new.reader.reader) stood.0 c.read_on.new.chunk c.deref-in-loop-reading.result.now c.in-Ok-read_on.len reading.begun.items later.begun.items reading.lines later.lines
-    (progress run.rules run.recorder run.text.items) (progress run.rules run.recorder c.hand_over_all.new.text.items) (progress after.rules after.recorder after.text.items) (g.Out.Write.contents c.loop-reading.writer.writer) (g.Out.Write.contents c.hand_over_all.new.writer.writer) known' c.carry_out_piece.result
-    stood.1 stood.2 refl refl refl c.in_ok-hand_over_all.ensures.ok same c.in-Ok-read_on.ensures.bytes c.loop-reading.invariant.limit c.carry_out_piece.ensures.piece in
+    let done = piece_read g.R.Rules.table begun.recorder.limit start old (left c.args.reader.now.reader) (left c.loop-reading.reader.reader) (left c.read_on.new.reader.reader) c.read_on.new.chunk c.loop-reading.chunk.items c.deref-in-loop-reading.result.now c.in-Ok-read_on.len
+    (progress run.rules run.recorder c.hand_over_all.new.text.items) _ _ _ _ c.carry_out_piece.result stood.1 stood.2 refl refl refl c.in_ok-hand_over_all.ensures.ok
+    (c.read_on.ensures.room ∙ c.deref_mut.ensures.len) c.deref-in-loop-reading.ensures.value c.in-Ok-read_on.ensures.bytes c.loop-reading.invariant.limit c.carry_out_piece.ensures.piece in
     record {
       limit = c.carry_out_piece.ensures.limit ∙ c.loop-reading.invariant.limit;
-      stands = (stood.0 ++ piece, done.0, piece_goes_on g.R.Rules.table begun.recorder.limit start old (stood.0 ++ piece) later.begun.items later.lines (progress after.rules after.recorder after.text.items) known' c.carry_out_piece.result done.1 (c.in_ok-end.was ∙ ap (λ (o : Option Halt). Ok o) c.in_default-2.is));
+      stands = (stood.0 ++ take c.in-Ok-read_on.len c.deref-in-loop-reading.result.now, done.0, piece_goes_on g.R.Rules.table begun.recorder.limit start old _ _ _ _ _ _ _ _ done (c.in_ok-end.was ∙ ap (λ (o : Option Halt). Ok o) c.in_default-2.is));
       room =
           let full : length c.read_on.new.chunk ≡ 65536 = grind arith in
           let bound = c.in_ok-end.ensures.room (subst (λ (o : Option Halt). IsNone o) (sym c.in_default-2.is) refl) in
