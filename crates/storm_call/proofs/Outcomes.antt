@@ -1,5 +1,5 @@
 -- How a storm ends, from how its parts do.
-use Rattle.std.proofs.Common.{◌≡◌, ℕ, inl, inr, List, Option, None, Some, Result, Ok, Err, IsErr, IsErrAnd, sym, ap, subst}
+use Rattle.std.proofs.Common.{◌≡◌, ℕ, inl, inr, List, Option, None, Some, Result, Ok, Err, IsErr, IsErrAnd, IsErrOf, sym, ap, subst}
 use Rattle.std.specs.Io.KnownBytes.{Appends}
 use Rattle.rule_machine.specs.RuleTable.{RuleTable}
 use Rattle.step_log.specs.Kept.{Kept}
@@ -17,6 +17,21 @@ use Rattle.storm_call.specs.Parts.{FailsToWrite}
 told : (result : Result Unit StormFault) (fault : StormFault) → IsErr result → IsErrAnd result (λ found. found ≡ fault) → Err fault ≡ result
 told (Ok done) fault is gives = cc
 told (Err found) fault is gives = ap (λ (f : StormFault). Err f) (sym gives)
+
+-- a write failed
+abbrev FailsToWriteOut : Result Unit StormFault → Type 0
+FailsToWriteOut (Err storm.Write) = Unit {0}
+FailsToWriteOut _ = ⊥
+
+calls_write_nothing : (fault : CallFault) → FailsToWriteOut (Err (of_call fault)) → ⊥
+calls_write_nothing (Behind front seen) never = never
+calls_write_nothing LogFull never = never
+calls_write_nothing Memory never = never
+
+-- the fault of a call is not that one
+pub not_of_call : (P : Type 0) (fault : CallFault) (found : StormFault) → found ≡ of_call fault → IsErrOf {T = Unit} (Err found) storm.Write → P
+not_of_call P fault found is same =
+    absurd (calls_write_nothing fault (subst (λ (f : StormFault). FailsToWriteOut (Err f)) is (subst FailsToWriteOut (sym same) tt)))
 
 module _ (t : RuleTable) (weight : ℕ) (asked : Asked) (texts : List (Option (List ℕ))) (scripts : List (List ScriptLine)) (kept : Kept) (old new : Option (List ℕ)) where
   -- all was written, and the first fault that a script met is told

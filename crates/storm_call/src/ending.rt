@@ -7,6 +7,7 @@ ghost use Rattle.storm_call.specs.Status.{status_of, end_status};
 
 use crate::StormFault;
 use crate::fault_line::write_fault;
+use byte_streams::Writes;
 use locked_net::SettleFault;
 use std::io::Write;
 
@@ -27,9 +28,9 @@ pub fn status(fault: StormFault) -> u8
 
 /// Tells how a storm ended, in one line, where it is a fault, and gives the exit status: 0 for none, else the fault's. The
 /// status is the same where the line cannot be written, or only a beginning of it.
-pub fn storm_end<Faults: Write>(ended: Result<(), StormFault>, faults: &mut Faults) -> u8
+pub fn storm_end<Faults: Write>(ended: Result<(), StormFault>, faults: &mut Writes<Faults>) -> u8
     ensures status { result ≡ end_status ended }
-    ensures told { AppendsBeginning (Faults.contents faults.old) (Faults.contents faults.new) (end_line ended) }
+    ensures told { AppendsBeginning (Faults.contents faults.old.writer) (Faults.contents faults.new.writer) (end_line ended) }
 {
     match ended {
         Ok(()) => 0,

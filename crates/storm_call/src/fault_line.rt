@@ -1,13 +1,13 @@
 //! The lines that tell why a storm ended as it should not. They take no memory.
 
-ghost use Rattle.std.specs.Prelude.{◌≡◌, ◌++◌, codes, OnOk, OnErr};
+ghost use Rattle.std.specs.Prelude.{◌≡◌, ◌++◌, codes, true, OnOk, OnErr};
 ghost use Rattle.std.specs.Io.KnownBytes.{Appends};
 ghost use Rattle.byte_streams.specs.Beginning.{AppendsBeginning, AppendsLess};
 ghost use Rattle.line_text.specs.Words.{number_text};
 ghost use Rattle.storm_call.specs.FaultText.{fault_line, IsPlain};
 
 use crate::StormFault;
-use byte_streams::{OutputFault, finish, write_whole};
+use byte_streams::{OutputFault, Writes};
 use itoa::Buffer;
 use locked_net::SettleFault;
 use std::io::Write;
@@ -16,37 +16,43 @@ use std::io::Write;
 fn write_numbered<Faults: Write>(
     text: &[u8],
     number: u64,
-    faults: &mut Faults,
+    faults: &mut Writes<Faults>,
 ) -> Result<(), OutputFault>
-    ensures ok { OnOk result (Appends (Faults.contents faults.old) (Faults.contents faults.new) (text.now ++ number_text number)) }
-    ensures fault { OnErr result (AppendsLess (Faults.contents faults.old) (Faults.contents faults.new) (text.now ++ number_text number)) }
+    ensures ok { OnOk result (Appends (Faults.contents faults.old.writer) (Faults.contents faults.new.writer) (text.now ++ number_text number)) }
+    ensures fault { OnErr result (AppendsLess (Faults.contents faults.old.writer) (Faults.contents faults.new.writer) (text.now ++ number_text number)) }
+    ensures unwritten { OnErr result (faults.new.failed ≡ true) }
 {
     let mut digits = Buffer::new();
-    write_whole(faults, text)?;
-    write_whole(faults, digits.format(number).as_bytes())
+    faults.write_whole(text)?;
+    faults.write_whole(digits.format(number).as_bytes())
 }
 
 fn write_bad_line<Faults: Write>(
     script: u32,
     line: u64,
-    faults: &mut Faults,
+    faults: &mut Writes<Faults>,
 ) -> Result<(), OutputFault>
-    ensures ok { OnOk result (Appends (Faults.contents faults.old) (Faults.contents faults.new) (fault_line (StormFault.BadLine script line))) }
-    ensures fault { OnErr result (AppendsBeginning (Faults.contents faults.old) (Faults.contents faults.new) (fault_line (StormFault.BadLine script line))) }
+    ensures ok { OnOk result (Appends (Faults.contents faults.old.writer) (Faults.contents faults.new.writer) (fault_line (StormFault.BadLine script line))) }
+    ensures fault { OnErr result (AppendsBeginning (Faults.contents faults.old.writer) (Faults.contents faults.new.writer) (fault_line (StormFault.BadLine script line))) }
+    ensures unwritten { OnErr result (faults.new.failed ≡ true) }
 {
     write_numbered(b"! script ", script as u64, faults)?;
     write_numbered(b" line ", line, faults)?;
-    finish(faults, b": not a command\n")
+    faults.finish(b": not a command\n")
 }
 
 /// Writes the line of a fault and flushes the writer.
-pub fn write_fault<Faults: Write>(fault: StormFault, faults: &mut Faults) -> Result<(), OutputFault>
-    ensures ok { OnOk result (Appends (Faults.contents faults.old) (Faults.contents faults.new) (fault_line fault)) }
-    ensures fault { OnErr result (AppendsBeginning (Faults.contents faults.old) (Faults.contents faults.new) (fault_line fault)) }
+pub fn write_fault<Faults: Write>(
+    fault: StormFault,
+    faults: &mut Writes<Faults>,
+) -> Result<(), OutputFault>
+    ensures ok { OnOk result (Appends (Faults.contents faults.old.writer) (Faults.contents faults.new.writer) (fault_line fault)) }
+    ensures fault { OnErr result (AppendsBeginning (Faults.contents faults.old.writer) (Faults.contents faults.new.writer) (fault_line fault)) }
+    ensures unwritten { OnErr result (faults.new.failed ≡ true) }
 {
     match fault {
         StormFault::BadLine { script, line } => write_bad_line(script, line, faults),
-        fault => finish(faults, plain_line(fault)),
+        fault => faults.finish(plain_line(fault)),
     }
 }
 

@@ -10,7 +10,7 @@
 //! scripts are played one after another.
 //!
 //! ```rust
-//! storm(rt, alloc, &options.with_roam(2, 1_000), files, &mut stdout, &NoGate)?;    // `StormFault`
+//! storm(rt, alloc, &options.with_roam(2, 1_000), files, &mut Writes::new(stdout), &NoGate)?;    // `StormFault`
 //! ```
 #![tactic(auto)]
 

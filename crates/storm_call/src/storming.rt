@@ -1,13 +1,15 @@
 //! A storm: scripts read, played at once on one network, settled and written.
 
-ghost use Rattle.std.specs.Prelude.{◌≤◌, length, map, IfOk, IfErr};
+ghost use Rattle.std.specs.Prelude.{◌≡◌, ◌≤◌, true, length, map, IfOk, IfErr, IsErrOf};
 ghost use Rattle.script_run.specs.Asked.{asked_of};
 ghost use Rattle.step_log.specs.Held.{kept_of};
 ghost use Rattle.storm_call.specs.Outcome.{Leaves, Ends, IsOutcome};
 ghost use Rattle.storm_call.specs.Parts.{FailsToPlay};
+ghost use Rattle.storm_call.specs.declared.fault.StormFault.TheVariants.{Write as Unwritten};
 
 use crate::text::write_log;
 use crate::{Crew, StormFault, play_scripts};
+use byte_streams::Writes;
 use locked_net::{CallFault, LockedNet};
 use rule_machine::RuleSet;
 use rule_set::Rules;
@@ -62,10 +64,11 @@ fn storm_on<
     alloc: Global,
     options: &Options,
     readers: Vec<In>,
-    writer: &mut Out,
+    writer: &mut Writes<Out>,
     gate: &G,
 ) -> Result<(), StormFault>
-    ensures { Ends R.table R.NODE_WEIGHT (asked_of options.now) (map In.remaining readers.items) (Out.contents writer.old) (Out.contents writer.new) result }
+    ensures outcome { Ends R.table R.NODE_WEIGHT (asked_of options.now) (map In.remaining readers.items) (Out.contents writer.old.writer) (Out.contents writer.new.writer) result }
+    ensures unwritten { IsErrOf result Unwritten → writer.new.failed ≡ true }
 {
     let scripts = read_scripts(alloc, readers)?;
     let (journal, fault) = play::<R, G, T>(rt, alloc, options, &scripts, gate)?;
@@ -84,7 +87,7 @@ fn storm_on<
 ///
 /// `TooManyScripts` above 64; then, script by script, `Read` at the first error of its reader, and `BadLine` at the first line
 /// that is neither empty nor a command: nothing was played or written. Then the first of these that is so: `Unsettled` where
-/// the receipts do not account for the log, and nothing was written; `Write` at the first error of the writer, after a
+/// the receipts do not account for the log, and nothing was written; `Write` only where a write or a flush failed, after a
 /// beginning of the text was written; and, after all of it was written, the fault of the first script that met one, else that of
 /// the first worker that did: `LogFull` at a command or a turn beyond the limit, `Behind`, or `Memory` in a call. Who meets a fault
 /// ends there, and the others go on. `Memory` also where memory runs out elsewhere, before anything was written. `Thread` never
@@ -98,10 +101,11 @@ pub fn storm<In: Read + Drop, Out: Write, G: Gate + Sync, T: Threads + Wait + Sy
     alloc: Global,
     options: &Options,
     readers: Vec<In>,
-    writer: &mut Out,
+    writer: &mut Writes<Out>,
     gate: &G,
 ) -> Result<(), StormFault>
-    ensures { IsOutcome (asked_of options.now) (map In.remaining readers.items) (Out.contents writer.old) (Out.contents writer.new) result }
+    ensures outcome { IsOutcome (asked_of options.now) (map In.remaining readers.items) (Out.contents writer.old.writer) (Out.contents writer.new.writer) result }
+    ensures unwritten { IsErrOf result Unwritten → writer.new.failed ≡ true }
 {
     match options.rules() {
         RuleSet::Hh => storm_on::<HsuHuang, In, Out, G, T>(

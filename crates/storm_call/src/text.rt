@@ -1,14 +1,15 @@
 //! What a storm writes.
 
-ghost use Rattle.std.specs.Prelude.{OnOk, IfErr};
+ghost use Rattle.std.specs.Prelude.{◌≡◌, true, OnOk, IfErr, IsErrOf};
 ghost use Rattle.std.specs.Io.KnownBytes.{Appends};
 ghost use Rattle.script_run.specs.Asked.{asked_of};
 ghost use Rattle.step_log.specs.Held.{kept_of};
 ghost use Rattle.storm_call.specs.Outcome.{text_of};
 ghost use Rattle.storm_call.specs.Parts.{FailsToWrite};
+ghost use Rattle.storm_call.specs.declared.fault.StormFault.TheVariants.{Write as Unwritten};
 
 use crate::{StormFault, put_log};
-use byte_streams::finish;
+use byte_streams::Writes;
 use rule_set::Rules;
 use script_run::Options;
 use std::alloc::Global;
@@ -20,10 +21,11 @@ pub fn write_log<R: Rules, Out: Write>(
     alloc: Global,
     options: &Options,
     journal: &Journal<R>,
-    writer: &mut Out,
+    writer: &mut Writes<Out>,
 ) -> Result<(), StormFault>
-    ensures ok { OnOk result (Appends (Out.contents writer.old) (Out.contents writer.new) (text_of (asked_of options.now) (kept_of journal.now))) }
-    ensures fault { IfErr result (FailsToWrite (Out.contents writer.old) (Out.contents writer.new) (text_of (asked_of options.now) (kept_of journal.now))) }
+    ensures ok { OnOk result (Appends (Out.contents writer.old.writer) (Out.contents writer.new.writer) (text_of (asked_of options.now) (kept_of journal.now))) }
+    ensures fault { IfErr result (FailsToWrite (Out.contents writer.old.writer) (Out.contents writer.new.writer) (text_of (asked_of options.now) (kept_of journal.now))) }
+    ensures unwritten { IsErrOf result Unwritten → writer.new.failed ≡ true }
 {
     let mut text = Vec::new(alloc);
     put_log(
@@ -33,6 +35,6 @@ pub fn write_log<R: Rules, Out: Write>(
         options.present(),
         journal,
     )?;
-    finish(writer, &text)?;
+    writer.finish(&text)?;
     Ok(())
 }

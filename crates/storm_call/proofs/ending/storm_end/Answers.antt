@@ -8,7 +8,7 @@ use Rattle.storm_call.proofs.ending.storm_end.Goals as goal
 pub returns-in-Err-clause-told : goal.returns-in-Err-clause-told
 returns-in-Err-clause-told g c =
     let known = g.Faults.Write.contents in
-    let old = known c.args.faults.now in
-    let new = known c.write_fault.new.faults in
+    let old = known c.args.faults.now.writer in
+    let new = known c.write_fault.new.faults.writer in
     subst (λ (e : Result Unit StormFault). AppendsBeginning old new (end_line e)) (sym c.in-Err.is)
     (either_begins old new (fault_line c.in-Err.fault) c.write_fault.result c.write_fault.ensures.ok c.write_fault.ensures.fault)

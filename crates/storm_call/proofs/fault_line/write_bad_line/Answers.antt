@@ -9,17 +9,17 @@ returns-in_err-write_numbered-clause-fault g c =
     let first = codes "! script " ++ number_text c.args.script in
     let second = codes " line " ++ number_text c.args.line in
     begins_at_err _ _ _ c.from_residual.result
-    (less_begins (known c.args.faults.now) (known c.write_numbered.new.faults) first (second ++ codes ": not a command\n") c.in_err-write_numbered.ensures.fault)
+    (less_begins (known c.args.faults.now.writer) (known c.write_numbered.new.faults.writer) first (second ++ codes ": not a command\n") c.in_err-write_numbered.ensures.fault)
 
 pub returns-in_err-write_numbered-2-clause-fault : goal.returns-in_err-write_numbered-2-clause-fault
 returns-in_err-write_numbered-2-clause-fault g c =
     let known = g.Faults.Write.contents in
-    let mid = known c.write_numbered.new.faults in
-    let new = known c.write_numbered-2.new.faults in
+    let mid = known c.write_numbered.new.faults.writer in
+    let new = known c.write_numbered-2.new.faults.writer in
     let first = codes "! script " ++ number_text c.args.script in
     let second = codes " line " ++ number_text c.args.line in
     begins_at_err _ _ _ c.from_residual-in_err-write_numbered-2.result
-    (front_begins (known c.args.faults.now) mid new first (second ++ codes ": not a command\n") c.in_ok-write_numbered.ensures.ok
+    (front_begins (known c.args.faults.now.writer) mid new first (second ++ codes ": not a command\n") c.in_ok-write_numbered.ensures.ok
     (less_begins mid new second (codes ": not a command\n") c.in_err-write_numbered-2.ensures.fault))
 
 pub returns-clause-ok : goal.returns-clause-ok
@@ -27,11 +27,11 @@ returns-clause-ok g c =
     let known = g.Faults.Write.contents in
     let first = codes "! script " ++ number_text c.args.script in
     let second = codes " line " ++ number_text c.args.line in
-    third_whole (known c.args.faults.now) (known c.write_numbered.new.faults) (known c.write_numbered-2.new.faults) (known c.finish.new.writer) first second (codes ": not a command\n") c.finish.result c.in_ok-write_numbered.ensures.ok c.in_ok-write_numbered-2.ensures.ok c.finish.ensures.ok
+    third_whole (known c.args.faults.now.writer) (known c.write_numbered.new.faults.writer) (known c.write_numbered-2.new.faults.writer) (known c.finish.new.self.writer) first second (codes ": not a command\n") c.finish.result c.in_ok-write_numbered.ensures.ok c.in_ok-write_numbered-2.ensures.ok c.finish.ensures.ok
 
 pub returns-clause-fault : goal.returns-clause-fault
 returns-clause-fault g c =
     let known = g.Faults.Write.contents in
     let first = codes "! script " ++ number_text c.args.script in
     let second = codes " line " ++ number_text c.args.line in
-    third_begins (known c.args.faults.now) (known c.write_numbered.new.faults) (known c.write_numbered-2.new.faults) (known c.finish.new.writer) first second (codes ": not a command\n") c.finish.result c.in_ok-write_numbered.ensures.ok c.in_ok-write_numbered-2.ensures.ok c.finish.ensures.fault
+    third_begins (known c.args.faults.now.writer) (known c.write_numbered.new.faults.writer) (known c.write_numbered-2.new.faults.writer) (known c.finish.new.self.writer) first second (codes ": not a command\n") c.finish.result c.in_ok-write_numbered.ensures.ok c.in_ok-write_numbered-2.ensures.ok c.finish.ensures.fault

@@ -5,16 +5,16 @@ use Rattle.script_run.specs.Asked.{asked_of}
 use Rattle.storm_call.specs.Outcome.{Ends, weight_of}
 use Rattle.storm_call.proofs.storming.storm.Goals as goal
 
-pub returns-in-Hh : goal.returns-in-Hh
-returns-in-Hh g c =
+pub returns-in-Hh-clause-outcome : goal.returns-in-Hh-clause-outcome
+returns-in-Hh-clause-outcome g c =
     let asked = asked_of c.args.options.now in
     let known = g.Out.Write.contents in
     let texts = map g.In.Read.remaining c.args.readers.items in
-    subst (λ (r : RuleSet). Ends (table_of r) (weight_of r) asked texts (known c.args.writer.now) (known c.storm_on.new.writer) c.storm_on.result) c.in-Hh.ensures c.storm_on.ensures
+    subst (λ (r : RuleSet). Ends (table_of r) (weight_of r) asked texts (known c.args.writer.now.writer) (known c.storm_on.new.writer.writer) c.storm_on.result) c.in-Hh.ensures c.storm_on.ensures.outcome
 
-pub returns-in-Manne : goal.returns-in-Manne
-returns-in-Manne g c =
+pub returns-in-Manne-clause-outcome : goal.returns-in-Manne-clause-outcome
+returns-in-Manne-clause-outcome g c =
     let asked = asked_of c.args.options.now in
     let known = g.Out.Write.contents in
     let texts = map g.In.Read.remaining c.args.readers.items in
-    subst (λ (r : RuleSet). Ends (table_of r) (weight_of r) asked texts (known c.args.writer.now) (known c.storm_on-in-Manne.new.writer) c.storm_on-in-Manne.result) c.in-Manne.ensures c.storm_on-in-Manne.ensures
+    subst (λ (r : RuleSet). Ends (table_of r) (weight_of r) asked texts (known c.args.writer.now.writer) (known c.storm_on-in-Manne.new.writer.writer) c.storm_on-in-Manne.result) c.in-Manne.ensures c.storm_on-in-Manne.ensures.outcome
