@@ -26,7 +26,6 @@ pub struct CostedEpoch {
 }
 
 impl Model for Epoch {
-    ghost use Rattle.std.specs.Prelude.{ℕ};
     ghost use Rattle.rule_machine.specs.Run as run;
 
     ghost Value = { run.Epoch };

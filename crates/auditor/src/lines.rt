@@ -1,6 +1,6 @@
 //! Lines of a text, by their line feeds; and how far two texts are the same.
 
-ghost use Rattle.std.specs.Prelude.{◌≡◌, ◌≤◌, ℕ, List, ◌++◌, length, take};
+ghost use Rattle.std.specs.Prelude.{◌≡◌, ◌≤◌, ℕ, List, ◌++◌, length};
 ghost use Rattle.auditor.specs.Damage.{line_feeds};
 ghost use Rattle.auditor.specs.Replays.{AreSameUpTo, ArePartedAt};
 

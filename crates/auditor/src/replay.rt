@@ -1,18 +1,15 @@
 //! A transcript that is gone through part by part.
 
-ghost use Rattle.std.specs.Prelude.{◌≡◌, ◌≢◌, ◌≤◌, ◌++◌, ℕ, List, [], None, Some, IfErr, IfOk, IfSome, MatchOption, OnOk};
+ghost use Rattle.std.specs.Prelude.{◌≡◌, ◌≢◌, ◌≤◌, ◌++◌, ℕ, List, [], None, Some, IfErr, IfOk, MatchOption, OnOk};
 ghost use Rattle.rule_machine.specs.declared.rules.RuleSet.{RuleSet as Rules};
-ghost use Rattle.rule_machine.specs.Base.{base_of};
 ghost use Rattle.entry_grammar.specs.declared.base_line.BaseLine.TheVariants.{Head};
 ghost use Rattle.line_text.specs.BaseText.{base_head};
 ghost use Rattle.entry_grammar.specs.Lines.{first_line};
 ghost use Rattle.entry_grammar.specs.Spelling.{SpellsHeader};
 ghost use Rattle.auditor.specs.declared.damage.JudgeFault.TheVariants.{Damaged};
 ghost use Rattle.auditor.specs.Damage.{BeginsBase, SpellsNoHead};
-ghost use Rattle.auditor.specs.Position.{stand_of};
 ghost use Rattle.auditor.specs.Reached.{IsMetBehind, IsMetFirst};
 ghost use Rattle.auditor.specs.Replays.{Begins, HasCutStart, IsAt, IsCompared, IsMetAt, IsPassed, IsSomewhere, IsUnended, Waits, Wants};
-ghost use Rattle.auditor.specs.Verdict.{IsJudged};
 
 use crate::check::Audit;
 use crate::lines::{common_len, line_feeds, lines_before};

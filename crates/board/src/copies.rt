@@ -1,8 +1,7 @@
 //! The board: what publishes entries.
 
-ghost use Rattle.std.specs.Prelude.{◌≡◌, ◌^◌, ◌<◌, ◌∷◌, ◌++◌, [], None, length, drop, fold, IfOk, OnOk, OnErr, IsOk};
+ghost use Rattle.std.specs.Prelude.{◌≡◌, ◌^◌, ◌<◌, ◌∷◌, ◌++◌, [], length, drop, fold, IfOk, OnOk, OnErr};
 ghost use Rattle.left_right.specs.Sides.{view as known};
-ghost use Rattle.rule_machine.specs.Run.{Entry as Logged};
 ghost use Rattle.board.specs.History.{published};
 ghost use Rattle.board.specs.Sight.{blank, extent_of};
 ghost use Rattle.board.specs.Rule.{Sees};

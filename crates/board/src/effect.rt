@@ -1,6 +1,6 @@
 //! What an entry does to the pointers, and to who is present.
 
-ghost use Rattle.std.specs.Prelude.{◌≡◌, ◌∷◌, [], None, fold, map, slice_set};
+ghost use Rattle.std.specs.Prelude.{◌≡◌, None, fold, map, slice_set};
 ghost use Rattle.rule_machine.specs.State.{is_at};
 ghost use Rattle.rule_machine.specs.Disturbance.{unless_at};
 ghost use Rattle.board.specs.Row.{pointer_in, cleared, moved, disturbed, effect, turned, here_by};

@@ -1,6 +1,6 @@
 //! The history of a board, which exists in contracts alone, and the beginnings of it that were seen.
 
-ghost use Rattle.std.specs.Prelude.{◌≡◌, ◌⊎◌, ◌+◌, ◌<◌, ◌∷◌, ◌++◌, [], false, None, length, IsTrue, MatchBool};
+ghost use Rattle.std.specs.Prelude.{◌≡◌, ◌+◌, ◌<◌, ◌∷◌, ◌++◌, [], false, None, length, IsTrue, MatchBool};
 ghost use mathlib.Core.List.{IsPrefix};
 ghost use Rattle.board.specs.History.{published, shown, head_of, max_marks, IsOneLog, AreOneLog, AreComparable};
 

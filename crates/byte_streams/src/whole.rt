@@ -1,6 +1,6 @@
 //! A reader, read to its end.
 
-ghost use Rattle.std.specs.Prelude.{◌≡◌, OnOk, IfOk, IsErrOf};
+ghost use Rattle.std.specs.Prelude.{OnOk, IfOk, IsErrOf};
 ghost use Rattle.std.specs.Io.KnownBytes.{Consumes, IsAtEnd};
 ghost use Rattle.byte_streams.specs.declared.input_fault.InputFault.TheVariants.{Read as Unread};
 ghost use Rattle.byte_streams.specs.Ended.{IsEnded};

@@ -1,6 +1,6 @@
 //! The lines of a base.
 
-ghost use Rattle.std.specs.Prelude.{◌≡◌, ◌≤◌, ◌∷◌, ◌++◌, IfOk, IfErr, IfSome, MatchOption};
+ghost use Rattle.std.specs.Prelude.{◌≡◌, ◌≤◌, IfOk, IfErr, IfSome, MatchOption};
 ghost use Rattle.line_text.specs.Words.{IsName, joined};
 ghost use Rattle.line_text.specs.ReplyText.{field_text};
 ghost use Rattle.line_text.specs.BaseText.{base_fields};

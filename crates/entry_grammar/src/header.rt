@@ -1,6 +1,6 @@
 //! The first line of a transcript.
 
-ghost use Rattle.std.specs.Prelude.{◌≡◌, ℕ, ◌≤◌, List, ⊤, IfOk, IfErr, MatchOption};
+ghost use Rattle.std.specs.Prelude.{◌≡◌, ℕ, ◌≤◌, ⊤, IfOk, IfErr, MatchOption};
 ghost use Rattle.rule_machine.specs.declared.rules.RuleSet.{RuleSet};
 ghost use Rattle.rule_machine.specs.Tables.{rules_word};
 ghost use Rattle.line_text.specs.Words.{number_text};

@@ -1,6 +1,6 @@
 //! Replies, which are read by the kind of the event that they answer.
 
-ghost use Rattle.std.specs.Prelude.{◌≡◌, ⊤, IfOk, IsTrue, OnErr};
+ghost use Rattle.std.specs.Prelude.{⊤, IfOk, IsTrue, OnErr};
 ghost use Rattle.rule_machine.specs.declared.refusal.Refusal.{Refusal};
 ghost use Rattle.line_text.specs.ReplyText.{refusal_words};
 ghost use Rattle.line_text.specs.Reading.{Reads};

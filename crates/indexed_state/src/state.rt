@@ -1,6 +1,6 @@
 //! A state with its index.
 
-ghost use Rattle.std.specs.Prelude.{◌≡◌, ◌≢◌, ◌≤◌, false, IfOk, IfErr, IfSome, OnOk, MatchOption, IsTrue, None, Some, not};
+ghost use Rattle.std.specs.Prelude.{◌≡◌, ◌≢◌, ◌≤◌, false, IfOk, IfErr, IfSome, OnOk, MatchOption, IsTrue, None, not};
 ghost use Rattle.std.specs.Bool.{beq};
 ghost use Rattle.graph_store.specs.Fault.{nodes_fault, link_fault, Explains};
 ghost use Rattle.graph_store.specs.Graph.{HasRoomFor};

@@ -1,11 +1,11 @@
 //! What questions ask of all nodes: looks at those alone that may bring something else than when this was last asked.
 
-ghost use Rattle.std.specs.Prelude.{◌≡◌, ◌&&◌, ℕ, ◌+◌, ◌*◌, ◌<◌, ◌≤◌, true, false, not, filter, length, slice_set, cond, count_by, sum_by, IfOk, IfSome, IsTrue, MatchOption};
+ghost use Rattle.std.specs.Prelude.{◌≡◌, ◌&&◌, ℕ, ◌+◌, ◌<◌, ◌≤◌, false, not, filter, length, slice_set, cond, count_by, sum_by, IfOk, IsTrue, MatchOption};
 ghost use Rattle.std.specs.List.{range_with_len};
 ghost use Rattle.enabled_set.specs.Members.{is_in};
 ghost use Rattle.rule_machine.specs.Network.{names, present, edge_list};
 ghost use Rattle.rule_machine.specs.Stable.{mutual_pairs};
-ghost use Rattle.rule_machine.specs.State.{State, IsState, holds_at, points};
+ghost use Rattle.rule_machine.specs.State.{State, holds_at, points};
 ghost use Rattle.rule_set.specs.Standing.{ends_open, IsStanding};
 ghost use Rattle.indexed_state.specs.Shares.{closing_at, end_of, is_lower_end, node_part};
 

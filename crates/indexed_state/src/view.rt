@@ -1,10 +1,9 @@
 //! What is shown at a node.
 
-ghost use Rattle.std.specs.Prelude.{◌≡◌, ◌&&◌, IsTrue, is_some};
-ghost use Rattle.rule_machine.specs.Network.{present, linked};
-ghost use Rattle.rule_machine.specs.State.{IsState, pointer, flag, suits, first_suitor, has_suitor, married};
+ghost use Rattle.std.specs.Prelude.{◌≡◌, IsTrue};
+ghost use Rattle.rule_machine.specs.Network.{present};
+ghost use Rattle.rule_machine.specs.State.{pointer, flag, first_suitor, has_suitor, married};
 ghost use Rattle.rule_machine.specs.RuleTable.{is_open, first_open, last_open_above};
-ghost use Rattle.rule_set.specs.Target.{IsNear};
 
 use crate::IndexedState;
 use rule_machine::Node;

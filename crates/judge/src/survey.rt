@@ -1,10 +1,9 @@
 //! A network whose totals are known but for what changed since they were last asked.
 
-ghost use Rattle.std.specs.Prelude.{◌≡◌, ◌≤◌, false, IfOk, IfSome, IsTrue, None, OnErr, OnOk, cond};
+ghost use Rattle.std.specs.Prelude.{◌≡◌, ◌≤◌, false, IfOk, None, OnErr, OnOk};
 ghost use Rattle.rule_machine.specs.Disturbance.{after_link, after_join};
 ghost use Rattle.rule_machine.specs.Network.{present};
 ghost use Rattle.rule_machine.specs.Refuse.{link_refusal};
-ghost use Rattle.rule_machine.specs.State.{IsState};
 ghost use Rattle.std.proofs.Props.{props};
 ghost use Rattle.judge.specs.Shares.{AreTold};
 

@@ -1,6 +1,6 @@
 //! What questions ask of all names: looks at those alone that may bring something else than when this was last asked.
 
-ghost use Rattle.std.specs.Prelude.{◌≡◌, ◌+◌, ◌*◌, ◌<◌, ◌≤◌, ℕ, true, false, length, slice_set, IfSome, IsTrue, None, cond};
+ghost use Rattle.std.specs.Prelude.{◌≡◌, ◌+◌, ◌*◌, ◌<◌, ◌≤◌, ℕ, true, false, length, slice_set, IsTrue, None, cond};
 ghost use Rattle.enabled_set.specs.Members.{is_in};
 ghost use Rattle.rule_machine.specs.Network.{linked, present};
 ghost use Rattle.rule_machine.specs.RuleTable as table;

@@ -1,8 +1,8 @@
 //! Commands: the lines of a script.
 
-ghost use Rattle.std.specs.Prelude.{◌≡◌, ℕ, List, Option, Bool, ⊤, IfOk, IfSome, OnErr, MatchOption};
-ghost use Rattle.line_text.specs.Words.{IsName, spaced};
-ghost use Rattle.line_text.specs.EventText.{IsChoice, Spells, SpellsStep, NotACommand, pair_text, point_text, flag_text, bool_text, target_text, item_text};
+ghost use Rattle.std.specs.Prelude.{◌≡◌, Option, Bool, ⊤, IfOk, IfSome, OnErr, MatchOption};
+ghost use Rattle.line_text.specs.Words.{IsName};
+ghost use Rattle.line_text.specs.EventText.{Spells, SpellsStep, NotACommand, pair_text, point_text, flag_text, bool_text, target_text};
 ghost use Rattle.line_text.specs.Reading.{Reads, ReadsTwo, kept_if};
 
 use crate::front::{after, read_last, read_word};

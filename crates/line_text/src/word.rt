@@ -1,6 +1,6 @@
 //! Words, and lists of them, at the end of a text.
 
-ghost use Rattle.std.specs.Prelude.{◌≡◌, [], ◌∷◌, ◌++◌, ◌+◌, ◌*◌, ◌≤◌, List, ℕ, length, take, codes, OnOk, OnErr};
+ghost use Rattle.std.specs.Prelude.{◌≡◌, [], ◌∷◌, ◌++◌, ◌+◌, ◌*◌, ◌≤◌, List, ℕ, length, take, OnOk, OnErr};
 ghost use Rattle.std.specs.List.{AllByRecursion};
 ghost use Rattle.line_text.specs.Words.{space_ended, spaced, joined, joined_or, Extends};
 

@@ -1,6 +1,6 @@
 //! Who looks at a network and waits for nobody.
 
-ghost use Rattle.std.specs.Prelude.{◌≡◌, false, length, IsTrue, IfOk, IfErr, IfSome, OnOk, OnErr, IsErrOf};
+ghost use Rattle.std.specs.Prelude.{◌≡◌, false, length, IsTrue, IfOk, IfSome, OnOk, OnErr, IsErrOf};
 ghost use mathlib.Core.List.{IsPrefix};
 ghost use Rattle.rule_machine.specs.Network.{present};
 ghost use Rattle.rule_machine.specs.State.{pointer};

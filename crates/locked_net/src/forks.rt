@@ -1,6 +1,6 @@
 //! How many clerks roam at once.
 
-ghost use Rattle.std.specs.Prelude.{◌≡◌, ◌+◌, ◌<◌, ◌^◌, length};
+ghost use Rattle.std.specs.Prelude.{◌+◌, ◌<◌, ◌^◌, length};
 ghost use Rattle.std.specs.Thread.{IsSync, IsSend};
 ghost use Rattle.locked_net.specs.Nets.{book_of, setting_of};
 ghost use Rattle.locked_net.specs.Roamed.{AllEnd, AllKeepNotes};

@@ -2,7 +2,7 @@
 
 ghost use Rattle.std.specs.Prelude.{◌≡◌, ◌<◌, [], ◌∷◌, IfSome, MatchOption};
 ghost use Rattle.crossbeam_deque.specs.Handles.{view, IsPassOf, stealer_deque, stealer_flavor};
-ghost use Rattle.place_deque.specs.Ledgers.{IsWithin, KnowsAll, Takes};
+ghost use Rattle.place_deque.specs.Ledgers.{IsWithin, Takes};
 ghost use Rattle.place_deque.specs.Ends.{thief_deque, thief_ledger};
 
 use crate::ledger::{EachOnce, Ledger, Took};

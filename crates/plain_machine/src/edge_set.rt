@@ -1,6 +1,6 @@
 //! The edges of a network, in one sorted list.
 
-ghost use Rattle.std.specs.Prelude.{◌≡◌, ℕ, false, not, ◌<◌, ◌≤◌, length, OnOk, OnErr, filter};
+ghost use Rattle.std.specs.Prelude.{◌≡◌, false, not, ◌<◌, ◌≤◌, length, OnOk, OnErr, filter};
 ghost use Rattle.std.specs.List.{list_any, position_or_len};
 ghost use Rattle.std.specs.FinMap as map;
 ghost use Rattle.rule_machine.specs.Network.{edge, is_end, PairSet};

@@ -4,7 +4,6 @@ ghost use Rattle.std.specs.Prelude.{◌≡◌, ◌↔◌, ℕ, IsTrue, IfOk, OnE
 ghost use Rattle.rule_machine.specs.Answer.{Does, counts_of};
 ghost use Rattle.rule_machine.specs.RuleTable.{enabled};
 ghost use Rattle.rule_machine.specs.Stable.{mutual_pairs};
-ghost use Rattle.rule_machine.specs.Step.{IsStep, after_moves};
 ghost use Rattle.rule_machine.specs.Tables.{table_of};
 ghost use Rattle.machine_laws.specs.Followed.{followed};
 ghost use Rattle.plain_machine.specs.Memory.{takes_memory};

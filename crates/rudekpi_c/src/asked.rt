@@ -1,10 +1,10 @@
 //! Commands out of numbers.
 
-ghost use Rattle.std.specs.Prelude.{◌≡◌, ◌↔◌, ◌≤◌, SomeIff, IfSome, IfOk, IsTrue, map, length, [], ◌∷◌};
+ghost use Rattle.std.specs.Prelude.{◌≡◌, ◌↔◌, SomeIff, IfSome, IfOk, IsTrue, map, [], ◌∷◌};
 ghost use Rattle.std.specs.List.{AllByRecursion};
 ghost use Rattle.rule_machine.specs.declared.event.Event.TheVariants.{Link, Unlink, Point, Flag, Join, Leave, Show};
 ghost use Rattle.line_text.specs.Words.{IsName};
-ghost use Rattle.line_text.specs.EventText.{IsItem, IsChoice};
+ghost use Rattle.line_text.specs.EventText.{IsItem};
 ghost use Rattle.script_text.specs.declared.command.Command.TheVariants.{Tell, Drive, Scramble};
 ghost use Rattle.script_text.specs.Command.{IsCommand, IsTurns};
 ghost use Rattle.rudekpi_c.specs.Called.{IsAsked, named_by, item_named, step_named};

@@ -1,6 +1,6 @@
 //! Rows of an answer.
 
-ghost use Rattle.std.specs.Prelude.{◌≡◌, ℕ, ◌≤◌, ◌++◌, length, map, drop};
+ghost use Rattle.std.specs.Prelude.{◌≡◌, ◌≤◌, ◌++◌, length, map, drop};
 ghost use Rattle.rudekpi_c.specs.declared.row.Row.{Row};
 ghost use Rattle.rudekpi_c.specs.Told.{move_row, enabled_row, pair_row, rule_number};
 

@@ -1,6 +1,6 @@
 //! What C is told of a command.
 
-ghost use Rattle.std.specs.Prelude.{◌≡◌, ◌≤◌, ◌++◌, ◌<◌, length, map, drop};
+ghost use Rattle.std.specs.Prelude.{◌≡◌, ◌≤◌, ◌++◌, ◌<◌, length, drop};
 ghost use Rattle.rudekpi_c.specs.Told.{told_of, untold, number_of, refusal_in, target_in, rows_of};
 
 use crate::row::{Row, put_rows};

@@ -19,6 +19,7 @@ impl<R: Rules> Touched for TouchedNodes<'_, R> {
 
     fn pointer(&self, v: Node) -> Option<Node> {
         let state = self.state;
+        // By its contract the state is sound.
         let _ = state.store();
         state.registers().pointer(v)
     }
@@ -57,6 +58,7 @@ fn is_disturbance<R: Rules>(state: &IndexedState<R>, event: &Event) -> bool
 pub(crate) fn cost_of<R: Rules>(state: &IndexedState<R>, event: &Event) -> u32
     ensures { result ≡ cost_of R.table R.cost state.now.state event.now }
 {
+    // By its contract the state is sound.
     let _ = state.registers();
     if is_disturbance(state, event) {
         R::cost(&TouchedNodes { state }, event)

@@ -152,6 +152,7 @@ impl<R: Rules> Net<R> {
         ensures cost { result ≡ cost_of R.table R.cost self.now.state event.now }
         ensures grows { BoundsGrowth R.table self.now.state self.now.spent event.now result }
     {
+        // By its contract the state is sound.
         let _ = self.engine.registers();
         self.engine.cost_of(event)
     }

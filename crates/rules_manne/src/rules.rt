@@ -28,7 +28,7 @@ impl Rules for Manne {
     ghost use Rattle.rules_manne.specs.Rule.{guard_is_glance, guard_is_local, one_rule_at};
     ghost use Rattle.rules_manne.specs.Target.{allowed_near, allowed_takes, target_from_guard};
     ghost use Rattle.rules_manne.specs.Quiet.{stable_from_quiet, quiet_from_stable};
-    ghost use Rattle.rules_manne.specs.Charge.{adds_alike, closes_alike, closes_standing, counted, light, null_closes};
+    ghost use Rattle.rules_manne.specs.Charge.{adds_alike, closes_alike, counted, light, null_closes};
 
     ghost table = { manne };
 

@@ -31,7 +31,7 @@ pub struct Options {
 }
 
 impl Options {
-    ghost use Rattle.script_run.specs.Asked.{Asked, asked_of, usual};
+    ghost use Rattle.script_run.specs.Asked.{asked_of, usual};
 
     /// A run under the rule set on the nodes 1 to `nodes`, all of them present, with at most `MAX_ENTRIES` entries, one worker,
     /// and, of a storm, none that roams; `None` above 65,535 nodes.

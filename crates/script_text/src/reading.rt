@@ -1,6 +1,6 @@
 //! Some scripts, each from a reader of its own.
 
-ghost use Rattle.std.specs.Prelude.{◌≡◌, ◌<◌, ◌≤◌, ◌+◌, ◌↔◌, length, map, IfOk, IfErr, IsErrOf, IfSome};
+ghost use Rattle.std.specs.Prelude.{◌<◌, ◌≤◌, ◌+◌, ◌↔◌, length, map, IfOk, IfErr, IsErrOf, IfSome};
 ghost use Rattle.script_text.specs.declared.fault.TextsFault.TheVariants.{TooManyScripts};
 ghost use Rattle.script_text.specs.Texts.{TextHolds};
 ghost use Rattle.script_text.specs.Readers.{AllHold, IsFault, IsReaderFault};

@@ -1,6 +1,6 @@
 //! The base of a journal.
 
-ghost use Rattle.std.specs.Prelude.{◌≡◌, ◌≤◌, [], IfOk, IfSome, IfNone, OnOk, OnErr, MatchOption};
+ghost use Rattle.std.specs.Prelude.{◌≡◌, ◌≤◌, [], IfOk, OnOk, OnErr, MatchOption};
 ghost use Rattle.line_text.specs.BaseText.{base_text};
 ghost use Rattle.rule_machine.specs.Base.{dropped};
 ghost use Rattle.rule_machine.specs.declared.base.Base.{Base};

@@ -1,6 +1,6 @@
 //! The lines that tell why a storm ended as it should not. They take no memory.
 
-ghost use Rattle.std.specs.Prelude.{◌≡◌, ◌++◌, codes, true, OnOk, OnErr};
+ghost use Rattle.std.specs.Prelude.{◌≡◌, ◌++◌, true, OnOk, OnErr};
 ghost use Rattle.std.specs.Io.KnownBytes.{Appends};
 ghost use Rattle.byte_streams.specs.Beginning.{AppendsBeginning, AppendsLess};
 ghost use Rattle.line_text.specs.Words.{number_text};

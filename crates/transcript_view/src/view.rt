@@ -1,6 +1,6 @@
 //! What a transcript is shown as.
 
-ghost use Rattle.std.specs.Prelude.{◌≡◌, IfOk};
+ghost use Rattle.std.specs.Prelude.{IfOk};
 ghost use Rattle.transcript_view.specs.Views.{IsPicture, IsTable};
 
 use crate::picture;

@@ -5,7 +5,7 @@ ghost use mathlib.Core.List.{IsPrefix};
 ghost use Rattle.step_log.specs.Log.{IsLog, recorded, receipt_of};
 ghost use Rattle.locked_net.specs.Receipts.{HasNoteOf, front_of, seen_by, noted};
 ghost use Rattle.locked_net.specs.Desks.{KeepsKey};
-ghost use Rattle.locked_net.specs.Calls.{call_fault, Explains};
+ghost use Rattle.locked_net.specs.Calls.{call_fault};
 ghost use Rattle.locked_net.specs.declared.call_fault.CallFault.TheVariants.{Memory};
 
 use super::Clerk;

@@ -1,9 +1,7 @@
 //! A clerk's checkpoint.
 
-ghost use Rattle.std.specs.Prelude.{◌≡◌, ◌≤◌, length, Some, IfOk, IfErr, OnErr};
-ghost use Rattle.rule_machine.specs.Base.{base_of};
-ghost use Rattle.step_log.specs.Log.{IsLog};
-ghost use Rattle.locked_net.specs.Calls.{checkpoint_fault, Explains, MayRefuseCheckpoint};
+ghost use Rattle.std.specs.Prelude.{◌≡◌, Some, IfOk, IfErr, OnErr};
+ghost use Rattle.locked_net.specs.Calls.{MayRefuseCheckpoint};
 ghost use Rattle.locked_net.specs.Choosing.{HoldsAll, RefusesCheckpoint};
 ghost use Rattle.locked_net.specs.Nets.{setting_of};
 ghost use Rattle.locked_net.specs.Receipts.{front_of, greater_base};

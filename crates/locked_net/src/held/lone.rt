@@ -1,6 +1,6 @@
 //! A turn of a clerk that roams, in a network whose lock is held.
 
-ghost use Rattle.std.specs.Prelude.{◌≡◌, ◌++◌, ◌∷◌, [], None, Some, IfOk, IfErr, OnOk, OnErr};
+ghost use Rattle.std.specs.Prelude.{◌≡◌, ◌++◌, ◌∷◌, [], None, Some, IfErr, OnOk, OnErr};
 ghost use Rattle.step_log.specs.Log.{IsLog, recorded, receipt_of};
 ghost use Rattle.locked_net.specs.Receipts.{HasNoteOf, front_of};
 ghost use Rattle.locked_net.specs.Desks.{KeepsKey};
