@@ -4,6 +4,7 @@ ghost use Rattle.std.specs.Prelude.{◌≡◌, ◌<◌, ◌≤◌, ◌+◌, ◌-
 ghost use Rattle.graph_store.specs.Fault.{nodes_fault, Explains};
 ghost use Rattle.rule_machine.specs.declared.event.Event.TheVariants.{Step};
 ghost use Rattle.rule_engine.specs.Choosing.{verdicts_of};
+ghost use Rattle.rule_engine.specs.Costs.{cost_of, BoundsGrowth};
 ghost use Rattle.step_log.specs.declared.fault.RecordFault.TheVariants.{LogFull};
 ghost use Rattle.step_log.specs.declared.fault.NoEntry.TheVariants.{Forgotten, Beyond};
 ghost use Rattle.step_log.specs.Epochs.{AreEpochs, IsBounded};
@@ -168,6 +169,15 @@ impl<R: Rules> Journal<R> {
         ensures bound { self.now.spent + R.table.charge self.now.state ≤ 2 * edge_count self.now.state.network + R.NODE_WEIGHT * node_count self.now.state.network }
     {
         self.net.spent()
+    }
+
+    /// What an event would cost if it were recorded now, in moves: by how much it would let the charge grow at most. 0 for one that would
+    /// be refused, for a step and for a question. Nothing is recorded, and no memory taken; it costs what `Net::cost_of` does.
+    pub fn cost_of(&self, event: &Event) -> u32
+        ensures cost { result ≡ cost_of R.table R.cost self.now.state event.now }
+        ensures grows { BoundsGrowth R.table self.now.state self.now.spent event.now result }
+    {
+        self.net().cost_of(event)
     }
 
     /// The epochs of the log in order, the first from the start, or the one in which its base stands, the last up to now: each has at

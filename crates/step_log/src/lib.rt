@@ -16,7 +16,6 @@
 #![tactic(auto)]
 
 mod checkpoint;
-mod cost;
 mod epoch;
 mod fault;
 mod journal;
