@@ -8,7 +8,7 @@ use Rattle.std.proofs.lemmas.List.Sums.{sum_by-append, sum_by-cons, sum_by_push}
 use Rattle.std.proofs.lemmas.List.Elements.{All-nil, All-cons, All-append, All-take, All-drop}
 use Rattle.place_deque.specs.declared.block.Block.{Block}
 use Rattle.place_deque.specs.Ledgers.{ledger, Takes, KnowsAll, AreAllPlaces, block_places, places_in}
-use Rattle.std.proofs.lemmas.List.{map-append, append-nil, length-map, take-append-drop}
+use Rattle.std.proofs.lemmas.List.{map-append, length-map, take-append-drop}
 use lib.Seq.{take-append_seam, drop-append_seam}
 use Rattle.place_deque.specs.declared.ledger.Ledger.{Ledger}
 use Rattle.place_deque.specs.Ends.{Hold, AreAllEnds}
