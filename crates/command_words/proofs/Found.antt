@@ -8,8 +8,9 @@ use Rattle.clap.proofs.WalkLemmas.{first_value-rows, one_text-rows}
 use Rattle.rule_machine.specs.declared.rules.RuleSet.{RuleSet}
 use Rattle.rule_machine.specs.Tables.{rules_word}
 use Rattle.command_words.specs.declared.task.Task.{Task}
+use Rattle.command_words.specs.declared.task.Task.TheVariants as variants
 use Rattle.command_words.specs.declared.task.Task.TheVariants.{Run, Audit, Picture, Epochs, Show}
-use Rattle.command_words.specs.Wanted.{GivesNumber, Holds, HoldsPicture, HoldsRun, IsNumber, MayGive}
+use Rattle.command_words.specs.Wanted.{GivesNumber, Holds, HoldsNothing, HoldsPicture, HoldsRun, IsNumber, IsStorm, MayGive}
 
 -- no run is held where no rule set was given
 pub no_rules : (f : Found) (r : RuleSet) (n : ℕ) (p : Option ℕ) (k : ℕ) → None ≡ first_value f (codes "rules") → HoldsRun (rows_of f) r n p k → ⊥
@@ -74,12 +75,15 @@ parts_are f g (Some x) a b d e = cc
 run_audit : codes "run" ≡ codes "audit" → ⊥
 run_audit e = omega (arith, ap (λ (z : Text). get_or z 0 0) e)
 
--- nor `picture` nor `epochs`
+-- nor `picture` nor `epochs` nor `storm`
 run_picture : codes "run" ≡ codes "picture" → ⊥
 run_picture e = omega (arith, ap (λ (z : Text). get_or z 0 0) e)
 
 run_epochs : codes "run" ≡ codes "epochs" → ⊥
 run_epochs e = omega (arith, ap (λ (z : Text). get_or z 0 0) e)
+
+run_storm : codes "run" ≡ codes "storm" → ⊥
+run_storm e = omega (arith, ap (λ (z : Text). get_or z 0 0) e)
 
 -- no task is held where no run is
 no_task : (rows : List Row) → ((r : RuleSet) (n : ℕ) (p : Option ℕ) (k : ℕ) → HoldsRun rows r n p k → ⊥) → (task : Task) → Holds (Some (codes "run", rows)) task → ⊥
@@ -87,11 +91,12 @@ no_task rows none (Run r n p k) h = none r n p k h.1
 no_task rows none Audit h = run_audit h
 no_task rows none (Picture entry) h = run_picture h.0
 no_task rows none Epochs h = run_epochs h
+no_task rows none (variants.Storm words) h = run_storm h.0
 no_task rows none (Show text) h = h
 
 -- what was found for `run` is what was asked
-pub run_asked : (o : Option (Text × List Row)) (rows : List Row) (found : Option Task) → o ≡ Some (codes "run", rows) → MatchOption found ((r : RuleSet) (n : ℕ) (p : Option ℕ) (k : ℕ) → HoldsRun rows r n p k → ⊥) (λ task. Holds (Some (codes "run", rows)) task) → MatchOption found ((task : Task) → Holds o task → ⊥) (λ task. Holds o task)
-run_asked o rows None e none = λ task h. no_task rows none task (subst (λ (z : Option (Text × List Row)). Holds z task) e h)
+pub run_asked : (o : Option (Text × List Row)) (rows : List Row) (found : Option Task) → o ≡ Some (codes "run", rows) → MatchOption found ((r : RuleSet) (n : ℕ) (p : Option ℕ) (k : ℕ) → HoldsRun rows r n p k → ⊥) (λ task. Holds (Some (codes "run", rows)) task) → MatchOption found (HoldsNothing o) (λ task. Holds o task)
+run_asked o rows None e none = (λ task h. no_task rows none task (subst (λ (z : Option (Text × List Row)). Holds z task) e h), λ storm h. run_storm (subst (λ (z : Option (Text × List Row)). IsStorm z storm) e h).0)
 run_asked o rows (Some task) e held = subst (λ (z : Option (Text × List Row)). Holds z task) (sym e) held
 
 -- ---- a picture
@@ -105,14 +110,18 @@ picture_audit e = omega (arith, ap (λ (z : Text). get_or z 0 0) e)
 picture_epochs : codes "picture" ≡ codes "epochs" → ⊥
 picture_epochs e = omega (arith, ap (λ (z : Text). get_or z 0 0) e)
 
+picture_storm : codes "picture" ≡ codes "storm" → ⊥
+picture_storm e = omega (arith, ap (λ (z : Text). get_or z 0 0) e)
+
 no_other : (rows : List Row) → ((entry : Option ℕ) → HoldsPicture rows entry → ⊥) → (task : Task) → Holds (Some (codes "picture", rows)) task → ⊥
 no_other rows none (Run r n p k) h = picture_run h.0
 no_other rows none Audit h = picture_audit h
 no_other rows none (Picture entry) h = none entry h.1
 no_other rows none Epochs h = picture_epochs h
+no_other rows none (variants.Storm words) h = picture_storm h.0
 no_other rows none (Show text) h = h
 
 -- what was found for `picture` is what was asked
-pub picture_asked : (o : Option (Text × List Row)) (rows : List Row) (found : Option Task) → o ≡ Some (codes "picture", rows) → MatchOption found ((entry : Option ℕ) → HoldsPicture rows entry → ⊥) (λ task. Holds (Some (codes "picture", rows)) task) → MatchOption found ((task : Task) → Holds o task → ⊥) (λ task. Holds o task)
-picture_asked o rows None e none = λ task h. no_other rows none task (subst (λ (z : Option (Text × List Row)). Holds z task) e h)
+pub picture_asked : (o : Option (Text × List Row)) (rows : List Row) (found : Option Task) → o ≡ Some (codes "picture", rows) → MatchOption found ((entry : Option ℕ) → HoldsPicture rows entry → ⊥) (λ task. Holds (Some (codes "picture", rows)) task) → MatchOption found (HoldsNothing o) (λ task. Holds o task)
+picture_asked o rows None e none = (λ task h. no_other rows none task (subst (λ (z : Option (Text × List Row)). Holds z task) e h), λ storm h. picture_storm (subst (λ (z : Option (Text × List Row)). IsStorm z storm) e h).0)
 picture_asked o rows (Some task) e held = subst (λ (z : Option (Text × List Row)). Holds z task) (sym e) held

@@ -1,12 +1,13 @@
 -- What the words were read as.
 use Rattle.std.proofs.Common.{◌≡◌, List, Option, None, Some, Result, Ok, Err, refl, sym, subst, true}
-use Rattle.std.specs.Prelude.{IfErr}
+use Rattle.std.specs.Prelude.{IfErr, MatchOption}
 use Rattle.clap.specs.Words.{App, HasMatchesOf, Row, Text, subcommand_of, subcommand_rows_of, takes}
 use Rattle.clap.specs.declared.parser.matches.ArgMatches.{ArgMatches}
 use Rattle.clap.specs.declared.error.Error.{Error}
 use Rattle.command_words.specs.declared.task.Task.{Task}
+use Rattle.command_words.specs.declared.task.Task.TheVariants as variants
 use Rattle.command_words.specs.declared.task.Task.TheVariants.{Run, Audit, Picture, Epochs, Show}
-use Rattle.command_words.specs.Wanted.{Names, AreRules, console_app, Holds, Answers, Wants}
+use Rattle.command_words.specs.Wanted.{Names, AreRules, console_app, Holds, HoldsNothing, IsStorm, Answers, Storm, Wants, WantsStorm}
 
 -- what a parse found is what the command makes of the words
 pub matched : (a : App) (names : Names) (words : List Text) (m : ArgMatches) → a ≡ console_app names → HasMatchesOf a words m → subcommand_rows_of m ≡ subcommand_of (console_app names) words
@@ -25,15 +26,31 @@ answered names words o (Run r n p k) a e h = (names, a, subst (λ (z : Option (T
 answered names words o Audit a e h = (names, a, subst (λ (z : Option (Text × List Row)). Holds z Audit) e h)
 answered names words o (Picture entry) a e h = (names, a, subst (λ (z : Option (Text × List Row)). Holds z (Picture entry)) e h)
 answered names words o Epochs a e h = (names, a, subst (λ (z : Option (Text × List Row)). Holds z Epochs) e h)
+answered names words o (variants.Storm storm) a e h = (names, a, subst (λ (z : Option (Text × List Row)). Holds z (variants.Storm storm)) e h)
 answered names words o (Show text) a e h = absurd (no_text o text h)
 
 -- nothing is wanted where no task is held
-pub unwanted : (names : Names) (words : List Text) (o : Option (Text × List Row)) → AreRules names → o ≡ subcommand_of (console_app names) words → ((task : Task) → Holds o task → ⊥) → (task : Task) → Wants words task → ⊥
-unwanted names words o a e none task w = none task (subst (λ (z : Option (Text × List Row)). Holds z task) (sym e) (w names a).1)
+pub unwanted : (names : Names) (words : List Text) (o : Option (Text × List Row)) → AreRules names → o ≡ subcommand_of (console_app names) words → HoldsNothing o → (task : Task) → Wants words task → ⊥
+unwanted names words o a e none task w = none.0 task (subst (λ (z : Option (Text × List Row)). Holds z task) (sym e) (w names a).1)
+
+pub storm_unwanted : (names : Names) (words : List Text) (o : Option (Text × List Row)) → AreRules names → o ≡ subcommand_of (console_app names) words → HoldsNothing o → (storm : Storm) → WantsStorm words storm → ⊥
+storm_unwanted names words o a e none storm w = none.1 storm (subst (λ (z : Option (Text × List Row)). IsStorm z storm) (sym e) (w names a).1)
 
 -- words that are wanted are taken
 pub taken : (a : App) (names : Names) (words : List Text) (task : Task) → AreRules names → a ≡ console_app names → Wants words task → takes a words ≡ true
 taken a names words task r e w = subst (λ (z : App). takes z words ≡ true) (sym e) (w names r).0
+
+pub storm_taken : (a : App) (names : Names) (words : List Text) (storm : Storm) → AreRules names → a ≡ console_app names → WantsStorm words storm → takes a words ≡ true
+storm_taken a names words storm r e w = subst (λ (z : App). takes z words ≡ true) (sym e) (w names r).0
+
+-- what holds where a task was read
+pub some_read : (A : Type 0) (P : Task → Type 0) (read : Option Task) (task : Task) → read ≡ Some task → MatchOption read A P → P task
+some_read A P read task e h = subst (λ (z : Option Task). MatchOption z A P) e h
+
+-- what holds where none was read
+pub none_read : (A : Type 0) (P : Task → Type 0) (read : Option Task) → read ≡ None → MatchOption read A P → A
+none_read A P None e h = h
+none_read A P (Some task) e h = absurd cc
 
 -- what holds of whatever error
 pub of_error : {T E : Type 0} (r : Result T E) (P : E → Type 0) → ((e : E) → P e) → IfErr r P

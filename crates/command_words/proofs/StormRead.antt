@@ -1,12 +1,14 @@
 -- What the words of a storm were read as.
-use Rattle.std.proofs.Common.{◌≡◌, List, Option, None, Some, Result, Ok, Err, Bor, map, refl, sym, ap, subst, ◌∙◌, option_map, true}
+use Rattle.std.proofs.Common.{◌≡◌, List, Option, None, Some, Result, Ok, Err, Bor, map, get_or, sym, ap, subst, ◌∙◌, option_map, arith}
 use Rattle.std.specs.Prelude.{IfOk, MatchOption, codes}
 use Rattle.clap.specs.Matches.{raw_values}
-use Rattle.clap.specs.Words.{App, Row, Text, all_of, matched_of, rows_of, subcommand_of, takes}
+use Rattle.clap.specs.Words.{Row, Text, all_of, matched_of, rows_of}
 use Rattle.clap.specs.declared.parser.matches.Found.{Found}
 use Rattle.clap.proofs.WalkLemmas.{raw_values-rows}
-use Rattle.command_words.specs.declared.storm.StormWords.{StormWords}
-use Rattle.command_words.specs.Wanted.{Names, AreRules, AsksStorm, HoldsStorm, IsStorm, Storm, WantsStorm, console_app, storm_of}
+use Rattle.command_words.specs.declared.task.Task.{Task}
+use Rattle.command_words.specs.declared.task.Task.TheVariants as variants
+use Rattle.command_words.specs.declared.task.Task.TheVariants.{Run, Audit, Picture, Epochs, Show}
+use Rattle.command_words.specs.Wanted.{Holds, HoldsNothing, HoldsStorm, IsStorm, Storm, storm_of}
 
 -- no storm is held where no script was given
 pub no_scripts : (f : Found) (s : Storm) → None ≡ option_map raw_values (matched_of f (codes "SCRIPT")) → HoldsStorm (rows_of f) s → ⊥
@@ -19,31 +21,32 @@ no_scripts f s e h =
 pub scripts_are : (f : Found) (given scripts : List (Bor Text)) → Some (map (λ s. s.now) given) ≡ option_map raw_values (matched_of f (codes "SCRIPT")) → scripts ≡ given → all_of (codes "SCRIPT") (rows_of f) ≡ Some (map (λ s. s.now) scripts)
 scripts_are f given scripts e same = sym (raw_values-rows f (codes "SCRIPT")) ∙ sym e ∙ ap (λ (z : List (Bor Text)). Some (map (λ s. s.now) z)) (sym same)
 
+-- `storm` is none of the others
+storm_run : codes "storm" ≡ codes "run" → ⊥
+storm_run e = omega (arith, ap (λ (z : Text). get_or z 0 0) e)
+
+storm_audit : codes "storm" ≡ codes "audit" → ⊥
+storm_audit e = omega (arith, ap (λ (z : Text). get_or z 0 0) e)
+
+storm_picture : codes "storm" ≡ codes "picture" → ⊥
+storm_picture e = omega (arith, ap (λ (z : Text). get_or z 0 0) e)
+
+storm_epochs : codes "storm" ≡ codes "epochs" → ⊥
+storm_epochs e = omega (arith, ap (λ (z : Text). get_or z 0 0) e)
+
+-- no task is held where no storm is
+no_task : (rows : List Row) → ((s : Storm) → HoldsStorm rows s → ⊥) → (task : Task) → Holds (Some (codes "storm", rows)) task → ⊥
+no_task rows none (Run r n p k) h = storm_run h.0
+no_task rows none Audit h = storm_audit h
+no_task rows none (Picture entry) h = storm_picture h.0
+no_task rows none Epochs h = storm_epochs h
+no_task rows none (variants.Storm words) h = none (storm_of words) h.1
+no_task rows none (Show text) h = h
+
 -- what was found for `storm` is what was asked
-pub storm_found : {E : Type 0} (o : Option (Text × List Row)) (rows : List Row) (found : Result (Option StormWords) E) → o ≡ Some (codes "storm", rows)
-    → IfOk found (λ read. MatchOption read ((s : Storm) → HoldsStorm rows s → ⊥) (λ words. HoldsStorm rows (storm_of words)))
-    → IfOk found (λ read. MatchOption read ((s : Storm) → IsStorm o s → ⊥) (λ words. IsStorm o (storm_of words)))
-storm_found o rows (Ok None) e none = λ s h. none s (subst (λ (z : Option (Text × List Row)). IsStorm z s) e h).1
-storm_found o rows (Ok (Some words)) e held = subst (λ (z : Option (Text × List Row)). IsStorm z (storm_of words)) (sym e) (refl, held)
-storm_found o rows (Err x) e held = tt
-
--- what is held was asked for
-pub storm_asked : (names : Names) (words : List Text) (o : Option (Text × List Row)) (s : Storm) → AreRules names → o ≡ subcommand_of (console_app names) words → IsStorm o s → AsksStorm words s
-storm_asked names words o s a e h = (names, a, subst (λ (z : Option (Text × List Row)). IsStorm z s) e h)
-
--- nothing is wanted where no storm is held
-pub storm_unwanted : (names : Names) (words : List Text) (o : Option (Text × List Row)) → AreRules names → o ≡ subcommand_of (console_app names) words → ((s : Storm) → IsStorm o s → ⊥) → (s : Storm) → WantsStorm words s → ⊥
-storm_unwanted names words o a e none s w = none s (subst (λ (z : Option (Text × List Row)). IsStorm z s) (sym e) (w names a).1)
-
--- words that are wanted are taken
-pub storm_taken : (a : App) (names : Names) (words : List Text) (s : Storm) → AreRules names → a ≡ console_app names → WantsStorm words s → takes a words ≡ true
-storm_taken a names words s rules e w = subst (λ (z : App). takes z words ≡ true) (sym e) (w names rules).0
-
--- what holds where something was read
-pub some_read : (A : Type 0) (P : StormWords → Type 0) (read : Option StormWords) (words : StormWords) → read ≡ Some words → MatchOption read A P → P words
-some_read A P read words e h = subst (λ (z : Option StormWords). MatchOption z A P) e h
-
--- what holds where nothing was read
-pub none_read : (A : Type 0) (P : StormWords → Type 0) (read : Option StormWords) → read ≡ None → MatchOption read A P → A
-none_read A P None e h = h
-none_read A P (Some words) e h = absurd cc
+pub storm_asked : {E : Type 0} (o : Option (Text × List Row)) (rows : List Row) (found : Result (Option Task) E) → o ≡ Some (codes "storm", rows)
+    → IfOk found (λ read. MatchOption read ((s : Storm) → HoldsStorm rows s → ⊥) (λ task. Holds (Some (codes "storm", rows)) task))
+    → IfOk found (λ read. MatchOption read (HoldsNothing o) (λ task. Holds o task))
+storm_asked o rows (Ok None) e none = (λ task h. no_task rows none task (subst (λ (z : Option (Text × List Row)). Holds z task) e h), λ s h. none s (subst (λ (z : Option (Text × List Row)). IsStorm z s) e h).1)
+storm_asked o rows (Ok (Some task)) e held = subst (λ (z : Option (Text × List Row)). Holds z task) (sym e) held
+storm_asked o rows (Err x) e held = tt

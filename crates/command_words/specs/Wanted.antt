@@ -11,6 +11,7 @@ use Rattle.rule_machine.specs.declared.rules.RuleSet.{RuleSet}
 use Rattle.rule_machine.specs.Tables.{rules_word}
 use Rattle.command_words.specs.declared.storm.StormWords.{StormWords}
 use Rattle.command_words.specs.declared.task.Task.{Task}
+use Rattle.command_words.specs.declared.task.Task.TheVariants as variants
 use Rattle.command_words.specs.declared.task.Task.TheVariants.{Run, Audit, Picture, Epochs, Show}
 
 -- texts, as a parser of values refers to them
@@ -117,28 +118,6 @@ pub record HoldsRun (found : List Row) (rules : RuleSet) (nodes : ℕ) (present 
 abbrev pub HoldsPicture : List Row → Option ℕ → Type 0
 HoldsPicture found entry = MayGive (2 ^ 32) (codes "entry") found entry
 
--- the subcommand, and what was found for it, are the task's
-abbrev pub Holds : Option (Text × List Row) → Task → Type 0
-Holds (Some p) (Run rules nodes present workers) = (p.0 ≡ codes "run") × HoldsRun p.1 rules nodes present workers
-Holds (Some p) Audit = p.0 ≡ codes "audit"
-Holds (Some p) (Picture entry) = (p.0 ≡ codes "picture") × HoldsPicture p.1 entry
-Holds (Some p) Epochs = p.0 ≡ codes "epochs"
-Holds found task = ⊥
-
--- the words are read as the task
-abbrev pub Asks : List Text → Task → Type 0
-Asks words task = (names : Names) × AreRules names × Holds (subcommand_of (console_app names) words) task
-
--- what is answered for the words: the help or the version where that is asked for, or what they are read as
-abbrev pub Answers : List Text → Task → Type 0
-Answers words (Show text) = (kind_of text ≡ DisplayHelp) ⊎ (kind_of text ≡ DisplayVersion)
-Answers words task = Asks words task
-
--- the words are good, and are read as the task
-abbrev pub Wants : List Text → Task → Type 0
-Wants words task =
-    (names : Names) → AreRules names → (takes (console_app names) words ≡ true) × Holds (subcommand_of (console_app names) words) task
-
 -- a storm: its rule set, how many nodes there may be, how many there are at the start where it is named, how many workers evaluate a step, how many roam and for how many turns, and the
 -- names of the scripts' files
 pub record Storm : Type 0 where
@@ -173,9 +152,32 @@ abbrev pub IsStorm : Option (Text × List Row) → Storm → Type 0
 IsStorm None storm = ⊥
 IsStorm (Some p) storm = (p.0 ≡ codes "storm") × HoldsStorm p.1 storm
 
--- the words are read as the storm
-abbrev pub AsksStorm : List Text → Storm → Type 0
-AsksStorm words storm = (names : Names) × AreRules names × IsStorm (subcommand_of (console_app names) words) storm
+-- the subcommand, and what was found for it, are the task's
+abbrev pub Holds : Option (Text × List Row) → Task → Type 0
+Holds (Some p) (Run rules nodes present workers) = (p.0 ≡ codes "run") × HoldsRun p.1 rules nodes present workers
+Holds (Some p) Audit = p.0 ≡ codes "audit"
+Holds (Some p) (Picture entry) = (p.0 ≡ codes "picture") × HoldsPicture p.1 entry
+Holds (Some p) Epochs = p.0 ≡ codes "epochs"
+Holds (Some p) (variants.Storm words) = (p.0 ≡ codes "storm") × HoldsStorm p.1 (storm_of words)
+Holds found task = ⊥
+
+-- they are no task's
+abbrev pub HoldsNothing : Option (Text × List Row) → Type 0
+HoldsNothing found = ((task : Task) → Holds found task → ⊥) × ((storm : Storm) → IsStorm found storm → ⊥)
+
+-- the words are read as the task
+abbrev pub Asks : List Text → Task → Type 0
+Asks words task = (names : Names) × AreRules names × Holds (subcommand_of (console_app names) words) task
+
+-- what is answered for the words: the help or the version where that is asked for, or what they are read as
+abbrev pub Answers : List Text → Task → Type 0
+Answers words (Show text) = (kind_of text ≡ DisplayHelp) ⊎ (kind_of text ≡ DisplayVersion)
+Answers words task = Asks words task
+
+-- the words are good, and are read as the task
+abbrev pub Wants : List Text → Task → Type 0
+Wants words task =
+    (names : Names) → AreRules names → (takes (console_app names) words ≡ true) × Holds (subcommand_of (console_app names) words) task
 
 -- the words are good, and are read as the storm
 abbrev pub WantsStorm : List Text → Storm → Type 0

@@ -1,18 +1,20 @@
 //! What words ask for.
 
-ghost use Rattle.std.specs.Prelude.{◌≡◌, ◌^◌, ℕ, Option, Some, MatchOption, codes};
-ghost use Rattle.clap.specs.Words.{found_of, rows_of, subcommand_rows_of};
+ghost use Rattle.std.specs.Prelude.{◌≡◌, ◌≤◌, ◌^◌, ℕ, Option, Some, IfErr, IfOk, IfSome, MatchOption, codes};
+ghost use Rattle.clap.specs.Words.{found_of, kind_of, rows_of, subcommand_rows_of};
+ghost use Rattle.clap.specs.declared.error.kind.ErrorKind.TheVariants.{OutOfMemory};
 ghost use Rattle.rule_machine.specs.declared.rules.RuleSet.{RuleSet};
 ghost use Rattle.rule_machine.specs.Tables.{rules_word};
-ghost use Rattle.command_words.specs.declared.task.Task.{Task};
-ghost use Rattle.command_words.specs.Wanted.{GivesNumber, HoldsPicture, HoldsRun, Holds};
+ghost use Rattle.command_words.specs.Wanted.{GivesNumber, HoldsPicture, HoldsRun, Holds, HoldsNothing, present_at_start};
 
+use crate::storm::{StormWords, storm_task};
 use clap::{ArgMatches, Error};
 use rule_machine::RuleSet;
+use std::alloc::Global;
 
 /// What good words ask for.
 #[derive(Debug, Drop)]
-pub enum Task {
+pub enum Task<'a> {
     /// To run a script under a rule set, on a network of the names 1 to `nodes`, of which 1 to `present` are nodes at the start,
     /// or all where no number is named, with so many workers for each step.
     Run {
@@ -29,6 +31,8 @@ pub enum Task {
     },
     /// To list the epochs of a transcript.
     Epochs,
+    /// To play scripts at once.
+    Storm(StormWords<'a>),
     /// To show the help or the version, of which this is the text.
     Show(Error),
 }
@@ -83,7 +87,7 @@ pub(crate) fn network(found: &ArgMatches<'_>) -> Option<(RuleSet, u16, Option<u1
 }
 
 // What was found for `run`; `None` where a value is missing, or is none of its argument's.
-fn run_task(run: &ArgMatches<'_>) -> Option<Task>
+fn run_task<'a>(run: &ArgMatches<'a>) -> Option<Task<'a>>
     ensures { MatchOption result
         ((rules : RuleSet) (nodes : ℕ) (present : Option ℕ) (workers : ℕ) → HoldsRun (rows_of (found_of run.now)) rules nodes present workers → ⊥)
         (λ task. Holds (Some (codes "run", rows_of (found_of run.now))) task) }
@@ -100,7 +104,7 @@ fn run_task(run: &ArgMatches<'_>) -> Option<Task>
 }
 
 // What was found for `picture`; `None` where the value is no number.
-fn picture_task(picture: &ArgMatches<'_>) -> Option<Task>
+fn picture_task<'a>(picture: &ArgMatches<'a>) -> Option<Task<'a>>
     ensures { MatchOption result
         ((entry : Option ℕ) → HoldsPicture (rows_of (found_of picture.now)) entry → ⊥)
         (λ task. Holds (Some (codes "picture", rows_of (found_of picture.now))) task) }
@@ -111,26 +115,43 @@ fn picture_task(picture: &ArgMatches<'_>) -> Option<Task>
     }
 }
 
-/// What was found in the words; `None` where it is no task.
-pub(crate) fn asked(found: &ArgMatches<'_>) -> Option<Task>
-    ensures { MatchOption result
-        ((task : Task) → Holds (subcommand_rows_of found.now) task → ⊥)
-        (λ task. Holds (subcommand_rows_of found.now) task) }
+/// What was found in the words; `None` where it is no task. The error is want of memory.
+pub(crate) fn asked<'a>(alloc: Global, found: &ArgMatches<'a>) -> Result<Option<Task<'a>>, Error>
+    ensures read { IfOk result (λ read. MatchOption read
+        (HoldsNothing (subcommand_rows_of found.now))
+        (λ task. Holds (subcommand_rows_of found.now) task)) }
+    ensures memory { IfErr result (λ e. kind_of e ≡ OutOfMemory) }
 {
     let Some((name, inner)) = found.subcommand() else {
-        return None;
+        return Ok(None);
     };
     if name == "run" {
-        return run_task(inner);
+        return Ok(run_task(inner));
     }
     if name == "audit" {
-        return Some(Task::Audit);
+        return Ok(Some(Task::Audit));
     }
     if name == "picture" {
-        return picture_task(inner);
+        return Ok(picture_task(inner));
     }
     if name == "epochs" {
-        return Some(Task::Epochs);
+        return Ok(Some(Task::Epochs));
     }
-    None
+    if name == "storm" {
+        return storm_task(alloc, inner);
+    }
+    Ok(None)
+}
+
+/// How many nodes there are at the start, of `nodes` that there may be: as many as were named, or all where no number was;
+/// `None` where that is more than there may be.
+pub fn present_at_start(nodes: u16, named: Option<u16>) -> Option<u16>
+    ensures number { result ≡ present_at_start nodes named }
+    ensures within { IfSome result (λ present. present ≤ nodes) }
+{
+    match named {
+        Some(present) if present > nodes => None,
+        Some(present) => Some(present),
+        None => Some(nodes),
+    }
 }

@@ -1,11 +1,13 @@
 //! The command line.
 
-ghost use Rattle.std.specs.Prelude.{◌≡◌, IfOk, IfErr, map};
-ghost use Rattle.clap.specs.Words.{kind_of};
+ghost use Rattle.std.specs.Prelude.{◌≡◌, ◌≤◌, ℕ, List, Option, IfOk, IfErr, IfSome, map, unwrap_or};
+ghost use Rattle.clap.specs.Words.{Text, kind_of};
 ghost use Rattle.clap.specs.declared.error.kind.ErrorKind.TheVariants.{OutOfMemory};
+ghost use Rattle.rule_machine.specs.declared.rules.RuleSet.{RuleSet};
 ghost use Rattle.command_words.specs.declared.task.Task.{Task};
+ghost use Rattle.command_words.specs.declared.task.Task.TheVariants.{Run, Audit, Picture, Epochs};
 ghost use Rattle.command_words.specs.Mistake.{IsMistake};
-ghost use Rattle.command_words.specs.Wanted.{Answers, Wants};
+ghost use Rattle.command_words.specs.Wanted.{Answers, AreWorkers, Storm, Wants, WantsStorm, audit_words, epochs_words, picture_words, run_words};
 
 use crate::command::command;
 use crate::task::{Task, asked};
@@ -17,18 +19,30 @@ use std::convert::AsStr;
 /// Reads the words of the command line, of which the first is the program's name: the answer is what clap's account of
 /// the command makes of them. The error is clap's, for bad words or for want of memory; words that are good and ask for
 /// a task are refused for want of memory alone.
-pub fn read_words<'a, S: AsStr>(alloc: Global, words: &'a [S]) -> Result<Task, Error>
+pub fn read_words<'a, S: AsStr>(alloc: Global, words: &'a [S]) -> Result<Task<'a>, Error>
     ensures answers { IfOk result (λ task. Answers (map S.text words.entry.now) task) }
     ensures mistake { IfErr result (λ e. IsMistake (kind_of e)) }
     ensures wanted { IfErr result (λ e. (task : Task) → Wants (map S.text words.entry.now) task → kind_of e ≡ OutOfMemory) }
+    ensures wanted_storm { IfErr result (λ e. (storm : Storm) → WantsStorm (map S.text words.entry.now) storm → kind_of e ≡ OutOfMemory) }
 {
     let mut command = command(alloc)?;
     match command.try_get_matches_from_mut(words) {
-        Ok(found) => match asked(&found) {
-            Some(task) => Ok(task),
-            None => Err(command.error(ErrorKind::ValueValidation, "no such task")?),
+        Ok(found) => match asked(alloc, &found) {
+            Ok(Some(task)) => Ok(task),
+            Ok(None) => Err(command.error(ErrorKind::ValueValidation, "no such task")?),
+            Err(error) => Err(error),
         },
         Err(error) if error.use_stderr() => Err(error),
         Err(text) => Ok(Task::Show(text)),
     }
 }
+
+/// The usual words are good, and ask for what they say; a run has one worker where no number is named.
+pub fn usual_words()
+    ensures run { (program : Text) (rules : RuleSet) (nodes : ℕ) (present workers : Option ℕ)
+        → nodes ≤ 65535 → IfSome present (λ p. p ≤ 65535) → AreWorkers workers
+        → Wants (run_words program rules nodes present workers) (Run rules nodes present (unwrap_or workers 1)) }
+    ensures audit { (program : Text) → Wants (audit_words program) Audit }
+    ensures picture { (program : Text) (entry : Option ℕ) → IfSome entry (λ k. k ≤ 16777216) → Wants (picture_words program entry) (Picture entry) }
+    ensures epochs { (program : Text) → Wants (epochs_words program) Epochs }
+{}

@@ -1,7 +1,7 @@
-use Rattle.std.proofs.Common.{rules}
+use Rattle.std.proofs.Common.{rules, refl}
 use Rattle.clap.specs.Words.{found_of}
 use Rattle.command_words.proofs.StormRead.{no_scripts, scripts_are}
-use Rattle.command_words.proofs.storm.storm_words.Goals as goal
+use Rattle.command_words.proofs.storm.storm_task.Goals as goal
 
 pub returns-in_default-clause-read : goal.returns-in_default-clause-read
 returns-in_default-clause-read c s h = c.in_default.ensures s.rules s.nodes s.present s.workers h.run_is
@@ -16,9 +16,12 @@ pub returns-in_default-get_strs-clause-read : goal.returns-in_default-get_strs-c
 returns-in_default-get_strs-clause-read c s h = no_scripts (found_of c.args.storm.now) s c.in_default-get_strs.ensures h
 
 pub returns-clause-read : goal.returns-clause-read
-returns-clause-read c = record {
-  run_is = c.in-Some.ensures;
-  roamers_is = c.in-Some-number.ensures;
-  turns_is = c.in-Some-turns.ensures;
-  scripts_is = scripts_are (found_of c.args.storm.now) c.in-Some-get_strs.given.now c.extend_from_slice.new.self.items c.in-Some-get_strs.ensures (search rules);
-}
+returns-clause-read c = (
+  refl,
+  record {
+    run_is = c.in-Some.ensures;
+    roamers_is = c.in-Some-number.ensures;
+    turns_is = c.in-Some-turns.ensures;
+    scripts_is = scripts_are (found_of c.args.storm.now) c.in-Some-get_strs.given.now c.extend_from_slice.new.self.items c.in-Some-get_strs.ensures (search rules);
+  },
+)
