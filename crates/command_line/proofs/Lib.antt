@@ -1,2 +1,4 @@
 pub mod OneVerdict
 pub mod Input
+pub mod Missing
+pub mod Storms

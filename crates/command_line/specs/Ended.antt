@@ -1,5 +1,5 @@
 -- How the program ends: what the writers have got, and the exit status.
-use Rattle.std.specs.Prelude.{◌≡◌, ◌⊎◌, ℕ, List, Option, None, Some, Result, Ok, Err, IfOk}
+use Rattle.std.specs.Prelude.{◌≡◌, ◌⊎◌, ℕ, List, length, Option, None, Some, Result, Ok, Err, IfOk}
 use Rattle.std.specs.Io.KnownBytes.{Keeps}
 use Rattle.clap.specs.Words.{kind_of}
 use Rattle.clap.specs.declared.error.Error.{Error}
@@ -8,13 +8,16 @@ use Rattle.byte_streams.specs.Beginning.{AppendsBeginning}
 use Rattle.script_run.specs.declared.fault.RunFault.{RunFault}
 use Rattle.script_run.specs.Outcome.{IsOutcome}
 use Rattle.command_words.specs.declared.task.Task.{Task}
+use Rattle.command_words.specs.declared.task.Task.TheVariants as variants
 use Rattle.command_words.specs.declared.task.Task.TheVariants.{Run, Audit, Picture, Epochs, Show}
-use Rattle.command_words.specs.Wanted.{present_at_start}
+use Rattle.command_words.specs.Wanted.{Storm, present_at_start, storm_of}
 use Rattle.command_line.specs.declared.verdict.CheckEnd.{CheckEnd}
 use Rattle.command_line.specs.Status.{status_of, words_status}
 use Rattle.command_line.specs.FaultText.{bad_present_line, fault_line}
 use Rattle.transcript_view.specs.Views.{IsPicture, IsTable}
 use Rattle.command_line.specs.Viewed.{Known, Views}
+use Rattle.command_line.specs.Network.{asked_storm}
+use Rattle.command_line.specs.Played.{PlaysStorm}
 use Rattle.command_line.specs.Checked.{IsVerdict, TellsVerdict, verdict_status}
 
 -- the line of the fault, or a beginning of it where a write failed; nothing where there is no fault
@@ -51,6 +54,11 @@ abbrev pub TellsCheck : List ℕ → Known → Known → Known → Known → ℕ
 TellsCheck bytes old new before after status =
     (ended : Result CheckEnd RunFault) × IfOk ended (IsVerdict bytes) × TellsVerdict old new ended × TellsFault before after ended × (status ≡ checked_status ended)
 
+-- what is done for a storm: where there can be so many nodes at the start, its scripts are played on them
+abbrev pub DoesStorm : Storm → Option ℕ → Known → Known → Known → Known → ℕ → Type 0
+DoesStorm storm None old new before after status = TellsBadPresent old new before after status
+DoesStorm storm (Some present) old new before after status = PlaysStorm (asked_storm storm present) (length storm.scripts) old new before after status
+
 -- what is done for a task: a run's bytes and status are the same for each number of workers; where the help or the version is
 -- asked for, it is shown, or a write failed
 abbrev pub DoesTask : Task → List ℕ → Known → Known → Known → Known → ℕ → Type 0
@@ -58,6 +66,8 @@ DoesTask (Run rules nodes present workers) input old new before after status = D
 DoesTask Audit input old new before after status = TellsCheck input old new before after status
 DoesTask (Picture entry) input old new before after status = Views (IsPicture input entry) old new before after status
 DoesTask Epochs input old new before after status = Views (IsTable input) old new before after status
+DoesTask (variants.Storm words) input old new before after status =
+    DoesStorm (storm_of words) (present_at_start words.nodes words.present) old new before after status
 DoesTask (Show text) input old new before after status = (status ≡ 0) ⊎ (status ≡ 3)
 
 -- the task is done; for bad words, or where memory ran out as they were read, the writer gets nothing

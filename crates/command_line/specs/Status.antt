@@ -2,7 +2,7 @@
 -- failed.
 use Rattle.std.specs.Prelude.{ℕ, ◌≢◌, ◌≤◌}
 use Rattle.clap.specs.declared.error.kind.ErrorKind.{ErrorKind}
-use Rattle.clap.specs.declared.error.kind.ErrorKind.TheVariants.{DisplayHelp, DisplayVersion, OutOfMemory}
+use Rattle.clap.specs.declared.error.kind.ErrorKind.TheVariants.{OutOfMemory}
 use Rattle.std.specs.declared.io.ErrorKind as io
 use Rattle.std.specs.declared.io.ErrorKind.TheVariants.{InvalidData}
 use Rattle.script_run.specs.declared.fault.RunFault.{RunFault}
@@ -16,10 +16,6 @@ status_of Write = 3
 status_of LogFull = 4
 status_of Memory = 4
 status_of (Pool _) = 4
-
--- words that ask neither for the help nor for the version
-abbrev pub IsMistake : ErrorKind → Type 0
-IsMistake kind = (kind ≢ DisplayHelp) × (kind ≢ DisplayVersion)
 
 -- what words that cannot be followed end the program with
 abbrev pub words_status : ErrorKind → ℕ

@@ -5,6 +5,7 @@ use Rattle.byte_streams.specs.declared.input_fault.InputFault.{InputFault}
 use Rattle.byte_streams.specs.declared.input_fault.InputFault.TheVariants as input
 use Rattle.byte_streams.specs.Beginning.{AppendsBeginning}
 use Rattle.line_text.specs.Words.{number_text}
+use Rattle.auditor.specs.declared.damage.Damage.{Damage}
 use Rattle.auditor.specs.Verdict.{of_damage}
 use Rattle.script_run.specs.declared.fault.RunFault.{RunFault}
 use Rattle.script_run.specs.declared.fault.RunFault.TheVariants as run
@@ -19,15 +20,15 @@ use Rattle.command_line.specs.VerdictText.{verdict_line}
 abbrev pub Known : Type 0
 Known = Option (List ℕ)
 
--- that there is no such entry, with the LF that ends the line
-abbrev pub too_few_line : ℕ → ℕ → List ℕ
-too_few_line asked entries =
-    codes "! no entry " ++ (number_text asked ++ codes ": the transcript has ") ++ (number_text entries ++ codes " entries\n")
+-- that there is no such entry, and what there is, with the LF that ends the line
+abbrev pub missing_line : ℕ → List ℕ → ℕ → List ℕ → List ℕ
+missing_line asked told number end = codes "! no entry " ++ (number_text asked ++ told) ++ (number_text number ++ end)
 
--- that the transcript begins behind it, with the LF that ends the line
+abbrev pub too_few_line : ℕ → ℕ → List ℕ
+too_few_line asked entries = missing_line asked (codes ": the transcript has ") entries (codes " entries\n")
+
 abbrev pub forgotten_line : ℕ → ℕ → List ℕ
-forgotten_line asked base =
-    codes "! no entry " ++ (number_text asked ++ codes ": the transcript begins behind entry ") ++ (number_text base ++ codes "\n")
+forgotten_line asked base = missing_line asked (codes ": the transcript begins behind entry ") base (codes "\n")
 
 -- a fault is told, and nothing is written
 abbrev pub TellsEarly : RunFault → Known → Known → Known → Known → ℕ → Type 0
@@ -39,24 +40,24 @@ ShowsText text good old new before after status =
     ((status ≡ good) × Appends old new text × Keeps before after)
     ⊎ ((status ≡ 3) × AppendsBeginning old new text × AppendsBeginning before after (fault_line run.Write))
 
--- it is told that there are too few entries, and nothing is written
-abbrev pub TellsTooFew : ℕ → ℕ → Known → Known → Known → Known → ℕ → Type 0
-TellsTooFew asked entries old new before after status = (status ≡ 2) × Keeps old new × AppendsBeginning before after (too_few_line asked entries)
+-- the verdict that an audit gives is written, or memory ran out
+abbrev pub ShowsRefusal : Damage → Known → Known → Known → Known → ℕ → Type 0
+ShowsRefusal damage old new before after status =
+    ShowsText (verdict_line (verdict.Refused (of_damage damage))) 1 old new before after status
+    ⊎ TellsEarly run.Memory old new before after status
 
--- it is told that the transcript begins behind the entry, and nothing is written
-abbrev pub TellsForgotten : ℕ → ℕ → Known → Known → Known → Known → ℕ → Type 0
-TellsForgotten asked base old new before after status = (status ≡ 2) × Keeps old new × AppendsBeginning before after (forgotten_line asked base)
+-- it is told in this line that there is no such entry, or memory ran out; and nothing is written
+abbrev pub TellsMissing : List ℕ → Known → Known → Known → Known → ℕ → Type 0
+TellsMissing line old new before after status =
+    ((status ≡ 2) × Keeps old new × AppendsBeginning before after line)
+    ⊎ TellsEarly run.Memory old new before after status
 
 -- what is done with a view: the text is written, or the verdict that an audit gives, which is a text that may want memory
 abbrev pub TellsView : Result View InputFault → Known → Known → Known → Known → ℕ → Type 0
 TellsView (Ok (Text text)) old new before after status = ShowsText text.items 0 old new before after status
-TellsView (Ok (Refused damage)) old new before after status =
-    ShowsText (verdict_line (verdict.Refused (of_damage damage))) 1 old new before after status
-    ⊎ TellsEarly run.Memory old new before after status
-TellsView (Ok (TooFew asked entries)) old new before after status =
-    TellsTooFew asked entries old new before after status ⊎ TellsEarly run.Memory old new before after status
-TellsView (Ok (Forgotten asked base)) old new before after status =
-    TellsForgotten asked base old new before after status ⊎ TellsEarly run.Memory old new before after status
+TellsView (Ok (Refused damage)) old new before after status = ShowsRefusal damage old new before after status
+TellsView (Ok (TooFew asked entries)) old new before after status = TellsMissing (too_few_line asked entries) old new before after status
+TellsView (Ok (Forgotten asked base)) old new before after status = TellsMissing (forgotten_line asked base) old new before after status
 TellsView (Err input.Read) old new before after status = TellsEarly run.Read old new before after status
 TellsView (Err input.Memory) old new before after status = TellsEarly run.Memory old new before after status
 

@@ -6,30 +6,33 @@ ghost use Rattle.byte_streams.specs.Beginning.{AppendsBeginning};
 ghost use Rattle.line_text.specs.Words.{number_text};
 ghost use Rattle.command_line.specs.FaultText.{fault_line, IsPlain};
 
-use byte_streams::{OutputFault, finish, write_whole};
+use byte_streams::{OutputFault, Writes};
 use itoa::Buffer;
 use script_run::RunFault;
 use std::io::Write;
 use steal_pool::PoolFault;
 
-fn write_bad_line<Faults: Write>(line: u64, faults: &mut Faults) -> Result<(), OutputFault>
-    ensures ok { OnOk result (Appends (Faults.contents faults.old) (Faults.contents faults.new) (fault_line (RunFault.BadLine line))) }
-    ensures fault { OnErr result (AppendsBeginning (Faults.contents faults.old) (Faults.contents faults.new) (fault_line (RunFault.BadLine line))) }
+fn write_bad_line<Faults: Write>(line: u64, faults: &mut Writes<Faults>) -> Result<(), OutputFault>
+    ensures ok { OnOk result (Appends (Faults.contents faults.old.writer) (Faults.contents faults.new.writer) (fault_line (RunFault.BadLine line))) }
+    ensures fault { OnErr result (AppendsBeginning (Faults.contents faults.old.writer) (Faults.contents faults.new.writer) (fault_line (RunFault.BadLine line))) }
 {
     let mut digits = Buffer::new();
-    write_whole(faults, b"! line ")?;
-    write_whole(faults, digits.format(line).as_bytes())?;
-    finish(faults, b": not a command\n")
+    faults.write_whole(b"! line ")?;
+    faults.write_whole(digits.format(line).as_bytes())?;
+    faults.finish(b": not a command\n")
 }
 
 /// Writes the line of a fault and flushes the writer.
-pub fn write_fault<Faults: Write>(fault: RunFault, faults: &mut Faults) -> Result<(), OutputFault>
-    ensures ok { OnOk result (Appends (Faults.contents faults.old) (Faults.contents faults.new) (fault_line fault)) }
-    ensures fault { OnErr result (AppendsBeginning (Faults.contents faults.old) (Faults.contents faults.new) (fault_line fault)) }
+pub fn write_fault<Faults: Write>(
+    fault: RunFault,
+    faults: &mut Writes<Faults>,
+) -> Result<(), OutputFault>
+    ensures ok { OnOk result (Appends (Faults.contents faults.old.writer) (Faults.contents faults.new.writer) (fault_line fault)) }
+    ensures fault { OnErr result (AppendsBeginning (Faults.contents faults.old.writer) (Faults.contents faults.new.writer) (fault_line fault)) }
 {
     match fault {
         RunFault::BadLine { line } => write_bad_line(line, faults),
-        fault => finish(faults, plain_line(fault)),
+        fault => faults.finish(plain_line(fault)),
     }
 }
 

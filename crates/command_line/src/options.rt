@@ -1,8 +1,9 @@
 //! What the words for a network make of the options of a run.
 
-ghost use Rattle.std.specs.Prelude.{◌≡◌, max, min, MatchOption, None, Some};
+ghost use Rattle.std.specs.Prelude.{◌≡◌, MatchOption, None, Some};
 ghost use Rattle.command_words.specs.Wanted.{present_at_start};
-ghost use Rattle.script_run.specs.Asked.{Asked, asked_of};
+ghost use Rattle.script_run.specs.Asked.{asked_of};
+ghost use Rattle.command_line.specs.Network.{asked_network};
 
 use command_words::present_at_start;
 use rule_machine::RuleSet;
@@ -19,7 +20,7 @@ pub fn network_options(
 ) -> Option<Options>
     ensures { MatchOption result (present_at_start nodes named ≡ None) (λ options.
         (present_at_start nodes named ≡ Some options.present)
-        × (asked_of options ≡ record { rules = rules; nodes = nodes; present = options.present; limit = 16777216; workers = min (max workers 1) 64; roamers = 0; turns = 1000 })) }
+        × (asked_of options ≡ asked_network rules nodes options.present workers)) }
 {
     let Some(present) = present_at_start(nodes, named) else {
         return None;

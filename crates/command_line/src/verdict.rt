@@ -1,11 +1,12 @@
 //! The audit of a transcript, told in one line.
 
-ghost use Rattle.std.specs.Prelude.{◌≡◌, IfOk, IfSome};
+ghost use Rattle.std.specs.Prelude.{◌≡◌, true, IfOk, IfSome, IsErrOf};
+ghost use Rattle.byte_streams.specs.Ended.{IsEnded};
 ghost use Rattle.command_line.specs.Checked.{IsVerdict, TellsVerdict, verdict_of, verdict_status};
 
 use crate::verdict_line::verdict_line;
 use auditor::{AuditFault, Summary, audit};
-use byte_streams::{Reads, finish};
+use byte_streams::{Reads, Writes};
 use script_run::RunFault;
 use std::alloc::Global;
 use std::io::{Read, Write};
@@ -33,7 +34,9 @@ impl CheckEnd {
 
 // What an audit found, or why it found nothing.
 fn verdict_of(audited: Result<Summary, AuditFault>) -> Result<CheckEnd, RunFault>
-    ensures { result ≡ verdict_of audited }
+    ensures verdict { result ≡ verdict_of audited }
+    ensures unread { IsErrOf result RunFault.Read → IsErrOf audited AuditFault.Read }
+    ensures written { IsErrOf result RunFault.Write → ⊥ }
 {
     match audited {
         Ok(counted) => Ok(CheckEnd::Accepted(counted)),
@@ -47,31 +50,35 @@ fn verdict_of(audited: Result<Summary, AuditFault>) -> Result<CheckEnd, RunFault
 fn tell_verdict<Out: Write>(
     alloc: Global,
     end: CheckEnd,
-    writer: &mut Out,
+    writer: &mut Writes<Out>,
 ) -> Result<CheckEnd, RunFault>
-    ensures told { TellsVerdict (Out.contents writer.old) (Out.contents writer.new) result }
+    ensures told { TellsVerdict (Out.contents writer.old.writer) (Out.contents writer.new.writer) result }
     ensures same { IfOk result (λ said. said ≡ end) }
+    ensures read { IsErrOf result RunFault.Read → ⊥ }
+    ensures unwritten { IsErrOf result RunFault.Write → writer.new.failed ≡ true }
 {
     let Ok(line) = verdict_line(alloc, end) else {
         return Err(RunFault::Memory);
     };
-    if finish(writer, &line).is_err() {
+    if writer.finish(&line).is_err() {
         return Err(RunFault::Write);
     }
     Ok(end)
 }
 
-/// Judges a transcript and tells the verdict in one line, which is written once. `Read` and `Write` at the first error
-/// of the reader or the writer, and `Memory` if memory runs out; but for `Write`, nothing is written then.
+/// Judges a transcript and tells the verdict in one line, which is written once. `Read` only where a read failed, or 4,294,967,295
+/// were made, `Write` only where a write failed, and `Memory` if memory runs out; but for `Write`, nothing is written then.
 pub fn check<In: Read, Out: Write>(
     alloc: Global,
-    reader: &mut In,
-    writer: &mut Out,
+    reader: &mut Reads<In>,
+    writer: &mut Writes<Out>,
 ) -> Result<CheckEnd, RunFault>
-    ensures verdict { IfSome (In.remaining reader.old) (λ bytes. IfOk result (IsVerdict bytes)) }
-    ensures told { TellsVerdict (Out.contents writer.old) (Out.contents writer.new) result }
+    ensures verdict { IfSome (In.remaining reader.old.reader) (λ bytes. IfOk result (IsVerdict bytes)) }
+    ensures told { TellsVerdict (Out.contents writer.old.writer) (Out.contents writer.new.writer) result }
+    ensures unread { IsErrOf result RunFault.Read → IsEnded reader.new.failed reader.new.count }
+    ensures unwritten { IsErrOf result RunFault.Write → writer.new.failed ≡ true }
 {
-    match verdict_of(audit(alloc, &mut Reads::new(reader))) {
+    match verdict_of(audit(alloc, reader)) {
         Ok(end) => tell_verdict(alloc, end, writer),
         Err(fault) => Err(fault),
     }

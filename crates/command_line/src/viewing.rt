@@ -1,47 +1,37 @@
 //! What a transcript is shown as, told on the writers.
 
-ghost use Rattle.std.specs.Prelude.{◌≡◌, ◌⊎◌, ◌++◌, Err, IfErr, IfOk, IfSome};
-ghost use Rattle.auditor.specs.Verdict.{of_damage};
+ghost use Rattle.std.specs.Prelude.{◌≡◌, ◌⊎◌, true, Err, IfErr, IfOk, IfSome, IsErrOf, OnErr};
 ghost use Rattle.byte_streams.specs.Beginning.{AppendsBeginning};
+ghost use Rattle.byte_streams.specs.Ended.{IsEnded};
 ghost use Rattle.transcript_view.specs.Views.{IsPicture, IsTable};
 ghost use Rattle.command_line.specs.FaultText.{fault_line};
 ghost use Rattle.command_line.specs.Status.{IsStatus};
-ghost use Rattle.command_line.specs.VerdictText as text;
-ghost use Rattle.command_line.specs.Viewed.{ShowsText, TellsEarly, TellsView, Views, forgotten_line, too_few_line};
+ghost use Rattle.command_line.specs.Viewed.{ShowsRefusal, ShowsText, TellsView, Views, missing_line};
 
 use crate::program::tell;
 use crate::verdict::CheckEnd;
 use crate::verdict_line::{put_number, verdict_line};
 use auditor::{AuditFault, Damage};
-use byte_streams::{InputFault, finish, read_whole};
+use byte_streams::{InputFault, Reads, Writes, read_whole};
 use script_run::RunFault;
 use std::alloc::{AllocError, Global};
 use std::io::{Read, Write};
 use transcript_view::{View, view_epochs, view_picture};
 
-// The line that tells that there is no such entry, with its LF.
-fn too_few_line(alloc: Global, asked: u32, entries: u32) -> Result<Vec<u8>, AllocError>
-    ensures { IfOk result (λ line. line.items ≡ too_few_line asked entries) }
+// The line that tells that there is no such entry, and what there is, with its LF.
+fn missing_line(
+    alloc: Global,
+    asked: u32,
+    told: &[u8],
+    number: u32,
+    end: &[u8],
+) -> Result<Vec<u8>, AllocError>
+    ensures { IfOk result (λ line. line.items ≡ missing_line asked told.now number end.now) }
 {
     let mut line = Vec::new(alloc);
     line.extend_from_slice(b"! no entry ")?;
-    put_number(&mut line, u64::from(asked), b": the transcript has ")?;
-    put_number(&mut line, u64::from(entries), b" entries\n")?;
-    Ok(line)
-}
-
-// The line that tells that the transcript begins behind the entry, with its LF.
-fn forgotten_line(alloc: Global, asked: u32, base: u32) -> Result<Vec<u8>, AllocError>
-    ensures { IfOk result (λ line. line.items ≡ forgotten_line asked base) }
-{
-    let mut line = Vec::new(alloc);
-    line.extend_from_slice(b"! no entry ")?;
-    put_number(
-        &mut line,
-        u64::from(asked),
-        b": the transcript begins behind entry ",
-    )?;
-    put_number(&mut line, u64::from(base), b"\n")?;
+    put_number(&mut line, u64::from(asked), told)?;
+    put_number(&mut line, u64::from(number), end)?;
     Ok(line)
 }
 
@@ -49,14 +39,16 @@ fn forgotten_line(alloc: Global, asked: u32, base: u32) -> Result<Vec<u8>, Alloc
 fn show_text<Out: Write, Faults: Write>(
     text: &[u8],
     good: u8,
-    writer: &mut Out,
-    faults: &mut Faults,
+    writer: &mut Writes<Out>,
+    faults: &mut Writes<Faults>,
 ) -> u8
     requires { IsStatus good }
-    ensures shown { ShowsText text.now good (Out.contents writer.old) (Out.contents writer.new) (Faults.contents faults.old) (Faults.contents faults.new) result }
+    ensures shown { ShowsText text.now good (Out.contents writer.old.writer) (Out.contents writer.new.writer)
+        (Faults.contents faults.old.writer) (Faults.contents faults.new.writer) result }
     ensures status { IsStatus result }
+    ensures device { result ≡ 3 → (good ≡ 3) ⊎ (writer.new.failed ≡ true) }
 {
-    match finish(writer, text) {
+    match writer.finish(text) {
         Ok(()) => good,
         Err(_) => tell(RunFault::Write, faults),
     }
@@ -66,12 +58,13 @@ fn show_text<Out: Write, Faults: Write>(
 fn show_refusal<Out: Write, Faults: Write>(
     alloc: Global,
     damage: Damage,
-    writer: &mut Out,
-    faults: &mut Faults,
+    writer: &mut Writes<Out>,
+    faults: &mut Writes<Faults>,
 ) -> u8
-    ensures shown { ShowsText (text.verdict_line (CheckEnd.Refused (of_damage damage))) 1 (Out.contents writer.old) (Out.contents writer.new) (Faults.contents faults.old) (Faults.contents faults.new) result
-        ⊎ TellsEarly RunFault.Memory (Out.contents writer.old) (Out.contents writer.new) (Faults.contents faults.old) (Faults.contents faults.new) result }
+    ensures shown { ShowsRefusal damage (Out.contents writer.old.writer) (Out.contents writer.new.writer)
+        (Faults.contents faults.old.writer) (Faults.contents faults.new.writer) result }
     ensures status { IsStatus result }
+    ensures device { result ≡ 3 → writer.new.failed ≡ true }
 {
     match verdict_line(alloc, CheckEnd::Refused(AuditFault::from(damage))) {
         Ok(line) => show_text(&line, 1, writer, faults),
@@ -79,30 +72,16 @@ fn show_refusal<Out: Write, Faults: Write>(
     }
 }
 
-// Tells that there is no such entry, and gives the exit status.
-fn tell_too_few<Faults: Write>(alloc: Global, asked: u32, entries: u32, faults: &mut Faults) -> u8
-    ensures told { ((result ≡ 2) × AppendsBeginning (Faults.contents faults.old) (Faults.contents faults.new) (too_few_line asked entries))
-        ⊎ ((result ≡ 4) × AppendsBeginning (Faults.contents faults.old) (Faults.contents faults.new) (fault_line RunFault.Memory)) }
-    ensures status { IsStatus result }
+// Tells that there is no such entry, in this line if there was memory for it, and gives the exit status.
+fn tell_missing<Faults: Write>(line: Result<Vec<u8>, AllocError>, faults: &mut Writes<Faults>) -> u8
+    ensures told { IfOk line (λ text. (result ≡ 2) × AppendsBeginning (Faults.contents faults.old.writer) (Faults.contents faults.new.writer)
+        text.items) }
+    ensures memory { OnErr line ((result ≡ 4) × AppendsBeginning (Faults.contents faults.old.writer) (Faults.contents faults.new.writer)
+        (fault_line RunFault.Memory)) }
 {
-    match too_few_line(alloc, asked, entries) {
-        Ok(line) => {
-            let _ = finish(faults, &line);
-            2
-        }
-        Err(_) => tell(RunFault::Memory, faults),
-    }
-}
-
-// Tells that the transcript begins behind the entry, and gives the exit status.
-fn tell_forgotten<Faults: Write>(alloc: Global, asked: u32, base: u32, faults: &mut Faults) -> u8
-    ensures told { ((result ≡ 2) × AppendsBeginning (Faults.contents faults.old) (Faults.contents faults.new) (forgotten_line asked base))
-        ⊎ ((result ≡ 4) × AppendsBeginning (Faults.contents faults.old) (Faults.contents faults.new) (fault_line RunFault.Memory)) }
-    ensures status { IsStatus result }
-{
-    match forgotten_line(alloc, asked, base) {
-        Ok(line) => {
-            let _ = finish(faults, &line);
+    match line {
+        Ok(text) => {
+            let _ = faults.finish(&text);
             2
         }
         Err(_) => tell(RunFault::Memory, faults),
@@ -113,17 +92,28 @@ fn tell_forgotten<Faults: Write>(alloc: Global, asked: u32, base: u32, faults: &
 fn tell_view<Out: Write, Faults: Write>(
     alloc: Global,
     viewed: Result<View, InputFault>,
-    writer: &mut Out,
-    faults: &mut Faults,
+    writer: &mut Writes<Out>,
+    faults: &mut Writes<Faults>,
 ) -> u8
-    ensures told { TellsView viewed (Out.contents writer.old) (Out.contents writer.new) (Faults.contents faults.old) (Faults.contents faults.new) result }
+    ensures told { TellsView viewed (Out.contents writer.old.writer) (Out.contents writer.new.writer)
+        (Faults.contents faults.old.writer) (Faults.contents faults.new.writer) result }
     ensures status { IsStatus result }
+    ensures device { result ≡ 3 → IsErrOf viewed InputFault.Read ⊎ (writer.new.failed ≡ true) }
 {
     match viewed {
         Ok(View::Text(text)) => show_text(&text, 0, writer, faults),
         Ok(View::Refused(damage)) => show_refusal(alloc, damage, writer, faults),
-        Ok(View::TooFew { asked, entries }) => tell_too_few(alloc, asked, entries, faults),
-        Ok(View::Forgotten { asked, base }) => tell_forgotten(alloc, asked, base, faults),
+        Ok(View::TooFew { asked, entries }) => {
+            let told = b": the transcript has ";
+            tell_missing(
+                missing_line(alloc, asked, told, entries, b" entries\n"),
+                faults,
+            )
+        }
+        Ok(View::Forgotten { asked, base }) => {
+            let told = b": the transcript begins behind entry ";
+            tell_missing(missing_line(alloc, asked, told, base, b"\n"), faults)
+        }
         Err(InputFault::Read) => tell(RunFault::Read, faults),
         Err(InputFault::Memory) => tell(RunFault::Memory, faults),
     }
@@ -137,6 +127,7 @@ fn view_picture_of(
 ) -> Result<View, InputFault>
     ensures read { IfOk read (λ bytes. IfOk result (IsPicture bytes.items entry)) }
     ensures unread { IfErr read (λ fault. result ≡ Err fault) }
+    ensures same { IsErrOf result InputFault.Read → IsErrOf read InputFault.Read }
 {
     match read {
         Ok(bytes) => match view_picture(alloc, &bytes, entry) {
@@ -151,6 +142,7 @@ fn view_picture_of(
 fn view_epochs_of(alloc: Global, read: Result<Vec<u8>, InputFault>) -> Result<View, InputFault>
     ensures read { IfOk read (λ bytes. IfOk result (IsTable bytes.items)) }
     ensures unread { IfErr read (λ fault. result ≡ Err fault) }
+    ensures same { IsErrOf result InputFault.Read → IsErrOf read InputFault.Read }
 {
     match read {
         Ok(bytes) => match view_epochs(alloc, &bytes) {
@@ -167,13 +159,14 @@ fn view_epochs_of(alloc: Global, read: Result<Vec<u8>, InputFault>) -> Result<Vi
 pub fn draw<In: Read, Out: Write, Faults: Write>(
     alloc: Global,
     entry: Option<u32>,
-    reader: &mut In,
-    writer: &mut Out,
-    faults: &mut Faults,
+    reader: &mut Reads<In>,
+    writer: &mut Writes<Out>,
+    faults: &mut Writes<Faults>,
 ) -> u8
-    ensures shown { IfSome (In.remaining reader.old) (λ bytes. Views (IsPicture bytes entry)
-        (Out.contents writer.old) (Out.contents writer.new) (Faults.contents faults.old) (Faults.contents faults.new) result) }
+    ensures shown { IfSome (In.remaining reader.old.reader) (λ bytes. Views (IsPicture bytes entry)
+        (Out.contents writer.old.writer) (Out.contents writer.new.writer) (Faults.contents faults.old.writer) (Faults.contents faults.new.writer) result) }
     ensures status { IsStatus result }
+    ensures device { result ≡ 3 → IsEnded reader.new.failed reader.new.count ⊎ (writer.new.failed ≡ true) }
 {
     let viewed = view_picture_of(alloc, read_whole(alloc, reader), entry);
     tell_view(alloc, viewed, writer, faults)
@@ -183,13 +176,14 @@ pub fn draw<In: Read, Out: Write, Faults: Write>(
 /// is refused, in an audit's words; 3 where a read or a write failed, 4 for want of memory.
 pub fn list_epochs<In: Read, Out: Write, Faults: Write>(
     alloc: Global,
-    reader: &mut In,
-    writer: &mut Out,
-    faults: &mut Faults,
+    reader: &mut Reads<In>,
+    writer: &mut Writes<Out>,
+    faults: &mut Writes<Faults>,
 ) -> u8
-    ensures shown { IfSome (In.remaining reader.old) (λ bytes. Views (IsTable bytes)
-        (Out.contents writer.old) (Out.contents writer.new) (Faults.contents faults.old) (Faults.contents faults.new) result) }
+    ensures shown { IfSome (In.remaining reader.old.reader) (λ bytes. Views (IsTable bytes)
+        (Out.contents writer.old.writer) (Out.contents writer.new.writer) (Faults.contents faults.old.writer) (Faults.contents faults.new.writer) result) }
     ensures status { IsStatus result }
+    ensures device { result ≡ 3 → IsEnded reader.new.failed reader.new.count ⊎ (writer.new.failed ≡ true) }
 {
     let viewed = view_epochs_of(alloc, read_whole(alloc, reader));
     tell_view(alloc, viewed, writer, faults)

@@ -5,4 +5,4 @@ use Rattle.command_line.proofs.program.tell.Goals as goal
 pub returns-clause-told : goal.returns-clause-told
 returns-clause-told g c =
     let known = g.Faults.Write.contents in
-    either_begins (known c.args.faults.now) (known c.write_fault.new.faults) (fault_line c.args.fault) c.write_fault.result c.write_fault.ensures.ok c.write_fault.ensures.fault
+    either_begins (known c.args.faults.now.writer) (known c.write_fault.new.faults.writer) (fault_line c.args.fault) c.write_fault.result c.write_fault.ensures.ok c.write_fault.ensures.fault

@@ -12,5 +12,5 @@ pub returns-then-eq-clause-told : goal.returns-then-eq-clause-told
 returns-then-eq-clause-told g c =
     let known = g.Faults.Write.contents in
     let same : c.args.kind ≡ InvalidData = same_true the_type (search rules) _ _ (sym c.if-eq.ensures) in
-    subst (λ (k : io.ErrorKind). AppendsBeginning (known c.args.faults.now) (known c.finish.new.writer) (no_words_line k)) (sym same)
-    (either_begins (known c.args.faults.now) (known c.finish.new.writer) (codes "! a word is not UTF-8\n") c.finish.result c.finish.ensures.ok c.finish.ensures.fault)
+    subst (λ (k : io.ErrorKind). AppendsBeginning (known c.args.faults.now.writer) (known c.finish.new.self.writer) (no_words_line k)) (sym same)
+    (either_begins (known c.args.faults.now.writer) (known c.finish.new.self.writer) (codes "! a word is not UTF-8\n") c.finish.result c.finish.ensures.ok c.finish.ensures.fault)

@@ -1,0 +1,14 @@
+use Rattle.std.proofs.Common.{◌≡◌, ◌++◌, ◌∙◌, ℕ, List, rules, ap₂, codes, append_assoc}
+use Rattle.line_text.specs.Words.{number_text}
+use Rattle.command_line.proofs.viewing.missing_line.Goals as goal
+
+pub returns : goal.returns
+returns c =
+    let front : c.extend_from_slice.new.self.items ≡ codes "! no entry " = search rules in
+    let asked : c.from.result ≡ c.args.asked = search rules in
+    let number : c.from-2.result ≡ c.args.number = search rules in
+    let told = c.args.told.now in
+    let end = c.args.end.now in
+    c.in_ok-put_number-2.ensures
+    ∙ ap₂ (λ (l : List ℕ) (n : ℕ). l ++ (number_text n ++ end)) (c.in_ok-put_number.ensures ∙ ap₂ (λ (l : List ℕ) (n : ℕ). l ++ (number_text n ++ told)) front asked) number
+    ∙ append_assoc (codes "! no entry ") (number_text c.args.asked ++ told) (number_text c.args.number ++ end)

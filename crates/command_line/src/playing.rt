@@ -1,0 +1,77 @@
+//! Scripts of files, played at once.
+
+ghost use Rattle.std.specs.Prelude.{◌≡◌, length, IfErr, IfOk};
+ghost use Rattle.script_run.specs.Asked.{asked_of};
+ghost use Rattle.command_words.specs.Wanted.{present_at_start, storm_of};
+ghost use Rattle.command_line.specs.Ended.{DoesStorm};
+ghost use Rattle.command_line.specs.Played.{EndsStorm, FailsToOpen};
+ghost use Rattle.command_line.specs.Status.{IsStatus};
+
+use crate::options::network_options;
+use crate::program::tell_bad_present;
+use byte_streams::Writes;
+use command_words::StormWords;
+use script_run::Options;
+use std::alloc::Global;
+use std::fs::File;
+use std::io::Write;
+use std::rt::Files;
+use std::sync::Wait;
+use std::thread::Threads;
+use steal_pool::NoGate;
+use storm_call::{StormFault, storm, storm_end};
+
+// Opens the files with these names, in their order: `Read` at the first that can't be opened.
+fn open_all<T: Files>(rt: &T, alloc: Global, names: &[&str]) -> Result<Vec<T::File>, StormFault>
+    ensures count { IfOk result (λ files. length files.items ≡ length names.now) }
+    ensures fault { IfErr result (FailsToOpen (length names.now)) }
+{
+    let mut files = Vec::new(alloc);
+    for name in names {
+        let Ok(file) = File::open(rt, *name) else {
+            return Err(StormFault::Read);
+        };
+        if files.push(file).is_err() {
+            return Err(StormFault::Memory);
+        }
+    }
+    Ok(files)
+}
+
+// Plays the scripts of the files with these names.
+fn play_files<Out: Write, T: Threads + Wait + Sync + Files>(
+    rt: &T,
+    alloc: Global,
+    options: &Options,
+    names: &[&str],
+    writer: &mut Writes<Out>,
+) -> Result<(), StormFault>
+    ensures { EndsStorm (asked_of options.now) (length names.now) (Out.contents writer.old.writer) (Out.contents writer.new.writer) result }
+{
+    match open_all(rt, alloc, names) {
+        Ok(files) => storm(rt, alloc, options, files, writer, &NoGate),
+        Err(fault) => Err(fault),
+    }
+}
+
+/// Plays the scripts that the words of a storm name, or tells that more nodes would be present at the start than there may be, and
+/// gives the exit status.
+pub fn play_storm<Out: Write, Faults: Write, T: Threads + Wait + Sync + Files>(
+    rt: &T,
+    alloc: Global,
+    asked: StormWords<'_>,
+    writer: &mut Writes<Out>,
+    faults: &mut Writes<Faults>,
+) -> u8
+    ensures played { DoesStorm (storm_of asked.entry) (present_at_start asked.entry.nodes asked.entry.present)
+        (Out.contents writer.old.writer) (Out.contents writer.new.writer) (Faults.contents faults.old.writer) (Faults.contents faults.new.writer) result }
+    ensures status { IsStatus result }
+{
+    let network = network_options(asked.rules, asked.nodes, asked.present, asked.workers);
+    let Some(options) = network else {
+        return tell_bad_present(faults);
+    };
+    let options = options.with_roam(u32::from(asked.roamers), asked.turns);
+    let ended = play_files(rt, alloc, &options, &asked.scripts, writer);
+    storm_end(ended, faults)
+}
