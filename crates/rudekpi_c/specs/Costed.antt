@@ -1,16 +1,14 @@
 -- What C is told that an edit or a fault would cost where a session stands.
-use Rattle.std.specs.Prelude.{◌≡◌, ◌≤◌, ◌+◌, ◌⊎◌, ℕ, Option, None, Some}
+use Rattle.std.specs.Prelude.{◌≡◌, ◌⊎◌, ℕ, Option, None, Some}
 use Rattle.rule_machine.specs.declared.event.Event.{Event}
-use Rattle.rule_machine.specs.declared.reply.Reply.TheVariants.{Accepted}
 use Rattle.rule_machine.specs.declared.rules.RuleSet.{RuleSet}
 use Rattle.rule_machine.specs.declared.rules.RuleSet.TheVariants.{Hh, Manne}
-use Rattle.rule_machine.specs.Answer.{Answers}
 use Rattle.rule_machine.specs.Run.{Moment}
 use Rattle.rule_machine.specs.RuleTable.{RuleTable}
 use Rattle.rule_machine.specs.State.{State}
 use Rattle.rule_machine.specs.Tables.{table_of}
 use Rattle.charge_laws.specs.Costs.{hsu_huang_cost, manne_cost}
-use Rattle.rule_engine.specs.Costs.{cost_of}
+use Rattle.rule_engine.specs.Costs.{cost_of, BoundsGrowth}
 use Rattle.script_text.specs.declared.command.Command.TheVariants.{Tell}
 use Rattle.script_text.specs.Command.{IsCommand}
 use Rattle.rudekpi_c.specs.Session.{stands, rules_of}
@@ -27,7 +25,7 @@ cost_at s event = cost_of (table_of (rules_of s)) (costs_of (rules_of s)) (stand
 
 -- where it is accepted the charge grows by no more than this
 abbrev pub GrowsBy : RuleTable → Moment → Event → ℕ → Type 0
-GrowsBy t at event cost = (after : State) → Answers t at.state at.spent event Accepted after → t.charge after ≤ t.charge at.state + cost
+GrowsBy t at event cost = BoundsGrowth t at.state at.spent event cost
 
 abbrev pub CostedIn : Event → ℕ → ℕ → Option Session → Type 0
 CostedIn event status cost None = (status ≡ 4) × (cost ≡ 0)
