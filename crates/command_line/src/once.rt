@@ -33,7 +33,7 @@ pub fn write_text<Out: Write>(text: Error, writer: &mut Writes<Out>) -> Result<(
     let mut once = Once {
         writer: &mut *writer,
     };
-    // a write that failed is told by the flush, which is not made behind one
+    // A write that failed is told by the flush, which is not made behind one.
     let _ = write!(once, "{text}");
     writer.flush_once()
 }
