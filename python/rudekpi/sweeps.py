@@ -8,6 +8,7 @@ import os
 import random
 import signal
 import time
+import traceback
 from collections import deque
 from concurrent.futures import FIRST_COMPLETED, BrokenExecutor, CancelledError, Executor, Future, ProcessPoolExecutor, wait
 from dataclasses import asdict, astuple, dataclass, fields
@@ -216,7 +217,11 @@ def ignore_interrupts() -> None:
 
 def is_death(error: BaseException) -> bool:
     """Whether an error tells that a worker died, here or on a cluster."""
-    return isinstance(error, (BrokenExecutor, CancelledError)) or type(error).__name__ in ("KilledWorker", "CommClosedError")
+    if isinstance(error, (BrokenExecutor, CancelledError)) or type(error).__name__ in ("KilledWorker", "CommClosedError"):
+        return True
+    # where a worker dies while its result is handed over, distributed takes the result for an error, and fails in that itself
+    frames = [frame for frame, _ in traceback.walk_tb(error.__traceback__)]
+    return bool(frames) and frames[-1].f_code.co_name == "_cascade_future"
 
 
 class Handing:

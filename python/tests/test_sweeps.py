@@ -121,7 +121,48 @@ class Rows(Timed):
         self.assertEqual(list(frame["moves"]), [row.moves for row in made])
 
 
+class Losing(concurrent.futures.Executor):
+    """Does each task at once, and loses the first result as distributed does where a worker dies while it hands that over."""
+
+    def __init__(self):
+        self.asked = 0
+
+    def submit(self, task, *words):
+        future = concurrent.futures.Future()
+
+        def _cascade_future(result):
+            self.asked += 1
+            if self.asked > 1:
+                return future.set_result(result)
+            try:
+                kind, error, trace = result
+            except ValueError as error:
+                return future.set_exception(error)
+
+        _cascade_future(task(*words))
+        return future
+
+
+class Failing(Losing):
+    def submit(self, task, *words):
+        future = concurrent.futures.Future()
+        try:
+            raise ValueError("of the task")
+        except ValueError as error:
+            future.set_exception(error)
+        return future
+
+
 class Workers(Timed):
+    def test_a_result_that_a_cluster_loses_is_made_again(self):
+        executor = Losing()
+        made = list(sweep([RING], ["hh"], ["seeded"], range(2), executor=executor))
+        self.assertEqual(sorted(row.seed for row in made), [0, 1])
+        self.assertEqual(executor.asked, 3)
+
+    def test_an_error_of_the_task_is_no_death(self):
+        self.assertRaisesRegex(ValueError, "of the task", list, sweep([RING], ["hh"], ["seeded"], range(2), executor=Failing()))
+
     def test_one_that_dies_costs_its_task_which_is_tried_again(self):
         os.environ["RUDEKPI_TEST_DEATH"] = os.path.join(self.folder(), "died")
         self.addCleanup(os.environ.pop, "RUDEKPI_TEST_DEATH")
