@@ -121,7 +121,7 @@ before_zeros m (suc i) =
     omega arith
 
 -- no place passes
-tally_nobody : (n i : ℕ) → tally (is_in (replicate n false)) i ≡ 0
+pub tally_nobody : (n i : ℕ) → tally (is_in (replicate n false)) i ≡ 0
 tally_nobody n i = tally_flat (is_in (replicate n false)) 0 i i (λ k low high. none_in n k) (omega arith) ∙ tally_none (is_in (replicate n false))
 
 -- the counts of nobody

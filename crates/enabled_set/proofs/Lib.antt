@@ -9,5 +9,5 @@ pub mod Steps
 pub mod Halves
 pub mod Passes
 pub mod Nth
-pub mod Blocks
 pub mod Sums
+pub mod Listed

@@ -1,8 +1,7 @@
 -- From the counts down to the k-th member, and from the words to all members.
-use Rattle.std.proofs.Common.{◌≡◌, ℕ, zero, suc, ◌+◌, ◌-◌, ◌*◌, ◌/◌, ◌%◌, ◌<◌, ◌≤◌, Bool, true, false, List, [], ◌∷◌, ◌++◌, map, length, get_or, Option, Some, None, sym, ap, ◌∙◌, arith, ⊎_elim, append_assoc}
+use Rattle.std.proofs.Common.{◌≡◌, ℕ, zero, suc, ◌+◌, ◌-◌, ◌*◌, ◌<◌, ◌≤◌, Bool, true, false, List, [], ◌∷◌, ◌++◌, map, length, get_or, Option, Some, None, sym, ap, ◌∙◌, arith, ⊎_elim, append_assoc}
 use Rattle.std.specs.Prelude.{◌≢◌, slice_get, SomeIff}
 use Rattle.std.specs.List.{range_with_len}
-use Rattle.std.specs.Int.{w64, trailing_zeros}
 use Rattle.std.proofs.lemmas.Bool.{cases_Bool, cases_lt}
 use Rattle.std.proofs.lemmas.List.{append-nil, map-append, get_or_past}
 use Rattle.std.proofs.lemmas.List.Elements.{filter_agree}
@@ -10,7 +9,6 @@ use Rattle.std.proofs.lemmas.Option.{slice_get_past}
 use Rattle.enabled_set.specs.Members.{is_in, members, has_bit, is_on, AreNames}
 use Rattle.enabled_set.specs.Counts.{tally, below, before, IsCount, IsCounted}
 use Rattle.enabled_set.proofs.Counting.{tally_rise, tally_flat, tally_end, tally_shift, tally_same}
-use Rattle.enabled_set.proofs.Bits.{first_none, first_some}
 use Rattle.enabled_set.proofs.Places.{on_word}
 use Rattle.enabled_set.proofs.Members.{below_none, below_true, below_false, length-below, members_below, length-members, nth_member, inside}
 use Rattle.enabled_set.proofs.Changes.{somebody}
@@ -224,22 +222,3 @@ nth_some bits words s l ws total k word group left at o good is_w is reached wit
     let part = word_tally bits words s l ws total word group at good is_w is (omega arith) in
     let there : tally (is_in bits) (64 * group + at) ≡ k = omega arith in
     named o v node (names_only bits words s l total good v here) ∙ sym (nth_member bits v k (good.same v ∙ here) there)
-
--- a word of none has no member
-pub zero_word : (bits : List Bool) (words s l : List ℕ) (total v : ℕ) → IsCounted bits words s l total → get_or words (v / 64) 0 ≡ 0 → is_in bits v ≡ false
-unfolding is_on
-zero_word bits words s l total v good none = good.same v ∙ first_none (get_or words (v / 64) 0) (v % 64) none
-
--- and a bit of a word is one
-pub block_some : (bits : List Bool) (words s l : List ℕ) (total word block at : ℕ) → IsCounted bits words s l total → word ≡ get_or words block 0 → at < 64 → has_bit word at ≡ true → (is_in bits (64 * block + at) ≡ true) × (1 ≤ 64 * block + at) × (64 * block + at ≤ 65535)
-block_some bits words s l total word block at good is inside on =
-    let here : is_on words (64 * block + at) ≡ true = on_word words block at inside ∙ ap (λ w. has_bit w at) (sym is) ∙ on in
-    let name = names_only bits words s l total good (64 * block + at) here in
-    (good.same (64 * block + at) ∙ here, name.0, name.1)
-
--- the lowest bit of a word that has one is a member
-pub word_some : (bits : List Bool) (words s l : List ℕ) (total word block : ℕ) → IsCounted bits words s l total → word ≡ get_or words block 0 → word < 18446744073709551616 → 0 < get_or words block 0 → (is_in bits (64 * block + trailing_zeros w64 word) ≡ true) × (1 ≤ 64 * block + trailing_zeros w64 word) × (64 * block + trailing_zeros w64 word ≤ 65535) × (trailing_zeros w64 word < 64)
-word_some bits words s l total word block good is fits some =
-    let bit = first_some word fits (omega (arith, some, is)) in
-    let member = block_some bits words s l total word block (trailing_zeros w64 word) good is bit.0 bit.1 in
-    (member.0, member.1, member.2, bit.0)

@@ -1,5 +1,5 @@
 -- A set of names as a list with a place for each name, true where the name is a member, and as the bits of words. Place 0 is nobody's.
-use Rattle.std.specs.Prelude.{ℕ, Bool, false, List, length, slice_index_or, ◌≡◌, ◌*◌, ◌/◌, ◌%◌, ◌<◌, ◌≤◌, Option, None, Some, true, map, nat_eq, slice_index}
+use Rattle.std.specs.Prelude.{ℕ, Bool, false, List, length, slice_index_or, ◌≡◌, ◌/◌, ◌%◌, ◌≤◌, true, map, nat_eq, slice_index}
 use Rattle.std.specs.List.{filter, range_with_len}
 use Rattle.std.specs.Int.{bit_at}
 
@@ -26,8 +26,3 @@ places_of len words = map (is_on words) (range_with_len 0 len)
 -- the bits are those of names only
 abbrev pub AreNames : List ℕ → Type 0
 AreNames words = (v : ℕ) → is_on words v ≡ true → (1 ≤ v) × (v ≤ 65535)
-
--- none of the names in blocks of 64 from this block on is a member, or the first of them that is one
-abbrev pub FirstFrom : List Bool → ℕ → Option ℕ → Type 0
-FirstFrom bits block None = (v : ℕ) → 64 * block ≤ v → is_in bits v ≡ false
-FirstFrom bits block (Some v) = (is_in bits v ≡ true) × ((w : ℕ) → 64 * block ≤ w → w < 64 * (v / 64) → is_in bits w ≡ false)

@@ -14,8 +14,10 @@
 //! ```
 #![tactic(auto)]
 
+mod marks;
 mod scan;
 mod set;
 mod word;
 
+pub use marks::Marks;
 pub use set::EnabledSet;

@@ -26,21 +26,6 @@ pub fn look(words: &[u64], place: usize) -> bool
     bit_is_set(word_at(words, place / 64), place % 64)
 }
 
-/// The place of the first word from this place on that has a bit.
-#[inline(always)]
-pub fn next_word(words: &[u64], from: usize) -> Option<usize>
-    ensures none { IsNone result → (k : ℕ) → from ≤ k → slice_index words.now k ≡ 0 }
-    ensures some { IfSome result (λ place. (from ≤ place) × (place < length words.now) × (0 < slice_index words.now place)) }
-    ensures before { IfSome result (λ place. (k : ℕ) → from ≤ k → k < place → slice_index words.now k ≡ 0) }
-{
-    for place in from..words.len() {
-        if words[place] != 0 {
-            return Some(place);
-        }
-    }
-    None
-}
-
 /// Passes the stretches that have no more members than are to pass. Among the first sixteen there is one that has more, and
 /// the scan stands before it. It stops there, since a network has few such stretches.
 #[inline(always)]

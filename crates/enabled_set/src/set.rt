@@ -1,9 +1,9 @@
 //! The set of names.
 
 ghost use Rattle.std.specs.Prelude.{◌≡◌, ◌+◌, ◌*◌, ◌<◌, ◌≤◌, true, false, length, replicate, slice_get, slice_set, IfOk};
-ghost use Rattle.enabled_set.specs.Members.{is_in, members, FirstFrom};
+ghost use Rattle.enabled_set.specs.Members.{is_in, members};
 
-use crate::scan::{look, next_word, pass_in_8, pass_in_16, pass_words, push_word, word_at};
+use crate::scan::{look, pass_in_8, pass_in_16, pass_words, push_word};
 use crate::word::{bit_is_set, find_bit, with_bit, without_bit};
 use rule_machine::{Node, Want};
 use std::alloc::Global;
@@ -94,18 +94,6 @@ impl EnabledSet {
             push_word(&mut list, &self.words, place)?;
         }
         Ok(list)
-    }
-
-    /// The first member among the names in blocks of 64 from this block on, of which the first is 0. A look at each word up to its
-    /// own.
-    #[inline(always)]
-    pub fn first_from(&self, block: usize) -> Option<Node>
-        ensures { FirstFrom self.now block result }
-    {
-        let block = next_word(&self.words, block)?;
-        let at = word_at(&self.words, block).trailing_zeros() as usize;
-        let name = (64 * block + at) as u16;
-        Node::new(u32::from(name))
     }
 
     /// Makes a name that has a place a member, which it may be already. Four writes at most.

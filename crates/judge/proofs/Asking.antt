@@ -1,7 +1,7 @@
 -- The neighbours that ask for a node become due one after another.
-use Rattle.std.proofs.Common.{◌≡◌, ◌≢◌, ℕ, ◌+◌, ◌<◌, ◌≤◌, Bool, true, false, cond, ◌||◌, ◌&&◌, List, ◌∷◌, length, find, drop, get_or, nat_eq, is_none, Some, is_some, IsTrue, refl, sym, ap, ◌∙◌, eqb-true}
-use Rattle.std.proofs.lemmas.Bool.{and_parts, eq-eqb, ne_eqb, false_from_ne_true, true≢false}
-use Rattle.std.proofs.lemmas.List.{drop_all, drop_more}
+use Rattle.std.proofs.Common.{◌≡◌, ◌≢◌, ℕ, ◌+◌, ◌<◌, ◌≤◌, Bool, true, false, cond, ◌||◌, ◌&&◌, List, ◌∷◌, length, find, drop, get_or, set, nat_eq, is_none, Some, is_some, IsTrue, refl, sym, ap, ◌∙◌, ⊎_elim, eqb-true}
+use Rattle.std.proofs.lemmas.Bool.{and_parts, cases_eq, eq-eqb, ne_eqb, false_from_ne_true, true≢false}
+use Rattle.std.proofs.lemmas.List.{drop_all, drop_more, get_or-set_other, get_or-set_same, length-set}
 use Rattle.enabled_set.specs.Members.{is_in}
 use Rattle.rule_machine.specs.Network.{linked, neighbours, present}
 use Rattle.rule_machine.specs.State.{State, IsState, pointer, points}
@@ -13,6 +13,17 @@ pub record AreAskingBut (s : State) (v : ℕ) (was is : List Bool) (rest : List 
   pub places : length is ≡ length was
   pub others : (x : ℕ) → is_in is x ≡ false → (is_in was x ≡ false) × (x ≢ v)
   pub asking : (x : ℕ) → is_in is x ≡ false → asks s x v ≡ true → is_some (find (λ w. nat_eq w x) rest) ≡ true
+
+-- a set with v
+pub is_marked : (was is : List Bool) (v : ℕ) → v < length was → is ≡ set was v true → IsMarked was is v
+is_marked was is v there put = record {
+  places = ap length put ∙ length-set was v true;
+  others = λ w none.
+      ⊎_elim
+      (λ (same : w ≡ v). absurd (true≢false (sym (ap (is_in is) same ∙ ap (λ l. is_in l v) put ∙ get_or-set_same was v true false there) ∙ none)))
+      (λ (apart : w ≢ v). (sym (ap (λ l. is_in l w) put ∙ get_or-set_other was v w true false apart) ∙ none, apart))
+      (cases_eq w v);
+}
 
 -- another name that asks for v is a neighbour
 asking_linked : (s : State) (x v : ℕ) → x ≢ v → asks s x v ≡ true → IsTrue (linked s.network v x)

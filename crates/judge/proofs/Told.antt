@@ -1,14 +1,12 @@
 -- What is kept of each name: at first, as what depends on a name becomes due, and after a look.
-use Rattle.std.proofs.Common.{◌≡◌, ◌≢◌, ℕ, ◌+◌, ◌<◌, ◌≤◌, Bool, true, false, cond, ◌&&◌, List, length, get_or, set, replicate, None, is_some, IsTrue, leb, sym, ap, subst, ◌∙◌, ⊎_elim, arith}
+use Rattle.std.proofs.Common.{◌≡◌, ◌≢◌, ℕ, ◌+◌, ◌<◌, ◌≤◌, Bool, true, false, cond, ◌&&◌, List, length, get_or, set, None, is_some, IsTrue, leb, sym, ap, subst, ◌∙◌, ⊎_elim, arith}
 use Rattle.std.proofs.lemmas.Bool.{cases_eq, cases_lt, le-leb, lt-leb, and_left, true≢false}
-use Rattle.std.proofs.lemmas.List.{get_or_past, get_or-set_other, get_or-set_same, length-replicate, length-set}
+use Rattle.std.proofs.lemmas.List.{get_or_past, get_or-set_other, get_or-set_same, length-set}
 use Rattle.enabled_set.specs.Members.{is_in}
-use Rattle.enabled_set.proofs.Sums.{everywhere}
 use Rattle.graph_store.specs.declared.ends.End.{End}
 use Rattle.graph_store.specs.Ends.{end_at}
-use Rattle.graph_store.proofs.Present.{first_names_at, first_names_len}
 use Rattle.rule_machine.specs.declared.rules.RuleSet.{RuleSet}
-use Rattle.rule_machine.specs.Network.{first_names, present}
+use Rattle.rule_machine.specs.Network.{present}
 use Rattle.rule_machine.specs.RuleTable.{rule_at}
 use Rattle.rule_machine.specs.Stable.{pair_above}
 use Rattle.rule_machine.specs.State.{State, IsState, partner}
@@ -46,13 +44,6 @@ told_of_none rules s ends each touched due good places touched_places due_places
       (cases_lt s.network.size v))
       (cases_lt v 1);
 }
-
--- at first all are
-pub told_at_first : (rules : RuleSet) (s : State) (ends : List End) → IsState s → AreTold rules s ends (replicate (s.network.size + 1) no_share) (replicate (s.network.size + 1) false) (first_names s.network.size s.network.size)
-told_at_first rules s ends good =
-    let size = s.network.size in
-    told_of_none rules s ends (replicate (size + 1) no_share) (replicate (size + 1) false) (first_names size size) good (length-replicate (size + 1) no_share) (length-replicate (size + 1) false) (first_names_len size size) (everywhere (size + 1) 0 no_share)
-    (λ v low high. first_names_at size size v high ∙ ap (λ b. b && leb v size) (le-leb 1 v low) ∙ le-leb v size high)
 
 -- what depends on a name is due, and it is touched no longer
 pub told_spread : (rules : RuleSet) (s : State) (ends : List End) (each : List Share) (touched touched' due due' : List Bool) (v : ℕ) → touched' ≡ set touched v false → AreAsking s v due due' → AreTold rules s ends each touched due → AreTold rules s ends each touched' due'

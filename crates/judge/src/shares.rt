@@ -2,13 +2,11 @@
 
 ghost use Rattle.std.specs.Prelude.{◌≡◌, All, ℕ, ◌+◌, ◌<◌, ◌≤◌, true, false, length, replicate, slice_set, IfOk, IfSome};
 ghost use Rattle.enabled_set.specs.Members.{is_in};
-ghost use Rattle.rule_machine.specs.Network.{first_names};
 ghost use Rattle.judge.specs.Shares.{no_share, AreSummed, IsLight, IsMarked};
 ghost use Rattle.net_state.specs.Held.{IsElsewhere};
 
 use crate::share::{NO_SHARE, Share};
-use enabled_set::EnabledSet;
-use graph_store::first_names;
+use enabled_set::Marks;
 use rule_machine::{Node, Want};
 use std::alloc::Global;
 
@@ -21,24 +19,26 @@ pub(crate) struct Shares {
     pub(crate) enabled: u32,
     pub(crate) added: u32,
     pub(crate) closing: u32,
-    pub(crate) touched: EnabledSet,
-    pub(crate) due: EnabledSet,
+    pub(crate) touched: Marks,
+    pub(crate) due: Marks,
     ghost few: { length each.items ≤ 65536 },
     ghost light: { All IsLight each.items },
     ghost summed: { AreSummed each.items pairs enabled added closing },
 }
 
 impl Shares {
-    /// Nothing is brought as yet, and all names up to `nodes` are due. Takes some four bytes a name.
+    /// Nothing is brought as yet, and all names up to `nodes` are due. Takes eleven bytes a name.
     pub(crate) fn new(alloc: Global, nodes: u32) -> Result<Shares, Want>
         requires { nodes ≤ 65535 }
         ensures each { IfOk result (λ it. it.each.items ≡ replicate (nodes + 1) no_share) }
         ensures touched { IfOk result (λ it. it.touched ≡ replicate (nodes + 1) false) }
-        ensures due { IfOk result (λ it. it.due ≡ first_names nodes nodes) }
+        ensures places { IfOk result (λ it. length it.due ≡ nodes + 1) }
+        ensures due { IfOk result (λ it. (v : ℕ) → 1 ≤ v → v ≤ nodes → is_in it.due v ≡ true) }
     {
         let each = no_shares(alloc, nodes as usize + 1)?;
-        let touched = EnabledSet::new(alloc, nodes)?;
-        let due = first_names(alloc, nodes, nodes)?;
+        let touched = Marks::new(alloc, nodes)?;
+        let mut due = Marks::new(alloc, nodes)?;
+        due.mark_all();
         Ok(Shares {
             each,
             pairs: 0,
@@ -57,7 +57,7 @@ impl Shares {
         ensures kept { (self.new.each.items ≡ self.old.each.items) × (self.new.due ≡ self.old.due) }
         ensures marked { IsMarked self.old.touched self.new.touched v }
     {
-        mark(&mut self.touched, v);
+        self.touched.mark(v);
     }
 
     /// A node's pointer was written: it and those that the pointer was at and is at are touched.
@@ -79,14 +79,12 @@ impl Shares {
         }
     }
 
-    /// Keeps what a name brings now: it is due no longer.
+    /// Keeps what a name brings now.
     pub(crate) fn put(&mut self, v: Node, share: Share)
         requires share { v < length self.old.each.items }
         requires light { IsLight share }
-        requires due { v < length self.old.due }
         ensures each { self.new.each.items ≡ slice_set self.old.each.items v share }
-        ensures due { self.new.due ≡ slice_set self.old.due v false }
-        ensures touched { self.new.touched ≡ self.old.touched }
+        ensures kept { (self.new.touched ≡ self.old.touched) × (self.new.due ≡ self.old.due) }
     {
         let was = self.each[v.place()];
         self.each[v.place()] = share;
@@ -94,18 +92,15 @@ impl Shares {
         self.enabled = self.enabled - u32::from(was.is_enabled()) + u32::from(share.is_enabled());
         self.added = self.added - u32::from(was.added) + u32::from(share.added);
         self.closing = self.closing - u32::from(was.closes) + u32::from(share.closes);
-        self.due.remove(v);
     }
 
-    /// All names up to `nodes` are due.
-    pub(crate) fn call_all(&mut self, nodes: u32)
-        requires few { nodes ≤ 65535 }
-        requires places { length self.old.due ≡ nodes + 1 }
+    /// All names are due.
+    pub(crate) fn call_all(&mut self)
         ensures kept { (self.new.each.items ≡ self.old.each.items) × (self.new.touched ≡ self.old.touched) }
-        ensures places { length self.new.due ≡ nodes + 1 }
-        ensures due { (v : ℕ) → 1 ≤ v → v ≤ nodes → is_in self.new.due v ≡ true }
+        ensures places { length self.new.due ≡ length self.old.due }
+        ensures due { (v : ℕ) → 1 ≤ v → v < length self.old.due → is_in self.new.due v ≡ true }
     {
-        call_first(&mut self.due, nodes);
+        self.due.mark_all();
     }
 }
 
@@ -115,36 +110,4 @@ fn no_shares(alloc: Global, places: usize) -> Result<Vec<Share>, Want>
     ensures { IfOk result (λ each. each.items ≡ replicate places no_share) }
 {
     vec![in alloc; NO_SHARE; places]
-}
-
-/// The node whose name is the next one.
-#[inline(always)]
-fn node_above(name: u16) -> Node
-    requires { name < 65535 }
-    ensures { result ≡ name + 1 }
-{
-    Node::new(u32::from(name) + 1).unwrap()
-}
-
-/// Makes all names up to `nodes` members.
-fn call_first(set: &mut EnabledSet, nodes: u32)
-    requires few { nodes ≤ 65535 }
-    requires places { length set.old ≡ nodes + 1 }
-    ensures places { length set.new ≡ nodes + 1 }
-    ensures members { (v : ℕ) → 1 ≤ v → v ≤ nodes → is_in set.new v ≡ true }
-{
-    for below in 0..nodes as u16 {
-        mark(set, node_above(below));
-    }
-}
-
-/// Makes a name a member.
-#[inline(always)]
-pub(crate) fn mark(set: &mut EnabledSet, v: Node)
-    requires { v < length set.old }
-    ensures { IsMarked set.old set.new v }
-{
-    if !set.contains(v) {
-        set.insert(v);
-    }
 }

@@ -9,8 +9,7 @@ ghost use Rattle.judge.specs.Shares.{asks, AreAsking, AreFresh, AreTotals};
 
 use crate::Survey;
 use crate::share::{end_at, share_of};
-use crate::shares::mark;
-use enabled_set::EnabledSet;
+use enabled_set::Marks;
 use net_state::NetState;
 use rule_machine::{Act, Node, RuleSet};
 
@@ -38,72 +37,48 @@ fn asks(net: &NetState, v: Node, w: Node) -> bool
 }
 
 /// Marks a name, and the neighbours of its node, if there is one, that ask for it.
-fn mark_around(net: &NetState, v: Node, due: &mut EnabledSet)
+fn mark_around(net: &NetState, v: Node, due: &mut Marks)
     requires within { v ≤ net.now.state.network.size }
     requires places { length due.old ≡ net.now.state.network.size + 1 }
     ensures { AreAsking net.now.state v due.old due.new }
 {
     // By its contract the state is sound.
     let _ = net.registers();
-    mark(due, v);
+    due.mark(v);
     if !net.has(v) {
         return;
     }
     for &w in net.neighbours(v) {
         if asks(net, w, v) {
-            mark(due, w);
+            due.mark(w);
         }
     }
 }
 
 impl Survey {
-    /// Marks as due what depends on a touched name, which is touched no longer then.
-    fn spread_from(&mut self, v: Node)
-        requires { v ≤ self.old.net.state.network.size }
-        ensures kept { (self.new.net.state ≡ self.old.net.state) × (self.new.rules ≡ self.old.rules) }
-        ensures touched { self.new.shares.touched ≡ slice_set self.old.shares.touched v false }
-    {
-        mark_around(&self.net, v, &mut self.shares.due);
-        self.shares.touched.remove(v);
-    }
-
-    /// Marks as due what depends on touched names. A look at each 64 names, at each touched name, and at its neighbours.
+    /// Marks as due what depends on touched names. A look at each of them and at its neighbours.
     fn spread(&mut self)
         ensures kept { (self.new.net.state ≡ self.old.net.state) × (self.new.rules ≡ self.old.rules) }
         ensures none { (v : ℕ) → is_in self.new.shares.touched v ≡ false }
     {
-        let mut block = 0;
-        while let Some(v) = self.shares.touched.first_from(block) {
-            self.spread_from(v);
-            block = v.place() / 64;
+        while let Some(v) = self.shares.touched.take() {
+            mark_around(&self.net, v, &mut self.shares.due);
         }
     }
 
-    /// Looks again at a name: what it brings is known then.
-    fn look_at(&mut self, v: Node)
-        requires { v ≤ self.old.net.state.network.size }
-        ensures kept { (self.new.net.state ≡ self.old.net.state) × (self.new.rules ≡ self.old.rules) }
-        ensures touched { self.new.shares.touched ≡ self.old.shares.touched }
-        ensures due { self.new.shares.due ≡ slice_set self.old.shares.due v false }
-    {
-        let share = share_of(&self.net, self.rules, v);
-        let end = end_at(&self.net, self.rules, v, share.rule);
-        self.shares.put(v, share);
-        if let Some(end) = end {
-            self.net.turn(v, end);
-        }
-    }
-
-    /// Looks again at each due name. A look at each 64 names, and at each due name.
+    /// Looks again at each due name: what it brings is known then.
     fn look(&mut self)
         ensures kept { (self.new.net.state ≡ self.old.net.state) × (self.new.rules ≡ self.old.rules) }
         ensures touched { self.new.shares.touched ≡ self.old.shares.touched }
         ensures none { (v : ℕ) → is_in self.new.shares.due v ≡ false }
     {
-        let mut block = 0;
-        while let Some(v) = self.shares.due.first_from(block) {
-            self.look_at(v);
-            block = v.place() / 64;
+        while let Some(v) = self.shares.due.take() {
+            let share = share_of(&self.net, self.rules, v);
+            let end = end_at(&self.net, self.rules, v, share.rule);
+            self.shares.put(v, share);
+            if let Some(end) = end {
+                self.net.turn(v, end);
+            }
         }
     }
 
@@ -113,7 +88,7 @@ impl Survey {
         ensures kept { self.new.net.state ≡ self.old.net.state }
     {
         if self.rules != rules {
-            self.shares.call_all(self.net.capacity());
+            self.shares.call_all();
             self.rules = rules;
         }
     }

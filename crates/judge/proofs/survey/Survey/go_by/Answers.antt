@@ -1,4 +1,4 @@
-use Rattle.std.proofs.Common.{◌+◌, ◌∙◌, ℕ, List, length, ap, arith}
+use Rattle.std.proofs.Common.{◌∙◌, List, length, ap, arith}
 use Rattle.judge.specs.declared.share.Share.{Share}
 use Rattle.judge.specs.Shares.{share_at}
 use Rattle.judge.proofs.Told.{told_of_none}
@@ -12,7 +12,7 @@ invariant_of-self c =
     record {
       told = told_of_none c.args.rules it.net.state it.net.ends now.each.items now.touched now.due it.told.sound
           (ap length called.kept.0 ∙ it.told.places) (ap length called.kept.1 ∙ it.told.touched_places)
-          (called.places ∙ ap (λ (n : ℕ). n + 1) c.capacity.ensures.size)
+          (called.places ∙ it.told.due_places)
           (ap (λ (l : List Share). share_at l 0) called.kept.0 ∙ it.told.nobody)
-          (λ v low high. called.due v low (omega (arith, high, c.capacity.ensures.size)));
+          (λ v low high. called.due v low (omega (arith, high, it.told.due_places)));
     }

@@ -1,17 +1,43 @@
-use Rattle.std.proofs.Common.{◌∙◌}
-use Rattle.enabled_set.proofs.Blocks.{none_anywhere, none_further, one_fewer}
+use Rattle.std.proofs.Common.{◌∙◌, ◌≤◌, Bool, List, refl, ap, subst, sym, arith}
+use Rattle.std.proofs.lemmas.Bool.{true≢false}
+use Rattle.std.proofs.lemmas.List.{get_or-set_other}
+use Rattle.enabled_set.proofs.Listed.{one_fewer}
+use Rattle.enabled_set.proofs.Members.{inside}
+use Rattle.graph_store.specs.declared.ends.End.TheVariants.{Shut}
+use Rattle.graph_store.specs.Ends.{end_at}
+use Rattle.rule_machine.specs.State.{State}
+use Rattle.judge.specs.Shares.{AreTold}
+use Rattle.judge.proofs.Told.{told_next}
 use Rattle.judge.proofs.survey.Survey.look.Goals as goal
 
+pub loop-v-smaller-in-Some-end : goal.loop-v-smaller-in-Some-end
+loop-v-smaller-in-Some-end c = one_fewer c.loop-v.self.shares.due c.put.new.self.due c.in-Some.v c.in-Some.ensures.some (c.put.ensures.kept.1 ∙ c.in-Some.ensures.taken)
+
 pub loop-v-smaller : goal.loop-v-smaller
-loop-v-smaller c = one_fewer c.loop-v.self.shares.due c.look_at.new.self.shares.due c.in-Some.v c.in-Some.ensures.0 c.look_at.ensures.due
+loop-v-smaller c = one_fewer c.loop-v.self.shares.due c.put.new.self.due c.in-Some.v c.in-Some.ensures.some (c.put.ensures.kept.1 ∙ c.in-Some.ensures.taken)
 
-pub loop-v-preserved : goal.loop-v-preserved
-loop-v-preserved c = record {
-  state = c.look_at.ensures.kept.0 ∙ c.loop-v.invariant.state;
-  rules = c.look_at.ensures.kept.1 ∙ c.loop-v.invariant.rules;
-  touched = c.look_at.ensures.touched ∙ c.loop-v.invariant.touched;
-  none = none_further c.loop-v.self.shares.due c.look_at.new.self.shares.due c.loop-v.block c.in-Some.v c.place-block.result c.place-block.ensures.same c.in-Some.ensures c.look_at.ensures.due c.loop-v.invariant.none;
-}
+pub invariant_of-self-in-Some-end : goal.invariant_of-self-in-Some-end
+invariant_of-self-in-Some-end c =
+    let it = c.loop-v.self in
+    let s = it.net.state in
+    let now = c.put.new.self in
+    let u = c.turn.new.self in
+    let v = c.in-Some.v in
+    let there = inside it.shares.due v c.in-Some.ensures.some in
+    let within : v ≤ s.network.size = omega (arith, there, it.told.due_places) in
+    let told = told_next it.rules s it.net.ends u.ends it.shares.each.items now.each.items it.shares.touched it.shares.due now.due v c.share_of-share.result within c.put.ensures.each (c.put.ensures.kept.1 ∙ c.in-Some.ensures.taken) c.share_of-share.ensures.share (λ here. c.turn.ensures.told ∙ c.in-Some-end.ensures) (λ w apart. ap (λ l. end_at l w) c.turn.ensures.ends ∙ get_or-set_other it.net.ends v w c.in-Some-end.end Shut apart) it.told in
+    record {
+      told = subst (λ (t : State). AreTold it.rules t u.ends now.each.items now.touched now.due) (sym c.turn.ensures.state)
+          (subst (λ (l : List Bool). AreTold it.rules s u.ends now.each.items l now.due) (sym c.put.ensures.kept.0) told);
+    }
 
-pub returns-clause-none : goal.returns-clause-none
-returns-clause-none c = none_anywhere c.loop-v.self.shares.due c.loop-v.block c.in_default.ensures c.loop-v.invariant.none
+pub invariant_of-self-in_default-end : goal.invariant_of-self-in_default-end
+invariant_of-self-in_default-end c =
+    let it = c.loop-v.self in
+    let s = it.net.state in
+    let now = c.put.new.self in
+    let v = c.in-Some.v in
+    let there = inside it.shares.due v c.in-Some.ensures.some in
+    let within : v ≤ s.network.size = omega (arith, there, it.told.due_places) in
+    let told = told_next it.rules s it.net.ends it.net.ends it.shares.each.items now.each.items it.shares.touched it.shares.due now.due v c.share_of-share.result within c.put.ensures.each (c.put.ensures.kept.1 ∙ c.in-Some.ensures.taken) c.share_of-share.ensures.share (λ here. absurd (true≢false (sym here ∙ c.in_default-end.ensures))) (λ w apart. refl) it.told in
+    record { told = subst (λ (l : List Bool). AreTold it.rules s it.net.ends now.each.items l now.due) (sym c.put.ensures.kept.0) told }

@@ -1,5 +1,5 @@
-use Rattle.std.proofs.Common.{◌≡◌, ◌*◌, ◌<◌, ℕ, false, length}
-use Rattle.enabled_set.specs.Members.{is_in, members}
+use Rattle.std.proofs.Common.{◌≡◌, length}
+use Rattle.enabled_set.specs.Members.{members}
 use Rattle.judge.proofs.survey.Survey.look.Given as goal
 
 abbrev pub invariant-loop-v : goal.invariant-loop-v
@@ -7,7 +7,6 @@ invariant-loop-v l = record {
   state : l.self.net.state ≡ l.initial.self.net.state;
   rules : l.self.rules ≡ l.initial.self.rules;
   touched : l.self.shares.touched ≡ l.initial.self.shares.touched;
-  none : (v : ℕ) → v < 64 * l.block → is_in l.self.shares.due v ≡ false;
 }
 
 abbrev pub decreases-loop-v : goal.decreases-loop-v

@@ -1,19 +1,21 @@
-use Rattle.std.proofs.Common.{◌+◌, ◌∙◌, ℕ, Bool, List, false, replicate, sym, ap, subst}
+use Rattle.std.proofs.Common.{◌+◌, ◌∙◌, ℕ, List, length, ap, arith}
+use Rattle.std.proofs.lemmas.List.{length-replicate}
+use Rattle.enabled_set.proofs.Sums.{everywhere}
 use Rattle.rule_machine.specs.declared.rules.RuleSet.TheVariants.{Hh}
-use Rattle.rule_machine.specs.Network.{first_names}
 use Rattle.judge.specs.declared.share.Share.{Share}
-use Rattle.judge.specs.Shares.{no_share, AreTold}
-use Rattle.judge.proofs.Told.{told_at_first}
+use Rattle.judge.specs.Shares.{no_share, share_at}
+use Rattle.judge.proofs.Told.{told_of_none}
 use Rattle.judge.proofs.survey.Survey.new.Goals as goal
 
 pub invariant_of-result : goal.invariant_of-result
 invariant_of-result c =
-    let s = c.args.net.state in
-    let ends = c.args.net.ends in
+    let it = c.in_ok-shares.shares in
+    let made = c.in_ok-shares.ensures in
     let size = c.capacity.ensures.size in
-    let it = c.in_ok-shares.ensures in
+    let places = ap (λ (n : ℕ). n + 1) size in
     record {
-      told = subst (λ (l : List Share). AreTold Hh s ends l c.in_ok-shares.shares.touched c.in_ok-shares.shares.due) (sym (it.each ∙ ap (λ (n : ℕ). replicate (n + 1) no_share) size))
-          (subst (λ (l : List Bool). AreTold Hh s ends (replicate (s.network.size + 1) no_share) l c.in_ok-shares.shares.due) (sym (it.touched ∙ ap (λ (n : ℕ). replicate (n + 1) false) size))
-          (subst (λ (l : List Bool). AreTold Hh s ends (replicate (s.network.size + 1) no_share) (replicate (s.network.size + 1) false) l) (sym (it.due ∙ ap (λ (n : ℕ). first_names n n) size)) (told_at_first Hh s ends c.capacity.ensures.sound)));
+      told = told_of_none Hh c.args.net.state c.args.net.ends it.each.items it.touched it.due c.capacity.ensures.sound
+          (ap length made.each ∙ length-replicate _ no_share ∙ places) (ap length made.touched ∙ length-replicate _ _ ∙ places) (made.places ∙ places)
+          (ap (λ (l : List Share). share_at l 0) made.each ∙ everywhere _ 0 no_share)
+          (λ v low high. made.due v low (omega (arith, high, size)));
     }

@@ -1,12 +1,11 @@
-use Rattle.std.proofs.Common.{◌≡◌, ◌*◌, ◌<◌, ℕ, false, length}
-use Rattle.enabled_set.specs.Members.{is_in, members}
+use Rattle.std.proofs.Common.{◌≡◌, length}
+use Rattle.enabled_set.specs.Members.{members}
 use Rattle.judge.proofs.survey.Survey.spread.Given as goal
 
 abbrev pub invariant-loop-v : goal.invariant-loop-v
 invariant-loop-v l = record {
   state : l.self.net.state ≡ l.initial.self.net.state;
   rules : l.self.rules ≡ l.initial.self.rules;
-  none : (v : ℕ) → v < 64 * l.block → is_in l.self.shares.touched v ≡ false;
 }
 
 abbrev pub decreases-loop-v : goal.decreases-loop-v

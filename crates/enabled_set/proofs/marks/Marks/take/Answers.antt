@@ -1,0 +1,47 @@
+use Rattle.std.proofs.Common.{◌≡◌, ◌+◌, ◌-◌, ◌∙◌, ℕ, false, set, sym, ap, subst, arith}
+use Rattle.std.proofs.lemmas.List.{get_or_read}
+use Rattle.enabled_set.specs.Members.{is_in}
+use Rattle.enabled_set.specs.Listed.{AreListed}
+use Rattle.enabled_set.proofs.Listed.{all_listed, last_marked, listed_less, none_marked}
+use Rattle.enabled_set.proofs.Members.{inside}
+use Rattle.enabled_set.proofs.marks.Marks.take.Goals as goal
+
+pub returns-then-self-eq0-clause-none : goal.returns-then-self-eq0-clause-none
+returns-then-self-eq0-clause-none c = λ none v.
+    ap (λ l. is_in l v) (sym c.self.view_is) ∙ none_marked c.self.inside.is_marked.items c.self.inside.names.items c.self.inside.count v c.if-self-eq0.true c.self.invariant
+
+pub index-v-requires : goal.index-v-requires
+index-v-requires c =
+    let most = all_listed c.self.inside.is_marked.items c.self.inside.names.items c.self.inside.count c.self.invariant in
+    omega (arith, most, c.if-self-eq0.false, c.self.invariant.room)
+
+pub index_mut-requires : goal.index_mut-requires
+index_mut-requires c =
+    let bits = c.self.inside.is_marked.items in
+    let names = c.self.inside.names.items in
+    let count = c.self.inside.count in
+    let some : count ≡ count - 1 + 1 = omega (arith, c.if-self-eq0.false) in
+    let most = all_listed bits names count c.self.invariant in
+    let at = get_or_read names (count - 1) c.index-v.result.now (omega (arith, most, c.if-self-eq0.false, c.self.invariant.room)) c.index-v.ensures 0 in
+    let there = inside bits c.index-v.result.now (last_marked bits names count (count - 1) c.index-v.result.now some at c.self.invariant) in
+    omega (arith, there, c.place.ensures.same)
+
+pub invariant_of-self : goal.invariant_of-self
+invariant_of-self c =
+    let bits = c.self.inside.is_marked.items in
+    let names = c.self.inside.names.items in
+    let count = c.self.inside.count in
+    let some : count ≡ count - 1 + 1 = omega (arith, c.if-self-eq0.false) in
+    let most = all_listed bits names count c.self.invariant in
+    let at = get_or_read names (count - 1) c.index-v.result.now (omega (arith, most, c.if-self-eq0.false, c.self.invariant.room)) c.index-v.ensures 0 in
+    subst (λ (v : ℕ). AreListed (set bits v false) names (count - 1)) (sym c.place.ensures.same) (listed_less bits names count (count - 1) c.index-v.result.now some at c.self.invariant)
+
+pub returns-clause-some : goal.returns-clause-some
+returns-clause-some c =
+    let bits = c.self.inside.is_marked.items in
+    let names = c.self.inside.names.items in
+    let count = c.self.inside.count in
+    let some : count ≡ count - 1 + 1 = omega (arith, c.if-self-eq0.false) in
+    let most = all_listed bits names count c.self.invariant in
+    let at = get_or_read names (count - 1) c.index-v.result.now (omega (arith, most, c.if-self-eq0.false, c.self.invariant.room)) c.index-v.ensures 0 in
+    ap (λ l. is_in l c.index-v.result.now) (sym c.self.view_is) ∙ last_marked bits names count (count - 1) c.index-v.result.now some at c.self.invariant

@@ -1,0 +1,13 @@
+-- Names that are marked, each of which stands once in a list.
+use Rattle.std.specs.Prelude.{◌≡◌, ◌≢◌, ℕ, ◌<◌, ◌≤◌, Bool, true, List, length, slice_index}
+use Rattle.enabled_set.specs.Members.{is_in}
+use Rattle.enabled_set.specs.Counts.{tally}
+
+-- so many places of the list, the first ones, have the marked names, each once
+pub record AreListed (bits : List Bool) (names : List ℕ) (count : ℕ) : Type 0 where
+  pub few : length bits ≤ 65536
+  pub some : 1 ≤ length bits
+  pub room : length names ≡ length bits
+  pub counted : tally (is_in bits) (length bits) ≡ count
+  pub marked : (i : ℕ) → i < count → is_in bits (slice_index names i) ≡ true
+  pub once : (i j : ℕ) → i < j → j < count → slice_index names i ≢ slice_index names j

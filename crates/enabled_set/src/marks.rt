@@ -1,0 +1,98 @@
+//! Names that are marked until they are taken.
+
+ghost use Rattle.std.specs.Prelude.{◌≡◌, ◌+◌, ◌<◌, ◌≤◌, ℕ, true, false, length, replicate, slice_set, IfOk, IfSome, IsNone};
+ghost use Rattle.enabled_set.specs.Members.{is_in};
+
+use rule_machine::{Node, Want};
+use std::alloc::Global;
+use std::marker::Model;
+
+/// Names that are marked until they are taken one by one, seen in contracts as a list with a place for each name, `true` where the
+/// name is marked. Place 0 is nobody's. The marked names stand in the first places of a list, in the order in which they came, so
+/// that taking all costs what was marked and not a look at each name.
+#[derive(Drop)]
+pub struct Marks {
+    is_marked: Vec<bool>,
+    names: Vec<Node>,
+    count: usize,
+}
+
+impl Model for Marks {
+    ghost use Rattle.std.specs.Prelude.{Bool, List};
+    ghost use Rattle.enabled_set.specs.Listed.{AreListed};
+
+    ghost Value = { List Bool };
+
+    ghost view = { λ m. m.is_marked.items };
+
+    ghost invariant = { λ m. AreListed m.is_marked.items m.names.items m.count };
+}
+
+/// The node whose name is the next one.
+#[inline(always)]
+fn node_above(name: u16) -> Node
+    requires { name < 65535 }
+    ensures { result ≡ name + 1 }
+{
+    Node::new(u32::from(name) + 1).unwrap()
+}
+
+impl Marks {
+    /// No mark on any of the names 1 to `nodes`, at most 65,535; takes three bytes a name.
+    pub fn new(alloc: Global, nodes: u32) -> Result<Marks, Want>
+        requires { nodes ≤ 65535 }
+        ensures { IfOk result (λ marks. marks ≡ replicate (nodes + 1) false) }
+    {
+        let places = nodes as usize + 1;
+        let is_marked = vec![in alloc; false; places]?;
+        let names = vec![in alloc; node_above(0); places]?;
+        Ok(Marks {
+            is_marked,
+            names,
+            count: 0,
+        })
+    }
+
+    /// Marks a name that has a place, which may be marked already. Two writes at most.
+    #[inline(always)]
+    pub fn mark(&mut self, v: Node)
+        requires { v < length self.old }
+        ensures { self.new ≡ slice_set self.old v true }
+    {
+        let place = v.place();
+        if self.is_marked[place] {
+            return;
+        }
+        self.is_marked[place] = true;
+        self.names[self.count] = v;
+        self.count += 1;
+    }
+
+    /// Marks all names. A look at each.
+    pub fn mark_all(&mut self)
+        ensures places { length self.new ≡ length self.old }
+        ensures marked { (v : ℕ) → 1 ≤ v → v < length self.old → is_in self.new v ≡ true }
+    {
+        let last = self.is_marked.len() - 1;
+        for below in 0..last as u16 {
+            self.mark(node_above(below));
+        }
+    }
+
+    /// Takes the mark from a name and gives that name, the one that was marked last; `None` where none is. Two looks and a write.
+    #[inline(always)]
+    pub fn take(&mut self) -> Option<Node>
+        ensures none { IsNone result → (v : ℕ) → is_in self.old v ≡ false }
+        ensures kept { IsNone result → self.new ≡ self.old }
+        ensures some { IfSome result (λ v. is_in self.old v ≡ true) }
+        ensures taken { IfSome result (λ v. self.new ≡ slice_set self.old v false) }
+    {
+        if self.count == 0 {
+            return None;
+        }
+        self.count -= 1;
+        let v = self.names[self.count];
+        self.is_marked[v.place()] = false;
+        Some(v)
+    }
+}
