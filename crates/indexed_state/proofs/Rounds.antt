@@ -10,7 +10,7 @@ use Rattle.charge_laws.specs.Counting.{count_agree}
 use Rattle.graph_store.specs.declared.ends.End.{End}
 use Rattle.graph_store.specs.declared.ends.End.TheVariants.{Shut, Courted, Free}
 use Rattle.net_state.proofs.Rounds.{IsSameRound, round_seated, same_suitors, same_marriage}
-use Rattle.indexed_state.specs.declared.shares.Share.{Share}
+use Rattle.indexed_state.specs.declared.share.Share.{Share}
 use Rattle.indexed_state.specs.Shares.{closing_at, IsToldAt, AreTold}
 
 -- what a rule set's closing pointers and additions depend on

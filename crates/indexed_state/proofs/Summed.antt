@@ -22,7 +22,7 @@ use Rattle.charge_laws.specs.EdgesByNodes.{count_filter}
 use Rattle.charge_laws.specs.Members.{in_names, names_without_repeats}
 use Rattle.suitor_index.specs.Tallies.{IsLoneSuitor}
 use Rattle.charge_laws.specs.EdgesByEnds.{edges_agree}
-use Rattle.indexed_state.specs.declared.shares.Share.{Share}
+use Rattle.indexed_state.specs.declared.share.Share.{Share}
 use Rattle.indexed_state.specs.Shares.{answered_by, closing_at, end_of, is_lower_end, no_share, share_at}
 use Rattle.indexed_state.proofs.Named.{names_sum, pairs_scanned}
 

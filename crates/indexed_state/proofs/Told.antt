@@ -1,16 +1,15 @@
 -- What is kept of each name, at first and after a look.
-use Rattle.std.proofs.Common.{◌≡◌, ◌≢◌, ℕ, ◌+◌, ◌<◌, ◌≤◌, Bool, false, cond, ◌&&◌, List, length, get_or, set, replicate, None, Some, is_some, option_and_then, IsTrue, leb, sym, ap, subst, ◌∙◌, ⊎_elim, arith}
+use Rattle.std.proofs.Common.{◌≡◌, ◌≢◌, ℕ, ◌+◌, ◌<◌, ◌≤◌, Bool, true, false, cond, ◌&&◌, List, length, get_or, set, replicate, None, Some, is_some, option_and_then, IsTrue, leb, sym, ap, subst, ◌∙◌, ⊎_elim, arith}
 use Rattle.std.proofs.lemmas.Bool.{cases_eq, cases_lt, le-leb, lt-leb, and_left, true≢false}
 use Rattle.std.proofs.lemmas.List.{get_or-set_other, get_or-set_same, length-replicate, length-set}
 use Rattle.enabled_set.specs.Members.{is_in}
 use Rattle.enabled_set.proofs.Sums.{everywhere}
 use Rattle.graph_store.specs.declared.ends.End.{End}
 use Rattle.graph_store.specs.Ends.{end_at}
-use Rattle.graph_store.proofs.Present.{first_names_at, first_names_len}
 use Rattle.rule_machine.specs.Network.{first_names, present}
 use Rattle.rule_machine.specs.State.{State, points, pointer, opening_with}
 use Rattle.rule_machine.specs.Stable.{pair_above}
-use Rattle.indexed_state.specs.declared.shares.Share.{Share}
+use Rattle.indexed_state.specs.declared.share.Share.{Share}
 use Rattle.indexed_state.specs.Shares.{closing_at, end_of, is_lower_end, no_share, node_part, share_at, IsToldAt, AreTold}
 
 -- of a name without a node and without a pointer nothing is to be told
@@ -23,21 +22,21 @@ told_nowhere courted_close closes adds s ends each lower v absent null nothing n
 }
 
 -- at first all names are stale
-pub told_at_first : (courted_close : Bool) (closes : State → ℕ → Bool) (adds : State → ℕ → ℕ) (size count : ℕ) (ends : List End) → AreTold courted_close closes adds (opening_with size count) ends (replicate (size + 1) no_share) (replicate (size + 1) false) (first_names size size)
-told_at_first courted_close closes adds size count ends = record {
+pub told_at_first : (courted_close : Bool) (closes : State → ℕ → Bool) (adds : State → ℕ → ℕ) (size count : ℕ) (ends : List End) (stale : List Bool) → length stale ≡ size + 1 → ((v : ℕ) → 1 ≤ v → v ≤ size → is_in stale v ≡ true) → AreTold courted_close closes adds (opening_with size count) ends (replicate (size + 1) no_share) (replicate (size + 1) false) stale
+told_at_first courted_close closes adds size count ends stale places all = record {
   places = length-replicate (size + 1) no_share;
   lower_places = length-replicate (size + 1) false;
-  stale_places = first_names_len size size;
+  stale_places = places;
   told = λ v fresh.
       told_nowhere courted_close closes adds (opening_with size count) ends (replicate (size + 1) no_share) (replicate (size + 1) false) v (absent v fresh) (everywhere (size + 1) v None) (everywhere (size + 1) v no_share) (everywhere (size + 1) v false);
 }
   where
-    absent : (v : ℕ) → is_in (first_names size size) v ≡ false → present (opening_with size count).network v ≡ false
+    absent : (v : ℕ) → is_in stale v ≡ false → present (opening_with size count).network v ≡ false
     absent v fresh =
         ⊎_elim (λ (none : v < 1). and_left (leb 1 v) _ (lt-leb 1 v none))
         (λ (some : 1 ≤ v).
         ⊎_elim (λ (past : size < v). ap (λ b. leb 1 v && (b && get_or (first_names size count) v false)) (lt-leb v size past) ∙ ap (λ b. b && false) (le-leb 1 v some))
-        (λ (within : v ≤ size). absurd (true≢false (sym (first_names_at size size v within ∙ ap (λ b. b && leb v size) (le-leb 1 v some) ∙ le-leb v size within) ∙ fresh)))
+        (λ (within : v ≤ size). absurd (true≢false (sym (all v some within) ∙ fresh)))
         (cases_lt size v))
         (cases_lt v 1)
 

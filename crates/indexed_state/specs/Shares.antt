@@ -9,7 +9,7 @@ use Rattle.rule_machine.specs.State.{State, Registers, IsState, is_at, points, i
 use Rattle.rule_machine.specs.Stable.{pair_above}
 use Rattle.rule_machine.specs.Charge.{is_courted}
 use Rattle.net_state.specs.Held.{Held}
-use Rattle.indexed_state.specs.declared.shares.Share.{Share}
+use Rattle.indexed_state.specs.declared.share.Share.{Share}
 
 -- the node that v points at, if it points back, where these are the pointers
 abbrev pub answered_in : List (Option ℕ) → ℕ → Option ℕ

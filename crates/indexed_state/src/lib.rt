@@ -13,6 +13,7 @@
 //! ```
 #![tactic(auto)]
 
+mod share;
 mod shares;
 mod state;
 mod totals;
@@ -20,5 +21,5 @@ mod view;
 
 pub use state::IndexedState;
 pub use suitor_index::Change;
-pub use totals::{Totals, end_of, is_unanswered};
+pub use totals::Totals;
 pub use view::NodeView;

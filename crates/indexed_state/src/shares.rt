@@ -1,30 +1,15 @@
 //! What each node brings to the totals of its network, as it was when the node was last looked at.
 
-ghost use Rattle.std.specs.Prelude.{◌≡◌, ◌≢◌, All, ℕ, ◌+◌, ◌<◌, ◌≤◌, false, length, replicate, slice_set, IfOk, IfSome};
+ghost use Rattle.std.specs.Prelude.{◌≡◌, ◌≢◌, All, ℕ, ◌+◌, ◌<◌, ◌≤◌, true, false, length, replicate, slice_set, IfOk, IfSome};
 ghost use Rattle.enabled_set.specs.Members.{is_in};
-ghost use Rattle.rule_machine.specs.Network.{first_names};
 ghost use Rattle.rule_machine.specs.State.{is_at};
 ghost use Rattle.indexed_state.specs.Shares.{no_share, AreSummed, IsLight};
 ghost use Rattle.net_state.specs.Held.{IsElsewhere};
 
-use enabled_set::EnabledSet;
-use graph_store::first_names;
+use crate::share::{NO_SHARE, Share};
+use enabled_set::{EnabledSet, Marks};
 use rule_machine::{Node, Want};
 use std::alloc::Global;
-
-/// What a node brings to the totals of its network: what it adds to the charge beside its edges, and how many pointers at it close the
-/// edge that they are on, which its ends leave open.
-#[derive(Clone, Copy)]
-pub(crate) struct Share {
-    pub(crate) added: u16,
-    pub(crate) closing: u16,
-}
-
-/// What is brought where there is no node.
-pub(crate) const NO_SHARE: Share = Share {
-    added: 0,
-    closing: 0,
-};
 
 /// What each node brought when it was last looked at, with the sums, and whether it was the lower end of a mutual pair. The nodes of
 /// stale names may bring something else now.
@@ -34,23 +19,25 @@ pub(crate) struct Shares {
     pub(crate) added: u32,
     pub(crate) closing: u32,
     pub(crate) lower_ends: EnabledSet,
-    pub(crate) stale: EnabledSet,
+    pub(crate) stale: Marks,
     ghost few: { length each.items ≤ 65536 },
     ghost light: { All IsLight each.items },
     ghost summed: { AreSummed each.items added closing },
 }
 
 impl Shares {
-    /// Nothing is brought as yet, and all names up to `nodes` are stale. Takes four bytes and two bits a name.
+    /// Nothing is brought as yet, and all names up to `nodes` are stale. Takes seven bytes and a bit a name.
     pub(crate) fn new(alloc: Global, nodes: u32) -> Result<Shares, Want>
         requires { nodes ≤ 65535 }
         ensures each { IfOk result (λ it. it.each.items ≡ replicate (nodes + 1) no_share) }
         ensures lower { IfOk result (λ it. it.lower_ends ≡ replicate (nodes + 1) false) }
-        ensures stale { IfOk result (λ it. it.stale ≡ first_names nodes nodes) }
+        ensures places { IfOk result (λ it. length it.stale ≡ nodes + 1) }
+        ensures stale { IfOk result (λ it. (v : ℕ) → 1 ≤ v → v ≤ nodes → is_in it.stale v ≡ true) }
     {
         let each = vec![in alloc; NO_SHARE; nodes as usize + 1]?;
         let lower_ends = EnabledSet::new(alloc, nodes)?;
-        let stale = first_names(alloc, nodes, nodes)?;
+        let mut stale = Marks::new(alloc, nodes)?;
+        stale.mark_all();
         Ok(Shares {
             each,
             added: 0,
@@ -68,9 +55,7 @@ impl Shares {
         ensures places { length self.new.stale ≡ length self.old.stale }
         ensures marked { (w : ℕ) → is_in self.new.stale w ≡ false → (is_in self.old.stale w ≡ false) × (w ≢ v) }
     {
-        if !self.stale.contains(v) {
-            self.stale.insert(v);
-        }
+        self.stale.mark(v);
     }
 
     /// The name that a pointer is at, if any, is stale from now on.
@@ -101,21 +86,19 @@ impl Shares {
         self.mark_target(is);
     }
 
-    /// Keeps what a name brings now: it is stale no longer.
+    /// Keeps what a name brings now.
     pub(crate) fn put(&mut self, v: Node, share: Share, is_lower_end: bool)
         requires share { v < length self.old.each.items }
         requires lower { v < length self.old.lower_ends }
-        requires stale { v < length self.old.stale }
         ensures each { self.new.each.items ≡ slice_set self.old.each.items v share }
         ensures lower { self.new.lower_ends ≡ slice_set self.old.lower_ends v is_lower_end }
-        ensures stale { self.new.stale ≡ slice_set self.old.stale v false }
+        ensures stale { self.new.stale ≡ self.old.stale }
     {
         let was = self.each[v.place()];
         self.each[v.place()] = share;
         self.added = self.added - u32::from(was.added) + u32::from(share.added);
         self.closing = self.closing - u32::from(was.closing) + u32::from(share.closing);
         put_member(&mut self.lower_ends, v, is_lower_end);
-        self.stale.remove(v);
     }
 }
 

@@ -1,5 +1,5 @@
 use Rattle.std.proofs.Common.{get_or, ap, ◌∙◌, arith}
-use Rattle.indexed_state.specs.declared.shares.Share.{Share}
+use Rattle.indexed_state.specs.declared.share.Share.{Share}
 use Rattle.enabled_set.proofs.Sums.{sum_fits}
 use Rattle.indexed_state.proofs.shares.Shares.put.Goals as goal
 

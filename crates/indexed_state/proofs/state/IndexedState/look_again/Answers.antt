@@ -1,24 +1,55 @@
-use Rattle.std.proofs.Common.{◌∙◌, None, Some, subst}
-use Rattle.enabled_set.specs.Members.{FirstFrom}
-use Rattle.enabled_set.proofs.Blocks.{none_anywhere, none_further, one_fewer}
-use Rattle.indexed_state.specs.Indexed.{Indexed}
+use Rattle.std.proofs.Common.{◌∙◌, ◌≤◌, cond, refl, ap, subst, sym, arith}
+use Rattle.std.proofs.lemmas.Bool.{true≢false}
+use Rattle.std.proofs.lemmas.List.{get_or-set_other}
+use Rattle.enabled_set.proofs.Listed.{one_fewer}
+use Rattle.enabled_set.proofs.Members.{inside}
+use Rattle.graph_store.specs.declared.ends.End.TheVariants.{Shut}
+use Rattle.graph_store.specs.Ends.{end_at}
+use Rattle.rule_machine.specs.State.{State, IsState}
+use Rattle.indexed_state.specs.Shares.{AreTold}
+use Rattle.indexed_state.proofs.Told.{told_next}
 use Rattle.indexed_state.proofs.state.IndexedState.look_again.Goals as goal
 
+pub loop-v-smaller-in-Some-end : goal.loop-v-smaller-in-Some-end
+loop-v-smaller-in-Some-end g c = one_fewer c.loop-v.self-inside.shares.stale c.put.new.self.stale c.in-Some.v c.in-Some.ensures.some (c.put.ensures.stale ∙ c.in-Some.ensures.taken)
+
 pub loop-v-smaller : goal.loop-v-smaller
-loop-v-smaller g c =
-    let first = subst (λ (n : Indexed). FirstFrom n.stale c.loop-v.block (Some c.in-Some.v)) c.self.view_is c.in-Some.ensures in
-    one_fewer c.loop-v.self.stale c.look_at.new.self.stale c.in-Some.v first.0 c.look_at.ensures.stale
+loop-v-smaller g c = one_fewer c.loop-v.self-inside.shares.stale c.put.new.self.stale c.in-Some.v c.in-Some.ensures.some (c.put.ensures.stale ∙ c.in-Some.ensures.taken)
+
+pub loop-v-preserved-in-Some-end : goal.loop-v-preserved-in-Some-end
+loop-v-preserved-in-Some-end g c =
+    let it = c.loop-v.self-inside in
+    let kept = c.loop-v.invariant in
+    let s : State = it.index.state in
+    let now = c.put.new.self in
+    let v = c.in-Some.v in
+    let there = inside it.shares.stale v c.in-Some.ensures.some in
+    let within : v ≤ s.network.size = omega (arith, there, kept.told.1.stale_places) in
+    let told = told_next g.R.Rules.COURTED_CLOSE g.R.Rules.closes g.R.Rules.adds s it.index.ends c.turn.new.self.ends it.shares.each.items now.each.items it.shares.lower_ends now.lower_ends it.shares.stale now.stale v c.share_of-share.result c.is_lower_end-is_lower_end.result within c.put.ensures.each c.put.ensures.lower (c.put.ensures.stale ∙ c.in-Some.ensures.taken) c.share_of-share.ensures.added c.share_of-share.ensures.closing c.is_lower_end-is_lower_end.ensures (λ here. c.turn.ensures.told ∙ c.in-Some-end.ensures) (λ w apart. ap (λ l. end_at l w) c.turn.ensures.ends ∙ get_or-set_other it.index.ends v w c.in-Some-end.end Shut apart) kept.told.1 in
+    let same = sym c.turn.ensures.state in
+    record {
+      told = (
+        subst IsState same kept.told.0,
+        subst (λ (t : State). AreTold g.R.Rules.COURTED_CLOSE g.R.Rules.closes g.R.Rules.adds t c.turn.new.self.ends now.each.items now.lower_ends now.stale) same told,
+      );
+      state = c.turn.ensures.state ∙ kept.state;
+      room = c.turn.ensures.room ∙ kept.room;
+    }
 
 pub loop-v-preserved : goal.loop-v-preserved
 loop-v-preserved g c =
-    let first = subst (λ (n : Indexed). FirstFrom n.stale c.loop-v.block (Some c.in-Some.v)) c.self.view_is c.in-Some.ensures in
+    let it = c.loop-v.self-inside in
+    let kept = c.loop-v.invariant in
+    let s : State = it.index.state in
+    let now = c.put.new.self in
+    let v = c.in-Some.v in
+    let there = inside it.shares.stale v c.in-Some.ensures.some in
+    let within : v ≤ s.network.size = omega (arith, there, kept.told.1.stale_places) in
     record {
-      state = c.look_at.ensures.state ∙ c.loop-v.invariant.state;
-      room = c.look_at.ensures.room ∙ c.loop-v.invariant.room;
-      told = none_further c.loop-v.self.stale c.look_at.new.self.stale c.loop-v.block c.in-Some.v c.place-block.result c.place-block.ensures.same first c.look_at.ensures.stale c.loop-v.invariant.told;
+      told = (
+        kept.told.0,
+        told_next g.R.Rules.COURTED_CLOSE g.R.Rules.closes g.R.Rules.adds s it.index.ends it.index.ends it.shares.each.items now.each.items it.shares.lower_ends now.lower_ends it.shares.stale now.stale v c.share_of-share.result c.is_lower_end-is_lower_end.result within c.put.ensures.each c.put.ensures.lower (c.put.ensures.stale ∙ c.in-Some.ensures.taken) c.share_of-share.ensures.added c.share_of-share.ensures.closing c.is_lower_end-is_lower_end.ensures (λ here. absurd (true≢false (sym here ∙ c.in_default-end.ensures))) (λ w apart. refl) kept.told.1,
+      );
+      state = kept.state;
+      room = kept.room;
     }
-
-pub returns-clause-told : goal.returns-clause-told
-returns-clause-told g c =
-    let none = subst (λ (n : Indexed). FirstFrom n.stale c.loop-v.block None) c.self.view_is c.in_default.ensures in
-    none_anywhere c.loop-v.self.stale c.loop-v.block none c.loop-v.invariant.told

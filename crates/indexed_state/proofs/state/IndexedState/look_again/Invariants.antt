@@ -1,13 +1,14 @@
-use Rattle.std.proofs.Common.{◌≡◌, ◌*◌, ◌<◌, ℕ, false, length}
-use Rattle.enabled_set.specs.Members.{is_in, members}
+use Rattle.std.proofs.Common.{◌≡◌, length}
+use Rattle.enabled_set.specs.Members.{members}
+use Rattle.indexed_state.specs.Shares.{IsTold}
 use Rattle.indexed_state.proofs.state.IndexedState.look_again.Given as goal
 
 abbrev pub invariant-loop-v : goal.invariant-loop-v
 invariant-loop-v g l = record {
-  state : l.self.state ≡ l.initial.self.state;
-  room : l.self.room ≡ l.initial.self.room;
-  told : (v : ℕ) → v < 64 * l.block → is_in l.self.stale v ≡ false;
+  told : IsTold g.R.Rules.COURTED_CLOSE g.R.Rules.closes g.R.Rules.adds l.self-inside.index l.self-inside.shares.each.items l.self-inside.shares.lower_ends l.self-inside.shares.stale;
+  state : l.self-inside.index.state ≡ l.fn.self.state;
+  room : l.self-inside.index.room ≡ l.fn.self.room;
 }
 
 abbrev pub decreases-loop-v : goal.decreases-loop-v
-decreases-loop-v g l = length (members l.self.stale)
+decreases-loop-v g l = length (members l.self-inside.shares.stale)

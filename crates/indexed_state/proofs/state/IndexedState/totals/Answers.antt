@@ -6,7 +6,7 @@ use Rattle.rule_machine.specs.Network.{names, edge_list}
 use Rattle.rule_machine.specs.Stable.{mutual_pairs}
 use Rattle.rule_machine.specs.State.{State}
 use Rattle.rule_set.specs.Standing.{ends_open}
-use Rattle.indexed_state.specs.declared.shares.Share.{Share}
+use Rattle.indexed_state.specs.declared.share.Share.{Share}
 use Rattle.indexed_state.specs.Indexed.{Indexed}
 use Rattle.indexed_state.specs.Shares.{node_part}
 use Rattle.indexed_state.proofs.Summed.{closing_summed, lower_count, node_sum, turned_open}

@@ -1,7 +1,7 @@
 use Rattle.std.proofs.Common.{◌+◌, Bool, false, List, replicate, sym, subst}
 use Rattle.rule_machine.specs.State.{State, IsState, opening_with}
 use Rattle.machine_laws.specs.Keeps.{opening_is_state}
-use Rattle.indexed_state.specs.declared.shares.Share.{Share}
+use Rattle.indexed_state.specs.declared.share.Share.{Share}
 use Rattle.indexed_state.specs.Shares.{no_share, AreTold}
 use Rattle.indexed_state.proofs.Told.{told_at_first}
 use Rattle.indexed_state.proofs.state.IndexedState.with_present.Goals as goal
@@ -15,6 +15,5 @@ invariant_of-result g c =
       subst (λ (t : State). AreTold g.R.Rules.COURTED_CLOSE g.R.Rules.closes g.R.Rules.adds t ends shares.each.items shares.lower_ends shares.stale) (sym is)
           (subst (λ (l : List Share). AreTold g.R.Rules.COURTED_CLOSE g.R.Rules.closes g.R.Rules.adds (opening_with c.args.nodes c.args.present) ends l shares.lower_ends shares.stale) (sym c.in-Ok.ensures.each)
           (subst (λ (l : List Bool). AreTold g.R.Rules.COURTED_CLOSE g.R.Rules.closes g.R.Rules.adds (opening_with c.args.nodes c.args.present) ends (replicate (c.args.nodes + 1) no_share) l shares.stale) (sym c.in-Ok.ensures.lower)
-          (subst (λ (l : List Bool). AreTold g.R.Rules.COURTED_CLOSE g.R.Rules.closes g.R.Rules.adds (opening_with c.args.nodes c.args.present) ends (replicate (c.args.nodes + 1) no_share) (replicate (c.args.nodes + 1) false) l) (sym c.in-Ok.ensures.stale)
-          (told_at_first g.R.Rules.COURTED_CLOSE g.R.Rules.closes g.R.Rules.adds c.args.nodes c.args.present ends)))),
+          (told_at_first g.R.Rules.COURTED_CLOSE g.R.Rules.closes g.R.Rules.adds c.args.nodes c.args.present ends shares.stale c.in-Ok.ensures.places c.in-Ok.ensures.stale))),
     )

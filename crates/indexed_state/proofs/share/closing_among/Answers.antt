@@ -3,11 +3,10 @@ use Rattle.std.proofs.lemmas.List.{take_all}
 use Rattle.rule_machine.specs.Network.{neighbours}
 use Rattle.rule_machine.specs.State.{points}
 use Rattle.net_state.specs.Held.{Held}
-use Rattle.indexed_state.specs.Indexed.{Indexed}
 use Rattle.enabled_set.proofs.Sums.{one_byte}
 use Rattle.indexed_state.proofs.Named.{few_neighbours}
 use Rattle.indexed_state.proofs.Summed.{counted_more, few_bytes}
-use Rattle.indexed_state.proofs.state.IndexedState.closing_among.Goals as goal
+use Rattle.indexed_state.proofs.share.closing_among.Goals as goal
 
 pub overflow_add-closing : goal.overflow_add-closing
 overflow_add-closing g c =
@@ -21,7 +20,7 @@ overflow_add-closing g c =
 pub loop-w-preserved : goal.loop-w-preserved
 loop-w-preserved g c =
     let v = c.args.node.now.node in
-    let p : ℕ → Bool = λ x. points c.args.self.now.state.registers x v && g.R.Rules.closes c.args.self.now.state x in
+    let p : ℕ → Bool = λ x. points c.args.index.now.state.registers x v && g.R.Rules.closes c.args.index.now.state x in
     let so_far = c.loop-w.invariant.few in
     record {
       count = counted_more p c.neighbours-w-items.result.now c.loop-w.w-index c.w-item.result c.loop-w.closing c.from-closing.result c.loop-w-test.true c.w-item.is c.loop-w.invariant.count (c.from-closing.ensures ∙ one_byte c.closes_edge.result ∙ ap (λ (b : Bool). cond {A = ℕ} b 1 0) c.closes_edge.ensures);
@@ -32,5 +31,5 @@ pub returns : goal.returns
 returns g c =
     let v = c.args.node.now.node in
     c.loop-w.invariant.count
-    ∙ ap (count_by (λ x. points c.args.self.now.state.registers x v && g.R.Rules.closes c.args.self.now.state x))
-    (take_all c.loop-w.w-index c.neighbours-w-items.result.now (omega arith) ∙ c.neighbours-w-items.ensures.all ∙ ap (λ (h : Held). neighbours h.state.network v) c.net.ensures.value ∙ ap (λ (n : Indexed). neighbours n.state.network v) c.self.view_is)
+    ∙ ap (count_by (λ x. points c.args.index.now.state.registers x v && g.R.Rules.closes c.args.index.now.state x))
+    (take_all c.loop-w.w-index c.neighbours-w-items.result.now (omega arith) ∙ c.neighbours-w-items.ensures.all ∙ ap (λ (h : Held). neighbours h.state.network v) c.net.ensures.value)

@@ -1,11 +1,11 @@
 use Rattle.std.proofs.Common.{◌≡◌, ◌≤◌}
-use Rattle.indexed_state.proofs.state.IndexedState.closing_among.Given as goal
+use Rattle.indexed_state.proofs.share.closing_among.Given as goal
 use Rattle.std.proofs.Common.{◌&&◌, count_by, take}
 use Rattle.rule_machine.specs.State.{points}
 
 -- what was counted so far
 abbrev pub invariant-loop-w : goal.invariant-loop-w
 invariant-loop-w g l = record {
-  count : l.closing ≡ count_by (λ v. points l.self.state.registers v l.node.node && g.R.Rules.closes l.self.state v) (take l.w-index l.w-items);
+  count : l.closing ≡ count_by (λ v. points l.index.state.registers v l.node.node && g.R.Rules.closes l.index.state v) (take l.w-index l.w-items);
   few : l.closing ≤ l.w-index;
 }
