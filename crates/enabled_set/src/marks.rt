@@ -53,6 +53,14 @@ impl Marks {
         })
     }
 
+    /// Whether a name is marked; `false` for one that has no place. One look.
+    #[inline(always)]
+    pub fn contains(&self, v: Node) -> bool
+        ensures { result ≡ is_in self.now v }
+    {
+        self.is_marked.get(v.place()).copied().unwrap_or(false)
+    }
+
     /// Marks a name that has a place, which may be marked already. Two writes at most.
     #[inline(always)]
     pub fn mark(&mut self, v: Node)
@@ -94,5 +102,12 @@ impl Marks {
         let v = self.names[self.count];
         self.is_marked[v.place()] = false;
         Some(v)
+    }
+    /// Takes all marks. Two looks and a write at each.
+    pub fn clear(&mut self)
+        ensures clear { (v : ℕ) → is_in self.new v ≡ false }
+        ensures places { length self.new ≡ length self.old }
+    {
+        while let Some(_) = self.take() {}
     }
 }

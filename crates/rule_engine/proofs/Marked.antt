@@ -125,15 +125,6 @@ pub verdicts_placed : (t : RuleTable) (s : State) (items : List Item) (verdicts 
 verdicts_placed t s items verdicts places is count =
     subst (All (λ (d : Verdict). HasPlace places d.node d.outcome)) (sym is) (verdicts_placed_from t s 0 items places count)
 
--- each of the items has a mark, and so a place
-pub marked_place : {X : Type 0} (node : X → ℕ) (xs : List X) (i : ℕ) (x : X) (marks : List Bool) → i < length xs → x ≡ get_or xs i x → AreMarks (is_among node xs) marks → node x < length marks
-marked_place node xs i x marks within is marked =
-    marked_within marks (node x) (marked (node x) ∙ list_any_at (λ y. nat_eq (node y) (node x)) xs i x within (eq-eqb (node (get_or xs i x)) (node x) (ap node (sym is))))
-
--- marks of what is left alone
-abbrev pub AreLeft : {X : Type 0} → (X → ℕ) → List X → List Bool → Type 0
-AreLeft node xs marks = (v : ℕ) → is_in marks v ≡ true → is_among node xs v ≡ true
-
 -- where every place is false, no node is marked
 pub blank_clear : (places : ℕ) (marks : List Bool) → marks ≡ replicate places false → AreClear marks
 blank_clear places marks is v = ap (λ l. is_in l v) is ∙ blank_at places v false

@@ -31,7 +31,7 @@ use crate::listing::{enabled_rules, mutual_edges};
 use crate::look::{look_after_write, look_at, look_at_target};
 use crate::moves::{Gathered, step_reply};
 use crate::taking::{refused_size, take_verdicts};
-use enabled_set::EnabledSet;
+use enabled_set::{EnabledSet, Marks};
 use graph_store::{EdgeStore, GraphFault};
 use indexed_state::IndexedState;
 use net_state::{Disturb, NetState, leave, make_moves, unlink};
@@ -48,7 +48,7 @@ pub(crate) struct Engine<R: Rules> {
     alloc: Global,
     state: IndexedState<R>,
     enabled: EnabledSet,
-    chosen: EnabledSet,
+    chosen: Marks,
 }
 
 impl<R: Rules> Model for Engine<R> {
@@ -81,7 +81,7 @@ impl<R: Rules> Engine<R> {
         let Ok(enabled) = EnabledSet::new(alloc, nodes) else {
             return Err(GraphFault::Memory);
         };
-        let Ok(chosen) = EnabledSet::new(alloc, nodes) else {
+        let Ok(chosen) = Marks::new(alloc, nodes) else {
             return Err(GraphFault::Memory);
         };
         Ok(Engine {

@@ -1,17 +1,17 @@
 //! Guards, outcomes and refusals at the nodes of a network.
 
-ghost use Rattle.std.specs.Prelude.{◌≡◌, ◌+◌, ◌≤◌, [], ◌∷◌, None, length, take, IsTrue};
+ghost use Rattle.std.specs.Prelude.{◌≡◌, ◌+◌, [], ◌∷◌, None, length, IsTrue};
 ghost use Rattle.rule_machine.specs.Network.{present};
 ghost use Rattle.rule_machine.specs.Refuse.{items_refusal};
 ghost use Rattle.rule_machine.specs.Least.{outcome_of};
 ghost use Rattle.rule_engine.specs.Kept.{guard_at};
 ghost use Rattle.rule_engine.specs.Choosing.{IsToldOf, moves_by};
-ghost use Rattle.rule_engine.specs.Marks.{AreClear, AreMarks, is_named};
+ghost use Rattle.rule_engine.specs.Marks.{AreClear};
 
 use crate::climbing::{ascend, take_ascending};
 use crate::moves::Gathered;
-use crate::taking::{Taken, accepted, take_outcome};
-use enabled_set::EnabledSet;
+use crate::taking::{accepted, take_outcome};
+use enabled_set::Marks;
 use indexed_state::IndexedState;
 use rule_machine::{Act, Item, Listing, Moved, Node, Outcome, Refusal, Reply};
 use rule_set::Rules;
@@ -56,46 +56,27 @@ pub(crate) fn outcome<R: Rules>(state: &IndexedState<R>, item: Item) -> Outcome
     }
 }
 
-/// Takes items, in order, up to the first that is refused.
+/// Takes items, in order, up to the first that is refused, and says why that one is.
 fn take_up_to_refusal<R: Rules>(
     state: &IndexedState<R>,
-    chosen: &mut EnabledSet,
+    chosen: &mut Marks,
     gathered: &mut Gathered,
     items: &[Item],
-) -> Taken
+) -> Option<Refusal>
     requires places { length chosen.old ≡ state.now.state.network.size + 1 }
     requires clear { AreClear chosen.old }
     requires none { gathered.old.moves.items ≡ [] }
-    ensures count { result.count ≤ length items.now }
-    ensures refusal { result.refusal ≡ items_refusal R.table state.now.state [] items.now }
-    ensures moves { result.refusal ≡ None → IsTrue gathered.new.whole → gathered.new.moves.items ≡ moves_by R.table state.now.state items.now }
-    ensures marks { AreMarks (is_named (take result.count items.now)) chosen.new }
-    ensures len { length chosen.new ≡ length chosen.old }
-{
-    for (place, item) in items.iter().enumerate() {
-        let outcome = outcome(state, *item);
-        if let Some(refusal) = take_outcome(chosen, gathered, item.node, outcome) {
-            return Taken {
-                count: place,
-                refusal: Some(refusal),
-            };
-        }
-    }
-    Taken {
-        count: items.len(),
-        refusal: None,
-    }
-}
-
-/// Clears the marks of items.
-fn unmark_items(chosen: &mut EnabledSet, items: &[Item])
-    requires { AreMarks (is_named items.now) chosen.old }
-    ensures clear { AreClear chosen.new }
+    ensures refusal { result ≡ items_refusal R.table state.now.state [] items.now }
+    ensures moves { result ≡ None → IsTrue gathered.new.whole → gathered.new.moves.items ≡ moves_by R.table state.now.state items.now }
     ensures len { length chosen.new ≡ length chosen.old }
 {
     for item in items {
-        chosen.remove(item.node);
+        let outcome = outcome(state, *item);
+        if let Some(refusal) = take_outcome(chosen, gathered, item.node, outcome) {
+            return Some(refusal);
+        }
     }
+    None
 }
 
 /// Gathers the moves of items where none is refused, else says why the first is that is. A look at each item up to that
@@ -103,7 +84,7 @@ fn unmark_items(chosen: &mut EnabledSet, items: &[Item])
 /// nodes are marked, and the marks are clear again at the end.
 pub(crate) fn take_items<R: Rules>(
     state: &IndexedState<R>,
-    chosen: &mut EnabledSet,
+    chosen: &mut Marks,
     gathered: &mut Gathered,
     items: &[Item],
 ) -> Option<Refusal>
@@ -117,9 +98,9 @@ pub(crate) fn take_items<R: Rules>(
     if ascend(items) {
         return take_ascending(state, gathered, items);
     }
-    let taken = take_up_to_refusal(state, chosen, gathered, items);
-    unmark_items(chosen, &items[..taken.count]);
-    taken.refusal
+    let refusal = take_up_to_refusal(state, chosen, gathered, items);
+    chosen.clear();
+    refusal
 }
 
 /// Puts the reply to a step of one item, which needs no mark, where the caller keeps it: a look at the item, and no memory.

@@ -1,22 +1,15 @@
 //! Refusals that outcomes bring, and the moves of a choice that has none. A set of marks tells which nodes the choice has
 //! named so far.
 
-ghost use Rattle.std.specs.Prelude.{◌≡◌, ◌≤◌, ◌++◌, [], All, None, Some, MatchResult, IsTrue, if◌then◌else◌, is_some, length, option_to_list, slice_set, take, true};
+ghost use Rattle.std.specs.Prelude.{◌≡◌, ◌++◌, [], All, None, Some, MatchResult, IsTrue, if◌then◌else◌, is_some, length, option_to_list, slice_set, true};
 ghost use Rattle.enabled_set.specs.Members.{is_in};
 ghost use Rattle.rule_machine.specs.Least.{move_in};
 ghost use Rattle.rule_engine.specs.Choosing.{moves_of, refused_by, size_refusal, verdicts_refusal};
-ghost use Rattle.rule_engine.specs.Marks.{AreClear, AreMarks, HasPlace, is_judged};
+ghost use Rattle.rule_engine.specs.Marks.{AreClear, HasPlace};
 
 use crate::moves::Gathered;
-use enabled_set::EnabledSet;
+use enabled_set::Marks;
 use rule_machine::{Moved, Node, Outcome, Refusal, Verdict};
-
-/// How many items were taken, which are those before the first that is refused, and why that one is.
-#[derive(Clone, Copy)]
-pub(crate) struct Taken {
-    pub(crate) count: usize,
-    pub(crate) refusal: Option<Refusal>,
-}
 
 /// Why a choice of so many items is refused, whatever they are.
 pub(crate) fn refused_size(central: bool, count: usize) -> Option<Refusal>
@@ -47,7 +40,7 @@ pub(crate) fn accepted(outcome: Outcome, twice: bool) -> Result<Moved, Refusal>
 /// Takes an item with this outcome behind those whose nodes are marked: marks its node and adds its move, where there was
 /// memory so far; or says why it is refused.
 pub(crate) fn take_outcome(
-    chosen: &mut EnabledSet,
+    chosen: &mut Marks,
     gathered: &mut Gathered,
     node: Node,
     outcome: Outcome,
@@ -60,7 +53,7 @@ pub(crate) fn take_outcome(
 {
     match accepted(outcome, chosen.contains(node)) {
         Ok(moved) => {
-            chosen.insert(node);
+            chosen.mark(node);
             gathered.add(moved);
             None
         }
@@ -68,50 +61,31 @@ pub(crate) fn take_outcome(
     }
 }
 
-/// Takes the items that verdicts are of, in order, up to the first that is refused.
+/// Takes the items that verdicts are of, in order, up to the first that is refused, and says why that one is.
 fn take_up_to_refusal(
-    chosen: &mut EnabledSet,
+    chosen: &mut Marks,
     gathered: &mut Gathered,
     verdicts: &[Verdict],
-) -> Taken
+) -> Option<Refusal>
     requires clear { AreClear chosen.old }
     requires placed { All (λ d. HasPlace (length chosen.old) d.node d.outcome) verdicts.now }
     requires none { gathered.old.moves.items ≡ [] }
-    ensures count { result.count ≤ length verdicts.now }
-    ensures refusal { result.refusal ≡ verdicts_refusal [] verdicts.now }
-    ensures moves { result.refusal ≡ None → IsTrue gathered.new.whole → gathered.new.moves.items ≡ moves_of verdicts.now }
-    ensures marks { AreMarks (is_judged (take result.count verdicts.now)) chosen.new }
-    ensures len { length chosen.new ≡ length chosen.old }
-{
-    for (place, verdict) in verdicts.iter().enumerate() {
-        if let Some(refusal) = take_outcome(chosen, gathered, verdict.node, verdict.outcome) {
-            return Taken {
-                count: place,
-                refusal: Some(refusal),
-            };
-        }
-    }
-    Taken {
-        count: verdicts.len(),
-        refusal: None,
-    }
-}
-
-/// Clears the marks of verdicts.
-fn unmark_verdicts(chosen: &mut EnabledSet, verdicts: &[Verdict])
-    requires { AreMarks (is_judged verdicts.now) chosen.old }
-    ensures clear { AreClear chosen.new }
+    ensures refusal { result ≡ verdicts_refusal [] verdicts.now }
+    ensures moves { result ≡ None → IsTrue gathered.new.whole → gathered.new.moves.items ≡ moves_of verdicts.now }
     ensures len { length chosen.new ≡ length chosen.old }
 {
     for verdict in verdicts {
-        chosen.remove(verdict.node);
+        if let Some(refusal) = take_outcome(chosen, gathered, verdict.node, verdict.outcome) {
+            return Some(refusal);
+        }
     }
+    None
 }
 
 /// Gathers the moves of verdicts where none is refused, else says why the first is that is: one look at each up to that
 /// one. The marks are clear again at the end.
 pub(crate) fn take_verdicts(
-    chosen: &mut EnabledSet,
+    chosen: &mut Marks,
     gathered: &mut Gathered,
     verdicts: &[Verdict],
 ) -> Option<Refusal>
@@ -122,7 +96,7 @@ pub(crate) fn take_verdicts(
     ensures moves { result ≡ None → IsTrue gathered.new.whole → gathered.new.moves.items ≡ moves_of verdicts.now }
     ensures kept { chosen.new ≡ chosen.old }
 {
-    let taken = take_up_to_refusal(chosen, gathered, verdicts);
-    unmark_verdicts(chosen, &verdicts[..taken.count]);
-    taken.refusal
+    let refusal = take_up_to_refusal(chosen, gathered, verdicts);
+    chosen.clear();
+    refusal
 }

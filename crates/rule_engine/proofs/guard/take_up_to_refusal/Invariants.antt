@@ -4,13 +4,13 @@ use Rattle.rule_engine.specs.Choosing.{moves_by}
 use Rattle.rule_engine.specs.Marks.{AreMarks, is_named}
 use Rattle.rule_engine.proofs.guard.take_up_to_refusal.Given as goal
 
-abbrev pub invariant-loop-place : goal.invariant-loop-place
-invariant-loop-place g l =
+abbrev pub invariant-loop-item : goal.invariant-loop-item
+invariant-loop-item g l =
     let t = g.R.Rules.table in
     let s = l.state.state in
     record {
-      rest : items_refusal t s (take l.place l.items) (drop l.place l.items) ≡ items_refusal t s [] l.items;
-      moves : IsTrue l.gathered.whole → l.gathered.moves.items ≡ moves_by t s (take l.place l.items);
-      marks : AreMarks (is_named (take l.place l.items)) l.chosen;
+      rest : items_refusal t s (take l.item-index l.items) (drop l.item-index l.items) ≡ items_refusal t s [] l.items;
+      moves : IsTrue l.gathered.whole → l.gathered.moves.items ≡ moves_by t s (take l.item-index l.items);
+      marks : AreMarks (is_named (take l.item-index l.items)) l.chosen;
       len : length l.chosen ≡ length l.fn.chosen;
     }

@@ -3,4 +3,4 @@ use Rattle.rule_engine.proofs.Marked.{clear_same}
 use Rattle.rule_engine.proofs.taking.take_verdicts.Goals as goal
 
 pub returns-clause-kept : goal.returns-clause-kept
-returns-clause-kept c = clear_same c.args.chosen.now c.unmark_verdicts.new.chosen (c.unmark_verdicts.ensures.len ∙ c.take_up_to_refusal-taken.ensures.len) c.requires.clear c.unmark_verdicts.ensures.clear
+returns-clause-kept c = clear_same c.args.chosen.now c.clear.new.self (c.clear.ensures.places ∙ c.take_up_to_refusal-refusal.ensures.len) c.requires.clear c.clear.ensures.clear
