@@ -1,14 +1,13 @@
 -- The bits of a word.
-use Rattle.std.proofs.Common.{◌≡◌, ℕ, zero, suc, ◌+◌, ◌-◌, ◌*◌, ◌/◌, ◌%◌, ◌^◌, ◌<◌, ◌≤◌, Bool, true, false, sym, ap, ◌∙◌, arith, ⊎_elim}
+use Rattle.std.proofs.Common.{◌≡◌, ℕ, zero, suc, ◌+◌, ◌-◌, ◌*◌, ◌/◌, ◌%◌, ◌^◌, ◌<◌, Bool, true, false, sym, ap, ◌∙◌, arith}
 use Rattle.std.specs.Prelude.{◌≢◌, bit_and, bit_or, count_ones, nat_eq}
 use Rattle.std.specs.Int.{bit_at, w64, trailing_zeros}
-use Rattle.std.proofs.lemmas.Bool.{cases_Bool, cases_lt}
 use Rattle.std.proofs.Math.Nat.{mod-lt}
 use Rattle.std.proofs.lemmas.Nat.{shr-shr, mod-pow-add, ones_cat, one_shl, and_mask, pow_pos, ones_le_self, zero_from_ones}
 use Rattle.std.proofs.lemmas.Nat.Bits.{shr_and_one, bit_at-zero, bit_at_set_same, bit_at_set_other, bit_at_clear_same, bit_at_clear_other, bit_at-trailing_zeros, bit_at-lt}
 use Rattle.enabled_set.specs.Members.{has_bit}
 use Rattle.enabled_set.specs.Counts.{tally}
-use Rattle.enabled_set.proofs.Counting.{tally_none, tally_true, tally_false, tally_shift}
+use Rattle.enabled_set.proofs.Counting.{tally_none, tally_more, tally_shift}
 use Rattle.enabled_set.proofs.Steps.{tally_on, tally_off}
 
 pub has_one : (word i : ℕ) → bit_at word i ≡ 1 → has_bit word i ≡ true
@@ -64,10 +63,8 @@ ones_of_0 = omega (arith, ones_le_self 0)
 ones_of_1 : count_ones 1 ≡ 1
 ones_of_1 =
     let most = ones_le_self 1 in
-    ⊎_elim
-    (λ (lt : count_ones 1 < 1). let none : 1 ≡ 0 = zero_from_ones 1 (omega arith) in absurd (omega arith))
-    (λ (le : 1 ≤ count_ones 1). omega arith)
-    (cases_lt (count_ones 1) 1)
+    let some = zero_from_ones 1 in
+    grind arith
 
 -- the ones below a place are as many as the tally says
 ones_low : (word n : ℕ) → count_ones (word % 2 ^ n) ≡ tally (has_bit word) n
@@ -79,18 +76,10 @@ ones_low word (suc n) =
     let cat = ones_cat n (bit_at word n) (word % 2 ^ n) (mod-lt word {m = 2 ^ n} (pow_pos n)) in
     let whole : count_ones (word % 2 ^ suc n) ≡ count_ones (bit_at word n) + count_ones (word % 2 ^ n) = ap (λ m. count_ones (word % 2 ^ m)) e ∙ ap count_ones split ∙ cat in
     let two = bit_at-lt word n in
-    ⊎_elim
-    (λ (lt : bit_at word n < 1).
-    let none : bit_at word n ≡ 0 = omega arith in
-    let t = tally_false (has_bit word) n (has_none word n none) in
-    let z : count_ones (bit_at word n) ≡ 0 = ap count_ones none ∙ ones_of_0 in
-    omega arith)
-    (λ (le : 1 ≤ bit_at word n).
-    let one : bit_at word n ≡ 1 = omega arith in
-    let t = tally_true (has_bit word) n (has_one word n one) in
-    let z : count_ones (bit_at word n) ≡ 1 = ap count_ones one ∙ ones_of_1 in
-    omega arith)
-    (cases_lt (bit_at word n) 1)
+    let more = tally_more (has_bit word) n in
+    let none = has_none word n in
+    let one = has_one word n in
+    grind (arith, ones_of_0, ones_of_1)
 
 -- the ones of a word
 pub ones_of : (word : ℕ) → word < 18446744073709551616 → count_ones word ≡ tally (has_bit word) 64
@@ -106,7 +95,6 @@ ones_there word at width less =
 -- where one place has more members than are to pass, it has one and none is to pass
 pub last : (p : ℕ → Bool) (n left : ℕ) → tally p n + left < tally p (n + 1) → (p n ≡ true) × (left ≡ 0)
 last p n left less =
-    ⊎_elim
-    (λ (h : p n ≡ true). let t = tally_on p n h in (h, omega arith))
-    (λ (h : p n ≡ false). let t = tally_off p n h in absurd (omega arith))
-    (cases_Bool (p n))
+    let on = tally_on p n in
+    let off = tally_off p n in
+    (grind arith, grind arith)

@@ -1,24 +1,11 @@
 -- Passing over halves: a sum that rises, of which twice a width is looked at.
-use Rattle.std.proofs.Common.{◌≡◌, ℕ, ◌+◌, ◌*◌, ◌<◌, ◌≤◌, ap, arith, ⊎_elim}
-use Rattle.std.proofs.lemmas.Bool.{cases_lt}
+use Rattle.std.proofs.Common.{◌≡◌, ℕ, ◌+◌, ◌*◌, ◌<◌, ◌≤◌, arith}
 
 -- the half that is left has more than are to pass, and no less has been passed than before
 pub halved : (f : ℕ → ℕ) (place left width members to_place to_left : ℕ) → f (place + width) ≡ f place + members → f place + left < f (place + 2 * width) → (left < members → to_place ≡ place) → (left < members → to_left ≡ left) → (members ≤ left → to_place ≡ place + width) → (members ≤ left → to_left + members ≡ left) → (f to_place + to_left ≡ f place + left) × (f to_place + to_left < f (to_place + width)) × (to_place ≤ place + width)
 halved f place left width members to_place to_left sum enough stays_place stays_left moves_place moves_left =
-    ⊎_elim
-    (λ (lt : left < members).
-    let a = stays_place lt in
-    let b = stays_left lt in
-    let at = ap f a in
-    let end = ap (λ n. f (n + width)) a in
-    (omega arith, omega arith, omega arith))
-    (λ (le : members ≤ left).
-    let a = moves_place le in
-    let b = moves_left le in
-    let at = ap f a in
-    let end = ap f (let e : to_place + width ≡ place + 2 * width = omega arith in e) in
-    (omega arith, omega arith, omega arith))
-    (cases_lt left members)
+    let twice : place + width + width ≡ place + 2 * width = omega arith in
+    (grind arith, grind arith, grind arith)
 
 -- Where a scan stands that has summed the stretches up to one: behind those that it has passed, and before one that has more than are to pass.
 pub record IsPassed (f : ℕ → ℕ) (from at place left sum to_pass : ℕ) : Type 0 where
@@ -38,30 +25,13 @@ passed_more f from at place left sum to_pass members to_place to_left was more s
     let passed = was.passed in
     let low = was.low in
     let high = was.high in
-    ⊎_elim
-    (λ (lt : to_pass < sum + members).
-    let a = stays_place lt in
-    let b = stays_left lt in
-    let same = ap f a in
-    let next = ap (λ n. f (n + 1)) a in
-    let stands : f from + to_pass < f (place + 1) = ⊎_elim
-    (λ (before : place < at). was.stands before)
-    (λ (here : at ≤ place). let e = ap (λ n. f (n + 1)) (let e : place ≡ at = omega arith in e) in omega arith)
-    (cases_lt place at) in
-    record { summed = omega arith; passed = omega arith; low = omega arith; high = omega arith; stands = λ h. omega arith })
-    (λ (le : sum + members ≤ to_pass).
-    let a = moves_place le in
-    let b = moves_left le in
-    let same = ap f a in
-    record { summed = omega arith; passed = omega arith; low = omega arith; high = omega arith; stands = λ h. absurd (omega arith) })
-    (cases_lt to_pass (sum + members))
+    let stands = was.stands in
+    record { summed = omega arith; passed = grind arith; low = grind arith; high = grind arith; stands = λ h. grind arith }
 
 -- all but the last
 pub passed_all : (f : ℕ → ℕ) (from at place left sum to_pass : ℕ) → IsPassed f from at place left sum to_pass → f from + to_pass < f (at + 1) → f place + left < f (place + 1)
 passed_all f from at place left sum to_pass was enough =
     let passed = was.passed in
     let high = was.high in
-    ⊎_elim
-    (λ (before : place < at). let stands = was.stands before in omega arith)
-    (λ (here : at ≤ place). let e = ap (λ n. f (n + 1)) (let e : place ≡ at = omega arith in e) in omega arith)
-    (cases_lt place at)
+    let stands = was.stands in
+    grind arith

@@ -6,13 +6,13 @@ use Rattle.enabled_set.specs.Members.{is_in, members}
 use Rattle.enabled_set.specs.Counts.{tally}
 use Rattle.enabled_set.specs.Listed.{AreListed}
 use Rattle.enabled_set.proofs.Changes.{tally_nobody, total_few, total_some}
-use Rattle.enabled_set.proofs.Counting.{past_above, tally_put}
+use Rattle.enabled_set.proofs.Counting.{tally_put}
 use Rattle.enabled_set.proofs.Members.{inside, length-members}
 use Rattle.enabled_set.proofs.Stretches.{on_here, same_there}
 
 -- no name is marked
-pub listed_none : (n : ℕ) (bits : List Bool) (names : List ℕ) → 1 ≤ n → n ≤ 65536 → bits ≡ replicate n false → length names ≡ n → AreListed bits names 0
-listed_none n bits names some few empty room =
+pub none_listed : (n : ℕ) (bits : List Bool) (names : List ℕ) → 1 ≤ n → n ≤ 65536 → bits ≡ replicate n false → length names ≡ n → AreListed bits names 0
+none_listed n bits names some few empty room =
     let len = ap length empty ∙ length-replicate n false in
     record {
       few = omega (arith, len);
@@ -26,28 +26,26 @@ listed_none n bits names some few empty room =
 -- where one is not, there is room for it
 pub room_left : (bits : List Bool) (names : List ℕ) (count v : ℕ) → AreListed bits names count → v < length bits → is_in bits v ≡ false → count < length bits
 room_left bits names count v listed there off =
-    let put = tally_put (is_in bits) (is_in (set bits v true)) v off (on_here bits v true there) (same_there bits v true) (length bits) in
-    let one = past_above v (length bits) there in
+    let put = tally_put (is_in bits) (is_in (set bits v true)) v off (on_here bits v true there) (length bits) (λ k low apart. same_there bits v true k apart) in
     let most = total_few (set bits v true) in
     let len = length-set bits v true in
     let same = ap (tally (is_in (set bits v true))) len in
-    omega (arith, put, one, most, len, same, listed.counted)
+    omega (arith, put, there, most, len, same, listed.counted)
 
 -- there are no more than places
 pub all_listed : (bits : List Bool) (names : List ℕ) (count : ℕ) → AreListed bits names count → count ≤ length bits
 all_listed bits names count listed = let most = total_few bits in omega (arith, most, listed.counted)
 
 -- one name more
-pub listed_more : (bits : List Bool) (names : List ℕ) (count v : ℕ) → AreListed bits names count → v < length bits → is_in bits v ≡ false → AreListed (set bits v true) (set names count v) (count + 1)
-listed_more bits names count v listed there off =
+pub one_listed_more : (bits : List Bool) (names : List ℕ) (count v : ℕ) → AreListed bits names count → v < length bits → is_in bits v ≡ false → AreListed (set bits v true) (set names count v) (count + 1)
+one_listed_more bits names count v listed there off =
     let len = length-set bits v true in
-    let put = tally_put (is_in bits) (is_in (set bits v true)) v off (on_here bits v true there) (same_there bits v true) (length bits) in
-    let one = past_above v (length bits) there in
+    let put = tally_put (is_in bits) (is_in (set bits v true)) v off (on_here bits v true there) (length bits) (λ k low apart. same_there bits v true k apart) in
     record {
       few = omega (arith, len, listed.few);
       some = omega (arith, len, listed.some);
       room = omega (arith, len, length-set names count v, listed.room);
-      counted = ap (tally (is_in (set bits v true))) len ∙ omega (arith, put, one, listed.counted);
+      counted = ap (tally (is_in (set bits v true))) len ∙ omega (arith, put, there, listed.counted);
       marked = λ i below.
           ⊎_elim
           (λ (low : i < count). ap (is_in (set bits v true)) (kept i low) ∙ same_there bits v true (get_or names i 0) (apart i low) ∙ listed.marked i low)
@@ -75,18 +73,17 @@ pub last_marked : (bits : List Bool) (names : List ℕ) (count n v : ℕ) → co
 last_marked bits names count n v more at listed = ap (is_in bits) at ∙ listed.marked n (omega (arith, more))
 
 -- one name less
-pub listed_less : (bits : List Bool) (names : List ℕ) (count n v : ℕ) → count ≡ n + 1 → v ≡ get_or names n 0 → AreListed bits names count → AreListed (set bits v false) names n
-listed_less bits names count n v more at listed =
+pub one_listed_less : (bits : List Bool) (names : List ℕ) (count n v : ℕ) → count ≡ n + 1 → v ≡ get_or names n 0 → AreListed bits names count → AreListed (set bits v false) names n
+one_listed_less bits names count n v more at listed =
     let on = last_marked bits names count n v more at listed in
     let there = inside bits v on in
     let len = length-set bits v false in
-    let put = tally_put (is_in (set bits v false)) (is_in bits) v (on_here bits v false there) on (λ k apart. sym (same_there bits v false k apart)) (length bits) in
-    let one = past_above v (length bits) there in
+    let put = tally_put (is_in (set bits v false)) (is_in bits) v (on_here bits v false there) on (length bits) (λ k low apart. sym (same_there bits v false k apart)) in
     record {
       few = omega (arith, len, listed.few);
       some = omega (arith, len, listed.some);
       room = omega (arith, len, listed.room);
-      counted = ap (tally (is_in (set bits v false))) len ∙ omega (arith, put, one, listed.counted, more);
+      counted = ap (tally (is_in (set bits v false))) len ∙ omega (arith, put, there, listed.counted, more);
       marked = λ i low. same_there bits v false (get_or names i 0) (λ e. listed.once i n low (omega (arith, more)) (e ∙ at)) ∙ listed.marked i (omega (arith, low, more));
       once = λ i j less low. listed.once i j less (omega (arith, low, more));
     }
@@ -104,6 +101,5 @@ one_fewer bits bits' v is cleared =
     let after = length-members bits' in
     let places = ap length cleared ∙ length-set bits v false in
     let same : tally (is_in bits') (length bits') ≡ tally (is_in bits') (length bits) = ap (tally (is_in bits')) places in
-    let less = tally_put (is_in bits') (is_in bits) v (ap (λ l. is_in l v) cleared ∙ get_or-set_same bits v false false within) is (λ k apart. sym (ap (λ l. is_in l k) cleared ∙ get_or-set_other bits v k false false apart)) (length bits) in
-    let one = past_above v (length bits) within in
-    omega (arith, before, after, same, less, one)
+    let less = tally_put (is_in bits') (is_in bits) v (ap (λ l. is_in l v) cleared ∙ get_or-set_same bits v false false within) is (length bits) (λ k low apart. sym (ap (λ l. is_in l k) cleared ∙ get_or-set_other bits v k false false apart)) in
+    omega (arith, before, after, same, less, within)

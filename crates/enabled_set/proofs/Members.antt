@@ -1,14 +1,13 @@
 -- The members below a number, ascending.
-use Rattle.std.proofs.Common.{◌≡◌, ℕ, zero, suc, ◌+◌, ◌<◌, ◌≤◌, Bool, true, false, cond, List, [], ◌∷◌, ◌++◌, map, length, get_or, Some, refl, sym, ap, ◌∙◌, arith, ⊎_elim}
+use Rattle.std.proofs.Common.{◌≡◌, ℕ, zero, suc, ◌+◌, ◌-◌, ◌<◌, ◌≤◌, Bool, true, false, cond, List, [], ◌∷◌, ◌++◌, map, length, get_or, Some, refl, sym, ap, ◌∙◌, arith}
 use Rattle.std.specs.List.{filter, range_with_len}
 use Rattle.std.specs.Prelude.{slice_get}
-use Rattle.std.proofs.lemmas.Bool.{cases_Bool, cases_lt, true≢false}
 use Rattle.std.proofs.lemmas.List.{append-nil, map-id, length_push, get_or_past, get_or_push, get_or_append_left}
 use Rattle.std.proofs.lemmas.List.FromFn.{filter_of_map_range_with_len_more}
 use Rattle.std.proofs.lemmas.Option.{slice_get-get_or}
 use Rattle.enabled_set.specs.Members.{is_in, members}
 use Rattle.enabled_set.specs.Counts.{tally, below}
-use Rattle.enabled_set.proofs.Counting.{tally_none, tally_true, tally_false, tally_through}
+use Rattle.enabled_set.proofs.Counting.{flat, tally_none, tally_more, tally_through}
 
 pub below_none : (p : ℕ → Bool) → below p 0 ≡ []
 unfolding below
@@ -31,15 +30,20 @@ below_true p n h = below_more p n ∙ ap (λ b. below p n ++ cond b (n ∷ []) [
 pub below_false : (p : ℕ → Bool) (n : ℕ) → p n ≡ false → below p (suc n) ≡ below p n
 below_false p n h = below_more p n ∙ ap (λ b. below p n ++ cond b (n ∷ []) []) h ∙ append-nil (below p n)
 
+-- none more where no number passes
+pub below_flat : (p : ℕ → Bool) (a b : ℕ) → a ≤ b → ((k : ℕ) → a ≤ k → k < b → p k ≡ false) → below p b ≡ below p a
+below_flat p a b up none = flat (below p) a (b - a) b (omega arith) (λ k low high. below_false p k (none k low high))
+
 -- there are as many as the tally says
 pub length-below : (p : ℕ → Bool) (n : ℕ) → length (below p n) ≡ tally p n
 length-below p zero = ap length (below_none p) ∙ sym (tally_none p)
 length-below p (suc n) =
     let ih = length-below p n in
-    ⊎_elim
-    (λ (h : p n ≡ true). ap length (below_true p n h) ∙ length_push (below p n) n ∙ (let t = tally_true p n h in omega arith))
-    (λ (h : p n ≡ false). ap length (below_false p n h) ∙ ih ∙ sym (tally_false p n h))
-    (cases_Bool (p n))
+    let passes = below_true p n in
+    let fails = below_false p n in
+    let push = length_push (below p n) n in
+    let more = tally_more p n in
+    grind arith
 
 -- the members are those below the last place
 pub members_below : (bits : List Bool) → members bits ≡ below (is_in bits) (length bits)
@@ -54,27 +58,17 @@ below_at : (p : ℕ → Bool) (n v k : ℕ) → p v ≡ true → tally p v ≡ k
 below_at p zero v k on is inside = absurd (omega arith)
 below_at p (suc n) v k on is inside =
     let len = length-below p n in
-    ⊎_elim
-    (λ (lt : v < n).
-    let ih = below_at p n v k on is lt in
-    let room = tally_through p v v n on (omega arith) lt in
-    ⊎_elim
-    (λ (h : p n ≡ true). ap (λ l. get_or l k 0) (below_true p n h) ∙ get_or_append_left (below p n) (n ∷ []) 0 k (omega arith) ∙ ih)
-    (λ (h : p n ≡ false). ap (λ l. get_or l k 0) (below_false p n h) ∙ ih)
-    (cases_Bool (p n)))
-    (λ (le : n ≤ v).
-    let e : n ≡ v = omega arith in
-    let f = ap (tally p) e in
-    ap (λ l. get_or l k 0) (below_true p n (ap p e ∙ on)) ∙ get_or_push (below p n) n 0 k (omega arith) ∙ e)
-    (cases_lt v n)
+    let ih = below_at p n v k on is in
+    let room = tally_through p v v n on (omega arith) in
+    let passes = below_true p n in
+    let fails = below_false p n in
+    let before = get_or_append_left (below p n) (n ∷ []) 0 k in
+    let last = get_or_push (below p n) n 0 k in
+    grind arith
 
 -- a member has a place
 pub inside : (bits : List Bool) (v : ℕ) → is_in bits v ≡ true → v < length bits
-inside bits v on =
-    ⊎_elim
-    (λ (lt : v < length bits). lt)
-    (λ (le : length bits ≤ v). absurd (true≢false (sym on ∙ get_or_past bits v false le)))
-    (cases_lt v (length bits))
+inside bits v on = let past = get_or_past bits v false in grind arith
 
 -- a member is the k-th where as many members stand before it
 pub nth_member : (bits : List Bool) (v k : ℕ) → is_in bits v ≡ true → tally (is_in bits) v ≡ k → slice_get (members bits) k ≡ Some v

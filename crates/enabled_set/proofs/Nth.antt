@@ -1,192 +1,135 @@
 -- From the counts down to the k-th member, and from the words to all members.
-use Rattle.std.proofs.Common.{◌≡◌, ℕ, zero, suc, ◌+◌, ◌-◌, ◌*◌, ◌<◌, ◌≤◌, Bool, true, false, List, [], ◌∷◌, ◌++◌, map, length, get_or, Option, Some, None, sym, ap, ◌∙◌, arith, ⊎_elim, append_assoc}
+use Rattle.std.proofs.Common.{◌≡◌, ℕ, suc, ◌+◌, ◌-◌, ◌*◌, ◌<◌, ◌≤◌, Bool, true, false, List, [], ◌∷◌, ◌++◌, length, get_or, Option, Some, None, sym, ap, ap₂, subst, ◌∙◌, arith, ⊎_elim}
 use Rattle.std.specs.Prelude.{◌≢◌, slice_get, SomeIff}
-use Rattle.std.specs.List.{range_with_len}
-use Rattle.std.proofs.lemmas.Bool.{cases_Bool, cases_lt}
-use Rattle.std.proofs.lemmas.List.{append-nil, map-append, get_or_past}
-use Rattle.std.proofs.lemmas.List.Elements.{filter_agree}
+use Rattle.std.proofs.lemmas.Bool.{cases_lt}
+use Rattle.std.proofs.lemmas.List.{get_or_past}
 use Rattle.std.proofs.lemmas.Option.{slice_get_past}
 use Rattle.enabled_set.specs.Members.{is_in, members, has_bit, is_on, AreNames}
 use Rattle.enabled_set.specs.Counts.{tally, below, before, IsCount, IsCounted}
-use Rattle.enabled_set.proofs.Counting.{tally_rise, tally_flat, tally_end, tally_shift, tally_same}
+use Rattle.enabled_set.proofs.Counting.{tally_rise, tally_end, tally_shift, tally_put}
 use Rattle.enabled_set.proofs.Places.{on_word}
-use Rattle.enabled_set.proofs.Members.{below_none, below_true, below_false, length-below, members_below, length-members, nth_member, inside}
+use Rattle.enabled_set.proofs.Members.{below_true, below_flat, members_below, length-members, nth_member, inside}
 use Rattle.enabled_set.proofs.Changes.{somebody}
-use Rattle.enabled_set.proofs.Steps.{before_step, below_same}
+use Rattle.enabled_set.proofs.Steps.{before_step}
 
--- the bits of the words are names
-pub names_only : (bits : List Bool) (words s l : List ℕ) (total : ℕ) → IsCounted bits words s l total → AreNames words
-names_only bits words s l total good v on =
-    let here = good.same v ∙ on in
-    let there = inside bits v here in
+-- a member is a name
+is_name : (bits : List Bool) (words s l : List ℕ) (total v : ℕ) → IsCounted bits words s l total → is_in bits v ≡ true → (1 ≤ v) × (v ≤ 65535)
+is_name bits words s l total v good on =
+    let there = inside bits v on in
     let few = good.few in
-    (somebody bits v good.nobody here, omega arith)
+    (somebody bits v good.nobody on, omega arith)
 
--- a word's names, behind those before it
-words_add : (words : List ℕ) (place n : ℕ) → n ≤ 64 → below (is_on words) (64 * place + n) ≡ below (is_on words) (64 * place) ++ map (λ i. 64 * place + i) (below (has_bit (get_or words place 0)) n)
-words_add words place zero few =
-    ap (below (is_on words)) (let e : 64 * place + 0 ≡ 64 * place = omega arith in e)
-    ∙ sym (append-nil (below (is_on words) (64 * place)))
-    ∙ ap (λ l. below (is_on words) (64 * place) ++ map (λ i. 64 * place + i) l) (sym (below_none (has_bit (get_or words place 0))))
-words_add words place (suc n) few =
-    let bits = has_bit (get_or words place 0) in
-    let name : ℕ → ℕ = λ i. 64 * place + i in
-    let start = below (is_on words) (64 * place) in
-    let ih = words_add words place n (omega arith) in
-    let on = on_word words place n (omega arith) in
-    let next = ap (below (is_on words)) (let e : 64 * place + suc n ≡ suc (64 * place + n) = omega arith in e) in
-    ⊎_elim
-    (λ (h : bits n ≡ true).
-    next
-    ∙ below_true (is_on words) (64 * place + n) (on ∙ h)
-    ∙ ap (λ l. l ++ name n ∷ []) ih
-    ∙ append_assoc start (map name (below bits n)) (name n ∷ [])
-    ∙ ap (λ l. start ++ l) (sym (map-append name (below bits n) (n ∷ [])))
-    ∙ ap (λ l. start ++ map name l) (sym (below_true bits n h)))
-    (λ (h : bits n ≡ false). next ∙ below_false (is_on words) (64 * place + n) (on ∙ h) ∙ ih ∙ ap (λ l. start ++ map name l) (sym (below_false bits n h)))
-    (cases_Bool (bits n))
+-- so the bits of the words are names
+pub names_only : (bits : List Bool) (words s l : List ℕ) (total : ℕ) → IsCounted bits words s l total → AreNames words
+names_only bits words s l total good v on = is_name bits words s l total v good (good.same v ∙ on)
 
--- no bit, no name
-below_nobody : (p : ℕ → Bool) (n : ℕ) → ((i : ℕ) → i < n → p i ≡ false) → below p n ≡ []
-below_nobody p zero none = below_none p
-below_nobody p (suc n) none = below_false p n (none n (omega arith)) ∙ below_nobody p n (λ i low. none i (omega arith))
+-- ---- all members of a word
 
--- the first, and the others
-below_first : (p q : ℕ → Bool) (at n : ℕ) → at < n → p at ≡ true → ((i : ℕ) → i < at → p i ≡ false) → q at ≡ false → ((i : ℕ) → i < n → (i ≡ at → ⊥) → q i ≡ p i) → below p n ≡ at ∷ below q n
-below_first p q at zero inside on first off others = absurd (omega arith)
-below_first p q at (suc n) inside on first off others =
-    ⊎_elim
-    (λ (lt : at < n).
-    let ih = below_first p q at n lt on first off (λ i low apart. others i (omega arith) apart) in
-    let same = others n (omega arith) (λ (e : n ≡ at). omega arith) in
-    ⊎_elim
-    (λ (h : p n ≡ true). below_true p n h ∙ ap (λ l. l ++ n ∷ []) ih ∙ ap (λ l. at ∷ l) (sym (below_true q n (same ∙ h))))
-    (λ (h : p n ≡ false). below_false p n h ∙ ih ∙ ap (λ l. at ∷ l) (sym (below_false q n (same ∙ h))))
-    (cases_Bool (p n)))
-    (λ (le : n ≤ at).
-    let e : n ≡ at = omega arith in
-    let none = below_nobody q n (λ i low. others i (omega arith) (λ (f : i ≡ at). omega arith) ∙ first i (omega arith)) in
-    below_true p n (ap p e ∙ on)
-    ∙ ap (λ l. l ++ n ∷ []) (below_nobody p n (λ i low. first i (omega arith)))
-    ∙ ap (λ m. m ∷ []) e
-    ∙ ap (λ l. at ∷ l) (sym (below_false q n (ap q e ∙ off) ∙ none)))
-    (cases_lt at n)
+-- the names of a word's first bits are listed behind those before it, and the bits behind them are left
+pub record IsListed (words : List ℕ) (place rest : ℕ) (list : List ℕ) (n : ℕ) : Type 0 where
+  pub within : n ≤ 64
+  pub listed : list ≡ below (is_on words) (64 * place + n)
+  pub gone : (i : ℕ) → i < n → has_bit rest i ≡ false
+  pub left : (i : ℕ) → n ≤ i → i < 64 → has_bit rest i ≡ is_on words (64 * place + i)
 
--- one bit is taken out of a word
-pub word_first : (rest less at : ℕ) → at < 64 → has_bit rest at ≡ true → ((i : ℕ) → i < at → has_bit rest i ≡ false) → has_bit less at ≡ false → ((i : ℕ) → i < 64 → i ≢ at → has_bit less i ≡ has_bit rest i) → below (has_bit rest) 64 ≡ at ∷ below (has_bit less) 64
-word_first rest less at inside on first off others = below_first (has_bit rest) (has_bit less) at 64 inside on first off (λ i low apart. others i low apart)
+pub listed_none : (words : List ℕ) (place rest : ℕ) (list : List ℕ) → rest ≡ get_or words place 0 → list ≡ below (is_on words) (64 * place) → IsListed words place rest list 0
+listed_none words place rest list is so_far = record {
+  within = omega arith;
+  listed = so_far ∙ ap (below (is_on words)) (let e : 64 * place ≡ 64 * place + 0 = omega arith in e);
+  gone = λ i low. absurd (omega (arith, low));
+  left = λ i low inside. ap (λ w. has_bit w i) is ∙ sym (on_word words place i inside);
+}
+
+-- a bit that is left stands behind these, and is a name
+bit_behind : (words : List ℕ) (place rest : ℕ) (list : List ℕ) (n at : ℕ) → IsListed words place rest list n → has_bit rest at ≡ true → n ≤ at
+bit_behind words place rest list n at so_far on =
+    let gone = so_far.gone at in grind arith
+
+pub bit_named : (words : List ℕ) (place rest : ℕ) (list : List ℕ) (n at : ℕ) → AreNames words → IsListed words place rest list n → at < 64 → has_bit rest at ≡ true → (1 ≤ 64 * place + at) × (64 * place + at ≤ 65535)
+bit_named words place rest list n at names so_far inside on =
+    names (64 * place + at) (sym (so_far.left at (bit_behind words place rest list n at so_far on) inside) ∙ on)
+
+-- where no bit is left below one, the names below it are listed
+pub listed_up : (words : List ℕ) (place rest : ℕ) (list : List ℕ) (n m : ℕ) → IsListed words place rest list n → n ≤ m → m ≤ 64 → ((i : ℕ) → n ≤ i → i < m → has_bit rest i ≡ false) → list ≡ below (is_on words) (64 * place + m)
+listed_up words place rest list n m so_far up most none =
+    so_far.listed
+    ∙ sym (below_flat (is_on words) (64 * place + n) (64 * place + m) (omega arith) (λ k low high.
+    let i : ℕ = k - 64 * place in
+    let at : k ≡ 64 * place + i = omega (arith, low) in
+    ap (is_on words) at ∙ sym (so_far.left i (omega (arith, low)) (omega (arith, high, most))) ∙ none i (omega (arith, low)) (omega (arith, high))))
+
+-- the name of the lowest bit that is left is listed, and the bit taken out
+pub listed_more : (words : List ℕ) (place rest less at v n : ℕ) (list more : List ℕ) → IsListed words place rest list n → at < 64 → has_bit rest at ≡ true → ((i : ℕ) → i < at → has_bit rest i ≡ false) → has_bit less at ≡ false → ((i : ℕ) → i < 64 → i ≢ at → has_bit less i ≡ has_bit rest i) → v ≡ 64 * place + at → more ≡ list ++ v ∷ [] → IsListed words place less more (at + 1)
+listed_more words place rest less at v n list more so_far inside on first off others name new =
+    let behind = bit_behind words place rest list n at so_far on in
+    record {
+      within = omega arith;
+      listed = new ∙ ap₂ (λ l x. l ++ x ∷ []) (listed_up words place rest list n at so_far behind (omega arith) (λ i low. first i)) name
+          ∙ sym (below_true (is_on words) (64 * place + at) (sym (so_far.left at behind inside) ∙ on))
+          ∙ ap (below (is_on words)) (let e : suc (64 * place + at) ≡ 64 * place + (at + 1) = omega arith in e);
+      gone = λ i below.
+          ⊎_elim
+          (λ (before : i < at). others i (omega arith) (λ (e : i ≡ at). omega arith) ∙ first i before)
+          (λ (here : at ≤ i). ap (has_bit less) (let e : i ≡ at = omega (arith, below, here) in e) ∙ off)
+          (cases_lt i at);
+      left = λ i up within. others i within (λ (e : i ≡ at). omega (arith, up, e)) ∙ so_far.left i (omega (arith, up, behind)) within;
+    }
 
 -- so fewer bits are left
-pub word_fewer : (rest less at : ℕ) → below (has_bit rest) 64 ≡ at ∷ below (has_bit less) 64 → tally (has_bit less) 64 < tally (has_bit rest) 64
-word_fewer rest less at split =
-    let all = ap length split in
-    let before = length-below (has_bit rest) 64 in
-    let after = length-below (has_bit less) 64 in
-    omega arith
+pub bits_fewer : (rest less at : ℕ) → at < 64 → has_bit rest at ≡ true → has_bit less at ≡ false → ((i : ℕ) → i < 64 → i ≢ at → has_bit less i ≡ has_bit rest i) → tally (has_bit less) 64 < tally (has_bit rest) 64
+bits_fewer rest less at inside on off others =
+    let put = tally_put (has_bit less) (has_bit rest) at off on 64 (λ i within apart. sym (others i within apart)) in omega arith
 
--- the names before a word and those of its bits
-pub word_all : (words : List ℕ) (word place : ℕ) (l : List ℕ) → word ≡ get_or words place 0 → l ≡ below (is_on words) (64 * place) → l ++ map (λ i. 64 * place + i) (below (has_bit word) 64) ≡ below (is_on words) (64 * place + 64)
-word_all words word place l is old =
-    ap (λ xs. xs ++ map (λ i. 64 * place + i) (below (has_bit word) 64)) old
-    ∙ ap (λ w. below (is_on words) (64 * place) ++ map (λ i. 64 * place + i) (below (has_bit w) 64)) is
-    ∙ sym (words_add words place 64 (omega arith))
-
--- a name of a word is appended to those before
-pub word_step : (place rest less at v : ℕ) (l m all : List ℕ) → below (has_bit rest) 64 ≡ at ∷ below (has_bit less) 64 → l ++ map (λ i. 64 * place + i) (below (has_bit rest) 64) ≡ all → v ≡ 64 * place + at → m ≡ l ++ v ∷ [] → m ++ map (λ i. 64 * place + i) (below (has_bit less) 64) ≡ all
-word_step place rest less at v l m all split old name new =
-    let names : List ℕ → List ℕ = λ xs. map (λ i. 64 * place + i) xs in
-    ap (λ xs. xs ++ names (below (has_bit less) 64)) new
-    ∙ append_assoc l (v ∷ []) (names (below (has_bit less) 64))
-    ∙ ap (λ n. l ++ n ∷ names (below (has_bit less) 64)) name
-    ∙ ap (λ xs. l ++ names xs) (sym split)
-    ∙ old
-
--- a word without a bit has no name
-pub word_rest : (place rest : ℕ) (l all : List ℕ) → ((i : ℕ) → i < 64 → has_bit rest i ≡ false) → l ++ map (λ i. 64 * place + i) (below (has_bit rest) 64) ≡ all → l ≡ all
-word_rest place rest l all none old = sym (append-nil l) ∙ ap (λ xs. l ++ map (λ i. 64 * place + i) xs) (sym (below_nobody (has_bit rest) 64 none)) ∙ old
-
--- a bit of a word is a name
-pub word_name : (words : List ℕ) (word place at : ℕ) → AreNames words → word ≡ get_or words place 0 → at < 64 → has_bit word at ≡ true → (1 ≤ 64 * place + at) × (64 * place + at ≤ 65535)
-word_name words word place at names is inside on = names (64 * place + at) (on_word words place at inside ∙ ap (λ w. has_bit w at) (sym is) ∙ on)
-
--- the words have all members
-below_agree : (p q : ℕ → Bool) (n : ℕ) → ((v : ℕ) → p v ≡ q v) → below p n ≡ below q n
-unfolding below
-below_agree p q n same = filter_agree p q same (range_with_len 0 n)
-
+-- all words have all members
 pub below_all : (bits : List Bool) (words s l : List ℕ) (total n : ℕ) → IsCounted bits words s l total → 64 * length words ≤ n → below (is_on words) n ≡ members bits
 below_all bits words s l total n good most =
     let covered = good.covered in
-    below_agree (is_on words) (is_in bits) n (λ v. sym (good.same v))
-    ∙ below_same (is_in bits) (length bits) n (omega arith) (tally_flat (is_in bits) (length bits) (n - length bits) n (λ k low high. get_or_past bits k false low) (omega arith))
-    ∙ sym (members_below bits)
+    sym (λ i. below (λ v. good.same v i) n) ∙ below_flat (is_in bits) (length bits) n (omega arith) (λ k low high. get_or_past bits k false low) ∙ sym (members_below bits)
+
+-- ---- the k-th member
 
 -- more members are left in all places than are to pass, and there are sixteen counts of them
 pub enough_lots : (bits : List Bool) (words s l ls : List ℕ) (total k : ℕ) → IsCounted bits words s l total → ls ≡ l → k < total → (16 ≤ length ls) × (k < before ls 16)
 enough_lots bits words s l ls total k good is less =
-    let all = ap (λ xs. before xs 16) is ∙ good.in_4096.counted 16 in
-    let few = good.few in
-    let most = tally_rise (is_in bits) (length bits) 65536 few in
-    let same = ap (tally (is_in bits)) (let e : 4096 * 16 ≡ 65536 = omega arith in e) in
+    let all : before ls 16 ≡ tally (is_in bits) 65536 = ap (λ xs. before xs 16) is ∙ good.in_4096.counted 16 in
+    let most = tally_rise (is_in bits) (length bits) 65536 good.few in
     let was = good.in_all in
     let long = ap length is ∙ good.lots in
     (omega arith, omega arith)
 
--- a stretch that has a member begins at a place
-stretch_begins : (bits : List Bool) (w : ℕ) (counts : List ℕ) (j left : ℕ) → IsCount bits w counts → left < get_or counts j 0 → w * j < length bits
-stretch_begins bits w counts j left good less =
+-- a stretch of eight parts that has more members than are to pass begins at a place, and the sums over its parts rise by more
+enough : (bits : List Bool) (width : ℕ) (counts : List ℕ) (f : ℕ → ℕ) (j left : ℕ) → IsCount bits width counts → left < get_or counts j 0 → f (8 * j) ≡ tally (is_in bits) (width * j) → f (8 * j + 8) ≡ tally (is_in bits) (width * (j + 1)) → (width * j < length bits) × (f (8 * j) + left < f (8 * j + 8))
+enough bits width counts f j left good less from to =
     let low = good.counted j in
     let high = good.counted (j + 1) in
     let step = before_step counts j in
-    ⊎_elim
-    (λ (lt : w * j < length bits). lt)
-    (λ (le : length bits ≤ w * j).
-    let end = tally_end (is_in bits) (w * j) (w * (j + 1)) (λ k past. get_or_past bits k false (omega arith)) in
-    absurd (omega arith))
-    (cases_lt (w * j) (length bits))
+    let begins = ⊎_elim
+    (λ (lt : width * j < length bits). lt)
+    (λ (le : length bits ≤ width * j). let end = tally_end (is_in bits) (width * j) (width * (j + 1)) (λ k past. get_or_past bits k false (omega arith)) in absurd (omega arith))
+    (cases_lt (width * j) (length bits)) in
+    (begins, omega arith)
 
--- more members are left in a lot than are to pass, and there are eight counts of them
+-- so there are eight counts of a lot that has more members than are to pass, and more are left in them
 pub enough_groups : (bits : List Bool) (words s l ls ss : List ℕ) (total lot left : ℕ) → IsCounted bits words s l total → ls ≡ l → ss ≡ s → left < get_or ls lot 0 → (8 * lot + 8 ≤ length ss) × (before ss (8 * lot) + left < before ss (8 * lot + 8))
 enough_groups bits words s l ls ss total lot left good is_l is_s less =
-    let low = ap (λ xs. before xs (8 * lot)) is_s ∙ good.in_512.counted (8 * lot) in
-    let high = ap (λ xs. before xs (8 * lot + 8)) is_s ∙ good.in_512.counted (8 * lot + 8) in
-    let same_low = ap (tally (is_in bits)) (let e : 512 * (8 * lot) ≡ 4096 * lot = omega arith in e) in
-    let same_high = ap (tally (is_in bits)) (let e : 512 * (8 * lot + 8) ≡ 4096 * (lot + 1) = omega arith in e) in
-    let at_low = good.in_4096.counted lot in
-    let at_high = good.in_4096.counted (lot + 1) in
-    let step = before_step l lot in
-    let read = ap (λ xs. get_or xs lot 0) is_l in
-    let begins = stretch_begins bits 4096 l lot left good.in_4096 (omega arith) in
-    let room = good.groups in
-    let long = ap length is_s in
-    (omega arith, omega arith)
+    let parts : (n : ℕ) → before ss n ≡ tally (is_in bits) (512 * n) = λ n. ap (λ xs. before xs n) is_s ∙ good.in_512.counted n in
+    let more = enough bits 4096 l (before ss) lot left good.in_4096 (subst (λ xs. left < get_or xs lot 0) is_l less)
+    (parts (8 * lot) ∙ ap (tally (is_in bits)) (let e : 512 * (8 * lot) ≡ 4096 * lot = omega arith in e))
+    (parts (8 * lot + 8) ∙ ap (tally (is_in bits)) (let e : 512 * (8 * lot + 8) ≡ 4096 * (lot + 1) = omega arith in e)) in
+    (omega (arith, more.0, good.groups, ap length is_s), more.1)
 
 -- the words have as many below a place as there are members
 words_tally : (bits : List Bool) (words s l ws : List ℕ) (total n : ℕ) → IsCounted bits words s l total → ws ≡ words → tally (is_on ws) n ≡ tally (is_in bits) n
-words_tally bits words s l ws total n good is_w = ap (λ xs. tally (is_on xs) n) is_w ∙ sym (tally_same (is_in bits) (is_on words) n good.same)
+words_tally bits words s l ws total n good is_w = ap (λ xs. tally (is_on xs) n) is_w ∙ sym (λ i. tally (λ v. good.same v i) n)
 
--- more members are left in a group than are to pass, and there are eight words of them
+-- and eight words of a group
 pub enough_words : (bits : List Bool) (words s l ss ws : List ℕ) (total group left : ℕ) → IsCounted bits words s l total → ss ≡ s → ws ≡ words → left < get_or ss group 0 → (8 * group + 8 ≤ length ws) × (tally (is_on ws) (64 * (8 * group)) + left < tally (is_on ws) (64 * (8 * group + 8)))
 enough_words bits words s l ss ws total group left good is_s is_w less =
-    let low = words_tally bits words s l ws total (64 * (8 * group)) good is_w in
-    let high = words_tally bits words s l ws total (64 * (8 * group + 8)) good is_w in
-    let same_low = ap (tally (is_in bits)) (let e : 64 * (8 * group) ≡ 512 * group = omega arith in e) in
-    let same_high = ap (tally (is_in bits)) (let e : 64 * (8 * group + 8) ≡ 512 * (group + 1) = omega arith in e) in
-    let at_low = good.in_512.counted group in
-    let at_high = good.in_512.counted (group + 1) in
-    let step = before_step s group in
-    let read = ap (λ xs. get_or xs group 0) is_s in
-    let begins = stretch_begins bits 512 s group left good.in_512 (omega arith) in
-    let room = good.covered in
-    let long = ap length is_w in
-    (omega arith, omega arith)
-
--- the word at which the scan of a group stands, as it was read
-pub word_there : (bits : List Bool) (words s l ss ws : List ℕ) (total group left place : ℕ) → IsCounted bits words s l total → ss ≡ s → ws ≡ words → left < get_or ss group 0 → place < 8 * group + 8 → place < length words
-word_there bits words s l ss ws total group left place good is_s is_w less near =
-    let room = enough_words bits words s l ss ws total group left good is_s is_w less in
-    let long = ap length is_w in
-    omega arith
+    let parts : (n : ℕ) → tally (is_on ws) (64 * n) ≡ tally (is_in bits) (64 * n) = λ n. words_tally bits words s l ws total (64 * n) good is_w in
+    let more = enough bits 512 s (λ n. tally (is_on ws) (64 * n)) group left good.in_512 (subst (λ xs. left < get_or xs group 0) is_s less)
+    (parts (8 * group) ∙ ap (tally (is_in bits)) (let e : 64 * (8 * group) ≡ 512 * group = omega arith in e))
+    (parts (8 * group + 8) ∙ ap (tally (is_in bits)) (let e : 64 * (8 * group + 8) ≡ 512 * (group + 1) = omega arith in e)) in
+    (omega (arith, more.0, good.covered, ap length is_w), more.1)
 
 -- what three scans have passed, each from where the one before it stands, of lists that were read
 pub passed : (bits : List Bool) (words s l ls ss ws : List ℕ) (total k lot lot_left group group_left place left : ℕ) → IsCounted bits words s l total → ls ≡ l → ss ≡ s → ws ≡ words → before ls lot + lot_left ≡ k → before ss group + group_left ≡ before ss (8 * lot) + lot_left → tally (is_on ws) (64 * place) + left ≡ tally (is_on ws) (64 * (8 * group)) + group_left → tally (is_in bits) (64 * place) + left ≡ k
@@ -200,11 +143,6 @@ passed bits words s l ls ss ws total k lot lot_left group group_left place left 
     let at_w = words_tally bits words s l ws total (64 * place) good is_w in
     omega arith
 
--- the members of a word, among all
-word_tally : (bits : List Bool) (words s l ws : List ℕ) (total word group n : ℕ) → IsCounted bits words s l total → ws ≡ words → word ≡ get_or ws group 0 → n ≤ 64 → tally (is_in bits) (64 * group + n) ≡ tally (is_in bits) (64 * group) + tally (has_bit word) n
-word_tally bits words s l ws total word group n good is_w is few =
-    tally_shift (is_in bits) (has_bit word) (64 * group) n (λ i less. good.same (64 * group + i) ∙ on_word words group i (omega arith) ∙ ap (λ w. has_bit w i) (sym (is ∙ ap (λ xs. get_or xs group 0) is_w)))
-
 -- there is no k-th member where k is no less than the total
 pub nth_none : (bits : List Bool) (words s l : List ℕ) (total k : ℕ) → IsCounted bits words s l total → total ≤ k → slice_get (members bits) k ≡ None
 nth_none bits words s l total k good most = slice_get_past (members bits) k (let len = length-members bits in let all = good.in_all in omega arith)
@@ -215,10 +153,9 @@ named None n h name = absurd (h name)
 named (Some x) n h name = ap (λ (y : ℕ). Some y) h.1
 
 -- the bit that stands behind as many as are to pass is the k-th member
-pub nth_some : (bits : List Bool) (words s l ws : List ℕ) (total k word group left at : ℕ) (o : Option ℕ) → IsCounted bits words s l total → ws ≡ words → word ≡ get_or ws group 0 → tally (is_in bits) (64 * group) + left ≡ k → at < 64 → has_bit word at ≡ true → tally (has_bit word) at ≡ left → SomeIff o ((1 ≤ 64 * group + at) × (64 * group + at ≤ 65535)) (64 * group + at) → o ≡ slice_get (members bits) k
-nth_some bits words s l ws total k word group left at o good is_w is reached within on stands node =
-    let v : ℕ = 64 * group + at in
-    let here : is_on words v ≡ true = on_word words group at within ∙ ap (λ w. has_bit w at) (sym (is ∙ ap (λ xs. get_or xs group 0) is_w)) ∙ on in
-    let part = word_tally bits words s l ws total word group at good is_w is (omega arith) in
-    let there : tally (is_in bits) (64 * group + at) ≡ k = omega arith in
-    named o v node (names_only bits words s l total good v here) ∙ sym (nth_member bits v k (good.same v ∙ here) there)
+pub nth_some : (bits : List Bool) (words s l : List ℕ) (total k word group left at : ℕ) (o : Option ℕ) → IsCounted bits words s l total → word ≡ get_or words group 0 → tally (is_in bits) (64 * group) + left ≡ k → at < 64 → has_bit word at ≡ true → tally (has_bit word) at ≡ left → SomeIff o ((1 ≤ 64 * group + at) × (64 * group + at ≤ 65535)) (64 * group + at) → o ≡ slice_get (members bits) k
+nth_some bits words s l total k word group left at o good is reached within on stands node =
+    let in_word : (i : ℕ) → i < 64 → is_in bits (64 * group + i) ≡ has_bit word i = λ i less. good.same (64 * group + i) ∙ on_word words group i less ∙ ap (λ w. has_bit w i) (sym is) in
+    let here = in_word at within ∙ on in
+    let part = tally_shift (is_in bits) (has_bit word) (64 * group) at (λ i less. in_word i (omega (arith, less, within))) in
+    named o (64 * group + at) node (is_name bits words s l total (64 * group + at) good here) ∙ sym (nth_member bits (64 * group + at) k here (omega arith))

@@ -1,12 +1,12 @@
 -- Places as bits of words.
-use Rattle.std.proofs.Common.{◌≡◌, ℕ, ◌+◌, ◌*◌, ◌/◌, ◌%◌, ◌<◌, ◌≤◌, Bool, false, List, length, get_or, set, replicate, sym, ap, ◌∙◌, arith, ⊎_elim}
+use Rattle.std.proofs.Common.{◌≡◌, ℕ, ◌+◌, ◌*◌, ◌/◌, ◌%◌, ◌<◌, Bool, false, List, length, get_or, set, replicate, sym, ap, ◌∙◌, arith}
 use Rattle.std.specs.Prelude.{◌≢◌}
-use Rattle.std.proofs.lemmas.Bool.{cases_lt, cases_eq}
-use Rattle.std.proofs.lemmas.List.{length-replicate, get_or-set_same, get_or-set_other, get_or-replicate, get_or_past, ext_get_or}
+use Rattle.std.proofs.lemmas.List.{get_or-set_same, get_or-set_other, ext_get_or}
 use Rattle.std.proofs.lemmas.List.FromFn.{length-map-range_with_len, get_or-map-range_with_len}
 use Rattle.std.proofs.lemmas.Nat.Bits.{bit_at-zero}
 use Rattle.enabled_set.specs.Members.{is_in, has_bit, is_on, places_of}
 use Rattle.enabled_set.proofs.Bits.{has_none}
+use Rattle.enabled_set.proofs.Sums.{everywhere}
 
 pub length-places_of : (len : ℕ) (words : List ℕ) → length (places_of len words) ≡ len
 unfolding places_of
@@ -39,23 +39,12 @@ put_here words v word b room here = ap (λ w. has_bit w (v % 64)) (get_or-set_sa
 pub put_there : (words : List ℕ) (v word : ℕ) (u : ℕ) → v / 64 < length words → ((i : ℕ) → i < 64 → i ≢ (v % 64) → has_bit word i ≡ has_bit (get_or words (v / 64) 0) i) → (u ≡ v → ⊥) → is_on (set words (v / 64) word) u ≡ is_on words u
 unfolding is_on
 put_there words v word u room others apart =
-    ⊎_elim
-    (λ (e : u / 64 ≡ v / 64).
-    let differs : u % 64 ≢ v % 64 = λ (f : u % 64 ≡ v % 64). apart (omega arith) in
-    ap (λ n. has_bit (get_or (set words (v / 64) word) n 0) (u % 64)) e
-    ∙ ap (λ w. has_bit w (u % 64)) (get_or-set_same words (v / 64) word 0 room)
-    ∙ others (u % 64) (omega arith) differs
-    ∙ ap (λ n. has_bit (get_or words n 0) (u % 64)) (sym e))
-    (λ (ne : u / 64 ≡ v / 64 → ⊥). ap (λ w. has_bit w (u % 64)) (get_or-set_other words (v / 64) (u / 64) word 0 ne))
-    (cases_eq (u / 64) (v / 64))
+    let here = get_or-set_same words (v / 64) word 0 room in
+    let away = get_or-set_other words (v / 64) (u / 64) word 0 in
+    let kept = others (u % 64) (omega arith) in
+    grind arith
 
 -- words of no bits
 pub on_none : (m v : ℕ) → is_on (replicate m 0) v ≡ false
 unfolding is_on
-on_none m v =
-    let zeros : List ℕ = replicate m 0 in
-    let none : get_or zeros (v / 64) 0 ≡ 0 = ⊎_elim
-    (λ (lt : v / 64 < m). get_or-replicate m (v / 64) 0 0 lt)
-    (λ (le : m ≤ v / 64). get_or_past zeros (v / 64) 0 (let o : ℕ = 0 in let len = length-replicate m o in omega arith))
-    (cases_lt (v / 64) m) in
-    ap (λ w. has_bit w (v % 64)) none ∙ has_none 0 (v % 64) (bit_at-zero (v % 64))
+on_none m v = ap (λ w. has_bit w (v % 64)) (everywhere m (v / 64) 0) ∙ has_none 0 (v % 64) (bit_at-zero (v % 64))

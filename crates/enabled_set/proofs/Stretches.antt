@@ -5,7 +5,7 @@ use Rattle.std.proofs.lemmas.List.{length-set, get_or-set_same, get_or-set_other
 use Rattle.std.proofs.Math.Nat.{div-lt_iff_lt-mul, mul-suc, mul_comm, mul-div-le, le-div_iff_mul-le}
 use Rattle.enabled_set.specs.Members.{is_in}
 use Rattle.enabled_set.specs.Counts.{tally, IsCount}
-use Rattle.enabled_set.proofs.Counting.{past, past_above, past_below, tally_add, tally_through, tally_put}
+use Rattle.enabled_set.proofs.Counting.{past, tally_add, tally_through, tally_put}
 use Rattle.enabled_set.proofs.Before.{before_more, before_put}
 
 -- a stretch is counted before a place where it ends there
@@ -14,8 +14,8 @@ past_stretch w v i some =
     let turn = mul_comm w i in
     let fits = div-lt_iff_lt-mul {k = w} {x = v} {y = i} some in
     ⊎_elim
-    (λ (lt : v / w < i). past_above (v / w) i lt ∙ sym (past_above v (w * i) (let f : v < i * w = fits.0 lt in omega arith)))
-    (λ (le : i ≤ v / w). past_below (v / w) i le ∙ sym (past_below v (w * i) (let f : i * w ≤ v = (le-div_iff_mul-le {k = w} {x = i} {y = v} some).0 le in omega arith)))
+    (λ (lt : v / w < i). let f = fits.0 lt in omega arith)
+    (λ (le : i ≤ v / w). let f = (le-div_iff_mul-le {k = w} {x = i} {y = v} some).0 le in omega arith)
     (cases_lt (v / w) i)
 
 -- a stretch has no more members than places
@@ -66,7 +66,7 @@ count_more bits w counts v n some good there off is =
           before_put counts (set counts (v / w) (n + 1)) (v / w) (get_or-set_same counts (v / w) (n + 1) 0 inside ∙ omega arith) (λ k apart. get_or-set_other counts (v / w) k (n + 1) 0 apart) i
           ∙ ap (λ t. t + past (v / w) i) (good.counted i)
           ∙ ap (λ t. tally (is_in bits) (w * i) + t) (past_stretch w v i some)
-          ∙ sym (tally_put (is_in bits) (is_in (set bits v true)) v off (on_here bits v true there) (same_there bits v true) (w * i));
+          ∙ sym (tally_put (is_in bits) (is_in (set bits v true)) v off (on_here bits v true there) (w * i) (λ k low. same_there bits v true k));
     }
 
 -- one member less
@@ -81,7 +81,7 @@ count_less bits w counts v n some good there on is =
       counted = λ i.
           let here = get_or-set_same counts (v / w) (n - 1) 0 inside in
           let more = before_put (set counts (v / w) (n - 1)) counts (v / w) (omega arith) (λ k apart. sym (get_or-set_other counts (v / w) k (n - 1) 0 apart)) i in
-          let less = tally_put (is_in (set bits v false)) (is_in bits) v (on_here bits v false there) on (λ k apart. sym (same_there bits v false k apart)) (w * i) in
+          let less = tally_put (is_in (set bits v false)) (is_in bits) v (on_here bits v false there) on (w * i) (λ k low apart. sym (same_there bits v false k apart)) in
           let stretch = past_stretch w v i some in
           let was = good.counted i in
           omega arith;

@@ -1,9 +1,8 @@
 -- Sums of what a list has at a place for each name.
-use Rattle.std.proofs.Common.{◌≡◌, ℕ, suc, ◌+◌, ◌*◌, ◌-◌, ◌<◌, ◌≤◌, Bool, true, false, cond, List, [], ◌∷◌, length, get_or, replicate, set, map, sum_by, sym, refl, ap, ◌∙◌, ⊎_elim, arith}
+use Rattle.std.proofs.Common.{◌≡◌, ℕ, suc, ◌+◌, ◌*◌, ◌-◌, ◌<◌, ◌≤◌, Bool, true, false, cond, List, [], ◌∷◌, length, get_or, replicate, set, map, sum_by, sym, refl, ap, ◌∙◌, arith}
 use Rattle.std.specs.List.{All, range_with_len}
 use mir.Val.{bool_byte}
 use Rattle.std.proofs.Math.Nat.{le_trans}
-use Rattle.std.proofs.lemmas.Bool.{cases_lt}
 use Rattle.std.proofs.lemmas.Nat.{mul-le}
 use Rattle.std.proofs.lemmas.List.{ext_get_or, get_or-replicate, get_or_past, length-replicate, length-set}
 use Rattle.std.proofs.lemmas.List.Elements.{All-set}
@@ -13,7 +12,10 @@ use Rattle.std.proofs.lemmas.List.Sums.{get_or-le-sum_by, sum_by-cons, sum_by-le
 -- what is everywhere is at each place, and past the end
 pub everywhere : {X : Type 0} (n v : ℕ) (d : X) → get_or (replicate n d) v d ≡ d
 everywhere n v d =
-    ⊎_elim (λ (below : v < n). get_or-replicate n v d d below) (λ (past : n ≤ v). get_or_past (replicate n d) v d (let k = length-replicate n d in omega (arith, k))) (cases_lt v n)
+    let size = length-replicate n d in
+    let there = get_or-replicate n v d d in
+    let past = get_or_past (replicate n d) v d in
+    grind arith
 
 -- a test as a number
 pub one_byte : (b : Bool) → bool_byte b ≡ cond b 1 0

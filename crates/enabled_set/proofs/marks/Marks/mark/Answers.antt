@@ -1,7 +1,7 @@
 use Rattle.std.proofs.Common.{◌+◌, ◌<◌, ◌∙◌, ℕ, true, false, length, set, sym, ap, subst, arith}
 use Rattle.std.proofs.lemmas.List.{get_or_read}
 use Rattle.enabled_set.specs.Listed.{AreListed}
-use Rattle.enabled_set.proofs.Listed.{listed_more, room_left}
+use Rattle.enabled_set.proofs.Listed.{one_listed_more, room_left}
 use Rattle.enabled_set.proofs.marks.Marks.mark.Goals as goal
 
 pub index_mut-requires-2 : goal.index_mut-requires-2
@@ -25,4 +25,4 @@ invariant_of-self c =
     let count = c.self.inside.count in
     let there : c.place-place.result < length bits = omega (arith, ap length c.self.view_is, c.requires, c.place-place.ensures.same) in
     subst (λ (v : ℕ). AreListed (set bits c.place-place.result true) (set names count v) (count + 1)) c.place-place.ensures.same
-    (listed_more bits names count c.place-place.result c.self.invariant there (sym (get_or_read bits c.place-place.result c.index.result.now there c.index.ensures false) ∙ c.if-index.false))
+    (one_listed_more bits names count c.place-place.result c.self.invariant there (sym (get_or_read bits c.place-place.result c.index.result.now there c.index.ensures false) ∙ c.if-index.false))

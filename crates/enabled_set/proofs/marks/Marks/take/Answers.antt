@@ -2,7 +2,7 @@ use Rattle.std.proofs.Common.{◌≡◌, ◌+◌, ◌-◌, ◌∙◌, ℕ, false
 use Rattle.std.proofs.lemmas.List.{get_or_read}
 use Rattle.enabled_set.specs.Members.{is_in}
 use Rattle.enabled_set.specs.Listed.{AreListed}
-use Rattle.enabled_set.proofs.Listed.{all_listed, last_marked, listed_less, none_marked}
+use Rattle.enabled_set.proofs.Listed.{all_listed, last_marked, one_listed_less, none_marked}
 use Rattle.enabled_set.proofs.Members.{inside}
 use Rattle.enabled_set.proofs.marks.Marks.take.Goals as goal
 
@@ -34,7 +34,7 @@ invariant_of-self c =
     let some : count ≡ count - 1 + 1 = omega (arith, c.if-self-eq0.false) in
     let most = all_listed bits names count c.self.invariant in
     let at = get_or_read names (count - 1) c.index-v.result.now (omega (arith, most, c.if-self-eq0.false, c.self.invariant.room)) c.index-v.ensures 0 in
-    subst (λ (v : ℕ). AreListed (set bits v false) names (count - 1)) (sym c.place.ensures.same) (listed_less bits names count (count - 1) c.index-v.result.now some at c.self.invariant)
+    subst (λ (v : ℕ). AreListed (set bits v false) names (count - 1)) (sym c.place.ensures.same) (one_listed_less bits names count (count - 1) c.index-v.result.now some at c.self.invariant)
 
 pub returns-clause-some : goal.returns-clause-some
 returns-clause-some c =

@@ -1,10 +1,22 @@
-use Rattle.std.proofs.Common.{◌≤◌, ◌<◌, slice_get, get_or, length, ap, refl, sym, subst, ◌∙◌, arith}
+use Rattle.std.proofs.Common.{◌≡◌, ◌≤◌, ◌<◌, slice_get, get_or, length, ap, sym, subst, ◌∙◌, arith}
 use Rattle.std.proofs.lemmas.List.{get_or_read}
 use Rattle.std.specs.Prelude.{SomeIff}
 use Rattle.enabled_set.specs.Members.{members, has_bit, places_of}
 use Rattle.enabled_set.specs.Counts.{tally}
-use Rattle.enabled_set.proofs.Nth.{enough_lots, enough_groups, enough_words, word_there, passed, nth_none, nth_some}
+use Rattle.enabled_set.proofs.Nth.{enough_lots, enough_groups, enough_words, passed, nth_none, nth_some}
 use Rattle.enabled_set.proofs.set.EnabledSet.nth.Goals as goal
+use Rattle.enabled_set.proofs.set.EnabledSet.nth.Goals.{After-pass_words-spot, After-index}
+
+-- the word at which the last scan stands is there
+there : (c : After-pass_words-spot) → c.pass_words-spot.result.place < length c.self.inside.words.items
+there c =
+    let it = c.self.inside in
+    let room = enough_words (places_of it.len it.words.items) it.words.items it.by_512.items it.by_4096.items c.deref-2.result.now c.deref-3.result.now it.total c.pass_in_8-group.result.place c.pass_in_8-group.result.left c.self.invariant c.deref-2.ensures.value c.deref-3.ensures.value c.pass_in_8-group.ensures.here in
+    omega (arith, room.0, ap length c.deref-3.ensures.value, c.pass_words-spot.ensures.near)
+
+-- and it is what was read
+read : (c : After-index) → c.pass_words-spot.result.place < length c.self.inside.words.items → c.index.result.now ≡ get_or c.self.inside.words.items c.pass_words-spot.result.place 0
+read c within = get_or_read c.self.inside.words.items c.pass_words-spot.result.place c.index.result.now within c.index.ensures 0
 
 pub pass_in_16-lot-requires : goal.pass_in_16-lot-requires
 pass_in_16-lot-requires c =
@@ -25,20 +37,18 @@ pub returns-then-k-self : goal.returns-then-k-self
 returns-then-k-self c = sym (ap (λ bits. slice_get (members bits) c.args.k) (sym c.self.view_is) ∙ nth_none (places_of c.self.inside.len c.self.inside.words.items) c.self.inside.words.items c.self.inside.by_512.items c.self.inside.by_4096.items c.self.inside.total c.args.k c.self.invariant c.if-k-self.true)
 
 pub index-requires : goal.index-requires
-index-requires c =
-    let there = word_there (places_of c.self.inside.len c.self.inside.words.items) c.self.inside.words.items c.self.inside.by_512.items c.self.inside.by_4096.items c.deref-2.result.now c.deref-3.result.now c.self.inside.total c.pass_in_8-group.result.place c.pass_in_8-group.result.left c.pass_words-spot.result.place c.self.invariant c.deref-2.ensures.value c.deref-3.ensures.value c.pass_in_8-group.ensures.here c.pass_words-spot.ensures.near in
-    omega (arith, c.deref-3.ensures.len, ap length c.deref-3.ensures.value)
+index-requires c = omega (arith, there (goal.at.index-requires c).After-pass_words-spot, c.deref-3.ensures.len, ap length c.deref-3.ensures.value)
 
 pub find_bit-at-requires : goal.find_bit-at-requires
 find_bit-at-requires c =
-    let there = word_there (places_of c.self.inside.len c.self.inside.words.items) c.self.inside.words.items c.self.inside.by_512.items c.self.inside.by_4096.items c.deref-2.result.now c.deref-3.result.now c.self.inside.total c.pass_in_8-group.result.place c.pass_in_8-group.result.left c.pass_words-spot.result.place c.self.invariant c.deref-2.ensures.value c.deref-3.ensures.value c.pass_in_8-group.ensures.here c.pass_words-spot.ensures.near in
-    let read = get_or_read c.self.inside.words.items c.pass_words-spot.result.place c.index.result.now there c.index.ensures 0 in
-    subst (λ word. c.pass_words-spot.result.left < tally (has_bit word) 64) (ap (λ words. get_or words c.pass_words-spot.result.place 0) c.deref-3.ensures.value ∙ sym read) c.pass_words-spot.ensures.here
+    let at = goal.at.find_bit-at-requires c in
+    subst (λ word. c.pass_words-spot.result.left < tally (has_bit word) 64) (ap (λ words. get_or words c.pass_words-spot.result.place 0) c.deref-3.ensures.value ∙ sym (read at.After-index (there at.After-pass_words-spot))) c.pass_words-spot.ensures.here
 
 pub returns : goal.returns
 returns c =
-    let there = word_there (places_of c.self.inside.len c.self.inside.words.items) c.self.inside.words.items c.self.inside.by_512.items c.self.inside.by_4096.items c.deref-2.result.now c.deref-3.result.now c.self.inside.total c.pass_in_8-group.result.place c.pass_in_8-group.result.left c.pass_words-spot.result.place c.self.invariant c.deref-2.ensures.value c.deref-3.ensures.value c.pass_in_8-group.ensures.here c.pass_words-spot.ensures.near in
-    let read = get_or_read c.self.inside.words.items c.pass_words-spot.result.place c.index.result.now there c.index.ensures 0 in
-    let reached = passed (places_of c.self.inside.len c.self.inside.words.items) c.self.inside.words.items c.self.inside.by_512.items c.self.inside.by_4096.items c.deref.result.now c.deref-2.result.now c.deref-3.result.now c.self.inside.total c.args.k c.pass_in_16-lot.result.place c.pass_in_16-lot.result.left c.pass_in_8-group.result.place c.pass_in_8-group.result.left c.pass_words-spot.result.place c.pass_words-spot.result.left c.self.invariant c.deref.ensures.value c.deref-2.ensures.value c.deref-3.ensures.value c.pass_in_16-lot.ensures.passed c.pass_in_8-group.ensures.passed c.pass_words-spot.ensures.passed in
-    nth_some (places_of c.self.inside.len c.self.inside.words.items) c.self.inside.words.items c.self.inside.by_512.items c.self.inside.by_4096.items c.self.inside.words.items c.self.inside.total c.args.k c.index.result.now c.pass_words-spot.result.place c.pass_words-spot.result.left c.find_bit-at.result c.new.result c.self.invariant refl read reached c.find_bit-at.ensures.inside c.find_bit-at.ensures.on c.find_bit-at.ensures.passed (subst (λ n. SomeIff c.new.result ((1 ≤ n) × (n ≤ 65535)) n) c.from.ensures c.new.ensures)
-    ∙ ap (λ bits. slice_get (members bits) c.args.k) c.self.view_is
+    let at = goal.at.returns c in
+    let it = c.self.inside in
+    let bits = places_of it.len it.words.items in
+    let reached = passed bits it.words.items it.by_512.items it.by_4096.items c.deref.result.now c.deref-2.result.now c.deref-3.result.now it.total c.args.k c.pass_in_16-lot.result.place c.pass_in_16-lot.result.left c.pass_in_8-group.result.place c.pass_in_8-group.result.left c.pass_words-spot.result.place c.pass_words-spot.result.left c.self.invariant c.deref.ensures.value c.deref-2.ensures.value c.deref-3.ensures.value c.pass_in_16-lot.ensures.passed c.pass_in_8-group.ensures.passed c.pass_words-spot.ensures.passed in
+    nth_some bits it.words.items it.by_512.items it.by_4096.items it.total c.args.k c.index.result.now c.pass_words-spot.result.place c.pass_words-spot.result.left c.find_bit-at.result c.new.result c.self.invariant (read at.After-index (there at.After-pass_words-spot)) reached c.find_bit-at.ensures.inside c.find_bit-at.ensures.on c.find_bit-at.ensures.passed (subst (λ n. SomeIff c.new.result ((1 ≤ n) × (n ≤ 65535)) n) c.from.ensures c.new.ensures)
+    ∙ ap (λ xs. slice_get (members xs) c.args.k) c.self.view_is
