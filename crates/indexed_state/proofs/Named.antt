@@ -1,24 +1,21 @@
 -- Lists and sums over the names of a network's nodes, as a scan of all names up to its size makes them.
-use Rattle.std.proofs.Common.{◌≡◌, ℕ, ◌+◌, ◌≤◌, Bool, true, false, cond, ◌&&◌, List, [], ◌∷◌, filter, filter_map, length, sum_by, Option, None, refl, sym, ap, ◌∙◌, arith}
-use Rattle.std.specs.List.{range_with_len, cons_option}
+use Rattle.std.proofs.Common.{◌≡◌, ℕ, ◌≤◌, Bool, false, cond, ◌&&◌, List, [], ◌∷◌, filter, filter_map, length, sum_by, Option, None, refl, sym, ap, ◌∙◌, arith}
+use Rattle.std.specs.List.{range_with_len}
 use Rattle.std.proofs.lemmas.Bool.{true≢false}
 use Rattle.std.proofs.lemmas.List.FromFn.{length-range_with_len}
-use Rattle.std.proofs.lemmas.List.Sums.{sum_by-cons, count_by-le-length, length-filter}
+use Rattle.std.proofs.lemmas.List.Sums.{count_by-le-length, length-filter}
 use Rattle.rule_machine.specs.Network.{Network, linked, names, neighbours, present, node_count}
 use Rattle.rule_machine.specs.State.{State, IsState, partner, is_mutual}
 use Rattle.rule_machine.specs.Stable.{mutual_pairs, pair_above}
 use Rattle.machine_laws.specs.Neighbours.{linked_present, near_fails}
+use Rattle.suitor_index.proofs.Sums.{sum_filter}
 use Rattle.indexed_state.proofs.Partners.{partner_answered}
 use Rattle.indexed_state.specs.Shares.{answered_by}
 
 -- what passes both of two filters
 pub kept_twice : (p q : ℕ → Bool) (xs : List ℕ) → filter p (filter q xs) ≡ filter (λ x. q x && p x) xs
 kept_twice p q [] = refl
-kept_twice p q (x ∷ xs) = step (q x) (kept_twice p q xs)
-  where
-    step : (b : Bool) → filter p (filter q xs) ≡ filter (λ y. q y && p y) xs → filter p (cond b (x ∷ filter q xs) (filter q xs)) ≡ cond (b && p x) (x ∷ filter (λ y. q y && p y) xs) (filter (λ y. q y && p y) xs)
-    step true rest = ap (λ l. cond (p x) (x ∷ l) l) rest
-    step false rest = rest
+kept_twice p q (x ∷ xs) = let rest = kept_twice p q xs in grind arith
 
 -- there are no more nodes than names
 pub few_names : (net : Network) → node_count net ≤ net.size
@@ -35,31 +32,17 @@ few_neighbours net v =
     let most = count_by-le-length (linked net v) (names net) in
     omega (arith, kept, most, few_names net)
 
--- a sum over what a filter keeps
-pub sum_named : (f : ℕ → ℕ) (p : ℕ → Bool) (xs : List ℕ) → sum_by f (filter p xs) ≡ sum_by (λ x. cond (p x) (f x) 0) xs
-sum_named f p [] = refl
-sum_named f p (x ∷ xs) =
-    let whole = sum_by-cons (λ y. cond (p y) (f y) 0) x xs in
-    let first = kept (p x) in
-    let rest = sum_named f p xs in
-    omega (arith, whole, first, rest)
-  where
-    kept : (b : Bool) → sum_by f (cond b (x ∷ filter p xs) (filter p xs)) ≡ cond b (f x) 0 + sum_by f (filter p xs)
-    kept true = sum_by-cons f x (filter p xs)
-    kept false = omega arith
-
 -- a sum over the nodes, as a scan of all names makes it
 pub names_sum : (f : ℕ → ℕ) (net : Network) → sum_by f (names net) ≡ sum_by (λ v. cond (present net v) (f v) 0) (range_with_len 1 net.size)
-names_sum f net = sum_named f (present net) (range_with_len 1 net.size)
+names_sum f net = sum_filter f (present net) (range_with_len 1 net.size)
 
 -- what is found at the names that a filter keeps is all, where nothing is found at the others
 pub found_kept : {X : Type 0} (f : ℕ → Option X) (p : ℕ → Bool) → ((v : ℕ) → p v ≡ false → f v ≡ None) → (xs : List ℕ) → filter_map f (filter p xs) ≡ filter_map f xs
 found_kept f p none [] = refl
-found_kept f p none (x ∷ xs) = step (p x) refl (found_kept f p none xs)
-  where
-    step : (b : Bool) → p x ≡ b → filter_map f (filter p xs) ≡ filter_map f xs → filter_map f (cond b (x ∷ filter p xs) (filter p xs)) ≡ cons_option (f x) (filter_map f xs)
-    step true at rest = ap (cons_option (f x)) rest
-    step false at rest = rest ∙ ap (λ o. cons_option o (filter_map f xs)) (sym (none x at))
+found_kept f p none (x ∷ xs) =
+    let rest = found_kept f p none xs in
+    let nothing = none x in
+    grind arith
 
 -- an absent node has no partner
 absent_unmarried : (s : State) (v : ℕ) → IsState s → present s.network v ≡ false → partner s v ≡ None

@@ -1,5 +1,5 @@
 -- What a node brings depends on no more than its registers, its neighbours and who points at it.
-use Rattle.std.proofs.Common.{◌≡◌, ◌≢◌, ℕ, ◌+◌, Bool, true, false, cond, not, ◌&&◌, List, length, set, count_by, None, Some, is_some, is_none, option_and_then, refl, sym, ap, subst, ◌∙◌}
+use Rattle.std.proofs.Common.{◌≡◌, ◌≢◌, ℕ, ◌+◌, Bool, true, false, cond, not, ◌&&◌, List, length, set, count_by, None, Some, is_some, is_none, option_and_then, refl, sym, ap, subst, ◌∙◌, arith}
 use Rattle.enabled_set.specs.Members.{is_in}
 use Rattle.rule_machine.specs.Network.{neighbours}
 use Rattle.rule_machine.specs.State.{State, IsState, holds_at, pointer, points}
@@ -31,16 +31,11 @@ same_closing closes adds s u v near good also round =
     count_agree (λ x. points s.registers x v && closes s x) (λ x. points u.registers x v && closes u x) each (neighbours s.network v)
     ∙ ap (count_by (λ x. points u.registers x v && closes u x)) round.near
   where
-    by_test : (x : ℕ) (b : Bool) → points s.registers x v ≡ b → (points s.registers x v && closes s x) ≡ (points u.registers x v && closes u x)
-    by_test x true at =
-        let there = sym (round.pointed x) ∙ at in
-        ap (λ t. t && closes s x) at
-        ∙ near.closes_by_target s u x v good also (points_true s x v at) (points_true u x v there) (same_standing s u v round)
-        ∙ sym (ap (λ t. t && closes u x) there)
-    by_test x false at = ap (λ t. t && closes s x) at ∙ sym (ap (λ t. t && closes u x) (sym (round.pointed x) ∙ at))
-
     each : (x : ℕ) → (points s.registers x v && closes s x) ≡ (points u.registers x v && closes u x)
-    each x = by_test x (points s.registers x v) refl
+    each x =
+        let pointed = round.pointed x in
+        let closing = λ (at : points s.registers x v ≡ true) (there : points u.registers x v ≡ true). near.closes_by_target s u x v good also (points_true s x v at) (points_true u x v there) (same_standing s u v round) in
+        grind arith
 
 -- so what was told of a node is still right
 pub told_again : (courted_close : Bool) (closes : State → ℕ → Bool) (adds : State → ℕ → ℕ) (s u : State) (ends : List End) (each : List Share) (lower : List Bool) (v : ℕ) → AreNear closes adds → IsState s → IsState u → IsSameRound s u v → IsToldAt courted_close closes adds s ends each lower v → IsToldAt courted_close closes adds u ends each lower v

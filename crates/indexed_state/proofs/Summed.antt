@@ -1,8 +1,8 @@
 -- What the shares come to where no name is stale.
-use Rattle.std.proofs.Common.{◌≡◌, ℕ, suc, ◌+◌, ◌<◌, ◌≤◌, Bool, true, false, cond, not, ◌&&◌, List, [], ◌∷◌, length, get_or, count_by, sum_by, filter, filter_map, Option, None, Some, is_some, option_and_then, IsTrue, nat_eq, take, refl, sym, ap, ap₂, ◌∙◌, ⊎_elim, arith}
+use Rattle.std.proofs.Common.{◌≡◌, ℕ, suc, ◌+◌, ◌<◌, ◌≤◌, Bool, true, false, cond, not, ◌&&◌, List, [], ◌∷◌, length, get_or, count_by, sum_by, filter, filter_map, Option, None, Some, is_some, option_and_then, IsTrue, nat_eq, take, refl, sym, ap, ap₂, ◌∙◌, arith}
 use mir.Val.{bool_byte}
 use Rattle.std.specs.List.{range_with_len, cons_option}
-use Rattle.std.proofs.lemmas.Bool.{cases_eq, eq-eqb, false_from_ne_true, ne_eqb, true≢false}
+use Rattle.std.proofs.lemmas.Bool.{and_parts, eq-eqb, false_from_ne_true, true≢false}
 use Rattle.std.proofs.lemmas.List.Sums.{sum_by_more, sum_by-cons}
 use Rattle.enabled_set.specs.Members.{is_in, members}
 use Rattle.enabled_set.proofs.Sums.{summed}
@@ -75,8 +75,8 @@ none_passes p [] none = refl
 none_passes p (x ∷ xs) none =
     let whole = sum_by-cons (λ y. cond (p y) 1 0) x xs in
     let rest = none_passes p xs none in
-    let first : ◌≡◌ {A = ℕ} (cond (p x) 1 0) 0 = ap (λ b. cond {A = ℕ} b 1 0) (none x) in
-    omega (arith, whole, rest, first)
+    let first = none x in
+    grind arith
 
 -- none, at a node that has no suitor
 pub no_closing : (s : State) (closes : ℕ → Bool) (v : ℕ) → IsState s → has_suitor s v ≡ false → closing_at closes s v ≡ 0
@@ -85,7 +85,7 @@ no_closing s closes v good none =
     ap (λ b. b && closes x) (false_from_ne_true (points s.registers x v) (λ at. no_suitor s v x good none (points_true s x v at))))
 
 eq_back : (a b : ℕ) → nat_eq a b ≡ nat_eq b a
-eq_back a b = ⊎_elim (λ same. eq-eqb a b same ∙ sym (eq-eqb b a (sym same))) (λ apart. ne_eqb a b apart ∙ sym (ne_eqb b a (λ same. apart (sym same)))) (cases_eq a b)
+eq_back a b = grind arith
 
 -- the one suitor's, at a node that has one
 pub lone_closing : (s : State) (closes : ℕ → Bool) (v w : ℕ) → IsLoneSuitor s v w → closing_at closes s v ≡ cond (points s.registers w v && closes w) 1 0
@@ -95,19 +95,14 @@ lone_closing s closes v w lone =
     ∙ at_once (Some w) closes (names s.network) (in_names s.network w lone.here) (names_without_repeats s.network)
     ∙ ap (λ b. cond b 1 0) (sym (ap (λ b. b && closes w) here))
   where
-    regroup : (l p c : Bool) → (l && (p && c)) ≡ ((l && p) && c)
-    regroup true p c = refl
-    regroup false p c = refl
-
     each : (x : ℕ) → (linked s.network v x && (points s.registers x v && closes x)) ≡ (is_at (Some w) x && closes x)
-    each x = regroup (linked s.network v x) (points s.registers x v) (closes x) ∙ ap (λ b. b && closes x) (lone.alone x ∙ eq_back x w)
-
-    second : (l p : Bool) → (l && p) ≡ true → p ≡ true
-    second true p e = e
-    second false p e = absurd (true≢false (sym e))
+    each x =
+        let alone = lone.alone x in
+        let back = eq_back x w in
+        grind arith
 
     here : points s.registers w v ≡ true
-    here = second (linked s.network v w) (points s.registers w v) (lone.alone w ∙ eq-eqb w w refl)
+    here = (and_parts (linked s.network v w) (points s.registers w v) (lone.alone w ∙ eq-eqb w w refl)).1
 
 -- ---- sums
 
@@ -125,15 +120,7 @@ closing_summed s good closes null each places told =
 
 -- an edge as its ends make it is open as the charge counts it
 open_alike : (m n courted_close a b : Bool) → are_open (cond m Shut (cond (courted_close && a) Courted Free)) (cond n Shut (cond (courted_close && b) Courted Free)) ≡ (not m && not n && not (courted_close && (a && b)))
-open_alike true n c a b = refl
-open_alike false true true true b = refl
-open_alike false true true false b = refl
-open_alike false true false a b = refl
-open_alike false false false a b = refl
-open_alike false false true true true = refl
-open_alike false false true true false = refl
-open_alike false false true false true = refl
-open_alike false false true false false = refl
+open_alike m n c a b = grind arith
 
 pub ends_alike : (courted_close : Bool) (s : State) (v w : ℕ) → are_open (end_of courted_close s v) (end_of courted_close s w) ≡ ends_open courted_close s (v, w)
 ends_alike courted_close s v w = open_alike (married s v) (married s w) courted_close (is_courted s v) (is_courted s w)

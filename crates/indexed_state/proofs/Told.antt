@@ -1,6 +1,6 @@
 -- What is kept of each name, at first and after a look.
-use Rattle.std.proofs.Common.{◌≡◌, ◌≢◌, ℕ, ◌+◌, ◌<◌, ◌≤◌, Bool, true, false, cond, ◌&&◌, List, length, get_or, set, replicate, None, Some, is_some, option_and_then, IsTrue, leb, sym, ap, subst, ◌∙◌, ⊎_elim, arith}
-use Rattle.std.proofs.lemmas.Bool.{cases_eq, cases_lt, le-leb, lt-leb, and_left, true≢false}
+use Rattle.std.proofs.Common.{◌≡◌, ◌≢◌, ℕ, ◌+◌, ◌≤◌, Bool, true, false, cond, List, length, set, replicate, None, Some, is_some, option_and_then, IsTrue, sym, ap, subst, ◌∙◌, ⊎_elim, arith}
+use Rattle.std.proofs.lemmas.Bool.{cases_eq, le-leb, lt-leb, true≢false}
 use Rattle.std.proofs.lemmas.List.{get_or-set_other, get_or-set_same, length-replicate, length-set}
 use Rattle.enabled_set.specs.Members.{is_in}
 use Rattle.enabled_set.proofs.Sums.{everywhere}
@@ -33,12 +33,11 @@ told_at_first courted_close closes adds size count ends stale places all = recor
   where
     absent : (v : ℕ) → is_in stale v ≡ false → present (opening_with size count).network v ≡ false
     absent v fresh =
-        ⊎_elim (λ (none : v < 1). and_left (leb 1 v) _ (lt-leb 1 v none))
-        (λ (some : 1 ≤ v).
-        ⊎_elim (λ (past : size < v). ap (λ b. leb 1 v && (b && get_or (first_names size count) v false)) (lt-leb v size past) ∙ ap (λ b. b && false) (le-leb 1 v some))
-        (λ (within : v ≤ size). absurd (true≢false (sym (all v some within) ∙ fresh)))
-        (cases_lt size v))
-        (cases_lt v 1)
+        let listed = all v in
+        let low = lt-leb 1 v in
+        let some = le-leb 1 v in
+        let past = lt-leb v size in
+        grind arith
 
 -- a look at a name tells of it, and of the others what was told
 pub told_next : (courted_close : Bool) (closes : State → ℕ → Bool) (adds : State → ℕ → ℕ) (s : State) (ends ends' : List End) (each each' : List Share) (lower lower' stale stale' : List Bool) (v : ℕ) (share : Share) (is_lower : Bool) → v ≤ s.network.size → each' ≡ set each v share → lower' ≡ set lower v is_lower → stale' ≡ set stale v false → share.added ≡ cond (present s.network v) (node_part (adds s) s v) 0 → share.closing ≡ cond (present s.network v) (closing_at (closes s) s v) 0 → is_lower ≡ is_lower_end s.registers v → (IsTrue (present s.network v) → end_at ends' v ≡ end_of courted_close s v) → ((w : ℕ) → w ≢ v → end_at ends' w ≡ end_at ends w) → AreTold courted_close closes adds s ends each lower stale → AreTold courted_close closes adds s ends' each' lower' stale'
