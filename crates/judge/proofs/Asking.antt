@@ -1,10 +1,10 @@
 -- The neighbours that ask for a node become due one after another.
-use Rattle.std.proofs.Common.{◌≡◌, ◌≢◌, ℕ, ◌+◌, ◌<◌, ◌≤◌, Bool, true, false, cond, ◌||◌, ◌&&◌, List, ◌∷◌, length, find, drop, get_or, set, nat_eq, is_none, Some, is_some, IsTrue, refl, sym, ap, ◌∙◌, ⊎_elim, eqb-true}
+use Rattle.std.proofs.Common.{◌≡◌, ◌≢◌, ℕ, ◌+◌, ◌<◌, ◌≤◌, Bool, true, false, cond, ◌||◌, ◌&&◌, List, ◌∷◌, length, find, drop, get_or, set, nat_eq, is_none, Some, is_some, IsTrue, refl, sym, ap, ◌∙◌, ⊎_elim, eqb-true, arith}
 use Rattle.std.proofs.lemmas.Bool.{and_parts, cases_eq, eq-eqb, ne_eqb, false_from_ne_true, true≢false}
 use Rattle.std.proofs.lemmas.List.{drop_all, drop_more, get_or-set_other, get_or-set_same, length-set}
 use Rattle.enabled_set.specs.Members.{is_in}
 use Rattle.rule_machine.specs.Network.{linked, neighbours, present}
-use Rattle.rule_machine.specs.State.{State, IsState, pointer, points}
+use Rattle.rule_machine.specs.State.{State, IsState}
 use Rattle.machine_laws.specs.Neighbours.{linked_back, linked_present, near_found}
 use Rattle.judge.specs.Shares.{asks, AreAsking, IsMarked}
 
@@ -28,8 +28,9 @@ is_marked was is v there put = record {
 -- another name that asks for v is a neighbour
 asking_linked : (s : State) (x v : ℕ) → x ≢ v → asks s x v ≡ true → IsTrue (linked s.network v x)
 asking_linked s x v apart asked =
-    let near : (linked s.network x v && (is_none (pointer s x) || points s.registers x v)) ≡ true = sym (ap (λ e. e || (linked s.network x v && (is_none (pointer s x) || points s.registers x v))) (ne_eqb x v apart)) ∙ asked in
-    linked_back s.network v x ∙ (and_parts (linked s.network x v) _ near).0
+    let differs = ne_eqb x v apart in
+    let near : linked s.network x v ≡ true = grind arith in
+    linked_back s.network v x ∙ near
 
 pub asking_first : (s : State) (v : ℕ) (was is : List Bool) (items : List ℕ) → IsState s → IsMarked was is v → items ≡ neighbours s.network v → AreAskingBut s v was is items
 asking_first s v was is items good marked all = record {
@@ -48,12 +49,9 @@ asking_next s v was is is' items i w within at places further so_far = record {
       let fact = further x none in
       let rest = drop (i + 1) items in
       let found = sym (ap (λ l. is_some (find (λ y. nat_eq y x) l)) (drop_more items i w within ∙ ap (λ y. y ∷ rest) (sym at))) ∙ so_far.asking x fact.0 asked in
-      later (nat_eq w x) x refl (λ same. true≢false (sym asked ∙ ap (λ y. asks s y v) same ∙ fact.1 same)) rest found;
+      let apart : w ≢ x = λ same. true≢false (sym asked ∙ ap (λ y. asks s y v) (sym same) ∙ fact.1 (sym same)) in
+      sym (ap (λ b. is_some (cond b (Some w) (find (λ y. nat_eq y x) rest))) (ne_eqb w x apart)) ∙ found;
 }
-  where
-    later : (b : Bool) (x : ℕ) → nat_eq w x ≡ b → (x ≢ w) → (rest : List ℕ) → is_some (cond (nat_eq w x) (Some w) (find (λ y. nat_eq y x) rest)) ≡ true → is_some (find (λ y. nat_eq y x) rest) ≡ true
-    later true x e apart rest found = absurd (apart (sym (eqb-true w x e)))
-    later false x e apart rest found = sym (ap (λ b. is_some (cond b (Some w) (find (λ y. nat_eq y x) rest))) e) ∙ found
 
 pub asking_end : (s : State) (v : ℕ) (was is : List Bool) (items : List ℕ) (i : ℕ) → length items ≤ i → AreAskingBut s v was is (drop i items) → AreAsking s v was is
 asking_end s v was is items i end so_far = record {

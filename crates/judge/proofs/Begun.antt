@@ -1,6 +1,5 @@
 -- Where a run begins at a base: the state that a base's lines tell, and what is tested there.
-use Rattle.std.proofs.Common.{◌≡◌, ℕ, ◌+◌, ◌-◌, ◌≤◌, Bool, true, false, cond, ◌||◌, List, [], ◌∷◌, map, Option, Some, is_some, IfSome, nat_le, find, refl, sym, ap, ◌∙◌, subst, ⊎_elim, arith}
-use Rattle.std.specs.Cmp.{both_ways}
+use Rattle.std.proofs.Common.{◌≡◌, ℕ, ◌+◌, ◌-◌, ◌≤◌, true, false, List, [], ◌∷◌, map, Option, Some, is_some, IfSome, nat_le, find, refl, sym, ap, ◌∙◌, subst, ⊎_elim, arith}
 use Rattle.std.specs.List.{list_any}
 use Rattle.std.proofs.lemmas.Bool.{true≢false, false_from_ne_true, le-leb, leb-true}
 use Rattle.charge_laws.specs.Charged.{charge_bound}
@@ -28,19 +27,13 @@ charge_within Manne s = manne_bounded s
 -- what may be spent beside the charge
 pub beside : (spent charge bound : ℕ) → charge ≤ bound → nat_le spent (bound - charge) ≡ nat_le (spent + charge) bound
 beside spent charge bound most =
-    both_ways _ _
-    (λ fits. let le = leb-true spent (bound - charge) fits in le-leb (spent + charge) bound (omega (arith, le, most)))
-    (λ fits. let le = leb-true (spent + charge) bound fits in le-leb spent (bound - charge) (omega (arith, le, most)))
+    grind arith
 
 -- ---- flags
 
 any_flag : (s : State) (vs : List ℕ) → list_any (λ p. p.flagged) (map (place_at s) vs) ≡ is_some (find (flag s) vs)
 any_flag s [] = refl
-any_flag s (v ∷ vs) = step (flag s v) (any_flag s vs)
-  where
-    step : (b : Bool) → list_any (λ p. p.flagged) (map (place_at s) vs) ≡ is_some (find (flag s) vs) → (b || list_any (λ p. p.flagged) (map (place_at s) vs)) ≡ is_some (cond b (Some v) (find (flag s) vs))
-    step true rest = refl
-    step false rest = rest
+any_flag s (v ∷ vs) = let rest = any_flag s vs in grind arith
 
 -- where no node's flag is true none is
 pub none_flagged : (s : State) → IsState s → list_any (λ p. p.flagged) (places s) ≡ false → (v : ℕ) → flag s v ≡ false

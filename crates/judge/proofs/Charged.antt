@@ -29,21 +29,10 @@ AreTurned rules s ends = (v : ℕ) → present s.network v ≡ true → end_at e
 -- ---- the edges that are open by their ends
 
 hsu_huang_open : (m n c d : Bool) → are_open (cond m Shut (cond c Courted Free)) (cond n Shut (cond d Courted Free)) ≡ (not m && not n && not (c && d))
-hsu_huang_open true n c d = refl
-hsu_huang_open false true c d = shut c
-  where
-    shut : (c : Bool) → are_open (cond c Courted Free) Shut ≡ false
-    shut true = refl
-    shut false = refl
-hsu_huang_open false false true true = refl
-hsu_huang_open false false true false = refl
-hsu_huang_open false false false true = refl
-hsu_huang_open false false false false = refl
+hsu_huang_open m n c d = grind arith
 
 manne_open : (m n : Bool) → are_open (cond m Shut Free) (cond n Shut Free) ≡ (not m && not n)
-manne_open true n = refl
-manne_open false true = refl
-manne_open false false = refl
+manne_open m n = grind arith
 
 -- whether an edge is open by what its ends are
 abbrev apart : RuleSet → State → ℕ × ℕ → Bool
@@ -82,13 +71,9 @@ charge_turned rules s ends good told =
     let edges = apart_edges rules s ends good told in
     let whole = split rules s good in
     let closing = kept_sum (present s.network) (λ v. cond (closes rules s v) 1 0) (range_with_len 1 s.network.size) in
-    let ones = sum_agree (λ v. cond (present s.network v) (cond (closes rules s v) 1 0) 0) (λ v. cond {A = ℕ} (cond (present s.network v) (closes rules s v) false) 1 0) (λ v. one (present s.network v) (closes rules s v)) (range_with_len 1 s.network.size) in
+    let ones = sum_agree (λ v. cond (present s.network v) (cond (closes rules s v) 1 0) 0) (λ v. cond {A = ℕ} (cond (present s.network v) (closes rules s v) false) 1 0) (λ v. grind arith) (range_with_len 1 s.network.size) in
     let added = kept_sum (present s.network) (adds rules s) (range_with_len 1 s.network.size) in
     omega (arith, edges, whole, closing, ones, added)
-  where
-    one : (b c : Bool) → cond {A = ℕ} b (cond c 1 0) 0 ≡ cond {A = ℕ} (cond b c false) 1 0
-    one true c = refl
-    one false c = refl
 
 -- what is counted
 pub record IsCounted (rules : RuleSet) (s : State) (ends : List End) (pairs enabled added closing : ℕ) : Type 0 where

@@ -1,5 +1,5 @@
 -- What is counted at the nodes in turn.
-use Rattle.std.proofs.Common.{rules, ◌≡◌, ℕ, ◌+◌, Bool, true, false, cond, nat_lt, List, [], ◌∷◌, length, filter, filter_map, sum_by, Option, None, Some, is_some, refl, sym, ap, ◌∙◌, arith}
+use Rattle.std.proofs.Common.{rules, ◌≡◌, ℕ, ◌+◌, Bool, cond, nat_lt, List, [], ◌∷◌, length, filter, filter_map, sum_by, Option, None, Some, is_some, refl, ◌∙◌, arith}
 use Rattle.std.specs.List.{cons_option}
 use Rattle.std.specs.Ordering.{is_lt, nat_cmp}
 use Rattle.std.proofs.lemmas.List.Sums.{sum_by-cons, length-filter}
@@ -25,32 +25,23 @@ pub kept_sum : {X : Type 0} (p : X → Bool) (f : X → ℕ) (xs : List X) → s
 kept_sum p f [] = refl
 kept_sum p f (x ∷ xs) =
     let whole = sum_by-cons (λ y. cond (p y) (f y) 0) x xs in
+    let kept = sum_by-cons f x (filter p xs) in
     let rest = kept_sum p f xs in
-    step (p x) rest ∙ sym whole
-  where
-    step : (b : Bool) → sum_by f (filter p xs) ≡ sum_by (λ y. cond (p y) (f y) 0) xs → sum_by f (cond b (x ∷ filter p xs) (filter p xs)) ≡ cond b (f x) 0 + sum_by (λ y. cond (p y) (f y) 0) xs
-    step true same = sum_by-cons f x (filter p xs) ∙ ap (λ n. f x + n) same
-    step false same = omega (arith, same)
+    grind arith
 
 -- the values at what passes a test
 pub kept_values : {X Y : Type 0} (p : X → Bool) (f g : X → Option Y) → ((x : X) → g x ≡ cond (p x) (f x) None) → (xs : List X) → filter_map f (filter p xs) ≡ filter_map g xs
 kept_values p f g same [] = refl
 kept_values p f g same (x ∷ xs) =
-    step (p x) (kept_values p f g same xs) ∙ ap (λ o. cons_option o (filter_map g xs)) (sym (same x))
-  where
-    step : (b : Bool) → filter_map f (filter p xs) ≡ filter_map g xs → filter_map f (cond b (x ∷ filter p xs) (filter p xs)) ≡ cons_option (cond b (f x) None) (filter_map g xs)
-    step true rest = ap (cons_option (f x)) rest
-    step false rest = rest
+    let here = same x in
+    let rest = kept_values p f g same xs in
+    grind arith
 
 -- how many of what passes a test have a value
 pub kept_count : {X Y : Type 0} (p : X → Bool) (f : X → Option Y) (xs : List X) → length (filter (λ x. is_some (f x)) (filter p xs)) ≡ sum_by (λ x. cond (is_some (cond (p x) (f x) None)) 1 0) xs
 kept_count {Y = Y} p f xs =
     length-filter (λ x. is_some (f x)) (filter p xs) ∙ kept_sum p (λ x. cond (is_some (f x)) 1 0) xs
-    ∙ sum_agree (λ x. cond (p x) (cond (is_some (f x)) 1 0) 0) (λ x. cond (is_some (cond (p x) (f x) None)) 1 0) (λ x. one (p x) (f x)) xs
-  where
-    one : (b : Bool) (o : Option Y) → cond {A = ℕ} b (cond (is_some o) 1 0) 0 ≡ cond {A = ℕ} (is_some (cond b o None)) 1 0
-    one true o = refl
-    one false o = refl
+    ∙ sum_agree (λ x. cond (p x) (cond (is_some (f x)) 1 0) 0) (λ x. cond (is_some (cond (p x) (f x) None)) 1 0) (λ x. grind arith) xs
 
 -- ---- names compared
 

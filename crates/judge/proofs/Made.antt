@@ -6,7 +6,7 @@ use Rattle.std.specs.List.{range_with_len, list_any}
 use Rattle.std.specs.List.Sorted.{IsStrictlyIncreasing}
 use Rattle.std.specs.Ordering.{eq_by_cmp, ordering_reverse, is_eq}
 use Rattle.std.specs.declared.cmp.Ordering.TheVariants.{Less, Greater}
-use Rattle.std.proofs.lemmas.Bool.{true≢false, eq-eqb, eqb-true, ne_eqb, false_from_ne_true, leb-true, and_parts, or_from}
+use Rattle.std.proofs.lemmas.Bool.{true≢false, eq-eqb, eqb-true, ne_eqb, false_from_ne_true, leb-true, and_parts, not-false, or_from}
 use Rattle.std.proofs.lemmas.List.{length-map, length-take, take_more}
 use Rattle.std.proofs.lemmas.List.Folds.{list_any_at}
 use Rattle.rule_machine.specs.declared.base.Place.{Place}
@@ -41,9 +41,7 @@ names_below u [] k d up within = absurd (omega arith)
 names_below u (p ∷ nodes) zero d up within = (up.0, tt)
 names_below u (p ∷ nodes) (suc k) d up within =
     let more = names_below p.node nodes k d up.1 (omega (arith, within)) in
-    let first = up.0 in
-    let second = more.0 in
-    (omega (arith, first, second), (more.0, more.1))
+    (omega (arith, up.0, more.0), (more.0, more.1))
 
 below_absent : (nodes : List Place) (v : ℕ) → NamesBelow nodes v → has (names_in nodes) v ≡ false
 below_absent [] v below = refl
@@ -68,15 +66,13 @@ names_are net nodes up here =
     ap (λ (p : ℕ → Bool). filter p (range_with_len 1 net.size)) (λ i x. here x i)
     ∙ part_of_names net.size (names_in nodes) (increasing 0 nodes up) (λ w h. present_range net w (here w ∙ h))
 
-none_between : (v : ℕ) → 1 ≤ v → v ≤ 0 → ⊥
-none_between v low high = omega (arith, low, high)
-
 pub nobody_there : (size v : ℕ) → present (edgeless_with size 0) v ≡ false
 nobody_there size v = false_from_ne_true (present (edgeless_with size 0) v) (λ h.
     let range = present_range (edgeless_with size 0) v h in
     let row : get_or (first_names size 0) v false ≡ true = (and_parts _ _ (and_parts _ _ h).1).1 in
     let at = and_parts (leb 1 v) (leb v 0) (sym (first_names_at size 0 v range.1) ∙ row) in
-    none_between v range.0 (leb-true v 0 at.1))
+    let high = leb-true v 0 at.1 in
+    absurd (omega arith))
 
 -- ---- what a state lists
 
@@ -97,9 +93,7 @@ place_listed s nodes k place same within is =
 
 pub not_beyond : (s : State) (nodes : List Place) (k : ℕ) (place : Place) (size : ℕ) → k < length nodes → place ≡ get_or nodes k place → size < place.node → s.network.size ≡ size → places s ≡ nodes → ⊥
 not_beyond s nodes k place size within is above same listed =
-    let at = present_range s.network place.node (place_listed s nodes k place listed within is).0 in
-    let high = at.1 in
-    omega (arith, high, above, same)
+    omega (arith, (present_range s.network place.node (place_listed s nodes k place listed within is).0).1, above, same)
 
 -- the same names are the same nodes
 present_in : (net more : Network) → names net ≡ names more → (v : ℕ) → present net v ≡ true → present more v ≡ true
@@ -144,12 +138,8 @@ low_pair : (a b : ℕ) → a < b → edge a b ≡ (a, b)
 low_pair a b lt = λ i. ((let low : min a b ≡ a = omega arith in low) i, (let high : max a b ≡ b = omega arith in high) i)
 
 free : (p q e l m : Bool) → p ≡ true → q ≡ true → e ≡ false → l ≡ false → m ≡ false → cond (not (p && q)) (Some UnknownNode) (cond e (Some SelfLoop) (cond l (Some AlreadyLinked) (cond m (Some TooManyEdges) None))) ≡ None
-free true true false false false first second third fourth fifth = refl
-free false q e l m first second third fourth fifth = absurd cc
-free true false e l m first second third fourth fifth = absurd cc
-free true true true l m first second third fourth fifth = absurd cc
-free true true false true m first second third fourth fifth = absurd cc
-free true true false false true first second third fourth fifth = absurd cc
+free p q e l m first second third fourth fifth i =
+    cond (not (first i && second i)) (Some UnknownNode) (cond (third i) (Some SelfLoop) (cond (fourth i) (Some AlreadyLinked) (cond (fifth i) (Some TooManyEdges) None)))
 
 -- an edge at its place
 pub may_link : (net : Network) (es : List (ℕ × ℕ)) (k : ℕ) (e : ℕ × ℕ) → edge_list net ≡ take k es → EdgesRise (0, 0) es → k < length es → length es ≤ 1048576 → e ≡ get_or es k e → e.0 < e.1 → present net e.0 ≡ true → present net e.1 ≡ true → link_refusal net e.0 e.1 ≡ None
@@ -235,19 +225,11 @@ pointer_allowed s net nodes k place good same joined listed within is =
     let kept : linked net place.node w ≡ linked s.network place.node w = finmap.contains_key-keys net.edges q ∙ ap (list_any (eq_by_cmp pair_cmp q)) (sym joined) ∙ sym (finmap.contains_key-keys s.network.edges q) in
     (present_in s.network net same w (edges.linked_present s.network place.node w good.is_network near), kept ∙ near))
 
-one_present : (b : Bool) → cond b None (Some UnknownNode) ≡ None → b ≡ true
-one_present true e = refl
-one_present false e = absurd cc
-
-both_true : (b : Bool) → not b ≡ false → b ≡ true
-both_true true e = refl
-both_true false e = absurd cc
-
 -- where a pointer may be written there is a node
 pub allowed_present : (net : Network) (v : ℕ) (o : Option ℕ) → point_refusal net v o ≡ None → present net v ≡ true
-allowed_present net v None e = one_present (present net v) e
+allowed_present net v None e = grind arith
 allowed_present net v (Some w) e =
-    (and_parts (present net v) (present net w) (both_true _ (cond-none (not (present net v && present net w)) UnknownNode _ e).0)).0
+    (and_parts (present net v) (present net w) (not-false _ (cond-none (not (present net v && present net w)) UnknownNode _ e).0)).0
 
 names_mapped : (s : State) (vs : List ℕ) → names_in (map (place_at s) vs) ≡ vs
 names_mapped s [] = refl

@@ -1,6 +1,6 @@
 -- What is told of a node by its pointer.
-use Rattle.std.proofs.Common.{◌≡◌, ℕ, Bool, true, false, cond, not, ◌&&◌, ◌||◌, nat_lt, Option, None, Some, is_some, is_none, IsTrue, refl, sym, ap, ap₂, ◌∙◌}
-use Rattle.std.proofs.lemmas.Bool.{ne_eqb, true≢false}
+use Rattle.std.proofs.Common.{◌≡◌, ℕ, Bool, true, false, cond, not, ◌&&◌, ◌||◌, nat_lt, None, Some, is_some, is_none, IsTrue, refl, sym, ap, ap₂, ◌∙◌, arith}
+use Rattle.std.proofs.lemmas.Bool.{and_right, ne_eqb, true≢false}
 use Rattle.rule_machine.specs.declared.rules.RuleSet.TheVariants.{Manne}
 use Rattle.rule_machine.specs.Network.{linked, present}
 use Rattle.rule_machine.specs.State.{State, IsState, flag, holds_at, married, partner, pointer, points}
@@ -13,39 +13,23 @@ use Rattle.judge.specs.Shares.{asks, closes}
 -- it is the lower end of a pair if its target is above it and points back
 pub lower_end : (s : State) (v w : ℕ) → IsState s → IsTrue (present s.network v) → pointer s v ≡ Some w → (b : Bool) → points s.registers w v ≡ b → is_some (pair_at s v) ≡ (nat_lt v w && b)
 lower_end s v w good here at true back =
-    ap₂ (λ p o. is_some (cond p (pair_above v o) None)) here (partner_from s v w good at (points_true s w v back)) ∙ one (nat_lt v w)
-  where
-    one : (b : Bool) → is_some (cond {A = Option (ℕ × ℕ)} b (Some (v, w)) None) ≡ (b && true)
-    one true = refl
-    one false = refl
+    ap₂ (λ p o. is_some (cond p (pair_above v o) None)) here (partner_from s v w good at (points_true s w v back)) ∙ grind arith
 lower_end s v w good here at false back =
-    ap₂ (λ p o. is_some (cond p (pair_above v o) None)) here (none_is (partner s v) (unanswered_unmarried s v w at (λ e. true≢false (sym (points_from s w v e) ∙ back)))) ∙ none (nat_lt v w)
-  where
-    none : (b : Bool) → false ≡ (b && false)
-    none true = refl
-    none false = refl
+    ap₂ (λ p o. is_some (cond p (pair_above v o) None)) here (none_is (partner s v) (unanswered_unmarried s v w at (λ e. true≢false (sym (points_from s w v e) ∙ back)))) ∙ grind arith
 
 pub no_lower_end : (s : State) (v : ℕ) → pointer s v ≡ None → is_some (pair_at s v) ≡ false
 no_lower_end s v null =
-    ap (λ o. is_some (cond (present s.network v) (pair_above v o) None)) (none_is (partner s v) (null_unmarried s v null)) ∙ one (present s.network v)
-  where
-    one : (b : Bool) → is_some (cond {A = Option (ℕ × ℕ)} b None None) ≡ false
-    one true = refl
-    one false = refl
+    ap (λ o. is_some (cond (present s.network v) (pair_above v o) None)) (none_is (partner s v) (null_unmarried s v null)) ∙ grind arith
 
 -- under the rules of Manne and others its pointer closes an edge only where its target is not married
 pub manne_closing : (s : State) (v w : ℕ) → IsState s → pointer s v ≡ Some w → closes Manne s v ≡ ((nat_lt v w && not (flag s w)) && not (married s w))
 manne_closing s v w good at = go (points s.registers w v) refl
   where
-    none : (b : Bool) → false ≡ (b && false)
-    none true = refl
-    none false = refl
-
     go : (back : Bool) → points s.registers w v ≡ back → closes Manne s v ≡ ((nat_lt v w && not (flag s w)) && not (married s w))
     go true back =
         let there = points_true s w v back in
         ap (λ m. not m && holds_at (λ w. nat_lt v w && not (flag s w) && not (married s w)) (pointer s v)) (married_from s v w good at there)
-        ∙ none (nat_lt v w && not (flag s w)) ∙ sym (ap (λ m. (nat_lt v w && not (flag s w)) && not m) (married_from s w v good there at))
+        ∙ sym (and_right (nat_lt v w && not (flag s w)) _ refl) ∙ sym (ap (λ m. (nat_lt v w && not (flag s w)) && not m) (married_from s w v good there at))
     go false back =
         ap₂ (λ m o. not m && holds_at (λ w. nat_lt v w && not (flag s w) && not (married s w)) o) (unanswered_unmarried s v w at (λ e. true≢false (sym (points_from s w v e) ∙ back))) at
 

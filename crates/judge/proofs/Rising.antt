@@ -117,8 +117,7 @@ told_rule t s v p e = told (present s.network v) (rule_at t s v) e
     told false o e = absurd (none-some p e)
 
 mapped : {X Y : Type 0} (h : X → Y) (b : Bool) (o : Option X) → option_map h (cond b o None) ≡ cond b (option_map h o) None
-mapped h true o = refl
-mapped h false o = refl
+mapped h b o = grind arith
 
 some_mapped : {X Y : Type 0} (h : X → Y) (o : Option X) → is_some (option_map h o) ≡ is_some o
 some_mapped h None = refl

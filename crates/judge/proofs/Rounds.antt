@@ -1,6 +1,6 @@
 -- What a name brings depends on no more than what is round the names that it asks.
 use Rattle.std.proofs.Common.{◌≡◌, ℕ, ◌+◌, Bool, true, false, cond, not, ◌&&◌, ◌||◌, List, length, set, find, nat_eq, nat_lt, nat_le, Option, None, Some, is_some, is_none, IsTrue, refl, sym, ap, ap₂, subst, ◌∙◌}
-use Rattle.std.proofs.lemmas.Bool.{eq-eqb, or_left}
+use Rattle.std.proofs.lemmas.Bool.{eq-eqb, or_left, or_right, and_from}
 use Rattle.enabled_set.specs.Members.{is_in}
 use Rattle.rule_machine.specs.declared.act.Act.{Act}
 use Rattle.rule_machine.specs.declared.act.Act.TheVariants.{Update, Marry, Seduce, Abandon}
@@ -33,23 +33,15 @@ itself s v = or_left _ _ (eq-eqb v v refl)
 own : (s u : State) (v : ℕ) → AreSameRounds s u v → IsSameRound s u v
 own s u v rounds = rounds v (itself s v)
 
-behind : (a b : Bool) → b ≡ true → (a || b) ≡ true
-behind true b e = refl
-behind false b e = e
-
-both : (a b : Bool) → a ≡ true → b ≡ true → (a && b) ≡ true
-both true b e f = f
-both false b e f = e
-
 -- its target
 at_target : (s : State) (v w : ℕ) → IsState s → pointer s v ≡ Some w → asks s v w ≡ true
 at_target s v w good at =
-    behind (nat_eq v w) _ (both (linked s.network v w) _ (pointer_linked s v w good at) (behind (is_none (pointer s v)) _ (points_from s v w at)))
+    or_right (nat_eq v w) _ (and_from (linked s.network v w) _ (pointer_linked s v w good at) (or_right (is_none (pointer s v)) _ (points_from s v w at)))
 
 -- its neighbours, where it points nowhere
 at_neighbour : (s : State) (v w : ℕ) → pointer s v ≡ None → IsTrue (linked s.network v w) → asks s v w ≡ true
 at_neighbour s v w null link =
-    behind (nat_eq v w) _ (both (linked s.network v w) _ link (or_left _ _ (ap is_none null)))
+    or_right (nat_eq v w) _ (and_from (linked s.network v w) _ link (or_left _ _ (ap is_none null)))
 
 pub same_asks : (s u : State) (v w : ℕ) → IsSameRound s u v → asks s v w ≡ asks u v w
 same_asks s u v w round = λ i. nat_eq v w || (round.link w i && (is_none (round.own_pointer i) || is_at (round.own_pointer i) w))
@@ -79,17 +71,11 @@ abbrev rule_of : Bool → Option ℕ → Bool → Bool → Bool → Option Act
 rule_of settled o courted near vain =
     first_of (not settled) (settled && is_none o && courted) (settled && is_none o && not courted && near) (settled && vain)
 
-near_apart : (settled : Bool) (w : ℕ) (c d m n vain : Bool) → rule_of settled (Some w) c m vain ≡ rule_of settled (Some w) d n vain
-near_apart true w c d m n vain = refl
-near_apart false w c d m n vain = refl
-
 -- who is near is asked only where the node points nowhere
 rule_alike : (o p : Option ℕ) (a b c d m n x y : Bool) → o ≡ p → a ≡ b → c ≡ d → (o ≡ None → m ≡ n) → x ≡ y → rule_of a o c m x ≡ rule_of b p d n y
-rule_alike None p a b c d m n x y same settled courted near vain =
-    let alike = near refl in
-    λ i. rule_of (settled i) (same i) (courted i) (alike i) (vain i)
-rule_alike (Some w) p a b c d m n x y same settled courted near vain =
-    near_apart a w c d m n x ∙ (λ i. rule_of (settled i) (same i) d n (vain i))
+rule_alike None p a b c d m n x y same settled courted near vain = cc (near refl)
+rule_alike (Some w) p true b c d m n x y same settled courted near vain = cc
+rule_alike (Some w) p false b c d m n x y same settled courted near vain = cc
 
 abbrev hsu_huang_vain : State → ℕ → ℕ → Bool
 hsu_huang_vain s v w = is_some (pointer s w) && not (points s.registers w v)

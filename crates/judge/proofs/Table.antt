@@ -2,7 +2,8 @@
 use Rattle.std.proofs.Common.{◌≡◌, ℕ, zero, suc, ◌+◌, ◌<◌, Bool, true, false, cond, not, ◌&&◌, ◌||◌, List, [], ◌∷◌, ◌++◌, length, get_or, take, drop, set, find, Option, None, Some, is_some, is_none, option_map, nat_eq, IfSome, IsTrue, refl, sym, ap, ◌∙◌, subst, ⊎_elim, arith, eq-eqb, eqb-true}
 use Rattle.std.specs.List.{list_any, list_all}
 use Rattle.std.specs.Option.{option_or}
-use Rattle.std.proofs.lemmas.Bool.{or_parts, cases_eq, cases_Bool, ne_eqb, and_parts}
+use Rattle.std.specs.Cmp.{both_ways}
+use Rattle.std.proofs.lemmas.Bool.{or_parts, or_from, or_left, or_right, or_cases, cases_eq, ne_eqb, and_parts}
 use Rattle.std.proofs.lemmas.List.{get_or-set_same, get_or-set_other, take_more, drop_more}
 use Rattle.std.proofs.lemmas.List.Folds.{find-append}
 use Rattle.rule_machine.specs.declared.act.Act.{Act}
@@ -34,8 +35,7 @@ beginning_fails : {X : Type 0} (p : X → Bool) (xs : List X) (k : ℕ) → list
 beginning_fails p xs zero e = refl
 beginning_fails p [] (suc k) e = refl
 beginning_fails p (x ∷ xs) (suc k) e =
-    let parts = or_parts (p x) (list_any p xs) e in
-    ap (λ b. b || list_any p (take k xs)) parts.0 ∙ beginning_fails p xs k parts.1
+    let parts = or_parts (p x) (list_any p xs) e in or_from _ _ parts.0 (beginning_fails p xs k parts.1)
 
 -- ---- items that are put into the table
 
@@ -87,15 +87,14 @@ first_more t s table items k item act held within is place fresh v =
     let ruled : Option RuledItem = Some (record { item = item; act = act }) in
     let more : take (k + 1) items ≡ front ++ item ∷ [] = take_more items k item within ∙ ap (λ i. front ++ i ∷ []) (sym is) in
     let apart : item_of (take (k + 1) items) v ≡ option_or (item_of front v) (cond (nat_eq item.node v) (Some item) None) = ap (λ l. item_of l v) more ∙ find-append (λ i. nat_eq i.node v) front (item ∷ []) in
-    ⊎_elim
-    (λ (same : v ≡ item.node).
-    let none : item_of front v ≡ None = ap (item_of front) same ∙ not_found (λ i. nat_eq i.node item.node) front fresh in
-    ap (λ w. item_at (set table item.node ruled) w) same ∙ ap (option_map (λ r. r.item)) (get_or-set_same table item.node ruled None place)
-    ∙ sym (apart ∙ ap (λ b. option_or (item_of front v) (cond b (Some item) None)) (eq-eqb item.node v (sym same)) ∙ ap (λ o. option_or o (Some item)) none))
-    (λ (other : v ≡ item.node → ⊥).
-    ap (option_map (λ r. r.item)) (get_or-set_other table item.node v ruled None other) ∙ held.first v ∙ sym (option_or-none (item_of front v))
-    ∙ sym (apart ∙ ap (λ b. option_or (item_of front v) (cond b (Some item) None)) (ne_eqb item.node v (λ e. other (sym e)))))
-    (cases_eq v item.node)
+    let none = not_found (λ i. nat_eq i.node item.node) front fresh in
+    let here = get_or-set_same table item.node ruled None place in
+    let other = get_or-set_other table item.node v ruled None in
+    let was = held.first v in
+    let same = eq-eqb item.node v in
+    let differs = ne_eqb item.node v in
+    let kept = option_or-none (item_of front v) in
+    grind arith
 
 -- the table holds one more item, at a place that it has, with the rule of its node
 pub held_more : (t : RuleTable) (s : State) (table : List (Option RuledItem)) (items : List Item) (k : ℕ) (item : Item) (act : Act) → Holds t s table (take k items) → IsRuled t s item act → k < length items → item ≡ get_or items k item → item.node < length table → is_named (take k items) item.node ≡ false → Holds t s (set table item.node (Some (record { item = item; act = act }))) (take (k + 1) items)
@@ -142,29 +141,16 @@ asked_in t s m [] all own e = cc
 asked_in t s m (item ∷ items) all own e =
     ⊎_elim
     (λ yes. ap (λ o. is_move_by t s o m) (ap (item_of all) (sym (of_node t s item m yes)) ∙ own.own 0 item (omega arith)) ∙ yes)
-    (λ no. asked_in t s m items all (own_rest item items all own) (sym (ap (λ b. b || list_any (λ i. is_move_of t s i m) items) no) ∙ e))
-    (cases_Bool (is_move_of t s item m))
+    (λ later. asked_in t s m items all (own_rest item items all own) later)
+    (or_cases (is_move_of t s item m) (list_any (λ i. is_move_of t s i m) items) e)
 
 any_found : (t : RuleTable) (s : State) (m : Moved) (items : List Item) → is_move_by t s (item_of items m.node) m ≡ true → list_any (λ i. is_move_of t s i m) items ≡ true
 any_found t s m [] e = cc
 any_found t s m (item ∷ items) e =
     (elim (nat_eq item.node m.node) as (λ b. is_move_by t s (cond b (Some item) (item_of items m.node)) m ≡ true → (is_move_of t s item m || list_any (λ i. is_move_of t s i m) items) ≡ true) [
-      | true ↦ λ yes. ap (λ b. b || list_any (λ i. is_move_of t s i m) items) yes
-      | false ↦ λ later. ap (λ b. is_move_of t s item m || b) (any_found t s m items later) ∙ or_true (is_move_of t s item m)
+      | true ↦ λ yes. or_left _ _ yes
+      | false ↦ λ later. or_right _ _ (any_found t s m items later)
     ]) e
-  where
-    or_true : (b : Bool) → (b || true) ≡ true
-    or_true true = refl
-    or_true false = refl
-
-same_tests : (a b : Bool) → (a ≡ true → b ≡ true) → (b ≡ true → a ≡ true) → a ≡ b
-same_tests true b f g = sym (f refl)
-same_tests false true f g = g refl
-same_tests false false f g = refl
-
-all_agree : {X : Type 0} (p q : X → Bool) (xs : List X) → ((x : X) → p x ≡ q x) → list_all p xs ≡ list_all q xs
-all_agree p q [] h = refl
-all_agree p q (x ∷ xs) h = ap (λ b. b && list_all p xs) (h x) ∙ ap (λ b. q x && b) (all_agree p q xs h)
 
 pub own_items : (t : RuleTable) (s : State) (items : List Item) → step_refusal t s items ≡ None → Own items items
 own_items t s items none = record { own = own_item t s items none }
@@ -172,9 +158,9 @@ own_items t s items none = record { own = own_item t s items none }
 -- the moves are asked for just where each is asked for by the item at its node
 pub asked_by : (t : RuleTable) (s : State) (items : List Item) (moves : List Moved) (table : List (Option RuledItem)) → step_refusal t s items ≡ None → Holds t s table items → list_all (λ m. is_move_by t s (item_at table m.node) m) moves ≡ list_all (λ m. is_asked t s items m) moves
 asked_by t s items moves table none held =
-    all_agree _ _ moves (λ m.
-    ap (λ o. is_move_by t s o m) (held.first m.node)
-    ∙ same_tests _ _ (any_found t s m items) (asked_in t s m items items (own_items t s items none)))
+    let each : (m : Moved) → is_move_by t s (item_at table m.node) m ≡ is_asked t s items m = λ m.
+    ap (λ o. is_move_by t s o m) (held.first m.node) ∙ both_ways _ _ (any_found t s m items) (asked_in t s m items items (own_items t s items none)) in
+    λ i. list_all (λ m. each m i) moves
 
 -- where each move is asked for by the item at its node, a mover is answered
 mover_answered : (t : RuleTable) (s : State) (item : Item) (all : List Item) (moves : List Moved) → item_of all item.node ≡ Some item → list_all (λ m. is_move_by t s (item_of all m.node) m) moves ≡ true → is_mover moves item.node ≡ true → is_answered t s moves item ≡ true
@@ -182,25 +168,17 @@ mover_answered t s item all [] own asked e = cc
 mover_answered t s item all (m ∷ moves) own asked e =
     let parts = and_parts (is_move_by t s (item_of all m.node) m) (list_all (λ m. is_move_by t s (item_of all m.node) m) moves) asked in
     ⊎_elim
-    (λ here. ap (λ b. b || is_answered t s moves item) (sym (ap (λ o. is_move_by t s o m) (ap (item_of all) (eqb-true m.node item.node here) ∙ own)) ∙ parts.0))
-    (λ later. ap (λ b. is_move_of t s item m || b) (mover_answered t s item all moves own parts.1 (sym (ap (λ b. b || is_mover moves item.node) later) ∙ e)) ∙ or_true (is_move_of t s item m))
-    (cases_Bool (nat_eq m.node item.node))
-  where
-    or_true : (b : Bool) → (b || true) ≡ true
-    or_true true = refl
-    or_true false = refl
+    (λ here. or_left _ _ (sym (ap (λ o. is_move_by t s o m) (ap (item_of all) (eqb-true m.node item.node here) ∙ own)) ∙ parts.0))
+    (λ later. or_right _ _ (mover_answered t s item all moves own parts.1 later))
+    (or_cases (nat_eq m.node item.node) (is_mover moves item.node) e)
 
 answered_mover : (t : RuleTable) (s : State) (item : Item) (moves : List Moved) → is_answered t s moves item ≡ true → is_mover moves item.node ≡ true
 answered_mover t s item [] e = cc
 answered_mover t s item (m ∷ moves) e =
     ⊎_elim
-    (λ yes. ap (λ b. b || is_mover moves item.node) (and_parts _ _ yes).0)
-    (λ no. ap (λ b. nat_eq m.node item.node || b) (answered_mover t s item moves (sym (ap (λ b. b || is_answered t s moves item) no) ∙ e)) ∙ or_true (nat_eq m.node item.node))
-    (cases_Bool (is_move_of t s item m))
-  where
-    or_true : (b : Bool) → (b || true) ≡ true
-    or_true true = refl
-    or_true false = refl
+    (λ yes. or_left (nat_eq m.node item.node) _ (and_parts (nat_eq m.node item.node) _ yes).0)
+    (λ later. or_right (nat_eq m.node item.node) _ (answered_mover t s item moves later))
+    (or_cases (is_move_of t s item m) (is_answered t s moves item) e)
 
 none_left : (b : Bool) (o : Option RuledItem) (item : Item) → option_map (λ r. r.item) o ≡ Some item → is_none (cond b None o) ≡ b
 none_left true o item e = refl
@@ -213,7 +191,7 @@ left_in t s (item ∷ items) all moves table left own held asked out =
     let mine = own.own 0 item (omega arith) in
     let here : is_none (ruled_at left item.node) ≡ is_answered t s moves item =
     ap is_none (out item.node) ∙ none_left (is_mover moves item.node) (ruled_at table item.node) item (held.first item.node ∙ mine)
-    ∙ same_tests _ _ (mover_answered t s item all moves mine asked) (answered_mover t s item moves) in
+    ∙ both_ways _ _ (mover_answered t s item all moves mine asked) (answered_mover t s item moves) in
     ap (λ b. b && list_all (λ i. is_none (ruled_at left i.node)) items) here
     ∙ ap (λ b. is_answered t s moves item && b) (left_in t s items all moves table left (own_rest item items all own) held asked out)
 
@@ -221,14 +199,11 @@ left_in t s (item ∷ items) all moves table left own held asked out =
 pub left_answered : (t : RuleTable) (s : State) (items : List Item) (moves : List Moved) (table left : List (Option RuledItem)) → step_refusal t s items ≡ None → Holds t s table items → list_all (λ m. is_move_by t s (item_at table m.node) m) moves ≡ true → ((v : ℕ) → ruled_at left v ≡ cond (is_mover moves v) None (ruled_at table v)) → list_all (λ i. is_none (ruled_at left i.node)) items ≡ list_all (λ i. is_answered t s moves i) items
 left_answered t s items moves table left none held asked out =
     left_in t s items items moves table left (own_items t s items none) held
-    (sym (all_agree _ _ moves (λ m. ap (λ o. is_move_by t s o m) (held.first m.node))) ∙ asked)
-    out
+    (sym (λ i. list_all (λ m. is_move_by t s (held.first m.node i) m) moves) ∙ asked) out
 
 -- what is left stands at nodes of items
 pub within_left : (t : RuleTable) (s : State) (items : List Item) (moves : List Moved) (table left : List (Option RuledItem)) → Holds t s table items → ((v : ℕ) → ruled_at left v ≡ cond (is_mover moves v) None (ruled_at table v)) → IsWithin left items
 within_left t s items moves table left held out v none =
-    out v ∙ ap (cond (is_mover moves v) None) (within_from_all t s table items held v none) ∙ same_none (is_mover moves v)
-  where
-    same_none : (b : Bool) → cond {A = Option RuledItem} b None None ≡ None
-    same_none true = refl
-    same_none false = refl
+    let before = within_from_all t s table items held v none in
+    let after = out v in
+    grind arith

@@ -1,7 +1,7 @@
 -- What is kept of each name: at first, as what depends on a name becomes due, and after a look.
-use Rattle.std.proofs.Common.{◌≡◌, ◌≢◌, ℕ, ◌+◌, ◌<◌, ◌≤◌, Bool, true, false, cond, ◌&&◌, List, length, get_or, set, None, is_some, IsTrue, leb, sym, ap, subst, ◌∙◌, ⊎_elim, arith}
+use Rattle.std.proofs.Common.{◌≡◌, ◌≢◌, ℕ, ◌+◌, ◌<◌, ◌≤◌, Bool, true, false, cond, ◌&&◌, List, length, get_or, set, None, is_some, IsTrue, leb, sym, ap, subst, ◌∙◌, ⊎_elim, arith, replicate}
 use Rattle.std.proofs.lemmas.Bool.{cases_eq, cases_lt, le-leb, lt-leb, and_left, true≢false}
-use Rattle.std.proofs.lemmas.List.{get_or_past, get_or-set_other, get_or-set_same, length-set}
+use Rattle.std.proofs.lemmas.List.{get_or_past, get_or-set_other, get_or-set_same, length-set, length-replicate}
 use Rattle.enabled_set.specs.Members.{is_in}
 use Rattle.graph_store.specs.declared.ends.End.{End}
 use Rattle.graph_store.specs.Ends.{end_at}
@@ -35,14 +35,12 @@ told_of_none rules s ends each touched due good places touched_places due_places
   due_places = due_places;
   nobody = none;
   told = λ v fresh.
-      ⊎_elim
-      (λ (low : v < 1). let zero : v ≡ 0 = omega arith in told_nowhere rules s ends each v (and_left (leb 1 v) _ (lt-leb 1 v low)) (ap (share_at each) zero ∙ none))
-      (λ (some : 1 ≤ v).
-      ⊎_elim
-      (λ (past : s.network.size < v). told_nowhere rules s ends each v (ap (λ b. leb 1 v && (b && get_or s.network.here v false)) (lt-leb v s.network.size past) ∙ ap (λ b. b && false) (le-leb 1 v some)) (get_or_past each v no_share (omega (arith, places, past))))
-      (λ (within : v ≤ s.network.size). absurd (true≢false (sym (all v some within) ∙ fresh.not_due)))
-      (cases_lt s.network.size v))
-      (cases_lt v 1);
+      let due_if = all v in
+      let fresh_now = fresh.not_due in
+      let low = lt-leb 1 v in
+      let past = lt-leb v s.network.size in
+      let beyond = get_or_past each v no_share in
+      told_nowhere rules s ends each v (grind arith) (grind arith);
 }
 
 -- what depends on a name is due, and it is touched no longer
@@ -58,10 +56,8 @@ told_spread rules s ends each touched touched' due due' v cleared asking told = 
       told.told x (record {
         not_due = fact.0;
         untouched = λ w asked.
-            ⊎_elim
-            (λ (same : w ≡ v). absurd (true≢false (sym asked ∙ ap (asks s x) same ∙ fact.1)))
-            (λ (apart : w ≢ v). sym (ap (λ l. is_in l w) cleared ∙ get_or-set_other touched v w false false apart) ∙ fresh.untouched w asked)
-            (cases_eq w v);
+            let apart : w ≢ v = λ same. true≢false (sym asked ∙ ap (asks s x) same ∙ fact.1) in
+            sym (ap (λ l. is_in l w) cleared ∙ get_or-set_other touched v w false false apart) ∙ fresh.untouched w asked;
       });
 }
 
