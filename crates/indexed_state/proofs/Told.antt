@@ -6,7 +6,7 @@ use Rattle.enabled_set.specs.Members.{is_in}
 use Rattle.enabled_set.proofs.Sums.{everywhere}
 use Rattle.graph_store.specs.declared.ends.End.{End}
 use Rattle.graph_store.specs.Ends.{end_at}
-use Rattle.rule_machine.specs.Network.{first_names, present}
+use Rattle.rule_machine.specs.Network.{present}
 use Rattle.rule_machine.specs.State.{State, points, pointer, opening_with}
 use Rattle.rule_machine.specs.Stable.{pair_above}
 use Rattle.indexed_state.specs.declared.share.Share.{Share}

@@ -1,6 +1,6 @@
 -- The neighbours that ask for a node become due one after another.
-use Rattle.std.proofs.Common.{◌≡◌, ◌≢◌, ℕ, ◌+◌, ◌<◌, ◌≤◌, Bool, true, false, cond, ◌||◌, ◌&&◌, List, ◌∷◌, length, find, drop, get_or, set, nat_eq, is_none, Some, is_some, IsTrue, refl, sym, ap, ◌∙◌, ⊎_elim, eqb-true, arith}
-use Rattle.std.proofs.lemmas.Bool.{and_parts, cases_eq, eq-eqb, ne_eqb, false_from_ne_true, true≢false}
+use Rattle.std.proofs.Common.{◌≡◌, ◌≢◌, ℕ, ◌+◌, ◌<◌, ◌≤◌, Bool, true, false, cond, List, ◌∷◌, length, find, drop, get_or, set, nat_eq, Some, is_some, IsTrue, refl, sym, ap, ◌∙◌, ⊎_elim, arith}
+use Rattle.std.proofs.lemmas.Bool.{cases_eq, eq-eqb, ne_eqb, false_from_ne_true, true≢false}
 use Rattle.std.proofs.lemmas.List.{drop_all, drop_more, get_or-set_other, get_or-set_same, length-set}
 use Rattle.enabled_set.specs.Members.{is_in}
 use Rattle.rule_machine.specs.Network.{linked, neighbours, present}

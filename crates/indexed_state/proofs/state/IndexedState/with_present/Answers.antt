@@ -1,4 +1,4 @@
-use Rattle.std.proofs.Common.{◌+◌, Bool, false, List, replicate, sym, subst}
+use Rattle.std.proofs.Common.{◌+◌, Bool, List, replicate, sym, subst}
 use Rattle.rule_machine.specs.State.{State, IsState, opening_with}
 use Rattle.machine_laws.specs.Keeps.{opening_is_state}
 use Rattle.indexed_state.specs.declared.share.Share.{Share}
