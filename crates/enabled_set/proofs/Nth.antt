@@ -19,10 +19,6 @@ is_name bits words s l total v good on =
     let few = good.few in
     (somebody bits v good.nobody on, omega arith)
 
--- so the bits of the words are names
-pub names_only : (bits : List Bool) (words s l : List ℕ) (total : ℕ) → IsCounted bits words s l total → AreNames words
-names_only bits words s l total good v on = is_name bits words s l total v good (good.same v ∙ on)
-
 -- ---- all members of a word
 
 -- the names of a word's first bits are listed behind those before it, and the bits behind them are left

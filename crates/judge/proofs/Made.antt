@@ -71,8 +71,7 @@ nobody_there size v = false_from_ne_true (present (edgeless_with size 0) v) (λ 
     let range = present_range (edgeless_with size 0) v h in
     let row : get_or (first_names size 0) v false ≡ true = (and_parts _ _ (and_parts _ _ h).1).1 in
     let at = and_parts (leb 1 v) (leb v 0) (sym (first_names_at size 0 v range.1) ∙ row) in
-    let high = leb-true v 0 at.1 in
-    absurd (omega arith))
+    absurd (omega (arith, range.0, leb-true v 0 at.1)))
 
 -- ---- what a state lists
 

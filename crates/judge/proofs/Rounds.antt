@@ -48,11 +48,8 @@ same_asks s u v w round = λ i. nat_eq v w || (round.link w i && (is_none (round
 
 -- what is said of a target
 held_alike : (f g : ℕ → Bool) (o p : Option ℕ) → o ≡ p → ((w : ℕ) → o ≡ Some w → f w ≡ g w) → holds_at f o ≡ holds_at g p
-held_alike f g o p same alike = go o refl ∙ ap (holds_at g) same
-  where
-    go : (q : Option ℕ) → o ≡ q → holds_at f q ≡ holds_at g q
-    go None e = refl
-    go (Some w) e = alike w e
+held_alike f g None p same alike = cc
+held_alike f g (Some w) p same alike = cc (alike w refl)
 
 -- whether a neighbour passes a test, where the name points nowhere
 near_alike : (s u : State) (v : ℕ) (p q : ℕ → Bool) → AreSameRounds s u v → pointer s v ≡ None → ((w : ℕ) → IsSameRound s u w → p w ≡ q w) → find p (neighbours s.network v) ≡ find q (neighbours u.network v)

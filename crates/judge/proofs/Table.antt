@@ -1,5 +1,5 @@
 -- A table of the items of a choice with their rules.
-use Rattle.std.proofs.Common.{◌≡◌, ℕ, zero, suc, ◌+◌, ◌<◌, Bool, true, false, cond, not, ◌&&◌, ◌||◌, List, [], ◌∷◌, ◌++◌, length, get_or, take, drop, set, find, Option, None, Some, is_some, is_none, option_map, nat_eq, IfSome, IsTrue, refl, sym, ap, ◌∙◌, subst, ⊎_elim, arith, eq-eqb, eqb-true}
+use Rattle.std.proofs.Common.{◌≡◌, ℕ, zero, suc, ◌+◌, ◌<◌, Bool, true, false, cond, ◌&&◌, ◌||◌, List, [], ◌∷◌, ◌++◌, length, get_or, take, drop, set, find, Option, None, Some, is_some, is_none, option_map, nat_eq, IfSome, IsTrue, refl, sym, ap, ◌∙◌, subst, ⊎_elim, arith, eq-eqb, eqb-true}
 use Rattle.std.specs.List.{list_any, list_all}
 use Rattle.std.specs.Option.{option_or}
 use Rattle.std.specs.Cmp.{both_ways}
@@ -11,10 +11,9 @@ use Rattle.rule_machine.specs.declared.choice.Item.{Item}
 use Rattle.rule_machine.specs.declared.act.Moved.{Moved}
 use Rattle.rule_machine.specs.Network.{present}
 use Rattle.rule_machine.specs.State.{State}
-use Rattle.rule_machine.specs.RuleTable.{RuleTable, rule_at}
+use Rattle.rule_machine.specs.RuleTable.{RuleTable}
 use Rattle.rule_machine.specs.declared.refusal.Refusal.{Refusal}
-use Rattle.rule_machine.specs.declared.refusal.Refusal.TheVariants.{UnknownNode, ChosenTwice}
-use Rattle.rule_machine.specs.Refuse.{step_refusal, items_refusal, rule_refusal}
+use Rattle.rule_machine.specs.Refuse.{step_refusal, items_refusal}
 use Rattle.rule_machine.specs.Least.{item_of}
 use Rattle.machine_laws.specs.Accepted.{choice_from_none, taken_at}
 use Rattle.machine_laws.specs.Pointers.{none_is}
@@ -70,12 +69,7 @@ refusal_here t s items k item (Some r) within is same some =
 
 -- the node of an item that is not refused is present, and no earlier item names it
 pub item_taken : (t : RuleTable) (s : State) (item : Item) (twice : Bool) → refused_item t s item twice ≡ None → IsTrue (present s.network item.node) × (twice ≡ false)
-item_taken t s item twice none = by_tests (present s.network item.node) twice (rule_refusal t s item (rule_at t s item.node)) none
-  where
-    by_tests : (b c : Bool) (o : Option Refusal) → cond (not b) (Some UnknownNode) (cond c (Some ChosenTwice) o) ≡ None → (b ≡ true) × (c ≡ false)
-    by_tests true false o e = (refl, refl)
-    by_tests true true o e = cc
-    by_tests false c o e = cc
+item_taken t s item twice none = (grind arith, grind arith)
 
 option_or-none : {X : Type 0} (o : Option X) → option_or o None ≡ o
 option_or-none None = refl
