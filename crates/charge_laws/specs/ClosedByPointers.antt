@@ -6,7 +6,8 @@ use Rattle.std.proofs.lemmas.Option.{none-some}
 use Rattle.rule_machine.specs.Network.{linked, names, neighbours, edge_list}
 use Rattle.rule_machine.specs.State.{State, IsState, is_at, holds_at, pointer, flag, points, married, has_suitor}
 use Rattle.rule_machine.specs.Charge.{awaits, is_courted, hsu_huang_closed, manne_closed}
-use Rattle.machine_laws.specs.Pointers.{if_some_from, points_true, pointer_linked, suitor_linked, null_unmarried, unanswered_unmarried}
+use Rattle.machine_laws.specs.Pointers.{points_true, pointer_linked, suitor_linked, null_unmarried, unanswered_unmarried}
+use Rattle.machine_laws.specs.Writes.{if_some_from}
 use Rattle.machine_laws.specs.Neighbours.{linked_present, option_cases}
 use Rattle.charge_laws.specs.Counting.{IsIn, IsWithoutRepeats, sum_add, sum_agree, count_agree}
 use Rattle.charge_laws.specs.Members.{in_names, names_without_repeats}

@@ -1,9 +1,9 @@
 -- The edges that pass a test are counted at their higher ends, at both ends, and where only one node changes.
 use Rattle.std.proofs.Common.{◌≡◌, ℕ, ◌+◌, ◌<◌, min, max, Bool, true, false, cond, not, ◌&&◌, List, [], ◌∷◌, count_by, sum_by, nat_eq, nat_lt, IsTrue, refl, sym, ap, ap₂, ◌∙◌, inl, inr, ⊎_elim, arith}
-use Rattle.std.specs.FinMap as map
 use Rattle.std.proofs.lemmas.Bool.{ne_eqb, eqb-false, lt-ltb, le-ltb, ltb-true, cases_order}
 use Rattle.std.proofs.lemmas.List.Sums.{sum_by-cons}
 use Rattle.rule_machine.specs.Network.{Network, IsNetwork, edge, names, present, linked, neighbours, edge_list}
+use Rattle.machine_laws.specs.Neighbours.{linked_apart}
 use Rattle.charge_laws.specs.Counting.{IsIn, count_agree, sum_add, sum_agree}
 use Rattle.charge_laws.specs.Members.{in_names, names_without_repeats, edges_contain}
 use Rattle.charge_laws.specs.EdgesByNodes.{by_end, count_filter, at_end, at_node, edges_by_nodes}
@@ -32,9 +32,6 @@ edges_by_upper net good p =
 
 -- ---- at both ends
 
-linked_apart : (net : Network) → IsNetwork net → (v w : ℕ) → IsTrue (linked net v w) → v ≡ w → ⊥
-linked_apart net good v w h same = let below = good.low_first (min v w) (max v w) h in omega arith
-
 -- what is above or below is one of the two
 one_side : (b c : Bool) (v w : ℕ) → (IsTrue b → v ≡ w → ⊥) → ◌≡◌ {A = ℕ} (cond (b && c) 1 0) (cond (b && (nat_lt v w && c)) 1 0 + cond (b && (nat_lt w v && c)) 1 0)
 one_side false c v w apart = omega arith
@@ -54,7 +51,7 @@ two_sides net good q v =
     let all = count_filter q (linked net v) (names net) in
     let above = count_filter (λ w. nat_lt v w && q w) (linked net v) (names net) in
     let below = count_filter (λ w. nat_lt w v && q w) (linked net v) (names net) in
-    let each = sum_agree (λ w. cond (linked net v w && q w) 1 0) (λ w. cond (linked net v w && (nat_lt v w && q w)) 1 0 + cond (linked net v w && (nat_lt w v && q w)) 1 0) (λ w. one_side (linked net v w) (q w) v w (linked_apart net good v w)) (names net) in
+    let each = sum_agree (λ w. cond (linked net v w && q w) 1 0) (λ w. cond (linked net v w && (nat_lt v w && q w)) 1 0 + cond (linked net v w && (nat_lt w v && q w)) 1 0) (λ w. one_side (linked net v w) (q w) v w (λ h. linked_apart net v w good h)) (names net) in
     let both = sum_add (λ w. cond (linked net v w && (nat_lt v w && q w)) 1 0) (λ w. cond (linked net v w && (nat_lt w v && q w)) 1 0) (names net) in
     omega (arith, all, above, below, each, both)
 

@@ -1,5 +1,5 @@
 -- The epochs of a run: none has more moves than twice its edges and the weight for each of its nodes.
-use Rattle.std.proofs.Common.{◌≡◌, ◌≢◌, ℕ, ◌+◌, ◌*◌, ◌≤◌, List, [], ◌∷◌, length, map, All, refl, sym, ap, ◌∙◌, arith}
+use Rattle.std.proofs.Common.{◌≡◌, ◌≢◌, ℕ, ◌+◌, ◌*◌, ◌≤◌, List, [], ◌∷◌, length, All, refl, sym, ap, ◌∙◌, arith}
 use Rattle.std.proofs.lemmas.List.Elements.{All-nil, All-cons, All-append}
 use Rattle.rule_machine.specs.declared.reply.Reply.{Reply}
 use Rattle.rule_machine.specs.declared.reply.Reply.TheVariants.{Accepted, Refused, Moves, Shown, EnabledAre, Pairs, Counts}
@@ -7,7 +7,7 @@ use Rattle.rule_machine.specs.Network.{node_count, edge_count}
 use Rattle.rule_machine.specs.State.{State, IsState, opening_with}
 use Rattle.rule_machine.specs.RuleTable.{RuleTable}
 use Rattle.rule_machine.specs.Answer.{Answers, spent_after}
-use Rattle.rule_machine.specs.Run.{Entry, Moment, Run, beginning_with, Epoch, epoch_at, epochs_by, epochs_from}
+use Rattle.rule_machine.specs.Run.{Entry, Moment, beginning_with, Epoch, epoch_at, epochs_by, epochs_from}
 use Rattle.machine_laws.specs.Keeps.{opening_is_state}
 use Rattle.machine_laws.specs.LeastMoves.{IsTable}
 use Rattle.machine_laws.specs.Runs.{answers_keep}
@@ -20,13 +20,6 @@ abbrev pub IsPath : RuleTable → Moment → List (Entry × State) → Type 0
 IsPath t start [] = Unit {0}
 IsPath t start (step ∷ path) =
     Answers t start.state start.spent step.0.0 step.0.1 step.1 × IsPath t (record { state = step.1; spent = spent_after start.spent step.0.1 }) path
-
--- every run has such states
-pub path_from_run : (t : RuleTable) (start : Moment) (log : List Entry) (end : Moment) → Run t start log end → (path : List (Entry × State)) × (map (λ step. step.0) path ≡ log) × IsPath t start path
-path_from_run t start [] end run = ([], refl, tt)
-path_from_run t start (entry ∷ log) end (next, answers, run) =
-    let rest = path_from_run t (record { state = next; spent = spent_after start.spent entry.1 }) log end run in
-    ((entry, next) ∷ rest.0, ap (λ l. entry ∷ l) rest.1, (answers, rest.2))
 
 -- the epoch that has come to this moment
 pub record IsEpochAt (m : Moment) (epoch : Epoch) : Type 0 where

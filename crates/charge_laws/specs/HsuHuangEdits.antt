@@ -7,7 +7,7 @@ use Rattle.std.proofs.lemmas.Option.{none-some, same_Some}
 use Rattle.rule_machine.specs.Network.{Network, IsNetwork, edge, is_end, linked, present, names, edge_list}
 use Rattle.rule_machine.specs.State.{State, Registers, IsState, is_at, pointer, pointer_of, points, is_unanswered}
 use Rattle.rule_machine.specs.Charge.{hsu_huang_closed, hsu_huang_charge}
-use Rattle.rule_machine.specs.Disturbance.{after_link, after_unlink, after_flag, after_join, after_leave, without_pointer, unless_at}
+use Rattle.rule_machine.specs.Disturbance.{after_link, after_unlink, after_join, after_leave, without_pointer, unless_at}
 use Rattle.machine_laws.specs.Pointers.{points_from}
 use Rattle.machine_laws.specs.Edges.{removed_was, left_was, present_other, still_present}
 use Rattle.machine_laws.specs.Writes.{some_from_is_at, without_pointer_was, without_pointer_gone, pointer-with_pointer_other}
@@ -238,9 +238,3 @@ leave_costs s v good has =
     let edges = edges_at_pointer (after_leave s v).network good'.is_network (pointer s v) in
     let nodes = none_count (λ (x : ℕ). false) (names (after_leave s v).network) (λ x there. refl) in
     omega (arith, grows, edges, nodes)
-
--- ---- a flag
-
--- The charge does not look at flags, and no flag is written: the rules use none.
-pub flag_costs : (s : State) (v : ℕ) (value : Bool) → hsu_huang_charge (after_flag s v value) ≡ hsu_huang_charge s
-flag_costs s v value = refl

@@ -5,10 +5,10 @@
 -- suitor, since one that it took would answer, and points at a null node: the edge between them was open, and is closed by
 -- this pointer.
 use Rattle.std.proofs.Common.{◌≡◌, ◌≢◌, ℕ, Option, None, Some, IsTrue, refl, sym, ap, ◌∙◌, subst, inl, inr, ⊎_elim, ◌⊎◌}
-use Rattle.std.proofs.lemmas.Bool.{and_parts, cases_eq}
+use Rattle.std.proofs.lemmas.Bool.{cases_eq}
 use Rattle.std.proofs.lemmas.Option.{none-some, same_Some}
-use Rattle.charge_laws.specs.Stances.{stance, is_free, is_waiting, is_paired, paired_from, free_is, waiting_is, paired_is}
-use Rattle.charge_laws.specs.Turns.{Turn, stays, marries, seduces, abandons, written_by, paired_stays, climbs}
+use Rattle.charge_laws.specs.Stances.{stance, is_paired, paired_from, paired_is}
+use Rattle.charge_laws.specs.Turns.{Turn, stays, marries, seduces, abandons, written_by, paired_stays, climbs, climber_aims}
 
 -- what the mover does: it takes a suitor; with no suitor, it courts a null node; or it leaves one that points at a third
 pub data SoloTurn (p p' : ℕ → Option ℕ) (x : ℕ) : Type 0 where
@@ -121,14 +121,11 @@ pub record Courts (p p' : ℕ → Option ℕ) (v w : ℕ) : Type 0 where
 pub climber_courts : (p p' : ℕ → Option ℕ) (x : ℕ) → IsSolo p p' x → (v : ℕ) → IsTrue (climbs (stance p v) (stance p' v)) → (v ≡ x) × ((w : ℕ) × Courts p p' v w)
 climber_courts p p' x solo v h = (here, subst (λ y. (w : ℕ) × Courts p p' y w) (sym here) (by_turn solo.turn))
   where
-    both : IsTrue (is_free (stance p v)) × IsTrue (is_waiting (stance p' v))
-    both = and_parts (is_free (stance p v)) (is_waiting (stance p' v)) h
-
     null : p v ≡ None
-    null = free_is p v both.0
+    null = (climber_aims p p' v h).0
 
     aim : (w : ℕ) × (p' v ≡ Some w) × (p' w ≢ Some v)
-    aim = waiting_is p' v both.1
+    aim = (climber_aims p p' v h).1
 
     here : v ≡ x
     here = from_null p p' x solo v aim.0 null aim.1

@@ -7,10 +7,10 @@
 -- above it. The target is in no pair, so its flag stays false in that step: the edge was open, and is closed.
 -- An update lowers what its node adds by one at least, whether or not its pointer is answered in the same step.
 use Rattle.std.proofs.Common.{◌≡◌, ◌≢◌, ℕ, ◌+◌, ◌<◌, ◌≤◌, Bool, true, false, cond, not, Option, None, Some, IsTrue, refl, sym, ap, ◌∙◌, subst, inl, inr, ⊎_elim, ◌⊎◌, arith}
-use Rattle.std.proofs.lemmas.Bool.{and_parts, cases_Bool, true≢false}
+use Rattle.std.proofs.lemmas.Bool.{cases_Bool, true≢false}
 use Rattle.std.proofs.lemmas.Option.{none-some, same_Some}
-use Rattle.charge_laws.specs.Stances.{stance, is_free, is_waiting, is_paired, free_is, waiting_is, paired_is}
-use Rattle.charge_laws.specs.Turns.{Turn, stays, marries, seduces, abandons, written_by, paired_stays, climbs, bit}
+use Rattle.charge_laws.specs.Stances.{stance, is_paired, paired_is}
+use Rattle.charge_laws.specs.Turns.{Turn, stays, marries, seduces, abandons, written_by, paired_stays, climbs, climber_aims, bit}
 
 -- What v does. Who updates has a wrong flag; who writes its pointer has a right one, which is false, since it is in no pair.
 -- It takes a suitor; courts a null, unflagged node above it; or leaves one that is flagged or not above it.
@@ -152,14 +152,11 @@ null_alone p v w null at h = let pair = paired_is p w h in none-some w (sym null
 pub climber_reaches : (p p' : ℕ → Option ℕ) (m m' moved : ℕ → Bool) → ((v : ℕ) → FlagTurn p p' m m' moved v) → (v : ℕ) → IsTrue (climbs (stance p v) (stance p' v)) → (w : ℕ) × Reaches p p' m' v w
 climber_reaches p p' m m' moved turns v h = by_turn (turns v)
   where
-    both : IsTrue (is_free (stance p v)) × IsTrue (is_waiting (stance p' v))
-    both = and_parts (is_free (stance p v)) (is_waiting (stance p' v)) h
-
     null : p v ≡ None
-    null = free_is p v both.0
+    null = (climber_aims p p' v h).0
 
     aim : (w : ℕ) × (p' v ≡ Some w) × (p' w ≢ Some v)
-    aim = waiting_is p' v both.1
+    aim = (climber_aims p p' v h).1
 
     left : (w : ℕ) → p w ≡ Some v → p' w ≢ Some v → m v ≡ false → p' v ≡ Some w → FlagTurn p p' m m' moved w → Reaches p p' m' v w
     left w at gone unflagged now (idles none same kept) = absurd (gone (same ∙ at))

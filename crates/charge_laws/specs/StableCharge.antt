@@ -6,7 +6,7 @@ use Rattle.rule_machine.specs.State.{State, IsState, pointer, is_unanswered}
 use Rattle.rule_machine.specs.Charge.{hsu_huang_closed, hsu_huang_charge}
 use Rattle.rule_machine.specs.Stable.{IsStable}
 use Rattle.machine_laws.specs.Neighbours.{option_cases, linked_pair}
-use Rattle.machine_laws.specs.Pointers.{if_some}
+use Rattle.machine_laws.specs.Writes.{if_some_at}
 use Rattle.charge_laws.specs.Counting.{IsIn}
 use Rattle.charge_laws.specs.Members.{edges_contain}
 use Rattle.charge_laws.specs.Stances.{Standing, standing, free, waiting, paired, stance, is_waiting, is_paired, unanswered_is, paired_from}
@@ -15,7 +15,7 @@ use Rattle.charge_laws.specs.HsuHuangTurns.{low_paired, high_paired}
 use Rattle.charge_laws.specs.HsuHuangFalls.{closed_from}
 
 answer_of : (uses_flags : Bool) (s : State) → IsStable uses_flags s → (v w : ℕ) → pointer s v ≡ Some w → pointer s w ≡ Some v
-answer_of uses_flags s stable v w e = if_some (pointer s v) (λ x. pointer s x ≡ Some v) w e (stable.answered v)
+answer_of uses_flags s stable v w e = if_some_at (pointer s v) (λ x. pointer s x ≡ Some v) w e (stable.answered v)
 
 -- no pointer is unanswered
 pub none_unanswered : (uses_flags : Bool) (s : State) → IsStable uses_flags s → count_by (is_unanswered s) (names s.network) ≡ 0

@@ -2,7 +2,8 @@
 use Rattle.std.proofs.Common.{◌≡◌, ◌≢◌, ℕ, Bool, true, false, cond, not, Option, None, Some, is_some, is_none, IsTrue, refl, sym, ap, ◌∙◌, true≢false}
 use Rattle.std.proofs.lemmas.Bool.{cond-true, cond-false, false_from_ne_true}
 use Rattle.rule_machine.specs.State.{State, IsState, is_at, holds_at, pointer, is_unanswered, married}
-use Rattle.machine_laws.specs.Pointers.{at_true, at_from, married_from, null_unmarried, unanswered_unmarried}
+use Rattle.machine_laws.specs.Pointers.{married_from, null_unmarried, unanswered_unmarried}
+use Rattle.machine_laws.specs.Writes.{some_from_is_at, is_at_from_some}
 
 pub data Stance : Type 0 where
   Free : Stance
@@ -49,10 +50,10 @@ free_from p v e = ap (stance_by p v) e
 
 pub waiting_from : (p : ℕ → Option ℕ) (v w : ℕ) → p v ≡ Some w → p w ≢ Some v → stance p v ≡ Waiting
 waiting_from p v w e apart =
-    ap (stance_by p v) e ∙ cond-false (is_at (p w) v) Paired Waiting (false_from_ne_true (is_at (p w) v) (λ at. apart (at_true (p w) v at)))
+    ap (stance_by p v) e ∙ cond-false (is_at (p w) v) Paired Waiting (false_from_ne_true (is_at (p w) v) (λ at. apart (some_from_is_at (p w) v at)))
 
 pub paired_from : (p : ℕ → Option ℕ) (v w : ℕ) → p v ≡ Some w → p w ≡ Some v → stance p v ≡ Paired
-paired_from p v w e back = ap (stance_by p v) e ∙ cond-true (is_at (p w) v) Paired Waiting (at_from (p w) v back)
+paired_from p v w e back = ap (stance_by p v) e ∙ cond-true (is_at (p w) v) Paired Waiting (is_at_from_some (p w) v back)
 
 -- where a node points that stands so
 pub data Standing (p : ℕ → Option ℕ) (v : ℕ) : Type 0 where
@@ -64,9 +65,9 @@ pub standing : (p : ℕ → Option ℕ) (v : ℕ) → Standing p v
 standing p v = by_pointer (p v) refl
   where
     by_back : (w : ℕ) → p v ≡ Some w → (b : Bool) → is_at (p w) v ≡ b → Standing p v
-    by_back w e true back = let answer = at_true (p w) v back in paired w e answer (paired_from p v w e answer)
+    by_back w e true back = let answer = some_from_is_at (p w) v back in paired w e answer (paired_from p v w e answer)
     by_back w e false back =
-        let apart : p w ≢ Some v = λ answer. let at = at_from (p w) v answer in absurd cc in waiting w e apart (waiting_from p v w e apart)
+        let apart : p w ≢ Some v = λ answer. let at = is_at_from_some (p w) v answer in absurd cc in waiting w e apart (waiting_from p v w e apart)
 
     by_pointer : (o : Option ℕ) → p v ≡ o → Standing p v
     by_pointer None e = free e (free_from p v e)

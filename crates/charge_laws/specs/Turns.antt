@@ -19,7 +19,7 @@ use Rattle.std.proofs.Common.{◌≡◌, ◌≢◌, ℕ, ◌+◌, ◌*◌, ◌�
 use Rattle.std.proofs.lemmas.Bool.{and_parts, and_from}
 use Rattle.std.proofs.lemmas.Option.{none-some, same_Some}
 use Rattle.charge_laws.specs.Counting.{IsIn, IsWithoutRepeats, sum_four_le, sum_twice, count_into}
-use Rattle.charge_laws.specs.Stances.{Stance, Free, Waiting, Paired, stance, is_free, is_waiting, is_paired, Standing, standing, free, waiting, paired, free_from, waiting_from, paired_from, free_is, paired_is}
+use Rattle.charge_laws.specs.Stances.{Stance, Free, Waiting, Paired, stance, is_free, is_waiting, is_paired, Standing, standing, free, waiting, paired, free_from, waiting_from, paired_from, free_is, waiting_is, paired_is}
 
 -- What v does where the pointers p become p': nothing, or it takes a suitor, or points from null at a null one, or gives up
 -- a node that does not point back.
@@ -46,6 +46,11 @@ answers before after = is_free before && is_paired after
 
 abbrev pub wins : Stance → Stance → Bool
 wins before after = is_waiting before && is_paired after
+
+-- who climbs was null, and points at one that does not answer
+pub climber_aims : (p p' : ℕ → Option ℕ) (v : ℕ) → IsTrue (climbs (stance p v) (stance p' v)) → (p v ≡ None) × ((w : ℕ) × (p' v ≡ Some w) × (p' w ≢ Some v))
+climber_aims p p' v h =
+    let both = and_parts (is_free (stance p v)) (is_waiting (stance p' v)) h in (free_is p v both.0, waiting_is p' v both.1)
 
 abbrev pub bit : Bool → ℕ
 bit b = cond b 1 0

@@ -7,7 +7,8 @@ use Rattle.rule_machine.specs.State.{State, IsState, pointer, flag, married, is_
 use Rattle.rule_machine.specs.Charge.{hsu_huang_closed, hsu_huang_charge, manne_node_charge, manne_charge}
 use Rattle.rule_machine.specs.Stable.{IsStable}
 use Rattle.machine_laws.specs.Neighbours.{linked_present}
-use Rattle.machine_laws.specs.Pointers.{if_some_from, null_unmarried}
+use Rattle.machine_laws.specs.Pointers.{null_unmarried}
+use Rattle.machine_laws.specs.Writes.{if_some_from}
 use Rattle.charge_laws.specs.Counting.{count_none, sum_zero}
 use Rattle.charge_laws.specs.Members.{in_names, in_edges, edge_either}
 use Rattle.charge_laws.specs.Stances.{Standing, standing, free, waiting, paired, stance, is_waiting, unanswered_is, paired_is}

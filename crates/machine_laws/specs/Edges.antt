@@ -71,10 +71,6 @@ linked_present net a b good h =
     (λ (le : b ≤ a). subst (λ x. IsTrue (present net x)) (let e : min a b ≡ b = omega arith in e) (good.low_present _ _ h))
     (cases_lt a b)
 
--- an edge is between two nodes
-pub linked_apart : (net : Network) (a b : ℕ) → IsNetwork net → IsTrue (linked net a b) → a ≡ b → ⊥
-linked_apart net a b good h same = let below = good.low_first _ _ h in omega (arith, below, same)
-
 -- two edges that are one join the same ends
 pub edge_ends : (a b c d : ℕ) → edge c d ≡ edge a b → ((c ≡ a) × (d ≡ b)) ⊎ ((c ≡ b) × (d ≡ a))
 edge_ends a b c d e =

@@ -7,7 +7,8 @@ use Rattle.rule_machine.specs.Network.{linked, present}
 use Rattle.rule_machine.specs.State.{State, IsState, pointer, flag, married}
 use Rattle.rule_machine.specs.Stable.{IsStable, IsMaximalMatching, ShareAnEnd, mutual_pairs}
 use Rattle.machine_laws.specs.Neighbours.{option_cases, linked_pair}
-use Rattle.machine_laws.specs.Pointers.{if_some, pointer_linked}
+use Rattle.machine_laws.specs.Pointers.{pointer_linked}
+use Rattle.machine_laws.specs.Writes.{if_some_at}
 use Rattle.machine_laws.specs.Pairs.{IsPair, pair_from, pair_at}
 
 -- each mutual pair is an edge, since pointers cross edges
@@ -75,7 +76,7 @@ touched uses_flags s is_state stable e h =
     edge = linked_pair s.network e.0 e.1 (is_state.is_network.low_first e.0 e.1 h) ∙ h
 
     answer : (v w : ℕ) → pointer s v ≡ Some w → pointer s w ≡ Some v
-    answer v w there = if_some (pointer s v) (λ x. pointer s x ≡ Some v) w there (stable.answered v)
+    answer v w there = if_some_at (pointer s v) (λ x. pointer s x ≡ Some v) w there (stable.answered v)
 
 pub maximal_from_stable : (uses_flags : Bool) (s : State) → IsState s → IsStable uses_flags s → IsMaximalMatching s.network (mutual_pairs s)
 maximal_from_stable uses_flags s is_state stable = record {

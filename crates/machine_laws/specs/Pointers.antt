@@ -1,17 +1,10 @@
 -- Pointers, suitors and partners.
-use Rattle.std.proofs.Common.{◌≡◌, ◌≢◌, ℕ, true, false, Option, None, Some, is_some, IfSome, IsTrue, refl, sym, ap, ◌∙◌, subst, ⊎_elim, eqb-true, eq-eqb}
+use Rattle.std.proofs.Common.{◌≡◌, ◌≢◌, ℕ, true, false, Option, None, Some, is_some, IsTrue, refl, sym, ap, ◌∙◌, subst, ⊎_elim}
 use Rattle.std.proofs.lemmas.Bool.{and_parts, and_from}
 use Rattle.rule_machine.specs.Network.{linked}
-use Rattle.rule_machine.specs.State.{State, IsState, is_at, points, pointer, suits, first_suitor, has_suitor, is_mutual, partner, married}
+use Rattle.rule_machine.specs.State.{State, IsState, points, pointer, suits, first_suitor, has_suitor, is_mutual, partner, married}
 use Rattle.machine_laws.specs.Neighbours.{option_cases, linked_back, near_none, near_some, near_found}
-
--- what holds of the value of an option
-pub if_some : {X : Type 0} (o : Option X) (P : X → Type 0) (x : X) → o ≡ Some x → IfSome o P → P x
-if_some o P x e h = subst (λ t. IfSome t P) e h
-
-pub if_some_from : {X : Type 0} (o : Option X) (P : X → Type 0) → ((x : X) → o ≡ Some x → P x) → IfSome o P
-if_some_from None P h = tt
-if_some_from (Some x) P h = h x refl
+use Rattle.machine_laws.specs.Writes.{if_some_at, some_from_is_at, is_at_from_some}
 
 -- a search that found something
 pub some_is : {X : Type 0} (o : Option X) → IsTrue (is_some o) → (x : X) × (o ≡ Some x)
@@ -22,23 +15,16 @@ pub none_is : {X : Type 0} (o : Option X) → is_some o ≡ false → o ≡ None
 none_is None e = refl
 none_is (Some x) e = absurd cc
 
-pub at_true : (o : Option ℕ) (w : ℕ) → is_at o w ≡ true → o ≡ Some w
-at_true None w e = absurd cc
-at_true (Some x) w e = ap Some (eqb-true x w e)
-
-pub at_from : (o : Option ℕ) (w : ℕ) → o ≡ Some w → is_at o w ≡ true
-at_from o w e = ap (λ t. is_at t w) e ∙ eq-eqb w w refl
-
 -- v points at w
 pub points_true : (s : State) (v w : ℕ) → IsTrue (points s.registers v w) → pointer s v ≡ Some w
-points_true s v w h = at_true (pointer s v) w h
+points_true s v w h = some_from_is_at (pointer s v) w h
 
 pub points_from : (s : State) (v w : ℕ) → pointer s v ≡ Some w → IsTrue (points s.registers v w)
-points_from s v w h = at_from (pointer s v) w h
+points_from s v w h = is_at_from_some (pointer s v) w h
 
 -- a pointer crosses an edge
 pub pointer_linked : (s : State) (v w : ℕ) → IsState s → pointer s v ≡ Some w → IsTrue (linked s.network v w)
-pointer_linked s v w is_state e = if_some (pointer s v) (λ x. IsTrue (linked s.network v x)) w e (is_state.neighbourly v)
+pointer_linked s v w is_state e = if_some_at (pointer s v) (λ x. IsTrue (linked s.network v x)) w e (is_state.neighbourly v)
 
 -- who points at v is a neighbour of v
 pub suitor_linked : (s : State) (v w : ℕ) → IsState s → pointer s w ≡ Some v → IsTrue (linked s.network v w)

@@ -1,5 +1,5 @@
--- The answers with the least targets are a run, and every run ends in a state.
-use Rattle.std.proofs.Common.{◌≡◌, ℕ, List, [], ◌∷◌, ◌++◌, Any, Option, None, Some, IsSomeAnd, IsTrue, zip, fold, refl, sym, ◌∙◌, subst}
+-- Every run ends in a state.
+use Rattle.std.proofs.Common.{◌≡◌, ℕ, List, [], ◌∷◌, ◌++◌, Any, Option, None, Some, IsSomeAnd, IsTrue, refl, sym, ◌∙◌, subst}
 use Rattle.std.proofs.lemmas.List.Elements.{All-weaker, recursion_from_All}
 use Rattle.std.proofs.lemmas.Option.{none-some}
 use Rattle.rule_machine.specs.declared.act.Act.{Act}
@@ -17,26 +17,10 @@ use Rattle.rule_machine.specs.RuleTable.{RuleTable}
 use Rattle.rule_machine.specs.Step.{IsTarget, IsMoveOf, IsStep}
 use Rattle.rule_machine.specs.Refuse.{refusal_of}
 use Rattle.rule_machine.specs.Answer.{Does, AnswersBy, Answers, spent_after}
-use Rattle.rule_machine.specs.Least.{reply_of, state_after, replies_of, state_after_all}
 use Rattle.rule_machine.specs.Run.{Entry, Moment, Run}
 use Rattle.machine_laws.specs.Keeps.{IsMoveIn, moves_keep}
 use Rattle.machine_laws.specs.LeastMoves.{IsTable}
-use Rattle.machine_laws.specs.Accepted.{IsChoice, choice_from_none, taken_at, accepted_keeps, state_after_keeps}
-use Rattle.machine_laws.specs.LeastAnswers.{least_answers}
-
--- ---- the run with the least targets
-
--- the moves spent after replies in turn
-abbrev pub spent_after_all : ℕ → List Reply → ℕ
-spent_after_all spent replies = fold spent_after spent replies
-
--- The answers with the least targets to events in turn are a run, which spends what their replies say.
-pub least_run : (t : RuleTable) → IsTable t → (s : State) → IsState s → (events : List Event) (n : ℕ) → Run t (record { state = s; spent = n }) (zip events (replies_of t s n events)) (record { state = state_after_all t s events; spent = spent_after_all n (replies_of t s n events) })
-least_run t table s good [] n = refl
-least_run t table s good (event ∷ events) n =
-    (state_after t s event, least_answers t table s good n event, least_run t table (state_after t s event) (state_after_keeps t table s good event) events (spent_after n (reply_of t s n event)))
-
--- ---- every run
+use Rattle.machine_laws.specs.Accepted.{IsChoice, choice_from_none, taken_at, accepted_keeps}
 
 is_target_allowed : (t : RuleTable) (s : State) (v : ℕ) (act : Act) (wish target : Option ℕ) → IsTarget t s v act wish target → (x : ℕ) → target ≡ Some x → IsTrue (t.allowed s v act x)
 is_target_allowed t s v Update wish target is x at = absurd (none-some x (sym is ∙ at))

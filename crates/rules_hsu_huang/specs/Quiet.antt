@@ -8,7 +8,8 @@ use Rattle.rule_machine.specs.RuleTable.{enabled_names, is_open}
 use Rattle.rule_machine.specs.HsuHuang.{hsu_huang, hsu_huang_opens}
 use Rattle.rule_machine.specs.Stable.{IsStable}
 use Rattle.machine_laws.specs.Neighbours.{option_cases, linked_back, linked_present, near_found, near_fails}
-use Rattle.machine_laws.specs.Pointers.{if_some, if_some_from, points_true, points_from, pointer_linked, suitor_from, suitor_some}
+use Rattle.machine_laws.specs.Pointers.{points_true, points_from, pointer_linked, suitor_from, suitor_some}
+use Rattle.machine_laws.specs.Writes.{if_some_at, if_some_from}
 use Rattle.machine_laws.specs.Enabled.{quiet_at, quiet_from}
 use Rattle.rules_hsu_huang.specs.Rule.{is_taken, has_open}
 
@@ -71,7 +72,7 @@ quiet_from_stable s is_state stable = quiet_from hsu_huang s (λ v here. elim [ 
         ⊎_elim
         (
         λ suitor. let w = suitor_some s v suitor in
-        let back = if_some (pointer s w.0) (λ x. pointer s x ≡ Some w.0) v w.1 (stable.answered w.0) in
+        let back = if_some_at (pointer s w.0) (λ x. pointer s x ≡ Some w.0) v w.1 (stable.answered w.0) in
         and_left (is_none (pointer s v)) (has_suitor s v) (ap is_none back)
         )
         (λ none. and_right (is_none (pointer s v)) (has_suitor s v) none)
@@ -100,5 +101,5 @@ quiet_from_stable s is_state stable = quiet_from hsu_huang s (λ v here. elim [ 
     no_abandon : (v : ℕ) (o : Option ℕ) → pointer s v ≡ o → holds_at (is_taken s v) o ≡ false
     no_abandon v None e = refl
     no_abandon v (Some w) e =
-        let back = if_some (pointer s v) (λ x. pointer s x ≡ Some v) w e (stable.answered v) in
+        let back = if_some_at (pointer s v) (λ x. pointer s x ≡ Some v) w e (stable.answered v) in
         and_right (is_some (pointer s w)) (not (points s.registers w v)) (ap not (points_from s w v back))

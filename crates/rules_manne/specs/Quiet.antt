@@ -8,7 +8,8 @@ use Rattle.rule_machine.specs.RuleTable.{enabled_names, is_open}
 use Rattle.rule_machine.specs.Manne.{manne, manne_opens, may_court}
 use Rattle.rule_machine.specs.Stable.{IsStable}
 use Rattle.machine_laws.specs.Neighbours.{option_cases, present_range, linked_back, linked_present, linked_apart, near_found, near_fails}
-use Rattle.machine_laws.specs.Pointers.{if_some, if_some_from, points_true, points_from, pointer_linked, suitor_from, suitor_some, married_from, null_unmarried}
+use Rattle.machine_laws.specs.Pointers.{points_true, points_from, pointer_linked, suitor_from, suitor_some, married_from, null_unmarried}
+use Rattle.machine_laws.specs.Writes.{if_some_at, if_some_from}
 use Rattle.machine_laws.specs.Enabled.{quiet_at, quiet_from}
 use Rattle.rules_manne.specs.Rule.{is_lost, courts, flag_from_settled, settled_from_flag}
 
@@ -126,7 +127,7 @@ quiet_from_stable s is_state stable = quiet_from manne s (λ v here. elim [ Upda
         ⊎_elim
         (
         λ suitor. let w = suitor_some s v suitor in
-        let back = if_some (pointer s w.0) (λ x. pointer s x ≡ Some w.0) v w.1 (stable.answered w.0) in
+        let back = if_some_at (pointer s w.0) (λ x. pointer s x ≡ Some w.0) v w.1 (stable.answered w.0) in
         and_left (is_settled s v && is_none (pointer s v)) (has_suitor s v) (and_right (is_settled s v) (is_none (pointer s v)) (ap is_none back))
         )
         (λ none. and_right (is_settled s v && is_none (pointer s v)) (has_suitor s v) none)
@@ -157,7 +158,7 @@ quiet_from_stable s is_state stable = quiet_from manne s (λ v here. elim [ Upda
     not_left : (v : ℕ) (o : Option ℕ) → pointer s v ≡ o → holds_at (is_lost s v) o ≡ false
     not_left v None e = refl
     not_left v (Some w) e =
-        let back = if_some (pointer s v) (λ x. pointer s x ≡ Some v) w e (stable.answered v) in
+        let back = if_some_at (pointer s v) (λ x. pointer s x ≡ Some v) w e (stable.answered v) in
         and_left (not (points s.registers w v)) (flag s w || nat_le w v) (ap not (points_from s w v back))
 
     no_abandon : (v : ℕ) → (is_settled s v && holds_at (is_lost s v) (pointer s v)) ≡ false

@@ -10,7 +10,8 @@ use Rattle.rule_machine.specs.RuleTable.{rule_at, least_target}
 use Rattle.rule_machine.specs.Manne.{manne, may_court}
 use Rattle.rule_set.specs.Target.{target_by, target_at, takes_target}
 use Rattle.machine_laws.specs.Neighbours.{option_cases, near_none, near_some, near_found, near_fails, near_agree}
-use Rattle.machine_laws.specs.Pointers.{none_is, at_true, at_from, null_unmarried}
+use Rattle.machine_laws.specs.Pointers.{none_is, null_unmarried}
+use Rattle.machine_laws.specs.Writes.{some_from_is_at, is_at_from_some}
 use Rattle.rules_manne.specs.Greatest.{greatest, greatest_none, greatest_some, greatest_reaches}
 use Rattle.rules_manne.specs.Rule.{rule_by, rule_cases, null_rule, is_lost, courts}
 
@@ -72,10 +73,10 @@ greatest_allowed s v w is_state h =
 pub seduce_allowed : (s : State) (v w : ℕ) → IsState s → manne.allowed s v Seduce w ≡ is_at (greatest s v) w
 seduce_allowed s v w is_state =
     ⊎_elim
-    (λ yes. yes ∙ sym (at_from (greatest s v) w (greatest_allowed s v w is_state yes)))
+    (λ yes. yes ∙ sym (is_at_from_some (greatest s v) w (greatest_allowed s v w is_state yes)))
     (
     λ no. no ∙ sym (
-    false_from_ne_true _ (λ at. let yes = allowed_greatest s v w is_state (at_true (greatest s v) w at) in absurd cc)
+    false_from_ne_true _ (λ at. let yes = allowed_greatest s v w is_state (some_from_is_at (greatest s v) w at) in absurd cc)
     )
     )
     (cases_Bool (manne.allowed s v Seduce w))
