@@ -1,3 +1,4 @@
 pub mod Glance
 pub mod Target
 pub mod Standing
+pub mod Charge

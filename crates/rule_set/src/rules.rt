@@ -1,21 +1,17 @@
 //! A set of rules.
 
-ghost use Rattle.std.specs.Prelude.{◌≡◌, ℕ, ◌+◌, ◌*◌, ◌≤◌, Bool, false, Option, None, Some, List, [], length, count_by, sum_by, IsTrue, IsSome};
+ghost use Rattle.std.specs.Prelude.{◌≡◌, ℕ, ◌+◌, ◌*◌, ◌≤◌, Bool, false, Option, None, Some, [], IsTrue, IsSome};
 ghost use Rattle.std.specs.Result.{result_ok};
 ghost use Rattle.rule_machine.specs.declared.act.Act.{Act};
 ghost use Rattle.rule_machine.specs.declared.act.Act.TheVariants.{Update};
 ghost use Rattle.rule_machine.specs.declared.event.Event.{Event};
-ghost use Rattle.rule_machine.specs.declared.reply.Reply.TheVariants.{Accepted};
-ghost use Rattle.rule_machine.specs.Answer.{Answers};
 ghost use Rattle.rule_machine.specs.Refuse.{refusal_of};
-ghost use Rattle.rule_machine.specs.declared.choice.Item.{Item};
-ghost use Rattle.rule_machine.specs.declared.act.Moved.{Moved};
-ghost use Rattle.rule_machine.specs.State.{State, IsState, pointer, is_unanswered};
+ghost use Rattle.rule_machine.specs.State.{State, IsState, pointer};
 ghost use Rattle.rule_machine.specs.RuleTable.{RuleTable, rule_at, enabled_names, least_target};
-ghost use Rattle.rule_machine.specs.Network.{names, linked, edge_list, node_count, edge_count};
-ghost use Rattle.rule_machine.specs.Step.{IsStep};
+ghost use Rattle.rule_machine.specs.Network.{linked, node_count, edge_count};
 ghost use Rattle.rule_machine.specs.Stable.{IsStable};
-ghost use Rattle.rule_set.specs.Standing.{ends_open, IsStanding, IsSameStanding};
+ghost use Rattle.rule_set.specs.Charge.{CountsCharge, ClosesByTarget, FallsByMoves, AddsAtMost};
+ghost use Rattle.rule_set.specs.Standing.{IsStanding, IsSameStanding};
 ghost use Rattle.rule_set.specs.Glance.{SameGlance};
 ghost use Rattle.rule_set.specs.Target.{SameAt, target_at, takes_target};
 
@@ -138,7 +134,7 @@ pub trait Rules {
 
     /// With twice the pointers that close an edge, the charge is twice the edges that are open by their ends, one for each
     /// pointer that is not answered, and what the nodes add.
-    ghost charge_counts: { (s : State) → IsState s → table.charge s + 2 * count_by (closes s) (names s.network) ≡ 2 * count_by (ends_open COURTED_CLOSE s) (edge_list s.network) + count_by (is_unanswered s) (names s.network) + sum_by (adds s) (names s.network) };
+    ghost charge_counts: { CountsCharge COURTED_CLOSE closes adds table };
 
     /// What a node adds depends on no more than what stands at it.
     ghost adds_by_standing: { (s u : State) (v : ℕ) → IsSameStanding s u v → adds s v ≡ adds u v };
@@ -147,13 +143,13 @@ pub trait Rules {
     ghost null_closes_none: { (s : State) (v : ℕ) → pointer s v ≡ None → closes s v ≡ false };
 
     /// Whether a pointer closes an edge depends on no more than what stands at its target.
-    ghost closes_by_target: { (s u : State) (v w : ℕ) → IsState s → IsState u → pointer s v ≡ Some w → pointer u v ≡ Some w → IsSameStanding s u w → closes s v ≡ closes u v };
+    ghost closes_by_target: { ClosesByTarget closes };
 
     /// A node adds little to the bound, so that what is counted fits 32 bits.
     ghost is_light: { NODE_WEIGHT ≤ 3 };
 
     /// The charge falls by the moves of a step.
-    ghost charge_falls: { (s : State) (items : List Item) (moves : List Moved) (s' : State) → IsState s → IsStep table s items moves s' → table.charge s' + length moves ≤ table.charge s };
+    ghost charge_falls: { FallsByMoves table };
 
     /// It is at most twice the edges and the weight for each node.
     ghost charge_is_bounded: { (s : State) → IsState s → table.charge s ≤ 2 * edge_count s.network + NODE_WEIGHT * node_count s.network };
@@ -162,5 +158,5 @@ pub trait Rules {
     ghost no_charge_is_stable: { (s : State) → IsState s → table.charge s ≡ 0 → IsStable table.flags s };
 
     /// An accepted disturbance adds its cost at most.
-    ghost disturbances_cost: { (s : State) → IsState s → (spent : ℕ) (event : Event) (after : State) → Answers table s spent event Accepted after → table.charge after ≤ table.charge s + cost s event };
+    ghost disturbances_cost: { AddsAtMost cost table };
 }
