@@ -23,4 +23,4 @@ mod touched;
 pub use local::Local;
 pub use rules::{BadTarget, Rules};
 pub use standing::Standing;
-pub use touched::Touched;
+pub use touched::{Touched, points_at};

@@ -2,7 +2,7 @@
 
 ghost use Rattle.std.specs.Prelude.{◌≡◌, ◌≤◌, IsTrue, length};
 ghost use Rattle.rule_machine.specs.Network.{present, neighbours};
-ghost use Rattle.rule_machine.specs.State.{State, pointer, has_suitor};
+ghost use Rattle.rule_machine.specs.State.{State, points, pointer, has_suitor};
 
 use rule_machine::Node;
 
@@ -26,4 +26,15 @@ pub trait Touched {
     fn has_suitor(&self, v: Node) -> bool
         requires { IsTrue (present (state self.now).network v) }
         ensures { result ≡ has_suitor (state self.now) v };
+}
+
+/// Whether a node points at another: one look at its pointer.
+pub fn points_at<T: Touched>(touched: &T, v: Node, w: Node) -> bool
+    requires { IsTrue (present (T.state touched.now).network v) }
+    ensures { result ≡ points (T.state touched.now).registers v w }
+{
+    match touched.pointer(v) {
+        Some(target) => target == w,
+        None => false,
+    }
 }

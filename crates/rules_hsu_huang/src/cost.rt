@@ -8,18 +8,7 @@ ghost use Rattle.charge_laws.specs.Degrees.{degree};
 ghost use Rattle.charge_laws.specs.Costs.{hsu_huang_cost, hsu_huang_point_cost};
 
 use rule_machine::Node;
-use rule_set::Touched;
-
-/// Whether a node points at another.
-fn points_at<T: Touched>(touched: &T, v: Node, w: Node) -> bool
-    requires { IsTrue (present (T.state touched.now).network v) }
-    ensures { result ≡ points (T.state touched.now).registers v w }
-{
-    match touched.pointer(v) {
-        Some(target) => target == w,
-        None => false,
-    }
-}
+use rule_set::{Touched, points_at};
 
 /// How many other edges are at the second node, where the first one points at it.
 fn other_edges<T: Touched>(touched: &T, v: Node, w: Node) -> u32

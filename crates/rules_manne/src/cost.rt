@@ -3,22 +3,11 @@
 ghost use Rattle.std.specs.Prelude.{◌≡◌, IsTrue};
 ghost use Rattle.rule_machine.specs.declared.event.Event.TheVariants.{Unlink, Flag, Leave};
 ghost use Rattle.rule_machine.specs.Network.{present};
-ghost use Rattle.rule_machine.specs.State.{IsState, points, pointer, is_unanswered};
+ghost use Rattle.rule_machine.specs.State.{IsState, pointer, is_unanswered};
 ghost use Rattle.charge_laws.specs.Costs.{manne_cost, manne_point_cost};
 
 use rule_machine::Node;
-use rule_set::Touched;
-
-/// Whether a node points at another.
-fn points_at<T: Touched>(touched: &T, v: Node, w: Node) -> bool
-    requires { IsTrue (present (T.state touched.now).network v) }
-    ensures { result ≡ points (T.state touched.now).registers v w }
-{
-    match touched.pointer(v) {
-        Some(target) => target == w,
-        None => false,
-    }
-}
+use rule_set::{Touched, points_at};
 
 /// Of an edge that goes.
 pub(crate) fn unlink_cost<T: Touched>(touched: &T, a: Node, b: Node) -> u32

@@ -6,7 +6,8 @@ use Rattle.rule_machine.specs.State.{State, Registers, IsState, is_at, points, p
 use Rattle.rule_machine.specs.RuleTable.{is_open}
 use Rattle.rule_set.specs.Glance.{is_reached}
 use Rattle.machine_laws.specs.Neighbours.{linked_back}
-use Rattle.machine_laws.specs.Pointers.{points_true, suitor_linked, at_from}
+use Rattle.machine_laws.specs.Pointers.{points_true, suitor_linked}
+use Rattle.machine_laws.specs.Writes.{is_at_from_some}
 use Rattle.suitor_index.specs.declared.tally.Tally.{Tally}
 use Rattle.net_state.specs.Held.{state_of}
 use Rattle.suitor_index.specs.Tallies.{tally_of, tally_at, asks_for, IsIndexOf}
@@ -114,7 +115,7 @@ tally_small above opens s k few = record {
 pub has_suitor : (above : Bool) (opens : Option ℕ → Bool → Bool) (net : Network) (r : Registers) (v w : ℕ) (ts : List Tally) → IsState (state_of net r) → IsIndexOf above opens (state_of net r) ts → IsTrue (present net v) → IsTrue (present net w) → pointer_of r v ≡ Some w → HasSuitor v (tally_of ts w)
 has_suitor above opens net r v w ts good index here has at =
     let was = index.counted w has in
-    let aims = at_from (pointer_of r v) w at in
+    let aims = is_at_from_some (pointer_of r v) w at in
     let one = near_le net w v (λ x. cond (points r x w) 1 0) here in
     let two = near_le net w v (λ x. cond (points r x w) x 0) here in
     let held_one = held_at net r v w 1 good ∙ ap (λ b. cond b 1 0) aims in
@@ -130,7 +131,7 @@ has_room above opens net r q v w start left before now alike here has few index 
     let t = tally_turned above opens net r q v w before now alike here in
     let was = index.counted w has in
     let small = tally_small above opens (state_of net q) w few in
-    let aims = at_from (pointer_of q v) w at in
+    let aims = is_at_from_some (pointer_of q v) w at in
     let one : one_if (points q v w) ≡ 1 = ap one_if aims in
     let two : cond (points q v w) v 0 ≡ v = ap (λ b. cond b v 0) aims in
     let low = small.suitors in
