@@ -12,18 +12,12 @@ use Rattle.graph_store.specs.Rows.{contents, row_at, has, network_of, IsRows, Is
 use Rattle.graph_store.proofs.PairOrder.{count-some}
 use Rattle.graph_store.proofs.Contents.{row_read, length_contents}
 use Rattle.graph_store.proofs.Rising.{there_at_place}
-use Rattle.graph_store.proofs.Store.{present_bounds, linked_by, linked_present}
-
--- what is known of two ends where none of their tests fails
-good_ends : (p q e : Bool) → cond (not (p && q)) (Some UnknownNode) (cond e (Some SelfLoop) None) ≡ None → (p ≡ true) × (q ≡ true) × (e ≡ false)
-good_ends false q e h = absurd cc
-good_ends true false e h = absurd cc
-good_ends true true true h = absurd cc
-good_ends true true false h = (refl, refl, refl)
+use Rattle.machine_laws.specs.Neighbours.{present_range, linked_back}
+use Rattle.graph_store.proofs.Store.{linked_by, linked_present}
 
 -- two names that may be ends are nodes, and different
 pub ends_known : (net : Network) (a b : ℕ) → ends_fault net a b ≡ None → (present net a ≡ true) × (present net b ≡ true) × (eqb a b ≡ false)
-ends_known net a b h = good_ends (present net a) (present net b) (eqb a b) h
+ends_known net a b h = grind arith
 
 -- what is known of two names that an edge may join
 pub record MayLink (net : Network) (a b : ℕ) : Type 0 where
@@ -35,12 +29,7 @@ pub record MayLink (net : Network) (a b : ℕ) : Type 0 where
 
 -- what is known where no test of an edge fails
 good_edge : (p q e l m : Bool) → cond (not (p && q)) (Some UnknownNode) (cond e (Some SelfLoop) (cond l (Some AlreadyLinked) (cond m (Some TooManyEdges) None))) ≡ None → (p ≡ true) × (q ≡ true) × (e ≡ false) × (l ≡ false) × (m ≡ false)
-good_edge false q e l m h = absurd cc
-good_edge true false e l m h = absurd cc
-good_edge true true true l m h = absurd cc
-good_edge true true false true m h = absurd cc
-good_edge true true false false true h = absurd cc
-good_edge true true false false false h = (refl, refl, refl, refl, refl)
+good_edge p q e l m h = grind arith
 
 -- two names that an edge may join are nodes, different and not linked, and there are not too many edges
 pub may_link : (net : Network) (a b : ℕ) → link_fault net a b ≡ None → MayLink net a b
@@ -72,7 +61,7 @@ known size roll rows net v seen here =
 -- a node has a row
 pub has_row : (size : ℕ) (roll : List Bool) (rows : List (Vec ℕ Global)) (net : Network) (v : ℕ) → network_of size roll (contents rows) ≡ net → IsRows size roll (contents rows) → present net v ≡ true → v < length rows
 has_row size roll rows net v seen good here =
-    let bounds = present_bounds (network_of size roll (contents rows)) v (known size roll (contents rows) net v seen here) in
+    let bounds = present_range (network_of size roll (contents rows)) v (known size roll (contents rows) net v seen here) in
     let places = good.places in
     omega (arith, bounds.1, places, length_contents rows)
 
@@ -85,11 +74,6 @@ row_here size roll rows net v p r row seen good here same is items =
 pub linked_at_place : (size : ℕ) (roll : List Bool) (rows : List (List ℕ)) (net : Network) (a b i : ℕ) (row : List ℕ) → network_of size roll rows ≡ net → IsRows size roll rows → row ≡ row_at rows a → IsPlaceOf row b i → linked net a b ≡ true
 linked_at_place size roll rows net a b i row seen good is place =
     sym (linked_by size roll rows net a b seen good) ∙ ap (λ l. has l b) (sym is) ∙ there_at_place row b i place
-
--- an edge is the same from either end
-pub linked_back : (size : ℕ) (roll : List Bool) (rows : List (List ℕ)) (net : Network) (a b : ℕ) → network_of size roll rows ≡ net → IsRows size roll rows → linked net a b ≡ linked net b a
-linked_back size roll rows net a b seen good =
-    sym (linked_by size roll rows net a b seen good) ∙ good.mutual_in a b ∙ linked_by size roll rows net b a seen good
 
 -- what is known of two names that are linked
 pub record AreJoined (net : Network) (a b : ℕ) : Type 0 where
@@ -105,7 +89,7 @@ are_joined size roll rows net a b seen good joined =
       here = ap (λ n. present n a) (sym seen) ∙ both.0;
       there = ap (λ n. present n b) (sym seen) ∙ both.1;
       apart = λ same. true≢false (sym (linked_by size roll rows net a b seen good ∙ joined) ∙ ap (has (row_at rows a)) (sym same) ∙ good.apart a);
-      back = linked_back size roll rows net b a seen good ∙ joined;
+      back = linked_back net b a ∙ joined;
     }
 
 -- where two names are linked there is an edge

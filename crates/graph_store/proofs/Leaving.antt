@@ -1,36 +1,24 @@
 -- A node that leaves: its edges go one by one from its last neighbour, and then its place.
-use Rattle.std.proofs.Common.{◌≡◌, ℕ, ◌-◌, ◌<◌, ◌≤◌, min, max, Bool, true, false, not, cond, ◌&&◌, List, [], ◌∷◌, length, eqb, leb, ltb, get_or, set, Option, None, Some, is_some, sym, refl, ap, subst, ◌∙◌, arith, ⊎_elim}
+use Rattle.std.proofs.Common.{◌≡◌, ℕ, ◌-◌, ◌<◌, ◌≤◌, min, max, Bool, true, false, not, cond, ◌&&◌, List, [], ◌∷◌, length, eqb, leb, ltb, get_or, set, Option, None, Some, sym, refl, ap, subst, ◌∙◌, arith, ⊎_elim}
 use Rattle.std.specs.Prelude.{slice_get, MatchOption}
 use Rattle.std.specs.FinMap as map
 use Rattle.std.proofs.lemmas.Bool.{and_parts, or_cases, or_left, or_right, eqb-true, eq-eqb, ne_eqb, cases_lt, true≢false}
 use Rattle.std.proofs.lemmas.List.{get_or-set_other, length-set}
 use Rattle.std.proofs.lemmas.Option.{slice_get-get_or}
 use Rattle.rule_machine.specs.Network.{Network, PairSet, present, linked, neighbours, edge, edge_count, is_end, without_edge, without_node}
-use Rattle.graph_store.specs.declared.fault.GraphFault.TheVariants.{UnknownNode, SelfLoop, NotLinked}
+use Rattle.graph_store.specs.declared.fault.GraphFault.TheVariants.{UnknownNode}
 use Rattle.graph_store.specs.Fault.{leave_fault, unlink_fault}
 use Rattle.graph_store.specs.Rows.{has, row_at, edges_of, network_of, IsRows, IsStore, IsPlaceOf}
-use Rattle.graph_store.proofs.PairOrder.{same_pair, pair_cmp-IsAntisymmetric, has-remove, count-remove, same_pairs}
+use Rattle.machine_laws.specs.Edges.{contains-without}
+use Rattle.graph_store.proofs.PairOrder.{same_pair, has-remove, count-remove, same_pairs}
 use Rattle.graph_store.proofs.Pairs.{and-false, has-edges_of}
 use Rattle.graph_store.proofs.Rising.{there_at_place}
 use Rattle.graph_store.proofs.Store.{neighbours_by}
 use Rattle.graph_store.proofs.Faults.{linked_at_place, unlink_fault_is, some_edge}
 
--- what is there where some pairs were kept
-is_some_kept : (b : Bool) (x : Option (Unit {0})) → is_some (cond b x None) ≡ (b && is_some x)
-is_some_kept true x = refl
-is_some_kept false x = refl
-
--- the pairs of which a name is no end
-has-retain : (s : PairSet) (v : ℕ) (q : ℕ × ℕ) → map.contains_key (map.retain_keys s (λ e. not (is_end v e))) q ≡ (not (is_end v q) && map.contains_key s q)
-has-retain s v q =
-    ap is_some (map.get-retain_keys s (λ e. not (is_end v e)) q (λ x tied. ap (λ e. not (is_end v e)) (sym (pair_cmp-IsAntisymmetric q x tied))))
-    ∙ is_some_kept (not (is_end v q)) (map.get s q)
-
 -- a pair that is left out anyhow may be missing
 left_out : (e s h : Bool) → (s ≡ true → e ≡ true) → (not e && (not s && h)) ≡ (not e && h)
-left_out true s h so = refl
-left_out false true h so = absurd (true≢false (sym (so refl)))
-left_out false false h so = refl
+left_out e s h so = grind arith
 
 -- a name is an end of the edges at it
 ends_at : (v w a b : ℕ) → same_pair (a, b) (edge v w) ≡ true → is_end v (a, b) ≡ true
@@ -48,10 +36,10 @@ pub without_edge_at : (net : Network) (v w : ℕ) → without_node (without_edge
 without_edge_at net v w =
     ap (λ (s : PairSet). let gone : Network = record { size = net.size; here = set net.here v false; edges = s } in gone)
     (same_pairs _ _ (λ a b.
-    has-retain (map.remove net.edges (edge v w)) v (a, b)
+    contains-without (map.remove net.edges (edge v w)) v (a, b)
     ∙ ap (λ t. not (is_end v (a, b)) && t) (has-remove net.edges (edge v w) (a, b))
     ∙ left_out (is_end v (a, b)) (same_pair (a, b) (edge v w)) (map.contains_key net.edges (a, b)) (ends_at v w a b)
-    ∙ sym (has-retain net.edges v (a, b))))
+    ∙ sym (contains-without net.edges v (a, b))))
 
 -- an edge less to count
 pub edge_falls : (net : Network) (v w : ℕ) → linked net v w ≡ true → edge_count (without_edge net v w) < edge_count net
@@ -60,16 +48,9 @@ edge_falls net v w there =
     let some = some_edge net v w there in
     omega (arith, less, some)
 
--- what is known of an edge that may be taken out
-good_unlink : (p q e l : Bool) → cond (not (p && q)) (Some UnknownNode) (cond e (Some SelfLoop) (cond l None (Some NotLinked))) ≡ None → l ≡ true
-good_unlink false q e l h = absurd cc
-good_unlink true false e l h = absurd cc
-good_unlink true true true l h = absurd cc
-good_unlink true true false false h = absurd cc
-good_unlink true true false true h = refl
-
+-- an edge that may be taken out is there
 pub may_unlink : (net : Network) (a b : ℕ) → unlink_fault net a b ≡ None → linked net a b ≡ true
-may_unlink net a b free = good_unlink (present net a) (present net b) (eqb a b) (linked net a b) free
+may_unlink net a b free = grind arith
 
 -- a node may leave
 pub may_leave : (net : Network) (v : ℕ) → present net v ≡ true → leave_fault net v ≡ None
@@ -122,8 +103,7 @@ parted_store size roll edges rows v store low alone =
 
 -- a pair is as it was, since none of those left out is there
 as_it_was : (e h : Bool) → (e ≡ true → h ≡ false) → h ≡ (not e && h)
-as_it_was true h so = so refl
-as_it_was false h so = refl
+as_it_was e h so = grind arith
 
 -- a name whose row is empty is no end of an edge
 no_end : (size : ℕ) (roll : List Bool) (rows : List (List ℕ)) (v a b : ℕ) → IsRows size roll rows → row_at rows v ≡ [] → is_end v (a, b) ≡ true → map.contains_key (edges_of rows) (a, b) ≡ false
@@ -141,4 +121,4 @@ parted_network size roll rows v good alone =
     ap (λ (s : PairSet). let gone : Network = record { size = size; here = set roll v false; edges = s } in gone)
     (same_pairs _ _ (λ a b.
     as_it_was (is_end v (a, b)) (map.contains_key (edges_of rows) (a, b)) (no_end size roll rows v a b good alone)
-    ∙ sym (has-retain (edges_of rows) v (a, b))))
+    ∙ sym (contains-without (edges_of rows) v (a, b))))

@@ -11,7 +11,7 @@ use Rattle.std.proofs.lemmas.Bool.{eq-eqb, true≢false}
 use Rattle.std.proofs.lemmas.List.{append-nil, length-take, take_more}
 use Rattle.rule_machine.specs.Network.{pair_cmp, pair_set}
 use Rattle.graph_store.specs.Rows.{row_at, has, pairs_from, edges_of, IsRows}
-use Rattle.graph_store.proofs.PairOrder.{pair_cmp_total}
+use Rattle.machine_laws.specs.Edges.{pair_total}
 use Rattle.graph_store.proofs.Rising.{RisesFrom, rises_from, lower_rises}
 
 -- each pair is below the one behind it
@@ -34,9 +34,9 @@ put_first p q es less = rw less refl
 -- the set of pairs that rise lists them as they are
 entries_rising : (pairs : List (ℕ × ℕ)) → RiseBy pairs → map.entries (pair_set pairs) ≡ list_map (λ p. (p, tt)) pairs
 entries_rising [] up = empty_entries
-entries_rising (p ∷ []) up = map.entries-insert pair_cmp_total (pair_set []) p tt ∙ ap (map.put pair_cmp p tt) empty_entries
+entries_rising (p ∷ []) up = map.entries-insert pair_total (pair_set []) p tt ∙ ap (map.put pair_cmp p tt) empty_entries
 entries_rising (p ∷ q ∷ pairs) up =
-    map.entries-insert pair_cmp_total (pair_set (q ∷ pairs)) p tt
+    map.entries-insert pair_total (pair_set (q ∷ pairs)) p tt
     ∙ ap (map.put pair_cmp p tt) (entries_rising (q ∷ pairs) up.1)
     ∙ put_first p q (list_map (λ p. (p, tt)) pairs) up.0
 

@@ -15,7 +15,7 @@ use Rattle.charge_laws.specs.EdgesByNodes.{zeros, count_filter}
 use Rattle.charge_laws.specs.EdgesByEnds.{turned}
 use Rattle.charge_laws.specs.EdgesChanged.{count_with, count_without, count_empty, count_all_few}
 use Rattle.graph_store.specs.declared.ends.End.{End}
-use Rattle.graph_store.specs.declared.ends.End.TheVariants.{Shut, Courted, Free}
+use Rattle.graph_store.specs.declared.ends.End.TheVariants.{Shut}
 use Rattle.graph_store.specs.Ends.{are_open, end_at, open_among, AreCounted}
 use Rattle.graph_store.specs.Rows.{contents, has, row_at, edges_of, network_of, IsRows, IsStore}
 use Rattle.graph_store.proofs.Contents.{row_read, length_contents}
@@ -24,15 +24,7 @@ use Rattle.graph_store.proofs.Store.{empty_network, neighbours_row, linked_row}
 
 -- an edge is as open from either end
 open_either_way : (a b : End) → are_open a b ≡ are_open b a
-open_either_way Shut Shut = refl
-open_either_way Shut Courted = refl
-open_either_way Shut Free = refl
-open_either_way Courted Shut = refl
-open_either_way Courted Courted = refl
-open_either_way Courted Free = refl
-open_either_way Free Shut = refl
-open_either_way Free Courted = refl
-open_either_way Free Free = refl
+open_either_way a b = grind arith
 
 -- so it does not matter which of its ends is the lower one
 open_edge : (ends : List End) (a b : ℕ) → are_open (end_at ends (min a b)) (end_at ends (max a b)) ≡ are_open (end_at ends a) (end_at ends b)
@@ -43,12 +35,10 @@ open_edge ends a b =
     (cases_lt a b)
 
 bool_number : (b : Bool) → from_bool b ≡ cond b 1 0
-bool_number true = refl
-bool_number false = refl
+bool_number b = grind arith
 
 pub bool_few : (b : Bool) → from_bool b ≤ 1
-bool_few true = omega arith
-bool_few false = omega arith
+bool_few b = grind arith
 
 -- an edge's one or nothing, as it is read
 pub open_number : (ends read : List End) (a b number : ℕ) (opens : Bool) → number ≡ from_bool opens → opens ≡ are_open (end_at read a) (end_at read b) → read ≡ ends → number ≡ cond (are_open (end_at ends a) (end_at ends b)) 1 0

@@ -10,27 +10,19 @@ use Rattle.graph_store.proofs.PairOrder.{same_pair, has-pair_set}
 
 -- a test and one that fails
 pub and-false : (p : Bool) → (p && false) ≡ false
-and-false true = refl
-and-false false = refl
+and-false p = grind arith
 
 -- a test or one that fails
 or-false : (p : Bool) → (p || false) ≡ p
-or-false true = refl
-or-false false = refl
+or-false p = grind arith
 
 -- a name that is kept, since it is above the row's
 kept : (p q t h : Bool) → (q ≡ true → t ≡ true) → ((p && q) || (p && (t && h))) ≡ (p && (t && (q || h)))
-kept false q t h so = refl
-kept true true true h so = refl
-kept true true false h so = absurd (let e = so refl in cc)
-kept true false t h so = refl
+kept p q t h so = grind arith
 
 -- a name that is left out, since it is not
 left_out : (p q t h : Bool) → (q ≡ true → t ≡ false) → (p && (t && h)) ≡ (p && (t && (q || h)))
-left_out false q t h so = refl
-left_out true true true h so = absurd (let e = so refl in cc)
-left_out true true false h so = refl
-left_out true false t h so = refl
+left_out p q t h so = grind arith
 
 -- a row's pairs, met at (a, b)
 in_row : (v a b : ℕ) (row : List ℕ) → list_any (same_pair (a, b)) (map (λ w. (v, w)) (filter (ltb v) row)) ≡ (eqb a v && (ltb v b && has row b))

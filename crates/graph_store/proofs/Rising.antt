@@ -92,9 +92,7 @@ there_at_place row w i place = list_any_at (eqb w) row i 0 place.0 (eq-eqb w (ge
 
 -- the first two of three tests in the other order
 or_swap : (a b c : Bool) → (a || (b || c)) ≡ (b || (a || c))
-or_swap true true c = refl
-or_swap true false c = refl
-or_swap false b c = refl
+or_swap a b c = grind arith
 
 -- one more name is there
 pub has-insert : (row : List ℕ) (i w y : ℕ) → has (insert row i w) y ≡ (eqb y w || has row y)
@@ -126,8 +124,7 @@ gone row i up inside =
 
 -- a test that fails between two others
 skip : (a b c : Bool) → b ≡ false → (a || c) ≡ (not b && (a || (b || c)))
-skip a true c e = absurd (true≢false e)
-skip a false c e = refl
+skip a b c e = grind arith
 
 -- the removed name is not there, and the others are
 pub has-remove : (row : List ℕ) (i w y : ℕ) → IsStrictlyIncreasing row → IsPlaceOf row w i → has (remove row i) y ≡ (not (eqb y w) && has row y)

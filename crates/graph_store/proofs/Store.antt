@@ -5,23 +5,18 @@ use Rattle.std.specs.Cmp.{nat_eq_equiv}
 use Rattle.std.specs.List.{range_with_len}
 use Rattle.std.specs.List.Sorted.{IsStrictlyIncreasing}
 use Rattle.std.specs.FinMap as map
-use Rattle.std.proofs.lemmas.Bool.{and_left, and_parts, cases_lt, true≢false, lt-ltb, le-ltb, le-leb, lt-leb, leb-true}
+use Rattle.std.proofs.lemmas.Bool.{and_left, cases_lt, true≢false, lt-ltb, le-ltb, le-leb, lt-leb}
 use Rattle.std.proofs.lemmas.List.{get_or-replicate, get_or_past, length-replicate}
 use Rattle.std.proofs.lemmas.List.Elements.{filter_agree}
 use Rattle.std.proofs.lemmas.List.FromFn.{length-map-range_with_len, get_or-map-range_with_len}
 use Rattle.std.proofs.lemmas.Map.Views.{All-from_any}
 use Rattle.rule_machine.specs.Network.{Network, PairSet, linked, present, neighbours, names, first_names, edgeless_with, edge_count}
+use Rattle.machine_laws.specs.Edges.{contains-empty}
+use Rattle.machine_laws.specs.Neighbours.{present_range}
 use Rattle.graph_store.specs.Rows.{has, row_at, edges_of, network_of, IsRows, IsStore}
-use Rattle.graph_store.proofs.PairOrder.{has-empty, count-empty, same_pairs}
+use Rattle.graph_store.proofs.PairOrder.{count-empty, same_pairs}
 use Rattle.graph_store.proofs.Pairs.{and-false, has-edges_of}
 use Rattle.graph_store.proofs.Rising.{part_of_names}
-
--- a present name is one of the names
-pub present_bounds : (net : Network) (v : ℕ) → present net v ≡ true → (1 ≤ v) × (v ≤ net.size)
-present_bounds net v h =
-    let both = and_parts (leb 1 v) (leb v net.size && get_or net.here v false) h in
-    let rest = and_parts (leb v net.size) (get_or net.here v false) both.1 in
-    (leb-true 1 v both.0, leb-true v net.size rest.0)
 
 -- the roll says who is present
 pub on_roll : (net : Network) (v : ℕ) → length net.here ≡ net.size + 1 → get_or net.here 0 false ≡ false → get_or net.here v false ≡ present net v
@@ -44,9 +39,7 @@ filter_both p q (x ∷ xs) =
     ]
 
 implied : (p q : Bool) → (q ≡ true → p ≡ true) → (p && q) ≡ q
-implied true q h = refl
-implied false true h = h refl
-implied false false h = refl
+implied p q h = grind arith
 
 -- an edge with its lower end first
 ordered : (rows : List (List ℕ)) (a b x y : ℕ) → x ≡ a → y ≡ b → a < b → map.contains_key (edges_of rows) (x, y) ≡ has (row_at rows a) b
@@ -78,7 +71,7 @@ neighbours_row size roll rows v good =
     filter_agree (linked (network_of size roll rows) v) (has (row_at rows v)) (λ w. linked_row size roll rows v w good) (names (network_of size roll rows))
     ∙ filter_both (has (row_at rows v)) (present (network_of size roll rows)) (range_with_len 1 size)
     ∙ filter_agree (λ w. present (network_of size roll rows) w && has (row_at rows v) w) (has (row_at rows v)) (λ w. implied _ _ (good.within v w)) (range_with_len 1 size)
-    ∙ part_of_names size (row_at rows v) (good.rising v) (λ w h. present_bounds (network_of size roll rows) w (good.within v w h))
+    ∙ part_of_names size (row_at rows v) (good.rising v) (λ w h. present_range (network_of size roll rows) w (good.within v w h))
 
 -- the same of the network that the rows are seen as
 pub neighbours_by : (size : ℕ) (roll : List Bool) (rows : List (List ℕ)) (net : Network) (v : ℕ) → network_of size roll rows ≡ net → IsRows size roll rows → row_at rows v ≡ neighbours net v
@@ -112,7 +105,7 @@ empty_row n v =
 pub empty_network : (size count : ℕ) → network_of size (first_names size count) (replicate (size + 1) []) ≡ edgeless_with size count
 empty_network size count =
     ap (λ (edges : PairSet). let net : Network = record { size = size; here = first_names size count; edges = edges } in net)
-    (same_pairs _ _ (λ a b. has-edges_of (replicate (size + 1) []) a b ∙ ap (λ row. ltb a b && has row b) (empty_row (size + 1) a) ∙ and-false (ltb a b) ∙ sym (has-empty (a, b))))
+    (same_pairs _ _ (λ a b. has-edges_of (replicate (size + 1) []) a b ∙ ap (λ row. ltb a b && has row b) (empty_row (size + 1) a) ∙ and-false (ltb a b) ∙ sym (contains-empty (a, b))))
 
 -- empty rows are a store
 pub empty_store : (size count : ℕ) → size ≤ 65535 → IsStore size (first_names size count) 0 (replicate (size + 1) [])

@@ -1,5 +1,5 @@
 -- What one edge more or less does to a store's rows and to its network.
-use Rattle.std.proofs.Common.{◌≡◌, ◌≢◌, ℕ, ◌+◌, ◌-◌, ◌<◌, ◌≤◌, min, max, Bool, true, false, not, cond, ◌&&◌, ◌||◌, List, [], length, eqb, ltb, set, sym, refl, ap, subst, ◌∙◌, arith, ⊎_elim, inl, inr, ◌⊎◌}
+use Rattle.std.proofs.Common.{◌≡◌, ◌≢◌, ℕ, ◌+◌, ◌-◌, ◌<◌, ◌≤◌, min, max, Bool, true, false, not, cond, ◌&&◌, ◌||◌, List, [], length, eqb, ltb, set, sym, ap, subst, ◌∙◌, arith, ⊎_elim, inl, inr, ◌⊎◌}
 use Rattle.std.specs.List.{insert, remove}
 use Rattle.std.specs.List.Sorted.{IsStrictlyIncreasing}
 use Rattle.std.specs.FinMap as map
@@ -9,9 +9,10 @@ use Rattle.std.proofs.lemmas.List.{get_or-set_same, get_or-set_other, length-set
 use Rattle.rule_machine.specs.Network.{Network, PairSet, edge, linked, present, with_edge, without_edge}
 use Rattle.graph_store.specs.Rows.{has, row_at, edges_of, network_of, put_both, take_both, IsRows, IsStore, IsPlaceOf, IsGapFor}
 use Rattle.graph_store.proofs.PairOrder.{same_pair, has-insert as has_pair-insert, has-remove as has_pair-remove, count-insert, count-remove, same_pairs}
-use Rattle.graph_store.proofs.Pairs.{and-false, has-edges_of}
+use Rattle.graph_store.proofs.Pairs.{has-edges_of}
 use Rattle.graph_store.proofs.Rising.{absent_at_gap, there_at_place, has-insert, has-remove, rising-insert, rising-remove}
-use Rattle.graph_store.proofs.Store.{linked_row, present_bounds}
+use Rattle.machine_laws.specs.Neighbours.{present_range}
+use Rattle.graph_store.proofs.Store.{linked_row}
 
 -- whether x and y are a and b, either way round
 abbrev joins : ℕ → ℕ → ℕ → ℕ → Bool
@@ -30,13 +31,11 @@ record Switched (a b : ℕ) (on : Bool) (rows rows' : List (List ℕ)) : Type 0 
 
 -- one more that passes, as a choice
 or_cond : (b h : Bool) → (b || h) ≡ cond b true h
-or_cond true h = refl
-or_cond false h = refl
+or_cond b h = grind arith
 
 -- one less that passes, as a choice
 and_cond : (b h : Bool) → (not b && h) ≡ cond b false h
-and_cond true h = refl
-and_cond false h = refl
+and_cond b h = grind arith
 
 -- a name put in at its gap
 row_on : (row : List ℕ) (w i : ℕ) → IsStrictlyIncreasing row → IsGapFor row w i → RowSwitched row (insert row i w) w true
@@ -159,65 +158,54 @@ joins_pair a b x y apart lt =
 no_pair : (a b x y : ℕ) → ltb x y ≡ false → a ≢ b → same_pair (x, y) (edge a b) ≡ false
 no_pair a b x y ge apart = never_falls x y (min a b) (max a b) (ltb-false x y ge) (omega arith)
 
--- one more pair in the set of the pairs that rise
-on_pair : (t s j h : Bool) → (t ≡ true → j ≡ s) → (t ≡ false → s ≡ false) → (t && cond j true h) ≡ (s || (t && h))
-on_pair true s j h same none = ap (λ b. cond b true h) (same refl) ∙ sym (or_cond s h)
-on_pair false s j h same none = sym (ap (λ b. b || false) (none refl))
+-- a pair that is switched, in the set of the pairs that rise
+switched_pair : (on t s j h : Bool) → (t ≡ true → j ≡ s) → (t ≡ false → s ≡ false) → (t && cond j on h) ≡ cond s on (t && h)
+switched_pair on t s j h same none = grind arith
 
--- one pair less in it
-off_pair : (t s j h : Bool) → (t ≡ true → j ≡ s) → (t ≡ false → s ≡ false) → (t && cond j false h) ≡ (not s && (t && h))
-off_pair true s j h same none = ap (λ b. cond b false h) (same refl) ∙ sym (and_cond s h)
-off_pair false s j h same none = sym (and-false (not s))
-
--- with the switch on, the pairs have one more
-edges_on : (a b : ℕ) (rows rows' : List (List ℕ)) → a ≢ b → Switched a b true rows rows' → edges_of rows' ≡ map.insert (edges_of rows) (edge a b) tt
-edges_on a b rows rows' apart new =
+-- so the set of the pairs has switched the edge, and no other
+edges_switched : (a b : ℕ) (on : Bool) (rows rows' : List (List ℕ)) (edges : PairSet) → a ≢ b → Switched a b on rows rows' → ((q : ℕ × ℕ) → map.contains_key edges q ≡ cond (same_pair q (edge a b)) on (map.contains_key (edges_of rows) q)) → edges_of rows' ≡ edges
+edges_switched a b on rows rows' edges apart new is =
     same_pairs _ _ (λ x y.
     has-edges_of rows' x y
     ∙ ap (λ t. ltb x y && t) (new.held x y)
-    ∙ on_pair (ltb x y) (same_pair (x, y) (edge a b)) (joins a b x y) (has (row_at rows x) y) (joins_pair a b x y apart) (λ ge. no_pair a b x y ge apart)
-    ∙ sym (has_pair-insert (edges_of rows) (edge a b) (x, y) ∙ ap (λ t. same_pair (x, y) (edge a b) || t) (has-edges_of rows x y)))
+    ∙ switched_pair on (ltb x y) (same_pair (x, y) (edge a b)) (joins a b x y) (has (row_at rows x) y) (joins_pair a b x y apart) (λ ge. no_pair a b x y ge apart)
+    ∙ sym (is (x, y) ∙ ap (cond (same_pair (x, y) (edge a b)) on) (has-edges_of rows x y)))
 
--- with the switch off, one less
-edges_off : (a b : ℕ) (rows rows' : List (List ℕ)) → a ≢ b → Switched a b false rows rows' → edges_of rows' ≡ map.remove (edges_of rows) (edge a b)
-edges_off a b rows rows' apart new =
-    same_pairs _ _ (λ x y.
-    has-edges_of rows' x y
-    ∙ ap (λ t. ltb x y && t) (new.held x y)
-    ∙ off_pair (ltb x y) (same_pair (x, y) (edge a b)) (joins a b x y) (has (row_at rows x) y) (joins_pair a b x y apart) (λ ge. no_pair a b x y ge apart)
-    ∙ sym (has_pair-remove (edges_of rows) (edge a b) (x, y) ∙ ap (λ t. not (same_pair (x, y) (edge a b)) && t) (has-edges_of rows x y)))
+-- a store in which an edge is switched is one of the network with these edges
+switched_store : (size : ℕ) (roll : List Bool) (edges edges' a b : ℕ) (on : Bool) (rows rows' : List (List ℕ)) (ra rb : List ℕ) (pairs : PairSet) → IsStore size roll edges rows → a ≢ b → present (network_of size roll rows) a ≡ true → present (network_of size roll rows) b ≡ true → RowSwitched (row_at rows a) ra b on → RowSwitched (row_at rows b) rb a on → rows' ≡ set (set rows a ra) b rb → ((q : ℕ × ℕ) → map.contains_key pairs q ≡ cond (same_pair q (edge a b)) on (map.contains_key (edges_of rows) q)) → map.len pairs ≡ edges' → edges' ≤ 1048576 → IsStore size roll edges' rows' × (network_of size roll rows' ≡ record (network_of size roll rows) { edges = pairs })
+switched_store size roll edges edges' a b on rows rows' ra rb pairs store apart in_a in_b row_a row_b is switched counted few =
+    let good = store.is_rows in
+    let places : length rows ≡ size + 1 = good.places in
+    let low = (present_range (network_of size roll rows) a in_a).1 in
+    let high = (present_range (network_of size roll rows) b in_b).1 in
+    let new : Switched a b on rows rows' = subst (λ r. Switched a b on rows r) (sym is) (both_rows a b on rows ra rb apart (omega arith) (omega arith) good.rising row_a row_b) in
+    let same = edges_switched a b on rows rows' pairs apart new switched in (
+      record {
+        is_rows = switched_rows size roll a b on rows rows' good apart in_a in_b new;
+        few_nodes = store.few_nodes;
+        counted = ap map.len same ∙ counted;
+        few_edges = few;
+      },
+      ap (λ (s : PairSet). let net : Network = record { size = size; here = roll; edges = s } in net) same,
+    )
 
 -- a store with an edge put in at its two gaps is the store of the network with that edge
 pub link_rows : (size : ℕ) (roll : List Bool) (edges a b i j : ℕ) (rows rows' : List (List ℕ)) → IsStore size roll edges rows → a ≢ b → present (network_of size roll rows) a ≡ true → present (network_of size roll rows) b ≡ true → IsGapFor (row_at rows a) b i → IsGapFor (row_at rows b) a j → edges < 1048576 → rows' ≡ put_both rows a i b j → IsStore size roll (edges + 1) rows' × (network_of size roll rows' ≡ with_edge (network_of size roll rows) a b)
 link_rows size roll edges a b i j rows rows' store apart in_a in_b gap_a gap_b few is =
     let good = store.is_rows in
-    let places : length rows ≡ size + 1 = good.places in
-    let new : Switched a b true rows rows' = subst (λ r. Switched a b true rows r) (sym is) (both_rows a b true rows _ _ apart (let le = (present_bounds (network_of size roll rows) a in_a).1 in omega arith) (let le = (present_bounds (network_of size roll rows) b in_b).1 in omega arith) good.rising (row_on _ b i (good.rising a) gap_a) (row_on _ a j (good.rising b) gap_b)) in
-    let more = edges_on a b rows rows' apart new in
-    let absent : linked (network_of size roll rows) a b ≡ false = linked_row size roll rows a b good ∙ absent_at_gap (row_at rows a) b i gap_a in (
-      record {
-        is_rows = switched_rows size roll a b true rows rows' good apart in_a in_b new;
-        few_nodes = store.few_nodes;
-        counted = ap map.len more ∙ count-insert (edges_of rows) (edge a b) absent ∙ ap (λ n. n + 1) store.counted;
-        few_edges = omega arith;
-      },
-      ap (λ (s : PairSet). let net : Network = record { size = size; here = roll; edges = s } in net) more,
-    )
+    let absent : linked (network_of size roll rows) a b ≡ false = linked_row size roll rows a b good ∙ absent_at_gap (row_at rows a) b i gap_a in
+    switched_store size roll edges (edges + 1) a b true rows rows' _ _ (map.insert (edges_of rows) (edge a b) tt) store apart in_a in_b (row_on _ b i (good.rising a) gap_a) (row_on _ a j (good.rising b) gap_b) is
+    (λ q. has_pair-insert (edges_of rows) (edge a b) q ∙ or_cond (same_pair q (edge a b)) (map.contains_key (edges_of rows) q))
+    (count-insert (edges_of rows) (edge a b) absent ∙ ap (λ n. n + 1) store.counted)
+    (omega arith)
 
 -- a store with an edge taken out at its two places is the store of the network without that edge
 pub unlink_rows : (size : ℕ) (roll : List Bool) (edges a b i j : ℕ) (rows rows' : List (List ℕ)) → IsStore size roll edges rows → a ≢ b → present (network_of size roll rows) a ≡ true → present (network_of size roll rows) b ≡ true → IsPlaceOf (row_at rows a) b i → IsPlaceOf (row_at rows b) a j → rows' ≡ take_both rows a i b j → IsStore size roll (edges - 1) rows' × (network_of size roll rows' ≡ without_edge (network_of size roll rows) a b)
 unlink_rows size roll edges a b i j rows rows' store apart in_a in_b place_a place_b is =
     let good = store.is_rows in
-    let places : length rows ≡ size + 1 = good.places in
-    let new : Switched a b false rows rows' = subst (λ r. Switched a b false rows r) (sym is) (both_rows a b false rows _ _ apart (let le = (present_bounds (network_of size roll rows) a in_a).1 in omega arith) (let le = (present_bounds (network_of size roll rows) b in_b).1 in omega arith) good.rising (row_off _ b i (good.rising a) place_a) (row_off _ a j (good.rising b) place_b)) in
-    let less = edges_off a b rows rows' apart new in
+    let few = store.few_edges in
     let there : linked (network_of size roll rows) a b ≡ true = linked_row size roll rows a b good ∙ there_at_place (row_at rows a) b i place_a in
-    let few = store.few_edges in (
-      record {
-        is_rows = switched_rows size roll a b false rows rows' good apart in_a in_b new;
-        few_nodes = store.few_nodes;
-        counted = ap map.len less ∙ count-remove (edges_of rows) (edge a b) there ∙ ap (λ n. n - 1) store.counted;
-        few_edges = omega arith;
-      },
-      ap (λ (s : PairSet). let net : Network = record { size = size; here = roll; edges = s } in net) less,
-    )
+    switched_store size roll edges (edges - 1) a b false rows rows' _ _ (map.remove (edges_of rows) (edge a b)) store apart in_a in_b (row_off _ b i (good.rising a) place_a) (row_off _ a j (good.rising b) place_b) is
+    (λ q. has_pair-remove (edges_of rows) (edge a b) q ∙ and_cond (same_pair q (edge a b)) (map.contains_key (edges_of rows) q))
+    (count-remove (edges_of rows) (edge a b) there ∙ ap (λ n. n - 1) store.counted)
+    (omega arith)

@@ -1,21 +1,17 @@
 -- What a new edge says of its ends, and pointers that do not cross.
-use Rattle.std.proofs.Common.{◌≡◌, ℕ, Bool, true, false, cond, not, ◌&&◌, ◌||◌, Some, None, Result, Ok, Err, OnOk, OnErr, IsTrue, nat_eq, nat_le, refl, sym, ap, subst, ◌∙◌, ⊎_elim}
+use Rattle.std.proofs.Common.{◌≡◌, ℕ, false, cond, not, ◌&&◌, ◌||◌, None, Result, Ok, Err, OnOk, OnErr, IsTrue, nat_eq, sym, ap, subst, ◌∙◌, ⊎_elim, arith}
 use Rattle.std.specs.Ordering.{eq_by_cmp}
 use Rattle.std.proofs.lemmas.Bool.{true≢false, false_from_ne_true, eq-eqb, ne_eqb}
 use Rattle.std.proofs.lemmas.Map.Views.{tells_apart}
-use Rattle.std.proofs.lemmas.Option.{none-some}
-use Rattle.rule_machine.specs.declared.refusal.Refusal.TheVariants.{UnknownNode, SelfLoop, AlreadyLinked, NotLinked, TooManyEdges}
-use Rattle.rule_machine.specs.Network.{Network, IsNetwork, pair_cmp, edge, present, linked, edge_count, with_edge, without_edge}
+use Rattle.rule_machine.specs.Network.{Network, IsNetwork, pair_cmp, edge, present, linked, with_edge, without_edge}
 use Rattle.rule_machine.specs.State.{Registers, IsState, points, pointer_of, with_pointer}
 use Rattle.rule_machine.specs.Disturbance.{without_pointer}
-use Rattle.rule_machine.specs.Refuse.{both_present, link_refusal, unlink_refusal, max_edges}
+use Rattle.rule_machine.specs.Refuse.{link_refusal, unlink_refusal}
 use Rattle.machine_laws.specs.Edges.{pair_exact, contains-insert, contains-remove, edge_ends}
 use Rattle.machine_laws.specs.Keeps.{link_keeps}
 use Rattle.machine_laws.specs.Neighbours.{linked_back, linked_apart, linked_present}
-use Rattle.machine_laws.specs.Search.{cond-none}
 use Rattle.machine_laws.specs.Writes.{some_from_is_at, without_pointer_was, without_pointer_gone}
 use Rattle.graph_store.specs.Fault.{link_fault}
-use Rattle.graph_store.specs.declared.fault.GraphFault.TheVariants as fault
 use Rattle.net_state.specs.Held.{state_of}
 
 -- what two names are that an edge may be put between
@@ -25,38 +21,8 @@ pub record IsNewEdge (net : Network) (a b : ℕ) : Type 0 where
   pub upper : IsTrue (present net b)
   pub apart : nat_eq a b ≡ false
 
--- nothing is wrong with the ends of a new edge
-pub record Passes (absent loop there full : Bool) : Type 0 where
-  pub present : absent ≡ false
-  pub apart : loop ≡ false
-  pub fresh : there ≡ false
-  pub room : full ≡ false
-
-passes : (absent loop there full : Bool) → cond absent (Some fault.UnknownNode) (cond loop (Some fault.SelfLoop) (cond there (Some fault.AlreadyLinked) (cond full (Some fault.TooManyEdges) None))) ≡ None → Passes absent loop there full
-passes true loop there full e = absurd (none-some fault.UnknownNode (sym e))
-passes false true there full e = absurd (none-some fault.SelfLoop (sym e))
-passes false false true full e = absurd (none-some fault.AlreadyLinked (sym e))
-passes false false false true e = absurd (none-some fault.TooManyEdges (sym e))
-passes false false false false e = record { present = refl; apart = refl; fresh = refl; room = refl }
-
-both : (b c : Bool) → not (b && c) ≡ false → IsTrue b × IsTrue c
-both true true e = (refl, refl)
-both true false e = absurd (true≢false e)
-both false c e = absurd (true≢false e)
-
 pub new_edge : (net : Network) (a b : ℕ) → link_fault net a b ≡ None → IsNewEdge net a b
-new_edge net a b none =
-    let p = passes (not (both_present net a b)) (nat_eq a b) (linked net a b) (nat_le max_edges (edge_count net)) none in
-    let ends = both (present net a) (present net b) p.present in
-    record {
-      accepted = ap (λ t. cond t (Some UnknownNode) (cond (nat_eq a b) (Some SelfLoop) (cond (linked net a b) (Some AlreadyLinked) (cond (nat_le max_edges (edge_count net)) (Some TooManyEdges) None)))) p.present
-          ∙ ap (λ t. cond t (Some SelfLoop) (cond (linked net a b) (Some AlreadyLinked) (cond (nat_le max_edges (edge_count net)) (Some TooManyEdges) None))) p.apart
-          ∙ ap (λ t. cond t (Some AlreadyLinked) (cond (nat_le max_edges (edge_count net)) (Some TooManyEdges) None)) p.fresh
-          ∙ ap (λ t. cond t (Some TooManyEdges) None) p.room;
-      lower = ends.0;
-      upper = ends.1;
-      apart = p.apart;
-    }
+new_edge net a b none = record { accepted = grind arith; lower = grind arith; upper = grind arith; apart = grind arith }
 
 -- where an edge is put in, or nothing changes, a state stays one
 pub linked_sound : {T E : Type 0} (result : Result T E) (net after : Network) (r : Registers) (a b : ℕ) → OnOk result ((link_fault net a b ≡ None) × (after ≡ with_edge net a b)) → OnErr result (after ≡ net) → IsState (state_of net r) → IsState (state_of after r)
@@ -93,28 +59,14 @@ linked_without_other net a b k x not_ab not_ba =
 
 -- ---- an edge that goes
 
-linked_of : (b : Bool) → cond b None (Some NotLinked) ≡ None → b ≡ true
-linked_of true e = refl
-linked_of false e = absurd cc
-
 -- one whose removal is not refused is there
 pub unrefused_linked : (net : Network) (a b : ℕ) → unlink_refusal net a b ≡ None → IsTrue (linked net a b)
-unrefused_linked net a b none =
-    let first = cond-none (not (both_present net a b)) UnknownNode _ none in
-    linked_of (linked net a b) (cond-none (nat_eq a b) SelfLoop _ first.1).1
-
-free : (p q e l : Bool) → p ≡ true → q ≡ true → e ≡ false → l ≡ true → cond (not (p && q)) (Some UnknownNode) (cond e (Some SelfLoop) (cond l None (Some NotLinked))) ≡ None
-free true true false true first second third fourth = refl
-free false q e l first second third fourth = absurd cc
-free true false e l first second third fourth = absurd cc
-free true true true l first second third fourth = absurd cc
-free true true false false first second third fourth = absurd cc
+unrefused_linked net a b none = grind arith
 
 -- an edge that is there may be removed
 pub may_unlink : (net : Network) (v w : ℕ) → IsNetwork net → IsTrue (linked net v w) → unlink_refusal net v w ≡ None
 may_unlink net v w good near =
-    free (present net v) (present net w) (nat_eq v w) (linked net v w)
-    (linked_present net v w good near)
-    (linked_present net w v good (linked_back net w v ∙ near))
-    (ne_eqb v w (linked_apart net v w good near))
-    near
+    let here = linked_present net v w good near in
+    let there = linked_present net w v good (linked_back net w v ∙ near) in
+    let apart = ne_eqb v w (linked_apart net v w good near) in
+    grind arith

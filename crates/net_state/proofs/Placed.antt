@@ -1,6 +1,8 @@
 -- The nodes that a scan of all names finds are those of a base.
-use Rattle.std.proofs.Common.{◌≡◌, ℕ, ◌+◌, suc, zero, Bool, true, false, cond, List, [], ◌∷◌, ◌++◌, map, filter, filter_map, Option, None, Some, SomeIff, option_to_list, refl, ap, ◌∙◌, subst, arith, add-one}
+use Rattle.std.proofs.Common.{◌≡◌, ℕ, ◌+◌, Bool, true, false, cond, List, [], ◌∷◌, ◌++◌, map, filter, filter_map, Option, None, Some, SomeIff, option_to_list, refl, sym, ap, ◌∙◌, subst, arith}
 use Rattle.std.specs.List.{range_with_len, cons_option}
+use Rattle.std.proofs.lemmas.List.{map-id}
+use Rattle.std.proofs.lemmas.List.FromFn.{map-range_with_len_more}
 use Rattle.std.proofs.lemmas.List.Elements.{filter_map-append}
 use Rattle.rule_machine.specs.Network.{present}
 use Rattle.rule_machine.specs.State.{State}
@@ -22,10 +24,8 @@ pub some_iff_at : {X : Type 0} (o : Option X) (P : Type 0) (v x : X) → SomeIff
 some_iff_at o P v x h e = (let k : P × (x ≡ v) = subst (λ q. SomeIff q P v) e h in k).1
 
 range_more : (a n : ℕ) → range_with_len a (n + 1) ≡ range_with_len a n ++ (a + n) ∷ []
-range_more a n = rw add-one (go a n) where
-  go : (a n : ℕ) → range_with_len a (suc n) ≡ range_with_len a n ++ (a + n) ∷ []
-  go a zero = ap (λ x. x ∷ []) (omega arith)
-  go a (suc n) = ap (λ rest. a ∷ rest) (go (a + 1) n ∙ ap (λ x. range_with_len (a + 1) n ++ x ∷ []) (omega arith))
+range_more a n =
+    sym (map-id (range_with_len a (n + 1))) ∙ map-range_with_len_more (λ x. x) a n (a + n) refl ∙ ap (λ l. l ++ (a + n) ∷ []) (map-id (range_with_len a n))
 
 one_found : {X : Type 0} (o : Option X) → cons_option o [] ≡ option_to_list o
 one_found None = refl

@@ -1,7 +1,7 @@
 -- What is round a name in two states (its registers, its neighbours, who points at it), and which writes leave that as it is.
 use Rattle.std.proofs.Common.{◌≡◌, ◌≢◌, ℕ, ◌<◌, Bool, ◌&&◌, length, set, filter, find, Option, is_some, sym, refl, ap, ◌∙◌, ⊎_elim}
 use Rattle.std.proofs.lemmas.Bool.{cases_eq}
-use Rattle.rule_machine.specs.Network.{Network, IsNetwork, linked, names, neighbours, present, with_edge, without_edge}
+use Rattle.rule_machine.specs.Network.{Network, PairSet, IsNetwork, linked, names, neighbours, present, with_edge, without_edge}
 use Rattle.rule_machine.specs.State.{State, Registers, is_at, partner, pointer, flag, points, married, has_suitor, with_pointer}
 use Rattle.rule_machine.specs.Disturbance.{after_point, after_flag}
 use Rattle.machine_laws.specs.Edges.{present_other}
@@ -56,30 +56,23 @@ round_flagged s v value w apart = record {
   pointed = λ x. refl;
 }
 
+-- the edges change, and none of them that has this end
+round_edges : (s : State) (edges : PairSet) (w : ℕ) → ((x : ℕ) → linked s.network w x ≡ linked (record s.network { edges = edges }) w x) → IsSameRound s (record s { network = record s.network { edges = edges } }) w
+round_edges s edges w link = record {
+  here = refl;
+  near = λ i. filter (λ x. link x i) (names s.network);
+  link = link;
+  own_pointer = refl;
+  own_flag = refl;
+  pointed = λ x. refl;
+}
+
 -- an edge comes or goes at two other nodes
 pub round_linked : (s : State) (a b w : ℕ) → w ≢ a → w ≢ b → IsSameRound s (record s { network = with_edge s.network a b }) w
-round_linked s a b w not_a not_b =
-    let link : (x : ℕ) → linked s.network w x ≡ linked (with_edge s.network a b) w x = λ x. sym (linked_with_other s.network a b w x (λ e f. not_a e) (λ e f. not_b e)) in
-    record {
-      here = refl;
-      near = λ i. filter (λ x. link x i) (names s.network);
-      link = link;
-      own_pointer = refl;
-      own_flag = refl;
-      pointed = λ x. refl;
-    }
+round_linked s a b w not_a not_b = round_edges s _ w (λ x. sym (linked_with_other s.network a b w x (λ e f. not_a e) (λ e f. not_b e)))
 
 pub round_unlinked : (s : State) (a b w : ℕ) → w ≢ a → w ≢ b → IsSameRound s (record s { network = without_edge s.network a b }) w
-round_unlinked s a b w not_a not_b =
-    let link : (x : ℕ) → linked s.network w x ≡ linked (without_edge s.network a b) w x = λ x. sym (linked_without_other s.network a b w x (λ e f. not_a e) (λ e f. not_b e)) in
-    record {
-      here = refl;
-      near = λ i. filter (λ x. link x i) (names s.network);
-      link = link;
-      own_pointer = refl;
-      own_flag = refl;
-      pointed = λ x. refl;
-    }
+round_unlinked s a b w not_a not_b = round_edges s _ w (λ x. sym (linked_without_other s.network a b w x (λ e f. not_a e) (λ e f. not_b e)))
 
 -- a name becomes present or absent, without an edge
 pub round_seated : (net : Network) (r : Registers) (v : ℕ) (b : Bool) (w : ℕ) → IsNetwork net → IsNetwork (record net { here = set net.here v b }) → w ≢ v → IsSameRound (record { network = net; registers = r }) (record { network = record net { here = set net.here v b }; registers = r }) w

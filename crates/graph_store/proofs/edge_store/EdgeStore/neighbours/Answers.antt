@@ -5,13 +5,14 @@ use Rattle.rule_machine.specs.Network.{Network, neighbours, linked, present}
 use Rattle.graph_store.specs.Graph.{Graph}
 use Rattle.graph_store.specs.Rows.{contents, has, row_at}
 use Rattle.graph_store.proofs.Contents.{row_read, length_contents}
-use Rattle.graph_store.proofs.Store.{linked_by, neighbours_row, all_linked, all_present, present_bounds}
+use Rattle.machine_laws.specs.Neighbours.{present_range}
+use Rattle.graph_store.proofs.Store.{linked_by, neighbours_row, all_linked, all_present}
 use Rattle.graph_store.proofs.edge_store.EdgeStore.neighbours.Goals as goal
 
 -- what is returned is the node's row
 row_is : (c : goal.After-deref) → c.deref.result.now ≡ row_at (contents c.self.inside.rows.items) c.args.node
 row_is c =
-    let present = present_bounds c.args.self.now.network c.args.node c.requires in
+    let present = present_range c.args.self.now.network c.args.node c.requires in
     let size : c.self.inside.nodes ≡ c.args.self.now.network.size = ap (λ (net : Network). net.size) (ap (λ (g : Graph). g.network) c.self.view_is) in
     let places = c.self.invariant.0.is_rows.places in
     c.deref.ensures.value ∙ row_read c.self.inside.rows.items c.self.inside.rows.items c.args.node c.place.result c.index.result.now refl c.place.ensures.same (omega (arith, length_contents c.self.inside.rows.items, present.1, size, places)) c.index.ensures

@@ -2,7 +2,8 @@ use Rattle.std.proofs.Common.{◌≡◌, [], ap, sym, subst, ◌∙◌}
 use Rattle.rule_machine.specs.Network.{without_node}
 use Rattle.graph_store.specs.Graph.{Graph}
 use Rattle.graph_store.specs.Rows.{contents, row_at, network_of, IsStore}
-use Rattle.graph_store.proofs.Store.{neighbours_by, present_bounds}
+use Rattle.machine_laws.specs.Neighbours.{present_range}
+use Rattle.graph_store.proofs.Store.{neighbours_by}
 use Rattle.graph_store.proofs.Leaving.{parted_store, parted_network}
 use Rattle.graph_store.proofs.edge_store.EdgeStore.part.Goals as goal
 
@@ -10,7 +11,7 @@ pub invariant_of-self : goal.invariant_of-self
 invariant_of-self c =
     let seen = ap (λ (g : Graph). g.network) c.self.view_is in
     let alone : row_at (contents c.self.inside.rows.items) c.args.v ≡ [] = neighbours_by c.self.inside.nodes c.self.inside.here (contents c.self.inside.rows.items) c.args.self.now.network c.args.v seen c.self.invariant.0.is_rows ∙ c.requires.alone in
-    let parted = parted_store c.self.inside.nodes c.self.inside.here c.self.inside.edges (contents c.self.inside.rows.items) c.args.v c.self.invariant.0 (present_bounds c.args.self.now.network c.args.v c.requires.present).0 alone in
+    let parted = parted_store c.self.inside.nodes c.self.inside.here c.self.inside.edges (contents c.self.inside.rows.items) c.args.v c.self.invariant.0 (present_range c.args.self.now.network c.args.v c.requires.present).0 alone in
     (subst (λ roll. IsStore c.self.inside.nodes roll c.self.inside.edges (contents c.self.inside.rows.items)) (sym c.remove.ensures) parted, c.self.invariant.1)
 
 pub returns-clause-node : goal.returns-clause-node

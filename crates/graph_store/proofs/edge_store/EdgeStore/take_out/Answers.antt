@@ -10,7 +10,8 @@ use Rattle.graph_store.specs.Ends.{open_among}
 use Rattle.graph_store.specs.Rows.{contents, row_at, network_of, take_both, IsStore, IsPlaceOf}
 use Rattle.graph_store.proofs.Faults.{are_joined, has_row, known, some_edge}
 use Rattle.graph_store.proofs.Opened.{open_number, open_unlinked}
-use Rattle.graph_store.proofs.Store.{neighbours_by, present_bounds}
+use Rattle.machine_laws.specs.Neighbours.{present_range}
+use Rattle.graph_store.proofs.Store.{neighbours_by}
 use Rattle.graph_store.proofs.Switch.{unlink_rows}
 use Rattle.graph_store.proofs.edge_store.EdgeStore.take_out.Goals as goal
 
@@ -47,13 +48,13 @@ overflow_sub-self c =
 
 pub are_open-requires-clause-low : goal.are_open-requires-clause-low
 are_open-requires-clause-low c =
-    let bounds = present_bounds c.args.self.now.network c.args.a (are_joined c.self.inside.nodes c.self.inside.here (contents c.self.inside.rows.items) c.args.self.now.network c.args.a c.args.b (ap (λ (g : Graph). g.network) c.self.view_is) c.self.invariant.0.is_rows c.requires).here in
+    let bounds = present_range c.args.self.now.network c.args.a (are_joined c.self.inside.nodes c.self.inside.here (contents c.self.inside.rows.items) c.args.self.now.network c.args.a c.args.b (ap (λ (g : Graph). g.network) c.self.view_is) c.self.invariant.0.is_rows c.requires).here in
     let size = ap (λ (g : Graph). g.network.size) c.self.view_is in
     omega (arith, bounds.1, size, c.self.invariant.1.places, c.deref.ensures.len)
 
 pub are_open-requires-clause-high : goal.are_open-requires-clause-high
 are_open-requires-clause-high c =
-    let bounds = present_bounds c.args.self.now.network c.args.b (are_joined c.self.inside.nodes c.self.inside.here (contents c.self.inside.rows.items) c.args.self.now.network c.args.a c.args.b (ap (λ (g : Graph). g.network) c.self.view_is) c.self.invariant.0.is_rows c.requires).there in
+    let bounds = present_range c.args.self.now.network c.args.b (are_joined c.self.inside.nodes c.self.inside.here (contents c.self.inside.rows.items) c.args.self.now.network c.args.a c.args.b (ap (λ (g : Graph). g.network) c.self.view_is) c.self.invariant.0.is_rows c.requires).there in
     let size = ap (λ (g : Graph). g.network.size) c.self.view_is in
     omega (arith, bounds.1, size, c.self.invariant.1.places, c.deref.ensures.len)
 

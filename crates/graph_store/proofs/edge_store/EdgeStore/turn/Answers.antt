@@ -7,7 +7,8 @@ use Rattle.graph_store.specs.Graph.{Graph}
 use Rattle.graph_store.specs.Ends.{are_open, end_at, open_among}
 use Rattle.graph_store.specs.Rows.{contents, row_at, edges_of, network_of}
 use Rattle.graph_store.proofs.Opened.{few_open, few_in_row, open_at_few, open_turned, row_named}
-use Rattle.graph_store.proofs.Store.{all_present, present_bounds}
+use Rattle.machine_laws.specs.Neighbours.{present_range}
+use Rattle.graph_store.proofs.Store.{all_present}
 use Rattle.graph_store.proofs.edge_store.EdgeStore.turn.Goals as goal
 
 -- the name has a row and a place
@@ -37,7 +38,7 @@ pub turn_end-self-inside-requires-clause-within : goal.turn_end-self-inside-requ
 turn_end-self-inside-requires-clause-within c = λ k d lt.
     let net = network_of c.self.inside.nodes c.self.inside.here (contents c.self.inside.rows.items) in
     let here = subst (All (λ w. IsTrue (present net w))) (sym (row_is c)) (all_present c.self.inside.nodes c.self.inside.here (contents c.self.inside.rows.items) c.args.v c.self.invariant.0.is_rows) k d lt in
-    let within = (present_bounds net (get_or c.deref.result.now k d) here).1 in
+    let within = (present_range net (get_or c.deref.result.now k d) here).1 in
     let places = c.self.invariant.1.places in
     let all = ap length c.deref_mut.ensures.value in
     omega (arith, within, places, all)

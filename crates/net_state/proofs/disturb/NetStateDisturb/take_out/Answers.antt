@@ -1,4 +1,4 @@
-use Rattle.std.proofs.Common.{◌≡◌, None, OnOk, sym, ap, subst, ◌∙◌}
+use Rattle.std.proofs.Common.{◌≡◌, sym, ap, subst, ◌∙◌}
 use Rattle.rule_machine.specs.Network.{Network, without_edge}
 use Rattle.rule_machine.specs.State.{Registers, IsState, points}
 use Rattle.rule_machine.specs.Disturbance.{without_pointer}
