@@ -65,8 +65,7 @@ others_counted net p w v is_network h =
     ∙ ap not (count_some (λ x. not (nat_eq x v) && p x) (neighbours net w))
   where
     nothing : (b : Bool) (x : ℕ) → cond b x x ≡ x
-    nothing true x = refl
-    nothing false x = refl
+    nothing b x = grind arith
 
 -- where one neighbour points at a node, it is the first that does, and no other does
 pub lone : (s : State) (v w : ℕ) → IsState s → suitor_count s v ≡ 1 → first_suitor s v ≡ Some w → IsLoneSuitor s v w

@@ -82,10 +82,7 @@ open_end above o a b k =
     (cases_eq k a)
   where
     both_if : (e x : Bool) → cond e (one_if x) 0 ≡ one_if (x && e)
-    both_if true true = refl
-    both_if true false = refl
-    both_if false true = refl
-    both_if false false = refl
+    both_if e x = grind arith
 
 -- w alone, where v, its neighbour over the edge, is open and asked for
 abbrev pub end_of : Bool → (Option ℕ → Bool → Bool) → Registers → ℕ → ℕ → ℕ → Bool

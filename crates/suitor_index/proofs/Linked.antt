@@ -52,8 +52,7 @@ edge_linked net more r a b good accepted change =
     }
   where
     true_from_not : (b : Bool) → not b ≡ false → b ≡ true
-    true_from_not true e = refl
-    true_from_not false e = absurd (true≢false e)
+    true_from_not b e = grind arith
 
 -- an edge that is taken out
 pub edge_unlinked : (net more : Network) (r : Registers) (a b : ℕ) → IsState (state_of more r) → IsTrue (linked more a b) → points r a b ≡ false → points r b a ≡ false → net ≡ without_edge more a b → IsEdgeMore net more r a b

@@ -13,16 +13,11 @@ use Rattle.suitor_index.specs.Told.{CanTurn, IsTurned, one_if}
 
 -- two tests that don't both pass are counted one after the other
 one_or : (a b : Bool) → (b ≡ true → a ≡ false) → one_if (a || b) ≡ one_if a + one_if b
-one_or true true apart = absurd (let h = apart refl in cc)
-one_or true false apart = refl
-one_or false b apart = omega arith
+one_or a b apart = grind arith
 
 -- what was and is counted at the places of two tests that don't both pass
 turned_sum : (was is : Bool) (x y z p q r : ℕ) → r ≡ p + q → y + cond was p 0 ≡ x + cond is p 0 → z + cond was q 0 ≡ y + cond is q 0 → z + cond was r 0 ≡ x + cond is r 0
-turned_sum true true x y z p q r e first second = omega arith
-turned_sum true false x y z p q r e first second = omega arith
-turned_sum false true x y z p q r e first second = omega arith
-turned_sum false false x y z p q r e first second = omega arith
+turned_sum was is x y z p q r e first second = grind arith
 
 pub turned_both : (was is : Bool) (p q r : ℕ → Bool) (a b c : List Tally) → ((k : ℕ) → q k ≡ true → p k ≡ false) → ((k : ℕ) → r k ≡ (p k || q k)) → IsTurned p was is a b → IsTurned q was is b c → IsTurned r was is a c
 turned_both was is p q r a b c apart joined first second = record {
@@ -64,11 +59,7 @@ near_there nodes i w inside is = list_any_at (nat_eq w) nodes i w inside (eq-eqb
 
 -- at a place that does not pass a node can turn as before
 still : (was is t : Bool) (x y : ℕ) → t ≡ false → y + cond was (one_if t) 0 ≡ x + cond is (one_if t) 0 → y ≡ x
-still was is true x y e same = absurd (true≢false e)
-still true true false x y e same = omega arith
-still true false false x y e same = omega arith
-still false true false x y e same = omega arith
-still false false false x y e same = omega arith
+still was is t x y e same = grind arith
 
 can_turn_by : (was is : Bool) (s t : Tally) → t.reached ≡ s.reached → CanTurn was is s → CanTurn was is t
 can_turn_by true true s t same can = can

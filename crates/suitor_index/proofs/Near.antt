@@ -75,8 +75,7 @@ near_names net k f size few =
     omega (arith, one, le)
   where
     name : (b : Bool) (n x : ℕ) → n ≤ x → x ≤ 65535 → cond b n 0 ≤ 65535
-    name true n x le high = omega arith
-    name false n x le high = omega arith
+    name b n x le high = grind arith
 
     small : (b : Bool) (n : ℕ) → n ≤ 65535 → cond b n 0 ≤ 65535
     small true n le = le

@@ -1,5 +1,5 @@
 -- The open nodes that a guard asks for.
-use Rattle.std.proofs.Common.{◌≡◌, ℕ, Bool, true, false, ◌&&◌, Option, refl, ap}
+use Rattle.std.proofs.Common.{◌≡◌, ℕ, Bool, true, false, ◌&&◌, Option, refl, ap, arith}
 use Rattle.std.specs.List.{count_by}
 use Rattle.rule_machine.specs.Network.{neighbours}
 use Rattle.rule_machine.specs.State.{State}
@@ -8,10 +8,7 @@ use Rattle.rule_set.specs.Glance.{is_reached}
 use Rattle.suitor_index.specs.Tallies.{tally_at, asks_for}
 
 swapped : (a b : Bool) → (a && b) ≡ (b && a)
-swapped true true = refl
-swapped true false = refl
-swapped false true = refl
-swapped false false = refl
+swapped a b = grind arith
 
 pub reached_is : (above : Bool) (opens : Option ℕ → Bool → Bool) (s : State) (v w : ℕ) → is_reached above opens s v w ≡ (asks_for above v w && is_open opens s w)
 reached_is true opens s v w = swapped (is_open opens s w) (asks_for true v w)

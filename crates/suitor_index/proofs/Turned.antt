@@ -25,9 +25,7 @@ abbrev pub near : Bool → Network → ℕ → ℕ → Bool
 near above net v k = list_any (nat_eq k) (neighbours net v) && asks_for above k v
 
 held : (l b : Bool) (n : ℕ) → (b ≡ true → l ≡ true) → cond l (cond b n 0) 0 ≡ cond b n 0
-held true b n h = refl
-held false true n h = absurd (let e = h refl in cc)
-held false false n h = refl
+held l b n h = grind arith
 
 -- who points at k is its neighbour
 pub held_at : (net : Network) (r : Registers) (v k n : ℕ) → IsState (state_of net r) → cond (linked net k v) (cond (points r v k) n 0) 0 ≡ cond (points r v k) n 0
@@ -40,12 +38,7 @@ suitors_turned net r q v k n before now alike here =
     omega (arith, turn, held_at net r v k (n v) before, held_at net q v k (n v) now)
 
 swap_and : (l a b : Bool) → cond l (one_if (a && b)) 0 ≡ cond b (one_if (l && a)) 0
-swap_and true true true = refl
-swap_and true true false = refl
-swap_and true false true = refl
-swap_and true false false = refl
-swap_and false a true = refl
-swap_and false a false = refl
+swap_and l a b = grind arith
 
 open_term : (above : Bool) (opens : Option ℕ → Bool → Bool) (net : Network) (r : Registers) (v k : ℕ) → IsNetwork net → cond (linked net k v) (cond (asks_for above k v && is_open opens (state_of net r) v) 1 0) 0 ≡ cond (is_open opens (state_of net r) v) (one_if (near above net v k)) 0
 open_term above opens net r v k is_network =
@@ -92,12 +85,10 @@ index_turned above opens net r q v start pointed turned before now alike here in
 
 -- a count is at most 65,535, and so is each of its parts
 one_small : (b : Bool) → cond b 1 0 ≤ 1
-one_small true = omega arith
-one_small false = omega arith
+one_small b = grind arith
 
 name_small : (b : Bool) (x : ℕ) → cond b x 0 ≤ x
-name_small true x = omega arith
-name_small false x = omega arith
+name_small b x = grind arith
 
 pub record IsSmall (t : Tally) : Type 0 where
   pub suitors : t.suitors ≤ 65535
