@@ -1,16 +1,14 @@
 -- The first names, one after another.
-use Rattle.std.proofs.Common.{suc, zero, Bool, map, ◌≡◌, ℕ, ◌+◌, ◌≤◌, List, [], ◌∷◌, ◌++◌, length, ap, sym, ◌∙◌, arith, add-one}
+use Rattle.std.proofs.Common.{Bool, map, ◌≡◌, ℕ, ◌+◌, ◌≤◌, List, [], ◌∷◌, ◌++◌, length, refl, ap, sym, ◌∙◌, arith}
 use Rattle.std.specs.List.{range_with_len}
-use Rattle.std.proofs.lemmas.List.{map-append}
-use Rattle.std.proofs.lemmas.List.FromFn.{length-range_with_len}
+use Rattle.std.proofs.lemmas.List.{map-id}
+use Rattle.std.proofs.lemmas.List.FromFn.{length-range_with_len, map-range_with_len_more}
 use Rattle.plain_machine.specs.Lists.{AreNames}
 
 -- a range with one more number at its end
 pub range_more : (a n : ℕ) → range_with_len a (n + 1) ≡ range_with_len a n ++ (a + n) ∷ []
-range_more a n = rw add-one (go a n) where
-  go : (a n : ℕ) → range_with_len a (suc n) ≡ range_with_len a n ++ (a + n) ∷ []
-  go a zero = ap (λ x. x ∷ []) (omega arith)
-  go a (suc n) = ap (λ rest. a ∷ rest) (go (a + 1) n ∙ ap (λ x. range_with_len (a + 1) n ++ x ∷ []) (omega arith))
+range_more a n =
+    sym (map-id (range_with_len a (n + 1))) ∙ map-range_with_len_more (λ x. x) a n (a + n) refl ∙ ap (λ l. l ++ (a + n) ∷ []) (map-id (range_with_len a n))
 
 -- one more name
 pub names_more : (n v : ℕ) → v ≡ n + 1 → range_with_len 1 n ++ v ∷ [] ≡ range_with_len 1 (n + 1)
@@ -28,6 +26,4 @@ count_names names n e = ap length e ∙ length-range_with_len 1 n
 
 -- one more place of a row
 pub row_more : (test : ℕ → Bool) (n : ℕ) → map test (range_with_len 0 (n + 1)) ≡ map test (range_with_len 0 n) ++ test n ∷ []
-row_more test n =
-    ap (map test) (range_more 0 n ∙ ap (λ x. range_with_len 0 n ++ x ∷ []) (let same : 0 + n ≡ n = omega arith in same))
-    ∙ map-append test (range_with_len 0 n) (n ∷ [])
+row_more test n = map-range_with_len_more test 0 n n (omega arith)

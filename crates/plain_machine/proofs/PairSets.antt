@@ -1,36 +1,22 @@
 -- The set of a list of pairs that strictly rise: its entries are the list.
-use Rattle.std.proofs.Common.{min, max, length-append, take-append-drop, add_comm, add-one, ◌≡◌, ℕ, ◌+◌, ◌<◌, ◌≤◌, Bool, true, false, cond, not, ◌&&◌, ◌||◌, List, [], ◌∷◌, map, length, take, drop, eqb, ltb, IsTrue, T, Option, Some, None, refl, sym, ap, ◌∙◌, arith}
+use Rattle.std.proofs.Common.{min, max, add_comm, add-one, ◌≡◌, ℕ, ◌+◌, ◌<◌, ◌≤◌, Bool, true, false, cond, not, ◌||◌, List, [], ◌∷◌, map, length, eqb, ltb, IsTrue, T, Option, Some, None, refl, sym, ap, ◌∙◌, subst, arith}
 use Rattle.std.specs.List.{list_any, filter, insert, position_or_len}
 use Rattle.std.specs.Option.{unwrap_or}
 use Rattle.std.specs.declared.cmp.Ordering.{Ordering}
 use Rattle.std.specs.declared.cmp.Ordering.TheVariants.{Less, Equal, Greater}
-use Rattle.std.specs.Ordering.{is_lt, is_eq, nat_cmp, ordering_then, eq_by_cmp}
-use Rattle.std.specs.Cmp.{IsTotalOrder}
-use Rattle.std.proofs.lemmas.Cmp.{nat_cmp_total, on_total, then_total, eq_by_cmp_equiv}
-use Rattle.std.proofs.lemmas.Map.Lookups.{exact_pairs, exact_unsigned}
-use Rattle.std.proofs.lemmas.Bool.{false≢true}
+use Rattle.std.specs.Ordering.{is_lt, is_eq, nat_cmp, eq_by_cmp}
+use Rattle.std.specs.Cmp.{both_tied, unsigned_ties}
+use Rattle.std.proofs.lemmas.Cmp.{eq_by_cmp_equiv}
+use Rattle.std.proofs.lemmas.Bool.{and_parts, false≢true}
+use Rattle.std.proofs.lemmas.List.{nil_from_length}
+use Rattle.std.proofs.lemmas.List.Edits.{length-insert}
+use Rattle.std.proofs.lemmas.List.Sums.{length-filter, count_by-le-length}
 use Rattle.std.proofs.lemmas.Bool.Decides.{nat_tests}
 use Rattle.std.specs.FinMap as finite
 use Rattle.std.specs.FinMap.Entries.{put, by_order, below_all, where_key, is_sorted-where_key, find-where_key}
 use Rattle.rule_machine.specs.Network.{edge, pair_cmp, pair_set}
+use Rattle.machine_laws.specs.Edges.{pair_total, pair_exact}
 use Rattle.plain_machine.specs.Lists.{marked, same_pair, is_below, IsAscending}
-
--- the order of pairs is total
-pub pair_cmp_total : IsTotalOrder pair_cmp
-pair_cmp_total = then_total (on_total (λ p. p.0) nat_cmp_total) (on_total (λ p. p.1) nat_cmp_total)
-
--- only equal pairs tie
-pub pair_cmp_exact : finite.IsAntisymmetric pair_cmp
-pair_cmp_exact = exact_pairs nat_cmp nat_cmp exact_unsigned exact_unsigned
-
--- what a conjunction says of its parts
-both_left : (a b : Bool) → (a && b) ≡ true → a ≡ true
-both_left true b h = refl
-both_left false b h = h
-
-both_right : (a b : Bool) → (a && b) ≡ true → b ≡ true
-both_right true b h = h
-both_right false b h = absurd (false≢true h)
 
 -- the answer that the test for less passes
 less_is : (r : Ordering) → is_lt r ≡ true → r ≡ Less
@@ -42,20 +28,15 @@ less_is Greater h = absurd (false≢true h)
 put_below : (pair : ℕ × ℕ) (pairs : List (ℕ × ℕ)) → below_all pair_cmp pair (marked pairs) ≡ true → put pair_cmp pair tt (marked pairs) ≡ marked (pair ∷ pairs)
 put_below pair [] below = refl
 put_below pair (next ∷ pairs) below =
-    ap (λ r. by_order r ((pair, tt) ∷ marked (next ∷ pairs)) ((next, tt) ∷ marked pairs) ((next, tt) ∷ put pair_cmp pair tt (marked pairs))) (less_is _ (both_left (is_lt (pair_cmp pair next)) _ below))
-
--- a list without length is empty
-nothing_in : {X : Type 0} (xs : List X) → length xs ≡ 0 → xs ≡ []
-nothing_in [] h = refl
-nothing_in (x ∷ xs) h = absurd (omega arith)
+    ap (λ r. by_order r ((pair, tt) ∷ marked (next ∷ pairs)) ((next, tt) ∷ marked pairs) ((next, tt) ∷ put pair_cmp pair tt (marked pairs))) (less_is _ (and_parts (is_lt (pair_cmp pair next)) _ below).0)
 
 -- the entries of the set of a rising list are the list
 pub entries-pair_set : (pairs : List (ℕ × ℕ)) → IsTrue (finite.is_sorted pair_cmp (marked pairs)) → finite.entries (pair_set pairs) ≡ marked pairs
-entries-pair_set [] rising = nothing_in _ (sym (finite.len-entries (pair_set [])) ∙ finite.len-empty pair_cmp (Unit {0}))
+entries-pair_set [] rising = nil_from_length _ (sym (finite.len-entries (pair_set [])) ∙ finite.len-empty pair_cmp (Unit {0}))
 entries-pair_set (pair ∷ pairs) rising =
-    finite.entries-insert pair_cmp_total (pair_set pairs) pair tt
-    ∙ ap (put pair_cmp pair tt) (entries-pair_set pairs (both_right (below_all pair_cmp pair (marked pairs)) _ rising))
-    ∙ put_below pair pairs (both_left (below_all pair_cmp pair (marked pairs)) _ rising)
+    finite.entries-insert pair_total (pair_set pairs) pair tt
+    ∙ ap (put pair_cmp pair tt) (entries-pair_set pairs (and_parts (below_all pair_cmp pair (marked pairs)) _ rising).1)
+    ∙ put_below pair pairs (and_parts (below_all pair_cmp pair (marked pairs)) _ rising).0
 
 -- a list is back where its marks are dropped
 firsts : (pairs : List (ℕ × ℕ)) → map (λ e. e.0) (marked pairs) ≡ pairs
@@ -75,20 +56,11 @@ length-marked (pair ∷ pairs) = omega (arith, length-marked pairs)
 pub len-pair_set : (pairs : List (ℕ × ℕ)) → IsAscending pairs → finite.len (pair_set pairs) ≡ length pairs
 len-pair_set pairs up = finite.len-entries (pair_set pairs) ∙ ap length (entries-pair_set pairs up.rising) ∙ length-marked pairs
 
--- numbers tie where they are equal
-tied_numbers : (a b : ℕ) → is_eq (nat_cmp a b) ≡ eqb b a
-tied_numbers a b = grind (arith, nat_tests)
-
--- a tie in both parts
-tied_first : (r s : Ordering) → is_eq (ordering_then r s) ≡ (is_eq r && is_eq s)
-tied_first Less s = refl
-tied_first Equal s = refl
-tied_first Greater s = refl
-
 -- pairs tie where they are one
 pub eq_by_cmp-same_pair : (p q : ℕ × ℕ) → eq_by_cmp pair_cmp q p ≡ same_pair p q
 eq_by_cmp-same_pair p q =
-    tied_first (nat_cmp q.0 p.0) (nat_cmp q.1 p.1) ∙ (λ i. tied_numbers q.0 p.0 i && tied_numbers q.1 p.1 i)
+    (eq_by_cmp_equiv pair_total).symm q p
+    ∙ sym (both_tied (eqb p.0 q.0) (eqb p.1 q.1) (nat_cmp p.0 q.0) (nat_cmp p.1 q.1) (unsigned_ties p.0 q.0) (unsigned_ties p.1 q.1))
 
 -- tests that answer alike find alike
 any_alike : {X : Type 0} (p q : X → Bool) → ((x : X) → p x ≡ q x) → (xs : List X) → list_any p xs ≡ list_any q xs
@@ -102,13 +74,8 @@ contains_key-pair_set pairs q up =
     ∙ any_alike _ _ (λ p. eq_by_cmp-same_pair p q) pairs
 
 -- what a failed disjunction says of its parts
-neither_left : (a b : Bool) → (a || b) ≡ false → a ≡ false
-neither_left true b h = h
-neither_left false b h = refl
-
-neither_right : (a b : Bool) → (a || b) ≡ false → b ≡ false
-neither_right true b h = absurd (false≢true (sym h))
-neither_right false b h = h
+neither : (a b : Bool) → (a || b) ≡ false → (a ≡ false) × (b ≡ false)
+neither a b h = grind arith
 
 -- pairs that tie are one
 same_if_equal : (p pair : ℕ × ℕ) → pair_cmp pair p ≡ Equal → same_pair p pair ≡ true
@@ -124,14 +91,14 @@ put_at pair [] absent = refl
 put_at pair (p ∷ pairs) absent =
     elim (pair_cmp pair p) as (λ r. pair_cmp pair p ≡ r → by_order r ((pair, tt) ∷ marked (p ∷ pairs)) ((p, tt) ∷ marked pairs) ((p, tt) ∷ put pair_cmp pair tt (marked pairs)) ≡ marked (insert (p ∷ pairs) (cond (not (is_lt r)) (1 + position_or_len (is_below pair) pairs) 0) pair)) [
       | Less ↦ λ e. refl
-      | Equal ↦ λ e. absurd (false≢true (sym (neither_left _ _ absent) ∙ same_if_equal p pair e))
-      | Greater ↦ λ e. ap (λ rest. (p, tt) ∷ rest) (put_at pair pairs (neither_right (same_pair p pair) _ absent)) ∙ ap marked (insert_behind p pairs (position_or_len (is_below pair) pairs) pair)
+      | Equal ↦ λ e. absurd (false≢true (sym (neither _ _ absent).0 ∙ same_if_equal p pair e))
+      | Greater ↦ λ e. ap (λ rest. (p, tt) ∷ rest) (put_at pair pairs (neither (same_pair p pair) _ absent).1) ∙ ap marked (insert_behind p pairs (position_or_len (is_below pair) pairs) pair)
     ] refl
 
 -- the entries after a pair is put in its place
 insert-pair_set : (pairs : List (ℕ × ℕ)) (pair : ℕ × ℕ) → IsAscending pairs → list_any (λ p. same_pair p pair) pairs ≡ false → finite.entries (finite.insert (pair_set pairs) pair tt) ≡ marked (insert pairs (position_or_len (is_below pair) pairs) pair)
 insert-pair_set pairs pair up absent =
-    finite.entries-insert pair_cmp_total (pair_set pairs) pair tt ∙ ap (put pair_cmp pair tt) (entries-pair_set pairs up.rising) ∙ put_at pair pairs absent
+    finite.entries-insert pair_total (pair_set pairs) pair tt ∙ ap (put pair_cmp pair tt) (entries-pair_set pairs up.rising) ∙ put_at pair pairs absent
 
 -- a test that holds is true
 true_is : (b : Bool) → T b → b ≡ true
@@ -160,49 +127,35 @@ marked-filter test (p ∷ pairs) = elim (test p) as (λ b. marked (cond b (p ∷
   | false ↦ marked-filter test pairs
 ]
 
--- a true test holds
-is_true : (b : Bool) → b ≡ true → T b
-is_true true h = tt
-is_true false h = absurd (false≢true h)
-
 -- a filtered list still rises
 pub rising_filter : (test : ℕ × ℕ → Bool) (pairs : List (ℕ × ℕ)) → finite.is_sorted pair_cmp (marked pairs) ≡ true → finite.is_sorted pair_cmp (marked (filter test pairs)) ≡ true
 rising_filter test pairs rising =
-    ap (finite.is_sorted pair_cmp) (marked-filter test pairs) ∙ true_is _ (is_sorted-where_key pair_cmp test (marked pairs) (is_true _ rising))
+    ap (finite.is_sorted pair_cmp) (marked-filter test pairs) ∙ true_is _ (is_sorted-where_key pair_cmp test (marked pairs) (subst T (sym rising) tt))
 
 -- a choice by a negated test
 turned : (b : Bool) (x y : Option (Unit {0})) → cond (not b) x y ≡ cond b y x
-turned true x y = refl
-turned false x y = refl
+turned b x y = grind arith
 
--- pairs that tie are told apart from a third alike
-other_alike : (pair q p : ℕ × ℕ) → pair_cmp q p ≡ Equal → is_other pair p ≡ is_other pair q
-other_alike pair q p e = ap (is_other pair) (sym (pair_cmp_exact q p e))
+-- pairs that tie pass a test alike
+pass_alike : (test : ℕ × ℕ → Bool) (q p : ℕ × ℕ) → pair_cmp q p ≡ Equal → test p ≡ test q
+pass_alike test q p e = ap test (sym (pair_exact q p e))
 
 -- the other pairs are the set without the pair
 pub pair_set-filter : (pairs : List (ℕ × ℕ)) (pair : ℕ × ℕ) → IsAscending pairs → pair_set (filter (is_other pair) pairs) ≡ finite.remove (pair_set pairs) pair
-pair_set-filter pairs pair up = finite.same_map pair_cmp_total pair_cmp_exact _ _ (λ q.
+pair_set-filter pairs pair up = finite.same_map pair_total pair_exact _ _ (λ q.
     finite.get-entries _ q
     ∙ ap (finite.find pair_cmp q) (entries-pair_set _ (rising_filter (is_other pair) pairs up.rising) ∙ marked-filter (is_other pair) pairs)
-    ∙ find-where_key pair_cmp (is_other pair) q (λ p e. other_alike pair q p e) (marked pairs)
+    ∙ find-where_key pair_cmp (is_other pair) q (pass_alike (is_other pair) q) (marked pairs)
     ∙ turned (same_pair q pair) (finite.find pair_cmp q (marked pairs)) None
-    ∙ ap (λ b. cond b None (finite.find pair_cmp q (marked pairs))) (sym (eq_by_cmp-same_pair q pair) ∙ (eq_by_cmp_equiv pair_cmp_total).symm pair q)
+    ∙ ap (λ b. cond b None (finite.find pair_cmp q (marked pairs))) (sym (eq_by_cmp-same_pair q pair) ∙ (eq_by_cmp_equiv pair_total).symm pair q)
     ∙ ap (cond (eq_by_cmp pair_cmp q pair) None) (ap (finite.find pair_cmp q) (sym (entries-pair_set pairs up.rising)) ∙ sym (finite.get-entries (pair_set pairs) q))
-    ∙ sym (finite.get-remove pair_cmp_total (pair_set pairs) pair q))
-
--- a filter lengthens nothing
-length_filtered : {X : Type 0} (test : X → Bool) (xs : List X) → length (filter test xs) ≤ length xs
-length_filtered test [] = omega arith
-length_filtered test (x ∷ xs) = elim (test x) as (λ b. length (cond b (x ∷ filter test xs) (filter test xs)) ≤ length (x ∷ xs)) [
-  | true ↦ omega (arith, length_filtered test xs)
-  | false ↦ omega (arith, length_filtered test xs)
-]
+    ∙ sym (finite.get-remove pair_total (pair_set pairs) pair q))
 
 -- a filtered list can still stand for edges
 pub filter_ascending : (test : ℕ × ℕ → Bool) (pairs : List (ℕ × ℕ)) → IsAscending pairs → IsAscending (filter test pairs)
 filter_ascending test pairs up = record {
   rising = rising_filter test pairs up.rising;
-  few = omega (arith, length_filtered test pairs, up.few);
+  few = omega (arith, length-filter test pairs, count_by-le-length test pairs, up.few);
 }
 
 -- a place is within the list or at its end
@@ -213,35 +166,26 @@ position_or_len-le test (x ∷ xs) = elim (test x) as (λ b. cond (not b) (1 + p
   | false ↦ omega (arith, position_or_len-le test xs)
 ]
 
--- an insertion adds one
-length-insert : {X : Type 0} (xs : List X) (at : ℕ) (x : X) → length (insert xs at x) ≡ length xs + 1
-length-insert xs at x = simp length-append (omega (arith, ap length (take-append-drop at xs), length-append (take at xs) (drop at xs)))
-
 -- with room, the list with a pair in its place can still stand for edges
 pub insert_ascending : (pairs : List (ℕ × ℕ)) (pair : ℕ × ℕ) → IsAscending pairs → list_any (λ p. same_pair p pair) pairs ≡ false → length pairs < 1048576 → IsAscending (insert pairs (position_or_len (is_below pair) pairs) pair)
 insert_ascending pairs pair up absent room = record {
   rising = rising_insert pairs pair up absent;
-  few = omega (arith, length-insert pairs (position_or_len (is_below pair) pairs) pair);
+  few = omega (arith, length-insert pairs (position_or_len (is_below pair) pairs) pair (position_or_len-le (is_below pair) pairs));
 }
-
--- what the order of two numbers says
-in_order : (a b : ℕ) → is_lt (nat_cmp a b) ≡ true → a < b
-in_order a b h = grind (arith, nat_tests)
-
-out_of_order : (a b : ℕ) → is_lt (nat_cmp a b) ≡ false → b ≤ a
-out_of_order a b h = grind (arith, nat_tests)
 
 -- the pair of an edge between two names
 pub edge_below : (a b : ℕ) → is_lt (nat_cmp a b) ≡ true → edge a b ≡ (a, b)
 edge_below a b h =
-    let low : min a b ≡ a = omega (arith, in_order a b h) in
-    let high : max a b ≡ b = omega (arith, in_order a b h) in
+    let lt : a < b = grind (arith, nat_tests) in
+    let low : min a b ≡ a = omega (arith, lt) in
+    let high : max a b ≡ b = omega (arith, lt) in
     λ i. (low i, high i)
 
 pub edge_above : (a b : ℕ) → is_lt (nat_cmp a b) ≡ false → edge a b ≡ (b, a)
 edge_above a b h =
-    let low : min a b ≡ b = omega (arith, out_of_order a b h) in
-    let high : max a b ≡ a = omega (arith, out_of_order a b h) in
+    let le : b ≤ a = grind (arith, nat_tests) in
+    let low : min a b ≡ b = omega (arith, le) in
+    let high : max a b ≡ a = omega (arith, le) in
     λ i. (low i, high i)
 
 -- the place of the first that passes, or the length where none does
@@ -251,15 +195,11 @@ unwrap_position at len within = elim (ltb at len) as (λ b. ltb at len ≡ b →
   | false ↦ λ e. grind (arith, nat_tests)
 ] refl
 
--- pairs that tie pass a test alike
-pass_alike : (test : ℕ × ℕ → Bool) (q p : ℕ × ℕ) → pair_cmp q p ≡ Equal → test p ≡ test q
-pass_alike test q p e = ap test (sym (pair_cmp_exact q p e))
-
 -- the pairs that pass a test are those that the set keeps
 pub pair_set-kept : (test : ℕ × ℕ → Bool) (pairs : List (ℕ × ℕ)) → IsAscending pairs → pair_set (filter test pairs) ≡ finite.retain_keys (pair_set pairs) test
-pair_set-kept test pairs up = finite.same_map pair_cmp_total pair_cmp_exact _ _ (λ q.
+pair_set-kept test pairs up = finite.same_map pair_total pair_exact _ _ (λ q.
     finite.get-entries _ q
     ∙ ap (finite.find pair_cmp q) (entries-pair_set _ (rising_filter test pairs up.rising) ∙ marked-filter test pairs)
-    ∙ find-where_key pair_cmp test q (λ p e. pass_alike test q p e) (marked pairs)
+    ∙ find-where_key pair_cmp test q (pass_alike test q) (marked pairs)
     ∙ ap (λ o. cond (test q) o None) (ap (finite.find pair_cmp q) (sym (entries-pair_set pairs up.rising)) ∙ sym (finite.get-entries (pair_set pairs) q))
-    ∙ sym (finite.get-retain_keys (pair_set pairs) test q (λ p e. pass_alike test q p e)))
+    ∙ sym (finite.get-retain_keys (pair_set pairs) test q (pass_alike test q)))
