@@ -33,27 +33,9 @@ pub fn replay(
     ensures err { OnErr result (net.new ≡ net.old) }
     ensures want { OnErr result (TakesMemory (table_of rules) net.old event.now reply.now) }
 {
-    match net.refusal(rules, event) {
-        Some(refusal) => Ok(is_refusal(reply, refusal)),
-        None => replay_accepted(net, alloc, rules, spent, event, reply),
+    if let Some(refusal) = net.refusal(rules, event) {
+        return Ok(is_refusal(reply, refusal));
     }
-}
-
-/// Whether the machine may give this reply to an event that is not refused, and what the reply does.
-fn replay_accepted(
-    net: &mut PlainNet,
-    alloc: Global,
-    rules: RuleSet,
-    spent: u64,
-    event: &Event,
-    reply: &Reply,
-) -> Result<bool, Want>
-    requires { refusal_of (table_of rules) net.old event.now ≡ None }
-    ensures right { IfOk result (λ right. IsTrue right → Does (table_of rules) net.old spent event.now reply.now net.new) }
-    ensures wrong { IfOk result (λ right. right ≡ false → ((s : State) → Does (table_of rules) net.old spent event.now reply.now s → ⊥) × (net.new ≡ net.old)) }
-    ensures err { OnErr result (net.new ≡ net.old) }
-    ensures want { OnErr result (IsTrue (takes_memory event.now reply.now)) }
-{
     if !may_accept(net, alloc, rules, spent, event, reply)? {
         return Ok(false);
     }
