@@ -1,5 +1,5 @@
 -- The table of the names of a list.
-use Rattle.std.proofs.Common.{◌≡◌, ℕ, suc, ◌+◌, ◌<◌, ◌≤◌, Bool, true, false, ◌||◌, List, ◌∷◌, length, drop, set, replicate, get_or, nat_eq, refl, sym, ap, ◌∙◌, arith, ⊎_elim}
+use Rattle.std.proofs.Common.{◌≡◌, ℕ, suc, ◌+◌, ◌<◌, ◌≤◌, Bool, true, false, ◌||◌, List, ◌∷◌, length, drop, set, replicate, get_or, nat_eq, sym, ap, ◌∙◌, arith, ⊎_elim}
 use Rattle.std.proofs.lemmas.Bool.{cases_Bool, eqb-true, eqb-false}
 use Rattle.std.proofs.lemmas.List.{get_or-set_same, get_or-set_other, drop_all, get_or-replicate, length-replicate}
 use Rattle.std.proofs.Math.Seq.{drop-cons}
@@ -11,12 +11,10 @@ pub record IsMarking (marks : List Bool) (list : List ℕ) (i : ℕ) : Type 0 wh
   pub told : (v : ℕ) → v < 65536 → (get_or marks v false || is_named (drop i list) v) ≡ is_named list v
 
 or_false : (b : Bool) → (b || false) ≡ b
-or_false true = refl
-or_false false = refl
+or_false b = grind arith
 
 or_true : (b c : Bool) → (b || (true || c)) ≡ true
-or_true true c = refl
-or_true false c = refl
+or_true b c = grind arith
 
 pub marking_new : (marks : List Bool) (list : List ℕ) → marks ≡ replicate 65536 false → IsMarking marks list 0
 marking_new marks list is =

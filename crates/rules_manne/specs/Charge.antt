@@ -18,9 +18,7 @@ counted s good =
     omega (arith, split, ends)
   where
     last_holds : (a b : Bool) → (a && b && true) ≡ (a && b)
-    last_holds true true = refl
-    last_holds true false = refl
-    last_holds false b = refl
+    last_holds a b = grind arith
 
 -- a null pointer closes nothing
 pub null_closes : (s : State) (v : ℕ) → pointer s v ≡ None → manne_closes s v ≡ false
@@ -37,9 +35,7 @@ closes_at s v w good at =
     some_same e = cc
 
     none : (p f : Bool) → false ≡ (p && f && false)
-    none true true = refl
-    none true false = refl
-    none false f = refl
+    none p f = grind arith
 
     by_target : (m p f n : Bool) → (m ≡ true → n ≡ true) → (not m && (p && f && not n)) ≡ (p && f && not n)
     by_target false p f n h = refl

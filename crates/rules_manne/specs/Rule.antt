@@ -1,5 +1,5 @@
 -- The rule of a node by cases, and what follows at once.
-use Rattle.std.proofs.Common.{◌≡◌, ℕ, Bool, true, false, cond, not, ◌&&◌, ◌||◌, Option, None, Some, is_some, is_none, nat_lt, nat_le, find, IsTrue, refl, sym, ap, ap₂, ◌∙◌, inl, inr}
+use Rattle.std.proofs.Common.{◌≡◌, ℕ, Bool, true, false, cond, not, ◌&&◌, ◌||◌, Option, None, Some, is_some, is_none, nat_lt, nat_le, find, IsTrue, refl, sym, ap, ap₂, ◌∙◌, inl, inr, arith}
 use Rattle.std.specs.Bool.{beq}
 use Rattle.rule_machine.specs.declared.act.Act.{Act}
 use Rattle.rule_machine.specs.declared.act.Act.TheVariants.{Update, Marry, Seduce, Abandon}
@@ -33,11 +33,7 @@ pub rule_cases : (s : State) (v : ℕ) → rule_at manne s v ≡ rule_by (is_set
 rule_cases s v = cases (is_settled s v) (pointer s v) (has_suitor s v) (courts s v) (is_lost s v)
   where
     cases : (settled : Bool) (o : Option ℕ) (suitor court : Bool) (leaves : ℕ → Bool) → cond (not settled) (Some Update) (cond (settled && is_none o && suitor) (Some Marry) (cond (settled && is_none o && not suitor && court) (Some Seduce) (cond (settled && holds_at leaves o) (Some Abandon) None))) ≡ rule_by settled o suitor court leaves
-    cases false o suitor court leaves = refl
-    cases true None true court leaves = refl
-    cases true None false true leaves = refl
-    cases true None false false leaves = refl
-    cases true (Some w) suitor court leaves = refl
+    cases settled o suitor court leaves = grind arith
 
 -- the rule of a settled node that points nowhere
 pub null_rule : (s : State) (v : ℕ) (suitor court : Bool) → IsState s → is_settled s v ≡ true → pointer s v ≡ None → has_suitor s v ≡ suitor → is_some (greatest s v) ≡ court → rule_at manne s v ≡ rule_by true None suitor court (is_lost s v)
@@ -48,23 +44,14 @@ null_rule s v suitor court is_state settled null suits reaches =
 
 -- a node is settled just where its flag says whether it is married
 pub flag_from_settled : (married flag : Bool) → cond married flag (not flag) ≡ true → flag ≡ married
-flag_from_settled true true h = refl
-flag_from_settled true false h = absurd cc
-flag_from_settled false true h = absurd cc
-flag_from_settled false false h = refl
+flag_from_settled married flag h = grind arith
 
 pub settled_from_flag : (married flag : Bool) → flag ≡ married → cond married flag (not flag) ≡ true
-settled_from_flag true true h = refl
-settled_from_flag true false h = absurd cc
-settled_from_flag false true h = absurd cc
-settled_from_flag false false h = refl
+settled_from_flag married flag h = grind arith
 
 -- or where they do not differ
 pub settled_from_test : (married flag : Bool) → not (beq flag married) ≡ false → cond married flag (not flag) ≡ true
-settled_from_test true true h = refl
-settled_from_test true false h = absurd cc
-settled_from_test false true h = absurd cc
-settled_from_test false false h = refl
+settled_from_test married flag h = grind arith
 
 -- an enabled rule is the one that the cases name
 rule_from_guard : (s : State) (v : ℕ) (act : Act) → IsTrue (manne.guard s v act) → rule_by (is_settled s v) (pointer s v) (has_suitor s v) (courts s v) (is_lost s v) ≡ Some act
