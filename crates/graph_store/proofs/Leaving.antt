@@ -11,7 +11,8 @@ use Rattle.graph_store.specs.Fault.{leave_fault, unlink_fault}
 use Rattle.graph_store.specs.Rows.{has, row_at, edges_of, network_of, IsRows, IsStore, IsPlaceOf}
 use Rattle.machine_laws.specs.Edges.{contains-without}
 use Rattle.graph_store.proofs.PairOrder.{same_pair, has-remove, count-remove, same_pairs}
-use Rattle.graph_store.proofs.Pairs.{and-false, has-edges_of}
+use Rattle.std.proofs.Math.Bool.{and-false}
+use Rattle.graph_store.proofs.Pairs.{has-edges_of}
 use Rattle.graph_store.proofs.Rising.{there_at_place}
 use Rattle.graph_store.proofs.Store.{neighbours_by}
 use Rattle.graph_store.proofs.Faults.{linked_at_place, unlink_fault_is, some_edge}

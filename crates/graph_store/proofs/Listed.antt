@@ -8,7 +8,7 @@ use Rattle.std.specs.Ordering.{nat_cmp, ordering_then}
 use Rattle.std.specs.Cmp.{nat_cmp_is}
 use Rattle.std.specs.declared.cmp.Ordering.TheVariants.{Less, Equal}
 use Rattle.std.proofs.lemmas.Bool.{eq-eqb, true≢false}
-use Rattle.std.proofs.lemmas.List.{append-nil, length-take, take_more}
+use Rattle.std.proofs.lemmas.List.{append-nil, nil_from_length, length-take, take_more}
 use Rattle.rule_machine.specs.Network.{pair_cmp, pair_set}
 use Rattle.graph_store.specs.Rows.{row_at, has, pairs_from, edges_of, IsRows}
 use Rattle.machine_laws.specs.Edges.{pair_total}
@@ -20,12 +20,8 @@ RiseBy [] = Unit {0}
 RiseBy (p ∷ []) = Unit {0}
 RiseBy (p ∷ q ∷ pairs) = (pair_cmp p q ≡ Less) × RiseBy (q ∷ pairs)
 
-none_of : {X : Type 0} (xs : List X) → length xs ≡ 0 → xs ≡ []
-none_of [] e = refl
-none_of (x ∷ xs) e = absurd (omega (arith, e))
-
 empty_entries : map.entries (pair_set []) ≡ []
-empty_entries = none_of _ (sym (map.len-entries (pair_set [])) ∙ map.len-empty pair_cmp (Unit {0}))
+empty_entries = nil_from_length _ (sym (map.len-entries (pair_set [])) ∙ map.len-empty pair_cmp (Unit {0}))
 
 -- what is below the first entry comes first
 put_first : (p q : ℕ × ℕ) (es : List ((ℕ × ℕ) × Unit {0})) → pair_cmp p q ≡ Less → map.put pair_cmp p tt ((q, tt) ∷ es) ≡ (p, tt) ∷ (q, tt) ∷ es

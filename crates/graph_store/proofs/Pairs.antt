@@ -4,17 +4,10 @@ use Rattle.std.specs.Prelude.{filter}
 use Rattle.std.specs.List.{list_any}
 use Rattle.std.proofs.lemmas.Bool.{ne_eqb, eq-eqb, eqb-true, or_from, and_left}
 use Rattle.std.proofs.lemmas.List.Folds.{list_any-append}
+use Rattle.std.proofs.Math.Bool.{and-false, or-false}
 use Rattle.std.specs.FinMap as fin
 use Rattle.graph_store.specs.Rows.{row_at, has, pairs_from, edges_of}
 use Rattle.graph_store.proofs.PairOrder.{same_pair, has-pair_set}
-
--- a test and one that fails
-pub and-false : (p : Bool) → (p && false) ≡ false
-and-false p = grind arith
-
--- a test or one that fails
-or-false : (p : Bool) → (p || false) ≡ p
-or-false p = grind arith
 
 -- a name that is kept, since it is above the row's
 kept : (p q t h : Bool) → (q ≡ true → t ≡ true) → ((p && q) || (p && (t && h))) ≡ (p && (t && (q || h)))

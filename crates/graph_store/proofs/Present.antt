@@ -6,7 +6,7 @@ use Rattle.std.proofs.lemmas.List.{ext_get_or, length-set, length-replicate, get
 use Rattle.std.proofs.lemmas.List.Elements.{filter_agree}
 use Rattle.std.proofs.lemmas.List.FromFn.{length-map-range_with_len, get_or-map-range_with_len}
 use Rattle.rule_machine.specs.Network.{Network, first_names, names, present}
-use Rattle.graph_store.proofs.Pairs.{and-false}
+use Rattle.std.proofs.Math.Bool.{and-false}
 use Rattle.graph_store.proofs.Store.{on_roll}
 use Rattle.enabled_set.specs.Members.{is_in, members}
 

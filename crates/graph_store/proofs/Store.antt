@@ -15,7 +15,8 @@ use Rattle.machine_laws.specs.Edges.{contains-empty}
 use Rattle.machine_laws.specs.Neighbours.{present_range}
 use Rattle.graph_store.specs.Rows.{has, row_at, edges_of, network_of, IsRows, IsStore}
 use Rattle.graph_store.proofs.PairOrder.{count-empty, same_pairs}
-use Rattle.graph_store.proofs.Pairs.{and-false, has-edges_of}
+use Rattle.std.proofs.Math.Bool.{and-false}
+use Rattle.graph_store.proofs.Pairs.{has-edges_of}
 use Rattle.graph_store.proofs.Rising.{part_of_names}
 
 -- the roll says who is present
