@@ -1,11 +1,14 @@
 -- Sums over the neighbours of a node.
-use Rattle.std.proofs.Common.{◌≡◌, ◌≢◌, ℕ, zero, suc, ◌+◌, ◌*◌, ◌<◌, ◌≤◌, Bool, true, false, cond, ◌||◌, List, [], ◌∷◌, filter, nat_eq, IsTrue, refl, sym, ap, ap₂, ◌∙◌, subst, ⊎_elim, arith}
+use Rattle.std.proofs.Common.{◌≡◌, ◌≢◌, ℕ, zero, suc, ◌+◌, ◌*◌, ◌<◌, ◌≤◌, Bool, true, cond, List, filter, nat_eq, IsTrue, sym, ap, ap₂, ◌∙◌, ⊎_elim, arith, ◌-◌, ◌&&◌}
 use Rattle.std.specs.List.{sum_by, list_any, range_with_len}
 use Rattle.std.specs.Cmp.{both_ways}
 use Rattle.std.specs.List.Sorted.{IsStrictlyIncreasing}
-use Rattle.std.proofs.lemmas.Bool.{cases_eq, eqb-true, eq-eqb, or_cases, or_right}
+use Rattle.std.proofs.lemmas.Bool.{and_parts, cases_eq, eqb-true, eq-eqb}
 use Rattle.std.proofs.lemmas.List.Kept.{IsStrictlyIncreasing-filter}
 use Rattle.std.proofs.lemmas.List.Sums.{sum_by-cons}
+use Rattle.std.proofs.lemmas.Map.Views.{any-filter_same}
+use Rattle.std.proofs.lemmas.List.FromFn.{get_or-range_with_len, length-range_with_len}
+use Rattle.std.proofs.lemmas.List.Folds.{list_any_at}
 use Rattle.rule_machine.specs.Network.{Network, IsNetwork, linked, neighbours, names, present}
 use Rattle.machine_laws.specs.Neighbours.{linked_back, linked_present, present_range, neighbours_range}
 use Rattle.machine_laws.specs.LeastAnswers.{names_increasing}
@@ -65,8 +68,7 @@ near_ones net k f few =
     omega (arith, one, le)
   where
     small : (b : Bool) (n : ℕ) → n ≤ 1 → cond b n 0 ≤ 1
-    small true n le = le
-    small false n le = omega arith
+    small b n le = grind arith
 
 pub near_names : (net : Network) (k : ℕ) (f : ℕ → ℕ) → net.size ≤ 65535 → ((x : ℕ) → f x ≤ x) → sum_by f (neighbours net k) ≤ net.size * 65535
 near_names net k f size few =
@@ -78,49 +80,31 @@ near_names net k f size few =
     name b n x le high = grind arith
 
     small : (b : Bool) (n : ℕ) → n ≤ 65535 → cond b n 0 ≤ 65535
-    small true n le = le
-    small false n le = omega arith
+    small b n le = grind arith
 
 -- the neighbours rise
 pub neighbours_rise : (net : Network) (v : ℕ) → IsStrictlyIncreasing (neighbours net v)
 neighbours_rise net v = IsStrictlyIncreasing-filter (linked net v) (names net) (names_increasing net)
 
-kept_step : (k x : ℕ) (kept : List ℕ) (p : ℕ → Bool) (b : Bool) → p x ≡ b → (list_any (nat_eq k) kept ≡ true → p k ≡ true) → list_any (nat_eq k) (cond b (x ∷ kept) kept) ≡ true → p k ≡ true
-kept_step k x kept p true at rest h =
-    ⊎_elim
-    (λ (same : nat_eq k x ≡ true). subst (λ y. p y ≡ true) (sym (eqb-true k x same)) at)
-    (λ (later : list_any (nat_eq k) kept ≡ true). rest later)
-    (or_cases (nat_eq k x) (list_any (nat_eq k) kept) h)
-kept_step k x kept p false at rest h = rest h
+-- a name is in a filtered list where it passes and the list has it
+kept_is : (p : ℕ → Bool) (k : ℕ) (xs : List ℕ) → list_any (nat_eq k) (filter p xs) ≡ (p k && list_any (nat_eq k) xs)
+kept_is p k xs = any-filter_same (nat_eq k) p (p k) (λ x same. ap p (sym (eqb-true k x same))) xs
 
-kept_passes : (p : ℕ → Bool) (xs : List ℕ) (k : ℕ) → list_any (nat_eq k) (filter p xs) ≡ true → p k ≡ true
-kept_passes p [] k h = absurd (let e : false ≡ true = h in cc)
-kept_passes p (x ∷ xs) k h = kept_step k x (filter p xs) p (p x) refl (kept_passes p xs k) h
-
-found_step : (k x : ℕ) (kept : List ℕ) (p : ℕ → Bool) (b : Bool) → p x ≡ b → p k ≡ true → (k ≡ x → ⊥) → list_any (nat_eq k) kept ≡ true → list_any (nat_eq k) (cond b (x ∷ kept) kept) ≡ true
-found_step k x kept p true at passes apart rest = or_right (nat_eq k x) (list_any (nat_eq k) kept) rest
-found_step k x kept p false at passes apart rest = rest
-
-found_here : (k x : ℕ) (kept : List ℕ) (b : Bool) → b ≡ true → k ≡ x → list_any (nat_eq k) (cond b (x ∷ kept) kept) ≡ true
-found_here k x kept true at same = ap (λ b. b || list_any (nat_eq k) kept) (eq-eqb k x same)
-found_here k x kept false at same = absurd cc
-
-passes_kept : (p : ℕ → Bool) (k a n : ℕ) → a ≤ k → k < a + n → p k ≡ true → list_any (nat_eq k) (filter p (range_with_len a n)) ≡ true
-passes_kept p k a zero low high passes = absurd (omega arith)
-passes_kept p k a (suc n) low high passes =
-    ⊎_elim
-    (λ (here : k ≡ a). found_here k a (filter p (range_with_len (a + 1) n)) (p a) (ap p (sym here) ∙ passes) here)
-    (λ (apart : k ≢ a). found_step k a (filter p (range_with_len (a + 1) n)) p (p a) refl passes apart (passes_kept p k (a + 1) n (omega arith) (omega arith) passes))
-    (cases_eq k a)
+in_range : (k a n : ℕ) → a ≤ k → k < a + n → list_any (nat_eq k) (range_with_len a n) ≡ true
+in_range k a n low high =
+    let at = get_or-range_with_len a n (k - a) 0 (omega arith) in
+    list_any_at (nat_eq k) (range_with_len a n) (k - a) 0 (omega (arith, length-range_with_len a n)) (eq-eqb k _ (omega (arith, at)))
 
 -- the names in the list of a node's neighbours are the names to which it is linked
 pub listed_linked : (net : Network) (v k : ℕ) → list_any (nat_eq k) (neighbours net v) ≡ true → IsTrue (linked net v k)
-listed_linked net v k h = kept_passes (linked net v) (names net) k h
+listed_linked net v k h =
+    (and_parts (linked net v k) (list_any (nat_eq k) (names net)) (sym (kept_is (linked net v) k (names net)) ∙ h)).0
 
 pub linked_listed : (net : Network) (v k : ℕ) → IsNetwork net → IsTrue (linked net v k) → list_any (nat_eq k) (neighbours net v) ≡ true
 linked_listed net v k is_network h =
     let bounds = present_range net k (linked_present net k v is_network (linked_back net k v ∙ h)) in
-    ap (list_any (nat_eq k)) (neighbours_range net v is_network) ∙ passes_kept (linked net v) k 1 net.size bounds.0 (omega (arith, bounds.1)) h
+    ap (list_any (nat_eq k)) (neighbours_range net v is_network) ∙ kept_is (linked net v) k (range_with_len 1 net.size)
+    ∙ ap₂ (λ s t. s && t) h (in_range k 1 net.size bounds.0 (omega (arith, bounds.1)))
 
 pub listed_is_linked : (net : Network) (v k : ℕ) → IsNetwork net → list_any (nat_eq k) (neighbours net v) ≡ linked net v k
 listed_is_linked net v k is_network = both_ways _ _ (listed_linked net v k) (linked_listed net v k is_network)
