@@ -1,12 +1,12 @@
 -- The rows of the first names.
-use Rattle.std.proofs.Common.{suc, ◌≡◌, ℕ, ◌+◌, ◌<◌, ◌≤◌, true, false, ◌&&◌, length, filter, replicate, leb, set, get_or, sym, ap, ap₂, ◌∙◌, arith, ⊎_elim}
+use Rattle.std.proofs.Common.{suc, ◌≡◌, ℕ, ◌+◌, ◌≤◌, true, false, ◌&&◌, length, filter, replicate, leb, set, get_or, sym, ap, ap₂, ◌∙◌, arith, ⊎_elim}
 use Rattle.std.specs.List.{range_with_len}
-use Rattle.std.proofs.lemmas.Bool.{cases_eq, cases_lt, le-leb, lt-leb, and_left}
+use Rattle.std.proofs.lemmas.Bool.{cases_eq, le-leb}
+use Rattle.std.proofs.lemmas.Bool.Decides.{nat_tests}
 use Rattle.std.proofs.lemmas.List.{ext_get_or, length-set, length-replicate, get_or-replicate, get_or-set_same, get_or-set_other}
 use Rattle.std.proofs.lemmas.List.Elements.{filter_agree}
 use Rattle.std.proofs.lemmas.List.FromFn.{length-map-range_with_len, get_or-map-range_with_len}
 use Rattle.rule_machine.specs.Network.{Network, first_names, names, present}
-use Rattle.std.proofs.Math.Bool.{and-false}
 use Rattle.graph_store.proofs.Store.{on_roll}
 use Rattle.enabled_set.specs.Members.{is_in, members}
 
@@ -24,7 +24,7 @@ first_names_none size =
     get_or-replicate (size + 1) i false false (omega (arith, l, inside)) ∙ sym (first_names_at size 0 i (omega (arith, l, inside)) ∙ nobody i))
   where
     nobody : (i : ℕ) → (leb 1 i && leb i 0) ≡ false
-    nobody i = ⊎_elim (λ (lt : i < 1). and_left (leb 1 i) (leb i 0) (lt-leb 1 i lt)) (λ (le : 1 ≤ i). ap (λ t. leb 1 i && t) (lt-leb i 0 (omega arith)) ∙ and-false (leb 1 i)) (cases_lt i 1)
+    nobody i = grind (arith, nat_tests)
 
 -- one more
 pub first_names_more : (size count v : ℕ) → 1 ≤ v → v ≤ size → v ≡ count + 1 → set (first_names size count) v true ≡ first_names size v
@@ -45,11 +45,7 @@ first_names_more size count v low high next =
     (cases_eq i v))
   where
     same : (i : ℕ) → (i ≡ v → ⊥) → leb i count ≡ leb i v
-    same i apart =
-        ⊎_elim
-        (λ (above : count < i). lt-leb i count above ∙ sym (lt-leb i v (⊎_elim (λ (o : v < i). o) (λ (le : i ≤ v). absurd (apart (omega (arith, next)))) (cases_lt v i))))
-        (λ (le : i ≤ count). le-leb i count le ∙ sym (le-leb i v (omega (arith, next))))
-        (cases_lt count i)
+    same i apart = grind (arith, nat_tests)
 
 -- the members of the roll are the names
 pub members_names : (net : Network) → length net.here ≡ net.size + 1 → get_or net.here 0 false ≡ false → members net.here ≡ names net

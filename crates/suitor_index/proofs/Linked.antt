@@ -1,16 +1,15 @@
 -- An index that is told of an edge.
 use Rattle.std.proofs.Common.{◌≡◌, ◌≢◌, ℕ, ◌<◌, ◌≤◌, Bool, true, false, not, ◌&&◌, List, Option, None, nat_eq, IsTrue, refl, sym, ap, subst, ◌∙◌, arith}
 use Rattle.std.specs.Ordering.{eq_by_cmp}
-use Rattle.std.proofs.lemmas.Bool.{and_parts, eq-eqb, ne_eqb, false_from_ne_true, true≢false, or_left, and_right}
+use Rattle.std.proofs.lemmas.Bool.{eq-eqb, ne_eqb, false_from_ne_true, true≢false, or_left, and_right}
 use Rattle.std.proofs.lemmas.Cmp.{eq_by_cmp_equiv}
 use Rattle.rule_machine.specs.Network.{Network, pair_cmp, edge, linked, present, with_edge, without_edge}
 use Rattle.rule_machine.specs.State.{State, Registers, IsState, points, pointer_of, flag_of}
 use Rattle.rule_machine.specs.Disturbance.{after_link}
 use Rattle.graph_store.specs.Fault.{link_fault}
 use Rattle.net_state.proofs.Edges.{linked_with_other, linked_without_other, new_edge}
-use Rattle.rule_machine.specs.Refuse.{link_refusal, both_present}
+use Rattle.rule_machine.specs.Refuse.{link_refusal}
 use Rattle.machine_laws.specs.Edges.{pair_total, contains-insert, contains-remove, linked_comm}
-use Rattle.machine_laws.specs.Search.{cond-none}
 use Rattle.machine_laws.specs.Neighbours.{linked_apart, linked_present, linked_back}
 use Rattle.machine_laws.specs.Pointers.{points_true, pointer_linked}
 use Rattle.suitor_index.specs.declared.tally.Tally.{Tally}
@@ -30,29 +29,24 @@ no_pointer_across net r a b good absent =
 -- an edge that is put in
 pub edge_linked : (net more : Network) (r : Registers) (a b : ℕ) → IsState (state_of net r) → link_refusal net a b ≡ None → more ≡ with_edge net a b → IsEdgeMore net more r a b
 edge_linked net more r a b good accepted change =
-    let known = cond-none (not (both_present net a b)) _ _ accepted in
-    let two = cond-none (nat_eq a b) _ _ known.1 in
-    let new = cond-none (linked net a b) _ _ two.1 in
-    let both = and_parts (present net a) (present net b) (true_from_not (both_present net a b) known.0) in
-    let back : linked net b a ≡ false = linked_comm net b a ∙ new.0 in
+    let two : nat_eq a b ≡ false = grind arith in
+    let new : linked net a b ≡ false = grind arith in
+    let back : linked net b a ≡ false = linked_comm net b a ∙ new in
     let there : linked more a b ≡ true = ap (λ n. linked n a b) change ∙ contains-insert net.edges (edge a b) (edge a b) ∙ or_left _ _ (same_pair a b) in
     record {
       size = ap (λ n. n.size) (sym change);
       here = λ k. ap (λ n. present n k) (sym change);
-      has_a = both.0;
-      has_b = both.1;
-      apart = λ same. true≢false (sym (eq-eqb a b same) ∙ two.0);
-      absent = new.0;
+      has_a = grind arith;
+      has_b = grind arith;
+      apart = λ same. true≢false (sym (eq-eqb a b same) ∙ two);
+      absent = new;
       absent_back = back;
       there = there;
       there_back = linked_comm more b a ∙ there;
       others = λ k x not_ab not_ba. sym (ap (λ n. linked n k x) change ∙ linked_with_other net a b k x not_ab not_ba);
-      not_there = no_pointer_across net r a b good new.0;
+      not_there = no_pointer_across net r a b good new;
       not_back = no_pointer_across net r b a good back;
     }
-  where
-    true_from_not : (b : Bool) → not b ≡ false → b ≡ true
-    true_from_not b e = grind arith
 
 -- an edge that is taken out
 pub edge_unlinked : (net more : Network) (r : Registers) (a b : ℕ) → IsState (state_of more r) → IsTrue (linked more a b) → points r a b ≡ false → points r b a ≡ false → net ≡ without_edge more a b → IsEdgeMore net more r a b
