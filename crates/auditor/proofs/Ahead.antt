@@ -3,7 +3,7 @@ use Rattle.std.proofs.Common.{◌≡◌, ℕ, List, Some, ap, ◌∙◌}
 use Rattle.rule_machine.specs.declared.rules.RuleSet.{RuleSet}
 use Rattle.rule_machine.specs.State.{State}
 use Rattle.rule_machine.specs.Run.{Entry}
-use Rattle.entry_grammar.specs.Lines.{first_line}
+use Rattle.byte_streams.specs.Lines.{first_line}
 use Rattle.entry_grammar.specs.Spelling.{SpellsEntry}
 use Rattle.judge.specs.Judging.{cost_by}
 use Rattle.auditor.specs.Epochs.{IsNextCost}

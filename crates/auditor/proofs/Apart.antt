@@ -40,22 +40,16 @@ pub record MetBehind (bytes : List ℕ) (stop : Option ℕ) (d : Damage) : Type 
   pub behind : FailsBehind bytes d
   pub before : IsBefore stop behind.at.end.count
 
+met : (bytes : List ℕ) (stop : Option ℕ) (d : Damage) (x : FailsBehind bytes d) → IsBefore stop x.at.end.count → FailsFirst bytes d ⊎ MetBehind bytes stop d
+met bytes stop d x before = inr (record { behind = x; before = before })
+
 pub met_fails : (bytes : List ℕ) (stop : Option ℕ) (d : Damage) (damage : IsDamage bytes d) → IsLookedAt bytes stop d damage → FailsFirst bytes d ⊎ MetBehind bytes stop d
 met_fails bytes stop BadHeader x looked = inl x
-met_fails bytes stop (NotALine line) x looked = inr (record {
-  behind = record { at = x.at; fails = (x.line_is, x.other, x.damage) };
-  before = looked;
-})
-met_fails bytes stop (OutOfOrder line) x looked = inr (record {
-  behind = record { at = x.at; fails = (x.line_is, (x.number, x.entry, x.comes, x.damage)) };
-  before = looked;
-})
-met_fails bytes stop (NotTheMachines line) x looked = inr (record {
-  behind = record { at = x.at; fails = (x.line_is, (x.entry, x.comes, x.damage)) };
-  before = looked;
-})
+met_fails bytes stop (NotALine line) x looked = met bytes stop (NotALine line) (record { at = x.at; fails = (x.line_is, x.other, x.damage) }) looked
+met_fails bytes stop (OutOfOrder line) x looked = met bytes stop (OutOfOrder line) (record { at = x.at; fails = (x.line_is, (x.number, x.entry, x.comes, x.damage)) }) looked
+met_fails bytes stop (NotTheMachines line) x looked = met bytes stop (NotTheMachines line) (record { at = x.at; fails = (x.line_is, (x.entry, x.comes, x.damage)) }) looked
 met_fails bytes stop (BadBase line) (inl x) looked = inl x
-met_fails bytes stop (BadBase line) (inr x) looked = inr (record { behind = base_fails bytes line x; before = looked })
+met_fails bytes stop (BadBase line) (inr x) looked = met bytes stop (BadBase line) (base_fails bytes line x) looked
 
 -- good lines have no damage
 pub good_no_damage : (bytes : List ℕ) (stop : Option ℕ) (rules : RuleSet) (s : State) (d : Damage) → IsStateAfter bytes stop rules s → IsMetDamage bytes stop d → ⊥

@@ -1,5 +1,5 @@
 -- How far a replay of the first entries is, and what it says at its end.
-use Rattle.std.proofs.Common.{◌≡◌, ℕ, ◌+◌, ◌<◌, ◌≤◌, ◌⊎◌, true, false, List, [], ◌++◌, Option, None, Some, Result, Ok, Err, refl, sym, ap, subst, ◌∙◌, ⊎_elim, append-nil, arith, rules}
+use Rattle.std.proofs.Common.{◌≡◌, ℕ, ◌+◌, ◌<◌, ◌≤◌, ◌⊎◌, true, false, List, [], Option, None, Some, Result, Ok, Err, refl, sym, ap, subst, ◌∙◌, ⊎_elim, arith, rules}
 use Rattle.std.specs.Prelude.{IfOk, IfErr}
 use Rattle.std.proofs.lemmas.Bool.{true≢false}
 use Rattle.rule_machine.specs.declared.base.Start.{Start}
@@ -13,11 +13,11 @@ use Rattle.auditor.specs.declared.reach.ReplayFault.{ReplayFault}
 use Rattle.auditor.specs.declared.reach.ReplayFault.TheVariants.{Judged, TooFew, Forgotten}
 use Rattle.auditor.specs.declared.replay.Replay.{Replay}
 use Rattle.auditor.specs.Parts.{count_after}
-use Rattle.auditor.specs.Transcript.{IsTranscript}
 use Rattle.auditor.specs.Position.{Position, stand_of}
 use Rattle.auditor.specs.Accepted.{IsReached}
 use Rattle.auditor.specs.Reached.{EndsAt, IsStateAfter, HasTooFew, IsReplayFault, IsBefore, IsMetBehind, IsMetFirst, IsOpened, IsWithin, IsLongEnough, falls_short}
 use Rattle.auditor.specs.Replays.{IsPassed}
+use Rattle.auditor.proofs.Reaching.{all_good}
 use Rattle.auditor.proofs.Steps.{step_count}
 
 -- ---- one part further
@@ -91,7 +91,6 @@ pub ended_early : (bytes : List ℕ) (rules : RuleSet) (size : ℕ) (p : Positio
 ended_early bytes rules size p rest last (Ok reached) r stop given = tt
 ended_early bytes rules size p rest last (Err fault) r stop (asked, is, last_is, fewer) =
     let none = all_read rest last p.number asked last_is fewer stop in
-    let same : bytes ≡ r.follows.good = r.follows.splits ∙ ap (λ (z : List ℕ). r.follows.good ++ z) none ∙ append-nil r.follows.good in
     let few : HasTooFew bytes last asked p.number = record {
       last_is = last_is;
       fewer = fewer;
@@ -99,7 +98,7 @@ ended_early bytes rules size p rest last (Err fault) r stop (asked, is, last_is,
       opening = r.follows.opening;
       log = r.log;
       end = stand_of p;
-      transcript = subst (λ (b : List ℕ). IsTranscript b rules r.follows.opening r.log (stand_of p)) (sym same) r.follows.transcript;
+      transcript = all_good bytes rules r.log (stand_of p) rest r.follows none;
       entries_are = refl;
     } in
     subst (IsReplayFault bytes last) (sym is) few

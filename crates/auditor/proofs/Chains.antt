@@ -1,5 +1,5 @@
 -- From a stand the parts that come are determined by the text.
-use Rattle.std.proofs.Common.{◌≡◌, ◌≢◌, ℕ, ◌+◌, ◌<◌, ◌≤◌, List, [], ◌∷◌, ◌++◌, refl, sym, ap, subst, ◌∙◌, append_assoc, arith}
+use Rattle.std.proofs.Common.{◌≡◌, ◌≢◌, ℕ, ◌+◌, ◌<◌, ◌≤◌, List, [], ◌∷◌, ◌++◌, length, refl, sym, ap, subst, ◌∙◌, append_assoc, length-append, arith}
 use Rattle.std.specs.Prelude.{codes}
 use Rattle.std.specs.List.{AllByRecursion}
 use Rattle.std.proofs.lemmas.List.{append_cancel_left}
@@ -123,16 +123,17 @@ comes_once rules size at rest (Kept a) (Told f) next following behind after x y 
 comes_once rules size at rest (Kept a) (Kept b) next following behind after x y = kept_once rules size at rest a b next following behind after x y
 
 -- a part has bytes
-line_some : (line more : List ℕ) → (line ++ 10 ∷ []) ++ more ≡ [] → ⊥
-line_some [] more e = absurd cc
-line_some (b ∷ line) more e = absurd cc
+part_some : (rules : RuleSet) (size count : ℕ) (part : Part) → 0 < length (part_text rules size count part)
+part_some rules size count (Told entry) =
+    let l = length-append (entry_text (count + 1) entry.0 entry.1) (10 ∷ []) in omega (arith, l)
+part_some rules size count (Kept base) = omega arith
 
-pub part_some : (rules : RuleSet) (size count : ℕ) (part : Part) (behind : List ℕ) → part_text rules size count part ++ behind ≡ [] → ⊥
-part_some rules size count (Told entry) behind e = line_some (entry_text (count + 1) entry.0 entry.1) behind e
-part_some rules size count (Kept base) behind e = other_nothing _ e
-  where
-    other_nothing : (more : List ℕ) → 109 ∷ more ≡ [] → ⊥
-    other_nothing more same = absurd cc
+-- so less is left behind it
+pub comes_shorter : (rules : RuleSet) (size : ℕ) (at : Stand) (rest : List ℕ) (part : Part) (next : Stand) (behind : List ℕ) → Comes rules size at rest part next behind → length behind < length rest
+comes_shorter rules size at rest part next behind comes =
+    let l = ap length comes.is ∙ length-append (part_text rules size at.count part) behind in
+    let some = part_some rules size at.count part in
+    omega (arith, l, some)
 
 -- ---- chains of parts
 
@@ -172,7 +173,7 @@ abbrev pub Stops : RuleSet → ℕ → Stand → List ℕ → Type 0
 Stops rules size end rest = (part : Part) (next : Stand) (behind : List ℕ) → Comes rules size end rest part next behind → ⊥
 
 pub nothing_stops : (rules : RuleSet) (size : ℕ) (end : Stand) → Stops rules size end []
-nothing_stops rules size end part next behind comes = part_some rules size end.count part behind (sym comes.is)
+nothing_stops rules size end part next behind comes = omega (arith, comes_shorter rules size end [] part next behind comes)
 
 stops_here : (rules : RuleSet) (size : ℕ) (at end : Stand) (rest left : List ℕ) → end ≡ at → rest ≡ left → Stops rules size end left → Stops rules size at rest
 stops_here rules size at end rest left is same stops =

@@ -11,9 +11,9 @@ use Rattle.rule_machine.specs.Answer.{Answers}
 use Rattle.rule_machine.specs.Tables.{table_of}
 use Rattle.line_text.specs.EntryText.{entry_text}
 use Rattle.line_text.specs.BaseText.{base_text}
-use Rattle.entry_grammar.specs.Lines.{first_line}
+use Rattle.byte_streams.specs.Lines.{first_line}
 use Rattle.entry_grammar.specs.Spelling.{SpellsEntry}
-use Rattle.entry_grammar.proofs.Cutting.{first_line-splits}
+use Rattle.byte_streams.proofs.Cutting.{first_line-ended, first_line-splits}
 use Rattle.entry_grammar.proofs.Entries.{spells_entry_once}
 use Rattle.entry_grammar.proofs.Free.{cons_parts}
 use Rattle.auditor.specs.declared.damage.Damage.{Damage}
@@ -25,7 +25,7 @@ use Rattle.auditor.specs.Damage.{Follows, Beginning, EntryComes, BeginsBase, Par
 use Rattle.auditor.specs.Accepted.{Counts, IsAccepted}
 use Rattle.auditor.proofs.Feedless.{entry_free}
 use Rattle.auditor.proofs.Chains.{BeginsOther, Chain, Stops, chain_of, chain_meet, entry_other, nothing_stops, other_no_base, told_spells, told_is}
-use Rattle.auditor.proofs.Openings.{SameOpening, first_line-free, follows_text, opening_once, parts_behind, header_good, start_good, header_no_start, start_once_bad}
+use Rattle.auditor.proofs.Openings.{SameOpening, follows_text, opening_once, parts_behind, header_good, start_good, header_no_start, start_once_bad}
 
 -- ---- two transcripts at the beginning of one text
 
@@ -162,7 +162,7 @@ told_comes rules size at rest entry next behind x =
     record {
       line = line;
       more = behind;
-      is = ap first_line (told_is rules size at rest entry next behind x) ∙ first_line-free line behind (entry_free line (at.count + 1) entry spells);
+      is = ap first_line (told_is rules size at rest entry next behind x) ∙ first_line-ended line behind (entry_free line (at.count + 1) entry spells);
       spells = spells;
     }
 
@@ -262,59 +262,45 @@ pub parting_once : (text bytes : List ℕ) (p q : Parting text bytes) → p.comm
 parting_once text bytes p q =
     common_once p.common q.common p.missing q.missing p.more q.more (sym p.wanted ∙ q.wanted) (sym p.had ∙ q.had) p.apart q.apart
 
-line_same : (k l : ℕ) (good : List ℕ) → IsLineBehind k good → IsLineBehind l good → k ≡ l
-line_same k l good x y = x ∙ sym y
-
 -- at one place one check fails
 pub fails_once : (at : Split) (d e : Damage) → Fails at d → Fails at e → d ≡ e
 fails_once at BadHeader e x y = absurd x
-fails_once at (NotALine k) BadHeader x y = absurd y
-fails_once at (NotALine k) (NotALine l) x y = ap (λ (n : ℕ). NotALine n) (line_same k l at.good x.0 y.0)
+fails_once at d BadHeader x y = absurd y
+fails_once at (NotALine k) (NotALine l) x y = ap (λ (n : ℕ). NotALine n) (x.0 ∙ sym y.0)
 fails_once at (NotALine k) (OutOfOrder l) x (line_is, (number, entry, comes, damage)) = absurd (none_comes at.rest number entry x.2 comes)
 fails_once at (NotALine k) (NotTheMachines l) x (line_is, (entry, comes, damage)) = absurd (none_comes at.rest (at.end.count + 1) entry x.2 comes)
 fails_once at (NotALine k) (BadBase l) x y = absurd (x.1 y.0)
-fails_once at (OutOfOrder k) BadHeader x y = absurd y
 fails_once at (OutOfOrder k) (NotALine l) (line_is, (number, entry, comes, damage)) y = absurd (none_comes at.rest number entry y.2 comes)
-fails_once at (OutOfOrder k) (OutOfOrder l) x y = ap (λ (n : ℕ). OutOfOrder n) (line_same k l at.good x.0 y.0)
+fails_once at (OutOfOrder k) (OutOfOrder l) x y = ap (λ (n : ℕ). OutOfOrder n) (x.0 ∙ sym y.0)
 fails_once at (OutOfOrder k) (NotTheMachines l) (line_is, (number, entry, comes, damage)) (also_is, (other, came, broken)) =
     absurd (damage (entry_once at.rest number (at.end.count + 1) entry other comes came).0)
 fails_once at (OutOfOrder k) (BadBase l) (line_is, (number, entry, comes, damage)) y = absurd (comes_no_base at.rest number entry comes y.0)
-fails_once at (NotTheMachines k) BadHeader x y = absurd y
 fails_once at (NotTheMachines k) (NotALine l) (line_is, (entry, comes, damage)) y = absurd (none_comes at.rest (at.end.count + 1) entry y.2 comes)
 fails_once at (NotTheMachines k) (OutOfOrder l) (also_is, (other, came, broken)) (line_is, (number, entry, comes, damage)) =
     absurd (damage (entry_once at.rest number (at.end.count + 1) entry other comes came).0)
-fails_once at (NotTheMachines k) (NotTheMachines l) x y = ap (λ (n : ℕ). NotTheMachines n) (line_same k l at.good x.0 y.0)
+fails_once at (NotTheMachines k) (NotTheMachines l) x y = ap (λ (n : ℕ). NotTheMachines n) (x.0 ∙ sym y.0)
 fails_once at (NotTheMachines k) (BadBase l) (line_is, (entry, comes, damage)) y = absurd (comes_no_base at.rest (at.end.count + 1) entry comes y.0)
-fails_once at (BadBase k) BadHeader x y = absurd y
 fails_once at (BadBase k) (NotALine l) x y = absurd (y.1 x.0)
 fails_once at (BadBase k) (OutOfOrder l) x (line_is, (number, entry, comes, damage)) = absurd (comes_no_base at.rest number entry comes x.0)
 fails_once at (BadBase k) (NotTheMachines l) x (line_is, (entry, comes, damage)) = absurd (comes_no_base at.rest (at.end.count + 1) entry comes x.0)
 fails_once at (BadBase k) (BadBase l) (begins, (p, line_is)) (began, (q, also_is)) =
     let common = parting_once (base_text at.rules (size_of at.opening) (base_of at.end.count at.end.moment)) at.rest p q in
-    ap (λ (n : ℕ). BadBase n) (line_same k l (at.good ++ q.common) (subst (λ (c : List ℕ). IsLineBehind k (at.good ++ c)) common line_is) also_is)
+    ap (λ (n : ℕ). BadBase n) (subst (λ (c : List ℕ). IsLineBehind k (at.good ++ c)) common line_is ∙ sym also_is)
 
 pub first_once : (bytes : List ℕ) (d e : Damage) → FailsFirst bytes d → FailsFirst bytes e → d ≡ e
 first_once bytes BadHeader BadHeader x y = refl
 first_once bytes BadHeader (BadBase l) x y = absurd (header_no_start bytes l x y)
 first_once bytes (BadBase k) BadHeader x y = absurd (header_no_start bytes k y x)
 first_once bytes (BadBase k) (BadBase l) x y = ap (λ (n : ℕ). BadBase n) (start_once_bad bytes k l x y)
-first_once bytes BadHeader (NotALine l) x y = absurd y
-first_once bytes BadHeader (OutOfOrder l) x y = absurd y
-first_once bytes BadHeader (NotTheMachines l) x y = absurd y
-first_once bytes (BadBase k) (NotALine l) x y = absurd y
-first_once bytes (BadBase k) (OutOfOrder l) x y = absurd y
-first_once bytes (BadBase k) (NotTheMachines l) x y = absurd y
-first_once bytes (NotALine k) e x y = absurd x
-first_once bytes (OutOfOrder k) e x y = absurd x
-first_once bytes (NotTheMachines k) e x y = absurd x
+first_once bytes BadHeader e x y = absurd y
+first_once bytes (BadBase k) e x y = absurd y
+first_once bytes d e x y = absurd x
 
 -- a transcript begins no text that fails at the start
 pub first_good : (bytes : List ℕ) (d : Damage) (rules : RuleSet) (log : List Part) (end : Stand) (rest : List ℕ) → FailsFirst bytes d → Follows bytes rules log end rest → ⊥
 first_good bytes BadHeader rules log end rest x f = header_good bytes rules log end rest x f
-first_good bytes (NotALine line) rules log end rest x f = x
-first_good bytes (OutOfOrder line) rules log end rest x f = x
-first_good bytes (NotTheMachines line) rules log end rest x f = x
 first_good bytes (BadBase line) rules log end rest x f = start_good bytes line rules log end rest x f
+first_good bytes d rules log end rest x f = x
 
 behind_once : (bytes : List ℕ) (d e : Damage) → FailsBehind bytes d → FailsBehind bytes e → d ≡ e
 behind_once bytes d e x y =

@@ -3,14 +3,14 @@ use Rattle.std.proofs.Common.{◌≡◌, ℕ, ◌⊎◌, inl, inr, List, Option,
 use Rattle.byte_streams.specs.declared.input_fault.InputFault.{InputFault}
 use Rattle.byte_streams.specs.declared.input_fault.InputFault.TheVariants as input
 use Rattle.auditor.specs.declared.damage.Damage.{Damage}
-use Rattle.auditor.specs.declared.damage.Damage.TheVariants.{BadHeader, NotALine, OutOfOrder, NotTheMachines, BadBase}
+use Rattle.auditor.specs.declared.damage.Damage.TheVariants.{BadHeader}
 use Rattle.auditor.specs.declared.damage.JudgeFault.{JudgeFault}
 use Rattle.auditor.specs.declared.damage.JudgeFault.TheVariants.{Damaged, Memory}
 use Rattle.auditor.specs.declared.fault.AuditFault.{AuditFault}
 use Rattle.auditor.specs.declared.summary.Summary.{Summary}
 use Rattle.auditor.specs.Accepted.{IsAccepted}
 use Rattle.auditor.specs.Damage.{IsDamage}
-use Rattle.auditor.specs.Verdict.{IsJudged, IsAudited, IsFault, IsHeard, AcceptsRuns, NamesDamage, told, of_damage, of_input}
+use Rattle.auditor.specs.Verdict.{IsJudged, IsFault, IsHeard, AcceptsRuns, NamesDamage, told, of_damage, of_input}
 use Rattle.auditor.proofs.Ending.{damage_once, count_once, accepted_no_damage}
 
 pub judged_accepts : (bytes : List ℕ) (result : Result Summary JudgeFault) → IsJudged bytes result → (counted : Summary) → IsAccepted bytes counted → (result ≡ Ok counted) ⊎ (result ≡ Err Memory)
@@ -32,10 +32,7 @@ told_accepted bytes (Err fault) is = tt
 told_damage : (bytes : List ℕ) (judged : Result Summary JudgeFault) → IsJudged bytes judged → IfErr (told judged) (IsFault bytes)
 told_damage bytes (Ok c) is = tt
 told_damage bytes (Err (Damaged BadHeader)) is = is
-told_damage bytes (Err (Damaged (NotALine line))) is = is
-told_damage bytes (Err (Damaged (OutOfOrder line))) is = is
-told_damage bytes (Err (Damaged (NotTheMachines line))) is = is
-told_damage bytes (Err (Damaged (BadBase line))) is = is
+told_damage bytes (Err (Damaged d)) is = is
 told_damage bytes (Err Memory) is = tt
 
 told_accepts : (bytes : List ℕ) (judged : Result Summary JudgeFault) → IsJudged bytes judged → AcceptsRuns bytes (told judged)
@@ -48,49 +45,35 @@ told_names bytes (Ok c) is damage damaged = absurd (accepted_no_damage bytes c d
 told_names bytes (Err (Damaged d)) is damage damaged = inl (ap (λ (x : Damage). Err (of_damage x)) (damage_once bytes d damage is damaged))
 told_names bytes (Err Memory) is damage damaged = inr (inr refl)
 
--- ---- the same of an audit, which has read the text
+-- ---- the same of an audit, which may not have read the text
 
-pub audited_accepted : (bytes : List ℕ) (result : Result Summary AuditFault) → IsAudited bytes result → IfOk result (IsAccepted bytes)
-audited_accepted bytes result (judged, is, e) = subst (λ (r : Result Summary AuditFault). IfOk r (IsAccepted bytes)) (sym e) (told_accepted bytes judged is)
-
-pub audited_damage : (bytes : List ℕ) (result : Result Summary AuditFault) → IsAudited bytes result → IfErr result (IsFault bytes)
-audited_damage bytes result (judged, is, e) = subst (λ (r : Result Summary AuditFault). IfErr r (IsFault bytes)) (sym e) (told_damage bytes judged is)
-
-pub audited_accepts : (bytes : List ℕ) (result : Result Summary AuditFault) → IsAudited bytes result → AcceptsRuns bytes result
-audited_accepts bytes result (judged, is, e) = subst (λ (r : Result Summary AuditFault). AcceptsRuns bytes r) (sym e) (told_accepts bytes judged is)
-
-pub audited_names : (bytes : List ℕ) (result : Result Summary AuditFault) → IsAudited bytes result → NamesDamage bytes result
-audited_names bytes result (judged, is, e) = subst (λ (r : Result Summary AuditFault). NamesDamage bytes r) (sym e) (told_names bytes judged is)
-
--- ---- and of one whose text may not have been read
-
-heard_by : (bytes : List ℕ) (result : Result Summary AuditFault) (Q : Result Summary AuditFault → Type 0) → IsHeard bytes result → (IsAudited bytes result → Q result) → ((fault : InputFault) → Q (Err (of_input fault))) → Q result
-heard_by bytes result Q (inl audited) judged unread = judged audited
-heard_by bytes result Q (inr (fault, e)) judged unread = subst Q (sym e) (unread fault)
+heard_by : (bytes : List ℕ) (result : Result Summary AuditFault) (Q : Result Summary AuditFault → Type 0) → IsHeard bytes result → ((judged : Result Summary JudgeFault) → IsJudged bytes judged → Q (told judged)) → ((fault : InputFault) → Q (Err (of_input fault))) → Q result
+heard_by bytes result Q (inl (judged, is, e)) heard unread = subst Q (sym e) (heard judged is)
+heard_by bytes result Q (inr (fault, e)) heard unread = subst Q (sym e) (unread fault)
 
 pub heard_accepted : (bytes : List ℕ) (result : Result Summary AuditFault) → IsHeard bytes result → IfOk result (IsAccepted bytes)
-heard_accepted bytes result heard = heard_by bytes result (λ r. IfOk r (IsAccepted bytes)) heard (audited_accepted bytes result) (λ fault. tt)
+heard_accepted bytes result heard = heard_by bytes result (λ r. IfOk r (IsAccepted bytes)) heard (told_accepted bytes) (λ fault. tt)
 
 unread_damage : (bytes : List ℕ) (fault : InputFault) → IsFault bytes (of_input fault)
 unread_damage bytes input.Read = tt
 unread_damage bytes input.Memory = tt
 
 pub heard_damage : (bytes : List ℕ) (result : Result Summary AuditFault) → IsHeard bytes result → IfErr result (IsFault bytes)
-heard_damage bytes result heard = heard_by bytes result (λ r. IfErr r (IsFault bytes)) heard (audited_damage bytes result) (unread_damage bytes)
+heard_damage bytes result heard = heard_by bytes result (λ r. IfErr r (IsFault bytes)) heard (told_damage bytes) (unread_damage bytes)
 
 unread_accepts : (bytes : List ℕ) (fault : InputFault) → AcceptsRuns bytes (Err (of_input fault))
 unread_accepts bytes input.Read counted is = inr (inl refl)
 unread_accepts bytes input.Memory counted is = inr (inr refl)
 
 pub heard_accepts : (bytes : List ℕ) (result : Result Summary AuditFault) → IsHeard bytes result → AcceptsRuns bytes result
-heard_accepts bytes result heard = heard_by bytes result (AcceptsRuns bytes) heard (audited_accepts bytes result) (unread_accepts bytes)
+heard_accepts bytes result heard = heard_by bytes result (AcceptsRuns bytes) heard (told_accepts bytes) (unread_accepts bytes)
 
 unread_names : (bytes : List ℕ) (fault : InputFault) → NamesDamage bytes (Err (of_input fault))
 unread_names bytes input.Read damage is = inr (inl refl)
 unread_names bytes input.Memory damage is = inr (inr refl)
 
 pub heard_names : (bytes : List ℕ) (result : Result Summary AuditFault) → IsHeard bytes result → NamesDamage bytes result
-heard_names bytes result heard = heard_by bytes result (NamesDamage bytes) heard (audited_names bytes result) (unread_names bytes)
+heard_names bytes result heard = heard_by bytes result (NamesDamage bytes) heard (told_names bytes) (unread_names bytes)
 
 -- what follows for bytes that are known
 pub for_known : (a : Option (List ℕ)) (P Q : List ℕ → Type 0) → IfSome a P → ((bytes : List ℕ) → P bytes → Q bytes) → IfSome a Q

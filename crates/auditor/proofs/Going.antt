@@ -1,21 +1,20 @@
 -- A transcript that is gone through from its beginning to its end.
-use Rattle.std.proofs.Common.{◌≡◌, ℕ, ◌+◌, ◌<◌, ◌≤◌, ◌^◌, inl, List, [], ◌∷◌, ◌++◌, None, Err, length, sym, ap, subst, ◌∙◌, append_assoc, arith}
+use Rattle.std.proofs.Common.{◌≡◌, ℕ, ◌+◌, ◌<◌, ◌≤◌, ◌^◌, inl, List, [], ◌++◌, None, Err, length, sym, ap, subst, ◌∙◌, append_assoc, arith}
 use Rattle.std.proofs.lemmas.List.{append_cancel_right, length-append}
 use Rattle.std.proofs.Math.Logic.{∥∥₁_elim, ∥∥₁_map}
 use Rattle.std.proofs.Props.{props}
 use Rattle.rule_machine.specs.declared.rules.RuleSet.{RuleSet}
-use Rattle.rule_machine.specs.Base.{Part, Told, Kept}
 use Rattle.auditor.specs.declared.damage.JudgeFault.{JudgeFault}
 use Rattle.auditor.specs.declared.damage.JudgeFault.TheVariants.{Damaged, Memory}
 use Rattle.auditor.specs.declared.replay.Replay.{Replay}
-use Rattle.line_text.specs.EntryText.{entry_text}
 use Rattle.auditor.specs.Parts.{part_text}
-use Rattle.auditor.specs.Position.{Position, IsFurther}
+use Rattle.auditor.specs.Position.{Position, stand_of}
 use Rattle.auditor.specs.Accepted.{IsReached}
 use Rattle.auditor.specs.Damage.{line_feeds}
 use Rattle.auditor.specs.Reached.{IsMetBehind, IsMetFirst}
 use Rattle.auditor.specs.Replays.{Begins, IsAt, IsCompared, IsPassed, IsSomewhere, Somewhere, Waits}
 use Rattle.auditor.specs.Verdict.{IsJudged}
+use Rattle.auditor.proofs.Chains.{comes_shorter}
 use Rattle.auditor.proofs.Counted.{feeds_few}
 use Rattle.auditor.proofs.Reaching.{opened_reached, reached_more}
 use Rattle.auditor.proofs.Windows.{feeds_append, same_none}
@@ -100,18 +99,6 @@ passed_somewhere old new rest behind somewhere p = ∥∥₁_map somewhere (λ a
 pub passed_compared : (old new : Replay) (rest behind : List ℕ) → IsPassed old new rest behind → IsCompared new behind
 passed_compared old new rest behind p = compared_none new behind p.unwanted p.none_same
 
--- each part has a text
-part_some : (rules : RuleSet) (size count : ℕ) (part : Part) → 0 < length (part_text rules size count part)
-part_some rules size count (Told entry) =
-    let l = length-append (entry_text (count + 1) entry.0 entry.1) (10 ∷ []) in omega (arith, l)
-part_some rules size count (Kept base) = omega arith
-
-further_shorter : (rules : RuleSet) (size : ℕ) (p q : Position) (rest behind : List ℕ) → IsFurther rules size p rest q behind → length behind < length rest
-further_shorter rules size p q rest behind f =
-    let own = part_text rules size p.number f.part in
-    let l = ap length f.comes.is ∙ length-append own behind in
-    let some = part_some rules size p.number f.part in
-    omega (arith, l, some)
-
 pub passed_shorter : (old new : Replay) (rest behind : List ℕ) → IsPassed old new rest behind → length behind < length rest
-passed_shorter old new rest behind p = further_shorter old.rules old.size old.audit new.audit rest behind p.further
+passed_shorter old new rest behind p =
+    comes_shorter old.rules old.size (stand_of old.audit) rest p.further.part (stand_of new.audit) behind p.further.comes

@@ -1,5 +1,5 @@
 -- What a transcript begins with, as it was read.
-use Rattle.std.proofs.Common.{◌≡◌, ℕ, ◌+◌, ◌<◌, ◌≤◌, inl, inr, cond, List, [], ◌∷◌, ◌++◌, Option, Some, length, refl, sym, ap, subst, ◌∙◌, nat_eq, nat_lt, arith}
+use Rattle.std.proofs.Common.{◌≡◌, ℕ, ◌+◌, ◌<◌, ◌≤◌, ◌⊎◌, inl, inr, cond, List, [], ◌∷◌, ◌++◌, Option, Some, length, refl, sym, ap, subst, ◌∙◌, nat_eq, nat_lt, arith}
 use Rattle.std.specs.Prelude.{IfSome}
 use Rattle.std.specs.Ordering.{nat_cmp, ordering_then}
 use Rattle.std.specs.declared.cmp.Ordering.TheVariants.{Less, Equal, Greater}
@@ -20,12 +20,12 @@ use Rattle.line_text.specs.BaseText.{base_head}
 use Rattle.line_text.specs.Words.{ended}
 use Rattle.entry_grammar.specs.declared.base_line.BaseLine.{BaseLine}
 use Rattle.entry_grammar.specs.declared.base_line.BaseLine.TheVariants.{Head}
-use Rattle.entry_grammar.specs.Lines.{first_line}
+use Rattle.byte_streams.specs.Lines.{first_line}
 use Rattle.entry_grammar.specs.Spelling.{SpellsBaseLine, SpellsHeader, base_line_text}
 use Rattle.entry_grammar.specs.BaseLines.{IsAbove, NodesRise, EdgesRise, IsShaped, BreaksAt, base_lines}
 use Rattle.auditor.specs.declared.damage.Damage.TheVariants.{BadBase}
 use Rattle.auditor.specs.declared.damage.JudgeFault.TheVariants.{Damaged}
-use Rattle.auditor.specs.Damage.{SpellsNoHead}
+use Rattle.auditor.specs.Damage.{BeginsNowhere, BreaksOff, SpellsNoHead}
 use Rattle.auditor.specs.Parts.{Named, Based, Opens}
 use Rattle.auditor.specs.Position.{Position, position_at}
 use Rattle.auditor.specs.Reached.{IsMetFirst, IsOpened}
@@ -90,31 +90,20 @@ base_opened text rest behind rules size base s found p few cut is shaped number 
       opening = opening;
     }
 
-pub nowhere : (text rest behind : List ℕ) (rules : RuleSet) (size : ℕ) (base : Base) → size ≤ 65535 → first_line text ≡ Some (base_head rules size, rest) → IsShaped base → rest ≡ base_lines base ++ behind → ((start : Stand) → Opens rules (Based size base) start → ⊥) → IsMetFirst text (Damaged (BadBase 2))
-nowhere text rest behind rules size base few cut shaped is none last = record {
-  is = inl (record {
-    rules = rules;
-    size = size;
-    rest = rest;
-    few = few;
-    first = cut;
-    bad = inr (record { base = base; more = behind; shaped = shaped; is = is; nowhere = none; line_is = refl });
-  });
+-- the lines behind the first of a base are none's, or no run may begin there
+bad_start : (text rest : List ℕ) (rules : RuleSet) (size line : ℕ) → size ≤ 65535 → first_line text ≡ Some (base_head rules size, rest) → BreaksOff rest line ⊎ BeginsNowhere rules size rest line → IsMetFirst text (Damaged (BadBase line))
+bad_start text rest rules size line few cut bad last = record {
+  is = inl (record { rules = rules; size = size; rest = rest; few = few; first = cut; bad = bad });
   looked_at = tt;
 }
 
+pub nowhere : (text rest behind : List ℕ) (rules : RuleSet) (size : ℕ) (base : Base) → size ≤ 65535 → first_line text ≡ Some (base_head rules size, rest) → IsShaped base → rest ≡ base_lines base ++ behind → ((start : Stand) → Opens rules (Based size base) start → ⊥) → IsMetFirst text (Damaged (BadBase 2))
+nowhere text rest behind rules size base few cut shaped is none =
+    bad_start text rest rules size 2 few cut (inr (record { base = base; more = behind; shaped = shaped; is = is; nowhere = none; line_is = refl }))
+
 pub broken : (text rest : List ℕ) (rules : RuleSet) (size number : ℕ) → size ≤ 65535 → first_line text ≡ Some (base_head rules size, rest) → BreaksAt rest number → IsMetFirst text (Damaged (BadBase (number + 1)))
-broken text rest rules size number few cut breaks last = record {
-  is = inl (record {
-    rules = rules;
-    size = size;
-    rest = rest;
-    few = few;
-    first = cut;
-    bad = inl (record { number = number; breaks = breaks; line_is = refl });
-  });
-  looked_at = tt;
-}
+broken text rest rules size number few cut breaks =
+    bad_start text rest rules size (number + 1) few cut (inl (record { number = number; breaks = breaks; line_is = refl }))
 
 -- as many lines as that stand in so many bytes
 lines_few : (lines : List BaseLine) → length lines ≤ length (ended base_line_text lines)

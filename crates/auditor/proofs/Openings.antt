@@ -1,5 +1,5 @@
 -- What a transcript begins with, and where its run begins, is determined by the text.
-use Rattle.std.proofs.Common.{◌≡◌, ℕ, ◌+◌, ◌≤◌, ◌⊎◌, inl, inr, List, [], ◌∷◌, ◌++◌, Some, get_or, refl, sym, ap, ap₂, subst, ◌∙◌, append_assoc, arith, eqb-true}
+use Rattle.std.proofs.Common.{◌≡◌, ℕ, ◌+◌, ◌≤◌, ◌⊎◌, inl, inr, List, [], ◌∷◌, ◌++◌, Some, get_or, refl, sym, ap, ap₂, subst, ◌∙◌, append_assoc, arith}
 use Rattle.std.proofs.lemmas.Option.{same_Some}
 use Rattle.rule_machine.specs.declared.base.Base.{Base}
 use Rattle.rule_machine.specs.declared.rules.RuleSet.{RuleSet}
@@ -11,10 +11,9 @@ use Rattle.charge_laws.specs.Charged.{charge_bound}
 use Rattle.line_text.specs.EntryText.{header_text}
 use Rattle.line_text.specs.BaseText.{base_head}
 use Rattle.entry_grammar.specs.declared.base_line.BaseLine.TheVariants.{Head}
-use Rattle.entry_grammar.specs.Lines.{first_line}
-use Rattle.entry_grammar.specs.Reading.{IsFree}
+use Rattle.byte_streams.specs.Lines.{first_line}
 use Rattle.entry_grammar.specs.BaseLines.{base_lines}
-use Rattle.entry_grammar.proofs.Cutting.{onto_line-front}
+use Rattle.byte_streams.proofs.Cutting.{first_line-ended}
 use Rattle.entry_grammar.proofs.Headers.{spells_header_once}
 use Rattle.entry_grammar.proofs.BaseLines.{spells_base_line_once}
 use Rattle.entry_grammar.proofs.FirstLines.{line_free}
@@ -24,12 +23,6 @@ use Rattle.auditor.specs.Damage.{Follows, HasBadHeader, HasBadStart, BreaksOff, 
 use Rattle.auditor.proofs.Feedless.{header_free}
 
 -- ---- the first line
-
--- a text without a line feed is the first line where one follows it
-pub first_line-free : (line rest : List ℕ) → IsFree 10 line → first_line (line ++ 10 ∷ rest) ≡ Some (line, rest)
-first_line-free [] rest free = refl
-first_line-free (b ∷ line) rest free =
-    onto_line-front b (line ++ 10 ∷ rest) (Some (line, rest)) (λ e. free.0 (eqb-true b 10 e)) (first_line-free line rest free.1)
 
 -- the first line of an opening
 abbrev pub line_in : RuleSet → Opening → List ℕ
@@ -44,12 +37,12 @@ behind_in (Based size base) more = base_lines base ++ more
 pub opening_first : (rules : RuleSet) (opening : Opening) (more : List ℕ) → IsOpening opening → first_line (opening_text rules opening ++ more) ≡ Some (line_in rules opening, behind_in opening more)
 opening_first rules (Named size count) more is =
     let header = header_text rules size count in
-    ap first_line (append_assoc header (10 ∷ []) more) ∙ first_line-free header more (header_free rules size count is.few is.within)
+    ap first_line (append_assoc header (10 ∷ []) more) ∙ first_line-ended header more (header_free rules size count is.few is.within)
 opening_first rules (Based size base) more is =
     let head = base_head rules size in
     let lines = base_lines base in
     ap first_line (ap (λ (t : List ℕ). t ++ more) (base_text_is rules size base) ∙ append_assoc (head ++ 10 ∷ []) lines more ∙ append_assoc head (10 ∷ []) (lines ++ more))
-    ∙ first_line-free head (lines ++ more) (line_free (Head rules size) is.few)
+    ∙ first_line-ended head (lines ++ more) (line_free (Head rules size) is.few)
 
 -- a header is no head
 pub header_no_head : (r q : RuleSet) (size count names : ℕ) → header_text r size count ≡ base_head q names → ⊥

@@ -8,7 +8,7 @@ use Rattle.rule_machine.specs.declared.rules.RuleSet.{RuleSet}
 use Rattle.rule_machine.specs.Base.{Stand, base_of}
 use Rattle.rule_machine.specs.Tables.{table_of}
 use Rattle.line_text.specs.BaseText.{base_head, base_text}
-use Rattle.entry_grammar.specs.Lines.{first_line}
+use Rattle.byte_streams.specs.Lines.{first_line}
 use Rattle.entry_grammar.specs.BaseLines.{BreaksAt, IsShaped, base_lines}
 use Rattle.auditor.specs.declared.damage.Damage.TheVariants.{BadHeader, BadBase, NotALine}
 use Rattle.auditor.specs.declared.damage.JudgeFault.{JudgeFault}
@@ -21,7 +21,7 @@ use Rattle.auditor.specs.Reached.{IsMetBehind, IsMetFirst}
 use Rattle.auditor.specs.Replays.{AreSameUpTo, ArePartedAt, HasCutStart, IsAt, IsCompared, IsMetAt, IsPassed, IsUnended, Waits, Wants, base_wanted}
 use Rattle.auditor.proofs.Opened.{broken, nowhere}
 use Rattle.auditor.proofs.Reaching.{base_further, damaged, damaged_base, damaged_line, entry_further}
-use Rattle.auditor.proofs.Windows.{begins_less, begins_more, breaks_last, breaks_more, feeds_append, feeds_behind, first_line-more, no_line_no_feed, one_feed, part_more, same_end, same_whole}
+use Rattle.auditor.proofs.Windows.{begins_less, begins_more, breaks_last, breaks_more, feeds_append, feeds_behind, first_line-more, no_line_no_feed, one_feed, part_more, same_end, same_none, same_whole}
 
 -- ---- the beginning
 
@@ -121,13 +121,7 @@ wants_made old new rest begins w c = by w.before_it
     alike = subst (AreSameUpTo old.wanted.items rest) (sym w.same) (compared_alike old rest c)
 
     by : (old.wanted.items ≡ []) ⊎ (old.wanted.items ≡ new.wanted.items) → AreSameUpTo new.wanted.items rest new.same
-    by (inl none) =
-        let zero : new.same ≡ 0 = w.same ∙ none_same old rest c none in
-        record {
-          within = omega (arith, zero);
-          inside = omega (arith, zero);
-          alike = ap (λ (k : ℕ). take k new.wanted.items) zero ∙ sym (ap (λ (k : ℕ). take k rest) zero);
-        }
+    by (inl none) = same_none new.wanted.items rest new.same (w.same ∙ none_same old rest c none)
     by (inr same) = subst (λ (l : List ℕ). AreSameUpTo l rest new.same) same alike
 
 -- it is still the text of the base of where the replay is

@@ -3,7 +3,7 @@ use Rattle.std.proofs.Common.{◌≡◌, ℕ, ◌+◌, ◌≤◌, List, [], ◌�
 use Rattle.std.proofs.lemmas.List.Sums.{sum_by-append, sum_by-cons}
 use Rattle.rule_machine.specs.declared.event.Event.{Event}
 use Rattle.rule_machine.specs.declared.reply.Reply.{Reply}
-use Rattle.rule_machine.specs.declared.reply.Reply.TheVariants.{Accepted, Refused, Moves, Shown, EnabledAre, Pairs, Counts}
+use Rattle.rule_machine.specs.declared.reply.Reply.TheVariants.{Accepted}
 use Rattle.rule_machine.specs.declared.rules.RuleSet.{RuleSet}
 use Rattle.rule_machine.specs.declared.rules.RuleSet.TheVariants.{Hh, Manne}
 use Rattle.rule_machine.specs.State.{State, IsState}
@@ -25,12 +25,7 @@ moves_at epoch = epoch.moves
 
 moves_turn : (reply : Reply) (number : ℕ) (s : State) (epoch : Epoch) → sum_by moves_at (epochs_by reply number s epoch).0 + (epochs_by reply number s epoch).1.moves ≡ epoch.moves + moves_of reply
 moves_turn Accepted number s epoch = omega arith
-moves_turn (Refused refusal) number s epoch = omega arith
-moves_turn (Moves moves) number s epoch = omega arith
-moves_turn (Shown target) number s epoch = omega arith
-moves_turn (EnabledAre nodes) number s epoch = omega arith
-moves_turn (Pairs pairs) number s epoch = omega arith
-moves_turn (Counts counts) number s epoch = omega arith
+moves_turn reply number s epoch = omega arith
 
 moves_from : (number : ℕ) (epoch : Epoch) (path : List (Entry × State)) → sum_by moves_at (epochs_from number epoch path) ≡ epoch.moves + moves_in (log_of path)
 moves_from number epoch [] = omega arith
@@ -46,12 +41,7 @@ moves_from number epoch (step ∷ path) =
 
 cost_turn : (reply : Reply) (cost : ℕ) → sum_by paid_by (costs_by reply cost) ≡ cost_of cost reply
 cost_turn Accepted cost = omega arith
-cost_turn (Refused refusal) cost = refl
-cost_turn (Moves moves) cost = refl
-cost_turn (Shown target) cost = refl
-cost_turn (EnabledAre nodes) cost = refl
-cost_turn (Pairs pairs) cost = refl
-cost_turn (Counts counts) cost = refl
+cost_turn reply cost = refl
 
 costs_sum : (cost : State → Event → ℕ) (s : State) (path : List (Entry × State)) → sum_by paid_by (costs_along cost s path) ≡ costs_of cost s path
 costs_sum cost s [] = refl

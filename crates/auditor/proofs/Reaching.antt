@@ -10,11 +10,11 @@ use Rattle.rule_machine.specs.Run.{Entry}
 use Rattle.rule_machine.specs.Tables.{table_of}
 use Rattle.line_text.specs.BaseText.{base_head, base_text}
 use Rattle.line_text.specs.EntryText.{header_text, header_line, entry_text}
-use Rattle.entry_grammar.specs.Lines.{first_line}
+use Rattle.byte_streams.specs.Lines.{first_line}
 use Rattle.entry_grammar.specs.Spelling.{SpellsHeader}
 use Rattle.entry_grammar.specs.BaseLines.{base_lines}
 use Rattle.entry_grammar.proofs.BaseOnce.{base_text_is}
-use Rattle.entry_grammar.proofs.Cutting.{first_line-splits}
+use Rattle.byte_streams.proofs.Cutting.{first_line-splits}
 use Rattle.auditor.specs.declared.damage.Damage.TheVariants.{BadHeader, NotALine, OutOfOrder, NotTheMachines, BadBase}
 use Rattle.auditor.specs.declared.damage.JudgeFault.{JudgeFault}
 use Rattle.auditor.specs.declared.damage.JudgeFault.TheVariants.{Damaged, Memory}
@@ -143,17 +143,21 @@ base_further rules size p rest behind base few is splits = record {
 
 -- ---- the end, and damage
 
+-- where nothing is left, all of a text is the transcript that it begins with
+pub all_good : (bytes : List ℕ) (rules : RuleSet) (log : List Part) (end : Stand) (rest : List ℕ) (f : Follows bytes rules log end rest) → rest ≡ [] → IsTranscript bytes rules f.opening log end
+all_good bytes rules log end rest f none =
+    let same : bytes ≡ f.good = f.splits ∙ ap (λ (z : List ℕ). f.good ++ z) none ∙ append-nil f.good in
+    subst (λ (b : List ℕ). IsTranscript b rules f.opening log end) (sym same) f.transcript
+
 pub reached_end : (bytes : List ℕ) (rules : RuleSet) (size : ℕ) (p : Position) (rest : List ℕ) → IsReached bytes rules size p rest → rest ≡ [] → IsAccepted bytes p.counted
-reached_end bytes rules size p rest r none =
-    let same : bytes ≡ r.follows.good = r.follows.splits ∙ ap (λ (z : List ℕ). r.follows.good ++ z) none ∙ append-nil r.follows.good in
-    record {
-      rules = rules;
-      opening = r.follows.opening;
-      log = r.log;
-      end = stand_of p;
-      transcript = subst (λ (b : List ℕ). IsTranscript b rules r.follows.opening r.log (stand_of p)) (sym same) r.follows.transcript;
-      counts = r.counts;
-    }
+reached_end bytes rules size p rest r none = record {
+  rules = rules;
+  opening = r.follows.opening;
+  log = r.log;
+  end = stand_of p;
+  transcript = all_good bytes rules r.log (stand_of p) rest r.follows none;
+  counts = r.counts;
+}
 
 abbrev beginning : (bytes : List ℕ) (rules : RuleSet) (size : ℕ) (p : Position) (rest : List ℕ) → IsReached bytes rules size p rest → Beginning bytes
 beginning bytes rules size p rest r = record { rules = rules; log = r.log; end = stand_of p; rest = rest; follows = r.follows }

@@ -5,7 +5,7 @@ use Rattle.rule_machine.specs.declared.base.Base.{Base}
 use Rattle.rule_machine.specs.declared.base.Start.{Start}
 use Rattle.rule_machine.specs.declared.event.Event.{Event}
 use Rattle.rule_machine.specs.declared.reply.Reply.{Reply}
-use Rattle.rule_machine.specs.declared.reply.Reply.TheVariants.{Accepted, Refused, Moves, Shown, EnabledAre, Pairs, Counts}
+use Rattle.rule_machine.specs.declared.reply.Reply.TheVariants.{Accepted}
 use Rattle.rule_machine.specs.declared.rules.RuleSet.{RuleSet}
 use Rattle.rule_machine.specs.State.{State}
 use Rattle.rule_machine.specs.RuleTable.{RuleTable}
@@ -94,21 +94,11 @@ costs_more cost start (first ∷ path) step =
 
 rows_over : (reply : Reply) (number : ℕ) (s : State) (cost : Option ℕ) (row : CostedEpoch) → epochs_in (rows_by reply number s cost row).0 ≡ (epochs_by reply number s row.epoch).0
 rows_over Accepted number s cost row = refl
-rows_over (Refused refusal) number s cost row = refl
-rows_over (Moves moves) number s cost row = refl
-rows_over (Shown target) number s cost row = refl
-rows_over (EnabledAre nodes) number s cost row = refl
-rows_over (Pairs pairs) number s cost row = refl
-rows_over (Counts counts) number s cost row = refl
+rows_over reply number s cost row = refl
 
 row_next : (reply : Reply) (number : ℕ) (s : State) (cost : Option ℕ) (row : CostedEpoch) → (rows_by reply number s cost row).1.epoch ≡ (epochs_by reply number s row.epoch).1
 row_next Accepted number s cost row = refl
-row_next (Refused refusal) number s cost row = refl
-row_next (Moves moves) number s cost row = refl
-row_next (Shown target) number s cost row = refl
-row_next (EnabledAre nodes) number s cost row = refl
-row_next (Pairs pairs) number s cost row = refl
-row_next (Counts counts) number s cost row = refl
+row_next reply number s cost row = refl
 
 costs_last : (past : List CostedEpoch) (row : CostedEpoch) → costs_in (past ++ row ∷ []) ≡ costs_in past ++ row.cost ∷ []
 costs_last past row = map-append (λ (x : CostedEpoch). x.cost) past (row ∷ [])
@@ -127,13 +117,7 @@ rows_cost : (reply : Reply) (number : ℕ) (s : State) (cost : Option ℕ) (paid
 rows_cost Accepted number s cost paid past row told =
     costs_last (past ++ row ∷ []) (record { epoch = epoch_at number s; cost = cost })
     ∙ ap (λ (c : Option ℕ). costs_in (past ++ row ∷ []) ++ c ∷ []) (told refl)
-rows_cost (Refused refusal) number s cost paid past row told = costs_same past row row refl
-rows_cost (Moves moves) number s cost paid past row told =
-    costs_same past row (record row { epoch = (epochs_by (Moves moves) number s row.epoch).1 }) refl
-rows_cost (Shown target) number s cost paid past row told = costs_same past row row refl
-rows_cost (EnabledAre nodes) number s cost paid past row told = costs_same past row row refl
-rows_cost (Pairs pairs) number s cost paid past row told = costs_same past row row refl
-rows_cost (Counts counts) number s cost paid past row told = costs_same past row row refl
+rows_cost reply number s cost paid past row told = costs_same past row (rows_by reply number s cost row).1 refl
 
 -- ---- along a run
 

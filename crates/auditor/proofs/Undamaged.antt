@@ -1,6 +1,6 @@
 -- A text without a damage cannot fail to be a transcript.
 use Rattle.std.proofs.Common.{◌≡◌, ◌≢◌, ℕ, zero, suc, ◌+◌, ◌≤◌, ◌==◌, Bool, true, false, ◌⊎◌, inl, inr, List, [], ◌∷◌, ◌++◌, Option, None, Some, length, refl, sym, ap, subst, ◌∙◌, arith, eqb-true}
-use Rattle.std.proofs.lemmas.List.{append-nil, length-append, nil_from_length}
+use Rattle.std.proofs.lemmas.List.{nil_from_length}
 use Rattle.rule_machine.specs.declared.rules.RuleSet.{RuleSet}
 use Rattle.rule_machine.specs.State.{State}
 use Rattle.rule_machine.specs.Base.{Part, Told, Kept, Stand, base_of, entries_in}
@@ -8,21 +8,21 @@ use Rattle.rule_machine.specs.Run.{Entry, beginning_with}
 use Rattle.rule_machine.specs.Answer.{Answers, spent_after}
 use Rattle.rule_machine.specs.Tables.{table_of}
 use Rattle.line_text.specs.BaseText.{base_head, base_text}
-use Rattle.entry_grammar.specs.Lines.{first_line}
+use Rattle.byte_streams.specs.Lines.{first_line}
 use Rattle.entry_grammar.specs.Spelling.{SpellsEntry, SpellsHeader}
-use Rattle.entry_grammar.proofs.Cutting.{first_line-splits}
+use Rattle.byte_streams.proofs.Cutting.{first_line-splits}
 use Rattle.entry_grammar.proofs.Free.{cons_parts}
 use Rattle.auditor.specs.declared.damage.Damage.{Damage}
 use Rattle.auditor.specs.declared.damage.Damage.TheVariants.{BadHeader, NotALine, OutOfOrder, NotTheMachines, BadBase}
 use Rattle.auditor.specs.declared.summary.Summary.{Summary}
 use Rattle.auditor.specs.Parts.{Named, Based, Opens, size_of}
-use Rattle.auditor.specs.Transcript.{Comes, IsTranscript, epoch_count, move_count}
+use Rattle.auditor.specs.Transcript.{Comes, epoch_count, move_count}
 use Rattle.auditor.specs.Damage.{Beginning, BeginsBase, HasBadHeader, HasNoEntry, IsDamage, Parting, SpellsNoHead, SpellsNoHeader, line_feeds}
 use Rattle.auditor.specs.Accepted.{IsAccepted}
 use Rattle.auditor.proofs.Steps.{follows_more}
-use Rattle.auditor.proofs.Chains.{entry_line_is, part_some}
+use Rattle.auditor.proofs.Chains.{comes_shorter, entry_line_is}
 use Rattle.auditor.proofs.Bases.{base_or_breaks}
-use Rattle.auditor.proofs.Reaching.{opened_follows, header_splits, base_splits}
+use Rattle.auditor.proofs.Reaching.{all_good, opened_follows, header_splits, base_splits}
 use Rattle.auditor.proofs.Opened.{broken, nowhere}
 
 -- ---- a text goes on with another, or parts from it
@@ -90,15 +90,13 @@ record Neither (bytes : List ℕ) : Type 0 where
 -- something is left, since what there is would be a transcript
 left : (bytes : List ℕ) (at : Beginning bytes) → Neither bytes → at.rest ≢ []
 left bytes at neither none =
-    let f = at.follows in
-    let all : bytes ≡ f.good = f.splits ∙ ap (λ (z : List ℕ). f.good ++ z) none ∙ append-nil f.good in
     let entries = entries_in at.log in
     neither.refused (record { entries = length entries; epochs = epoch_count entries; moves = move_count entries }) (record {
       rules = at.rules;
-      opening = f.opening;
+      opening = at.follows.opening;
       log = at.log;
       end = at.end;
-      transcript = subst (λ (b : List ℕ). IsTranscript b at.rules f.opening at.log at.end) (sym all) f.transcript;
+      transcript = all_good bytes at.rules at.log at.end at.rest at.follows none;
       counts = record { entries = refl; epochs = refl; moves = refl };
     })
 
@@ -128,17 +126,6 @@ no_other_reply bytes line more at entry neither cut spells never =
     })
 
 -- ---- what comes next
-
--- behind a part less is left
-shorter : (text behind rest : List ℕ) (fuel : ℕ) → rest ≡ text ++ behind → (text ++ [] ≡ [] → ⊥) → length rest ≤ suc fuel → length behind ≤ fuel
-shorter [] behind rest fuel is some few = absurd (some refl)
-shorter (b ∷ text) behind rest fuel is some few =
-    let l : length rest ≡ length (b ∷ text) + length behind = ap length is ∙ length-append (b ∷ text) behind in
-    omega (arith, l, few)
-
-comes_shorter : (rules : RuleSet) (size : ℕ) (at : Stand) (rest : List ℕ) (part : Part) (next : Stand) (behind : List ℕ) (fuel : ℕ) → Comes rules size at rest part next behind → length rest ≤ suc fuel → length behind ≤ fuel
-comes_shorter rules size at rest part next behind fuel comes few =
-    shorter _ behind rest fuel comes.is (part_some rules size at.count part []) few
 
 abbrev told_to : State → Stand → Entry → Stand
 told_to s end entry = record { moment = record { state = s; spent = spent_after end.moment.spent entry.1 }; count = end.count + 1 }
@@ -195,7 +182,7 @@ walk (suc fuel) bytes at few neither =
       end = next;
       rest = behind;
       follows = follows_more bytes at.rest behind at.rules at.log at.end next part at.follows comes;
-    }) (comes_shorter at.rules (size_of at.follows.opening) at.end at.rest part next behind fuel comes few) neither)
+    }) (let less = comes_shorter at.rules (size_of at.follows.opening) at.end at.rest part next behind comes in omega (arith, less, few)) neither)
 
 -- ---- how it begins
 

@@ -3,20 +3,19 @@ use Rattle.std.proofs.Common.{◌≡◌, ℕ, ◌+◌, ◌<◌, ◌≤◌, ◌==
 use Rattle.std.specs.Prelude.{codes}
 use Rattle.std.specs.List.{AllByRecursion}
 use Rattle.std.proofs.lemmas.List.{append_cancel_right, get_or_append_left, length-append, take-append-drop, take-append-le, take_all}
-use Rattle.std.proofs.lemmas.Option.{none-some, same_Some}
+use Rattle.std.proofs.lemmas.Option.{same_Some}
 use Rattle.line_text.specs.Words.{ended}
 use Rattle.entry_grammar.specs.declared.base_line.BaseLine.{BaseLine}
-use Rattle.entry_grammar.specs.Lines.{first_line, onto_line}
+use Rattle.byte_streams.specs.Lines.{first_line}
 use Rattle.entry_grammar.specs.Reading.{IsFree}
 use Rattle.entry_grammar.specs.Spelling.{IsBaseLine, base_line_text}
 use Rattle.entry_grammar.specs.BaseLines.{BreaksAt, MayFollow}
-use Rattle.entry_grammar.proofs.Cutting.{first_line-splits}
+use Rattle.byte_streams.proofs.Cutting.{first_line-ended, first_line-is, first_line-splits, first_line-then, no_first_line}
 use Rattle.entry_grammar.proofs.FirstLines.{line_free}
 use Rattle.entry_grammar.proofs.Free.{cons_parts, free_by}
 use Rattle.auditor.specs.Damage.{BeginsBase, line_feeds}
 use Rattle.auditor.specs.Replays.{AreSameUpTo, ArePartedAt}
 use Rattle.auditor.proofs.Counted.{PartAt, feeds_few, feeds_first, part_inside}
-use Rattle.auditor.proofs.Openings.{first_line-free}
 
 -- ---- line feeds
 
@@ -28,9 +27,6 @@ feeds_append (x ∷ a) b =
     let rest = feeds_append a b in
     omega (arith, whole, own, rest)
 
-feed_other : (b : ℕ) (bytes : List ℕ) → (b == 10) ≡ false → line_feeds (b ∷ bytes) ≡ line_feeds bytes
-feed_other b bytes other = ap (λ (v : Bool). if v then line_feeds bytes + 1 else line_feeds bytes) other
-
 pub free_feeds : (bytes : List ℕ) → IsFree 10 bytes → line_feeds bytes ≡ 0
 free_feeds [] free = refl
 free_feeds (b ∷ bytes) free =
@@ -39,49 +35,19 @@ free_feeds (b ∷ bytes) free =
 
 -- ---- the first line
 
-onto_more : (b : ℕ) (bs more : List ℕ) (found : Option (List ℕ × List ℕ)) (line rest : List ℕ) → ((l r : List ℕ) → found ≡ Some (l, r) → first_line (bs ++ more) ≡ Some (l, r ++ more)) → onto_line b found ≡ Some (line, rest) → onto_line b (first_line (bs ++ more)) ≡ Some (line, rest ++ more)
-onto_more b bs more None line rest longer e = absurd (none-some (line, rest) e)
-onto_more b bs more (Some (l, r)) line rest longer e =
-    ap (onto_line b) (longer l r refl) ∙ ap (λ (p : List ℕ × List ℕ). Some (p.0, p.1 ++ more)) (same_Some (b ∷ l, r) (line, rest) e)
-
 -- it is the first line of a longer text too
 pub first_line-more : (bs more line rest : List ℕ) → first_line bs ≡ Some (line, rest) → first_line (bs ++ more) ≡ Some (line, rest ++ more)
-first_line-more [] more line rest e = absurd (none-some (line, rest) e)
-first_line-more (b ∷ bs) more line rest e =
-    let P : Bool → Type 0 = λ v. ((if v then Some ([], bs) else onto_line b (first_line bs)) ≡ Some (line, rest) → (if v then Some ([], bs ++ more) else onto_line b (first_line (bs ++ more))) ≡ Some (line, rest ++ more)) in
-    (elim (b == 10) as P [
-      | true ↦ (λ same. ap (λ (p : List ℕ × List ℕ). Some (p.0, p.1 ++ more)) (same_Some ([], bs) (line, rest) same))
-      | false ↦ (λ same. onto_more b bs more (first_line bs) line rest (λ l r found. first_line-more bs more l r found) same)
-    ]) e
-
-onto_none : (b : ℕ) (found : Option (List ℕ × List ℕ)) → onto_line b found ≡ None → found ≡ None
-onto_none b None e = refl
-onto_none b (Some p) e = absurd (none-some (b ∷ p.0, p.1) (sym e))
+first_line-more bs more line rest e =
+    let first = first_line-is bs line rest e in
+    first_line-then (bs ++ more) line (rest ++ more) (first.0, ap (λ (l : List ℕ). l ++ more) first.1 ∙ append_assoc line (10 ∷ rest) more)
 
 -- without a first line no line ends
 pub no_line_no_feed : (bs : List ℕ) → first_line bs ≡ None → line_feeds bs ≡ 0
-no_line_no_feed [] e = refl
-no_line_no_feed (b ∷ bs) e =
-    let P : Bool → Type 0 = λ v. ((if v then Some ([], bs) else onto_line b (first_line bs)) ≡ None → (if v then line_feeds bs + 1 else line_feeds bs) ≡ 0) in
-    (elim (b == 10) as P [
-      | true ↦ (λ same. absurd (none-some ([], bs) (sym same)))
-      | false ↦ (λ same. no_line_no_feed bs (onto_none b (first_line bs) same))
-    ]) e
-
-onto_feedless : (b : ℕ) (found : Option (List ℕ × List ℕ)) (line rest : List ℕ) → (b == 10) ≡ false → ((l r : List ℕ) → found ≡ Some (l, r) → line_feeds l ≡ 0) → onto_line b found ≡ Some (line, rest) → line_feeds line ≡ 0
-onto_feedless b None line rest other none e = absurd (none-some (line, rest) e)
-onto_feedless b (Some (l, r)) line rest other none e =
-    ap (λ (p : List ℕ × List ℕ). line_feeds p.0) (sym (same_Some (b ∷ l, r) (line, rest) e)) ∙ feed_other b l other ∙ none l r refl
+no_line_no_feed bs e = free_feeds bs (no_first_line bs e)
 
 -- and a first line has no line feed
 pub line_no_feed : (bs line rest : List ℕ) → first_line bs ≡ Some (line, rest) → line_feeds line ≡ 0
-line_no_feed [] line rest e = absurd (none-some (line, rest) e)
-line_no_feed (b ∷ bs) line rest e =
-    let P : Bool → Type 0 = λ v. (((b == 10) ≡ v) → (if v then Some ([], bs) else onto_line b (first_line bs)) ≡ Some (line, rest) → line_feeds line ≡ 0) in
-    (elim (b == 10) as P [
-      | true ↦ (λ lf same. ap (λ (p : List ℕ × List ℕ). line_feeds p.0) (sym (same_Some ([], bs) (line, rest) same)))
-      | false ↦ (λ lf same. onto_feedless b (first_line bs) line rest lf (λ l r found. line_no_feed bs l r found) same)
-    ]) refl e
+line_no_feed bs line rest e = free_feeds line (first_line-is bs line rest e).0
 
 -- one line ends before what follows the first
 pub one_feed : (rest line behind text : List ℕ) → first_line rest ≡ Some (line, behind) → rest ≡ text ++ behind → line_feeds text ≡ 1
@@ -156,7 +122,7 @@ broken_more bytes more line behind k b cut = record {
     stops : (found : BaseLine) (m : List ℕ) → IsBaseLine found → MayFollow (b.lines ++ found ∷ []) → b.rest ++ more ≡ base_line_text found ++ 10 ∷ m → ⊥
     stops found m fits follows e =
         let text = base_line_text found in
-        let same : (line, behind ++ more) ≡ (text, m) = same_Some (line, behind ++ more) (text, m) (sym (first_line-more b.rest more line behind cut) ∙ ap first_line e ∙ first_line-free text m (line_free found fits)) in
+        let same : (line, behind ++ more) ≡ (text, m) = same_Some (line, behind ++ more) (text, m) (sym (first_line-more b.rest more line behind cut) ∙ ap first_line e ∙ first_line-ended text m (line_free found fits)) in
         b.stops found behind fits follows (first_line-splits b.rest line behind cut ∙ ap (λ (p : List ℕ × List ℕ). p.0 ++ 10 ∷ behind) same)
 
 -- where the line is whole, they do so in a longer text too

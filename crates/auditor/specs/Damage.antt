@@ -8,7 +8,7 @@ use Rattle.rule_machine.specs.Run.{Entry}
 use Rattle.rule_machine.specs.Answer.{Answers}
 use Rattle.rule_machine.specs.Tables.{table_of}
 use Rattle.line_text.specs.BaseText.{base_head, base_text}
-use Rattle.entry_grammar.specs.Lines.{first_line}
+use Rattle.byte_streams.specs.Lines.{first_line}
 use Rattle.entry_grammar.specs.Spelling.{SpellsEntry, SpellsHeader}
 use Rattle.entry_grammar.specs.BaseLines.{IsShaped, BreaksAt, base_lines}
 use Rattle.auditor.specs.declared.damage.Damage.{Damage}

@@ -3,7 +3,7 @@ use Rattle.std.specs.Prelude.{◌≡◌, ◌≢◌, ℕ, ◌+◌, ◌<◌, ◌�
 use Rattle.rule_machine.specs.declared.rules.RuleSet.{RuleSet}
 use Rattle.rule_machine.specs.Base.{base_of}
 use Rattle.line_text.specs.BaseText.{base_head, base_text}
-use Rattle.entry_grammar.specs.Lines.{first_line}
+use Rattle.byte_streams.specs.Lines.{first_line}
 use Rattle.entry_grammar.specs.BaseLines.{BreaksAt}
 use Rattle.auditor.specs.declared.damage.JudgeFault.{JudgeFault}
 use Rattle.auditor.specs.declared.judging.Trial.{Trial}

@@ -11,7 +11,8 @@ ghost use Rattle.auditor.specs.Verdict.{IsJudged};
 use crate::check::Audit;
 use crate::replay::Replay;
 use crate::{CostedEpoch, Epoch, JudgeFault, Summary};
-use entry_grammar::{EntryFault, read_entry, split_line};
+use byte_streams::split_line;
+use entry_grammar::{EntryFault, read_entry};
 use rule_machine::{Event, RuleSet, Start, Want};
 use std::alloc::{AllocError, Global};
 

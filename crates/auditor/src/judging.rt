@@ -6,7 +6,7 @@ ghost use Rattle.auditor.specs.Verdict.{IsJudged};
 
 use crate::replay::Replay;
 use crate::{JudgeFault, Summary};
-use entry_grammar::split_line;
+use byte_streams::split_line;
 use std::alloc::Global;
 
 /// So many bytes a transcript may have: that many lines can be counted.

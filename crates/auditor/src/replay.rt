@@ -4,7 +4,7 @@ ghost use Rattle.std.specs.Prelude.{◌≡◌, ◌≢◌, ◌≤◌, ◌++◌, �
 ghost use Rattle.rule_machine.specs.declared.rules.RuleSet.{RuleSet as Rules};
 ghost use Rattle.entry_grammar.specs.declared.base_line.BaseLine.TheVariants.{Head};
 ghost use Rattle.line_text.specs.BaseText.{base_head};
-ghost use Rattle.entry_grammar.specs.Lines.{first_line};
+ghost use Rattle.byte_streams.specs.Lines.{first_line};
 ghost use Rattle.entry_grammar.specs.Spelling.{SpellsHeader};
 ghost use Rattle.auditor.specs.declared.damage.JudgeFault.TheVariants.{Damaged};
 ghost use Rattle.auditor.specs.Damage.{BeginsBase, SpellsNoHead};
@@ -14,7 +14,8 @@ ghost use Rattle.auditor.specs.Replays.{Begins, HasCutStart, IsAt, IsCompared, I
 use crate::check::Audit;
 use crate::lines::{common_len, line_feeds, lines_before};
 use crate::{Damage, JudgeFault, Summary};
-use entry_grammar::{BaseFault, BaseLine, read_base, read_base_line, read_header, split_line};
+use byte_streams::split_line;
+use entry_grammar::{BaseFault, BaseLine, read_base, read_base_line, read_header};
 use judge::Judge;
 use line_text::{after, put_base};
 use log_entry::MAX_ENTRIES;

@@ -14,12 +14,14 @@
 #![tactic(auto)]
 
 mod input_fault;
+mod lines;
 mod output_fault;
 mod reads;
 mod whole;
 mod writes;
 
 pub use input_fault::InputFault;
+pub use lines::split_line;
 pub use output_fault::OutputFault;
 pub use reads::{Reads, chunk_of};
 pub use whole::read_whole;

@@ -9,45 +9,45 @@ use Rattle.rule_machine.specs.declared.base.Place.{Place as PlaceKept}
 use Rattle.line_text.specs.Words.{ended}
 use Rattle.line_text.specs.BaseText.{place_text, link_text}
 use Rattle.entry_grammar.specs.declared.base_line.BaseLine.{BaseLine}
-use Rattle.entry_grammar.specs.declared.base_line.BaseLine.TheVariants.{Head, Base, Place, Link}
+use Rattle.entry_grammar.specs.declared.base_line.BaseLine.TheVariants.{Base, Place, Link}
 use Rattle.entry_grammar.specs.Spelling.{IsPair, IsBaseLine, base_line_text}
 use Rattle.entry_grammar.specs.Reading.{AreCounts, Starts}
 use Rattle.entry_grammar.specs.BaseLines.{IsAbove, NodesRise, EdgesRise, IsPlace, place_line, EdgesFollow, NodesFollow, MayFollow, BreaksAt}
 use Rattle.entry_grammar.specs.BaseParts.{numbers_text, last_node, last_edge, NodesRead, NodesBreak, EdgesBreak}
 
-abbrev place_lines : List PlaceKept → List BaseLine
+abbrev pub place_lines : List PlaceKept → List BaseLine
 place_lines places = map place_line places
 
-abbrev edge_lines : List (ℕ × ℕ) → List BaseLine
+abbrev pub edge_lines : List (ℕ × ℕ) → List BaseLine
 edge_lines edges = map (λ edge. Link edge) edges
 
 -- their texts
 
-ended_places : (places : List PlaceKept) → ended base_line_text (place_lines places) ≡ ended place_text places
+pub ended_places : (places : List PlaceKept) → ended base_line_text (place_lines places) ≡ ended place_text places
 ended_places [] = refl
 ended_places (place ∷ places) = ap (λ (z : List ℕ). (place_text place ++ 10 ∷ []) ++ z) (ended_places places)
 
-ended_edges : (edges : List (ℕ × ℕ)) → ended base_line_text (edge_lines edges) ≡ ended link_text edges
+pub ended_edges : (edges : List (ℕ × ℕ)) → ended base_line_text (edge_lines edges) ≡ ended link_text edges
 ended_edges [] = refl
 ended_edges (edge ∷ edges) = ap (λ (z : List ℕ). (link_text edge ++ 10 ∷ []) ++ z) (ended_edges edges)
 
 -- they fit
 
-fit_places : (places : List PlaceKept) → AllByRecursion IsPlace places → AllByRecursion IsBaseLine (place_lines places)
+pub fit_places : (places : List PlaceKept) → AllByRecursion IsPlace places → AllByRecursion IsBaseLine (place_lines places)
 fit_places [] f = tt
 fit_places (place ∷ places) f = (f.0, fit_places places f.1)
 
-fit_edges : (edges : List (ℕ × ℕ)) → AllByRecursion IsPair edges → AllByRecursion IsBaseLine (edge_lines edges)
+pub fit_edges : (edges : List (ℕ × ℕ)) → AllByRecursion IsPair edges → AllByRecursion IsBaseLine (edge_lines edges)
 fit_edges [] f = tt
 fit_edges (edge ∷ edges) f = (f.0, fit_edges edges f.1)
 
-fit_both : (xs ys : List BaseLine) → AllByRecursion IsBaseLine xs → AllByRecursion IsBaseLine ys → AllByRecursion IsBaseLine (xs ++ ys)
+pub fit_both : (xs ys : List BaseLine) → AllByRecursion IsBaseLine xs → AllByRecursion IsBaseLine ys → AllByRecursion IsBaseLine (xs ++ ys)
 fit_both [] ys f g = g
 fit_both (x ∷ xs) ys f g = (f.0, fit_both xs ys f.1 g)
 
 -- they follow, as far as they go
 
-edges_follow : (left : ℕ) (last : ℕ × ℕ) (edges : List (ℕ × ℕ)) → length edges ≤ left → EdgesRise last edges → EdgesFollow left last (edge_lines edges)
+pub edges_follow : (left : ℕ) (last : ℕ × ℕ) (edges : List (ℕ × ℕ)) → length edges ≤ left → EdgesRise last edges → EdgesFollow left last (edge_lines edges)
 edges_follow left last [] h r = tt
 edges_follow zero last (edge ∷ edges) h r = absurd (omega (arith, h))
 edges_follow (suc left) last (edge ∷ edges) h r = (r.0, edges_follow left edge edges (omega (arith, h)) r.1)
@@ -61,7 +61,7 @@ nodes_follow left edges last [] h r = tt
 nodes_follow zero edges last (place ∷ places) h r = absurd (omega (arith, h))
 nodes_follow (suc left) edges last (place ∷ places) h r = (r.0, nodes_follow left edges place.node places (omega (arith, h)) r.1)
 
-all_follow : (left edges last : ℕ) (places : List PlaceKept) (lines : List BaseLine) → length places ≡ left → NodesRise last places → EdgesFollow edges (0, 0) lines → NodesFollow left edges last (place_lines places ++ lines)
+pub all_follow : (left edges last : ℕ) (places : List PlaceKept) (lines : List BaseLine) → length places ≡ left → NodesRise last places → EdgesFollow edges (0, 0) lines → NodesFollow left edges last (place_lines places ++ lines)
 all_follow zero edges last [] lines h r f = nodes_done edges last lines f
 all_follow (suc left) edges last [] lines h r f = absurd (omega (arith, h))
 all_follow zero edges last (place ∷ places) lines h r f = absurd (omega (arith, h))
@@ -72,17 +72,13 @@ all_follow (suc left) edges last (place ∷ places) lines h r f = (r.0, all_foll
 node_comes : (left edges last : ℕ) (places : List PlaceKept) (line : BaseLine) → length places < left → NodesFollow left edges last (place_lines places ++ line ∷ []) → (place : PlaceKept) × (line ≡ place_line place) × (last_node last places < place.node)
 node_comes zero edges last places line h f = absurd (omega (arith, h))
 node_comes (suc left) edges last [] (Place node target flagged) h f = (record { node = node; target = target; flagged = flagged }, refl, f.0)
-node_comes (suc left) edges last [] (Head rules size) h f = absurd f
-node_comes (suc left) edges last [] (Base number spent nodes many) h f = absurd f
-node_comes (suc left) edges last [] (Link edge) h f = absurd f
+node_comes (suc left) edges last [] line h f = absurd f
 node_comes (suc left) edges last (place ∷ places) line h f = node_comes left edges place.node places line (omega (arith, h)) f.1
 
 edge_comes : (left : ℕ) (last : ℕ × ℕ) (edges : List (ℕ × ℕ)) (line : BaseLine) → length edges < left → EdgesFollow left last (edge_lines edges ++ line ∷ []) → (edge : ℕ × ℕ) × (line ≡ Link edge) × IsAbove (last_edge last edges) edge
 edge_comes zero last edges line h f = absurd (omega (arith, h))
 edge_comes (suc left) last [] (Link edge) h f = (edge, refl, f.0)
-edge_comes (suc left) last [] (Head rules size) h f = absurd f
-edge_comes (suc left) last [] (Base number spent nodes many) h f = absurd f
-edge_comes (suc left) last [] (Place node target flagged) h f = absurd f
+edge_comes (suc left) last [] line h f = absurd f
 edge_comes (suc left) last (edge ∷ edges) line h f = edge_comes left edge edges line (omega (arith, h)) f.1
 
 nodes_undone : (edges last : ℕ) (lines : List BaseLine) → NodesFollow zero edges last lines → EdgesFollow edges (0, 0) lines
@@ -99,9 +95,7 @@ past_nodes (suc left) edges last (place ∷ places) lines h f = past_nodes left 
 
 no_first : (bytes : List ℕ) → ((q : ℕ × ℕ × ℕ × ℕ) (more : List ℕ) → Starts AreCounts numbers_text bytes q more → ⊥) → (line : BaseLine) (more : List ℕ) → IsBaseLine line → MayFollow (line ∷ []) → bytes ≡ base_line_text line ++ 10 ∷ more → ⊥
 no_first bytes none (Base number spent nodes edges) more f m e = none (number, spent, nodes, edges) more (record { fits = f; is = e })
-no_first bytes none (Head rules size) more f m e = m
-no_first bytes none (Place node target flagged) more f m e = m
-no_first bytes none (Link edge) more f m e = m
+no_first bytes none line more f m e = m
 
 -- it is that of the numbers
 pub first_breaks : (bytes : List ℕ) → ((q : ℕ × ℕ × ℕ × ℕ) (more : List ℕ) → Starts AreCounts numbers_text bytes q more → ⊥) → BreaksAt bytes 1

@@ -1,5 +1,5 @@
 -- The lines of a base.
-use Rattle.std.proofs.Common.{◌≡◌, ℕ, ◌≤◌, Bool, true, false, List, [], ◌∷◌, ◌++◌, None, Some, refl, sym, ap, ap₂, ◌∙◌, append_assoc, arith}
+use Rattle.std.proofs.Common.{◌≡◌, ℕ, ◌≤◌, Bool, List, [], ◌∷◌, ◌++◌, None, Some, get_or, refl, sym, ap, ap₂, ◌∙◌, append_assoc, arith}
 use Rattle.std.specs.Prelude.{codes, IfSome, Option}
 use Rattle.std.proofs.lemmas.List.{append-nil, append_cancel_left}
 use Rattle.std.proofs.lemmas.Fmt.{decimal_injective}
@@ -14,11 +14,11 @@ use Rattle.entry_grammar.specs.declared.base_line.BaseLine.{BaseLine}
 use Rattle.entry_grammar.specs.declared.base_line.BaseLine.TheVariants.{Head, Base, Place, Link}
 use Rattle.entry_grammar.specs.Spelling.{SpellsBaseLine}
 use Rattle.entry_grammar.specs.Reading.{IsFree, CutAt, FieldThen, AreCounts, rules_text, registers_text}
-use Rattle.entry_grammar.proofs.Free.{cons_parts, cut_once, free_by, free_name}
+use Rattle.entry_grammar.proofs.Free.{cut_once, free_by, free_name}
 use Rattle.entry_grammar.proofs.Headers.{rules_free, rules_once}
 use Rattle.entry_grammar.proofs.CountsOnce.{behind, field_once}
 use Rattle.entry_grammar.proofs.Marked.{marked_once, name_once}
-use Rattle.entry_grammar.proofs.TokensOnce.{target_once}
+use Rattle.line_text.proofs.EventsOnce.{bool_once, target_once}
 
 -- the rules and the names are cut at the space between them
 pub rules_cut : (bytes : List ℕ) (rules : RuleSet) (size : ℕ) → bytes ≡ rules_text rules size → CutAt 32 bytes (rules_word rules) (number_text size)
@@ -45,27 +45,25 @@ ends_is a b = append_assoc (number_text a) (32 ∷ []) (number_text b)
 pub head_is : (rules : RuleSet) (size : ℕ) → rules_word rules ++ codes " " ++ number_text size ≡ rules_text rules size
 head_is rules size = append_assoc (rules_word rules) (32 ∷ []) (number_text size)
 
+-- the first byte, which tells the four kinds of lines apart
+abbrev first_of : List ℕ → ℕ
+first_of line = get_or line 0 0
+
 -- a line that begins as one kind does is of no other
 pub no_place : (line rest : List ℕ) → line ≡ codes "node " ++ rest → ((p : ℕ × Option ℕ × Bool) → IsName p.0 × IfSome p.1 IsName → rest ≡ number_text p.0 ++ 32 ∷ registers_text p.1 p.2 → ⊥) → (found : BaseLine) → SpellsBaseLine line found → ⊥
-no_place line rest e none (Head rules size) h = let k : 110 ≡ 109 = (cons_parts 110 109 _ _ (sym e ∙ h.is)).0 in absurd (omega (arith, k))
-no_place line rest e none (Base number spent nodes edges) h = let k : 110 ≡ 98 = (cons_parts 110 98 _ _ (sym e ∙ h.is)).0 in absurd (omega (arith, k))
-no_place line rest e none (Link edge) h = let k : 110 ≡ 101 = (cons_parts 110 101 _ _ (sym e ∙ h.is)).0 in absurd (omega (arith, k))
 no_place line rest e none (Place node target flag) h =
     none (node, target, flag) h.fits (append_cancel_left (codes "node ") rest (number_text node ++ codes " " ++ target_text target ++ codes " " ++ bool_text flag) (sym e ∙ h.is) ∙ place_is node target flag)
+no_place line rest e none found h = absurd (omega (arith, ap first_of (sym e ∙ h.is)))
 
 pub no_base : (line rest : List ℕ) → line ≡ codes "base " ++ rest → ((q : ℕ × ℕ × ℕ × ℕ) → AreCounts q → rest ≡ joined field_text (base_fields q.0 q.1 q.2 q.3) → ⊥) → (found : BaseLine) → SpellsBaseLine line found → ⊥
-no_base line rest e none (Head rules size) h = let k : 98 ≡ 109 = (cons_parts 98 109 _ _ (sym e ∙ h.is)).0 in absurd (omega (arith, k))
-no_base line rest e none (Link edge) h = let k : 98 ≡ 101 = (cons_parts 98 101 _ _ (sym e ∙ h.is)).0 in absurd (omega (arith, k))
-no_base line rest e none (Place node target flag) h = let k : 98 ≡ 110 = (cons_parts 98 110 _ _ (sym e ∙ h.is)).0 in absurd (omega (arith, k))
 no_base line rest e none (Base number spent nodes edges) h =
     none (number, spent, nodes, edges) h.fits (append_cancel_left (codes "base ") rest (joined field_text (base_fields number spent nodes edges)) (sym e ∙ h.is))
+no_base line rest e none found h = absurd (omega (arith, ap first_of (sym e ∙ h.is)))
 
 pub no_head : (line rest : List ℕ) → line ≡ codes "matching2 " ++ rest → ((rules : RuleSet) (size : ℕ) → size ≤ 65535 → rest ≡ rules_text rules size → ⊥) → (found : BaseLine) → SpellsBaseLine line found → ⊥
-no_head line rest e none (Base number spent nodes edges) h = let k : 109 ≡ 98 = (cons_parts 109 98 _ _ (sym e ∙ h.is)).0 in absurd (omega (arith, k))
-no_head line rest e none (Link edge) h = let k : 109 ≡ 101 = (cons_parts 109 101 _ _ (sym e ∙ h.is)).0 in absurd (omega (arith, k))
-no_head line rest e none (Place node target flag) h = let k : 109 ≡ 110 = (cons_parts 109 110 _ _ (sym e ∙ h.is)).0 in absurd (omega (arith, k))
 no_head line rest e none (Head rules size) h =
     none rules size h.fits (append_cancel_left (codes "matching2 ") rest (rules_word rules ++ codes " " ++ number_text size) (sym e ∙ h.is) ∙ head_is rules size)
+no_head line rest e none found h = absurd (omega (arith, ap first_of (sym e ∙ h.is)))
 
 -- and one that begins as none does is of none
 pub no_line : (line : List ℕ) → ((rest : List ℕ) → line ≡ codes "node " ++ rest → ⊥) → ((rest : List ℕ) → line ≡ codes "edge " ++ rest → ⊥) → ((rest : List ℕ) → line ≡ codes "base " ++ rest → ⊥) → ((rest : List ℕ) → line ≡ codes "matching2 " ++ rest → ⊥) → (found : BaseLine) → SpellsBaseLine line found → ⊥
@@ -90,12 +88,6 @@ behind_nodes bytes n rest q f h e =
 
 -- ---- a line spells one
 
-flag_once : (v w : Bool) → bool_text v ≡ bool_text w → v ≡ w
-flag_once false false e = refl
-flag_once false true e = absurd (omega (arith, (cons_parts 48 49 [] [] e).0))
-flag_once true false e = absurd (omega (arith, (cons_parts 49 48 [] [] e).0))
-flag_once true true e = refl
-
 heads_once : (r q : RuleSet) (m n : ℕ) → m ≤ 65535 → n ≤ 65535 → rules_text r m ≡ rules_text q n → Head r m ≡ Head q n
 heads_once r q m n f g e =
     let p = cut_once 32 (rules_text r m) (rules_word r) (rules_word q) (number_text m) (number_text n) (rules_cut (rules_text r m) r m refl) (rules_cut (rules_text r m) q n e) in
@@ -105,7 +97,7 @@ places_once : (m n : ℕ) (v w : Option ℕ) (f g : Bool) → IsName m × IfSome
 places_once m n v w f g x y e =
     let name = marked_once 32 m n (registers_text v f) (registers_text w g) (λ h. omega (arith, h.0)) x.0 y.0 e in
     let p = cut_once 32 (registers_text v f) (target_text v) (target_text w) (bool_text f) (bool_text g) (registers_cut (registers_text v f) v f x.1 refl) (registers_cut (registers_text v f) w g y.1 name.1) in
-    ap (λ z. Place z v f) name.0 ∙ ap₂ (λ z b. Place n z b) (target_once v w x.1 y.1 p.0) (flag_once f g p.1)
+    ap (λ z. Place z v f) name.0 ∙ ap₂ (λ z b. Place n z b) (target_once v w x.1 y.1 p.0) (bool_once f g p.1)
 
 links_once : (p q : ℕ × ℕ) → IsPair p → IsPair q → number_text p.0 ++ 32 ∷ number_text p.1 ≡ number_text q.0 ++ 32 ∷ number_text q.1 → p ≡ q
 links_once p q f g e =
@@ -123,21 +115,10 @@ bases_once a b c d k l m n f g e =
 pub spells_base_line_once : (line : List ℕ) (a b : BaseLine) → SpellsBaseLine line a → SpellsBaseLine line b → a ≡ b
 spells_base_line_once line (Head rules size) (Head rules_b size_b) x y =
     heads_once rules rules_b size size_b x.fits y.fits (sym (head_is rules size) ∙ append_cancel_left (codes "matching2 ") (rules_word rules ++ codes " " ++ number_text size) (rules_word rules_b ++ codes " " ++ number_text size_b) (sym x.is ∙ y.is) ∙ head_is rules_b size_b)
-spells_base_line_once line (Head rules size) (Base number_b spent_b nodes_b edges_b) x y = absurd (omega (arith, (cons_parts 109 98 _ _ (sym x.is ∙ y.is)).0))
-spells_base_line_once line (Head rules size) (Place node_b target_b flag_b) x y = absurd (omega (arith, (cons_parts 109 110 _ _ (sym x.is ∙ y.is)).0))
-spells_base_line_once line (Head rules size) (Link edge_b) x y = absurd (omega (arith, (cons_parts 109 101 _ _ (sym x.is ∙ y.is)).0))
-spells_base_line_once line (Base number spent nodes edges) (Head rules_b size_b) x y = absurd (omega (arith, (cons_parts 98 109 _ _ (sym x.is ∙ y.is)).0))
 spells_base_line_once line (Base number spent nodes edges) (Base number_b spent_b nodes_b edges_b) x y =
     bases_once number spent nodes edges number_b spent_b nodes_b edges_b x.fits y.fits (append_cancel_left (codes "base ") (joined field_text (base_fields number spent nodes edges)) (joined field_text (base_fields number_b spent_b nodes_b edges_b)) (sym x.is ∙ y.is))
-spells_base_line_once line (Base number spent nodes edges) (Place node_b target_b flag_b) x y = absurd (omega (arith, (cons_parts 98 110 _ _ (sym x.is ∙ y.is)).0))
-spells_base_line_once line (Base number spent nodes edges) (Link edge_b) x y = absurd (omega (arith, (cons_parts 98 101 _ _ (sym x.is ∙ y.is)).0))
-spells_base_line_once line (Place node target flag) (Head rules_b size_b) x y = absurd (omega (arith, (cons_parts 110 109 _ _ (sym x.is ∙ y.is)).0))
-spells_base_line_once line (Place node target flag) (Base number_b spent_b nodes_b edges_b) x y = absurd (omega (arith, (cons_parts 110 98 _ _ (sym x.is ∙ y.is)).0))
 spells_base_line_once line (Place node target flag) (Place node_b target_b flag_b) x y =
     places_once node node_b target target_b flag flag_b x.fits y.fits (sym (place_is node target flag) ∙ append_cancel_left (codes "node ") (number_text node ++ codes " " ++ target_text target ++ codes " " ++ bool_text flag) (number_text node_b ++ codes " " ++ target_text target_b ++ codes " " ++ bool_text flag_b) (sym x.is ∙ y.is) ∙ place_is node_b target_b flag_b)
-spells_base_line_once line (Place node target flag) (Link edge_b) x y = absurd (omega (arith, (cons_parts 110 101 _ _ (sym x.is ∙ y.is)).0))
-spells_base_line_once line (Link edge) (Head rules_b size_b) x y = absurd (omega (arith, (cons_parts 101 109 _ _ (sym x.is ∙ y.is)).0))
-spells_base_line_once line (Link edge) (Base number_b spent_b nodes_b edges_b) x y = absurd (omega (arith, (cons_parts 101 98 _ _ (sym x.is ∙ y.is)).0))
-spells_base_line_once line (Link edge) (Place node_b target_b flag_b) x y = absurd (omega (arith, (cons_parts 101 110 _ _ (sym x.is ∙ y.is)).0))
 spells_base_line_once line (Link edge) (Link edge_b) x y =
     ap Link (links_once edge edge_b x.fits y.fits (sym (ends_is edge.0 edge.1) ∙ append_cancel_left (codes "edge ") (pair_text edge.0 edge.1) (pair_text edge_b.0 edge_b.1) (sym x.is ∙ y.is) ∙ ends_is edge_b.0 edge_b.1))
+spells_base_line_once line a b x y = absurd (omega (arith, ap first_of (sym x.is ∙ y.is)))

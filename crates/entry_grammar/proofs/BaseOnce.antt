@@ -1,17 +1,19 @@
 -- A text begins with the lines of one base at most, and they break off at one line at most.
-use Rattle.std.proofs.Common.{◌≡◌, ℕ, zero, suc, ◌+◌, ◌⊎◌, inl, inr, List, [], ◌∷◌, ◌++◌, length, map, refl, sym, ap, subst, ◌∙◌, append_assoc, arith}
+use Rattle.std.proofs.Common.{◌≡◌, ℕ, zero, suc, ◌+◌, ◌⊎◌, inl, inr, List, [], ◌∷◌, ◌++◌, length, map, refl, sym, ap, ap₂, subst, ◌∙◌, append_assoc, arith}
 use Rattle.std.specs.List.{AllByRecursion}
+use Rattle.std.proofs.lemmas.Grind.{flat_map-append}
 use Rattle.std.proofs.lemmas.List.{length-append, length-map, append-nil}
 use Rattle.rule_machine.specs.declared.rules.RuleSet.{RuleSet}
 use Rattle.rule_machine.specs.declared.base.Place.{Place as PlaceKept}
 use Rattle.rule_machine.specs.declared.base.Base.{Base as BaseKept}
 use Rattle.line_text.specs.Words.{ended}
-use Rattle.line_text.specs.BaseText.{base_head, base_counts, place_text, link_text, base_text}
+use Rattle.line_text.specs.BaseText.{base_head, numbers_line, place_text, link_text, base_text}
 use Rattle.entry_grammar.specs.declared.base_line.BaseLine.{BaseLine}
-use Rattle.entry_grammar.specs.declared.base_line.BaseLine.TheVariants.{Head, Base, Place, Link}
-use Rattle.entry_grammar.specs.Spelling.{IsBaseLine, IsPair, base_line_text}
-use Rattle.entry_grammar.specs.BaseLines.{IsShaped, IsPlace, NodesRise, EdgesRise, base_lines, place_line, lines_of_base, EdgesFollow, NodesFollow, MayFollow, IsShort, BreaksAt}
+use Rattle.entry_grammar.specs.declared.base_line.BaseLine.TheVariants.{Base, Place, Link}
+use Rattle.entry_grammar.specs.Spelling.{IsBaseLine, base_line_text}
+use Rattle.entry_grammar.specs.BaseLines.{IsShaped, base_lines, place_line, lines_of_base, EdgesFollow, NodesFollow, MayFollow, IsShort, BreaksAt}
 use Rattle.entry_grammar.proofs.Free.{mark_once}
+use Rattle.entry_grammar.proofs.BaseBreaks.{all_follow, edges_follow, ended_edges, ended_places, fit_both, fit_edges, fit_places}
 use Rattle.entry_grammar.proofs.BaseLines.{spells_base_line_once}
 use Rattle.entry_grammar.proofs.FirstLines.{line_free}
 
@@ -52,76 +54,40 @@ edges_front : (left : ℕ) (last : ℕ × ℕ) (some more : List BaseLine) → E
 edges_front left last [] more h = tt
 edges_front zero last (line ∷ some) more h = h
 edges_front (suc left) last (Link edge ∷ some) more h = (h.0, edges_front left edge some more h.1)
-edges_front (suc left) last (Head rules size ∷ some) more h = h
-edges_front (suc left) last (Base number spent nodes edges ∷ some) more h = h
-edges_front (suc left) last (Place node target flagged ∷ some) more h = h
+edges_front (suc left) last (line ∷ some) more h = h
 
 nodes_front : (left edges last : ℕ) (some more : List BaseLine) → NodesFollow left edges last (some ++ more) → NodesFollow left edges last some
 nodes_front left edges last [] more h = tt
 nodes_front zero edges last (line ∷ some) more h = edges_front edges (0, 0) (line ∷ some) more h
 nodes_front (suc left) edges last (Place node target flagged ∷ some) more h = (h.0, nodes_front left edges node some more h.1)
-nodes_front (suc left) edges last (Head rules size ∷ some) more h = h
-nodes_front (suc left) edges last (Base number spent nodes_b edges_b ∷ some) more h = h
-nodes_front (suc left) edges last (Link edge ∷ some) more h = h
+nodes_front (suc left) edges last (line ∷ some) more h = h
 
 follow_front : (some more : List BaseLine) → MayFollow (some ++ more) → MayFollow some
 follow_front [] more h = tt
 follow_front (Base number spent nodes edges ∷ some) more h = nodes_front nodes edges 0 some more h
-follow_front (Head rules size ∷ some) more h = h
-follow_front (Place node target flagged ∷ some) more h = h
-follow_front (Link edge ∷ some) more h = h
+follow_front (line ∷ some) more h = h
 
 -- ---- the lines of a base
 
-all_links : (edges : List (ℕ × ℕ)) → AllByRecursion IsPair edges → AllByRecursion IsBaseLine (map (λ edge. Link edge) edges)
-all_links [] f = tt
-all_links (edge ∷ edges) f = (f.0, all_links edges f.1)
-
-all_places : (places : List PlaceKept) (lines : List BaseLine) → AllByRecursion IsPlace places → AllByRecursion IsBaseLine lines → AllByRecursion IsBaseLine (map place_line places ++ lines)
-all_places [] lines f g = g
-all_places (place ∷ places) lines f g = (f.0, all_places places lines f.1 g)
-
 all_lines : (base : BaseKept) → IsShaped base → AllByRecursion IsBaseLine (lines_of_base base)
 all_lines base is =
-    ((is.number, is.spent, is.nodes, is.edges), all_places base.nodes (map (λ edge. Link edge) base.edges) is.places (all_links base.edges is.links))
-
-links_follow : (last : ℕ × ℕ) (edges : List (ℕ × ℕ)) → EdgesRise last edges → EdgesFollow (length edges) last (map (λ edge. Link edge) edges)
-links_follow last [] h = tt
-links_follow last (edge ∷ edges) h = (h.0, links_follow edge edges h.1)
-
-no_node_left : (edges last : ℕ) (lines : List BaseLine) → EdgesFollow edges (0, 0) lines → NodesFollow zero edges last lines
-no_node_left edges last [] h = tt
-no_node_left edges last (line ∷ lines) h = h
-
-places_follow : (last : ℕ) (places : List PlaceKept) (edges : ℕ) (lines : List BaseLine) → NodesRise last places → EdgesFollow edges (0, 0) lines → NodesFollow (length places) edges last (map place_line places ++ lines)
-places_follow last [] edges lines h g = no_node_left edges last lines g
-places_follow last (place ∷ places) edges lines h g = (h.0, places_follow place.node places edges lines h.1 g)
+    ((is.number, is.spent, is.nodes, is.edges), fit_both (map place_line base.nodes) (map (λ edge. Link edge) base.edges) (fit_places base.nodes is.places) (fit_edges base.edges is.links))
 
 pub lines_follow : (base : BaseKept) → IsShaped base → MayFollow (lines_of_base base)
-lines_follow base is = places_follow 0 base.nodes (length base.edges) (map (λ edge. Link edge) base.edges) is.nodes_rise (links_follow (0, 0) base.edges is.edges_rise)
-
-text_append : (some more : List BaseLine) → text (some ++ more) ≡ text some ++ text more
-text_append [] more = refl
-text_append (line ∷ some) more = ap (λ t. (base_line_text line ++ 10 ∷ []) ++ t) (text_append some more) ∙ sym (append_assoc (base_line_text line ++ 10 ∷ []) (text some) (text more))
-
-places_text : (places : List PlaceKept) → text (map place_line places) ≡ ended place_text places
-places_text [] = refl
-places_text (place ∷ places) = ap (λ t. (place_text place ++ 10 ∷ []) ++ t) (places_text places)
-
-links_text : (edges : List (ℕ × ℕ)) → text (map (λ edge. Link edge) edges) ≡ ended link_text edges
-links_text [] = refl
-links_text (edge ∷ edges) = ap (λ t. (link_text edge ++ 10 ∷ []) ++ t) (links_text edges)
+lines_follow base is =
+    all_follow (length base.nodes) (length base.edges) 0 base.nodes (map (λ edge. Link edge) base.edges) refl is.nodes_rise
+    (edges_follow (length base.edges) (0, 0) base.edges (omega arith) is.edges_rise)
 
 pub lines_text : (base : BaseKept) → text (lines_of_base base) ≡ base_lines base
 lines_text base =
-    ap (λ t. (base_counts base.number base.spent (length base.nodes) (length base.edges) ++ 10 ∷ []) ++ t)
-    (text_append (map place_line base.nodes) (map (λ edge. Link edge) base.edges) ∙ ap (λ t. t ++ text (map (λ edge. Link edge) base.edges)) (places_text base.nodes) ∙ ap (λ t. ended place_text base.nodes ++ t) (links_text base.edges))
+    ap (λ t. (numbers_line base ++ 10 ∷ []) ++ t)
+    (flat_map-append (λ line. base_line_text line ++ 10 ∷ []) (map place_line base.nodes) (map (λ edge. Link edge) base.edges) ∙ ap₂ (λ (x y : List ℕ). x ++ y) (ended_places base.nodes) (ended_edges base.edges))
 
 -- the text of a base is its head and these lines
 pub base_text_is : (rules : RuleSet) (size : ℕ) (base : BaseKept) → base_text rules size base ≡ (base_head rules size ++ 10 ∷ []) ++ base_lines base
 base_text_is rules size base =
     let head = base_head rules size ++ 10 ∷ [] in
-    let counts = base_counts base.number base.spent (length base.nodes) (length base.edges) ++ 10 ∷ [] in
+    let counts = numbers_line base ++ 10 ∷ [] in
     append_assoc (head ++ counts) (ended place_text base.nodes) (ended link_text base.edges)
     ∙ append_assoc head counts (ended place_text base.nodes ++ ended link_text base.edges)
 
@@ -168,14 +134,13 @@ place_once p q e =
 
 parts_once : (ps qs : List PlaceKept) (es fs : List (ℕ × ℕ)) → map place_line ps ++ map (λ edge. Link edge) es ≡ map place_line qs ++ map (λ edge. Link edge) fs → (ps ≡ qs) × (es ≡ fs)
 parts_once [] [] es fs e = (refl, links_once es fs e)
-parts_once [] (q ∷ qs) [] fs e = absurd cc
-parts_once [] (q ∷ qs) (g ∷ es) fs e = absurd cc
-parts_once (p ∷ ps) [] es [] e = absurd cc
-parts_once (p ∷ ps) [] es (f ∷ fs) e = absurd cc
 parts_once (p ∷ ps) (q ∷ qs) es fs e =
     let two = cons_is (place_line p) (place_line q) (map place_line ps ++ map (λ edge. Link edge) es) (map place_line qs ++ map (λ edge. Link edge) fs) e in
     let more = parts_once ps qs es fs two.1 in
     (ap (λ z. z ∷ ps) (place_once p q two.0) ∙ ap (λ l. q ∷ l) more.0, more.1)
+parts_once [] (q ∷ qs) [] fs e = absurd cc
+parts_once (p ∷ ps) [] es [] e = absurd cc
+parts_once ps qs es fs e = absurd cc
 
 base_from_lines : (a b : BaseKept) → lines_of_base a ≡ lines_of_base b → a ≡ b
 base_from_lines a b e =

@@ -10,7 +10,7 @@ use Rattle.rule_machine.specs.declared.act.Moved.{Moved}
 use Rattle.rule_machine.specs.declared.event.Event.{Event}
 use Rattle.rule_machine.specs.declared.event.Event.TheVariants.{Step, Enabled, Matching}
 use Rattle.rule_machine.specs.declared.refusal.Refusal.{Refusal}
-use Rattle.rule_machine.specs.declared.refusal.Refusal.TheVariants.{UnknownNode, SelfLoop, AlreadyLinked, NotLinked, TooManyEdges, NotNeighbour, NoFlag, EmptyChoice, NotCentral, ChosenTwice, NotEnabled, BadTarget, AlreadyPresent}
+use Rattle.rule_machine.specs.declared.refusal.Refusal.TheVariants.{UnknownNode}
 use Rattle.rule_machine.specs.declared.reply.Reply.{Reply}
 use Rattle.rule_machine.specs.declared.reply.Reply.TheVariants.{Accepted, Refused, Moves, Shown, EnabledAre, Pairs}
 use Rattle.rule_machine.specs.declared.reply.Reply.TheVariants as reply_is
@@ -27,9 +27,7 @@ use Rattle.entry_grammar.specs.Spelling.{SpellsEntry}
 
 act_short : (act : Act) → length (act_word act) ≤ 7
 act_short Update = omega arith
-act_short Marry = omega arith
-act_short Seduce = omega arith
-act_short Abandon = omega arith
+act_short act = omega arith
 
 -- a rule with its target, where it takes one
 deed_short : (node : ℕ) (act : Act) (target : Option ℕ) → IfSome target IsName → IsTrue (is_move (record { node = node; act = act; target = target })) → length (act_word act ++ marked_text (codes ">") target) ≤ 12
@@ -109,33 +107,11 @@ moves_short moves named are =
 
 number_small : (refusal : Refusal) → refusal_number refusal ≤ 13
 number_small UnknownNode = omega arith
-number_small SelfLoop = omega arith
-number_small AlreadyLinked = omega arith
-number_small NotLinked = omega arith
-number_small TooManyEdges = omega arith
-number_small NotNeighbour = omega arith
-number_small NoFlag = omega arith
-number_small EmptyChoice = omega arith
-number_small NotCentral = omega arith
-number_small ChosenTwice = omega arith
-number_small NotEnabled = omega arith
-number_small BadTarget = omega arith
-number_small AlreadyPresent = omega arith
+number_small refusal = omega arith
 
 text_short : (refusal : Refusal) → length (refusal_text refusal) ≤ 15
 text_short UnknownNode = omega arith
-text_short SelfLoop = omega arith
-text_short AlreadyLinked = omega arith
-text_short NotLinked = omega arith
-text_short TooManyEdges = omega arith
-text_short NotNeighbour = omega arith
-text_short NoFlag = omega arith
-text_short EmptyChoice = omega arith
-text_short NotCentral = omega arith
-text_short ChosenTwice = omega arith
-text_short NotEnabled = omega arith
-text_short BadTarget = omega arith
-text_short AlreadyPresent = omega arith
+text_short refusal = omega arith
 
 refusal_short : (refusal : Refusal) → length (codes "refused " ++ refusal_words refusal) ≤ 26
 refusal_short refusal =

@@ -6,12 +6,13 @@ use Rattle.std.specs.List.{list_all}
 use Rattle.std.specs.Str.Parse.{AllDigits}
 use Rattle.std.proofs.lemmas.Str.Parse.{digit_from_value}
 use Rattle.rule_machine.specs.declared.act.Act.{Act}
-use Rattle.rule_machine.specs.declared.act.Act.TheVariants.{Update, Marry, Seduce, Abandon}
+use Rattle.rule_machine.specs.declared.act.Act.TheVariants.{Update}
 use Rattle.rule_machine.specs.declared.act.Moved.{Moved}
 use Rattle.line_text.specs.Words.{number_text, marked_text, IsName}
 use Rattle.line_text.specs.ReplyText.{act_word, enabled_text, move_text, mutual_text}
 use Rattle.entry_grammar.specs.Spelling.{IsMoved, IsEnabled, IsPair}
 use Rattle.line_text.proofs.Digits.{own}
+pub use Rattle.line_text.proofs.Digits.{cons_parts}
 use Rattle.entry_grammar.specs.Reading.{IsFree, CutAt}
 use Rattle.std.proofs.lemmas.Fmt.{digits_decimal}
 use Rattle.std.proofs.lemmas.Bool.{and_parts}
@@ -47,10 +48,6 @@ free_by mark (b ∷ x) e =
 pub not_free : (mark : ℕ) (front back : List ℕ) → IsFree mark (front ++ mark ∷ back) → ⊥
 not_free mark [] back f = f.0 refl
 not_free mark (b ∷ front) back f = not_free mark front back f.1
-
--- equal lists have equal parts
-pub cons_parts : (c d : ℕ) (xs ys : List ℕ) → c ∷ xs ≡ d ∷ ys → (c ≡ d) × (xs ≡ ys)
-cons_parts c d xs ys e = (cc, cc)
 
 -- what stands before the first mark, and behind it, is determined
 pub mark_once : (mark : ℕ) (f g x y : List ℕ) → IsFree mark f → IsFree mark g → f ++ mark ∷ x ≡ g ++ mark ∷ y → (f ≡ g) × (x ≡ y)
@@ -95,15 +92,11 @@ free_name mark n o h = free_number mark n o (omega arith)
 -- a rule's word has no space, no colon and no `>`
 pub free_act : (act : Act) → IsFree 32 (act_word act)
 free_act Update = free_by 32 (act_word Update) refl
-free_act Marry = free_by 32 (act_word Marry) refl
-free_act Seduce = free_by 32 (act_word Seduce) refl
-free_act Abandon = free_by 32 (act_word Abandon) refl
+free_act act = free_by 32 (act_word act) refl
 
 pub free_act_mark : (act : Act) → IsFree 62 (act_word act)
 free_act_mark Update = free_by 62 (act_word Update) refl
-free_act_mark Marry = free_by 62 (act_word Marry) refl
-free_act_mark Seduce = free_by 62 (act_word Seduce) refl
-free_act_mark Abandon = free_by 62 (act_word Abandon) refl
+free_act_mark act = free_by 62 (act_word act) refl
 
 -- a target behind its mark
 pub free_marked : (mark : ℕ) (target : Option ℕ) → (IsInRange 48 57 mark → ⊥) → 62 ≢ mark → IfSome target IsName → IsFree mark (marked_text (62 ∷ []) target)

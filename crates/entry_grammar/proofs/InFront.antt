@@ -38,9 +38,7 @@ act_first a b x y e = absurd (omega (arith, ap (λ (z : List ℕ). get_or z 0 0)
 -- the first byte of a text with a rule's word in front
 pub act_begins : (act : Act) (bytes rest : List ℕ) → bytes ≡ act_word act ++ rest → first_byte act ≡ slice_index_or bytes 0 0
 act_begins Update bytes rest e = sym (ap (λ (z : List ℕ). slice_index_or z 0 0) e)
-act_begins Marry bytes rest e = sym (ap (λ (z : List ℕ). slice_index_or z 0 0) e)
-act_begins Seduce bytes rest e = sym (ap (λ (z : List ℕ). slice_index_or z 0 0) e)
-act_begins Abandon bytes rest e = sym (ap (λ (z : List ℕ). slice_index_or z 0 0) e)
+act_begins act bytes rest e = sym (ap (λ (z : List ℕ). slice_index_or z 0 0) e)
 
 -- a rule's word is told by its first byte
 pub act_by_first : (a b : Act) → first_byte a ≡ first_byte b → a ≡ b

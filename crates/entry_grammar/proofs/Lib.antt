@@ -1,5 +1,5 @@
-pub mod Cutting
 pub mod Free
+pub mod Marks
 pub mod Headers
 pub mod InFront
 pub mod Joined

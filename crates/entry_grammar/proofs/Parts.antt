@@ -1,60 +1,19 @@
 -- The parts of an entry's line.
-use Rattle.std.proofs.Common.{◌≡◌, ◌<◌, ℕ, Bool, true, false, List, [], ◌∷◌, ◌++◌, Option, None, Some, refl, sym, ap, subst, ◌∙◌, append_assoc, arith}
+use Rattle.std.proofs.Common.{◌≡◌, ◌<◌, ℕ, List, [], ◌∷◌, ◌++◌, refl, sym, ap, subst, ◌∙◌, append_assoc, arith}
 use Rattle.std.specs.Int.{IsInRange}
-use Rattle.std.specs.Prelude.{IfSome, codes}
-use Rattle.std.specs.List.{AllByRecursion}
+use Rattle.std.specs.Prelude.{codes}
 use Rattle.std.proofs.lemmas.List.{append_cancel_left, append_cancel_right}
-use Rattle.rule_machine.specs.declared.choice.Item.{Item}
 use Rattle.rule_machine.specs.declared.event.Event.{Event}
-use Rattle.rule_machine.specs.declared.event.Event.TheVariants.{Link, Unlink, Point, Flag, Step, Show, Enabled, Matching, Status, Join, Leave}
-use Rattle.line_text.specs.Words.{number_text, marked_text, IsName, spaced}
+use Rattle.line_text.specs.Words.{number_text}
 use Rattle.line_text.specs.Reading.{NumberThen}
-use Rattle.line_text.specs.EventText.{IsItem, IsEvent, event_text, pair_text, target_text, bool_text, item_text}
+use Rattle.line_text.specs.EventText.{IsEvent, event_text}
 use Rattle.entry_grammar.specs.Reading.{IsFree, CutAt, PartsOf}
-use Rattle.entry_grammar.proofs.Free.{free_append, free_by, free_number, free_name, free_marked, cut_once}
-
--- a name has no `=`
-name_free : (n : ℕ) → IsName n → IsFree 61 (number_text n)
-name_free n f = free_name 61 n (λ h. omega (arith, h.1)) f
-
--- two texts with a space between them
-spaced_free : (x y : List ℕ) → IsFree 61 x → IsFree 61 y → IsFree 61 (x ++ codes " " ++ y)
-spaced_free x y f g = free_append 61 (x ++ codes " ") y (free_append 61 x (codes " ") f (free_by 61 (codes " ") refl)) g
-
-target_free : (target : Option ℕ) → IfSome target IsName → IsFree 61 (target_text target)
-target_free None f = free_by 61 (codes "-") refl
-target_free (Some w) f = name_free w f
-
-bool_free : (b : Bool) → IsFree 61 (bool_text b)
-bool_free true = free_by 61 (codes "1") refl
-bool_free false = free_by 61 (codes "0") refl
-
-item_free : (i : Item) → IsItem i → IsFree 61 (item_text i)
-item_free i f =
-    free_append 61 (number_text i.node) (marked_text (codes ">") i.wish) (name_free i.node f.0) (free_marked 61 i.wish (λ h. omega (arith, h.1)) (λ h. omega (arith, h)) f.1)
-
-items_free : (items : List Item) → AllByRecursion IsItem items → IsFree 61 (spaced item_text items)
-items_free [] f = tt
-items_free (i ∷ items) f =
-    free_append 61 (codes " " ++ item_text i) (spaced item_text items) (free_append 61 (codes " ") (item_text i) (free_by 61 (codes " ") refl) (item_free i f.0)) (items_free items f.1)
-
--- no event's text has a `=`
-event_free : (event : Event) → IsEvent event → IsFree 61 (event_text event)
-event_free (Link a b) f = free_append 61 (codes "link ") (pair_text a b) (free_by 61 (codes "link ") refl) (spaced_free (number_text a) (number_text b) (name_free a f.0) (name_free b f.1))
-event_free (Unlink a b) f = free_append 61 (codes "unlink ") (pair_text a b) (free_by 61 (codes "unlink ") refl) (spaced_free (number_text a) (number_text b) (name_free a f.0) (name_free b f.1))
-event_free (Point v target) f = free_append 61 (codes "point ") (number_text v ++ codes " " ++ target_text target) (free_by 61 (codes "point ") refl) (spaced_free (number_text v) (target_text target) (name_free v f.0) (target_free target f.1))
-event_free (Flag v value) f = free_append 61 (codes "flag ") (number_text v ++ codes " " ++ bool_text value) (free_by 61 (codes "flag ") refl) (spaced_free (number_text v) (bool_text value) (name_free v f) (bool_free value))
-event_free (Join v) f = free_append 61 (codes "join ") (number_text v) (free_by 61 (codes "join ") refl) (name_free v f)
-event_free (Leave v) f = free_append 61 (codes "leave ") (number_text v) (free_by 61 (codes "leave ") refl) (name_free v f)
-event_free (Step items) f = free_append 61 (codes "step") (spaced item_text items) (free_by 61 (codes "step") refl) (items_free items f.1)
-event_free (Show v) f = free_append 61 (codes "show ") (number_text v) (free_by 61 (codes "show ") refl) (name_free v f)
-event_free Enabled f = free_by 61 (codes "enabled") refl
-event_free Matching f = free_by 61 (codes "matching") refl
-event_free Status f = free_by 61 (codes "status") refl
+use Rattle.entry_grammar.proofs.Free.{free_append, free_by, free_number, cut_once}
+use Rattle.entry_grammar.proofs.Marks.{equals, event_lacks}
 
 -- the parts of a line that is written
 pub parts_of : (line : List ℕ) (number : ℕ) (event : Event) (reply : List ℕ) → IsFree 32 (number_text number) → IsEvent event → line ≡ number_text number ++ codes " " ++ event_text event ++ codes " = " ++ reply → PartsOf line (number_text number) (event_text event) reply
-parts_of line number event reply f g e = record { numbered = f; asked = event_free event g; is = e }
+parts_of line number event reply f g e = record { numbered = f; asked = event_lacks equals event g; is = e }
 
 -- what stands behind the number
 pub parts_rest : (line number event reply : List ℕ) → PartsOf line number event reply → CutAt 32 line number (event ++ codes " = " ++ reply)

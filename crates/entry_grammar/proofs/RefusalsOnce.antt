@@ -18,18 +18,7 @@ refusal_at n =
 
 at_number : (r : Refusal) → refusal_at (refusal_number r) ≡ r
 at_number UnknownNode = refl
-at_number SelfLoop = refl
-at_number AlreadyLinked = refl
-at_number NotLinked = refl
-at_number TooManyEdges = refl
-at_number NotNeighbour = refl
-at_number NoFlag = refl
-at_number EmptyChoice = refl
-at_number NotCentral = refl
-at_number ChosenTwice = refl
-at_number NotEnabled = refl
-at_number BadTarget = refl
-at_number AlreadyPresent = refl
+at_number r = refl
 
 -- a refusal has a number of its own
 pub refusal_once : (r q : Refusal) → refusal_number r ≡ refusal_number q → r ≡ q
@@ -38,18 +27,7 @@ refusal_once r q e = sym (at_number r) ∙ ap refusal_at e ∙ at_number q
 -- a refusal's number is small enough to be a name
 pub refusal_named : (r : Refusal) → IsName (refusal_number r)
 refusal_named UnknownNode = (omega arith, omega arith)
-refusal_named SelfLoop = (omega arith, omega arith)
-refusal_named AlreadyLinked = (omega arith, omega arith)
-refusal_named NotLinked = (omega arith, omega arith)
-refusal_named TooManyEdges = (omega arith, omega arith)
-refusal_named NotNeighbour = (omega arith, omega arith)
-refusal_named NoFlag = (omega arith, omega arith)
-refusal_named EmptyChoice = (omega arith, omega arith)
-refusal_named NotCentral = (omega arith, omega arith)
-refusal_named ChosenTwice = (omega arith, omega arith)
-refusal_named NotEnabled = (omega arith, omega arith)
-refusal_named BadTarget = (omega arith, omega arith)
-refusal_named AlreadyPresent = (omega arith, omega arith)
+refusal_named r = (omega arith, omega arith)
 
 -- a refusal's words are cut behind its number
 pub refusal_cut : (bytes : List ℕ) (r : Refusal) → bytes ≡ refusal_words r → CutAt 32 bytes (number_text (refusal_number r)) (refusal_text r)

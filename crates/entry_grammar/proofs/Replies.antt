@@ -7,7 +7,7 @@ use Rattle.rule_machine.specs.declared.counts.Counts as numbers
 use Rattle.rule_machine.specs.declared.act.Moved.{Moved}
 use Rattle.rule_machine.specs.declared.refusal.Refusal.{Refusal}
 use Rattle.rule_machine.specs.declared.event.Event.{Event}
-use Rattle.rule_machine.specs.declared.event.Event.TheVariants.{Link, Unlink, Point, Flag, Step, Show, Enabled, Matching, Status, Join, Leave}
+use Rattle.rule_machine.specs.declared.event.Event.TheVariants.{Step, Show, Enabled, Matching, Status}
 use Rattle.rule_machine.specs.declared.reply.Reply.{Reply}
 use Rattle.rule_machine.specs.declared.reply.Reply.TheVariants.{Accepted, Refused, Moves, Shown, EnabledAre, Pairs, Counts}
 use Rattle.log_entry.specs.Kinds.{fits}
@@ -16,30 +16,15 @@ use Rattle.entry_grammar.specs.Spelling.{IsReply}
 use Rattle.entry_grammar.specs.Reading.{is_done, is_moved, is_shown, are_enabled, are_pairs, are_counts, suits}
 use Rattle.entry_grammar.proofs.RefusalsOnce.{refusal_words_once}
 use Rattle.entry_grammar.proofs.CountsOnce.{counts_once}
-use Rattle.entry_grammar.proofs.TokensOnce.{moves_once, enabled_once, pairs_once, target_once, refused_moves, refused_target}
+use Rattle.line_text.proofs.EventsOnce.{target_once}
+use Rattle.entry_grammar.proofs.TokensOnce.{moves_once, enabled_once, pairs_once, refused_moves, refused_target}
 
 -- what fits an event suits it
 pub fits_suits : (event : Event) (reply : Reply) → IsTrue (fits event reply) → IsTrue (suits event reply)
-fits_suits (Link a b) Accepted h = refl
-fits_suits (Link a b) (Refused r) h = refl
-fits_suits (Unlink a b) Accepted h = refl
-fits_suits (Unlink a b) (Refused r) h = refl
-fits_suits (Point a b) Accepted h = refl
-fits_suits (Point a b) (Refused r) h = refl
-fits_suits (Flag a b) Accepted h = refl
-fits_suits (Flag a b) (Refused r) h = refl
-fits_suits (Join v) Accepted h = refl
-fits_suits (Join v) (Refused r) h = refl
-fits_suits (Leave v) Accepted h = refl
-fits_suits (Leave v) (Refused r) h = refl
 fits_suits (Step items) (Moves moves) h = refl
-fits_suits (Step items) (Refused r) h = refl
-fits_suits (Show v) (Shown target) h = refl
-fits_suits (Show v) (Refused r) h = refl
 fits_suits Enabled (EnabledAre nodes) h = refl
 fits_suits Matching (Pairs pairs) h = refl
-fits_suits Status (Counts counts) h = refl
-fits_suits event reply h = cc
+fits_suits event reply h = h
 
 -- a refusal is not said as `ok`
 ok_refused : (r : Refusal) → codes "ok" ≡ codes "refused " ++ refusal_words r → ⊥
@@ -85,17 +70,12 @@ are_counts_once r q s t f g e = cc
 
 -- replies of an event's kind have texts of their own
 pub reply_once : (event : Event) (r q : Reply) → IsTrue (suits event r) → IsTrue (suits event q) → IsReply r → IsReply q → reply_text r ≡ reply_text q → r ≡ q
-reply_once (Link a b) r q s t f g e = done_once r q s t e
-reply_once (Unlink a b) r q s t f g e = done_once r q s t e
-reply_once (Point v target) r q s t f g e = done_once r q s t e
-reply_once (Flag v value) r q s t f g e = done_once r q s t e
-reply_once (Join v) r q s t f g e = done_once r q s t e
-reply_once (Leave v) r q s t f g e = done_once r q s t e
 reply_once (Step items) r q s t f g e = moved_once r q s t f g e
 reply_once (Show v) r q s t f g e = shown_once r q s t f g e
 reply_once Enabled r q s t f g e = are_enabled_once r q s t f g e
 reply_once Matching r q s t f g e = are_pairs_once r q s t f g e
 reply_once Status r q s t f g e = are_counts_once r q s t f g e
+reply_once event r q s t f g e = done_once r q s t e
 
 -- where the words behind `refused` are no refusal's, no reply to a step or to a question where a node points is spelled
 pub no_moved : (bytes words : List ℕ) → bytes ≡ codes "refused " ++ words → ((r : Refusal) → ⊤ → words ≡ refusal_words r → ⊥) → (q : Reply) → IsTrue (is_moved q) × IsReply q → bytes ≡ reply_text q → ⊥

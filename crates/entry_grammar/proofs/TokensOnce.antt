@@ -129,17 +129,6 @@ pairs_once [] (k ∷ y) f g e = absurd (none_once k.0 (45 ∷ (number_text k.1 +
 pairs_once (m ∷ x) [] f g e = absurd (none_once m.0 (45 ∷ (number_text m.1 ++ spaced mutual_text x)) f.0.0 (sym e ∙ whole_pair m (spaced mutual_text x)))
 pairs_once (m ∷ x) (k ∷ y) f g e = joined_step mutual_text IsPair free_pair pair_once m x k y f g e
 
--- a dash is no name
-dash_name : (w : ℕ) → IsName w → codes "-" ≡ number_text w → ⊥
-dash_name w f e = omega (arith, (name_first w [] 45 [] f (append-nil (number_text w) ∙ sym e)).0)
-
--- a target has a text of its own
-pub target_once : (v w : Option ℕ) → IfSome v IsName → IfSome w IsName → target_text v ≡ target_text w → v ≡ w
-target_once None None f g e = refl
-target_once None (Some w) f g e = absurd (dash_name w g e)
-target_once (Some v) None f g e = absurd (dash_name v f (sym e))
-target_once (Some v) (Some w) f g e = ap (λ (n : ℕ). Some n) (name_once v w f g e)
-
 -- moves are not said as a refusal is
 pub refused_moves : (x : List Moved) (words : List ℕ) → AllByRecursion IsMoved x → joined move_text x ≡ codes "refused " ++ words → ⊥
 refused_moves [] words f e = omega (arith, ap length e)

@@ -5,7 +5,7 @@ use Rattle.rule_machine.specs.declared.base.Place.{Place as PlaceKept}
 use Rattle.rule_machine.specs.declared.base.Base.{Base as BaseKept}
 use Rattle.line_text.specs.Words.{IsName, ended}
 use Rattle.line_text.specs.ReplyText.{IsCount}
-use Rattle.line_text.specs.BaseText.{base_counts, place_text, link_text}
+use Rattle.line_text.specs.BaseText.{numbers_line, place_text, link_text}
 use Rattle.entry_grammar.specs.declared.base_line.BaseLine.{BaseLine}
 use Rattle.entry_grammar.specs.declared.base_line.BaseLine.TheVariants.{Base, Place, Link}
 use Rattle.entry_grammar.specs.Spelling.{IsPair, IsBaseLine, base_line_text}
@@ -41,7 +41,7 @@ pub record IsShaped (base : BaseKept) : Type 0 where
 -- the text of all lines of a base but its head
 abbrev pub base_lines : BaseKept → List ℕ
 base_lines base =
-    (base_counts base.number base.spent (length base.nodes) (length base.edges) ++ 10 ∷ []) ++ (ended place_text base.nodes ++ ended link_text base.edges)
+    (numbers_line base ++ 10 ∷ []) ++ (ended place_text base.nodes ++ ended link_text base.edges)
 
 -- ---- the lines as values
 

@@ -13,7 +13,7 @@ ghost use Rattle.entry_grammar.specs.BaseParts.{NodesRead, NodesBreak, EdgesRead
 
 use crate::base_line::{BaseLine, read_base_line};
 use crate::fault::BaseFault;
-use crate::lines::split_line;
+use byte_streams::split_line;
 use rule_machine::{Base, Edge, Listing, Place};
 use std::alloc::Global;
 

@@ -26,14 +26,14 @@ dash_number : (w : ℕ) → IsName w → 45 ∷ [] ≡ number_text w → ⊥
 dash_number w f e = omega (arith, first_decimal w (omega arith) (omega arith), ap (λ (z : List ℕ). get_or z 0 0) e)
 
 -- a target has one text
-target_once : (v w : Option ℕ) → IfSome v IsName → IfSome w IsName → target_text v ≡ target_text w → v ≡ w
+pub target_once : (v w : Option ℕ) → IfSome v IsName → IfSome w IsName → target_text v ≡ target_text w → v ≡ w
 target_once None None f g e = refl
 target_once None (Some w) f g e = absurd (dash_number w g e)
 target_once (Some v) None f g e = absurd (dash_number v f (sym e))
 target_once (Some v) (Some w) f g e = ap (λ (n : ℕ). Some n) (number_once v w f g e)
 
 -- a flag's value has one text
-bool_once : (v w : Bool) → bool_text v ≡ bool_text w → v ≡ w
+pub bool_once : (v w : Bool) → bool_text v ≡ bool_text w → v ≡ w
 bool_once true true e = refl
 bool_once true false e = absurd (omega (arith, ap (λ (z : List ℕ). get_or z 0 0) e))
 bool_once false true e = absurd (omega (arith, ap (λ (z : List ℕ). get_or z 0 0) e))

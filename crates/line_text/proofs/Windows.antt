@@ -49,33 +49,17 @@ decimal_in_six n h =
 -- bytes that were shifted down by the zeros that lead a number
 shifted_bytes : (v : ℕ) (bs : List ℕ) → to_le_bytes w64 v ≡ bs → (j : ℕ) → j ≤ 5 → take (7 - j) (to_le_bytes w64 (v / 2 ^ (8 * j))) ≡ take (7 - j) (drop j bs)
 shifted_bytes v bs e zero h = let z : v / 1 ≡ v = omega arith in rw (z, ← e)
-shifted_bytes v bs e (suc zero) h = rw (← e) (simp div-div-eq-div-mul)
-shifted_bytes v bs e (suc (suc zero)) h = rw (← e) (simp div-div-eq-div-mul)
-shifted_bytes v bs e (suc (suc (suc zero))) h = rw (← e) (simp div-div-eq-div-mul)
-shifted_bytes v bs e (suc (suc (suc (suc zero)))) h = rw (← e) (simp div-div-eq-div-mul)
-shifted_bytes v bs e (suc (suc (suc (suc (suc zero))))) h = rw (← e) (simp div-div-eq-div-mul)
 shifted_bytes v bs e (suc (suc (suc (suc (suc (suc j)))))) h = absurd (omega arith)
+shifted_bytes v bs e j h = rw (← e) (simp div-div-eq-div-mul)
 
 -- six digits and a byte, without the first of them
 cut : (n b j : ℕ) → j ≤ 5 → take (7 - j) (drop j (six_digits n ++ (b ∷ 0 ∷ []))) ≡ drop j (six_digits n) ++ b ∷ []
-cut n b zero h = refl
-cut n b (suc zero) h = refl
-cut n b (suc (suc zero)) h = refl
-cut n b (suc (suc (suc zero))) h = refl
-cut n b (suc (suc (suc (suc zero)))) h = refl
-cut n b (suc (suc (suc (suc (suc zero))))) h = refl
 cut n b (suc (suc (suc (suc (suc (suc j)))))) h = absurd (omega arith)
+cut n b j h = refl
 
 bounded : (n b : ℕ) → n < 1000000 → b < 256 → (i : ℕ) → get_or (six_digits n ++ (b ∷ 0 ∷ [])) i 0 < 256
-bounded n b h k zero = omega arith
-bounded n b h k (suc zero) = omega arith
-bounded n b h k (suc (suc zero)) = omega arith
-bounded n b h k (suc (suc (suc zero))) = omega arith
-bounded n b h k (suc (suc (suc (suc zero)))) = omega arith
-bounded n b h k (suc (suc (suc (suc (suc zero))))) = omega arith
-bounded n b h k (suc (suc (suc (suc (suc (suc zero)))))) = omega arith
-bounded n b h k (suc (suc (suc (suc (suc (suc (suc zero))))))) = omega arith
 bounded n b h k (suc (suc (suc (suc (suc (suc (suc (suc i)))))))) = omega arith
+bounded n b h k i = omega arith
 
 -- a number and the byte behind it, in the window that begins behind the zeros
 pub number_in_window : (n b v j : ℕ) → n < 1000000 → b < 256 → v ≡ from_le_bytes w64 (six_digits n ++ (b ∷ 0 ∷ [])) → j ≡ 6 - length (decimal n) → take (7 - j) (to_le_bytes w64 (v / 2 ^ (8 * j))) ≡ decimal n ++ b ∷ []

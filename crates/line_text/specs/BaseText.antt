@@ -20,6 +20,10 @@ base_fields number spent nodes edges =
 abbrev pub base_counts : ℕ → ℕ → ℕ → ℕ → List ℕ
 base_counts number spent nodes edges = codes "base " ++ joined field_text (base_fields number spent nodes edges)
 
+-- the line of a base that has its four numbers
+abbrev pub numbers_line : Base → List ℕ
+numbers_line base = base_counts base.number base.spent (length base.nodes) (length base.edges)
+
 -- a node, where its pointer is, and its flag
 abbrev pub place_text : Place → List ℕ
 place_text place = codes "node " ++ number_text place.node ++ codes " " ++ target_text place.target ++ codes " " ++ bool_text place.flagged
@@ -31,4 +35,4 @@ link_text edge = codes "edge " ++ pair_text edge.0 edge.1
 -- all lines of a base of so many names
 abbrev pub base_text : RuleSet → ℕ → Base → List ℕ
 base_text rules size base =
-    (base_head rules size ++ 10 ∷ []) ++ (base_counts base.number base.spent (length base.nodes) (length base.edges) ++ 10 ∷ []) ++ ended place_text base.nodes ++ ended link_text base.edges
+    (base_head rules size ++ 10 ∷ []) ++ (numbers_line base ++ 10 ∷ []) ++ ended place_text base.nodes ++ ended link_text base.edges

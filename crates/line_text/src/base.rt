@@ -2,7 +2,7 @@
 
 ghost use Rattle.std.specs.Prelude.{◌≡◌, ℕ, ◌≤◌, List, [], ◌∷◌, ◌++◌, length, OnOk, OnErr};
 ghost use Rattle.line_text.specs.Words.{ended, Extends};
-ghost use Rattle.line_text.specs.BaseText.{base_head, base_counts, place_text, link_text, base_text};
+ghost use Rattle.line_text.specs.BaseText.{base_head, numbers_line, place_text, link_text, base_text};
 
 use crate::entry::whole_or_none;
 use crate::numbers::{put_name, put_name_then, put_number, put_target};
@@ -69,7 +69,7 @@ fn put_head(out: &mut Vec<u8>, rules: RuleSet, size: u32) -> Result<(), Want>
 fn put_counts(out: &mut Vec<u8>, base: &Base) -> Result<(), Want>
     requires few_nodes { length base.now.nodes ≤ 65535 }
     requires few_edges { length base.now.edges ≤ 1048576 }
-    ensures ok { OnOk result (out.new.items ≡ out.old.items ++ (base_counts base.now.number base.now.spent (length base.now.nodes) (length base.now.edges) ++ 10 ∷ [])) }
+    ensures ok { OnOk result (out.new.items ≡ out.old.items ++ (numbers_line base.now ++ 10 ∷ [])) }
     ensures err { OnErr result (Extends out.old.items out.new.items) }
 {
     put_field(out, b"base ", base.number)?;

@@ -6,10 +6,11 @@ use Rattle.std.specs.Prelude.{IsErr, IfSome}
 use Rattle.std.proofs.KnownBytes.{Appends-nil, Appends-trans, Consumes-trans}
 use Rattle.std.specs.Io.KnownBytes.{Consumes}
 use Rattle.rule_machine.specs.RuleTable.{RuleTable}
-use Rattle.script_text.specs.Script.{Progress, LinesDo, IsLine, IsBadLine, lines_of}
+use Rattle.script_text.specs.Script.{Progress, LinesDo, IsBadLine, lines_of}
 use Rattle.script_text.proofs.Ending.{GoesOn, goes_on, line_joined, lines_of-ended, lines_of-last}
 use Rattle.script_text.proofs.Lengths.{long_says_nothing}
 use Rattle.byte_streams.specs.Beginning.{AppendsBeginning, AppendsLess}
+use Rattle.byte_streams.specs.Lines.{IsLine}
 use Rattle.line_run.specs.declared.stop.Stop.{Stop}
 use Rattle.line_run.specs.declared.stop.Stop.TheVariants.{BadLine, LogFull}
 use Rattle.script_run.specs.declared.halt.Halt.{Halt}

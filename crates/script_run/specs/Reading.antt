@@ -1,8 +1,9 @@
 -- How far a script was read and carried out.
 use Rattle.std.specs.Prelude.{◌≡◌, ℕ, ◌+◌, List, [], ◌++◌, length, Option, None, Some, Result, Ok, Err}
 use Rattle.rule_machine.specs.RuleTable.{RuleTable}
-use Rattle.script_text.specs.Script.{Progress, LinesDo, IsLine, lines_of}
+use Rattle.script_text.specs.Script.{Progress, LinesDo, lines_of}
 use Rattle.byte_streams.specs.Beginning.{AppendsLess}
+use Rattle.byte_streams.specs.Lines.{IsLine}
 use Rattle.script_run.specs.declared.halt.Halt.{Halt}
 use Rattle.script_run.specs.declared.reading.Reading.{Reading}
 use Rattle.script_run.specs.Halted.{Hands, Halts}

@@ -12,11 +12,11 @@ use crate::halt::Halt;
 use crate::reading::Reading;
 use crate::runner::Run;
 use crate::writing::hand_over;
-use byte_streams::{OutputFault, Writes};
+use byte_streams::{OutputFault, Writes, split_line};
 use line_run::Stop;
 use rule_machine::Want;
 use rule_set::Rules;
-use script_text::{MAX_LINE, ended_line};
+use script_text::MAX_LINE;
 use std::alloc::Global;
 use std::io::Write;
 use std::sync::Wait;
@@ -72,7 +72,7 @@ impl<R: Rules + Sync> Run<R> {
         ensures limit { self.new.line.recorder.limit ≡ self.old.line.recorder.limit }
     {
         let mut rest = piece;
-        while let Some((end, behind)) = ended_line(rest) {
+        while let Some((end, behind)) = split_line(rest) {
             match self.carry_out_ended(rt, alloc, reading, end) {
                 Ok(None) => {}
                 Ok(Some(stop)) => return Ok(Some(Halt::Stopped(stop))),

@@ -1,7 +1,8 @@
 -- Lines that an LF ends, and bytes of which the line goes on.
 use Rattle.std.proofs.Common.{◌≡◌, ℕ, ◌==◌, Bool, true, false, if◌then◌else◌, List, [], ◌∷◌, ◌++◌, refl, ap, ◌∙◌}
 use Rattle.std.proofs.lemmas.Bool.{eqb-true}
-use Rattle.script_text.specs.Script.{lines_of, onto_first, IsLine}
+use Rattle.byte_streams.specs.Lines.{IsLine}
+use Rattle.script_text.specs.Script.{lines_of, onto_first}
 
 same_byte : (b : ℕ) → (b == 10) ≡ true → b ≡ 10
 same_byte b is = eqb-true b 10 is
@@ -43,3 +44,7 @@ goes_on b (c ∷ front) behind p =
 pub lines_of-last : (b : ℕ) (line : List ℕ) → IsLine (b ∷ line) → lines_of (b ∷ line) ≡ (b ∷ line) ∷ []
 lines_of-last b [] p = no_end b [] p.0
 lines_of-last b (c ∷ line) p = no_end b (c ∷ line) p.0 ∙ ap (onto_first b) (lines_of-last c line p.1)
+
+pub lines_of-whole : (line : List ℕ) → (line ≡ [] → ⊥) → IsLine line → lines_of line ≡ line ∷ []
+lines_of-whole [] some p = absurd (some refl)
+lines_of-whole (b ∷ line) some p = lines_of-last b line p

@@ -1,5 +1,5 @@
 -- How long the text of a command is.
-use Rattle.std.proofs.Common.{ℕ, ◌+◌, ◌<◌, ◌≤◌, List, length, codes, ap, length-append, arith}
+use Rattle.std.proofs.Common.{ℕ, ◌<◌, ◌≤◌, List, length, codes, ap, length-append, arith}
 use Rattle.std.proofs.lemmas.Fmt.{length-decimal-le}
 use Rattle.line_text.specs.Words.{number_text}
 use Rattle.line_text.proofs.EventLengths.{two_short, event_short}

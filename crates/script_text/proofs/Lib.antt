@@ -1,6 +1,5 @@
 pub mod Words
 pub mod Once
-pub mod Cutting
 pub mod Lengths
 pub mod Ending
 pub mod Lining

@@ -7,7 +7,7 @@ use Rattle.std.proofs.lemmas.Fmt.{digits_decimal, decimal_injective}
 use Rattle.rand_core.specs.Stream.{Stream}
 use Rattle.rule_machine.specs.declared.event.Event.{Event}
 use Rattle.rule_machine.specs.declared.rules.RuleSet.{RuleSet}
-use Rattle.rule_machine.specs.declared.event.Event.TheVariants.{Link, Unlink, Point, Flag, Step, Show, Enabled, Matching, Status, Join, Leave}
+use Rattle.rule_machine.specs.declared.event.Event.TheVariants.{Link}
 use Rattle.rule_machine.specs.Run.{Moment}
 use Rattle.rule_machine.specs.RuleTable.{RuleTable}
 use Rattle.line_text.specs.Words.{number_text}
@@ -49,16 +49,7 @@ is_own line = nat_eq (head_of line) (head_of (codes "drive ")) || (nat_eq (head_
 -- no event's text has
 not_own : (e : Event) → is_own (event_text e) ≡ false
 not_own (Link a b) = refl
-not_own (Unlink a b) = refl
-not_own (Point v w) = refl
-not_own (Flag v b) = refl
-not_own (Join v) = refl
-not_own (Leave v) = refl
-not_own (Step items) = refl
-not_own (Show v) = refl
-not_own Enabled = refl
-not_own Matching = refl
-not_own Status = refl
+not_own e = refl
 
 no_event : (e : Event) (line : List ℕ) → is_own line ≡ true → event_text e ≡ line → ⊥
 no_event e line own same = true≢false (sym own ∙ ap is_own (sym same) ∙ not_own e)
@@ -68,19 +59,10 @@ command_once : (c d : Command) → IsCommand c → IsCommand d → command_text 
 command_once (Tell a) (Tell b) f g e = ap (λ (x : Event). Tell x) (spells_once (event_text a) a b (f, refl) (g, e))
 command_once (Drive a) (Drive b) f g e = ap (λ (x : Turns). Drive x) (turns_once a b f g (append_cancel_left (codes "drive ") (turns_text a) (turns_text b) e))
 command_once (Scramble a) (Scramble b) f g e = ap (λ (x : Turns). Scramble x) (turns_once a b f g (append_cancel_left (codes "scramble ") (turns_text a) (turns_text b) e))
-command_once (Tell a) (Drive b) f g e = absurd (no_event a (command_text (Drive b)) refl e)
-command_once (Drive a) (Tell b) f g e = absurd (no_event b (command_text (Drive a)) refl (sym e))
-command_once (Tell a) (Scramble b) f g e = absurd (no_event a (command_text (Scramble b)) refl e)
-command_once (Scramble a) (Tell b) f g e = absurd (no_event b (command_text (Scramble a)) refl (sym e))
-command_once (Drive a) (Scramble b) f g e = absurd (omega (arith, ap head_of e))
-command_once (Scramble a) (Drive b) f g e = absurd (omega (arith, ap head_of e))
 command_once Checkpoint Checkpoint f g e = refl
-command_once (Tell a) Checkpoint f g e = absurd (no_event a (command_text Checkpoint) refl e)
-command_once Checkpoint (Tell b) f g e = absurd (no_event b (command_text Checkpoint) refl (sym e))
-command_once (Drive a) Checkpoint f g e = absurd (omega (arith, ap head_of e))
-command_once Checkpoint (Drive b) f g e = absurd (omega (arith, ap head_of e))
-command_once (Scramble a) Checkpoint f g e = absurd (omega (arith, ap head_of e))
-command_once Checkpoint (Scramble b) f g e = absurd (omega (arith, ap head_of e))
+command_once (Tell a) d f g e = absurd (no_event a (command_text d) refl e)
+command_once c (Tell b) f g e = absurd (no_event b (command_text c) refl (sym e))
+command_once c d f g e = absurd (omega (arith, ap head_of e))
 
 -- a line says one command
 pub says_once : (line : List ℕ) (c d : Command) → Says line c → Says line d → c ≡ d

@@ -1,6 +1,5 @@
 -- A script: its lines, and what they do one after another.
 use Rattle.std.specs.Prelude.{◌≡◌, ◌≢◌, ℕ, zero, suc, ◌+◌, ◌<◌, ◌≤◌, ◌⊎◌, List, [], ◌∷◌, ◌++◌, ◌==◌, if◌then◌else◌, Option, None, Some}
-use Rattle.std.specs.List.{AllByRecursion}
 use Rattle.rand_core.specs.Stream.{Stream}
 use Rattle.rule_machine.specs.declared.event.Event.{Event}
 use Rattle.rule_machine.specs.declared.rules.RuleSet.{RuleSet}
@@ -24,10 +23,6 @@ onto_first b (line ∷ lines) = (b ∷ line) ∷ lines
 abbrev pub lines_of : List ℕ → List (List ℕ)
 lines_of [] = []
 lines_of (b ∷ bytes) = if b == 10 then [] ∷ lines_of bytes else onto_first b (lines_of bytes)
-
--- bytes of one line: no LF is among them
-abbrev pub IsLine : List ℕ → Type 0
-IsLine bytes = AllByRecursion (λ b. b ≢ 10) bytes
 
 -- where a run stands: the rule set by its name, the state and what is spent, how many entries there are, and their text
 pub record Progress : Type 0 where

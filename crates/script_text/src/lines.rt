@@ -1,9 +1,9 @@
 //! The lines of a script.
 
-ghost use Rattle.std.specs.Prelude.{◌≡◌, ◌<◌, [], ◌∷◌, ◌++◌, length, MatchOption, IfSome};
-ghost use Rattle.script_text.specs.Script.{lines_of, IsLine};
+ghost use Rattle.std.specs.Prelude.{◌≡◌, ◌<◌, [], ◌∷◌, length, MatchOption, IfSome};
+ghost use Rattle.script_text.specs.Script.{lines_of};
 
-use memchr::memchr;
+use byte_streams::split_line;
 
 /// How long a line may be, without the LF that ends it. No command is longer.
 pub const MAX_LINE: usize = 1_048_576;
@@ -18,21 +18,8 @@ pub fn next_line(bytes: &[u8]) -> Option<(&[u8], &[u8])>
     if bytes.is_empty() {
         return None;
     }
-    match memchr(b'\n', bytes) {
-        Some(len) => Some((&bytes[..len], &bytes[len + 1..])),
+    match split_line(bytes) {
+        Some(found) => Some(found),
         None => Some((bytes, &[])),
     }
-}
-
-/// The first line, without the LF that ends it, and what follows; `None` where there is no LF.
-pub fn ended_line(bytes: &[u8]) -> Option<(&[u8], &[u8])>
-    ensures line { MatchOption result
-        (IsLine bytes.now)
-        (λ found. IsLine found.0.now × (bytes.now ≡ found.0.now ++ 10 ∷ found.1.now)) }
-    ensures shorter { IfSome result (λ found. length found.1.now < length bytes.now) }
-{
-    let Some(len) = memchr(b'\n', bytes) else {
-        return None;
-    };
-    Some((&bytes[..len], &bytes[len + 1..]))
 }

@@ -10,9 +10,9 @@ overflow_add-self c =
 
 pub returns-in-Ok-clause-ahead : goal.returns-in-Ok-clause-ahead
 returns-in-Ok-clause-ahead c =
-    entry_passed c.args.self.now _ c.in-Some.line.now c.args.rest.now c.in-Some.behind.now refl refl refl refl refl c.requires.other c.requires.compared c.in-Some.ensures.line c.in-Ok.ensures
+    entry_passed c.args.self.now _ c.in-Some.line.now c.args.rest.now c.in-Some.behind.now refl refl refl refl refl c.requires.other c.requires.compared c.in-Some.ensures.first c.in-Ok.ensures
 
 pub returns-in-Err-clause-fault : goal.returns-in-Err-clause-fault
 returns-in-Err-clause-fault c =
     let self = c.args.self.now in
-    entry_damaged self c.check_line.new.self c.in-Some.line.now c.args.rest.now c.in-Some.behind.now c.in-Err.fault (self.lines + 1) refl c.requires.other c.in-Some.ensures.line c.in-Err.ensures
+    entry_damaged self c.check_line.new.self c.in-Some.line.now c.args.rest.now c.in-Some.behind.now c.in-Err.fault (self.lines + 1) refl c.requires.other c.in-Some.ensures.first c.in-Err.ensures

@@ -1,5 +1,10 @@
--- The lines of a text: each ends with an LF.
-use Rattle.std.specs.Prelude.{ℕ, List, [], ◌∷◌, ◌==◌, Option, None, Some, if◌then◌else◌}
+-- The lines of bytes: an LF ends each.
+use Rattle.std.specs.Prelude.{◌≢◌, ℕ, List, [], ◌∷◌, ◌==◌, Option, None, Some, if◌then◌else◌}
+use Rattle.std.specs.List.{AllByRecursion}
+
+-- bytes of one line: no LF is among them
+abbrev pub IsLine : List ℕ → Type 0
+IsLine bytes = AllByRecursion (λ b. b ≢ 10) bytes
 
 -- a byte in front of the first line, where there is one
 abbrev pub onto_line : ℕ → Option (List ℕ × List ℕ) → Option (List ℕ × List ℕ)
