@@ -1,8 +1,8 @@
 -- A transcript that is read piece by piece.
-use Rattle.std.proofs.Common.{◌≡◌, ℕ, ◌+◌, ◌-◌, ◌<◌, ◌^◌, ◌⊎◌, inl, inr, List, [], ◌++◌, Option, None, Some, IfSome, Result, Ok, Err, IfErr, OnOk, length, take, drop, refl, sym, ap, subst, ◌∙◌, append_assoc, append-nil, arith}
+use Rattle.std.proofs.Common.{◌≡◌, ℕ, ◌+◌, ◌-◌, ◌<◌, ◌^◌, ◌⊎◌, inl, inr, List, [], ◌++◌, Option, None, Some, IfSome, Result, Ok, Err, IfErr, OnOk, length, take, drop, refl, sym, ap, ap₂, subst, ◌∙◌, append_assoc, append-nil, arith}
 use Rattle.std.specs.Prelude.{MatchOption}
 use Rattle.std.specs.Io.KnownBytes.{Consumes}
-use Rattle.std.proofs.lemmas.List.{append_cancel_right, length-append}
+use Rattle.std.proofs.lemmas.List.{append_cancel_right, length-append, take-append-drop}
 use Rattle.std.proofs.Math.Seq.{drop-append_seam, take-append_seam}
 use Rattle.std.proofs.KnownBytes.{Consumes-trans}
 use Rattle.std.proofs.Math.Logic.{∥∥₁_elim, ∥∥₁_map, ∥∥₁_prop}
@@ -13,7 +13,7 @@ use Rattle.auditor.specs.Damage.{BeginsBase}
 use Rattle.auditor.specs.Parts.{part_text}
 use Rattle.auditor.specs.Replays.{Begins, EndsIn, HasCutStart, IsAt, IsCompared, IsMetAt, IsPassed, IsRead, IsReadOf, IsSomewhere, IsUnderway, Waits, base_wanted}
 use Rattle.auditor.specs.Verdict.{IsJudged}
-use Rattle.auditor.proofs.Going.{begun_at, behind_judged}
+use Rattle.auditor.proofs.Going.{behind_judged}
 use Rattle.auditor.proofs.Windows.{begins_more, same_more}
 
 -- ---- more bytes come
@@ -36,6 +36,44 @@ at_more bytes more replay rest at =
       };
       counted = λ good e. at.counted good (append_cancel_right bytes (good ++ rest) more (e ∙ sym (append_assoc good rest more)));
     }
+
+-- and fewer
+pub at_less : (bytes more : List ℕ) (replay : Replay) (rest all : List ℕ) → all ≡ rest ++ more → IsAt bytes replay all → (front : List ℕ) × (bytes ≡ front ++ more) × IsAt front replay rest
+at_less bytes more replay rest all is at =
+    let r = at.reached in
+    let f = r.follows in
+    let splits : bytes ≡ (f.good ++ rest) ++ more = f.splits ∙ ap (λ (l : List ℕ). f.good ++ l) is ∙ sym (append_assoc f.good rest more) in
+    let less : IsAt (f.good ++ rest) replay rest = record {
+      reached = record {
+        log = r.log;
+        follows = record { opening = f.opening; good = f.good; transcript = f.transcript; splits = refl };
+        size_is = r.size_is;
+        counts = r.counts;
+      };
+      counted = λ good e. at.counted good (splits ∙ ap (λ (l : List ℕ). l ++ more) e ∙ append_assoc good rest more ∙ ap (λ (l : List ℕ). good ++ l) (sym is));
+    } in
+    (f.good ++ rest, splits, less)
+
+pub somewhere_less : (more : List ℕ) (replay : Replay) (rest all : List ℕ) → all ≡ rest ++ more → IsSomewhere replay all → IsSomewhere replay rest
+somewhere_less more replay rest all is somewhere = ∥∥₁_map somewhere (λ s.
+    let less = at_less s.bytes more replay rest all is s.at in
+    let l = ap length less.1 ∙ length-append less.0 more in
+    record { bytes = less.0; few = omega (arith, l, s.few); at = less.2 })
+
+-- where what is made of fewer bytes holds, more of them follow
+pub at_on : (bytes more : List ℕ) (old new : Replay) (rest all behind : List ℕ) → all ≡ rest ++ more → ((read : List ℕ) → IsAt read old rest → IsAt read new behind) → IsAt bytes old all → IsAt bytes new (behind ++ more)
+at_on bytes more old new rest all behind is on at =
+    let less = at_less bytes more old rest all is at in
+    subst (λ (l : List ℕ). IsAt l new (behind ++ more)) (sym less.1) (at_more less.0 more new behind (on less.0 less.2))
+
+pub somewhere_on : (more : List ℕ) (old new : Replay) (rest all behind : List ℕ) → all ≡ rest ++ more → ((read : List ℕ) → IsAt read old rest → IsAt read new behind) → IsSomewhere old all → IsSomewhere new (behind ++ more)
+somewhere_on more old new rest all behind is on somewhere =
+    ∥∥₁_map somewhere (λ s. record { bytes = s.bytes; few = s.few; at = at_on s.bytes more old new rest all behind is on s.at })
+
+pub fault_less : (bytes more later : List ℕ) (replay : Replay) (rest all : List ℕ) (fault : JudgeFault) → all ≡ rest ++ more → ((read later : List ℕ) → IsAt read replay rest → IsJudged (read ++ later) (Err fault)) → IsAt bytes replay all → IsJudged (bytes ++ later) (Err fault)
+fault_less bytes more later replay rest all fault is judged at =
+    let less = at_less bytes more replay rest all is at in
+    subst (λ (l : List ℕ). IsJudged l (Err fault)) (sym (append_assoc less.0 more later) ∙ ap (λ (l : List ℕ). l ++ later) (sym less.1)) (judged less.0 (more ++ later) less.2)
 
 pub compared_more : (replay : Replay) (rest more : List ℕ) → IsCompared replay rest → IsCompared replay (rest ++ more)
 compared_more replay rest more compared = ∥∥₁_map compared (λ c. record { text = by c.text; alike = same_more replay.wanted.items rest more replay.same c.alike })
@@ -77,9 +115,6 @@ grown_somewhere trial piece run new is grown room (few, some) = ∥∥₁_map so
   at = (held_some r.0 piece trial.run run trial.held.items new is grown r.1.1).0;
 })
 
-pub grown_compared : (trial : Trial) (piece : List ℕ) (run : Replay) (new : List ℕ) → trial.run ≡ Some run → new ≡ trial.held.items ++ piece → IsUnderway trial → IsCompared run new
-grown_compared trial piece run new is grown (few, some) = ∥∥₁_elim some ∥∥₁_prop (λ r. (held_some r.0 piece trial.run run trial.held.items new is grown r.1.1).1)
-
 -- ---- the parts in what is held
 
 pub waits_none : {X : Type 0} (now : X → List ℕ) (found : Option X) (old new : Replay) (rest : List ℕ) → MatchOption found (Waits old new rest) (λ b. IsPassed old new rest (now b)) → found ≡ None → Waits old new rest
@@ -114,16 +149,23 @@ dropped all held rest new n same (front, is) count e =
 pub begins_ends : (text : List ℕ) (replay : Replay) (rest : List ℕ) → Begins text replay rest → EndsIn text rest
 begins_ends text replay rest b = (b.opened.follows.good, b.opened.follows.splits)
 
-pub begins_held : (all held rest new : List ℕ) (replay : Replay) (n : ℕ) → held ≡ all → Begins held replay rest → n ≡ length held - length rest → new ≡ drop n all → IsAt all replay new
-begins_held all held rest new replay n same b count e =
-    let left = dropped all held rest new n same (begins_ends held replay rest b) count e in
-    subst (IsAt all replay) (sym left) (subst (λ (l : List ℕ). IsAt l replay rest) same (begun_at held replay rest b))
+pub ends_behind : (text rest behind : List ℕ) → EndsIn text rest → EndsIn rest behind → EndsIn text behind
+ends_behind text rest behind (front, is) (more, splits) = (front ++ more, is ∙ ap (λ (l : List ℕ). front ++ l) splits ∙ sym (append_assoc front more behind))
+
+-- what is cut in two
+pub halves : (held piece first others : List ℕ) (n : ℕ) → first ≡ take n piece → others ≡ drop n piece → held ++ piece ≡ (held ++ first) ++ others
+halves held piece first others n front back =
+    ap (λ (l : List ℕ). held ++ l) (sym (take-append-drop n piece) ∙ sym (ap₂ (λ (x y : List ℕ). x ++ y) front back)) ∙ sym (append_assoc held first others)
 
 -- ---- results
 
 pub for_on : {T E : Type 0} (r : Result T E) (A B : Type 0) → OnOk r A → (A → B) → OnOk r B
 for_on (Ok x) A B h f = f h
 for_on (Err e) A B h f = tt
+
+pub for_both : {T E : Type 0} (r : Result T E) (A B C : Type 0) → OnOk r A → OnOk r B → (A → B → C) → OnOk r C
+for_both (Ok x) A B C h g f = f h g
+for_both (Err e) A B C h g f = tt
 
 pub for_err : {T E : Type 0} (r : Result T E) (P Q : E → Type 0) → IfErr r P → ((e : E) → P e → Q e) → IfErr r Q
 for_err (Ok x) P Q h f = tt

@@ -1,6 +1,6 @@
 //! A transcript that is judged, in memory or as it comes.
 
-ghost use Rattle.std.specs.Prelude.{◌≡◌, ◌<◌, ◌≤◌, ◌^◌, ◌++◌, ℕ, List, [], Err, IfErr, IfOk, OnOk, Some, drop, length};
+ghost use Rattle.std.specs.Prelude.{◌≡◌, ◌<◌, ◌≤◌, ◌+◌, ◌^◌, ◌++◌, ℕ, List, [], Err, IfErr, IfOk, None, OnOk, drop, length};
 ghost use Rattle.auditor.specs.Replays.{EndsIn, IsAt, IsCompared, IsRead, IsReadOf, IsSomewhere, IsUnderway};
 ghost use Rattle.auditor.specs.Verdict.{IsJudged};
 
@@ -84,7 +84,8 @@ pub(crate) fn judge_text(alloc: Global, text: &[u8]) -> Result<Summary, JudgeFau
 fn judge_parts(alloc: Global, run: &mut Replay, held: &mut Vec<u8>) -> Result<(), JudgeFault>
     requires at { IsSomewhere run.old held.old.items }
     requires compared { IsCompared run.old held.old.items }
-    ensures on { OnOk result ((read : List ℕ) → IsAt read run.old held.old.items → IsReadOf read (Some run.new) held.new.items) }
+    ensures at { OnOk result ((read : List ℕ) → IsAt read run.old held.old.items → IsAt read run.new held.new.items) }
+    ensures compared { OnOk result (IsCompared run.new held.new.items) }
     ensures fault { IfErr result (λ fault. (read more : List ℕ) → IsAt read run.old held.old.items → IsJudged (read ++ more) (Err fault)) }
 {
     let left = match run.pass_parts(alloc, held) {
@@ -96,20 +97,74 @@ fn judge_parts(alloc: Global, run: &mut Replay, held: &mut Vec<u8>) -> Result<()
     Ok(())
 }
 
+// Judges the parts that are whole in what is held and the bytes behind it, and holds what follows them. Where nothing is held, the
+// bytes are judged where they are.
+fn judge_behind(
+    alloc: Global,
+    run: &mut Replay,
+    held: &mut Vec<u8>,
+    bytes: &[u8],
+) -> Result<(), JudgeFault>
+    requires at { IsSomewhere run.old (held.old.items ++ bytes.now) }
+    requires compared { IsCompared run.old held.old.items }
+    ensures at { OnOk result ((read : List ℕ) → IsAt read run.old (held.old.items ++ bytes.now) → IsAt read run.new held.new.items) }
+    ensures compared { OnOk result (IsCompared run.new held.new.items) }
+    ensures fault { IfErr result (λ fault. (read more : List ℕ) → IsAt read run.old (held.old.items ++ bytes.now) → IsJudged (read ++ more) (Err fault)) }
+{
+    if !held.is_empty() {
+        held.extend_from_slice(bytes)?;
+        return judge_parts(alloc, run, held);
+    }
+    match run.pass_parts(alloc, bytes) {
+        Ok(rest) => {
+            held.extend_from_slice(rest)?;
+            Ok(())
+        }
+        Err(fault) => Err(fault),
+    }
+}
+
+// The same of a piece, whose first line ends what is held. So no more is copied than what a piece begins and does not end.
+fn judge_piece(
+    alloc: Global,
+    run: &mut Replay,
+    held: &mut Vec<u8>,
+    piece: &[u8],
+) -> Result<(), JudgeFault>
+    requires at { IsSomewhere run.old (held.old.items ++ piece.now) }
+    requires compared { IsCompared run.old held.old.items }
+    ensures at { OnOk result ((read : List ℕ) → IsAt read run.old (held.old.items ++ piece.now) → IsAt read run.new held.new.items) }
+    ensures compared { OnOk result (IsCompared run.new held.new.items) }
+    ensures fault { IfErr result (λ fault. (read more : List ℕ) → IsAt read run.old (held.old.items ++ piece.now) → IsJudged (read ++ more) (Err fault)) }
+{
+    let Some((_, behind)) = split_line(piece) else {
+        held.extend_from_slice(piece)?;
+        return Ok(());
+    };
+    let (first, others) = piece.split_at(piece.len() - behind.len());
+    match judge_behind(alloc, run, held, first) {
+        Ok(()) => judge_behind(alloc, run, held, others),
+        Err(fault) => Err(fault),
+    }
+}
+
 // Reads what the transcript begins with, if that is whole, and judges the parts behind it.
 fn begin(alloc: Global, held: &mut Vec<u8>) -> Result<Option<Replay>, JudgeFault>
     requires { length held.old.items < 2 ^ 63 }
     ensures on { IfOk result (λ run. IsReadOf held.old.items run held.new.items) }
     ensures fault { IfErr result (λ fault. (more : List ℕ) → IsJudged (held.old.items ++ more) (Err fault)) }
 {
-    let (mut run, left) = match Replay::open(alloc, held) {
-        Ok(Some((run, rest))) => (run, rest.len()),
+    let (mut run, rest) = match Replay::open(alloc, held) {
+        Ok(Some(begun)) => begun,
         Ok(None) => return Ok(None),
         Err(fault) => return Err(fault),
     };
-    let opening = held.len() - left;
-    drop_front(held, opening);
-    judge_parts(alloc, &mut run, held)?;
+    let left = match run.pass_parts(alloc, rest) {
+        Ok(behind) => behind.len(),
+        Err(fault) => return Err(fault),
+    };
+    let passed = held.len() - left;
+    drop_front(held, passed);
     Ok(Some(run))
 }
 
@@ -126,13 +181,17 @@ impl Trial {
         }
     }
 
-    // Reads what the transcript begins with; where that is not whole, it is tried again once there is twice as much.
-    fn begin(&mut self, alloc: Global) -> Result<(), JudgeFault>
-        requires few { length self.old.held.items < 2 ^ 63 }
-        ensures on { OnOk result (IsReadOf self.old.held.items self.new.run self.new.held.items) }
+    // Holds a piece, and reads what the transcript begins with; where that is not whole, it is tried again once there is twice as much.
+    fn begin(&mut self, alloc: Global, piece: &[u8]) -> Result<(), JudgeFault>
+        requires unbegun { self.old.run ≡ None }
+        ensures on { OnOk result (IsReadOf (self.old.held.items ++ piece.now) self.new.run self.new.held.items) }
         ensures len { self.new.len ≡ self.old.len }
-        ensures fault { IfErr result (λ fault. (more : List ℕ) → IsJudged (self.old.held.items ++ more) (Err fault)) }
+        ensures fault { IfErr result (λ fault. (more : List ℕ) → IsJudged (self.old.held.items ++ piece.now ++ more) (Err fault)) }
     {
+        self.held.extend_from_slice(piece)?;
+        if split_line(piece).is_none() || self.held.len() < self.enough {
+            return Ok(());
+        }
         self.run = begin(alloc, &mut self.held)?;
         self.enough = if self.run.is_none() {
             self.held.len() * 2
@@ -154,14 +213,10 @@ impl Trial {
             return Err(JudgeFault::Memory);
         }
         self.len += len;
-        self.held.extend_from_slice(piece)?;
-        if split_line(piece).is_none() || self.held.len() < self.enough {
-            return Ok(());
-        }
         let Some(run) = &mut self.run else {
-            return self.begin(alloc);
+            return self.begin(alloc, piece);
         };
-        judge_parts(alloc, run, &mut self.held)
+        judge_piece(alloc, run, &mut self.held, piece)
     }
 
     /// Judges what is left, where nothing comes behind what was read.

@@ -1,10 +1,8 @@
-use Rattle.std.proofs.Common.{◌-◌, ◌++◌, ℕ, List, Err, length, sym, subst, arith}
-use Rattle.entry_grammar.proofs.BaseBreaks.{by_error}
-use Rattle.auditor.specs.declared.damage.JudgeFault.{JudgeFault}
+use Rattle.std.proofs.Common.{◌-◌, ◌<◌, ◌^◌, ◌++◌, ℕ, List, Err, length, sym, subst, arith}
 use Rattle.auditor.specs.Verdict.{IsJudged}
-use Rattle.auditor.specs.Replays.{Begins, IsAt}
-use Rattle.auditor.proofs.Going.{first_judged}
-use Rattle.auditor.proofs.Reading.{begins_by, begins_held}
+use Rattle.auditor.specs.Replays.{Begins, IsAt, IsCompared}
+use Rattle.auditor.proofs.Going.{begun_at, first_judged}
+use Rattle.auditor.proofs.Reading.{begins_by, begins_ends, dropped, ends_behind}
 use Rattle.auditor.proofs.judging.begin.Goals as goal
 
 pub returns-in-Err-clause-fault : goal.returns-in-Err-clause-fault
@@ -12,33 +10,30 @@ returns-in-Err-clause-fault c more =
     let held = c.deref.result.now in
     subst (λ (l : List ℕ). IsJudged (l ++ more) (Err c.in-Err.fault)) c.deref.ensures.value (first_judged (held ++ more) c.in-Err.fault (c.in-Err.ensures.fault more))
 
-pub judge_parts-requires-clause-at : goal.judge_parts-requires-clause-at
-judge_parts-requires-clause-at c =
-    let all = c.args.held.now.items in
+pub pass_parts-requires-clause-at : goal.pass_parts-requires-clause-at
+pass_parts-requires-clause-at c =
     let held = c.deref.result.now in
-    let rest = c.in-Ok-Some.rest.now in
-    let begins : Begins held c.in-Ok-Some.run' rest = begins_by (λ b. b.0) (λ b. b.1.now) c.in-Ok-Some.field-0 held (c.in-Ok-Some.run', c.in-Ok-Some.rest) c.in-Ok-Some.ensures.begins c.in-Ok-Some.field-0-is in
-    let at : IsAt all c.in-Ok-Some.run' c.drop_front.new.bytes.items =
-    begins_held all held rest c.drop_front.new.bytes.items c.in-Ok-Some.run' (c.len.result - length rest) c.deref.ensures.value begins (omega (arith, c.len.ensures, c.deref.ensures.len)) c.drop_front.ensures in
-    ∣ record { bytes = all; few = c.requires; at = at } ∣₁
+    let begun = c.in-Ok-Some.begun in
+    let begins : Begins held begun.0 begun.1.now = begins_by (λ b. b.0) (λ b. b.1.now) c.in-Ok-Some.field-0 held begun c.in-Ok-Some.ensures.begins c.in-Ok-Some.field-0-is in
+    ∣ record { bytes = held; few = subst (λ (l : List ℕ). length l < 2 ^ 63) (sym c.deref.ensures.value) c.requires; at = begun_at held begun.0 begun.1.now begins } ∣₁
 
-pub returns-in_err-judge_parts-clause-fault : goal.returns-in_err-judge_parts-clause-fault
-returns-in_err-judge_parts-clause-fault c =
-    let all = c.args.held.now.items in
+pub returns-in-Err-pass_parts-clause-fault : goal.returns-in-Err-pass_parts-clause-fault
+returns-in-Err-pass_parts-clause-fault c more =
     let held = c.deref.result.now in
-    let rest = c.in-Ok-Some.rest.now in
-    let begins : Begins held c.in-Ok-Some.run' rest = begins_by (λ b. b.0) (λ b. b.1.now) c.in-Ok-Some.field-0 held (c.in-Ok-Some.run', c.in-Ok-Some.rest) c.in-Ok-Some.ensures.begins c.in-Ok-Some.field-0-is in
-    let at : IsAt all c.in-Ok-Some.run' c.drop_front.new.bytes.items =
-    begins_held all held rest c.drop_front.new.bytes.items c.in-Ok-Some.run' (c.len.result - length rest) c.deref.ensures.value begins (omega (arith, c.len.ensures, c.deref.ensures.len)) c.drop_front.ensures in
-    by_error c.from_residual.result _ _ c.from_residual.ensures.1 (λ fault q more.
-    subst (λ (f : JudgeFault). IsJudged (all ++ more) (Err f)) (sym q) (c.in_err-judge_parts.ensures.fault all more at))
+    let begun = c.in-Ok-Some.begun in
+    let begins : Begins held begun.0 begun.1.now = begins_by (λ b. b.0) (λ b. b.1.now) c.in-Ok-Some.field-0 held begun c.in-Ok-Some.ensures.begins c.in-Ok-Some.field-0-is in
+    subst (λ (l : List ℕ). IsJudged (l ++ more) (Err c.in-Err-pass_parts.fault)) c.deref.ensures.value (c.in-Err-pass_parts.ensures.fault held more (begun_at held begun.0 begun.1.now begins))
 
 pub returns-clause-on : goal.returns-clause-on
 returns-clause-on c =
     let all = c.args.held.now.items in
     let held = c.deref.result.now in
-    let rest = c.in-Ok-Some.rest.now in
-    let begins : Begins held c.in-Ok-Some.run' rest = begins_by (λ b. b.0) (λ b. b.1.now) c.in-Ok-Some.field-0 held (c.in-Ok-Some.run', c.in-Ok-Some.rest) c.in-Ok-Some.ensures.begins c.in-Ok-Some.field-0-is in
-    let at : IsAt all c.in-Ok-Some.run' c.drop_front.new.bytes.items =
-    begins_held all held rest c.drop_front.new.bytes.items c.in-Ok-Some.run' (c.len.result - length rest) c.deref.ensures.value begins (omega (arith, c.len.ensures, c.deref.ensures.len)) c.drop_front.ensures in
-    c.in_ok-judge_parts.ensures.on all at
+    let begun = c.in-Ok-Some.begun in
+    let begins : Begins held begun.0 begun.1.now = begins_by (λ b. b.0) (λ b. b.1.now) c.in-Ok-Some.field-0 held begun c.in-Ok-Some.ensures.begins c.in-Ok-Some.field-0-is in
+    let rest = c.in-Ok.behind.now in
+    let new = c.pass_parts.new.self in
+    let ends = ends_behind held begun.1.now rest (begins_ends held begun.0 begun.1.now begins) c.in-Ok.ensures.behind in
+    let same = dropped all held rest c.drop_front.new.bytes.items (c.len.result - length rest) c.deref.ensures.value ends (omega (arith, c.len.ensures, c.deref.ensures.len)) c.drop_front.ensures in (
+      subst (IsAt all new) (sym same) (subst (λ (l : List ℕ). IsAt l new rest) c.deref.ensures.value (c.in-Ok.ensures.at held (begun_at held begun.0 begun.1.now begins))),
+      subst (IsCompared new) (sym same) c.in-Ok.ensures.compared,
+    )
