@@ -2,11 +2,11 @@
 use Rattle.std.proofs.Common.{◌≡◌, ◌≢◌, ℕ, zero, suc, ◌+◌, ◌-◌, ◌<◌, ◌≤◌, List, [], ◌∷◌, ◌++◌, length, set, sym, refl, ap, ◌∙◌, subst, ⊎_elim, append-nil, arith}
 use Rattle.std.specs.Prelude.{Option, Some, None, IfSome, MatchOption}
 use Rattle.std.specs.List.{sum_by, range_with_len}
-use Rattle.std.proofs.lemmas.List.Sums.{sum_by-append, sum_by-cons, sum_by_push}
+use Rattle.std.proofs.lemmas.List.Sums.{sum_by-append, sum_by-cons, sum_by-le, sum_by_push}
 use mathlib.Core.Option.{some, some-injective, some-ne-none}
 use lib.ListN.{get_elem?}
 use Rattle.std.proofs.lemmas.Bool.{cases_lt}
-use Rattle.std.proofs.lemmas.List.FromFn.{length-range_with_len}
+use Rattle.std.proofs.lemmas.List.FromFn.{get_or-range_with_len, length-range_with_len}
 use Rattle.crossbeam_deque.specs.Tasks.{Pushes, Takes as Leaves, Finds, FindsFew, Forks, Merges}
 use Rattle.crossbeam_deque.proofs.Lists.{at_set, at_snoc, set_else}
 use Rattle.place_deque.specs.declared.block.Block.{Block}
@@ -19,12 +19,6 @@ total_set f [] port v w at = absurd (some-ne-none v (sym at))
 total_set f (x ∷ xs) zero v w at = let e : f x ≡ f v = ap f (some-injective x v at) in omega (arith, sum_by-cons f x xs, sum_by-cons f w xs)
 total_set f (x ∷ xs) (suc port) v w at = omega (arith, total_set f xs port v w at, sum_by-cons f x xs, sum_by-cons f x (set xs port w))
 
--- one pass has no more than all
-no_more : (f : Ledger → ℕ) (views : List Ledger) (port : ℕ) (v : Ledger) → get_elem? views port ≡ some v → f v ≤ sum_by f views
-no_more f [] port v at = absurd (some-ne-none v (sym at))
-no_more f (x ∷ xs) zero v at = let e : f x ≡ f v = ap f (some-injective x v at) in omega (arith, sum_by-cons f x xs)
-no_more f (x ∷ xs) (suc port) v at = omega (arith, no_more f xs port v at, sum_by-cons f x xs)
-
 -- where no pass has any of f, and g is 0 where f is, none has any of g
 none_of : (f g : Ledger → ℕ) (views : List Ledger) → sum_by f views ≡ 0 → ((j : ℕ) (u : Ledger) → get_elem? views j ≡ some u → f u ≡ 0 → g u ≡ 0) → sum_by g views ≡ 0
 none_of f g [] none too = refl
@@ -34,41 +28,13 @@ none_of f g (x ∷ xs) none too =
     let rest = none_of f g xs (omega arith) (λ j u. too (suc j) u) in
     omega (arith, sum_by-cons g x xs)
 
--- the same where all but one have none: that one has all of g
-one_has_all : (f g : Ledger → ℕ) (views : List Ledger) (port : ℕ) (v : Ledger) → get_elem? views port ≡ some v → sum_by f views ≡ f v → ((j : ℕ) (u : Ledger) → get_elem? views j ≡ some u → f u ≡ 0 → g u ≡ 0) → sum_by g views ≡ g v
-one_has_all f g [] port v at all too = absurd (some-ne-none v (sym at))
-one_has_all f g (x ∷ xs) zero v at all too =
-    let e = some-injective x v at in
-    let ef : f x ≡ f v = ap f e in
-    let eg : g x ≡ g v = ap g e in
-    let cut = sum_by-cons f x xs in
-    let rest = none_of f g xs (omega arith) (λ j u. too (suc j) u) in
-    omega (arith, sum_by-cons g x xs)
-one_has_all f g (x ∷ xs) (suc port) v at all too =
-    let most = no_more f xs port v at in
-    let cut = sum_by-cons f x xs in
-    let first : g x ≡ 0 = too 0 x refl (omega arith) in
-    let rest = one_has_all f g xs port v at (omega arith) (λ j u. too (suc j) u) in
-    omega (arith, sum_by-cons g x xs)
-
--- a pass stands where it was put
-stands : (views : List Ledger) (port : ℕ) (v w : Ledger) → get_elem? views port ≡ some v → get_elem? (set views port w) port ≡ some w
-stands [] port v w at = absurd (some-ne-none v (sym at))
-stands (x ∷ xs) zero v w at = refl
-stands (x ∷ xs) (suc port) v w at = stands xs port v w at
-
 -- where one pass has the whole, no other has a part
 no_part : (views : List Ledger) (port : ℕ) (v : Ledger) → get_elem? views port ≡ some v → sum_by (λ u. u.parts) views ≡ v.parts → (j : ℕ) (u : Ledger) → j ≢ port → get_elem? views j ≡ some u → u.parts ≡ 0
 no_part views port v at all j u other there =
     let gone = ledger 0 0 [] in
     let total = total_set (λ (x : Ledger). x.parts) views port v gone at in
-    let most = no_more (λ (x : Ledger). x.parts) (set views port gone) j u (set_else views port j gone other ∙ there) in
+    let most = total_set (λ (x : Ledger). x.parts) (set views port gone) j u gone (set_else views port j gone other ∙ there) in
     omega arith
-
--- one place more weighs that much more
-one_more : (h : ℕ → ℕ) (a n j : ℕ) → a + n ≡ j → sum_by h (range_with_len a (suc n)) ≡ sum_by h (range_with_len a n) + h j
-one_more h a zero j at = let e : h a ≡ h j = ap h (omega arith) in omega (arith, sum_by-cons h a [])
-one_more h a (suc n) j at = omega (arith, one_more h (a + 1) n j (omega arith), sum_by-cons h a (range_with_len (a + 1) (suc n)), sum_by-cons h a (range_with_len (a + 1) n))
 
 -- numbers behind others weigh both
 behind : (h : ℕ → ℕ) (a n m all b : ℕ) → n + m ≡ all → a + n ≡ b → sum_by h (range_with_len a all) ≡ sum_by h (range_with_len a n) + sum_by h (range_with_len b m)
@@ -80,13 +46,6 @@ behind h a zero m all b size next =
 behind h a (suc n) m zero b size next = absurd (omega arith)
 behind h a (suc n) m (suc all) b size next =
     omega (arith, behind h (a + 1) n m all b (omega arith) (omega arith), sum_by-cons h a (range_with_len (a + 1) all), sum_by-cons h a (range_with_len (a + 1) n))
-
--- the places up to the end of a block are those in front of it and its own
-put_weighs : (h : ℕ → ℕ) (count : ℕ) (b : Block) → count ≡ b.first → sum_by h (places b.end) ≡ sum_by h (places count) + sum_by h (block_places b)
-put_weighs h count b next =
-    let filled : b.first < b.end = b.some in
-    let from : sum_by h (places count) ≡ sum_by h (places b.first) = ap (λ (n : ℕ). sum_by h (places n)) next in
-    omega (arith, behind h 0 b.first (b.end - b.first) b.end b.first (omega arith) (omega arith))
 
 -- blocks weigh what their places do
 blocks_weigh : (h : ℕ → ℕ) (xs ys : List Block) → sum_by h (places_in (xs ++ ys)) ≡ sum_by h (places_in xs) + sum_by h (places_in ys)
@@ -123,8 +82,9 @@ puts port v block all next items views b at =
         once = λ h.
             let s = total_set (λ (u : Ledger). sum_by h u.taken) views port v w at in
             let p = b.once h in
-            let m = put_weighs h v.count block next in
-            let e : sum_by h (places v.count) ≡ sum_by h (places b.count) = ap (λ n. sum_by h (places n)) size in
+            let filled : block.first < block.end = block.some in
+            let m = behind h 0 block.first (block.end - block.first) block.end block.first (omega arith) (omega arith) in
+            let e : sum_by h (places block.first) ≡ sum_by h (places b.count) = ap (λ n. sum_by h (places n)) (sym next ∙ size) in
             let a = blocks_weigh h items (block ∷ []) in
             let one : sum_by h (places_in (block ∷ [])) ≡ sum_by h (block_places block) = ap (sum_by h) (one_block block) in
             omega arith;
@@ -158,7 +118,8 @@ takes port v part xs items views some_left few b at =
       (
         refl,
         λ h.
-            let most = no_more (λ (u : Ledger). sum_by h u.taken) (set views port w) port w (stands views port v w at) in
+            let most = total_set (λ (u : Ledger). sum_by h u.taken) views port v (ledger 0 0 []) at in
+            let s = total_set (λ (u : Ledger). sum_by h u.taken) views port v w at in
             let p = once h in
             let e : sum_by h (places v.count) ≡ sum_by h (places b.count) = ap (λ n. sum_by h (places n)) size in
             omega arith,
@@ -167,9 +128,13 @@ takes port v part xs items views some_left few b at =
 
 pub found : (port : ℕ) (v : Ledger) → Finds Balanced port v (KnowsAll v)
 found port v views b at all h =
+    let gone = ledger 0 0 [] in
     let whole = b.whole in
     let size : v.count ≡ b.count = (b.known port v at).1 (omega arith) in
-    let mine = one_has_all (λ (u : Ledger). u.parts) (λ (u : Ledger). sum_by h u.taken) views port v at (omega arith) (λ j u there none. ap (sum_by h) ((b.known j u there).0 none)) in
+    let parts = total_set (λ (u : Ledger). u.parts) views port v gone at in
+    let taken = total_set (λ (u : Ledger). sum_by h u.taken) views port v gone at in
+    let others = none_of (λ (u : Ledger). u.parts) (λ (u : Ledger). sum_by h u.taken) (set views port gone) (omega arith)
+    (λ j u there none. ap (sum_by h) ((known_set b.count views port gone ((λ _. refl), λ part. absurd (omega arith)) (λ k y _ here. b.known k y here) j u there).0 none)) in
     let p = b.once h in
     let e : sum_by h (places v.count) ≡ sum_by h (places b.count) = ap (λ n. sum_by h (places n)) size in
     omega arith
@@ -223,38 +188,27 @@ merges port v other w part items views b at apart theirs =
           (λ j u _ here. known_set b.count views port both ((λ none. absurd (omega arith)), λ _. size) (λ k y _ there. b.known k y there) j u here);
     }
 
--- no place that was put is above all
-zero_below : (a n b : ℕ) → a + n ≤ b → sum_by (λ y. y + 1 - b) (range_with_len a n) ≡ 0
-zero_below a zero b within = refl
-zero_below a (suc n) b within = omega (arith, zero_below (a + 1) n b (omega arith), sum_by-cons (λ (y : ℕ). y + 1 - b) a (range_with_len (a + 1) n))
-
 -- a list weighs its length where each weighs one
 ones : (xs : List ℕ) → sum_by (λ _. 1) xs ≡ length xs
 ones [] = refl
 ones (x ∷ xs) = omega (arith, ones xs, sum_by-cons (λ (_ : ℕ). 1) x xs)
 
--- numbers of which none is above all end there
-ends_below : (a n b : ℕ) → 0 < n → sum_by (λ y. y + 1 - b) (range_with_len a n) ≡ 0 → a + n ≤ b
-ends_below a zero b filled none = absurd (omega arith)
-ends_below a (suc zero) b filled none = omega (arith, sum_by-cons (λ (y : ℕ). y + 1 - b) a [])
-ends_below a (suc (suc n)) b filled none = omega (arith, ends_below (a + 1) (suc n) b (omega arith) (omega (arith, sum_by-cons (λ (y : ℕ). y + 1 - b) a (range_with_len (a + 1) (suc n)))))
-
 -- the places taken are some that were put, and no more are taken than were put
 pub within : (count : ℕ) (block : Block) (before taken : List ℕ) → taken ≡ before ++ places_in (block ∷ []) → ArePlaces count taken → (block.end ≤ count) × (length taken ≤ count)
 within count block before taken is are = (
   (let above : ℕ → ℕ = λ y. y + 1 - count in
-      let e : sum_by above taken ≡ sum_by above (before ++ places_in (block ∷ [])) = ap (sum_by above) is in
-      let one : sum_by above (places_in (block ∷ [])) ≡ sum_by above (block_places block) = ap (sum_by above) (one_block block) in
+      let e : sum_by above taken ≡ sum_by above (before ++ block_places block) = ap (sum_by above) (is ∙ ap (λ bs. before ++ bs) (one_block block)) in
       let filled : block.first < block.end = block.some in
-      let last = ends_below block.first (block.end - block.first) count (omega arith) (omega (arith, are above, zero_below 0 count count (omega arith), sum_by-append above before (places_in (block ∷ [])))) in
-      omega arith),
+      let last = behind above block.first (block.end - 1 - block.first) 1 (block.end - block.first) (block.end - 1) (omega arith) (omega arith) in
+      let none = sum_by-le above 0 (places count) (λ k d below. let len = length-range_with_len 0 count in let at = get_or-range_with_len 0 count k d (omega arith) in omega arith) in
+      omega (arith, are above, sum_by-append above before (block_places block))),
   omega (arith, are (λ _. 1), ones taken, ones (places count), length-range_with_len 0 count),
 )
 
 -- every place that was put weighs in
 pub has_place : (count k : ℕ) → k < count → 1 ≤ sum_by (λ y. 1 - ((y - k) + (k - y))) (places count)
 has_place (suc count) k below =
-    let more = one_more (λ (y : ℕ). 1 - ((y - k) + (k - y))) 0 count count (omega arith) in
+    let more = behind (λ (y : ℕ). 1 - ((y - k) + (k - y))) 0 count 1 (suc count) count (omega arith) (omega arith) in
     ⊎_elim (λ (less : k < count). let rest = has_place count k less in omega arith) (λ (last : count ≤ k). omega arith) (cases_lt k count)
 has_place zero k below = absurd (omega arith)
 

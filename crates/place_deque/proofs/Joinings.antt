@@ -1,9 +1,11 @@
 -- All ends of a deque: how they are made, and how they are joined again.
 use Rattle.std.specs.Prelude.{IsPermutation}
-use Rattle.std.proofs.Common.{◌≡◌, ℕ, suc, ◌+◌, ◌-◌, ◌<◌, ◌≤◌, List, [], ◌∷◌, ◌++◌, length, map, All, get_or, sym, refl, ap, ◌∙◌, subst, arith}
+use Rattle.std.proofs.Common.{◌≡◌, ℕ, suc, ◌+◌, ◌-◌, ◌<◌, ◌≤◌, List, [], ◌∷◌, ◌++◌, length, map, All, get_or, Some, sym, refl, ap, ◌∙◌, subst, arith}
 use Rattle.std.specs.List.{sum_by, swap_remove}
-use Rattle.std.proofs.lemmas.List.Sums.{sum_by-append, sum_by-cons, sum_by_push, sum_by-swap_remove}
-use Rattle.std.proofs.lemmas.List.Elements.{All-nil, All-cons, All-append, All-take, All-drop, All-map}
+use Rattle.std.proofs.lemmas.List.{get_or-map, length-map}
+use Rattle.std.proofs.lemmas.List.Folds.{fold-map}
+use Rattle.std.proofs.lemmas.List.Sums.{sum_by-append, sum_by-cons, sum_by-le, sum_by_push, sum_by-swap_remove}
+use Rattle.std.proofs.lemmas.List.Elements.{All-append, All-take, All-drop, All-map, All-pop, All-push}
 use Rattle.std.proofs.lemmas.List.Sorted.{All-permutation, IsPermutation-swap_remove}
 use lib.Seq.{take-append_seam, drop-append_seam}
 use Rattle.place_deque.specs.declared.ledger.Ledger.{Ledger}
@@ -16,13 +18,11 @@ use Rattle.place_deque.specs.Ends.{DequeName, owner_deque, owner_ledger, thief_d
 
 -- a sum over what is said of ends
 sum_map : (f : Hold → ℕ) (xs : List DequeEnd) → sum_by f (map end_hold xs) ≡ sum_by (λ e. f (end_hold e)) xs
-sum_map f [] = refl
-sum_map f (x ∷ xs) = omega (arith, sum_map f xs, sum_by-cons f (end_hold x) (map end_hold xs), sum_by-cons (λ (e : DequeEnd). f (end_hold e)) x xs)
+sum_map f xs = fold-map (λ a h. a + f h) end_hold 0 xs
 
 -- what all say of ends, said of their names
 all_unmap : (P : Hold → Type 0) (xs : List DequeEnd) → All P (map end_hold xs) → All (λ e. P (end_hold e)) xs
-all_unmap P [] all = All-nil (λ e. P (end_hold e))
-all_unmap P (x ∷ xs) all = All-cons (λ e. P (end_hold e)) x xs (all 0 (end_hold x) (omega arith)) (all_unmap P xs (λ k d within. all (suc k) d (omega arith)))
+all_unmap P xs all k d within = subst P (get_or-map end_hold xs k d (end_hold d) within) (all k (end_hold d) (omega (arith, length-map xs end_hold)))
 
 -- a thief's end that has one part and took nothing
 abbrev pub IsPart : DequeName → ℕ → DequeEnd → Type 0
@@ -34,17 +34,11 @@ sum_parts deque count (x ∷ xs) all =
     let here : (end_ledger x).parts ≡ 1 = ap (λ (v : Ledger). v.parts) (all 0 x (omega arith)).1 in
     omega (arith, sum_parts deque count xs (λ k d within. all (suc k) d (omega arith)), sum_by-cons (λ (e : DequeEnd). (end_ledger e).parts) x xs)
 
-sum_owners : (deque : DequeName) (count : ℕ) (xs : List DequeEnd) → All (IsPart deque count) xs → sum_by end_owners xs ≡ 0
-sum_owners deque count [] all = refl
-sum_owners deque count (x ∷ xs) all =
-    let here : end_owners x ≡ 0 = (all 0 x (omega arith)).2 in
-    omega (arith, sum_owners deque count xs (λ k d within. all (suc k) d (omega arith)), sum_by-cons end_owners x xs)
-
 -- the ends of thieves and the owner's behind them
 pub made_all : (count made : ℕ) (o : Owner) (xs ys : List DequeEnd) → All (IsPart (owner_deque o) count) xs → length xs + 1 ≡ made → made ≤ 64 → owner_ledger o ≡ ledger (65 - made) count [] → ys ≡ xs ++ end.Owner o ∷ [] → AreAllEnds count (map end_hold ys)
 made_all count made o xs ys parts size few known is =
     let All_of : (P : Hold → Type 0) → ((e : DequeEnd) → IsPart (owner_deque o) count e → P (end_hold e)) → P (end_hold (end.Owner o)) → All P (map end_hold ys) = λ P thieves own.
-    All-map P end_hold ys (subst (All (λ e. P (end_hold e))) (sym is) (All-append (λ e. P (end_hold e)) xs (end.Owner o ∷ []) (λ k d within. thieves _ (parts k d within)) (All-cons (λ e. P (end_hold e)) (end.Owner o) [] own (All-nil (λ e. P (end_hold e)))))) in
+    All-map P end_hold ys (subst (All (λ e. P (end_hold e))) (sym is) (All-push (λ e. P (end_hold e)) xs (end.Owner o) (λ k d within. thieves _ (parts k d within)) own)) in
     record {
       one = (owner_deque o, All_of (λ h. h.deque ≡ owner_deque o) (λ e part. part.0) refl);
       size = All_of (λ h. h.count ≡ count) (λ e part. ap (λ (v : Ledger). v.count) part.1) (ap (λ (v : Ledger). v.count) known);
@@ -54,12 +48,12 @@ made_all count made o xs ys parts size few known is =
           omega (arith, sum_map (λ h. h.parts) ys, sum_by_push (λ (e : DequeEnd). (end_ledger e).parts) xs (end.Owner o), sum_parts (owner_deque o) count xs parts);
       owner =
           let all : sum_by end_owners ys ≡ sum_by end_owners (xs ++ end.Owner o ∷ []) = ap (sum_by end_owners) is in
-          omega (arith, sum_map (λ h. h.owners) ys, sum_by_push end_owners xs (end.Owner o), sum_owners (owner_deque o) count xs parts);
+          omega (arith, sum_map (λ h. h.owners) ys, sum_by_push end_owners xs (end.Owner o), sum_by-le end_owners 0 xs (λ k d within. let here : end_owners (get_or xs k d) ≡ 0 = (parts k d within).2 in omega arith));
     }
 
 pub made_fresh : (count : ℕ) (deque : DequeName) (o : Owner) (xs ys : List DequeEnd) → All (IsPart deque count) xs → (owner_ledger o).taken ≡ [] → ys ≡ xs ++ end.Owner o ∷ [] → All (λ e. end_taken e ≡ []) ys
 made_fresh count deque o xs ys parts none is =
-    subst (All (λ e. end_taken e ≡ [])) (sym is) (All-append (λ e. end_taken e ≡ []) xs (end.Owner o ∷ []) (λ k d within. ap (λ (v : Ledger). v.taken) (parts k d within).1) (All-cons (λ e. end_taken e ≡ []) (end.Owner o) [] none (All-nil (λ e. end_taken e ≡ []))))
+    subst (All (λ e. end_taken e ≡ [])) (sym is) (All-push (λ e. end_taken e ≡ []) xs (end.Owner o) (λ k d within. ap (λ (v : Ledger). v.taken) (parts k d within).1) none)
 
 -- the owner has joined some of the ends `all`, and these are left
 pub record Joining (count : ℕ) (all : List DequeEnd) (o : Owner) (left : List DequeEnd) : Type 0 where
@@ -93,22 +87,15 @@ starts count xs left at o within is rest all =
       taken = λ h. omega (arith, sum (λ e. sum_by h (end_taken e)));
     }
 
--- of a list and one more
-front : (P : DequeEnd → Type 0) (xs : List DequeEnd) (x : DequeEnd) → All P (xs ++ x ∷ []) → All P xs
-front P xs x all = subst (All P) (take-append_seam xs (x ∷ [])) (All-take P (length xs) (xs ++ x ∷ []) all)
-
-back : (P : DequeEnd → Type 0) (xs : List DequeEnd) (x : DequeEnd) → All P (xs ++ x ∷ []) → P x
-back P xs x all = subst (All P) (drop-append_seam xs (x ∷ [])) (All-drop P (length xs) (xs ++ x ∷ []) all) 0 x (omega arith)
-
 pub same_deque : (count : ℕ) (all : List DequeEnd) (o : Owner) (left rest : List DequeEnd) (t : Thief) → left ≡ rest ++ end.Thief t ∷ [] → Joining count all o left → thief_deque t ≡ owner_deque o
-same_deque count all o left rest t is j = back (λ e. end_deque e ≡ owner_deque o) rest (end.Thief t) (subst (All (λ e. end_deque e ≡ owner_deque o)) is j.one)
+same_deque count all o left rest t is j = (All-pop (λ e. end_deque e ≡ owner_deque o) left rest (Some (end.Thief t)) is j.one).1
 
 pub joins : (count : ℕ) (all : List DequeEnd) (o p : Owner) (left rest : List DequeEnd) (t : Thief) → left ≡ rest ++ end.Thief t ∷ [] → owner_deque p ≡ owner_deque o → owner_ledger p ≡ joined (owner_ledger o) (thief_ledger t) → Joining count all o left → Joining count all p rest
 joins count all o p left rest t is deque known j =
     let sum : (f : DequeEnd → ℕ) → sum_by f left ≡ sum_by f rest + f (end.Thief t) = λ f. ap (sum_by f) is ∙ sum_by_push f rest (end.Thief t) in
     record {
       size = ap (λ (v : Ledger). v.count) known ∙ j.size;
-      one = λ k d within. front (λ e. end_deque e ≡ owner_deque o) rest (end.Thief t) (subst (All (λ e. end_deque e ≡ owner_deque o)) is j.one) k d within ∙ sym deque;
+      one = λ k d within. (All-pop (λ e. end_deque e ≡ owner_deque o) left rest (Some (end.Thief t)) is j.one).0 k d within ∙ sym deque;
       whole =
           let more : (owner_ledger p).parts ≡ (owner_ledger o).parts + (thief_ledger t).parts = ap (λ (v : Ledger). v.parts) known in
           omega (arith, sum (λ e. (end_ledger e).parts), j.whole);
@@ -130,11 +117,8 @@ ends count all left o none j =
 -- a name that moves from the end of the second list to the end of the first
 all_moved : (P : Hold → Type 0) (xs ys : List Hold) (z : Hold) → All P (xs ++ (ys ++ z ∷ [])) → All P ((xs ++ z ∷ []) ++ ys)
 all_moved P xs ys z all =
-    let first : All P xs = subst (All P) (take-append_seam xs (ys ++ z ∷ [])) (All-take P (length xs) (xs ++ (ys ++ z ∷ [])) all) in
-    let rest : All P (ys ++ z ∷ []) = subst (All P) (drop-append_seam xs (ys ++ z ∷ [])) (All-drop P (length xs) (xs ++ (ys ++ z ∷ [])) all) in
-    let second : All P ys = subst (All P) (take-append_seam ys (z ∷ [])) (All-take P (length ys) (ys ++ z ∷ []) rest) in
-    let last : All P (z ∷ []) = subst (All P) (drop-append_seam ys (z ∷ [])) (All-drop P (length ys) (ys ++ z ∷ []) rest) in
-    All-append P (xs ++ z ∷ []) ys (All-append P xs (z ∷ []) first last) second
+    let rest = All-pop P (ys ++ z ∷ []) ys (Some z) refl (subst (All P) (drop-append_seam xs (ys ++ z ∷ [])) (All-drop P (length xs) (xs ++ (ys ++ z ∷ [])) all)) in
+    All-append P (xs ++ z ∷ []) ys (All-push P xs z (subst (All P) (take-append_seam xs (ys ++ z ∷ [])) (All-take P (length xs) (xs ++ (ys ++ z ∷ [])) all)) rest.1) rest.0
 
 sum_moved : (f : Hold → ℕ) (xs ys : List Hold) (z : Hold) → sum_by f ((xs ++ z ∷ []) ++ ys) ≡ sum_by f (xs ++ (ys ++ z ∷ []))
 sum_moved f xs ys z = omega (arith, sum_by-append f xs (ys ++ z ∷ []), sum_by-append f ys (z ∷ []), sum_by-append f (xs ++ z ∷ []) ys, sum_by-append f xs (z ∷ []))
