@@ -20,9 +20,9 @@ use Rattle.place_deque.specs.Ends.{DequeName, owner_deque, owner_ledger, thief_d
 sum_map : (f : Hold → ℕ) (xs : List DequeEnd) → sum_by f (map end_hold xs) ≡ sum_by (λ e. f (end_hold e)) xs
 sum_map f xs = fold-map (λ a h. a + f h) end_hold 0 xs
 
--- what all say of ends, said of their names
-all_unmap : (P : Hold → Type 0) (xs : List DequeEnd) → All P (map end_hold xs) → All (λ e. P (end_hold e)) xs
-all_unmap P xs all k d within = subst P (get_or-map end_hold xs k d (end_hold d) within) (all k (end_hold d) (omega (arith, length-map xs end_hold)))
+-- what all names say, said of whose names they are
+pub all_unmap : {X : Type 0} (f : X → Hold) (P : Hold → Type 0) (xs : List X) → All P (map f xs) → All (λ x. P (f x)) xs
+all_unmap f P xs all k d within = subst P (get_or-map f xs k d (f d) within) (all k (f d) (omega (arith, length-map xs f)))
 
 -- a thief's end that has one part and took nothing
 abbrev pub IsPart : DequeName → ℕ → DequeEnd → Type 0
@@ -74,9 +74,9 @@ starts count xs left at o within is rest all =
     let r : sum_by f left ≡ sum_by f (swap_remove xs at own) = ap (sum_by f) rest in
     omega (arith, sum_by-swap_remove f xs at own within) in
     let deque = all.one.0 in
-    let decks = all_unmap (λ h. h.deque ≡ deque) xs all.one.1 in
+    let decks = all_unmap end_hold (λ h. h.deque ≡ deque) xs all.one.1 in
     let mine : owner_deque o ≡ deque = ap end_deque is ∙ decks at own within in
-    let counts = all_unmap (λ h. h.count ≡ count) xs all.size in
+    let counts = all_unmap end_hold (λ h. h.count ≡ count) xs all.size in
     record {
       size = ap (λ e. (end_ledger e).count) is ∙ counts at own within;
       one = λ k d inside.

@@ -5,10 +5,9 @@ use Rattle.std.proofs.lemmas.Bool.{cases_Bool, cond-true, cond-false, eqb-true, 
 use Rattle.std.proofs.lemmas.List.{length-replicate, nil_from_length}
 use Rattle.std.proofs.lemmas.List.Elements.{filter_agree}
 use Rattle.rule_machine.specs.declared.act.Act.{Act}
-use Rattle.rule_machine.specs.Network.{present, without_edge}
+use Rattle.rule_machine.specs.Network.{Network, present}
 use Rattle.rule_machine.specs.State.{State, IsState}
 use Rattle.rule_machine.specs.RuleTable.{RuleTable, acts, rule_at, enabled_names}
-use Rattle.rule_machine.specs.Disturbance.{after_link}
 use Rattle.rule_set.specs.Target.{SameAt}
 use Rattle.machine_laws.specs.Enabled.{quiet_at, act_none}
 use Rattle.enabled_set.specs.Members.{is_in, members}
@@ -17,7 +16,6 @@ use Rattle.rule_engine.specs.Looked.{IsLookedAt}
 use Rattle.rule_engine.proofs.Looked.{looked_both}
 use Rattle.indexed_state.proofs.Named.{kept_twice}
 use Rattle.rule_engine.proofs.Opening.{blank_at}
-use Rattle.rule_engine.proofs.Far.{cut_far, link_far}
 
 -- a guard depends on nothing but what is shown at its node
 abbrev pub IsLocal : RuleTable → Type 0
@@ -45,18 +43,11 @@ kept_again t local s u looked bits bits' kept good size here far done = record {
   few = omega (arith, kept.few, size);
 }
 
--- after a link, a look at the two ends
-pub kept_linked : (t : RuleTable) → IsLocal t → (s u : State) (a b : ℕ) (bits one two : List Bool) {marks : List Bool} → IsKept t s bits marks → IsState u → u ≡ after_link s a b → IsLookedAt t u (λ w. nat_eq w a) bits one → IsLookedAt t u (λ w. nat_eq w b) one two → IsKept t u two marks
-kept_linked t local s u a b bits one two kept good is first next =
-    kept_again t local s u (λ w. nat_eq w a || nat_eq w b) bits two kept good (ap (λ q. q.network.size) is) (λ x _. ap (λ q. present q.network x) is)
-    (λ v far. subst (λ q. SameAt s q v) (sym is) (link_far s a b v far))
-    (looked_both t u (λ w. nat_eq w a) (λ w. nat_eq w b) bits one two first next)
-
--- after an edge went that no pointer crossed, a look at the two ends
-pub kept_cut : (t : RuleTable) → IsLocal t → (s u : State) (a b : ℕ) (bits one two : List Bool) {marks : List Bool} → IsKept t s bits marks → IsState u → u ≡ record s { network = without_edge s.network a b } → IsLookedAt t u (λ w. nat_eq w a) bits one → IsLookedAt t u (λ w. nat_eq w b) one two → IsKept t u two marks
-kept_cut t local s u a b bits one two kept good is first next =
-    kept_again t local s u (λ w. nat_eq w a || nat_eq w b) bits two kept good (ap (λ q. q.network.size) is) (λ x _. ap (λ q. present q.network x) is)
-    (λ v far. subst (λ q. SameAt s q v) (sym is) (cut_far s a b v far))
+-- after a change of edges that shows at two ends alone, a look at these
+pub kept_ends : (t : RuleTable) → IsLocal t → (s u : State) (net : Network) (a b : ℕ) (bits one two : List Bool) {marks : List Bool} → IsKept t s bits marks → IsState u → u ≡ record s { network = net } → net.size ≡ s.network.size → ((x : ℕ) → present net x ≡ present s.network x) → ((v : ℕ) → (nat_eq v a || nat_eq v b) ≡ false → SameAt s (record s { network = net }) v) → IsLookedAt t u (λ w. nat_eq w a) bits one → IsLookedAt t u (λ w. nat_eq w b) one two → IsKept t u two marks
+kept_ends t local s u net a b bits one two kept good is size here far first next =
+    kept_again t local s u (λ w. nat_eq w a || nat_eq w b) bits two kept good (ap (λ q. q.network.size) is ∙ size) (λ x _. ap (λ q. present q.network x) is ∙ here x)
+    (λ v apart. subst (λ q. SameAt s q v) (sym is) (far v apart))
     (looked_both t u (λ w. nat_eq w a) (λ w. nat_eq w b) bits one two first next)
 
 -- a rule that only present nodes have

@@ -25,18 +25,17 @@ use Rattle.machine_laws.specs.LeastAnswers.{find_contains, filter_map_contains, 
 use Rattle.machine_laws.specs.Accepted.{taken_from_none, taken_at, choice_from_none}
 use Rattle.rule_engine.specs.Choosing.{verdicts_from, verdicts_of, moves_of, moves_by, AreLeast}
 
-node_of : Moved → ℕ
+abbrev node_of : Moved → ℕ
 node_of m = m.node
 
 -- ---- lists that rise
 
-rises_tail : (a : ℕ) (vs : List ℕ) → IsStrictlyIncreasing (a ∷ vs) → IsStrictlyIncreasing vs
+pub rises_tail : (a : ℕ) (vs : List ℕ) → IsStrictlyIncreasing (a ∷ vs) → IsStrictlyIncreasing vs
 rises_tail a vs up k below =
     let e : suc k + 1 ≡ suc (k + 1) = omega arith in
     subst (λ n. get_or vs k 0 < get_or (a ∷ vs) n 0) e (up (suc k) (omega arith))
 
 rises_head : (x : Moved) (xs : List Moved) (m : Moved) → IsStrictlyIncreasing (map node_of (x ∷ xs)) → Contains xs m → x.node < m.node
-unfolding node_of
 rises_head x xs m up at =
     let below : x.node < get_or (map node_of xs) at.0 x.node = AllPairs-from_increasing (map node_of (x ∷ xs)) up 0 (suc at.0) x.node (omega arith) (omega (arith, length-map xs node_of, at.1)) in
     let same : get_or (map node_of xs) at.0 x.node ≡ m.node = get_or-map node_of xs at.0 m x.node at.1 ∙ ap node_of at.2 in
@@ -46,7 +45,6 @@ rises_head x xs m up at =
 -- other list, so that neither is below the other; and what is behind a head is above it, so the rests have the same
 -- members too.
 same_rising : (xs ys : List Moved) → IsStrictlyIncreasing (map node_of xs) → IsStrictlyIncreasing (map node_of ys) → ((m : Moved) → Contains xs m → Contains ys m) → ((m : Moved) → Contains ys m → Contains xs m) → xs ≡ ys
-unfolding node_of
 same_rising [] [] up up' to back = refl
 same_rising [] (y ∷ ys) up up' to back = absurd (contains_empty y (back y (contains_first y ys)))
 same_rising (x ∷ xs) [] up up' to back = absurd (contains_empty x (to x (contains_first x xs)))
@@ -93,10 +91,6 @@ rises_from ms up distinct = IsStrictlyIncreasing-from_distinct (map node_of ms) 
 
 -- ---- the moves of a choice
 
--- the moves that items make alone, in their order
-made_by : RuleTable → State → List Item → List Moved
-made_by t s items = moves_by t s items
-
 -- those of verdicts are those of the items that they are of
 moves_of-verdicts_from : (t : RuleTable) (s : State) (place : ℕ) (items : List Item) → moves_of (verdicts_from t s place items) ≡ moves_by t s items
 moves_of-verdicts_from t s place [] = refl
@@ -111,7 +105,6 @@ IsFresh items m = list_any (λ i. nat_eq i.node m.node) items ≡ false
 
 -- moves that are fresh behind one more item are fresh, and of other nodes
 fresh_behind : (earlier : List Item) (item : Item) (v : ℕ) → v ≡ item.node → (ms : List Moved) → AllByRecursion (IsFresh (earlier ++ item ∷ [])) ms → AllByRecursion (IsFresh earlier) ms × AllByRecursion (λ w. nat_eq v w ≡ false) (map node_of ms)
-unfolding node_of
 fresh_behind earlier item v same [] fresh = (tt, tt)
 fresh_behind earlier item v same (m ∷ ms) fresh =
     let named : Item → Bool = λ i. nat_eq i.node m.node in
@@ -125,8 +118,8 @@ or_none None p none = (refl, none)
 or_none (Some x) p none = absurd cc
 
 -- of a choice that is not refused, no two moves are of one node
-made_apart : (t : RuleTable) (s : State) (earlier items : List Item) → items_refusal t s earlier items ≡ None → AllByRecursion (IsFresh earlier) (made_by t s items) × IsDistinct nat_eq (map node_of (made_by t s items))
-unfolding made_by node_of IsDistinct
+made_apart : (t : RuleTable) (s : State) (earlier items : List Item) → items_refusal t s earlier items ≡ None → AllByRecursion (IsFresh earlier) (moves_by t s items) × IsDistinct nat_eq (map node_of (moves_by t s items))
+unfolding IsDistinct
 made_apart t s earlier [] none = (tt, tt)
 made_apart t s earlier (item ∷ items) none =
     let parts = or_none (item_refusal t s earlier item) (items_refusal t s (earlier ++ item ∷ []) items) none in
@@ -134,8 +127,8 @@ made_apart t s earlier (item ∷ items) none =
     let m = taken.move.0 in
     let node : m.node ≡ item.node = (makes_from_outcome t s item m taken.move.1).node in
     let rest = made_apart t s (earlier ++ item ∷ []) items parts.1 in
-    let behind = fresh_behind earlier item m.node node (made_by t s items) rest.0 in
-    subst (λ o. AllByRecursion (IsFresh earlier) (cons_option o (made_by t s items)) × IsDistinct nat_eq (map node_of (cons_option o (made_by t s items)))) (sym taken.move.1)
+    let behind = fresh_behind earlier item m.node node (moves_by t s items) rest.0 in
+    subst (λ o. AllByRecursion (IsFresh earlier) (cons_option o (moves_by t s items)) × IsDistinct nat_eq (map node_of (cons_option o (moves_by t s items)))) (sym taken.move.1)
     ((ap (λ v. list_any (λ i. nat_eq i.node v) earlier) node ∙ taken.fresh, behind.0), (behind.1, rest.1))
 
 -- what h gives, it gives of an item
@@ -152,8 +145,7 @@ given_by {X = X} {Y = Y} h (x ∷ xs) y at = go (h x) refl (λ there. given_by h
         ⊎_elim (λ (same : z ≡ y). (x, contains_first x xs, e ∙ ap Some same)) (λ (behind : Contains (filter_map h xs) y). later (more behind)) (contains_cases z y (filter_map h xs) there)
 
 -- each move of a choice that is not refused is a least one, since its item is present and the first of its node
-made_is_least : (t : RuleTable) (s : State) (items : List Item) → items_refusal t s [] items ≡ None → (m : Moved) → Contains (made_by t s items) m → Contains (least_moves t s items) m
-unfolding made_by
+made_is_least : (t : RuleTable) (s : State) (items : List Item) → items_refusal t s [] items ≡ None → (m : Moved) → Contains (moves_by t s items) m → Contains (least_moves t s items) m
 made_is_least t s items none m at =
     let given = given_by (λ i. move_in (outcome_of t s i)) items m at in
     let item = given.0 in
@@ -164,15 +156,13 @@ made_is_least t s items none m at =
     filter_map_contains (move_at t s items) (names s.network) item.node m (names_contains s.network item.node has) (ap (option_and_then (λ i. move_in (outcome_of t s i))) first ∙ given.2)
 
 -- and each least move is one of those that the items make
-least_is_made : (t : RuleTable) (s : State) (items : List Item) (m : Moved) → Contains (least_moves t s items) m → Contains (made_by t s items) m
-unfolding made_by
+least_is_made : (t : RuleTable) (s : State) (items : List Item) (m : Moved) → Contains (least_moves t s items) m → Contains (moves_by t s items) m
 least_is_made t s items m at =
     let given = filter_map_from (move_at t s items) (names s.network) m at in
     option_and_then_some (λ item. move_in (outcome_of t s item)) (item_of items given.0) m given.1
     (λ item found move. filter_map_contains (λ i. move_in (outcome_of t s i)) items item m (find_contains (λ i. nat_eq i.node given.0) items item found) move)
 
 least_rises : (t : RuleTable) (s : State) (items : List Item) → IsStrictlyIncreasing (map node_of (least_moves t s items))
-unfolding node_of
 least_rises t s items =
     subst IsStrictlyIncreasing (sym (filter_map_nodes (move_at t s items) at_node (names s.network)))
     (IsStrictlyIncreasing-filter (λ v. is_some (move_at t s items v)) (names s.network) (names_increasing s.network))
@@ -184,14 +174,13 @@ least_rises t s items =
 
 -- The moves of a choice that stand in the order of their nodes are the least ones.
 pub least_from_sorted : (made moves : List Moved) → IsPermutation made moves → IsNonDecreasingBy (λ m. m.node) moves → AreLeast made moves
-unfolding node_of made_by
 least_from_sorted made moves same up = λ t s items is none.
     let accepted = (choice_from_none t s items none).taken in
-    let moved : IsPermutation (made_by t s items) moves = subst (λ ms. IsPermutation ms moves) is same in
-    let distinct : IsDistinct nat_eq (map node_of moves) = IsDistinct-IsPermutation nat_eq nat_eq_equiv.symm (map node_of (made_by t s items)) (map node_of moves) (IsPermutation-map node_of (made_by t s items) moves moved) (made_apart t s [] items accepted).1 in
+    let moved : IsPermutation (moves_by t s items) moves = subst (λ ms. IsPermutation ms moves) is same in
+    let distinct : IsDistinct nat_eq (map node_of moves) = IsDistinct-IsPermutation nat_eq nat_eq_equiv.symm (map node_of (moves_by t s items)) (map node_of moves) (IsPermutation-map node_of (moves_by t s items) moves moved) (made_apart t s [] items accepted).1 in
     same_rising moves (least_moves t s items) (rises_from moves up distinct) (least_rises t s items)
-    (λ m at. made_is_least t s items accepted m (Contains-permutation moves (made_by t s items) m (IsPermutation-sym (made_by t s items) moves moved) at))
-    (λ m at. Contains-permutation (made_by t s items) moves m moved (least_is_made t s items m at))
+    (λ m at. made_is_least t s items accepted m (Contains-permutation moves (moves_by t s items) m (IsPermutation-sym (moves_by t s items) moves moved) at))
+    (λ m at. Contains-permutation (moves_by t s items) moves m moved (least_is_made t s items m at))
 
 -- the one move of a choice of one item is its least one
 pub one_least : (t : RuleTable) (s : State) (item : Item) (m : Moved) → move_in (outcome_of t s item) ≡ Some m → AreLeast (moves_by t s (item ∷ [])) (m ∷ [])

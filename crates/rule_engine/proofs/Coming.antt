@@ -1,5 +1,5 @@
 -- Nodes that join and leave: what is shown at the others, and that the set of the enabled nodes is kept.
-use Rattle.std.proofs.Common.{◌≡◌, ℕ, ◌<◌, ◌≤◌, Bool, true, false, cond, is_some, List, length, set, get_or, nat_eq, None, IsTrue, refl, sym, ap, ◌∙◌, subst, ⊎_elim, arith}
+use Rattle.std.proofs.Common.{◌≡◌, ℕ, ◌<◌, ◌≤◌, Bool, true, false, cond, is_some, List, length, set, get_or, nat_eq, None, IsTrue, sym, ap, ◌∙◌, subst, ⊎_elim, arith}
 use Rattle.std.proofs.lemmas.Bool.{and_parts, and_from, cases_lt, false_from_ne_true, le-leb, true≢false}
 use Rattle.std.proofs.lemmas.List.{get_or-set_same, get_or_past, length-set}
 use Rattle.rule_machine.specs.Network.{Network, IsNetwork, present, with_node}
@@ -9,12 +9,10 @@ use Rattle.rule_machine.specs.Disturbance.{after_join}
 use Rattle.rule_set.specs.Target.{SameAt}
 use Rattle.machine_laws.specs.Edges.{present_other}
 use Rattle.machine_laws.specs.Keeps.{join_keeps}
-use Rattle.net_state.specs.Held.{without_place}
-use Rattle.machine_laws.specs.Neighbours.{neighbours_range}
 use Rattle.rule_engine.specs.Kept.{is_on, IsKept}
 use Rattle.rule_engine.specs.Looked.{IsLookedAt}
 use Rattle.rule_engine.proofs.Again.{IsLocal, kept_again}
-use Rattle.rule_engine.proofs.Far.{not_same}
+use Rattle.rule_engine.proofs.Far.{not_same, seat_far}
 
 -- ---- a node that joins
 
@@ -23,22 +21,13 @@ pub joined_present : (net : Network) (v : ℕ) → IsNetwork net → 1 ≤ v →
 joined_present net v good low high =
     and_from _ _ (le-leb 1 v low) (and_from _ _ (le-leb v net.size high) (get_or-set_same net.here v true false (let l = good.here_len in omega (arith, l, high))))
 
--- what is shown at a name stays, since edges and registers do
-join_far : (s : State) (v w : ℕ) → IsState s → IsState (after_join s v) → SameAt s (after_join s v) w
-join_far s v w good good' = record {
-  neighbours = neighbours_range s.network w good.is_network ∙ sym (neighbours_range (with_node s.network v) w good'.is_network);
-  linked = λ x. refl;
-  pointers = λ x near. refl;
-  flags = λ x near. refl;
-}
-
 -- after a join, a look at the node
 pub kept_joined : (t : RuleTable) → IsLocal t → (s u : State) (v : ℕ) (bits bits' : List Bool) {marks : List Bool} → IsKept t s bits marks → 1 ≤ v → u ≡ after_join s v → IsLookedAt t u (λ w. nat_eq w v) bits bits' → IsKept t u bits' marks
 kept_joined t local s u v bits bits' kept low is done =
     let good = join_keeps s v low kept.is_state in
     kept_again t local s u (λ w. nat_eq w v) bits bits' kept (subst IsState (sym is) good) (ap (λ q. q.network.size) is)
     (λ x apart. ap (λ q. present q.network x) is ∙ present_other s.network v true x (not_same v x apart))
-    (λ w _. subst (λ q. SameAt s q w) (sym is) (join_far s v w kept.is_state good)) done
+    (λ w _. subst (λ q. SameAt s q w) (sym is) (seat_far s (set s.network.here v true) w kept.is_state good)) done
 
 -- ---- a node that leaves
 
@@ -53,15 +42,6 @@ parted_absent net v =
         (λ (below : v < length row). get_or-set_same row v false false below)
         (λ (past : length row ≤ v). get_or_past (set row v false) v false (let same = length-set row v false in omega (arith, same)))
         (cases_lt v (length row))
-
--- what is shown at another name stays where the name of a node without an edge is freed
-pub part_far : (s : State) (v w : ℕ) → IsState s → IsState (without_place s v) → SameAt s (without_place s v) w
-part_far s v w good good' = record {
-  neighbours = neighbours_range s.network w good.is_network ∙ sym (neighbours_range (without_place s v).network w good'.is_network);
-  linked = λ x. refl;
-  pointers = λ x near. refl;
-  flags = λ x near. refl;
-}
 
 -- and no rule is enabled there
 pub absent_off : (t : RuleTable) (q : State) (v : ℕ) → present q.network v ≡ false → is_on t q v ≡ false

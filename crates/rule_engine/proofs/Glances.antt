@@ -1,7 +1,8 @@
 -- What a write of one node's registers leaves of a glance at another.
 use Rattle.std.proofs.Common.{◌≡◌, ℕ, Bool, true, false, not, ◌&&◌, ◌||◌, List, [], ◌∷◌, reverse, Option, None, Some, is_some, is_none, find, nat_eq, nat_lt, IsTrue, refl, sym, ap, ap₂, ◌∙◌, ◌⊎◌, inl, inr, ⊎_elim}
+use Rattle.std.proofs.Math.Bool.{and-false, or-false, or-true, or_assoc, or_comm}
 use Rattle.std.specs.List.{list_any}
-use Rattle.std.proofs.lemmas.Bool.{cases_Bool, cases_eq, eq-eqb, false_from_ne_true, ne_eqb, or_parts, true≢false}
+use Rattle.std.proofs.lemmas.Bool.{and_right, cases_Bool, cases_eq, eq-eqb, false_from_ne_true, ne_eqb, or_parts, true≢false}
 use Rattle.std.proofs.lemmas.List.{reverse-append}
 use Rattle.std.proofs.lemmas.List.Folds.{list_any-append}
 use Rattle.rule_machine.specs.Network.{linked, neighbours}
@@ -27,13 +28,7 @@ pub record AreAlikeBut (s u : State) (v : ℕ) : Type 0 where
 any_reverse : (p : ℕ → Bool) (xs : List ℕ) → list_any p (reverse xs) ≡ list_any p xs
 any_reverse p [] = refl
 any_reverse p (x ∷ xs) =
-    ap (list_any p) (reverse-append (x ∷ []) xs) ∙ list_any-append p (reverse xs) (x ∷ []) ∙ ap (λ b. b || (p x || false)) (any_reverse p xs) ∙ turn (list_any p xs) (p x)
-  where
-    turn : (a b : Bool) → (a || (b || false)) ≡ (b || a)
-    turn true true = refl
-    turn true false = refl
-    turn false true = refl
-    turn false false = refl
+    ap (list_any p) (reverse-append (x ∷ []) xs) ∙ list_any-append p (reverse xs) (x ∷ []) ∙ ap (λ b. b || (p x || false)) (any_reverse p xs) ∙ ap (λ b. list_any p xs || b) (or-false (p x)) ∙ or_comm (list_any p xs) (p x)
 
 reach_any : (above : Bool) (opens : Option ℕ → Bool → Bool) (s : State) (w : ℕ) → reaches above opens s w ≡ list_any (is_reached above opens s w) (neighbours s.network w)
 reach_any true opens s w = found_any (is_reached true opens s w) (reverse (neighbours s.network w)) ∙ any_reverse (is_reached true opens s w) (neighbours s.network w)
@@ -50,23 +45,13 @@ any_beside p v (x ∷ xs) =
     ∙ at (list_any (λ y. not (nat_eq y v) && p y) xs) (list_any (nat_eq v) xs) (p v)
     ∙ sym (ap₂ (λ (b c : Bool). ((not b && p x) || list_any (λ y. not (nat_eq y v) && p y) xs) || ((c || list_any (nat_eq v) xs) && p v)) (eq-eqb x v same) (eq-eqb v x (sym same))))
     (λ (apart : x ≡ v → ⊥).
-    off (p x) (list_any (λ y. not (nat_eq y v) && p y) xs) (list_any (nat_eq v) xs && p v)
+    sym (or_assoc (p x) (list_any (λ y. not (nat_eq y v) && p y) xs) (list_any (nat_eq v) xs && p v))
     ∙ sym (ap₂ (λ (b c : Bool). ((not b && p x) || list_any (λ y. not (nat_eq y v) && p y) xs) || ((c || list_any (nat_eq v) xs) && p v)) (ne_eqb x v apart) (ne_eqb v x (λ e. apart (sym e)))))
     (cases_eq x v)
   where
     at : (a l q : Bool) → (q || (a || (l && q))) ≡ (a || q)
-    at true true true = refl
-    at true true false = refl
-    at true false true = refl
-    at true false false = refl
-    at false true true = refl
-    at false true false = refl
-    at false false true = refl
-    at false false false = refl
-
-    off : (a b c : Bool) → (a || (b || c)) ≡ ((a || b) || c)
-    off true b c = refl
-    off false b c = refl
+    at a l true = sym (or-true a)
+    at a l false = ap (λ b. a || b) (and-false l)
 
 -- so a node reaches an open one beside v, or v
 reach_beside : (above : Bool) (opens : Option ℕ → Bool → Bool) (s : State) (v w : ℕ) → IsState s → reaches above opens s w ≡ (reaches_beside above opens s w v || (linked s.network w v && is_reached above opens s w v))
@@ -75,13 +60,9 @@ reach_beside above opens s v w good =
     ∙ any_beside (is_reached above opens s w) v (neighbours s.network w)
     ∙ ap₂ (λ (b c : Bool). b || (c && is_reached above opens s w v)) (sym (found_any (λ x. not (nat_eq x v) && is_reached above opens s w x) (neighbours s.network w))) (listed_neighbours s.network w v good.is_network)
 
-and_false : (b : Bool) → (b && false) ≡ false
-and_false true = refl
-and_false false = refl
-
 -- who is not asked for is not reached
 never_asked : (above : Bool) (opens : Option ℕ → Bool → Bool) (s : State) (v w : ℕ) → may_ask above v w ≡ false → is_reached above opens s w v ≡ false
-never_asked true opens s v w e = ap (λ b. is_open opens s v && b) e ∙ and_false (is_open opens s v)
+never_asked true opens s v w e = and_right (is_open opens s v) (nat_lt w v) e
 never_asked false opens s v w e = absurd (true≢false e)
 
 settled : (near asks null beside : Bool) → null ≡ true → (near && (asks && (null && not beside))) ≡ false → (near ≡ false) ⊎ ((asks ≡ false) ⊎ (beside ≡ true))

@@ -1,6 +1,7 @@
 -- What verdicts say of the items that they are of.
 use Rattle.std.proofs.Common.{◌≡◌, ℕ, suc, ◌+◌, Bool, true, false, cond, not, ◌&&◌, ◌||◌, List, [], ◌∷◌, ◌++◌, length, Option, None, Some, nat_eq, nat_lt, refl, sym, ap, ◌∙◌}
 use Rattle.std.specs.List.{list_any}
+use Rattle.std.proofs.lemmas.List.Folds.{list_any-append}
 use Rattle.std.specs.Option.{option_or}
 use Rattle.rule_machine.specs.declared.act.Act.{Act}
 use Rattle.rule_machine.specs.declared.choice.Item.{Item}
@@ -49,26 +50,13 @@ length-verdicts_from : (t : RuleTable) (s : State) (place : ℕ) (items : List I
 length-verdicts_from t s place [] = refl
 length-verdicts_from t s place (item ∷ items) = ap suc (length-verdicts_from t s (place + 1) items)
 
--- the verdicts name the nodes that the items name
-same_named : (t : RuleTable) (s : State) (place : ℕ) (items : List Item) (v : ℕ) → list_any (λ d. nat_eq d.node v) (verdicts_from t s place items) ≡ list_any (λ i. nat_eq i.node v) items
-same_named t s place [] v = refl
-same_named t s place (item ∷ items) v = ap (λ b. nat_eq item.node v || b) (same_named t s (place + 1) items v)
-
-any_push : {X : Type 0} (p : X → Bool) (xs ys : List X) → list_any p (xs ++ ys) ≡ (list_any p xs || list_any p ys)
-any_push p [] ys = refl
-any_push p (x ∷ xs) ys = ap (λ b. p x || b) (any_push p xs ys) ∙ or_regroup (p x) (list_any p xs) (list_any p ys)
-  where
-    or_regroup : (a b c : Bool) → (a || (b || c)) ≡ ((a || b) || c)
-    or_regroup true b c = refl
-    or_regroup false b c = refl
-
 -- two lists whose verdicts and items name the same nodes go on to the same refusal
 refusals_agree : (t : RuleTable) (s : State) (place : ℕ) (items earlier : List Item) (judged : List Verdict) → ((v : ℕ) → list_any (λ d. nat_eq d.node v) judged ≡ list_any (λ i. nat_eq i.node v) earlier) → verdicts_refusal judged (verdicts_from t s place items) ≡ items_refusal t s earlier items
 refusals_agree t s place [] earlier judged same = refl
 refusals_agree t s place (item ∷ items) earlier judged same =
     let first = item_refusal-outcome t s earlier item in
     let next : (v : ℕ) → list_any (λ d. nat_eq d.node v) (judged ++ verdict_of t s place item ∷ []) ≡ list_any (λ i. nat_eq i.node v) (earlier ++ item ∷ []) =
-    λ v. any_push (λ (d : Verdict). nat_eq d.node v) judged (verdict_of t s place item ∷ []) ∙ ap (λ b. b || (nat_eq item.node v || false)) (same v) ∙ sym (any_push (λ (i : Item). nat_eq i.node v) earlier (item ∷ []))
+    λ v. list_any-append (λ (d : Verdict). nat_eq d.node v) judged (verdict_of t s place item ∷ []) ∙ ap (λ b. b || (nat_eq item.node v || false)) (same v) ∙ sym (list_any-append (λ (i : Item). nat_eq i.node v) earlier (item ∷ []))
     in
     ap (λ b. option_or (refused_by (outcome_of t s item) b) (verdicts_refusal (judged ++ verdict_of t s place item ∷ []) (verdicts_from t s (place + 1) items))) (same item.node)
     ∙ ap (λ o. option_or o (verdicts_refusal (judged ++ verdict_of t s place item ∷ []) (verdicts_from t s (place + 1) items))) (sym first)

@@ -12,7 +12,8 @@ use Rattle.net_state.specs.Held.{without_place}
 use Rattle.machine_laws.specs.Neighbours.{present_range}
 use Rattle.rule_engine.specs.Kept.{is_on, IsKept}
 use Rattle.rule_engine.proofs.Again.{IsLocal, same_on}
-use Rattle.rule_engine.proofs.Coming.{part_far, parted_absent, absent_off}
+use Rattle.rule_engine.proofs.Coming.{parted_absent, absent_off}
+use Rattle.rule_engine.proofs.Far.{seat_far}
 
 -- once it has no edge and is absent, it is no member, and the set is right everywhere
 pub kept_left : (t : RuleTable) → IsLocal t → (s u : State) (v : ℕ) (bits : List Bool) {marks : List Bool} → IsKept t s bits marks → IsTrue (present s.network v) → neighbours s.network v ≡ [] → IsState u → u ≡ without_place s v → IsKept t u (set bits v false) marks
@@ -31,7 +32,7 @@ kept_left t local s u v bits kept has none good' is =
             get_or-set_other bits v x false false apart
             ∙ kept.enabled.each x
             ∙ same_on t local s u x good good' (ap (λ q. present q.network x) is ∙ present_other s.network v false x apart)
-            (subst (λ q. SameAt s q x) (sym is) (part_far s v x good (subst IsState is good'))))
+            (subst (λ q. SameAt s q x) (sym is) (seat_far s (set s.network.here v false) x good (subst IsState is good'))))
             (cases_eq x v);
       };
       unmarked = kept.unmarked ∙ ap (λ n. replicate (n + 1) false) (sym size);

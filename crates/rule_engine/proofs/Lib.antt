@@ -18,5 +18,4 @@ pub mod Unmarked
 pub mod Ascending
 pub mod Moments
 pub mod Counted
-pub mod NextVerdict
 pub mod Costed

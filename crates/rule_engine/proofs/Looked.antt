@@ -1,7 +1,8 @@
 -- Looks again at nodes, one after another.
 use Rattle.std.proofs.Common.{◌≡◌, ℕ, zero, suc, ◌+◌, ◌<◌, ◌≤◌, Bool, true, false, cond, ◌&&◌, ◌||◌, List, [], ◌∷◌, length, take, get_or, filter, find, Some, is_some, nat_eq, refl, sym, ap, ap₂, ◌∙◌, ⊎_elim, arith}
+use Rattle.std.proofs.Math.Bool.{or_assoc}
 use Rattle.std.specs.List.{list_any, range_with_len}
-use Rattle.std.proofs.lemmas.Bool.{cases_Bool, cases_eq, eq-eqb, eqb-true, ne_eqb, or_parts, or_right, true≢false}
+use Rattle.std.proofs.lemmas.Bool.{and_right, cases_Bool, cases_eq, eq-eqb, eqb-true, ne_eqb, or_parts, or_right, true≢false}
 use Rattle.std.proofs.lemmas.List.Folds.{list_any_more}
 use Rattle.rule_machine.specs.Network.{Network, IsNetwork, linked, neighbours}
 use Rattle.rule_machine.specs.State.{State, suits, has_suitor}
@@ -35,7 +36,7 @@ looked_alike t s p q a b agree looked = record {
 }
 
 -- a number of a range that passes is one of those that a filter keeps
-listed_in : (p : ℕ → Bool) (a n w : ℕ) → p w ≡ true → a ≤ w → w < a + n → list_any (nat_eq w) (filter p (range_with_len a n)) ≡ true
+pub listed_in : (p : ℕ → Bool) (a n w : ℕ) → p w ≡ true → a ≤ w → w < a + n → list_any (nat_eq w) (filter p (range_with_len a n)) ≡ true
 listed_in p a zero w on low high = absurd (omega arith)
 listed_in p a (suc n) w on low high =
     ⊎_elim
@@ -74,12 +75,8 @@ listed_neighbours net v w good =
 pub looked_more : {X : Type 0} (t : RuleTable) (s : State) (p : ℕ → Bool) (q : X → ℕ → Bool) (xs : List X) (i : ℕ) (x : X) (a b c : List Bool) → i < length xs → x ≡ get_or xs i x → IsLookedAt t s (λ w. p w || list_any (λ y. q y w) (take i xs)) a b → IsLookedAt t s (q x) b c → IsLookedAt t s (λ w. p w || list_any (λ y. q y w) (take (i + 1) xs)) a c
 looked_more t s p q xs i x a b c within is first next =
     looked_alike t s (λ w. (p w || list_any (λ y. q y w) (take i xs)) || q x w) (λ w. p w || list_any (λ y. q y w) (take (i + 1) xs)) a c
-    (λ w. regroup (p w) (list_any (λ y. q y w) (take i xs)) (q x w) ∙ ap (λ y. p w || (list_any (λ z. q z w) (take i xs) || q y w)) is ∙ ap (λ o. p w || o) (sym (list_any_more (λ y. q y w) xs i x within)))
+    (λ w. or_assoc (p w) (list_any (λ y. q y w) (take i xs)) (q x w) ∙ ap (λ y. p w || (list_any (λ z. q z w) (take i xs) || q y w)) is ∙ ap (λ o. p w || o) (sym (list_any_more (λ y. q y w) xs i x within)))
     (looked_both t s (λ w. p w || list_any (λ y. q y w) (take i xs)) (q x) a b c first next)
-  where
-    regroup : (a b c : Bool) → ((a || b) || c) ≡ (a || (b || c))
-    regroup true b c = refl
-    regroup false b c = refl
 
 -- a test of a name beside one of which item it is
 any_at : (c : ℕ → Bool) (w : ℕ) (xs : List ℕ) → list_any (λ y. nat_eq w y && c y) xs ≡ (list_any (nat_eq w) xs && c w)
@@ -111,12 +108,7 @@ found_any p (x ∷ xs) = by (p x) (found_any p xs)
 none_at : (c : ℕ → Bool) (w : ℕ) (xs : List ℕ) → list_any c xs ≡ false → list_any (λ y. nat_eq w y && c y) xs ≡ false
 none_at c w [] e = refl
 none_at c w (y ∷ ys) e =
-    let parts = or_parts (c y) (list_any c ys) e in
-    ap (λ b. (nat_eq w y && b) || list_any (λ z. nat_eq w z && c z) ys) parts.0 ∙ ap₂ (λ (a b : Bool). a || b) (none (nat_eq w y)) (none_at c w ys parts.1)
-  where
-    none : (b : Bool) → (b && false) ≡ false
-    none true = refl
-    none false = refl
+    let parts = or_parts (c y) (list_any c ys) e in ap₂ (λ (a b : Bool). a || b) (and_right (nat_eq w y) (c y) parts.0) (none_at c w ys parts.1)
 
 -- where nobody points at a node there is none to look at
 pub looked_unsuited : (t : RuleTable) (s : State) (v : ℕ) (bits : List Bool) → IsNetwork s.network → has_suitor s v ≡ false → IsLookedAt t s (is_suitor s v) bits bits

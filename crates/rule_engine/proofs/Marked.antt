@@ -1,5 +1,6 @@
 -- Marks that are made and cleared one by one.
 use Rattle.std.proofs.Common.{◌≡◌, ℕ, zero, suc, ◌+◌, ◌<◌, ◌≤◌, Bool, true, false, cond, ◌||◌, List, [], ◌∷◌, ◌++◌, length, get_or, replicate, take, drop, set, All, None, Some, is_some, IsSome, nat_eq, refl, sym, ap, ◌∙◌, subst, ⊎_elim, arith, eq-eqb}
+use Rattle.std.proofs.Math.Bool.{or-false, or-true}
 use Rattle.std.specs.List.{list_any}
 use Rattle.std.specs.Option.{option_or}
 use Rattle.std.proofs.lemmas.Bool.{cases_Bool, cases_eq, cases_lt, ne_eqb, true≢false}
@@ -40,21 +41,13 @@ marked_within marks v marked =
     (λ (le : length marks ≤ v). absurd (true≢false (sym marked ∙ get_or_past marks v false le)))
     (cases_lt v (length marks))
 
-or_true : (b : Bool) → true ≡ (b || true)
-or_true true = refl
-or_true false = refl
-
-or_false : (b : Bool) → b ≡ (b || false)
-or_false true = refl
-or_false false = refl
-
 mark_made : (marks : List Bool) (w v : ℕ) → w < length marks → is_in (set marks w true) v ≡ (is_in marks v || nat_eq w v)
 mark_made marks w v within =
     ⊎_elim
     (λ (same : w ≡ v).
-    ap (is_in (set marks w true)) (sym same) ∙ get_or-set_same marks w true false within ∙ or_true (is_in marks v) ∙ ap (λ b. is_in marks v || b) (sym (eq-eqb w v same)))
+    ap (is_in (set marks w true)) (sym same) ∙ get_or-set_same marks w true false within ∙ sym (or-true (is_in marks v)) ∙ ap (λ b. is_in marks v || b) (sym (eq-eqb w v same)))
     (λ (other : w ≡ v → ⊥).
-    get_or-set_other marks w v true false (λ e. other (sym e)) ∙ or_false (is_in marks v) ∙ ap (λ b. is_in marks v || b) (sym (ne_eqb w v other)))
+    get_or-set_other marks w v true false (λ e. other (sym e)) ∙ sym (or-false (is_in marks v)) ∙ ap (λ b. is_in marks v || b) (sym (ne_eqb w v other)))
     (cases_eq w v)
 
 -- the nodes of items
@@ -93,9 +86,9 @@ verdict_refused ds k d marks refusal within is judged so_far =
     ∙ ap (verdicts_refusal (take k ds)) (sym (drop_more ds k d within))
 
 -- and so is an item
-pub item_refused : (t : RuleTable) (s : State) (items : List Item) (k : ℕ) (item : Item) (marks : List Bool) (refusal : Refusal) → k < length items → item ≡ get_or items k item → refused_by (outcome_of t s item) (is_in marks item.node) ≡ Some refusal → AreMarks (is_named (take k items)) marks → Some refusal ≡ items_refusal t s (take k items) (drop k items)
-item_refused t s items k item marks refusal within is judged so_far =
-    ap (λ o. option_or o (items_refusal t s (take k items ++ item ∷ []) (drop (k + 1) items))) (sym judged ∙ ap (refused_by (outcome_of t s item)) (so_far item.node) ∙ sym (item_refusal-outcome t s (take k items) item))
+pub item_refused : (t : RuleTable) (s : State) (items : List Item) (k : ℕ) (item : Item) (twice : Bool) (refusal : Refusal) → k < length items → item ≡ get_or items k item → refused_by (outcome_of t s item) twice ≡ Some refusal → twice ≡ is_named (take k items) item.node → Some refusal ≡ items_refusal t s (take k items) (drop k items)
+item_refused t s items k item twice refusal within is judged named =
+    ap (λ o. option_or o (items_refusal t s (take k items ++ item ∷ []) (drop (k + 1) items))) (sym judged ∙ ap (refused_by (outcome_of t s item)) named ∙ sym (item_refusal-outcome t s (take k items) item))
     ∙ ap (λ i. items_refusal t s (take k items) (i ∷ drop (k + 1) items)) is
     ∙ ap (items_refusal t s (take k items)) (sym (drop_more items k item within))
 

@@ -1,5 +1,5 @@
 -- Lists that scans of all names, or of the enabled ones, make.
-use Rattle.std.proofs.Common.{◌≡◌, ℕ, ◌+◌, ◌<◌, Bool, true, false, cond, List, [], ◌∷◌, ◌++◌, length, get_or, take, filter, filter_map, SomeIff, Option, None, Some, Result, Ok, is_ok, is_some, option_map, option_to_list, IsTrue, refl, sym, ap, ◌∙◌, subst}
+use Rattle.std.proofs.Common.{◌≡◌, ℕ, ◌+◌, ◌<◌, Bool, true, false, cond, List, [], ◌∷◌, ◌++◌, length, get_or, take, filter, filter_map, Option, None, Some, Result, Ok, is_ok, is_some, option_map, option_to_list, IsTrue, refl, sym, ap, ◌∙◌}
 use Rattle.std.specs.List.{range_with_len, cons_option}
 use Rattle.std.proofs.lemmas.Bool.{true≢false}
 use Rattle.std.proofs.lemmas.List.{append-nil}
@@ -48,10 +48,6 @@ filter_map_take_more f xs i x within is =
 pub found_next : {X Y : Type 0} (f : X → Option Y) (before after : List Y) (xs : List X) (i : ℕ) (x : X) → i < length xs → x ≡ get_or xs i x → before ≡ filter_map f (take i xs) → after ≡ before ++ option_to_list (f x) → after ≡ filter_map f (take (i + 1) xs)
 found_next f before after xs i x within is so_far added =
     added ∙ ap (λ l. l ++ option_to_list (f x)) so_far ∙ sym (filter_map_take_more f xs i x within is)
-
--- the value of a call that answers exactly where a fact holds
-pub some_iff_at : {X : Type 0} (o : Option X) (P : Type 0) (v x : X) → SomeIff o P v → o ≡ Some x → x ≡ v
-some_iff_at o P v x h e = (let k : P × (x ≡ v) = subst (λ q. SomeIff q P v) e h in k).1
 
 -- one more item that is found, and one that is not
 pub pushed_found : {X Y : Type 0} (f : X → Option Y) (before after : List Y) (xs : List X) (i : ℕ) (x : X) (y : Y) → i < length xs → x ≡ get_or xs i x → before ≡ filter_map f (take i xs) → after ≡ before ++ y ∷ [] → f x ≡ Some y → after ≡ filter_map f (take (i + 1) xs)

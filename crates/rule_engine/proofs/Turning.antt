@@ -1,5 +1,6 @@
 -- Who asks for a node stands before the first of its neighbours that does not.
-use Rattle.std.proofs.Common.{◌≡◌, ◌≢◌, ℕ, ◌+◌, ◌<◌, ◌≤◌, Bool, true, false, ◌&&◌, ◌||◌, List, length, take, drop, get_or, nat_eq, refl, sym, ap, ◌∙◌, subst, ⊎_elim, arith}
+use Rattle.std.proofs.Common.{◌≡◌, ◌≢◌, ℕ, ◌+◌, ◌<◌, ◌≤◌, Bool, true, false, ◌&&◌, ◌||◌, List, length, take, drop, get_or, nat_eq, sym, ap, ◌∙◌, subst, ⊎_elim, arith}
+use Rattle.std.proofs.Math.Bool.{or-false}
 use Rattle.std.specs.List.{list_any}
 use Rattle.std.specs.List.Sorted.{IsStrictlyIncreasing}
 use Rattle.std.proofs.lemmas.Bool.{and_right, cases_eq, le-ltb, ltb-false}
@@ -17,11 +18,7 @@ use Rattle.rule_engine.proofs.Looked.{looked_alike, looked_neighbours}
 any_so_far : (p : ℕ → Bool) (xs : List ℕ) (i : ℕ) → ((j d : ℕ) → i ≤ j → j < length xs → p (get_or xs j d) ≡ false) → list_any p (take i xs) ≡ list_any p xs
 any_so_far p xs i none =
     let rest = list_any_none p (drop i xs) (λ k d there. ap p (get_or-drop i xs k d) ∙ none (i + k) d (omega arith) (omega (arith, length-drop i xs))) in
-    sym (ap (list_any p) (sym (take-append-drop i xs)) ∙ list_any-append p (take i xs) (drop i xs) ∙ ap (λ b. list_any p (take i xs) || b) rest ∙ or_false (list_any p (take i xs)))
-  where
-    or_false : (b : Bool) → (b || false) ≡ b
-    or_false true = refl
-    or_false false = refl
+    sym (ap (list_any p) (sym (take-append-drop i xs)) ∙ list_any-append p (take i xs) (drop i xs) ∙ ap (λ b. list_any p (take i xs) || b) rest ∙ or-false (list_any p (take i xs)))
 
 -- who does not ask for v is no lower than it, and so is every higher name
 higher_ask_not : (above : Bool) (v w x : ℕ) → may_ask above v w ≡ false → w ≤ x → may_ask above v x ≡ false

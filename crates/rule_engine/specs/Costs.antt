@@ -1,5 +1,5 @@
 -- What an event costs, as long as it is not carried out.
-use Rattle.std.specs.Prelude.{ℕ, ◌+◌, ◌≤◌, Bool, false, cond, is_none}
+use Rattle.std.specs.Prelude.{ℕ, ◌+◌, ◌≤◌, Bool, true, false, ◌&&◌, cond, is_none}
 use Rattle.rule_machine.specs.declared.event.Event.{Event}
 use Rattle.rule_machine.specs.declared.event.Event.TheVariants.{Link, Unlink, Point, Flag, Join, Leave}
 use Rattle.rule_machine.specs.declared.reply.Reply.TheVariants.{Accepted}
@@ -8,15 +8,19 @@ use Rattle.rule_machine.specs.State.{State}
 use Rattle.rule_machine.specs.RuleTable.{RuleTable}
 use Rattle.rule_machine.specs.Refuse.{refusal_of}
 
+-- whether it is an event that may disturb
+abbrev pub may_disturb : Event → Bool
+may_disturb (Link a b) = true
+may_disturb (Unlink a b) = true
+may_disturb (Point v target) = true
+may_disturb (Flag v value) = true
+may_disturb (Join v) = true
+may_disturb (Leave v) = true
+may_disturb event = false
+
 -- whether the event is a disturbance that is not refused
 abbrev pub disturbs : RuleTable → State → Event → Bool
-disturbs t s (Link a b) = is_none (refusal_of t s (Link a b))
-disturbs t s (Unlink a b) = is_none (refusal_of t s (Unlink a b))
-disturbs t s (Point v target) = is_none (refusal_of t s (Point v target))
-disturbs t s (Flag v value) = is_none (refusal_of t s (Flag v value))
-disturbs t s (Join v) = is_none (refusal_of t s (Join v))
-disturbs t s (Leave v) = is_none (refusal_of t s (Leave v))
-disturbs t s event = false
+disturbs t s event = may_disturb event && is_none (refusal_of t s event)
 
 -- the cost of a disturbance by its rule set; 0 for one that is refused, and for every other event
 abbrev pub cost_of : RuleTable → (State → Event → ℕ) → State → Event → ℕ

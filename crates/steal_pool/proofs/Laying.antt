@@ -1,15 +1,15 @@
 -- What is laid out by place is the list of all, once every place was taken.
-use Rattle.std.proofs.Common.{◌≡◌, ◌≢◌, ℕ, zero, suc, ◌+◌, ◌-◌, ◌<◌, ◌≤◌, List, [], ◌∷◌, ◌++◌, length, map, take, drop, length-append, append_assoc, true≢false, sym, refl, ap, ◌∙◌, subst, ⊎_elim, arith}
-use Rattle.std.specs.Prelude.{Bool, true, false, if◌then◌else◌, Option, None, Some, slice_get, slice_set, IfSome, MatchOption, All}
+use Rattle.std.proofs.Common.{◌≡◌, ◌≢◌, ℕ, zero, suc, ◌+◌, ◌-◌, ◌<◌, ◌≤◌, List, [], ◌∷◌, ◌++◌, length, map, take, drop, unwrap_or, length-append, append_assoc, sym, ap, ◌∙◌, subst, ⊎_elim, arith}
+use Rattle.std.specs.Prelude.{Option, None, Some, slice_get, slice_set, IfSome, MatchOption}
 use Rattle.std.specs.List.{sum_by, range_with_len}
 use Rattle.std.proofs.lemmas.Bool.{cases_eq}
-use Rattle.std.proofs.lemmas.List.FromFn.{length-range_with_len}
+use Rattle.std.proofs.lemmas.List.FromFn.{length-range_with_len, map-range_with_len_more}
 use Rattle.std.proofs.lemmas.List.Sums.{sum_by-append, sum_by-cons, sum_by_push}
-use Rattle.std.proofs.lemmas.List.Elements.{All-nil, All-cons, All-append, All-take, All-drop}
+use Rattle.std.proofs.lemmas.List.Elements.{All-nil, All-cons}
+use Rattle.std.proofs.lemmas.Option.{slice_get-get_or, unwrap_or-slice_get}
 use Rattle.place_deque.specs.declared.block.Block.{Block}
 use Rattle.place_deque.specs.Ledgers.{ledger, Takes, KnowsAll, AreAllPlaces, block_places, places_in}
-use Rattle.std.proofs.lemmas.List.{map-append, length-map, take-append-drop}
-use lib.Seq.{take-append_seam, drop-append_seam}
+use Rattle.std.proofs.lemmas.List.{get_or-set_same, get_or-set_other, length-map, length-set, map-append, map-id, same_lists, take-append-drop}
 use Rattle.place_deque.specs.declared.ledger.Ledger.{Ledger}
 use Rattle.place_deque.specs.Ends.{Hold, AreAllEnds}
 use Rattle.place_deque.proofs.Joinings.{moved}
@@ -19,15 +19,11 @@ use Rattle.rule_machine.specs.declared.verdict.Verdict.{Verdict}
 use Rattle.rule_machine.specs.State.{State}
 use Rattle.rule_machine.specs.RuleTable.{RuleTable}
 use Rattle.rule_engine.specs.Choosing.{verdict_of, verdicts_from, verdicts_of}
+use Rattle.rule_engine.proofs.Judged.{length-verdicts_of}
 use Rattle.steal_pool.specs.declared.hand.Hand.{Hand}
 use Rattle.steal_pool.specs.declared.hand.Judged.{Judged}
 use Rattle.steal_pool.specs.Hands.{hand_hold, judged_hold, AreOf}
 use Rattle.steal_pool.specs.Laid.{laid, Fit, at_place, taken_in, IsRight}
-
--- as many verdicts as items
-pub verdicts_length : (t : RuleTable) (s : State) (from : ℕ) (items : List Item) → length (verdicts_from t s from items) ≡ length items
-verdicts_length t s from [] = refl
-verdicts_length t s from (i ∷ is) = ap suc (verdicts_length t s (from + 1) is)
 
 -- the verdict at a place is the one that stands there among all
 verdict_from : (t : RuleTable) (s : State) (from : ℕ) (items : List Item) (k place : ℕ) (v : Verdict) → from + k ≡ place → k < length items → IfSome (slice_get items k) (λ item. v ≡ verdict_of t s place item) → slice_get (verdicts_from t s from items) k ≡ Some v
@@ -44,45 +40,22 @@ place_from t s from [] k v is = absurd cc
 place_from t s from (i ∷ rest) zero v is = (omega arith, (let e : verdict_of t s from i ≡ v = cc in ap (λ (x : Verdict). x.place) (sym e) ∙ omega arith))
 place_from t s from (i ∷ rest) (suc k) v is = let later = place_from t s (from + 1) rest k v is in (omega arith, omega arith)
 
--- what is read of a list after a write
-get_set_here : (xs : List Verdict) (i : ℕ) (v : Verdict) → i < length xs → slice_get (slice_set xs i v) i ≡ Some v
-get_set_here [] i v below = absurd (omega (arith, below))
-get_set_here (x ∷ xs) zero v below = refl
-get_set_here (x ∷ xs) (suc i) v below = get_set_here xs i v (omega arith)
-
-get_set_else : (xs : List Verdict) (i j : ℕ) (v : Verdict) → j ≢ i → slice_get (slice_set xs i v) j ≡ slice_get xs j
-get_set_else [] i j v other = refl
-get_set_else (x ∷ xs) zero zero v other = absurd (other refl)
-get_set_else (x ∷ xs) zero (suc j) v other = refl
-get_set_else (x ∷ xs) (suc i) zero v other = refl
-get_set_else (x ∷ xs) (suc i) (suc j) v other = get_set_else xs i j v (λ e. other (ap suc e))
-
-pub set_length : (xs : List Verdict) (i : ℕ) (v : Verdict) → length (slice_set xs i v) ≡ length xs
-set_length [] i v = refl
-set_length (x ∷ xs) zero v = refl
-set_length (x ∷ xs) (suc i) v = ap suc (set_length xs i v)
-
--- lists that agree at each place are the same
-same_at : (xs ys : List Verdict) → length xs ≡ length ys → ((k : ℕ) → k < length ys → slice_get xs k ≡ slice_get ys k) → xs ≡ ys
-same_at [] [] size at = refl
-same_at [] (y ∷ ys) size at = absurd (omega (arith, size))
-same_at (x ∷ xs) [] size at = absurd (omega (arith, size))
-same_at (x ∷ xs) (y ∷ ys) size at =
-    let first : Some x ≡ Some y = at 0 (omega arith) in
-    let rest = same_at xs ys (omega (arith, size)) (λ k below. at (suc k) (omega arith)) in
-    cc
-
 -- a table is right where nothing was taken
 pub no_weight : (all table : List Verdict) → length table ≡ length all → (weight : ℕ → ℕ) → ((k : ℕ) → weight k ≡ 0) → IsRight all table weight
 no_weight all table size weight none = record { size = size; right = λ k below some_weight. absurd (omega (arith, none k)) }
 
 pub writes : (all table : List Verdict) (before after : ℕ → ℕ) (place : ℕ) (v : Verdict) → slice_get all place ≡ Some v → ((k : ℕ) → after k ≡ before k + at_place k place) → IsRight all table before → place < length table → IsRight all (slice_set table place v) after
-writes all table before after place v is more r below = record {
-  size = set_length table place v ∙ r.size;
-  right = λ k inside some_weight. ⊎_elim
-      (λ (e : k ≡ place). subst (λ (j : ℕ). slice_get (slice_set table place v) j ≡ slice_get all j) (sym e) (get_set_here table place v below ∙ sym is))
-      (λ (other : k ≢ place). get_set_else table place k v other ∙ r.right k inside (let m = more k in let z : at_place k place ≡ 0 = omega arith in omega arith)) (cases_eq k place);
-}
+writes all table before after place v is more r below =
+    let size = length-set table place v in
+    record {
+      size = size ∙ r.size;
+      right = λ k inside some_weight. ⊎_elim
+          (λ (e : k ≡ place). subst (λ (j : ℕ). slice_get (slice_set table place v) j ≡ slice_get all j) (sym e) (slice_get-get_or (slice_set table place v) place v (omega (arith, size, below)) ∙ ap Some (get_or-set_same table place v v below) ∙ sym is))
+          (λ (other : k ≢ place).
+          slice_get-get_or (slice_set table place v) k v (omega (arith, size, inside, r.size)) ∙ ap Some (get_or-set_other table place k v v other) ∙ sym (slice_get-get_or table k v (omega (arith, inside, r.size)))
+          ∙ r.right k inside (let m = more k in let z : at_place k place ≡ 0 = omega arith in omega arith))
+          (cases_eq k place);
+    }
 
 -- a whole share is laid out
 pub lays : (t : RuleTable) (s : State) (items : List Item) (taken : List ℕ) (verdicts table : List Verdict) (before after : ℕ → ℕ) → AreOf (verdicts_of t s items) taken verdicts → ((k : ℕ) → after k ≡ before k + sum_by (at_place k) taken) → IsRight (verdicts_of t s items) table before → IsRight (verdicts_of t s items) (laid table verdicts) after
@@ -94,7 +67,7 @@ lays t s items (p ∷ ps) (v ∷ vs) table before after are more r =
     let rest : AreOf (verdicts_of t s items) ps vs = cc in
     let there = place_from t s 0 items p v first in
     let is : p ≡ v.place = omega arith in
-    let size = verdicts_length t s 0 items in
+    let size = length-verdicts_of t s items in
     let one = writes (verdicts_of t s items) table before (λ k. before k + at_place k p) v.place v (subst (λ (j : ℕ). slice_get (verdicts_of t s items) j ≡ Some v) is first) (λ k. ap (λ (j : ℕ). before k + at_place k j) is) r (omega (arith, r.size)) in
     lays t s items ps vs (slice_set table v.place v) (λ k. before k + at_place k p) after rest (λ k. omega (arith, more k, sum_by-cons (at_place k) p ps)) one
 
@@ -111,10 +84,12 @@ fits t s items (p ∷ ps) (v ∷ vs) are =
 
 -- where all places were taken, the table is the list of all
 pub all_laid : (t : RuleTable) (s : State) (items : List Item) (taken : List ℕ) (table : List Verdict) → AreAllPlaces (length items) taken → IsRight (verdicts_of t s items) table (λ k. sum_by (at_place k) taken) → table ≡ verdicts_of t s items
-all_laid t s items taken table are r = same_at table (verdicts_of t s items) r.size (λ k below. r.right k below (
-    let size = verdicts_length t s 0 items in
-    let there = has_place (length items) k (omega arith) in
-    omega (arith, are (at_place k))))
+all_laid t s items taken table are r =
+    let all = verdicts_of t s items in
+    same_lists table all r.size (λ k d below. sym (unwrap_or-slice_get table k d) ∙ ap (λ o. unwrap_or o d) (r.right k (omega (arith, r.size)) (
+    let size = length-verdicts_of t s items in
+    let there = has_place (length items) k (omega (arith, r.size)) in
+    omega (arith, are (at_place k)))) ∙ unwrap_or-slice_get all k d)
 
 -- one end more of the first kind, and one less of the second
 pub shifted : {X Y : Type 0} → (f : X → Hold) (g : Y → Hold) (count : ℕ) (xs xs' : List X) (ys ys' : List Y) (x : X) (y : Y) → xs' ≡ xs ++ x ∷ [] → ys ≡ ys' ++ y ∷ [] → f x ≡ g y → AreAllEnds count (map f xs ++ map g ys) → AreAllEnds count (map f xs' ++ map g ys')
@@ -124,22 +99,10 @@ shifted f g count xs xs' ys ys' x y more less same all =
     let now = moved count (map f xs) (map g ys') (g y) (subst (λ l. AreAllEnds count (map f xs ++ l)) from all) in
     subst (λ l. AreAllEnds count (l ++ map g ys')) (sym (to ∙ ap (λ h. map f xs ++ h ∷ []) same)) now
 
--- what all but the last say, and what the last says
-pub but_last : {X : Type 0} → (P : X → Type 0) (xs ys : List X) (x : X) → xs ≡ ys ++ x ∷ [] → All P xs → All P ys × P x
-but_last P xs ys x is all =
-    let there = subst (All P) is all in (
-      subst (All P) (take-append_seam ys (x ∷ [])) (All-take P (length ys) (ys ++ x ∷ []) there),
-      subst (All P) (drop-append_seam ys (x ∷ [])) (All-drop P (length ys) (ys ++ x ∷ []) there) 0 x (omega arith),
-    )
-
 -- one number more, behind others
 pub more_numbers : (a n j m : ℕ) → a + n ≡ j → n + 1 ≡ m → range_with_len a m ≡ range_with_len a n ++ j ∷ []
-more_numbers a n j zero at size = absurd (omega arith)
-more_numbers a zero j (suc m) at size =
-    let here : a ≡ j = omega arith in
-    let none : m ≡ 0 = omega arith in
-    ap (λ (k : ℕ). k ∷ range_with_len (a + 1) m) here ∙ ap (λ (k : ℕ). j ∷ range_with_len (a + 1) k) none
-more_numbers a (suc n) j (suc m) at size = ap (λ (l : List ℕ). a ∷ l) (more_numbers (a + 1) n j m (omega arith) (omega arith))
+more_numbers a n j m at size =
+    ap (range_with_len a) (sym size) ∙ sym (map-id (range_with_len a (n + 1))) ∙ map-range_with_len_more (λ x. x) a n j at ∙ ap (λ l. l ++ j ∷ []) (map-id (range_with_len a n))
 
 pub more_places : (first place : ℕ) → first ≤ place → range_with_len first (place + 1 - first) ≡ range_with_len first (place - first) ++ place ∷ []
 more_places first place from = more_numbers first (place - first) place (place + 1 - first) (omega arith) (omega arith)
@@ -184,30 +147,15 @@ takes_block v w block took k =
     let one : sum_by (at_place k) (places_in (block ∷ [])) ≡ sum_by (at_place k) (block_places block) = ap (sum_by (at_place k)) (one_block block) in
     omega (arith, sum_by-append (at_place k) v.taken (places_in (block ∷ [])))
 
-pub pushed : {X : Type 0} → (went : Bool) (old new : List X) (x : X) → new ≡ (if went then old ++ x ∷ [] else old) → went ≡ true → new ≡ old ++ x ∷ []
-pushed true old new x is ok = is
-pushed false old new x is ok = absurd (true≢false (sym ok))
-
 pub as_long : {X Y : Type 0} → (xs xs' : List X) (ys ys' : List Y) (x : X) (y : Y) → xs' ≡ xs ++ x ∷ [] → ys ≡ ys' ++ y ∷ [] → {n : ℕ} → length xs + length ys ≡ n → length xs' + length ys' ≡ n
 as_long xs xs' ys ys' x y more less size = omega (arith, ap length more, ap length less, length-append xs (x ∷ []), length-append ys' (y ∷ []))
 
 -- whoever has the whole and found nothing knows that all places were taken
-pub all_known : (v : Ledger) (count : ℕ) → v.parts ≡ 64 → v.count ≡ count → KnowsAll v → AreAllPlaces count v.taken
-all_known v count whole is knows = subst (λ (n : ℕ). AreAllPlaces n v.taken) is (knows whole)
-
-pub finds_none : (v w : Ledger) (result : Option Block) → result ≡ None → MatchOption result ((w ≡ v) × KnowsAll v) (λ block. Takes v (block ∷ []) w) → KnowsAll v
-finds_none v w None none told = told.1
-finds_none v w (Some block) none told = absurd cc
-
--- what all say of a list's names, said of its items
-pub unmapped : {X : Type 0} → (f : X → Hold) (P : Hold → Type 0) (xs : List X) → All P (map f xs) → All (λ x. P (f x)) xs
-unmapped f P [] all = All-nil (λ x. P (f x))
-unmapped f P (x ∷ xs) all = All-cons (λ y. P (f y)) x xs (all 0 (f x) (omega arith)) (unmapped f P xs (λ k d within. all (suc k) d (omega arith)))
+pub all_known : (v w : Ledger) (count : ℕ) (result : Option Block) → v.parts ≡ 64 → v.count ≡ count → result ≡ None → MatchOption result ((w ≡ v) × KnowsAll v) (λ block. Takes v (block ∷ []) w) → AreAllPlaces count v.taken
+all_known v w count None whole is none told = subst (λ (n : ℕ). AreAllPlaces n v.taken) is (told.1 whole)
+all_known v w count (Some block) whole is none told = absurd cc
 
 -- both halves of a list of hands
 pub halves_held : (k : ℕ) (hands low high : List Hand) (ours theirs shares : List Judged) → low ≡ take k hands → high ≡ drop k hands → map judged_hold ours ≡ map hand_hold low → map judged_hold theirs ≡ map hand_hold high → shares ≡ ours ++ theirs → map judged_hold shares ≡ map hand_hold hands
 halves_held k hands low high ours theirs shares first second mine other all =
     ap (map judged_hold) all ∙ map-append judged_hold ours theirs ∙ ap (λ l. l ++ map judged_hold theirs) mine ∙ ap (λ l. map hand_hold low ++ l) other ∙ sym (map-append hand_hold low high) ∙ ap (λ l. map hand_hold (l ++ high)) first ∙ ap (λ l. map hand_hold (take k hands ++ l)) second ∙ ap (map hand_hold) (take-append-drop k hands)
-
-pub halves_judged : (P : Judged → Type 0) (ours theirs shares : List Judged) → All P ours → All P theirs → shares ≡ ours ++ theirs → All P shares
-halves_judged P ours theirs shares mine other all = subst (All P) (sym all) (All-append P ours theirs mine other)

@@ -36,25 +36,9 @@ pub fn evaluate<R: Rules + Sync, G: Gate + Sync, T: Threads + Wait + Sync>(
     if workers < 2 {
         return Ok(judge_all(rt, alloc, net, choice, gate)?);
     }
-    Ok(judge_by(rt, alloc, net, choice, workers.min(MAX_WORKERS), gate)?)
-}
-
-// The verdicts of all items, found by so many workers.
-fn judge_by<R: Rules + Sync, G: Gate + Sync, T: Threads + Wait + Sync>(
-    rt: &T,
-    alloc: Global,
-    net: &Net<R>,
-    choice: &Choice,
-    workers: u32,
-    gate: &G,
-) -> Result<Vec<Verdict>, Want>
-    requires some { 0 < workers }
-    requires few { workers ≤ 64 }
-    ensures { IfOk result (λ verdicts. verdicts.items ≡ verdicts_of R.table net.now.state choice.now) }
-{
-    let hands = deal(alloc, choice, workers)?;
+    let hands = deal(alloc, choice, workers.min(MAX_WORKERS))?;
     let shares = work_all(rt, net, choice, gate, hands)?;
-    merge(alloc, shares, net, choice)
+    Ok(merge(alloc, shares, net, choice)?)
 }
 
 // The verdicts of all items, found one after another.

@@ -5,9 +5,9 @@ use Rattle.rule_machine.specs.declared.verdict.Outcome.{Outcome}
 use Rattle.rule_machine.specs.Least.{move_in, outcome_of}
 use Rattle.rule_engine.specs.Choosing.{refused_by}
 use Rattle.rule_engine.specs.Marks.{is_named}
-use Rattle.rule_engine.proofs.Marked.{items_refusal_more}
+use Rattle.rule_engine.proofs.Marked.{item_refused, items_refusal_more}
 use Rattle.rule_engine.proofs.Scanned.{found_next}
-use Rattle.rule_engine.proofs.Unmarked.{item_alone_refused, unnamed}
+use Rattle.rule_engine.proofs.Unmarked.{unnamed}
 use Rattle.rule_engine.proofs.climbing.take_ascending.Goals as goal
 
 pub returns-in-Err-clause-refusal : goal.returns-in-Err-clause-refusal
@@ -19,7 +19,7 @@ returns-in-Err-clause-refusal g c =
     let item = c.item-item.result in
     let alone = unnamed items k item c.requires.ascend c.loop-item-test.true c.item-item.is in
     let judged : refused_by (outcome_of t s item) false ≡ Some c.in-Err.refusal = ap (λ (o : Outcome). refused_by o false) (sym c.outcome.ensures) ∙ c.in-Err.ensures in
-    item_alone_refused t s items k item c.in-Err.refusal c.loop-item-test.true c.item-item.is alone judged ∙ c.loop-item.invariant.rest
+    item_refused t s items k item false c.in-Err.refusal c.loop-item-test.true c.item-item.is judged (sym alone) ∙ c.loop-item.invariant.rest
 
 pub loop-item-preserved : goal.loop-item-preserved
 loop-item-preserved g c =

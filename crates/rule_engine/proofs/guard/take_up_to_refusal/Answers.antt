@@ -20,8 +20,8 @@ returns-in-Some-clause-refusal g c =
     let s = c.args.state.now.state in
     let item = c.item-item.result in
     let marks = c.loop-item.chosen in
-    item_refused t s c.args.items.now c.loop-item.item-index item marks c.in-Some.refusal c.loop-item-test.true c.item-item.is
-    (judged_by t s item c.outcome-outcome.result marks c.take_outcome.result c.take_outcome.ensures.refusal c.outcome-outcome.ensures ∙ c.in-Some.is) c.loop-item.invariant.marks
+    item_refused t s c.args.items.now c.loop-item.item-index item (is_in marks item.node) c.in-Some.refusal c.loop-item-test.true c.item-item.is
+    (judged_by t s item c.outcome-outcome.result marks c.take_outcome.result c.take_outcome.ensures.refusal c.outcome-outcome.ensures ∙ c.in-Some.is) (c.loop-item.invariant.marks item.node)
     ∙ c.loop-item.invariant.rest
 
 pub loop-item-preserved : goal.loop-item-preserved

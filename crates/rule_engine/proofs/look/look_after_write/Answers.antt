@@ -1,4 +1,5 @@
-use Rattle.std.proofs.Common.{◌≡◌, ◌∙◌, ◌&&◌, ◌||◌, Bool, true, false, nat_eq, refl, ap, sym}
+use Rattle.std.proofs.Common.{◌∙◌, ◌&&◌, ◌||◌, nat_eq, ap, sym}
+use Rattle.std.proofs.Math.Bool.{or-false}
 use Rattle.rule_machine.specs.State.{State}
 use Rattle.rule_engine.specs.Looked.{is_suitor, is_touched, may_turn}
 use Rattle.rule_engine.proofs.Looked.{looked_alike, looked_both}
@@ -23,9 +24,5 @@ returns-else-turned g c =
     let above = g.R.Rules.ABOVE in
     let v = c.args.v in
     looked_alike t s (λ w. nat_eq w v || is_suitor s v w) (is_touched above t.opens s v c.args.turned) _ _
-    (λ w. unturned (nat_eq w v || is_suitor s v w) ∙ ap (λ b. (nat_eq w v || is_suitor s v w) || (b && may_turn above t.opens s v w)) (sym c.if-turned.false))
+    (λ w. sym (or-false (nat_eq w v || is_suitor s v w)) ∙ ap (λ b. (nat_eq w v || is_suitor s v w) || (b && may_turn above t.opens s v w)) (sym c.if-turned.false))
     (looked_both t s (λ w. nat_eq w v) (is_suitor s v) _ _ _ c.look_at.ensures c.look_at_suitors.ensures)
-  where
-    unturned : (b : Bool) → b ≡ (b || false)
-    unturned true = refl
-    unturned false = refl

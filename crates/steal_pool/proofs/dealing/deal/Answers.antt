@@ -1,8 +1,9 @@
-use Rattle.std.proofs.Common.{◌≡◌, [], refl, arith}
+use Rattle.std.proofs.Common.{◌≡◌, [], Some, refl, arith}
+use Rattle.std.proofs.lemmas.List.Elements.{All-pop}
 use Rattle.place_deque.specs.Ends.{end_hold, end_taken}
 use Rattle.place_deque.specs.declared.end.DequeEnd.{DequeEnd}
 use Rattle.steal_pool.specs.Hands.{hand_hold}
-use Rattle.steal_pool.proofs.Laying.{but_last, shifted, as_long}
+use Rattle.steal_pool.proofs.Laying.{shifted, as_long}
 use Rattle.steal_pool.proofs.EachPlace.{one_numbered}
 use Rattle.steal_pool.proofs.dealing.deal.Goals as goal
 
@@ -11,7 +12,7 @@ loop-end-preserved c =
     let loop = c.loop-end.invariant in
     record {
       all = shifted hand_hold end_hold _ c.loop-end.hands.items c.push.new.self.items c.loop-end.ends.items c.pop.new.self.items _ c.in-Some.end c.in_ok-push.ensures.items c.in-Some.ensures.items refl loop.all;
-      fresh = (but_last (λ (e : DequeEnd). end_taken e ≡ []) c.loop-end.ends.items c.pop.new.self.items c.in-Some.end c.in-Some.ensures.items loop.fresh).0;
+      fresh = (All-pop (λ (e : DequeEnd). end_taken e ≡ []) c.loop-end.ends.items c.pop.new.self.items (Some c.in-Some.end) c.in-Some.ensures.items loop.fresh).0;
       numbered = one_numbered c.loop-end.hands.items c.push.new.self.items _ c.in_ok-push.ensures.items (omega (arith, c.len-worker.ensures)) loop.numbered;
       number = as_long c.loop-end.hands.items c.push.new.self.items c.loop-end.ends.items c.pop.new.self.items _ c.in-Some.end c.in_ok-push.ensures.items c.in-Some.ensures.items loop.number;
     }

@@ -1,8 +1,22 @@
-use Rattle.std.proofs.Common.{◌<◌, length, arith}
-use Rattle.rule_engine.proofs.NextVerdict.{one_more}
+use Rattle.std.proofs.Common.{◌∷◌, ◌++◌, [], ◌<◌, length, ap, ap₂, sym, ◌∙◌, arith}
+use Rattle.std.proofs.lemmas.List.{take_all, take_more}
+use Rattle.std.proofs.lemmas.Option.{get_or_from_slice_get}
+use Rattle.rule_machine.specs.declared.verdict.Verdict.{Verdict}
+use Rattle.rule_engine.specs.Choosing.{verdicts_of}
+use Rattle.rule_engine.proofs.Judged.{length-verdicts_of}
+use Rattle.steal_pool.proofs.Laying.{verdict_there}
 use Rattle.steal_pool.proofs.evaluation.judge_all.Goals as goal
 
 pub loop-place-preserved : goal.loop-place-preserved
 loop-place-preserved g c =
     let below : c.loop-place.place < length c.args.choice.now = grind arith in
-    one_more g.R.Rules.table c.args.net.now.state c.args.choice.now c.loop-place.verdicts.items c.push.new.self.items c.loop-place.place c.verdict.result below c.verdict.ensures c.in_ok-push.ensures.items c.loop-place.invariant
+    let all = verdicts_of g.R.Rules.table c.args.net.now.state c.args.choice.now in
+    let v = c.verdict.result in
+    let size = length-verdicts_of g.R.Rules.table c.args.net.now.state c.args.choice.now in
+    let here = get_or_from_slice_get all c.loop-place.place v v (verdict_there g.R.Rules.table c.args.net.now.state c.args.choice.now c.loop-place.place v below c.verdict.ensures) in
+    c.in_ok-push.ensures.items ∙ ap₂ (λ vs (w : Verdict). vs ++ w ∷ []) c.loop-place.invariant (sym here) ∙ sym (take_more all c.loop-place.place v (omega (arith, below, size)))
+
+pub returns : goal.returns
+returns g c =
+    let size = length-verdicts_of g.R.Rules.table c.args.net.now.state c.args.choice.now in
+    c.loop-place.invariant ∙ take_all c.loop-place.place (verdicts_of g.R.Rules.table c.args.net.now.state c.args.choice.now) (omega (arith, size, ap length c.items-items.ensures.items))

@@ -4,8 +4,9 @@ use Rattle.place_deque.specs.Ledgers.{places_in, AreAllPlaces}
 use Rattle.place_deque.specs.Ends.{owner_ledger}
 use Rattle.steal_pool.specs.Laid.{taken_in}
 use Rattle.rule_engine.specs.Choosing.{verdicts_of}
+use Rattle.rule_engine.proofs.Judged.{length-verdicts_of}
 use Rattle.steal_pool.proofs.EachPlace.{took_more}
-use Rattle.steal_pool.proofs.Laying.{verdicts_length, reweighed, takes_block, all_laid, all_known, finds_none}
+use Rattle.steal_pool.proofs.Laying.{reweighed, takes_block, all_laid, all_known}
 use Rattle.steal_pool.proofs.merging.judge_left.Goals as goal
 
 pub loop-block-preserved : goal.loop-block-preserved
@@ -20,16 +21,16 @@ loop-block-preserved g c =
     }
 
 pub write_block-requires-clause-size : goal.write_block-requires-clause-size
-write_block-requires-clause-size g c = c.loop-block.invariant.right.size ∙ verdicts_length g.R.Rules.table c.args.net.now.state 0 c.args.choice.now
+write_block-requires-clause-size g c = c.loop-block.invariant.right.size ∙ length-verdicts_of g.R.Rules.table c.args.net.now.state c.args.choice.now
 
 pub returns-clause-places : goal.returns-clause-places
 returns-clause-places g c =
     let loop = c.loop-block.invariant in
     let v = owner_ledger c.loop-block.owner in
-    (loop.taken.0, subst (AreAllPlaces (length c.args.choice.now)) loop.taken.1 (all_known v _ loop.whole loop.count (finds_none v (owner_ledger c.take.new.self) c.take.result (search rules) c.take.ensures.taken)))
+    (loop.taken.0, subst (AreAllPlaces (length c.args.choice.now)) loop.taken.1 (all_known v (owner_ledger c.take.new.self) _ c.take.result loop.whole loop.count (search rules) c.take.ensures.taken))
 
 pub returns-clause-verdicts : goal.returns-clause-verdicts
 returns-clause-verdicts g c =
     let loop = c.loop-block.invariant in
     let v = owner_ledger c.loop-block.owner in
-    all_laid g.R.Rules.table c.args.net.now.state c.args.choice.now v.taken c.loop-block.table (all_known v _ loop.whole loop.count (finds_none v (owner_ledger c.take.new.self) c.take.result (search rules) c.take.ensures.taken)) loop.right
+    all_laid g.R.Rules.table c.args.net.now.state c.args.choice.now v.taken c.loop-block.table (all_known v (owner_ledger c.take.new.self) _ c.take.result loop.whole loop.count (search rules) c.take.ensures.taken) loop.right

@@ -1,14 +1,16 @@
-use Rattle.std.proofs.Common.{◌≡◌, ℕ, ◌+◌, List, ◌++◌, length, map, sym, refl, ap, ◌∙◌, subst, arith}
+use Rattle.std.proofs.Common.{◌≡◌, ℕ, ◌+◌, List, ◌++◌, length, map, Some, sym, refl, ap, ◌∙◌, subst, arith}
 use Rattle.std.specs.List.{sum_by}
+use Rattle.std.proofs.lemmas.List.Elements.{All-pop}
 use Rattle.std.proofs.lemmas.List.Sums.{sum_by_push}
 use Rattle.place_deque.specs.declared.end.DequeEnd.{DequeEnd}
 use Rattle.place_deque.specs.Ends.{end_hold, end_taken, AreAllEnds}
 use Rattle.rule_machine.specs.declared.verdict.Verdict.{Verdict}
 use Rattle.rule_engine.specs.Choosing.{verdicts_of}
+use Rattle.rule_engine.proofs.Judged.{length-verdicts_of}
 use Rattle.steal_pool.specs.Hands.{judged_hold, judged_places, judged_verdicts, AreJudged}
 use Rattle.steal_pool.specs.Laid.{at_place, taken_by, laid, Fit, IsRight}
 use Rattle.steal_pool.proofs.EachPlace.{moves_taken}
-use Rattle.steal_pool.proofs.Laying.{no_weight, verdicts_length, but_last, fits, lays, shifted}
+use Rattle.steal_pool.proofs.Laying.{no_weight, fits, lays, shifted}
 use Rattle.steal_pool.proofs.merging.lay_out.Goals as goal
 
 pub loop-share-init : goal.loop-share-init
@@ -17,7 +19,7 @@ loop-share-init g c =
     record {
       all = subst (λ (e : List DequeEnd). AreAllEnds (length c.args.choice.now) (map end_hold e ++ map judged_hold c.args.shares.items)) (sym none) c.requires.all;
       judged = c.requires.judged;
-      right = no_weight (verdicts_of g.R.Rules.table c.args.net.now.state c.args.choice.now) c.args.table.now (c.requires.size ∙ sym (verdicts_length g.R.Rules.table c.args.net.now.state 0 c.args.choice.now)) (taken_by c.in_ok-ends.ends.items) (λ k. ap (λ (e : List DequeEnd). taken_by e k) none);
+      right = no_weight (verdicts_of g.R.Rules.table c.args.net.now.state c.args.choice.now) c.args.table.now (c.requires.size ∙ sym (length-verdicts_of g.R.Rules.table c.args.net.now.state c.args.choice.now)) (taken_by c.in_ok-ends.ends.items) (λ k. ap (λ (e : List DequeEnd). taken_by e k) none);
       taken = λ h.
           let nothing : sum_by (λ (e : DequeEnd). sum_by h (end_taken e)) c.in_ok-ends.ends.items ≡ 0 = ap (sum_by (λ (e : DequeEnd). sum_by h (end_taken e))) none in
           omega arith;
@@ -30,9 +32,9 @@ lay-requires g c =
     let items = c.args.choice.now in
     let share = c.in-Some.share in
     let loop = c.loop-share.invariant in
-    let judged = (but_last (AreJudged t s items) c.loop-share.shares.items c.pop.new.self.items share c.in-Some.ensures.items loop.judged).1 in
+    let judged = (All-pop (AreJudged t s items) c.loop-share.shares.items c.pop.new.self.items (Some share) c.in-Some.ensures.items loop.judged).1 in
     subst (λ (z : List Verdict). Fit (length c.loop-share.table) z) (sym c.deref.ensures.value)
-    (subst (λ (n : ℕ). Fit n share.verdicts.items) (sym (loop.right.size ∙ verdicts_length t s 0 items)) (fits t s items (judged_places share) (judged_verdicts share) judged))
+    (subst (λ (n : ℕ). Fit n share.verdicts.items) (sym (loop.right.size ∙ length-verdicts_of t s items)) (fits t s items (judged_places share) (judged_verdicts share) judged))
 
 pub loop-share-preserved : goal.loop-share-preserved
 loop-share-preserved g c =
@@ -43,7 +45,7 @@ loop-share-preserved g c =
     let loop = c.loop-share.invariant in
     let before = c.loop-share.ends.items in
     let after = c.push.new.self.items in
-    let parts = but_last (AreJudged t s items) c.loop-share.shares.items c.pop.new.self.items share c.in-Some.ensures.items loop.judged in
+    let parts = All-pop (AreJudged t s items) c.loop-share.shares.items c.pop.new.self.items (Some share) c.in-Some.ensures.items loop.judged in
     let more : (k : ℕ) → taken_by after k ≡ taken_by before k + sum_by (at_place k) (judged_places share) = λ k.
     ap (λ (z : List DequeEnd). taken_by z k) c.in_ok-push.ensures.items ∙ sum_by_push (λ (e : DequeEnd). sum_by (at_place k) (end_taken e)) before share.end in
     record {

@@ -1,8 +1,9 @@
 use Rattle.std.proofs.Common.{◌≡◌, ℕ, ◌-◌, ap, ◌∙◌, arith}
 use Rattle.std.specs.List.{sum_by, range_with_len}
+use Rattle.std.proofs.lemmas.List.{length-set}
 use Rattle.rule_engine.specs.Choosing.{verdicts_of}
 use Rattle.steal_pool.specs.Laid.{at_place}
-use Rattle.steal_pool.proofs.Laying.{no_places, set_length, verdict_there, reweighed, writes_one}
+use Rattle.steal_pool.proofs.Laying.{no_places, verdict_there, reweighed, writes_one}
 use Rattle.steal_pool.proofs.merging.write_block.Goals as goal
 
 pub loop-place-init : goal.loop-place-init
@@ -19,7 +20,7 @@ loop-place-preserved g c =
     let there = verdict_there g.R.Rules.table c.args.net.now.state c.args.choice.now c.loop-place.place c.verdict.result (omega arith) c.verdict.ensures in
     record {
       from = omega arith;
-      size = set_length c.loop-place.table c.loop-place.place c.verdict.result ∙ loop.size;
+      size = length-set c.loop-place.table c.loop-place.place c.verdict.result ∙ loop.size;
       right = λ times before. writes_one all c.loop-place.table times c.args.block.first c.loop-place.place c.verdict.result loop.from there (omega (arith, loop.size)) (loop.right times before);
     }
 

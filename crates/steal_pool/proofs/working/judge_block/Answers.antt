@@ -1,9 +1,9 @@
 use Rattle.std.proofs.Common.{◌≡◌, ℕ, ◌-◌, List, [], ◌∷◌, ◌++◌, length, length-append, append-nil, sym, ap, subst, ◌∙◌, arith}
-use Rattle.std.specs.Result.{is_ok}
 use Rattle.std.specs.List.{range_with_len}
 use Rattle.rule_engine.specs.Choosing.{verdicts_of}
+use Rattle.rule_engine.proofs.Scanned.{ok_branch}
 use Rattle.steal_pool.specs.Hands.{AreOf}
-use Rattle.steal_pool.proofs.Laying.{no_places, verdict_there, pushed, judges_one}
+use Rattle.steal_pool.proofs.Laying.{no_places, verdict_there, judges_one}
 use Rattle.steal_pool.proofs.working.judge_block.Goals as goal
 
 pub loop-place-init : goal.loop-place-init
@@ -19,7 +19,7 @@ loop-place-preserved g c =
     let loop = c.loop-place.invariant in
     let all = verdicts_of g.R.Rules.table c.args.net.now.state c.args.choice.now in
     let there = verdict_there g.R.Rules.table c.args.net.now.state c.args.choice.now c.loop-place.place c.verdict.result (omega arith) c.verdict.ensures in
-    let push = pushed (is_ok c.push.result) c.loop-place.verdicts.items c.push.new.self.items c.verdict.result c.push.ensures.items (ap is_ok c.unwrap.ensures) in
+    let push = c.push.ensures.items ∙ ok_branch c.push.result _ (c.loop-place.verdicts.items ++ c.verdict.result ∷ []) c.loop-place.verdicts.items c.unwrap.ensures in
     record {
       from = omega arith;
       judged = λ taken before. judges_one all taken c.args.block.first c.loop-place.place c.loop-place.verdicts.items c.push.new.self.items c.verdict.result loop.from there push (loop.judged taken before);

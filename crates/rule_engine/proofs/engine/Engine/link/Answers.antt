@@ -1,13 +1,14 @@
-use Rattle.std.proofs.Common.{◌≡◌, ◌∙◌, None, IsTrue, ap, sym, subst}
+use Rattle.std.proofs.Common.{◌≡◌, ◌∙◌, None, IsTrue, refl, ap, sym, subst}
 use Rattle.indexed_state.specs.Indexed.{Indexed}
 use Rattle.rule_machine.specs.declared.event.Event.TheVariants.{Link}
 use Rattle.rule_machine.specs.Disturbance.{after_link}
-use Rattle.rule_machine.specs.Network.{present}
+use Rattle.rule_machine.specs.Network.{present, with_edge}
 use Rattle.rule_machine.specs.State.{State, IsState}
 use Rattle.rule_machine.specs.Refuse.{link_refusal}
 use Rattle.machine_laws.specs.LeastMoves.{IsTable}
 use Rattle.machine_laws.specs.Accepted.{accepted_keeps}
-use Rattle.rule_engine.proofs.Again.{kept_linked}
+use Rattle.rule_engine.proofs.Again.{kept_ends}
+use Rattle.rule_engine.proofs.Far.{link_far}
 use Rattle.rule_engine.proofs.Preparing.{link_ends}
 use Rattle.rule_engine.proofs.engine.Engine.link.Goals as goal
 
@@ -24,4 +25,4 @@ invariant_of-self g c =
     let s = c.self.inside.state.state in
     let none : link_refusal s.network c.args.a c.args.b ≡ None = ap (λ (n : Indexed). link_refusal n.state.network c.args.a c.args.b) c.self.view_is ∙ c.requires.accepted in
     let good : IsState c.link_reserved.new.self.state = subst IsState (sym c.link_reserved.ensures) (accepted_keeps g.R.Rules.table table s c.self.invariant.is_state (Link c.args.a c.args.b) none) in
-    kept_linked g.R.Rules.table laws.is_local s c.link_reserved.new.self.state c.args.a c.args.b _ _ _ c.self.invariant good c.link_reserved.ensures c.look_at.ensures c.look_at-2.ensures
+    kept_ends g.R.Rules.table laws.is_local s c.link_reserved.new.self.state (with_edge s.network c.args.a c.args.b) c.args.a c.args.b _ _ _ c.self.invariant good c.link_reserved.ensures refl (λ x. refl) (link_far s c.args.a c.args.b) c.look_at.ensures c.look_at-2.ensures
