@@ -14,22 +14,13 @@ run_once t start (entry ∷ log) end last x y =
     run_once t (record { state = x.0; spent = spent_after start.spent entry.1 }) log end last x.2
     (subst (λ (s : State). Run t (record { state = s; spent = spent_after start.spent entry.1 }) log last) (sym same) y.2)
 
-nil_cons : {X : Type 0} (x : X) (xs : List X) → [] ≡ x ∷ xs → ⊥
-nil_cons x xs e = cc
-
-same_head : {X : Type 0} (x y : X) (xs ys : List X) → x ∷ xs ≡ y ∷ ys → x ≡ y
-same_head x y xs ys e = cc
-
-same_tail : {X : Type 0} (x y : X) (xs ys : List X) → x ∷ xs ≡ y ∷ ys → xs ≡ ys
-same_tail x y xs ys e = cc
-
 pub path_once : (t : RuleTable) (start : Moment) (path other : List (Entry × State)) → map (λ step. step.0) path ≡ map (λ step. step.0) other → IsPath t start path → IsPath t start other → path ≡ other
 path_once t start [] [] same x y = refl
-path_once t start [] (q ∷ other) same x y = absurd (nil_cons q.0 (map (λ (step : Entry × State). step.0) other) same)
-path_once t start (p ∷ path) [] same x y = absurd (nil_cons p.0 (map (λ (step : Entry × State). step.0) path) (sym same))
+path_once t start [] (q ∷ other) same x y = absurd cc
+path_once t start (p ∷ path) [] same x y = absurd cc
 path_once t start ((entry, s) ∷ path) ((twin, u) ∷ other) same x y =
-    let rest = same_tail entry twin (map (λ (step : Entry × State). step.0) path) (map (λ (step : Entry × State). step.0) other) same in
-    let head : entry ≡ twin = same_head entry twin (map (λ (step : Entry × State). step.0) path) (map (λ (step : Entry × State). step.0) other) same in
+    let rest : map (λ (step : Entry × State). step.0) path ≡ map (λ (step : Entry × State). step.0) other = cc in
+    let head : entry ≡ twin = cc in
     let z : IsPath t start ((entry, u) ∷ other) = subst (λ (e : Entry). IsPath t start ((e, u) ∷ other)) (sym head) y in
     let state : s ≡ u = answers_once t start.state start.spent entry.0 entry.1 s u x.0 z.0 in
     let tail = path_once t (record { state = s; spent = spent_after start.spent entry.1 }) path other rest x.1 (subst (λ (v : State). IsPath t (record { state = v; spent = spent_after start.spent entry.1 }) other) (sym state) z.1) in

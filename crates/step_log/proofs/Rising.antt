@@ -1,25 +1,18 @@
 -- Rising numbers are distinct.
-use Rattle.std.proofs.Common.{◌≡◌, ℕ, zero, suc, ◌<◌, false, List, [], ◌∷◌, nat_eq, arith}
-use Rattle.std.specs.List.{IsDistinct, AllByRecursion}
+use Rattle.std.proofs.Common.{◌≡◌, ℕ, suc, ◌<◌, false, List, [], ◌∷◌, get_or, nat_eq, arith}
+use Rattle.std.specs.List.{IsDistinct}
 use Rattle.std.specs.List.Sorted.{IsStrictlyIncreasing}
 use Rattle.std.proofs.lemmas.Bool.{ne_eqb}
-use native.Mathlib.Numerals.{unary_clauses}
-
-rising_tail : (x : ℕ) (xs : List ℕ) → IsStrictlyIncreasing (x ∷ xs) → IsStrictlyIncreasing xs
-rising_tail x xs rises k p = simp unary_clauses (simp unary_clauses at (rises (suc k) (omega (arith, p))))
-
--- what rises from x on rises from x on without its second number
-skip : (x y : ℕ) (ys : List ℕ) → IsStrictlyIncreasing (x ∷ y ∷ ys) → IsStrictlyIncreasing (x ∷ ys)
-skip x y ys rises zero p = omega (arith, rises 0 (omega arith), rises 1 (omega arith))
-skip x y ys rises (suc k) p = simp unary_clauses (simp unary_clauses at (rises (suc (suc k)) (omega (arith, p))))
-
-differs_from_all : (x : ℕ) (xs : List ℕ) → IsStrictlyIncreasing (x ∷ xs) → AllByRecursion (λ y. nat_eq x y ≡ false) xs
-differs_from_all x [] rises = tt
-differs_from_all x (y ∷ ys) rises =
-    let first : x < y = rises 0 (omega arith) in
-    (ne_eqb x y (λ e. omega (arith, first, e)), differs_from_all x ys (skip x y ys rises))
+use Rattle.std.proofs.lemmas.List.Elements.{recursion_from_All}
+use Rattle.std.proofs.lemmas.List.Kept.{AllPairs-from_increasing}
+use Rattle.rule_engine.proofs.Ascending.{rises_tail}
 
 pub rising_distinct : (xs : List ℕ) → IsStrictlyIncreasing xs → IsDistinct nat_eq xs
 unfolding IsDistinct
 rising_distinct [] rises = tt
-rising_distinct (x ∷ xs) rises = (differs_from_all x xs rises, rising_distinct xs (rising_tail x xs rises))
+rising_distinct (x ∷ xs) rises = (
+  recursion_from_All (λ y. nat_eq x y ≡ false) xs (λ k d below.
+      let under : x < get_or xs k d = AllPairs-from_increasing (x ∷ xs) rises 0 (suc k) d (omega arith) (omega arith) in
+      ne_eqb x (get_or xs k d) (λ e. omega (arith, under, e))),
+  rising_distinct xs (rises_tail x xs rises),
+)

@@ -1,7 +1,6 @@
 -- The epochs that a journal keeps are told on by one more entry, and are those of every path.
 use Rattle.std.proofs.Common.{◌≡◌, ◌≢◌, ℕ, ◌+◌, ◌*◌, ◌≤◌, List, [], ◌∷◌, ◌++◌, length, map, All, append_assoc, refl, sym, ap, ap₂, ◌∙◌, subst, arith}
-use Rattle.std.proofs.lemmas.List.{append-nil, map-append, length-map}
-use Rattle.std.proofs.lemmas.List.Elements.{All-nil, All-cons, All-head, All-tail}
+use Rattle.std.proofs.lemmas.List.{append-nil, get_or-map, map-append, length-map}
 use Rattle.rule_machine.specs.declared.base.Start.{Start}
 use Rattle.rule_machine.specs.declared.event.Event.{Event}
 use Rattle.rule_machine.specs.declared.reply.Reply.{Reply}
@@ -112,8 +111,7 @@ told_add t n began start m log over begun told entry s answers =
 -- ---- all of them
 
 All-unmap : {X Y : Type 0} (P : Y → Type 0) (f : X → Y) (xs : List X) → All P (map f xs) → All (λ x. P (f x)) xs
-All-unmap P f [] all = All-nil (λ x. P (f x))
-All-unmap P f (x ∷ xs) all = All-cons (λ x. P (f x)) x xs (All-head P (f x) (map f xs) all) (All-unmap P f xs (All-tail P (f x) (map f xs) all))
+All-unmap P f xs all k d within = subst P (get_or-map f xs k d (f d) within) (all k (f d) (omega (arith, length-map xs f)))
 
 told_along : (t : RuleTable) (weight : ℕ) (kept : Kept) (over : List Epoch) (begun : Start) (is : IsJournal t weight kept over begun) → map of_run over ++ open_at begun (moment_in kept) ∷ [] ≡ epochs_along kept is.is_kept.start is.told.path
 told_along t weight kept over begun is =

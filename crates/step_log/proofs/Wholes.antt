@@ -3,6 +3,7 @@ use Rattle.std.proofs.Common.{◌≡◌, ℕ, None, ap, subst, arith}
 use Rattle.rule_machine.specs.RuleTable.{RuleTable}
 use Rattle.rule_machine.specs.Run.{Run}
 use Rattle.step_log.specs.Log.{Log, IsLog}
+use Rattle.step_log.specs.Held.{Held, kept_of, log_of}
 use Rattle.step_log.specs.Kept.{Kept, IsKept, log_in, moment_in, whole}
 
 pub whole_is_log : (t : RuleTable) (weight : ℕ) (log : Log) → IsKept t weight (whole log) → IsLog t log
@@ -18,3 +19,7 @@ kept_whole kept none = ap (λ base. record { state = kept.state; spent = kept.sp
 
 pub kept_is_log : (t : RuleTable) (weight : ℕ) (kept : Kept) → kept.base ≡ None → IsKept t weight kept → IsLog t (log_in kept)
 kept_is_log t weight kept none is = whole_is_log t weight (log_in kept) (subst (IsKept t weight) (kept_whole kept none) is)
+
+-- so it is of a journal as contracts see it
+pub held_is_log : (t : RuleTable) (weight : ℕ) (inside held : Held) → inside ≡ held → IsKept t weight (kept_of inside) → held.base ≡ None → IsLog t (log_of held)
+held_is_log t weight inside held is kept none = kept_is_log t weight (kept_of held) none (subst (λ (h : Held). IsKept t weight (kept_of h)) is kept)

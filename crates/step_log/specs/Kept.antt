@@ -65,13 +65,10 @@ next_entry t kept event = (event, reply_of t kept.state kept.spent event)
 -- with the event's entry at the end, and the state and what is spent after it
 abbrev pub kept_with : RuleTable → Kept → Event → Kept
 kept_with t kept event =
-    record {
+    record kept {
       state = state_after t kept.state event;
       spent = spent_by t kept.state kept.spent event;
-      base = kept.base;
       entries = kept.entries ++ next_entry t kept event ∷ [];
-      limit = kept.limit;
-      present = kept.present;
     }
 
 -- what the caller is told of it
@@ -81,12 +78,4 @@ next_receipt t kept event =
 
 -- with the base at which its network stands, and without an entry
 abbrev pub checkpointed : Kept → Kept
-checkpointed kept =
-    record {
-      state = kept.state;
-      spent = kept.spent;
-      base = Some (base_of (last_number kept) (moment_in kept));
-      entries = [];
-      limit = kept.limit;
-      present = kept.present;
-    }
+checkpointed kept = record kept { base = Some (base_of (last_number kept) (moment_in kept)); entries = [] }

@@ -40,12 +40,10 @@ entry_of t log event = (event, reply_of t log.state log.spent event)
 -- the log with the event's entry at its end, and the state and what is spent after it
 abbrev pub recorded : RuleTable → Log → Event → Log
 recorded t log event =
-    record {
+    record log {
       state = state_after t log.state event;
       spent = spent_by t log.state log.spent event;
       entries = log.entries ++ entry_of t log event ∷ [];
-      limit = log.limit;
-      present = log.present;
     }
 
 -- what the caller is told of it

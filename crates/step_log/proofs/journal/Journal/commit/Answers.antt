@@ -5,8 +5,7 @@ use Rattle.rule_machine.specs.Run.{Entry, Moment, moment_after, open_at}
 use Rattle.machine_laws.specs.LeastMoves.{IsTable}
 use Rattle.step_log.specs.declared.receipt.Receipt.{Receipt}
 use Rattle.step_log.specs.Epochs.{begun_by, ended_by, of_run}
-use Rattle.step_log.specs.Held.{Held, IsReady, kept_at}
-use Rattle.step_log.specs.Kept.{Kept}
+use Rattle.step_log.specs.Held.{Held, IsReady}
 use Rattle.step_log.proofs.Running.{next_is_journal}
 use Rattle.step_log.proofs.journal.Journal.commit.Goals as goal
 
@@ -25,7 +24,6 @@ invariant_of-self g c =
     let inside = c.self.inside in
     let over = inside.epochs.over.items in
     let begun = inside.epochs.begun in
-    let before : Kept = kept_at inside.net inside.base inside.entries.items inside.limit inside.present in
     let now : Moment = record { state = inside.net.state; spent = inside.net.spent } in
     let after : Moment = record { state = c.commit.new.self.state; spent = c.commit.new.self.spent } in
     let ready = subst (λ (held : Held). IsReady t held c.args.prepared) (sym c.self.view_is) c.requires in
@@ -38,4 +36,4 @@ invariant_of-self g c =
     let number = ap (λ (r : Receipt). r.seq) (c.parts-entry.ensures.receipt ∙ ready.next) in
     let ended = c.turn.ensures.over ∙ ap (λ (r : Reply). map of_run over ++ ended_by r (open_at begun now)) told in
     let starts = c.turn.ensures.begun ∙ ap₂ (λ (r : Reply) (n : ℕ). begun_by r n begun) told number in
-    next_is_journal t g.R.Rules.NODE_WEIGHT table before over begun c.self.invariant ready.below event reply after c.push.new.self.items c.turn.new.self.over.items c.turn.new.self.begun ready.net.reply_is moved added ended starts
+    next_is_journal t g.R.Rules.NODE_WEIGHT table _ over begun c.self.invariant ready.below event reply after c.push.new.self.items c.turn.new.self.over.items c.turn.new.self.begun ready.net.reply_is moved added ended starts

@@ -4,8 +4,7 @@ use Rattle.std.proofs.lemmas.Result.{IfOk-weaker}
 use Rattle.machine_laws.specs.LeastMoves.{IsTable}
 use Rattle.charge_laws.specs.Charged.{IsCharged}
 use Rattle.step_log.specs.Epochs.{AreEpochs}
-use Rattle.step_log.specs.Held.{Held, kept_at, kept_of}
-use Rattle.step_log.specs.Kept.{Kept}
+use Rattle.step_log.specs.Held.{Held, kept_of}
 use Rattle.step_log.proofs.Telling.{told_epochs, told_bounded}
 use Rattle.step_log.proofs.journal.Journal.epochs.Goals as goal
 
@@ -13,10 +12,8 @@ pub returns-clause-epochs : goal.returns-clause-epochs
 returns-clause-epochs g c =
     let t = g.R.Rules.table in
     let weight = g.R.Rules.NODE_WEIGHT in
-    let inside = c.self.inside in
-    let kept : Kept = kept_at inside.net inside.base inside.entries.items inside.limit inside.present in
     subst (λ (held : Held). IfOk c.list.result (λ epochs. AreEpochs t weight (kept_of held) epochs.items)) c.self.view_is
-    (IfOk-weaker c.list.result _ _ (λ epochs are. told_epochs t weight kept inside.epochs.over.items inside.epochs.begun c.self.invariant epochs.items are) c.list.ensures)
+    (IfOk-weaker c.list.result _ _ (λ epochs are. told_epochs t weight _ _ _ c.self.invariant epochs.items are) c.list.ensures)
 
 pub returns-clause-bound : goal.returns-clause-bound
 returns-clause-bound g c =
@@ -25,6 +22,4 @@ returns-clause-bound g c =
     let weight = g.R.Rules.NODE_WEIGHT in
     let table : IsTable t = record { allowed_is_neighbour = laws.allowed_is_neighbour; allowed_takes_target = laws.allowed_takes_target; has_target = laws.has_target } in
     let charged : IsCharged t weight = record { falls = laws.charge_falls; bounded = laws.charge_is_bounded; zero_is_stable = laws.no_charge_is_stable } in
-    let inside = c.self.inside in
-    let kept : Kept = kept_at inside.net inside.base inside.entries.items inside.limit inside.present in
-    IfOk-weaker c.list.result _ _ (λ epochs are. told_bounded t weight table charged kept inside.epochs.over.items inside.epochs.begun c.self.invariant epochs.items are) c.list.ensures
+    IfOk-weaker c.list.result _ _ (λ epochs are. told_bounded t weight table charged _ _ _ c.self.invariant epochs.items are) c.list.ensures

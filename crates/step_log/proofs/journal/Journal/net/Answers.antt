@@ -1,11 +1,9 @@
-use Rattle.std.proofs.Common.{◌≡◌, None, subst}
+use Rattle.std.proofs.Common.{subst}
 use Rattle.machine_laws.specs.LeastMoves.{IsTable}
 use Rattle.charge_laws.specs.Charged.{IsCharged}
-use Rattle.step_log.specs.Held.{Held, kept_at, kept_of, log_of}
-use Rattle.step_log.specs.Kept.{Kept}
-use Rattle.step_log.specs.Log.{IsLog}
+use Rattle.step_log.specs.Held.{Held, kept_of}
 use Rattle.step_log.specs.Headline.{Upholds}
-use Rattle.step_log.proofs.Wholes.{kept_is_log}
+use Rattle.step_log.proofs.Wholes.{held_is_log}
 use Rattle.step_log.proofs.Upheld.{upheld}
 use Rattle.step_log.proofs.journal.Journal.net.Goals as goal
 
@@ -16,13 +14,7 @@ returns-clause-upheld g c =
     let weight = g.R.Rules.NODE_WEIGHT in
     let table : IsTable t = record { allowed_is_neighbour = laws.allowed_is_neighbour; allowed_takes_target = laws.allowed_takes_target; has_target = laws.has_target } in
     let charged : IsCharged t weight = record { falls = laws.charge_falls; bounded = laws.charge_is_bounded; zero_is_stable = laws.no_charge_is_stable } in
-    let j = c.self.inside in
-    let kept : Kept = kept_at j.net j.base j.entries.items j.limit j.present in
-    subst (λ (held : Held). Upholds t weight (kept_of held)) c.self.view_is (upheld t weight table charged laws.quiet_is_stable laws.stable_is_quiet kept c.self.invariant.is_kept)
+    subst (λ (held : Held). Upholds t weight (kept_of held)) c.self.view_is (upheld t weight table charged laws.quiet_is_stable laws.stable_is_quiet _ c.self.invariant.is_kept)
 
 pub returns-clause-log : goal.returns-clause-log
-returns-clause-log g c =
-    let t = g.R.Rules.table in
-    let j = c.self.inside in
-    let kept : Kept = kept_at j.net j.base j.entries.items j.limit j.present in
-    subst (λ (held : Held). held.base ≡ None → IsLog t (log_of held)) c.self.view_is (λ none. kept_is_log t g.R.Rules.NODE_WEIGHT kept none c.self.invariant.is_kept)
+returns-clause-log g c = held_is_log g.R.Rules.table g.R.Rules.NODE_WEIGHT _ _ c.self.view_is c.self.invariant.is_kept

@@ -12,9 +12,7 @@ pub new-requires : goal.new-requires
 new-requires g c =
     let laws = g.met.R.Rules in
     let table : IsTable g.R.Rules.table = record { allowed_is_neighbour = laws.allowed_is_neighbour; allowed_takes_target = laws.allowed_takes_target; has_target = laws.has_target } in
-    let inside = c.self.inside in
-    let before : Kept = record { state = inside.net.state; spent = inside.net.spent; base = inside.base; entries = inside.entries.items; limit = inside.limit; present = inside.present } in
-    ap (fits c.args.event) c.in_ok-reply.ensures.reply ∙ next_fits g.R.Rules.table g.R.Rules.NODE_WEIGHT table before c.self.invariant.is_kept c.args.event
+    ap (fits c.args.event) c.in_ok-reply.ensures.reply ∙ next_fits g.R.Rules.table g.R.Rules.NODE_WEIGHT table _ c.self.invariant.is_kept c.args.event
 
 pub returns-clause-receipt : goal.returns-clause-receipt
 returns-clause-receipt g c =

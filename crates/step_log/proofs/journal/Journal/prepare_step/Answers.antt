@@ -2,7 +2,6 @@ use Rattle.std.proofs.Common.{ap, ◌∙◌}
 use Rattle.rule_machine.specs.declared.event.Event.TheVariants.{Step}
 use Rattle.log_entry.specs.Kinds.{fits}
 use Rattle.machine_laws.specs.LeastMoves.{IsTable}
-use Rattle.step_log.specs.Kept.{Kept}
 use Rattle.step_log.proofs.Running.{next_fits}
 use Rattle.step_log.proofs.journal.Journal.prepare_step.Goals as goal
 
@@ -10,6 +9,4 @@ pub new-requires : goal.new-requires
 new-requires g c =
     let laws = g.met.R.Rules in
     let table : IsTable g.R.Rules.table = record { allowed_is_neighbour = laws.allowed_is_neighbour; allowed_takes_target = laws.allowed_takes_target; has_target = laws.has_target } in
-    let held = c.self.inside in
-    let before : Kept = record { state = held.net.state; spent = held.net.spent; base = held.base; entries = held.entries.items; limit = held.limit; present = held.present } in
-    ap (fits (Step c.args.choice)) c.in_ok-reply.ensures.reply ∙ next_fits g.R.Rules.table g.R.Rules.NODE_WEIGHT table before c.self.invariant.is_kept (Step c.args.choice)
+    ap (fits (Step c.args.choice)) c.in_ok-reply.ensures.reply ∙ next_fits g.R.Rules.table g.R.Rules.NODE_WEIGHT table _ c.self.invariant.is_kept (Step c.args.choice)

@@ -14,10 +14,9 @@ invariant_of-self-2 g c =
     let t = g.R.Rules.table in
     let table : IsTable t = record { allowed_is_neighbour = laws.allowed_is_neighbour; allowed_takes_target = laws.allowed_takes_target; has_target = laws.has_target } in
     let inside = c.self.inside in
-    let before : Recording = record { state = inside.net.state; spent = inside.net.spent; len = inside.len; limit = inside.limit; present = inside.present } in
     let after : Moment = record { state = c.commit.new.self.state; spent = c.commit.new.self.spent } in
     let below : inside.len < inside.limit = grind arith in
-    entered_is_recording t table before c.self.invariant below c.args.event.now after (c.commit.ensures.state ∙ ap (λ (m : Moment). moment_after t m c.args.event.now) c.in_ok-prepare_into.ensures.kept)
+    entered_is_recording t table _ c.self.invariant below c.args.event.now after (c.commit.ensures.state ∙ ap (λ (m : Moment). moment_after t m c.args.event.now) c.in_ok-prepare_into.ensures.kept)
 
 pub returns-clause-text : goal.returns-clause-text
 returns-clause-text g c =

@@ -12,10 +12,9 @@ invariant_of-self-2 g c =
     let laws = g.met.R.Rules in
     let table : IsTable g.R.Rules.table = record { allowed_is_neighbour = laws.allowed_is_neighbour; allowed_takes_target = laws.allowed_takes_target; has_target = laws.has_target } in
     let inside = c.self.inside in
-    let before : Recording = record { state = inside.net.state; spent = inside.net.spent; len = inside.len; limit = inside.limit; present = inside.present } in
     let after : Moment = record { state = c.apply_step.new.self.state; spent = c.apply_step.new.self.spent } in
     let below : inside.len < inside.limit = grind arith in
-    entered_is_recording g.R.Rules.table table before c.self.invariant below (Step c.args.choice.now) after c.in_ok-reply.ensures.state
+    entered_is_recording g.R.Rules.table table _ c.self.invariant below (Step c.args.choice.now) after c.in_ok-reply.ensures.state
 
 pub returns-clause-machine : goal.returns-clause-machine
 returns-clause-machine g c =
