@@ -6,13 +6,13 @@ use Rattle.std.specs.Io.KnownBytes.{Appends}
 use Rattle.std.proofs.KnownBytes.{Appends-nil, Appends-trans}
 use Rattle.rule_machine.specs.RuleTable.{RuleTable}
 use Rattle.std.specs.Prelude.{OnErr, IsErr, IfSome}
-use Rattle.script_text.specs.Script.{Progress, LineDoes, LinesDo}
+use Rattle.script_text.specs.Script.{Progress, LineDoes, LinesDo, lines_of}
 use Rattle.byte_streams.specs.Beginning.{AppendsBeginning, AppendsLess}
 use Rattle.line_run.specs.declared.stop.Stop.{Stop}
 use Rattle.line_run.specs.declared.stop.Stop.TheVariants.{BadLine, LogFull}
 use Rattle.script_run.specs.declared.halt.Halt.{Halt}
 use Rattle.script_run.specs.declared.halt.Halt.TheVariants.{Whole, Stopped, Unread, Memory}
-use Rattle.script_run.specs.Outcome.{Ends, LeadsTo, Reaches}
+use Rattle.script_run.specs.Outcome.{Ends, EndsFrom, LeadsTo, Reaches}
 use Rattle.script_run.specs.Halted.{Hands, Halts, ended, answered}
 use Rattle.script_run.specs.Line.{LineEnds}
 
@@ -58,12 +58,8 @@ WritesPart t limit lines start old new = (end : Progress) × Reaches t limit lin
 pub WritesPart-none : (t : RuleTable) (limit : ℕ) (lines : List (List ℕ)) (start : Progress) (old : Option (List ℕ)) → WritesPart t limit lines start old old
 WritesPart-none t limit lines start old = (start, inl (0, refl), (0, Appends-nil old))
 
--- a beginning of the text was written
-pub WritesPart-begun : (t : RuleTable) (limit : ℕ) (lines : List (List ℕ)) (start : Progress) (old new : Option (List ℕ)) → (end : Progress) × LeadsTo t limit lines start end × AppendsBeginning old new end.text → WritesPart t limit lines start old new
-WritesPart-begun t limit lines start old new (end, leads, begun) = (end, inl leads, begun)
-
 -- a beginning of what was held was written
-pub WritesPart-halted : (t : RuleTable) (limit : ℕ) (lines : List (List ℕ)) (start : Progress) (end : Halt) (old known new : Option (List ℕ)) (held : List ℕ)
+WritesPart-halted : (t : RuleTable) (limit : ℕ) (lines : List (List ℕ)) (start : Progress) (end : Halt) (old known new : Option (List ℕ)) (held : List ℕ)
     → Halts t limit lines start end (λ text. Hands old known text held) → AppendsBeginning known new held → WritesPart t limit lines start old new
 WritesPart-halted t limit lines start Whole old known new held (end, does, handed) begun =
     (end, inl (LeadsTo-before t limit lines [] lines start end (sym (append-nil lines)) does), Hands-begun old known new end.text held handed begun)
@@ -72,14 +68,6 @@ WritesPart-halted t limit lines start (Stopped (BadLine number)) old known new h
 WritesPart-halted t limit lines start (Stopped LogFull) old known new held (end, full, handed) begun = (end, inr full, Hands-begun old known new end.text held handed begun)
 WritesPart-halted t limit lines start Unread old known new held (end, leads, handed) begun = (end, inl leads, Hands-begun old known new end.text held handed begun)
 WritesPart-halted t limit lines start Memory old known new held (end, leads, handed) begun = (end, inl leads, Hands-begun old known new end.text held handed begun)
-
--- the writer failed
-pub Ends-failed : {E : Type 0} (t : RuleTable) (limit limit' : ℕ) (lines : List (List ℕ)) (start start' : Progress) (result : Result Halt E) (old new : Option (List ℕ))
-    → limit ≡ limit' → start ≡ start' → IsErr result → WritesPart t limit lines start old new
-    → Ends t limit' lines start' (answered result) (Appends old new) (AppendsBeginning old new)
-Ends-failed t limit limit' lines start start' (Ok end) old new f e is part = absurd (true≢false (sym is))
-Ends-failed t limit limit' lines start start' (Err failed) old new f e is part =
-    subst (λ n. WritesPart t n lines start' old new) f (subst (λ s. WritesPart t limit lines s old new) e part)
 
 -- all that was held was written
 Ends-written : (t : RuleTable) (limit : ℕ) (lines : List (List ℕ)) (start : Progress) (end : Halt) (old known new : Option (List ℕ)) (held : List ℕ)
@@ -91,19 +79,43 @@ Ends-written t limit lines start Unread old known new held (end, leads, handed) 
 Ends-written t limit lines start Memory old known new held (end, leads, handed) wrote =
     (end, inl leads, (length end.text, subst (Appends old new) (sym (take-length end.text)) (Hands-all old known new end.text held handed wrote)))
 
-pub Ends-finished : (t : RuleTable) (limit limit' : ℕ) (lines : List (List ℕ)) (start start' : Progress) (end : Halt) (old known new : Option (List ℕ)) (held held' : List ℕ)
-    → limit ≡ limit' → start ≡ start' → Halts t limit lines start end (λ text. Hands old known text held) → held' ≡ held → Appends known new held'
-    → Ends t limit' lines start' (ended end) (Appends old new) (AppendsBeginning old new)
-Ends-finished t limit limit' lines start start' end old known new held held' f e halts same wrote =
-    subst (λ n. Ends t n lines start' (ended end) (Appends old new) (AppendsBeginning old new)) f
-    (subst (λ s. Ends t limit lines s (ended end) (Appends old new) (AppendsBeginning old new)) e
-    (Ends-written t limit lines start end old known new held halts (subst (Appends known new) same wrote)))
-
 -- what holds of every script, and what follows for one that is known
 pub for_any : (a : Option (List ℕ)) (P : List ℕ → Type 0) → ((script : List ℕ) → P script) → IfSome a P
 for_any None P all = tt
 for_any (Some script) P all = all script
 
-pub for_known : (a : Option (List ℕ)) (P Q : List ℕ → Type 0) → ((script : List ℕ) → P script → Q script) → IfSome a P → IfSome a Q
+for_known : (a : Option (List ℕ)) (P Q : List ℕ → Type 0) → ((script : List ℕ) → P script → Q script) → IfSome a P → IfSome a Q
 for_known None P Q more p = tt
 for_known (Some script) P Q more p = more script p
+
+-- ---- of a run that begins as it was asked for
+
+module _ {limit limit' : ℕ} {start start' : Progress} (as_far : limit ≡ limit') (begins : start ≡ start') (t : RuleTable) (a old : Option (List ℕ)) where
+  as_asked : (P : ℕ → Progress → Type 0) → P limit start → P limit' start'
+  as_asked P p = subst (λ n. P n start') as_far (subst (P limit) begins p)
+
+  -- the writer failed
+  failed : {E : Type 0} (result : Result Halt E) (lines : List (List ℕ)) (new : Option (List ℕ)) → IsErr result → WritesPart t limit lines start old new
+      → Ends t limit' lines start' (answered result) (Appends old new) (AppendsBeginning old new)
+  failed (Ok end) lines new is part = absurd (true≢false (sym is))
+  failed (Err fault) lines new is part = as_asked (λ n s. WritesPart t n lines s old new) part
+
+  pub Ends-failed : {E : Type 0} (result : Result Halt E) (new : Option (List ℕ)) → IsErr result → IfSome a (λ script. (end : Progress) × LeadsTo t limit (lines_of script) start end × AppendsBeginning old new end.text)
+      → IfSome a (λ script. EndsFrom t limit' start' script old new (answered result))
+  Ends-failed result new is =
+      for_known a (λ script. (end : Progress) × LeadsTo t limit (lines_of script) start end × AppendsBeginning old new end.text) (λ script. EndsFrom t limit' start' script old new (answered result))
+      (λ script part. failed result (lines_of script) new is (part.0, inl part.1, part.2))
+
+  module _ (end : Halt) (known new : Option (List ℕ)) (held held' : List ℕ) (same : held' ≡ held) (halts : IfSome a (λ script. Halts t limit (lines_of script) start end (λ text. Hands old known text held))) where
+    -- what was held could not all be written
+    pub Ends-unwritten : {E : Type 0} (result : Result Halt E) → IsErr result → AppendsBeginning known new held' → IfSome a (λ script. EndsFrom t limit' start' script old new (answered result))
+    Ends-unwritten result is part =
+        for_known a (λ script. Halts t limit (lines_of script) start end (λ text. Hands old known text held)) (λ script. EndsFrom t limit' start' script old new (answered result))
+        (λ script halted. failed result (lines_of script) new is (WritesPart-halted t limit (lines_of script) start end old known new held halted (subst (AppendsBeginning known new) same part))) halts
+
+    -- it was
+    pub Ends-finished : Appends known new held' → IfSome a (λ script. EndsFrom t limit' start' script old new (ended end))
+    Ends-finished wrote =
+        for_known a (λ script. Halts t limit (lines_of script) start end (λ text. Hands old known text held)) (λ script. EndsFrom t limit' start' script old new (ended end))
+        (λ script halted. as_asked (λ n s. Ends t n (lines_of script) s (ended end) (Appends old new) (AppendsBeginning old new))
+        (Ends-written t limit (lines_of script) start end old known new held halted (subst (Appends known new) same wrote))) halts

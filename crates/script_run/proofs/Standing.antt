@@ -3,8 +3,8 @@ use Rattle.std.proofs.Common.{◌≡◌, ◌∙◌, ℕ, zero, suc, ◌+◌, ◌
 use Rattle.std.proofs.lemmas.Bool.{true≢false}
 use Rattle.std.proofs.Math.Seq.{take-append_seam}
 use Rattle.std.specs.Prelude.{IsErr, IfSome}
-use Rattle.std.proofs.KnownBytes.{Appends-nil, Appends-trans, Consumes-trans}
-use Rattle.std.specs.Io.KnownBytes.{Consumes}
+use Rattle.std.proofs.KnownBytes.{Appends-nil, Appends-trans, Consumes-nil, Consumes-trans, Consumes-whole}
+use Rattle.std.specs.Io.KnownBytes.{Consumes, IsAtEnd}
 use Rattle.rule_machine.specs.RuleTable.{RuleTable}
 use Rattle.script_text.specs.Script.{Progress, LinesDo, IsBadLine, lines_of}
 use Rattle.script_text.proofs.Ending.{GoesOn, goes_on, line_joined, lines_of-ended, lines_of-last}
@@ -45,7 +45,33 @@ pub less_is_part : (lines : List (List ℕ)) (t : RuleTable) (limit : ℕ) (star
     → (end : Progress) × LeadsTo t limit lines start end × AppendsLess old new end.text → (end : Progress) × LeadsTo t limit lines start end × AppendsBeginning old new end.text
 less_is_part lines t limit start old new (end, leads, (n, less, wrote)) = (end, leads, (n, wrote))
 
-module _ (t : RuleTable) (limit : ℕ) (start : Progress) (old : Option (List ℕ)) where
+-- where an LF stands next, what was begun ends there
+first_line : (begun line behind rest more : List ℕ) → IsLine begun → IsLine line → rest ≡ line ++ 10 ∷ behind
+    → lines_of (begun ++ (rest ++ more)) ≡ (begun ++ line) ∷ lines_of (behind ++ more)
+first_line begun line behind rest more front back e =
+    ap (λ l. lines_of (begun ++ (l ++ more))) e
+    ∙ ap (λ l. lines_of (begun ++ l)) (append_assoc line (10 ∷ behind) more)
+    ∙ ap lines_of (sym (append_assoc begun line (10 ∷ (behind ++ more))))
+    ∙ lines_of-ended (begun ++ line) (behind ++ more) (line_joined begun line front back)
+
+some_bad : (line more : List ℕ) → 1048576 < length line → IsBadLine (line ++ more)
+some_bad line more long =
+    let all : 1048576 < length (line ++ more) = omega (arith, long, length-append line more) in
+    ((λ none. absurd (omega (arith, all, ap length none))), long_says_nothing (line ++ more) all)
+
+long_goes_on : (line behind : List ℕ) → IsLine line → 1048576 < length line → GoesOn line behind
+long_goes_on [] behind line long = absurd (omega (arith, long))
+long_goes_on (b ∷ front) behind line long = goes_on b front behind line
+
+-- the end of the script ends what was begun
+last_line : (begun : List ℕ) → IsLine begun → (begun ≡ [] → ⊥) → lines_of (begun ++ ([] ++ [])) ≡ begun ∷ []
+last_line [] line some = absurd (some refl)
+last_line (b ∷ begun) line some = ap lines_of (append-nil (b ∷ begun)) ∙ lines_of-last b begun line
+
+whole : (read : List ℕ) (P : List (List ℕ) → Type 0) → P (lines_of (read ++ [])) → P (lines_of read)
+whole read P p = subst (λ l. P (lines_of l)) (append-nil read) p
+
+module _ {t : RuleTable} {limit : ℕ} {start : Progress} {old : Option (List ℕ)} where
   -- nothing was read
   pub Stands-none : Stands t limit start old [] [] [] 0 start old
   Stands-none = record {
@@ -59,9 +85,9 @@ module _ (t : RuleTable) (limit : ℕ) (start : Progress) (old : Option (List �
   }
 
   -- so much more was read
-  pub Stands-read : (read begun bytes : List ℕ) (n : ℕ) (now : Progress) (known : Option (List ℕ))
+  Stands-read : {read begun : List ℕ} {n : ℕ} {now : Progress} {known : Option (List ℕ)} (bytes : List ℕ)
       → Stands t limit start old read begun [] n now known → Stands t limit start old (read ++ bytes) begun bytes n now known
-  Stands-read read begun bytes n now known h = record {
+  Stands-read {read} bytes h = record {
     before = h.before;
     text = h.text;
     splits = λ more. ap lines_of (append_assoc read bytes more) ∙ h.splits (bytes ++ more);
@@ -71,33 +97,11 @@ module _ (t : RuleTable) (limit : ℕ) (start : Progress) (old : Option (List �
     handed = h.handed;
   }
 
-  -- the rest ends no line
-  pub Stands-begun : (read begun rest : List ℕ) (n : ℕ) (now : Progress) (known : Option (List ℕ))
-      → Stands t limit start old read begun rest n now known → IsLine rest → Stands t limit start old read (begun ++ rest) [] n now known
-  Stands-begun read begun rest n now known h line = record {
-    before = h.before;
-    text = h.text;
-    splits = λ more. h.splits more ∙ ap (λ l. h.before ++ lines_of l) (sym (append_assoc begun rest more));
-    unended = line_joined begun rest h.unended line;
-    number = h.number;
-    does = h.does;
-    handed = h.handed;
-  }
-
-  -- where an LF stands next, what was begun ends there
-  first_line : (begun line behind rest more : List ℕ) → IsLine begun → IsLine line → rest ≡ line ++ 10 ∷ behind
-      → lines_of (begun ++ (rest ++ more)) ≡ (begun ++ line) ∷ lines_of (behind ++ more)
-  first_line begun line behind rest more front back e =
-      ap (λ l. lines_of (begun ++ (l ++ more))) e
-      ∙ ap (λ l. lines_of (begun ++ l)) (append_assoc line (10 ∷ behind) more)
-      ∙ ap lines_of (sym (append_assoc begun line (10 ∷ (behind ++ more))))
-      ∙ lines_of-ended (begun ++ line) (behind ++ more) (line_joined begun line front back)
-
-  pub Stands-line : {E : Type 0} (k : ℕ) (read begun line behind rest : List ℕ) (n : ℕ) (now after : Progress) (known : Option (List ℕ)) (result : Result (Option Stop) E)
+  pub Stands-line : {E : Type 0} {k : ℕ} {read begun rest : List ℕ} {n : ℕ} {now : Progress} {known : Option (List ℕ)} (line behind : List ℕ) (after : Progress) (result : Result (Option Stop) E)
       → Stands t limit start old read begun rest n now known → IsLine line → rest ≡ line ++ 10 ∷ behind
       → k ≡ limit → LineEnds t k (n + 1) (begun ++ line) now after result → result ≡ Ok None
       → Stands t limit start old read [] behind (n + 1) after known
-  Stands-line k read begun line behind rest n now after known result h ended e same ends is =
+  Stands-line {k = k} {begun = begun} {rest = rest} {n = n} {now = now} line behind after result h ended e same ends is =
       let line_does = LineEnds-done t limit (n + 1) (begun ++ line) now after result (subst (λ m. LineEnds t m (n + 1) (begun ++ line) now after result) same ends) is in
       let adds = line_adds t limit (begun ++ line) now.rules after.rules now.moment after.moment now.count after.count now.text after.text line_does in record {
         before = h.before ++ (begun ++ line) ∷ [];
@@ -114,16 +118,16 @@ module _ (t : RuleTable) (limit : ℕ) (start : Progress) (old : Option (List �
       }
 
   -- the line that was begun was emptied, and the lines were counted
-  pub moved_on : (read begun rest : List ℕ) (n n' : ℕ) (now : Progress) (known : Option (List ℕ)) → begun ≡ [] → n' ≡ n
+  pub moved_on : {read begun rest : List ℕ} {n n' : ℕ} {now : Progress} {known : Option (List ℕ)} → begun ≡ [] → n' ≡ n
       → Stands t limit start old read [] rest n now known → Stands t limit start old read begun rest n' now known
-  moved_on read begun rest n n' now known none same h =
+  moved_on {read} {begun} {rest} {n} {n'} {now} {known} none same h =
       subst (λ l. Stands t limit start old read l rest n' now known) (sym none) (subst (λ m. Stands t limit start old read [] rest m now known) (sym same) h)
 
   -- some of what was held is written
-  pub Stands-handed : (read begun rest : List ℕ) (n : ℕ) (now later : Progress) (known known' : Option (List ℕ))
+  pub Stands-handed : {read begun rest : List ℕ} {n : ℕ} {now : Progress} {known : Option (List ℕ)} (later : Progress) (known' : Option (List ℕ))
       → Stands t limit start old read begun rest n now known → now.rules ≡ later.rules → now.moment ≡ later.moment → now.count ≡ later.count → Hands known known' now.text later.text
       → Stands t limit start old read begun rest n later known'
-  Stands-handed read begun rest n now later known known' h rules same count more = record {
+  Stands-handed {now = now} {known = known} later known' h rules same count more = record {
     before = h.before;
     text = h.text;
     splits = h.splits;
@@ -139,40 +143,40 @@ module _ (t : RuleTable) (limit : ℕ) (start : Progress) (old : Option (List �
   }
 
   -- the lines so far are the first of all
-  pub Stands-leads : (read begun rest : List ℕ) (n : ℕ) (now : Progress) (known : Option (List ℕ)) (h : Stands t limit start old read begun rest n now known)
+  Stands-leads : {read begun rest : List ℕ} {n : ℕ} {now : Progress} {known : Option (List ℕ)} (h : Stands t limit start old read begun rest n now known)
       → (more : List ℕ) → LeadsTo t limit (lines_of (read ++ more)) start (at_line now.rules now.moment now.count h.text)
-  Stands-leads read begun rest n now known h more =
+  Stands-leads {read} {begun} {rest} {n} {now} h more =
       LeadsTo-before t limit h.before (lines_of (begun ++ (rest ++ more))) (lines_of (read ++ more)) start (at_line now.rules now.moment now.count h.text) (h.splits more) h.does
 
   -- what was held could not be written
-  pub Stands-failed : (read begun rest : List ℕ) (n : ℕ) (now : Progress) (known known' : Option (List ℕ))
+  Stands-failed : {read begun rest : List ℕ} {n : ℕ} {now : Progress} {known : Option (List ℕ)} (known' : Option (List ℕ))
       → Stands t limit start old read begun rest n now known → AppendsLess known known' now.text
       → (more : List ℕ) → (end : Progress) × LeadsTo t limit (lines_of (read ++ more)) start end × AppendsLess old known' end.text
-  Stands-failed read begun rest n now known known' h less more =
-      (at_line now.rules now.moment now.count h.text, Stands-leads read begun rest n now known h more, Hands-less old known known' h.text now.text h.handed less)
+  Stands-failed {now = now} {known = known} known' h less more =
+      (at_line now.rules now.moment now.count h.text, Stands-leads h more, Hands-less old known known' h.text now.text h.handed less)
 
-  pub Stands-began : (read begun rest : List ℕ) (n : ℕ) (now : Progress) (known known' : Option (List ℕ))
+  pub Stands-began : {read begun rest : List ℕ} {n : ℕ} {now : Progress} {known : Option (List ℕ)} (known' : Option (List ℕ))
       → Stands t limit start old read begun rest n now known → AppendsBeginning known known' now.text
       → (more : List ℕ) → (end : Progress) × LeadsTo t limit (lines_of (read ++ more)) start end × AppendsBeginning old known' end.text
-  Stands-began read begun rest n now known known' h part more =
-      (at_line now.rules now.moment now.count h.text, Stands-leads read begun rest n now known h more, Hands-begun old known known' h.text now.text h.handed part)
+  Stands-began {now = now} {known = known} known' h part more =
+      (at_line now.rules now.moment now.count h.text, Stands-leads h more, Hands-begun old known known' h.text now.text h.handed part)
 
   -- the reader failed
-  pub Stands-unread : (read begun rest : List ℕ) (n : ℕ) (now : Progress) (known : Option (List ℕ)) → Stands t limit start old read begun rest n now known
+  pub Stands-unread : {read begun rest : List ℕ} {n : ℕ} {now : Progress} {known : Option (List ℕ)} → Stands t limit start old read begun rest n now known
       → (more : List ℕ) → Halts t limit (lines_of (read ++ more)) start Unread (λ text. Hands old known text now.text)
-  Stands-unread read begun rest n now known h more = (at_line now.rules now.moment now.count h.text, Stands-leads read begun rest n now known h more, h.handed)
+  Stands-unread {now = now} h more = (at_line now.rules now.moment now.count h.text, Stands-leads h more, h.handed)
 
   -- memory was refused, and no text was added
-  pub Stands-memory : (read begun rest : List ℕ) (n : ℕ) (now : Progress) (known : Option (List ℕ)) (held : List ℕ) → Stands t limit start old read begun rest n now known → held ≡ now.text
+  pub Stands-memory : {read begun rest : List ℕ} {n : ℕ} {now : Progress} {known : Option (List ℕ)} {held : List ℕ} → Stands t limit start old read begun rest n now known → held ≡ now.text
       → (more : List ℕ) → Halts t limit (lines_of (read ++ more)) start Memory (λ text. Hands old known text held)
-  Stands-memory read begun rest n now known held h kept more =
-      (at_line now.rules now.moment now.count h.text, Stands-leads read begun rest n now known h more, subst (Hands old known h.text) (sym kept) h.handed)
+  Stands-memory {now = now} {known = known} h kept more =
+      (at_line now.rules now.moment now.count h.text, Stands-leads h more, subst (Hands old known h.text) (sym kept) h.handed)
 
   -- the line behind those so far stops the run
-  stops : (read begun rest line : List ℕ) (others : List (List ℕ)) (n : ℕ) (now : Progress) (known : Option (List ℕ)) (more : List ℕ)
+  stops : {read begun rest : List ℕ} {n : ℕ} {now : Progress} {known : Option (List ℕ)} {line : List ℕ} {others : List (List ℕ)} (more : List ℕ)
       → (h : Stands t limit start old read begun rest n now known) → lines_of (begun ++ (rest ++ more)) ≡ line ∷ others
       → StopsAt t limit (lines_of (read ++ more)) start (n + 1) line (at_line now.rules now.moment now.count h.text)
-  stops read begun rest line others n now known more h first = record {
+  stops {others = others} more h first = record {
     before = h.before;
     behind = others;
     splits = h.splits more ∙ ap (λ l. h.before ++ l) first;
@@ -180,26 +184,25 @@ module _ (t : RuleTable) (limit : ℕ) (start : Progress) (old : Option (List �
     does = h.does;
   }
 
-  stops_bad : (read begun rest line : List ℕ) (others : List (List ℕ)) (n m : ℕ) (now : Progress) (known : Option (List ℕ)) (held more : List ℕ)
+  stops_bad : {read begun rest : List ℕ} {n : ℕ} {now : Progress} {known : Option (List ℕ)} {line held : List ℕ} {others : List (List ℕ)} {m : ℕ} (more : List ℕ)
       → Stands t limit start old read begun rest n now known → lines_of (begun ++ (rest ++ more)) ≡ line ∷ others
       → m ≡ n + 1 → IsBadLine line → held ≡ now.text
       → Halts t limit (lines_of (read ++ more)) start (Stopped (BadLine m)) (λ text. Hands old known text held)
-  stops_bad read begun rest line others n m now known held more h first same bad kept = (
+  stops_bad {read} {n = n} {now = now} {known = known} {line = line} more h first same bad kept = (
     at_line now.rules now.moment now.count h.text,
-    (line, subst (λ k. StopsAt t limit (lines_of (read ++ more)) start k line (at_line now.rules now.moment now.count h.text)) (sym same) (stops read begun rest line others n now known more h first), bad),
+    (line, subst (λ k. StopsAt t limit (lines_of (read ++ more)) start k line (at_line now.rules now.moment now.count h.text)) (sym same) (stops more h first), bad),
     subst (Hands old known h.text) (sym kept) h.handed,
   )
 
-  Stands-stops : (E : Type 0) (read begun rest line : List ℕ) (others : List (List ℕ)) (n : ℕ) (now after : Progress) (known : Option (List ℕ)) (stop : Stop) (more : List ℕ)
+  Stands-stops : (E : Type 0) {read begun rest : List ℕ} {n : ℕ} {now : Progress} {known : Option (List ℕ)} {line : List ℕ} {others : List (List ℕ)} (after : Progress) (stop : Stop) (more : List ℕ)
       → Stands t limit start old read begun rest n now known → lines_of (begun ++ (rest ++ more)) ≡ line ∷ others
       → LineEnds {E = E} t limit (n + 1) line now after (Ok (Some stop))
       → Halts t limit (lines_of (read ++ more)) start (Stopped stop) (λ text. Hands old known text after.text)
-  Stands-stops E read begun rest line others n now after known (BadLine m) more h first (same, bad, kept) =
-      stops_bad read begun rest line others n m now known after.text more h first same bad (ap (λ (p : Progress). p.text) kept)
-  Stands-stops E read begun rest line others n now after known LogFull more h first meets =
+  Stands-stops E after (BadLine m) more h first (same, bad, kept) = stops_bad more h first same bad (ap (λ (p : Progress). p.text) kept)
+  Stands-stops E {n = n} {now = now} {line = line} after LogFull more h first meets =
       let adds = meeting_adds t limit line now.rules after.rules now.moment after.moment now.count after.count now.text after.text meets in (
         at_line after.rules after.moment after.count (h.text ++ adds.more),
-        (n + 1, line, at_line now.rules now.moment now.count h.text, stops read begun rest line others n now known more h first, adds.leads h.text),
+        (n + 1, line, at_line now.rules now.moment now.count h.text, stops more h first, adds.leads h.text),
         record {
           sent = h.handed.sent;
           wrote = h.handed.wrote;
@@ -208,53 +211,36 @@ module _ (t : RuleTable) (limit : ℕ) (start : Progress) (old : Option (List �
       )
 
   -- the line that ends next stops the run
-  pub Stands-stopped : {E : Type 0} (read begun line behind rest : List ℕ) (n : ℕ) (now after : Progress) (known : Option (List ℕ)) (stop : Stop) (result : Result (Option Stop) E)
+  pub Stands-stopped : {E : Type 0} {k : ℕ} {read begun rest : List ℕ} {n : ℕ} {now : Progress} {known : Option (List ℕ)} {stop : Stop} (line behind : List ℕ) (after : Progress) (result : Result (Option Stop) E)
       → Stands t limit start old read begun rest n now known → IsLine line → rest ≡ line ++ 10 ∷ behind
-      → LineEnds t limit (n + 1) (begun ++ line) now after result → result ≡ Ok (Some stop)
+      → k ≡ limit → LineEnds t k (n + 1) (begun ++ line) now after result → result ≡ Ok (Some stop)
       → (more : List ℕ) → Halts t limit (lines_of (read ++ more)) start (Stopped stop) (λ text. Hands old known text after.text)
-  Stands-stopped {E} read begun line behind rest n now after known stop result h ended e ends is more =
-      Stands-stops E read begun rest (begun ++ line) (lines_of (behind ++ more)) n now after known stop more h (first_line begun line behind rest more h.unended ended e)
-      (subst (LineEnds t limit (n + 1) (begun ++ line) now after) is ends)
-
-  some_bad : (line more : List ℕ) → 1048576 < length line → IsBadLine (line ++ more)
-  some_bad line more long =
-      let all : 1048576 < length (line ++ more) = omega (arith, long, length-append line more) in
-      ((λ none. absurd (omega (arith, all, ap length none))), long_says_nothing (line ++ more) all)
-
-  long_goes_on : (line behind : List ℕ) → IsLine line → 1048576 < length line → GoesOn line behind
-  long_goes_on [] behind line long = absurd (omega (arith, long))
-  long_goes_on (b ∷ front) behind line long = goes_on b front behind line
+  Stands-stopped {E} {begun = begun} {rest = rest} {n = n} {now = now} {stop = stop} line behind after result h ended e same ends is more =
+      Stands-stops E after stop more h (first_line begun line behind rest more h.unended ended e)
+      (subst (LineEnds t limit (n + 1) (begun ++ line) now after) is (subst (λ m. LineEnds t m (n + 1) (begun ++ line) now after result) same ends))
 
   -- a line that has grown too long stops the run, whatever its end is
-  pub Stands-long : (read begun rest : List ℕ) (n : ℕ) (now : Progress) (known : Option (List ℕ))
+  pub Stands-long : {read begun rest : List ℕ} {n : ℕ} {now : Progress} {known : Option (List ℕ)}
       → Stands t limit start old read begun rest n now known → IsLine rest → 1048576 < length begun + length rest
       → (more : List ℕ) → Halts t limit (lines_of (read ++ more)) start (Stopped (BadLine (n + 1))) (λ text. Hands old known text now.text)
-  Stands-long read begun rest n now known h line long more =
+  Stands-long {begun = begun} {rest = rest} h line long more =
       let all = line_joined begun rest h.unended line in
       let length_all : 1048576 < length (begun ++ rest) = omega (arith, long, length-append begun rest) in
       let on = long_goes_on (begun ++ rest) more all length_all in
-      stops_bad read begun rest ((begun ++ rest) ++ on.more) on.others n (n + 1) now known now.text more h (ap lines_of (sym (append_assoc begun rest more)) ∙ on.lines) refl (some_bad (begun ++ rest) on.more length_all) refl
-
-  -- the end of the script ends what was begun
-  last_line : (begun : List ℕ) → IsLine begun → (begun ≡ [] → ⊥) → lines_of (begun ++ ([] ++ [])) ≡ begun ∷ []
-  last_line [] line some = absurd (some refl)
-  last_line (b ∷ begun) line some = ap lines_of (append-nil (b ∷ begun)) ∙ lines_of-last b begun line
-
-  whole : (read : List ℕ) (P : List (List ℕ) → Type 0) → P (lines_of (read ++ [])) → P (lines_of read)
-  whole read P p = subst (λ l. P (lines_of l)) (append-nil read) p
+      stops_bad more h (ap lines_of (sym (append_assoc begun rest more)) ∙ on.lines) refl (some_bad (begun ++ rest) on.more length_all) refl
 
   -- the script ends, and no line was begun
-  pub Last-none : (read begun : List ℕ) (n : ℕ) (now : Progress) (known : Option (List ℕ)) → Stands t limit start old read begun [] n now known → begun ≡ []
+  pub Last-none : {read begun : List ℕ} {n : ℕ} {now : Progress} {known : Option (List ℕ)} → Stands t limit start old read begun [] n now known → begun ≡ []
       → Halts t limit (lines_of read) start Whole (λ text. Hands old known text now.text)
-  Last-none read begun n now known h none =
+  Last-none {read} {now = now} h none =
       let lines : lines_of (read ++ []) ≡ h.before = h.splits [] ∙ ap (λ l. h.before ++ lines_of (l ++ [])) none ∙ append-nil h.before in
       (at_line now.rules now.moment now.count h.text, subst (λ l. LinesDo t limit l start (at_line now.rules now.moment now.count h.text)) (sym lines ∙ ap lines_of (append-nil read)) h.does, h.handed)
 
   -- it ends behind a line that was carried out
-  pub Last-whole : {E : Type 0} (read begun : List ℕ) (n : ℕ) (now after : Progress) (known : Option (List ℕ)) (result : Result (Option Stop) E) → Stands t limit start old read begun [] n now known → (begun ≡ [] → ⊥)
+  pub Last-whole : {E : Type 0} {read begun : List ℕ} {n : ℕ} {now : Progress} {known : Option (List ℕ)} (after : Progress) (result : Result (Option Stop) E) → Stands t limit start old read begun [] n now known → (begun ≡ [] → ⊥)
       → LineEnds t limit (n + 1) begun now after result → result ≡ Ok None
       → Halts t limit (lines_of read) start Whole (λ text. Hands old known text after.text)
-  Last-whole read begun n now after known result h some ends is =
+  Last-whole {read = read} {begun = begun} {n = n} {now = now} after result h some ends is =
       let does = subst (LineEnds t limit (n + 1) begun now after) is ends in
       let adds = line_adds t limit begun now.rules after.rules now.moment after.moment now.count after.count now.text after.text does in
       let lines : lines_of (read ++ []) ≡ h.before ++ begun ∷ [] = h.splits [] ∙ ap (λ l. h.before ++ l) (last_line begun h.unended some) in
@@ -268,67 +254,103 @@ module _ (t : RuleTable) (limit : ℕ) (start : Progress) (old : Option (List �
         },
       )
 
-  pub Last-stopped : {E : Type 0} (read begun : List ℕ) (n : ℕ) (now after : Progress) (known : Option (List ℕ)) (stop : Stop) (result : Result (Option Stop) E) → Stands t limit start old read begun [] n now known → (begun ≡ [] → ⊥)
+  pub Last-stopped : {E : Type 0} {read begun : List ℕ} {n : ℕ} {now : Progress} {known : Option (List ℕ)} {stop : Stop} (after : Progress) (result : Result (Option Stop) E) → Stands t limit start old read begun [] n now known → (begun ≡ [] → ⊥)
       → LineEnds t limit (n + 1) begun now after result → result ≡ Ok (Some stop)
       → Halts t limit (lines_of read) start (Stopped stop) (λ text. Hands old known text after.text)
-  Last-stopped {E} read begun n now after known stop result h some ends is =
+  Last-stopped {E} {read} {begun} {n} {now} {known} {stop} after result h some ends is =
       whole read (λ l. Halts t limit l start (Stopped stop) (λ text. Hands old known text after.text))
-      (Stands-stops E read begun [] begun [] n now after known stop [] h (last_line begun h.unended some) (subst (LineEnds t limit (n + 1) begun now after) is ends))
+      (Stands-stops E after stop [] h (last_line begun h.unended some) (subst (LineEnds t limit (n + 1) begun now after) is ends))
 
-  pub Last-memory : {E : Type 0} (read begun : List ℕ) (n : ℕ) (now after : Progress) (known : Option (List ℕ)) (want : E) (result : Result (Option Stop) E) → Stands t limit start old read begun [] n now known
+  pub Last-memory : {E : Type 0} {read begun : List ℕ} {n : ℕ} {now : Progress} {known : Option (List ℕ)} {want : E} (after : Progress) (result : Result (Option Stop) E) → Stands t limit start old read begun [] n now known
       → LineEnds t limit (n + 1) begun now after result → result ≡ Err want
       → Halts t limit (lines_of read) start Memory (λ text. Hands old known text after.text)
-  Last-memory read begun n now after known want result h ends is =
+  Last-memory {read = read} {begun = begun} {n = n} {now = now} {known = known} after result h ends is =
       whole read (λ l. Halts t limit l start Memory (λ text. Hands old known text after.text))
-      (Stands-memory read begun [] n now known after.text h (subst (LineEnds t limit (n + 1) begun now after) is ends) [])
+      (Stands-memory h (subst (LineEnds t limit (n + 1) begun now after) is ends) [])
 
   -- the writer failed
-  pub PieceEnds-failed : {E : Type 0} (read begun : List ℕ) (n : ℕ) (now : Progress) (known : Option (List ℕ)) (result : Result (Option Halt) E) → IsErr result
-      → ((more : List ℕ) → (end : Progress) × LeadsTo t limit (lines_of (read ++ more)) start end × AppendsLess old known end.text)
-      → PieceEnds t limit start old read begun n now known result
-  PieceEnds-failed read begun n now known (Ok end) is failed = absurd (true≢false (sym is))
-  PieceEnds-failed read begun n now known (Err fault) is failed = failed
+  pub PieceEnds-failed : {E : Type 0} {read begun rest : List ℕ} {n : ℕ} {now : Progress} {known : Option (List ℕ)} (begun' : List ℕ) (n' : ℕ) (now' : Progress) (known' : Option (List ℕ)) (result : Result (Option Halt) E) → IsErr result
+      → Stands t limit start old read begun rest n now known → AppendsLess known known' now.text → PieceEnds t limit start old read begun' n' now' known' result
+  PieceEnds-failed begun' n' now' known' (Ok end) is h less = absurd (true≢false (sym is))
+  PieceEnds-failed begun' n' now' known' (Err fault) is h less = Stands-failed known' h less
 
-  -- a piece is carried out behind what was read before it
-  pub piece_at : {E : Type 0} (k : ℕ) (read bytes begun begun' : List ℕ) (n n' : ℕ) (now now' : Progress) (known known' : Option (List ℕ)) (result : Result (Option Halt) E) → k ≡ limit
-      → ((start : Progress) (old : Option (List ℕ)) (read : List ℕ) → Stands t k start old read begun bytes n now known → PieceEnds t k start old read begun' n' now' known' result)
-      → Stands t limit start old read begun [] n now known → PieceEnds t limit start old (read ++ bytes) begun' n' now' known' result
-  piece_at k read bytes begun begun' n n' now now' known known' result same piece h =
-      let P : ℕ → Type 0 = λ m. Stands t m start old (read ++ bytes) begun bytes n now known → PieceEnds t m start old (read ++ bytes) begun' n' now' known' result in
-      subst P same (piece start old (read ++ bytes)) (Stands-read read begun bytes n now known h)
+-- So much was read of what a reader had, and the run stands behind it.
+pub record Came (t : RuleTable) (limit : ℕ) (start : Progress) (old a b : Option (List ℕ)) (begun : List ℕ) (n : ℕ) (now : Progress) (known : Option (List ℕ)) : Type 0 where
+  pub read : List ℕ
+  pub used : Consumes a b read
+  pub stands : Stands t limit start old read begun [] n now known
 
-  -- a piece that was read into a chunk, behind all that was written so far, is carried out
-  pub piece_read : {E : Type 0} {k room : ℕ} {read begun : List ℕ} {n : ℕ} {now : Progress} {known known' : Option (List ℕ)} (a b c : Option (List ℕ)) (chunk before buffer : List ℕ) (len : ℕ) (held : Progress) (begun' : List ℕ) (n' : ℕ) (now' : Progress) (known'' : Option (List ℕ)) (result : Result (Option Halt) E)
-      → Consumes a b read → Stands t limit start old read begun [] n now known
-      → now.rules ≡ held.rules → now.moment ≡ held.moment → now.count ≡ held.count → Hands known known' now.text held.text
-      → length chunk ≡ room → buffer ≡ take room (chunk ++ drop (length chunk) before) → Consumes b c (take len chunk) → k ≡ limit
-      → ((start : Progress) (old : Option (List ℕ)) (read : List ℕ) → Stands t k start old read begun (take len buffer) n held known' → PieceEnds t k start old read begun' n' now' known'' result)
-      → Consumes a c (read ++ take len buffer) × PieceEnds t limit start old (read ++ take len buffer) begun' n' now' known'' result
-  piece_read {E} {k} {room} {read} {begun} {n} {now} {known} {known'} a b c chunk before buffer len held begun' n' now' known'' result used stands rules moment count handed full is bytes limits piece =
-      let same : chunk ≡ buffer = sym (refilled room chunk before full) ∙ sym is in (
-        Consumes-trans a b c read (take len buffer) used (subst (λ l. Consumes b c (take len l)) same bytes),
-        piece_at k read (take len buffer) begun begun' n n' held now' known' known'' result limits piece (Stands-handed read begun [] n now held known known' stands rules moment count handed),
-      )
+-- A piece was carried out behind all that was read before it.
+pub record Took {E : Type 0} (t : RuleTable) (limit : ℕ) (start : Progress) (old a c : Option (List ℕ)) (begun : List ℕ) (n : ℕ) (now : Progress) (known : Option (List ℕ)) (result : Result (Option Halt) E) : Type 0 where
+  pub read : List ℕ
+  pub used : Consumes a c read
+  pub ends : PieceEnds t limit start old read begun n now known result
 
-  pub last_at : (k : ℕ) (read begun : List ℕ) (n : ℕ) (now : Progress) (known : Option (List ℕ)) (held : List ℕ) (end : Halt) → k ≡ limit
-      → ((start : Progress) (old known : Option (List ℕ)) (read : List ℕ) → Stands t k start old read begun [] n now known → Halts t k (lines_of read) start end (λ text. Hands old known text held))
-      → Stands t limit start old read begun [] n now known → Halts t limit (lines_of read) start end (λ text. Hands old known text held)
-  last_at k read begun n now known held end same last h =
-      let P : ℕ → Type 0 = λ m. Stands t m start old read begun [] n now known → Halts t m (lines_of read) start end (λ text. Hands old known text held) in
-      subst P same (last start old known read) h
+-- Of all that a reader had, the run ends so, and of its text the writer has what stands before the rest.
+abbrev EndsSo : RuleTable → ℕ → Progress → Option (List ℕ) → Option (List ℕ) → Halt → Option (List ℕ) → List ℕ → Type 0
+EndsSo t limit start old a end known rest = IfSome a (λ script. Halts t limit (lines_of script) start end (λ text. Hands old known text rest))
+
+-- The writer failed in it.
+abbrev Fails : RuleTable → ℕ → Progress → Option (List ℕ) → Option (List ℕ) → Option (List ℕ) → Type 0
+Fails t limit start old a known = IfSome a (λ script. (end : Progress) × LeadsTo t limit (lines_of script) start end × AppendsBeginning old known end.text)
+
+-- There was no memory before anything was read.
+pub Came-unbegun : (t : RuleTable) (limit : ℕ) (start : Progress) (old a : Option (List ℕ)) → EndsSo t limit start old a Memory old start.text
+Came-unbegun t limit start old a =
+    known_read a a [] (λ script. Halts t limit (lines_of script) start Memory (λ text. Hands old old text start.text)) (Consumes-nil a)
+    (Stands-memory (Stands-none {t = t} {limit = limit} {start = start} {old = old}) refl)
+
+module _ {t : RuleTable} {limit : ℕ} {start : Progress} {old : Option (List ℕ)} where
+  pub Came-none : {begun : List ℕ} {n : ℕ} (a : Option (List ℕ)) → begun ≡ [] → n ≡ 0 → Came t limit start old a a begun n start old
+  Came-none a none first = record { read = []; used = Consumes-nil a; stands = moved_on none first Stands-none }
+
+  module _ {a b : Option (List ℕ)} {begun : List ℕ} {n : ℕ} {now : Progress} {known : Option (List ℕ)} (h : Came t limit start old a b begun n now known) where
+    pub Came-handed : (later : Progress) (known' : Option (List ℕ)) → now.rules ≡ later.rules → now.moment ≡ later.moment → now.count ≡ later.count → Hands known known' now.text later.text
+        → Came t limit start old a b begun n later known'
+    Came-handed later known' rules moment count handed =
+        record { read = h.read; used = h.used; stands = Stands-handed later known' h.stands rules moment count handed }
+
+    pub Came-began : (known' : Option (List ℕ)) → AppendsBeginning known known' now.text → Fails t limit start old a known'
+    Came-began known' part =
+        known_read a b h.read (λ script. (end : Progress) × LeadsTo t limit (lines_of script) start end × AppendsBeginning old known' end.text) h.used (Stands-began known' h.stands part)
+
+    pub Came-unread : EndsSo t limit start old a Unread known now.text
+    Came-unread = known_read a b h.read (λ script. Halts t limit (lines_of script) start Unread (λ text. Hands old known text now.text)) h.used (Stands-unread h.stands)
+
+    -- nothing more could be read, and the last line was carried out
+    pub Came-last : {k : ℕ} (c : Option (List ℕ)) (len : ℕ) (chunk held : List ℕ) (end : Halt) → Consumes b c (take len chunk) → (len ≡ 0 → IsAtEnd c) → len ≡ 0 → k ≡ limit
+        → ((start : Progress) (old known : Option (List ℕ)) (read : List ℕ) → Stands t k start old read begun [] n now known → Halts t k (lines_of read) start end (λ text. Hands old known text held))
+        → EndsSo t limit start old a end known held
+    Came-last c len chunk held end bytes ended empty same last =
+        let none : Consumes b c [] = subst (λ (m : ℕ). Consumes b c (take m chunk)) empty bytes in
+        let used : Consumes a c h.read = subst (Consumes a c) (append-nil h.read) (Consumes-trans a b c h.read [] h.used none) in
+        let P : ℕ → Type 0 = λ m. Stands t m start old h.read begun [] n now known → Halts t m (lines_of h.read) start end (λ text. Hands old known text held) in
+        Consumes-whole a c h.read (λ script. Halts t limit (lines_of script) start end (λ text. Hands old known text held)) used (ended empty) (subst P same (last start old known h.read) h.stands)
+
+    -- a piece that was read into a chunk is carried out
+    pub Came-piece : {E : Type 0} {k room : ℕ} (c : Option (List ℕ)) (chunk before buffer : List ℕ) (len : ℕ) (begun' : List ℕ) (n' : ℕ) (now' : Progress) (known' : Option (List ℕ)) (result : Result (Option Halt) E)
+        → length chunk ≡ room → buffer ≡ take room (chunk ++ drop (length chunk) before) → Consumes b c (take len chunk) → k ≡ limit
+        → ((start : Progress) (old : Option (List ℕ)) (read : List ℕ) → Stands t k start old read begun (take len buffer) n now known → PieceEnds t k start old read begun' n' now' known' result)
+        → Took t limit start old a c begun' n' now' known' result
+    Came-piece {room = room} c chunk before buffer len begun' n' now' known' result full is bytes same piece =
+        let filled : chunk ≡ buffer = sym (refilled room chunk before full) ∙ sym is in
+        let all : List ℕ = h.read ++ take len buffer in
+        let P : ℕ → Type 0 = λ m. Stands t m start old all begun (take len buffer) n now known → PieceEnds t m start old all begun' n' now' known' result in record {
+          read = all;
+          used = Consumes-trans a b c h.read (take len buffer) h.used (subst (λ l. Consumes b c (take len l)) filled bytes);
+          ends = subst P same (piece start old all) (Stands-read (take len buffer) h.stands);
+        }
 
   -- so the run stands behind it, or ends in it
-  pub piece_goes_on : {E : Type 0} (a c : Option (List ℕ)) (read begun : List ℕ) (n : ℕ) (now : Progress) (known : Option (List ℕ)) (result : Result (Option Halt) E)
-      → Consumes a c read × PieceEnds t limit start old read begun n now known result → result ≡ Ok None → Stands t limit start old read begun [] n now known
-  piece_goes_on a c read begun n now known result (used, piece) is = subst (PieceEnds t limit start old read begun n now known) is piece
+  module _ {E : Type 0} {a c : Option (List ℕ)} {begun : List ℕ} {n : ℕ} {now : Progress} {known : Option (List ℕ)} {result : Result (Option Halt) E} (h : Took t limit start old a c begun n now known result) where
+    pub Took-goes_on : result ≡ Ok None → Came t limit start old a c begun n now known
+    Took-goes_on is = record { read = h.read; used = h.used; stands = subst (PieceEnds t limit start old h.read begun n now known) is h.ends }
 
-  pub piece_stops : {E : Type 0} {end : Halt} (a c : Option (List ℕ)) (read begun : List ℕ) (n : ℕ) (now : Progress) (known : Option (List ℕ)) (result : Result (Option Halt) E)
-      → Consumes a c read × PieceEnds t limit start old read begun n now known result → result ≡ Ok (Some end) → IfSome a (λ script. Halts t limit (lines_of script) start end (λ text. Hands old known text now.text))
-  piece_stops {E} {end} a c read begun n now known result (used, piece) is =
-      known_read a c read (λ script. Halts t limit (lines_of script) start end (λ text. Hands old known text now.text)) used (subst (PieceEnds t limit start old read begun n now known) is piece)
+    pub Took-stops : {end : Halt} → result ≡ Ok (Some end) → EndsSo t limit start old a end known now.text
+    Took-stops {end} is =
+        known_read a c h.read (λ script. Halts t limit (lines_of script) start end (λ text. Hands old known text now.text)) h.used (subst (PieceEnds t limit start old h.read begun n now known) is h.ends)
 
-  pub piece_fails : {E : Type 0} {fault : E} (a c : Option (List ℕ)) (read begun : List ℕ) (n : ℕ) (now : Progress) (known : Option (List ℕ)) (result : Result (Option Halt) E)
-      → Consumes a c read × PieceEnds t limit start old read begun n now known result → result ≡ Err fault → IfSome a (λ script. (end : Progress) × LeadsTo t limit (lines_of script) start end × AppendsBeginning old known end.text)
-  piece_fails {E} {fault} a c read begun n now known result (used, piece) is =
-      known_read a c read (λ script. (end : Progress) × LeadsTo t limit (lines_of script) start end × AppendsBeginning old known end.text) used
-      (λ more. less_is_part (lines_of (read ++ more)) t limit start old known (subst (PieceEnds t limit start old read begun n now known) is piece more))
+    pub Took-fails : {fault : E} → result ≡ Err fault → Fails t limit start old a known
+    Took-fails is =
+        known_read a c h.read (λ script. (end : Progress) × LeadsTo t limit (lines_of script) start end × AppendsBeginning old known end.text) h.used
+        (λ more. less_is_part (lines_of (h.read ++ more)) t limit start old known (subst (PieceEnds t limit start old h.read begun n now known) is h.ends more))

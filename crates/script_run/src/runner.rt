@@ -41,6 +41,7 @@ impl<R: Rules> Run<R> {
     fn new(alloc: Global, options: &Options) -> Result<Run<R>, Want>
         ensures begins { IfOk result (λ run. progress_of run.line ≡ beginning options.now.rules options.now.nodes options.now.present) }
         ensures limit { IfOk result (λ run. run.line.recorder.limit ≡ options.now.limit) }
+        ensures workers { IfOk result (λ run. run.workers ≡ options.now.workers) }
     {
         let (nodes, present) = (options.nodes(), options.present());
         let line = LineRun::new(alloc, options.rules(), nodes, present, options.limit())?;

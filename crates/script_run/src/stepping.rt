@@ -1,6 +1,6 @@
 //! A step whose items workers judge.
 
-ghost use Rattle.std.specs.Prelude.{◌≡◌, ◌<◌, IsOk, IsTrue};
+ghost use Rattle.std.specs.Prelude.{◌≡◌, ◌<◌, ◌/◌, ◌↔◌, IsOk, IsTrue, length, max, min};
 ghost use Rattle.rule_machine.specs.declared.event.Event.TheVariants.{Step};
 ghost use Rattle.line_text.specs.EventText.{event_text};
 ghost use Rattle.line_run.specs.Line.{progress_of};
@@ -20,7 +20,8 @@ use step_log::RecordFault;
 impl<R: Rules> Run<R> {
     // Whether more than one worker pays for a step.
     pub fn pays(&self, choice: &Choice) -> bool
-        ensures { IsTrue result → 1 < self.now.workers }
+        ensures some { IsTrue result → 1 < self.now.workers }
+        ensures many { IsTrue result ↔ 1 < min self.now.workers (min (max (length choice.now / 16384) 1) 64) }
     {
         paying_workers(self.workers, choice.items().len()) > 1
     }

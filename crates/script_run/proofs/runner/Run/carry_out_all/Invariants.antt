@@ -1,7 +1,6 @@
-use Rattle.std.proofs.Common.{◌≡◌, ◌≤◌, ◌+◌, ◌-◌, ◌*◌, ℕ, List, [], length}
-use Rattle.std.specs.Io.KnownBytes.{Consumes}
+use Rattle.std.proofs.Common.{◌≡◌, ◌≤◌, ◌+◌, ◌-◌, ◌*◌, length}
 use Rattle.line_run.specs.Line.{progress}
-use Rattle.script_run.specs.Reading.{Stands}
+use Rattle.script_run.proofs.Standing.{Came}
 use Rattle.script_run.proofs.runner.Run.carry_out_all.Given as goal
 
 abbrev pub invariant-loop-reading : goal.invariant-loop-reading
@@ -10,8 +9,8 @@ invariant-loop-reading g l =
     let run = l.self.line in
     let left = g.In.Read.remaining in record {
       limit : run.recorder.limit ≡ begun.recorder.limit;
-      stands : (read : List ℕ) × Consumes (left l.fn.reader.reader) (left l.reader.reader) read
-          × Stands g.R.Rules.table begun.recorder.limit (progress begun.rules begun.recorder begun.text.items) (g.Out.Write.contents l.fn.writer.writer) read l.reading.begun.items [] l.reading.lines (progress run.rules run.recorder run.text.items) (g.Out.Write.contents l.writer.writer);
+      stands : Came g.R.Rules.table begun.recorder.limit (progress begun.rules begun.recorder begun.text.items) (g.Out.Write.contents l.fn.writer.writer) (left l.fn.reader.reader) (left l.reader.reader)
+          l.reading.begun.items l.reading.lines (progress run.rules run.recorder run.text.items) (g.Out.Write.contents l.writer.writer);
       room : l.reading.lines + length l.reading.begun.items ≤ l.reader.count * 65536;
       chunk : length l.chunk.items ≡ 65536;
     }

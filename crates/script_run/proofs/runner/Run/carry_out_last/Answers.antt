@@ -5,10 +5,7 @@ use Rattle.script_run.proofs.Standing.{none_of, Last-none, Last-whole, Last-stop
 use Rattle.script_run.proofs.runner.Run.carry_out_last.Goals as goal
 
 pub returns-then-is_empty-clause-last : goal.returns-then-is_empty-clause-last
-returns-then-is_empty-clause-last g c start old known read h =
-    let run = c.args.self.now.line in
-    let reading = c.args.reading.now in
-    Last-none g.R.Rules.table run.recorder.limit start old read reading.begun.items reading.lines (progress run.rules run.recorder run.text.items) known h (none_of reading.begun.items (grind arith))
+returns-then-is_empty-clause-last g c start old known read h = Last-none h (none_of c.args.reading.now.begun.items (grind arith))
 
 pub returns-in-Ok-None-clause-last : goal.returns-in-Ok-None-clause-last
 returns-in-Ok-None-clause-last g c start old known read h =
@@ -17,7 +14,7 @@ returns-in-Ok-None-clause-last g c start old known read h =
     let reading = c.args.reading.now in
     let some : reading.begun.items ≡ [] → ⊥ = λ none. absurd (grind arith) in
     let ends = subst (λ (line : List ℕ). LineEnds g.R.Rules.table run.recorder.limit (reading.lines + 1) line (progress run.rules run.recorder run.text.items) (progress after.rules after.recorder after.text.items) c.carry_out.result) c.deref.ensures.value c.carry_out.ensures.ends in
-    Last-whole g.R.Rules.table run.recorder.limit start old read reading.begun.items reading.lines (progress run.rules run.recorder run.text.items) (progress after.rules after.recorder after.text.items) known c.carry_out.result h some ends (cc)
+    Last-whole (progress after.rules after.recorder after.text.items) c.carry_out.result h some ends (cc)
 
 pub returns-in-Ok-Some-clause-last : goal.returns-in-Ok-Some-clause-last
 returns-in-Ok-Some-clause-last g c start old known read h =
@@ -26,7 +23,7 @@ returns-in-Ok-Some-clause-last g c start old known read h =
     let reading = c.args.reading.now in
     let some : reading.begun.items ≡ [] → ⊥ = λ none. absurd (grind arith) in
     let ends = subst (λ (line : List ℕ). LineEnds g.R.Rules.table run.recorder.limit (reading.lines + 1) line (progress run.rules run.recorder run.text.items) (progress after.rules after.recorder after.text.items) c.carry_out.result) c.deref.ensures.value c.carry_out.ensures.ends in
-    Last-stopped g.R.Rules.table run.recorder.limit start old read reading.begun.items reading.lines (progress run.rules run.recorder run.text.items) (progress after.rules after.recorder after.text.items) known c.in-Ok-Some.stop c.carry_out.result h some ends (cc)
+    Last-stopped {stop = c.in-Ok-Some.stop} (progress after.rules after.recorder after.text.items) c.carry_out.result h some ends (cc)
 
 pub returns-in-Err-clause-last : goal.returns-in-Err-clause-last
 returns-in-Err-clause-last g c start old known read h =
@@ -34,4 +31,4 @@ returns-in-Err-clause-last g c start old known read h =
     let after = c.carry_out.new.self.line in
     let reading = c.args.reading.now in
     let ends = subst (λ (line : List ℕ). LineEnds g.R.Rules.table run.recorder.limit (reading.lines + 1) line (progress run.rules run.recorder run.text.items) (progress after.rules after.recorder after.text.items) c.carry_out.result) c.deref.ensures.value c.carry_out.ensures.ends in
-    Last-memory g.R.Rules.table run.recorder.limit start old read reading.begun.items reading.lines (progress run.rules run.recorder run.text.items) (progress after.rules after.recorder after.text.items) known c.in-Err.field-0 c.carry_out.result h ends c.in-Err.is
+    Last-memory (progress after.rules after.recorder after.text.items) c.carry_out.result h ends c.in-Err.is
