@@ -1,7 +1,7 @@
 -- One mark more, and one less.
-use Rattle.std.proofs.Common.{◌≡◌, ◌≢◌, ℕ, ◌+◌, ◌<◌, ◌≤◌, Bool, true, false, List, length, get_or, set, replicate, sym, ap, ◌∙◌, ⊎_elim, arith}
+use Rattle.std.proofs.Common.{◌≡◌, ◌≢◌, ℕ, ◌+◌, ◌-◌, ◌<◌, ◌≤◌, Bool, true, false, List, length, get_or, set, replicate, sym, ap, ◌∙◌, ⊎_elim, arith}
 use Rattle.std.proofs.lemmas.Bool.{cases_lt, false_from_ne_true, true≢false}
-use Rattle.std.proofs.lemmas.List.{get_or-set_other, get_or-set_same, length-replicate, length-set}
+use Rattle.std.proofs.lemmas.List.{get_or_read, get_or-set_other, get_or-set_same, length-replicate, length-set}
 use Rattle.enabled_set.specs.Members.{is_in, members}
 use Rattle.enabled_set.specs.Counts.{tally}
 use Rattle.enabled_set.specs.Listed.{AreListed}
@@ -68,24 +68,31 @@ one_listed_more bits names count v listed there off =
     last : (i : ℕ) → i ≡ count → get_or (set names count v) i 0 ≡ v
     last i at = ap (λ k. get_or (set names count v) k 0) at ∙ get_or-set_same names count v 0 (let space = room_left bits names count v listed there off in omega (arith, space, listed.room))
 
--- the last name of the list is marked
-pub last_marked : (bits : List Bool) (names : List ℕ) (count n v : ℕ) → count ≡ n + 1 → v ≡ get_or names n 0 → AreListed bits names count → is_in bits v ≡ true
-last_marked bits names count n v more at listed = ap (is_in bits) at ∙ listed.marked n (omega (arith, more))
+-- the name at the end of the list: it is marked and has a place, and without it one is listed less
+pub record IsLast (bits : List Bool) (names : List ℕ) (count v : ℕ) : Type 0 where
+  pub marked : is_in bits v ≡ true
+  pub there : v < length bits
+  pub less : AreListed (set bits v false) names (count - 1)
 
--- one name less
-pub one_listed_less : (bits : List Bool) (names : List ℕ) (count n v : ℕ) → count ≡ n + 1 → v ≡ get_or names n 0 → AreListed bits names count → AreListed (set bits v false) names n
-one_listed_less bits names count n v more at listed =
-    let on = last_marked bits names count n v more at listed in
+pub at_end : (bits : List Bool) (names : List ℕ) (count v : ℕ) → 1 ≤ count → v ≡ get_or names (count - 1) v → AreListed bits names count → IsLast bits names count v
+at_end bits names count v some read listed =
+    let most = all_listed bits names count listed in
+    let at = get_or_read names (count - 1) v (omega (arith, some, most, listed.room)) read 0 in
+    let on = ap (is_in bits) at ∙ listed.marked (count - 1) (omega (arith, some)) in
     let there = inside bits v on in
     let len = length-set bits v false in
     let put = tally_put (is_in (set bits v false)) (is_in bits) v (on_here bits v false there) on (length bits) (λ k low apart. sym (same_there bits v false k apart)) in
     record {
-      few = omega (arith, len, listed.few);
-      some = omega (arith, len, listed.some);
-      room = omega (arith, len, listed.room);
-      counted = ap (tally (is_in (set bits v false))) len ∙ omega (arith, put, there, listed.counted, more);
-      marked = λ i low. same_there bits v false (get_or names i 0) (λ e. listed.once i n low (omega (arith, more)) (e ∙ at)) ∙ listed.marked i (omega (arith, low, more));
-      once = λ i j less low. listed.once i j less (omega (arith, low, more));
+      marked = on;
+      there = there;
+      less = record {
+        few = omega (arith, len, listed.few);
+        some = omega (arith, len, listed.some);
+        room = omega (arith, len, listed.room);
+        counted = ap (tally (is_in (set bits v false))) len ∙ omega (arith, put, there, listed.counted, some);
+        marked = λ i low. same_there bits v false (get_or names i 0) (λ e. listed.once i (count - 1) low (omega (arith, some)) (e ∙ at)) ∙ listed.marked i (omega (arith, low));
+        once = λ i j less low. listed.once i j less (omega (arith, low));
+      };
     }
 
 -- where none is listed, none is marked

@@ -1,8 +1,7 @@
 //! Why an event is refused.
 
-ghost use Rattle.std.specs.Prelude.{◌≡◌, ◌&&◌, not, [], nat_eq, nat_le};
+ghost use Rattle.std.specs.Prelude.{◌≡◌, ◌&&◌, [], nat_eq};
 ghost use Rattle.std.specs.List.{list_any};
-ghost use Rattle.rule_machine.specs.Network.{present};
 ghost use Rattle.rule_machine.specs.RuleTable.{rule_at};
 ghost use Rattle.rule_machine.specs.Refuse as refuse;
 ghost use Rattle.rule_machine.specs.Tables.{table_of};
@@ -26,20 +25,6 @@ impl PlainNet {
             Event::Show(v) | Event::Leave(v) => self.show_refusal(*v),
             Event::Enabled | Event::Matching | Event::Status => None,
         }
-    }
-
-    /// Whether a name may join: it is one of the network's, and not present.
-    pub fn may_join(&self, v: Node) -> bool
-        ensures { result ≡ (nat_le 1 v && (nat_le v self.now.network.size && not (present self.now.network v))) }
-    {
-        v.name() <= self.capacity() && !self.has(v)
-    }
-
-    /// Whether a node may leave: it is present.
-    pub fn may_leave(&self, v: Node) -> bool
-        ensures { result ≡ present self.now.network v }
-    {
-        self.has(v)
     }
 
     fn link_refusal(&self, a: Node, b: Node) -> Option<Refusal>

@@ -33,14 +33,6 @@ move_from_accepted outcome.Wrong true none = absurd cc
 move_from_accepted outcome.Wrong false none = absurd cc
 move_from_accepted (outcome.Moves m) twice none = refl
 
--- what is marked has a place
-pub marked_within : (marks : List Bool) (v : ℕ) → is_in marks v ≡ true → v < length marks
-marked_within marks v marked =
-    ⊎_elim
-    (λ (lt : v < length marks). lt)
-    (λ (le : length marks ≤ v). absurd (true≢false (sym marked ∙ get_or_past marks v false le)))
-    (cases_lt v (length marks))
-
 mark_made : (marks : List Bool) (w v : ℕ) → w < length marks → is_in (set marks w true) v ≡ (is_in marks v || nat_eq w v)
 mark_made marks w v within =
     ⊎_elim

@@ -26,5 +26,5 @@ mod view;
 mod words;
 
 pub use graph::picture;
-pub use law::{one_picture, one_table};
+pub use law::one_view;
 pub use view::{View, view_epochs, view_picture};

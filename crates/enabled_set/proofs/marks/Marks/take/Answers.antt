@@ -1,9 +1,7 @@
-use Rattle.std.proofs.Common.{◌≡◌, ◌+◌, ◌-◌, ◌∙◌, ℕ, false, set, sym, ap, subst, arith}
-use Rattle.std.proofs.lemmas.List.{get_or_read}
+use Rattle.std.proofs.Common.{◌-◌, ◌∙◌, ℕ, false, set, sym, ap, subst, arith}
 use Rattle.enabled_set.specs.Members.{is_in}
 use Rattle.enabled_set.specs.Listed.{AreListed}
-use Rattle.enabled_set.proofs.Listed.{all_listed, last_marked, one_listed_less, none_marked}
-use Rattle.enabled_set.proofs.Members.{inside}
+use Rattle.enabled_set.proofs.Listed.{all_listed, at_end, none_marked}
 use Rattle.enabled_set.proofs.marks.Marks.take.Goals as goal
 
 pub returns-then-self-eq0-clause-none : goal.returns-then-self-eq0-clause-none
@@ -17,31 +15,18 @@ index-v-requires c =
 
 pub index_mut-requires : goal.index_mut-requires
 index_mut-requires c =
-    let bits = c.self.inside.is_marked.items in
-    let names = c.self.inside.names.items in
-    let count = c.self.inside.count in
-    let some : count ≡ count - 1 + 1 = omega (arith, c.if-self-eq0.false) in
-    let most = all_listed bits names count c.self.invariant in
-    let at = get_or_read names (count - 1) c.index-v.result.now (omega (arith, most, c.if-self-eq0.false, c.self.invariant.room)) c.index-v.ensures 0 in
-    let there = inside bits c.index-v.result.now (last_marked bits names count (count - 1) c.index-v.result.now some at c.self.invariant) in
-    omega (arith, there, c.place.ensures.same)
+    let last = at_end c.self.inside.is_marked.items c.self.inside.names.items c.self.inside.count c.index-v.result.now (omega (arith, c.if-self-eq0.false)) c.index-v.ensures c.self.invariant in
+    omega (arith, last.there, c.place.ensures.same)
 
 pub invariant_of-self : goal.invariant_of-self
 invariant_of-self c =
     let bits = c.self.inside.is_marked.items in
     let names = c.self.inside.names.items in
     let count = c.self.inside.count in
-    let some : count ≡ count - 1 + 1 = omega (arith, c.if-self-eq0.false) in
-    let most = all_listed bits names count c.self.invariant in
-    let at = get_or_read names (count - 1) c.index-v.result.now (omega (arith, most, c.if-self-eq0.false, c.self.invariant.room)) c.index-v.ensures 0 in
-    subst (λ (v : ℕ). AreListed (set bits v false) names (count - 1)) (sym c.place.ensures.same) (one_listed_less bits names count (count - 1) c.index-v.result.now some at c.self.invariant)
+    let last = at_end bits names count c.index-v.result.now (omega (arith, c.if-self-eq0.false)) c.index-v.ensures c.self.invariant in
+    subst (λ (v : ℕ). AreListed (set bits v false) names (count - 1)) (sym c.place.ensures.same) last.less
 
 pub returns-clause-some : goal.returns-clause-some
 returns-clause-some c =
-    let bits = c.self.inside.is_marked.items in
-    let names = c.self.inside.names.items in
-    let count = c.self.inside.count in
-    let some : count ≡ count - 1 + 1 = omega (arith, c.if-self-eq0.false) in
-    let most = all_listed bits names count c.self.invariant in
-    let at = get_or_read names (count - 1) c.index-v.result.now (omega (arith, most, c.if-self-eq0.false, c.self.invariant.room)) c.index-v.ensures 0 in
-    ap (λ l. is_in l c.index-v.result.now) (sym c.self.view_is) ∙ last_marked bits names count (count - 1) c.index-v.result.now some at c.self.invariant
+    let last = at_end c.self.inside.is_marked.items c.self.inside.names.items c.self.inside.count c.index-v.result.now (omega (arith, c.if-self-eq0.false)) c.index-v.ensures c.self.invariant in
+    ap (λ l. is_in l c.index-v.result.now) (sym c.self.view_is) ∙ last.marked
