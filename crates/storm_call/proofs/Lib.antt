@@ -9,3 +9,4 @@ pub mod Writing
 pub mod Numbered
 pub mod Outcomes
 pub mod Leaving
+pub mod Telling

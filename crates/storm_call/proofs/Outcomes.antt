@@ -33,7 +33,12 @@ pub not_of_call : (P : Type 0) (fault : CallFault) (found : StormFault) → foun
 not_of_call P fault found is same =
     absurd (calls_write_nothing fault (subst (λ (f : StormFault). FailsToWriteOut (Err f)) is (subst FailsToWriteOut (sym same) tt)))
 
-module _ (t : RuleTable) (weight : ℕ) (asked : Asked) (texts : List (Option (List ℕ))) (scripts : List (List ScriptLine)) (kept : Kept) (old new : Option (List ℕ)) where
+module _ {t : RuleTable} {weight : ℕ} {asked : Asked} {scripts : List (List ScriptLine)} {kept : Kept} where
+  -- the scripts that were read are those that were played
+  pub leaves_read : {read : List (List ScriptLine)} {met : Option CallFault} → read ≡ scripts → Leaves t weight asked read met kept → Leaves t weight asked scripts met kept
+  leaves_read {read} {met} same leaves = subst (λ (s : List (List ScriptLine)). Leaves t weight asked s met kept) same leaves
+
+module _ {t : RuleTable} {weight : ℕ} {asked : Asked} {scripts : List (List ScriptLine)} {kept : Kept} (texts : List (Option (List ℕ))) (old new : Option (List ℕ)) where
   -- all was written, and the first fault that a script met is told
   told_fault : (fault : CallFault) → AllHold texts scripts → Leaves t weight asked scripts (Some fault) kept → Appends old new (text_of asked kept)
       → Ends t weight asked texts old new (Err (of_call fault))
@@ -42,33 +47,33 @@ module _ (t : RuleTable) (weight : ℕ) (asked : Asked) (texts : List (Option (L
   told_fault Memory held leaves wrote = inl (scripts, kept, held, leaves, wrote)
 
   -- or not all was written
-  failed : (met : Option CallFault) (fault : StormFault) → AllHold texts scripts → Leaves t weight asked scripts met kept → FailsToWrite old new (text_of asked kept) fault
+  failed : {met : Option CallFault} (fault : StormFault) → AllHold texts scripts → Leaves t weight asked scripts met kept → FailsToWrite old new (text_of asked kept) fault
       → Ends t weight asked texts old new (Err fault)
-  failed met storm.Write held leaves wrote = (met, (scripts, kept, held, leaves, wrote))
-  failed met storm.Memory held leaves nothing = inr nothing
-  failed met storm.TooManyScripts held leaves never = absurd never
-  failed met (storm.BadLine script line) held leaves never = absurd never
-  failed met storm.LogFull held leaves never = absurd never
-  failed met storm.Read held leaves never = absurd never
-  failed met storm.Behind held leaves never = absurd never
-  failed met storm.Thread held leaves never = absurd never
-  failed met (storm.Unsettled why) held leaves never = absurd never
+  failed {met} storm.Write held leaves wrote = (met, (scripts, kept, held, leaves, wrote))
+  failed storm.Memory held leaves nothing = inr nothing
+  failed storm.TooManyScripts held leaves never = absurd never
+  failed (storm.BadLine script line) held leaves never = absurd never
+  failed storm.LogFull held leaves never = absurd never
+  failed storm.Read held leaves never = absurd never
+  failed storm.Behind held leaves never = absurd never
+  failed storm.Thread held leaves never = absurd never
+  failed (storm.Unsettled why) held leaves never = absurd never
 
   -- so that is what is told
-  pub told_failed : (met : Option CallFault) (fault : StormFault) (result : Result Unit StormFault) → IsErr result → IsErrAnd result (λ found. found ≡ fault) → AllHold texts scripts
+  pub told_failed : {met : Option CallFault} (fault : StormFault) (result : Result Unit StormFault) → IsErr result → IsErrAnd result (λ found. found ≡ fault) → AllHold texts scripts
       → Leaves t weight asked scripts met kept → FailsToWrite old new (text_of asked kept) fault → Ends t weight asked texts old new result
-  told_failed met fault result is gives held leaves fails =
-      subst (λ (r : Result Unit StormFault). Ends t weight asked texts old new r) (told result fault is gives) (failed met fault held leaves fails)
+  told_failed fault result is gives held leaves fails =
+      subst (λ (r : Result Unit StormFault). Ends t weight asked texts old new r) (told result fault is gives) (failed fault held leaves fails)
 
   -- all scripts were played to their ends, and all was written
-  pub done_all : (met : Option CallFault) → met ≡ None → AllHold texts scripts → Leaves t weight asked scripts met kept → Appends old new (text_of asked kept)
+  pub done_all : {met : Option CallFault} → met ≡ None → AllHold texts scripts → Leaves t weight asked scripts met kept → Appends old new (text_of asked kept)
       → LeavesText t weight asked texts None (Appends old new)
-  done_all met is held leaves wrote =
+  done_all is held leaves wrote =
       (scripts, kept, held, subst (λ (f : Option CallFault). Leaves t weight asked scripts f kept) is leaves, wrote)
 
   -- a script met a fault, and all was written
-  pub told_met : (met : Option CallFault) (fault : CallFault) (found : StormFault) → met ≡ Some fault → found ≡ of_call fault → AllHold texts scripts → Leaves t weight asked scripts met kept
+  pub told_met : {met : Option CallFault} (fault : CallFault) (found : StormFault) → met ≡ Some fault → found ≡ of_call fault → AllHold texts scripts → Leaves t weight asked scripts met kept
       → Appends old new (text_of asked kept) → Ends t weight asked texts old new (Err found)
-  told_met met fault found is same held leaves wrote =
+  told_met fault found is same held leaves wrote =
       subst (λ (f : StormFault). Ends t weight asked texts old new (Err f)) (sym same)
       (told_fault fault held (subst (λ (f : Option CallFault). Leaves t weight asked scripts f kept) is leaves) wrote)

@@ -5,7 +5,7 @@
 -- for the whole of it: what each was told is the log's, each entry was told to one of them alone, what the clerk of a script was told
 -- is what the script asks for, line after line, as far as it came, and what that of a worker was told are steps of one node alone, at
 -- most as many as it has turns.
-use Rattle.std.specs.Prelude.{◌≡◌, ◌≢◌, ℕ, ◌<◌, ◌⊎◌, List, [], length, Option, None, Some, Result, Ok, Err}
+use Rattle.std.specs.Prelude.{◌≡◌, ◌≢◌, ℕ, ◌<◌, ◌⊎◌, List, [], length, map, Option, None, Some, Result, Ok, Err}
 use Rattle.std.specs.Io.KnownBytes.{Appends, Keeps}
 use Rattle.rule_machine.specs.declared.rules.RuleSet.{RuleSet}
 use Rattle.rule_machine.specs.declared.rules.RuleSet.TheVariants.{Hh, Manne}
@@ -75,3 +75,8 @@ weight_of Manne = 3
 -- the storm of some texts, under the rule set that is asked for
 abbrev pub IsOutcome : Asked → List (Option (List ℕ)) → Option (List ℕ) → Option (List ℕ) → Result Unit StormFault → Type 0
 IsOutcome asked texts old new result = Ends (table_of asked.rules) (weight_of asked.rules) asked texts old new result
+
+-- the storm of the texts that readers had, under the rules of a table, and what a writer has got
+abbrev pub EndsUnder : {In Out : Type 0} → RuleTable → ℕ → Asked → (In → Option (List ℕ)) → List In → (Out → Option (List ℕ)) → Out → Out
+    → Result Unit StormFault → Type 0
+EndsUnder t weight asked left readers got old new result = Ends t weight asked (map left readers) (got old) (got new) result

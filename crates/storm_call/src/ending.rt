@@ -1,6 +1,7 @@
 //! How a program ends that ran a storm.
 
-ghost use Rattle.std.specs.Prelude.{◌≡◌};
+ghost use Rattle.std.specs.Prelude.{◌≡◌, false};
+ghost use Rattle.std.specs.Io.KnownBytes.{Appends};
 ghost use Rattle.byte_streams.specs.Beginning.{AppendsBeginning};
 ghost use Rattle.storm_call.specs.FaultText.{end_line};
 ghost use Rattle.storm_call.specs.Status.{status_of, end_status};
@@ -27,10 +28,11 @@ pub fn status(fault: StormFault) -> u8
 }
 
 /// Tells how a storm ended, in one line, where it is a fault, and gives the exit status: 0 for none, else the fault's. The
-/// status is the same where the line cannot be written, or only a beginning of it.
+/// status is the same where the line cannot be written, or only a beginning of it, which comes only where a write failed.
 pub fn storm_end<Faults: Write>(ended: Result<(), StormFault>, faults: &mut Writes<Faults>) -> u8
     ensures status { result ≡ end_status ended }
     ensures told { AppendsBeginning (Faults.contents faults.old.writer) (Faults.contents faults.new.writer) (end_line ended) }
+    ensures whole { faults.new.failed ≡ false → Appends (Faults.contents faults.old.writer) (Faults.contents faults.new.writer) (end_line ended) }
 {
     match ended {
         Ok(()) => 0,

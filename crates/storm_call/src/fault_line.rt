@@ -4,7 +4,7 @@ ghost use Rattle.std.specs.Prelude.{◌≡◌, ◌++◌, true, OnOk, OnErr};
 ghost use Rattle.std.specs.Io.KnownBytes.{Appends};
 ghost use Rattle.byte_streams.specs.Beginning.{AppendsBeginning, AppendsLess};
 ghost use Rattle.line_text.specs.Words.{number_text};
-ghost use Rattle.storm_call.specs.FaultText.{fault_line, IsPlain};
+ghost use Rattle.storm_call.specs.FaultText.{bad_line, fault_line, IsPlain};
 
 use crate::StormFault;
 use byte_streams::{OutputFault, Writes};
@@ -32,8 +32,8 @@ fn write_bad_line<Faults: Write>(
     line: u64,
     faults: &mut Writes<Faults>,
 ) -> Result<(), OutputFault>
-    ensures ok { OnOk result (Appends (Faults.contents faults.old.writer) (Faults.contents faults.new.writer) (fault_line (StormFault.BadLine script line))) }
-    ensures fault { OnErr result (AppendsBeginning (Faults.contents faults.old.writer) (Faults.contents faults.new.writer) (fault_line (StormFault.BadLine script line))) }
+    ensures ok { OnOk result (Appends (Faults.contents faults.old.writer) (Faults.contents faults.new.writer) (bad_line script line)) }
+    ensures fault { OnErr result (AppendsBeginning (Faults.contents faults.old.writer) (Faults.contents faults.new.writer) (bad_line script line)) }
     ensures unwritten { OnErr result (faults.new.failed ≡ true) }
 {
     write_numbered(b"! script ", script as u64, faults)?;

@@ -3,7 +3,7 @@
 ghost use Rattle.std.specs.Prelude.{◌≡◌, ◌≤◌, true, length, map, IfOk, IfErr, IsErrOf};
 ghost use Rattle.script_run.specs.Asked.{asked_of};
 ghost use Rattle.step_log.specs.Held.{kept_of};
-ghost use Rattle.storm_call.specs.Outcome.{Leaves, Ends, IsOutcome};
+ghost use Rattle.storm_call.specs.Outcome.{Leaves, EndsUnder, IsOutcome};
 ghost use Rattle.storm_call.specs.Parts.{FailsToPlay};
 ghost use Rattle.storm_call.specs.declared.fault.StormFault.TheVariants.{Write as Unwritten};
 
@@ -67,7 +67,8 @@ fn storm_on<
     writer: &mut Writes<Out>,
     gate: &G,
 ) -> Result<(), StormFault>
-    ensures outcome { Ends R.table R.NODE_WEIGHT (asked_of options.now) (map In.remaining readers.items) (Out.contents writer.old.writer) (Out.contents writer.new.writer) result }
+    ensures outcome { EndsUnder R.table R.NODE_WEIGHT (asked_of options.now) In.remaining readers.items
+        Out.contents writer.old.writer writer.new.writer result }
     ensures unwritten { IsErrOf result Unwritten → writer.new.failed ≡ true }
 {
     let scripts = read_scripts(alloc, readers)?;
