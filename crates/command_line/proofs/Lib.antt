@@ -2,3 +2,4 @@ pub mod OneVerdict
 pub mod Input
 pub mod Missing
 pub mod Storms
+pub mod Shown

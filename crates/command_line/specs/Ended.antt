@@ -1,11 +1,14 @@
 -- How the program ends: what the writers have got, and the exit status.
-use Rattle.std.specs.Prelude.{◌≡◌, ◌⊎◌, ℕ, List, length, Option, None, Some, Result, Ok, Err, IfOk}
+use Rattle.std.specs.Prelude.{◌≡◌, ℕ, List, length, Option, None, Some, Result, Ok, Err, IfOk}
 use Rattle.std.specs.Io.KnownBytes.{Keeps}
 use Rattle.clap.specs.Words.{kind_of}
 use Rattle.clap.specs.declared.error.Error.{Error}
+use Rattle.clap.specs.declared.error.kind.ErrorKind.{ErrorKind}
+use Rattle.clap.specs.declared.error.kind.ErrorKind.TheVariants.{OutOfMemory}
 use Rattle.rule_machine.specs.declared.rules.RuleSet.{RuleSet}
 use Rattle.byte_streams.specs.Beginning.{AppendsBeginning}
 use Rattle.script_run.specs.declared.fault.RunFault.{RunFault}
+use Rattle.script_run.specs.declared.fault.RunFault.TheVariants.{Memory}
 use Rattle.script_run.specs.Outcome.{IsOutcome}
 use Rattle.command_words.specs.declared.task.Task.{Task}
 use Rattle.command_words.specs.declared.task.Task.TheVariants as variants
@@ -15,7 +18,7 @@ use Rattle.command_line.specs.declared.verdict.CheckEnd.{CheckEnd}
 use Rattle.command_line.specs.Status.{status_of, words_status}
 use Rattle.command_line.specs.FaultText.{bad_present_line, fault_line}
 use Rattle.transcript_view.specs.Views.{IsPicture, IsTable}
-use Rattle.command_line.specs.Viewed.{Known, Views}
+use Rattle.command_line.specs.Viewed.{Known, ShowsSome, Views}
 use Rattle.command_line.specs.Network.{asked_storm}
 use Rattle.command_line.specs.Played.{PlaysStorm}
 use Rattle.command_line.specs.Checked.{IsVerdict, TellsVerdict, verdict_status}
@@ -60,7 +63,7 @@ DoesStorm storm None old new before after status = TellsBadPresent old new befor
 DoesStorm storm (Some present) old new before after status = PlaysStorm (asked_storm storm present) (length storm.scripts) old new before after status
 
 -- what is done for a task: a run's bytes and status are the same for each number of workers; where the help or the version is
--- asked for, it is shown, or a write failed
+-- asked for, a text is shown
 abbrev pub DoesTask : Task → List ℕ → Known → Known → Known → Known → ℕ → Type 0
 DoesTask (Run rules nodes present workers) input old new before after status = DoesRun rules nodes (present_at_start nodes present) input old new before after status
 DoesTask Audit input old new before after status = TellsCheck input old new before after status
@@ -68,9 +71,14 @@ DoesTask (Picture entry) input old new before after status = Views (IsPicture in
 DoesTask Epochs input old new before after status = Views (IsTable input) old new before after status
 DoesTask (variants.Storm words) input old new before after status =
     DoesStorm (storm_of words) (present_at_start words.nodes words.present) old new before after status
-DoesTask (Show text) input old new before after status = (status ≡ 0) ⊎ (status ≡ 3)
+DoesTask (Show text) input old new before after status = ShowsSome old new before after status
 
--- the task is done; for bad words, or where memory ran out as they were read, the writer gets nothing
+-- what is told of words that can't be followed: that memory ran out, where it did, else a text of which nothing is said, or a beginning
+abbrev pub TellsMistake : ErrorKind → Known → Known → Type 0
+TellsMistake kind before after =
+    (kind ≡ OutOfMemory → AppendsBeginning before after (fault_line Memory)) × ((text : List ℕ) × AppendsBeginning before after text)
+
+-- the task is done; for bad words, or where memory ran out as they were read, that is told and the writer gets nothing
 abbrev pub Does : Result Task Error → List ℕ → Known → Known → Known → Known → ℕ → Type 0
 Does (Ok task) input old new before after status = DoesTask task input old new before after status
-Does (Err e) input old new before after status = Keeps old new × (status ≡ words_status (kind_of e))
+Does (Err e) input old new before after status = Keeps old new × TellsMistake (kind_of e) before after × (status ≡ words_status (kind_of e))

@@ -14,9 +14,13 @@ pool_line pool.ZeroWorkers = codes "! no workers\n"
 pool_line pool.Thread = codes "! no thread\n"
 pool_line pool.Memory = codes "! out of memory\n"
 
+-- a line of a script that is no command, with its number, and the LF that ends the line
+abbrev pub bad_line : ℕ → List ℕ
+bad_line line = codes "! line " ++ (number_text line ++ codes ": not a command\n")
+
 -- a fault of a run, with the LF that ends its line
 abbrev pub fault_line : RunFault → List ℕ
-fault_line (BadLine line) = codes "! line " ++ (number_text line ++ codes ": not a command\n")
+fault_line (BadLine line) = bad_line line
 fault_line LogFull = codes "! log full\n"
 fault_line Read = codes "! read failed\n"
 fault_line Write = codes "! write failed\n"

@@ -40,6 +40,12 @@ ShowsText text good old new before after status =
     ((status ≡ good) × Appends old new text × Keeps before after)
     ⊎ ((status ≡ 3) × AppendsBeginning old new text × AppendsBeginning before after (fault_line run.Write))
 
+-- some text is shown, of which nothing is said; or memory ran out as it was made, and nothing is written
+abbrev pub ShowsSome : Known → Known → Known → Known → ℕ → Type 0
+ShowsSome old new before after status =
+    ((text : List ℕ) × ShowsText text 0 old new before after status)
+    ⊎ TellsEarly run.Memory old new before after status
+
 -- the verdict that an audit gives is written, or memory ran out
 abbrev pub ShowsRefusal : Damage → Known → Known → Known → Known → ℕ → Type 0
 ShowsRefusal damage old new before after status =

@@ -1,10 +1,10 @@
 //! The lines that tell why the program ended early. They take no memory.
 
-ghost use Rattle.std.specs.Prelude.{◌≡◌, ◌++◌, codes, OnOk, OnErr};
+ghost use Rattle.std.specs.Prelude.{◌≡◌, ◌++◌, codes, true, OnOk, OnErr};
 ghost use Rattle.std.specs.Io.KnownBytes.{Appends};
 ghost use Rattle.byte_streams.specs.Beginning.{AppendsBeginning};
 ghost use Rattle.line_text.specs.Words.{number_text};
-ghost use Rattle.command_line.specs.FaultText.{fault_line, IsPlain};
+ghost use Rattle.command_line.specs.FaultText.{bad_line, fault_line, IsPlain};
 
 use byte_streams::{OutputFault, Writes};
 use itoa::Buffer;
@@ -13,8 +13,9 @@ use std::io::Write;
 use steal_pool::PoolFault;
 
 fn write_bad_line<Faults: Write>(line: u64, faults: &mut Writes<Faults>) -> Result<(), OutputFault>
-    ensures ok { OnOk result (Appends (Faults.contents faults.old.writer) (Faults.contents faults.new.writer) (fault_line (RunFault.BadLine line))) }
-    ensures fault { OnErr result (AppendsBeginning (Faults.contents faults.old.writer) (Faults.contents faults.new.writer) (fault_line (RunFault.BadLine line))) }
+    ensures ok { OnOk result (Appends (Faults.contents faults.old.writer) (Faults.contents faults.new.writer) (bad_line line)) }
+    ensures fault { OnErr result (AppendsBeginning (Faults.contents faults.old.writer) (Faults.contents faults.new.writer) (bad_line line)) }
+    ensures unwritten { OnErr result (faults.new.failed ≡ true) }
 {
     let mut digits = Buffer::new();
     faults.write_whole(b"! line ")?;
@@ -29,6 +30,7 @@ pub fn write_fault<Faults: Write>(
 ) -> Result<(), OutputFault>
     ensures ok { OnOk result (Appends (Faults.contents faults.old.writer) (Faults.contents faults.new.writer) (fault_line fault)) }
     ensures fault { OnErr result (AppendsBeginning (Faults.contents faults.old.writer) (Faults.contents faults.new.writer) (fault_line fault)) }
+    ensures unwritten { OnErr result (faults.new.failed ≡ true) }
 {
     match fault {
         RunFault::BadLine { line } => write_bad_line(line, faults),

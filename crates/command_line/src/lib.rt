@@ -14,7 +14,6 @@
 
 mod fault_line;
 mod law;
-mod once;
 mod options;
 mod playing;
 mod program;

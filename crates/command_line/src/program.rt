@@ -1,6 +1,7 @@
 //! From the words to the exit status.
 
-ghost use Rattle.std.specs.Prelude.{◌≡◌, ◌≢◌, ◌⊎◌, true, IfErr, IfOk, IfSome, MatchOption, Result, map};
+ghost use Rattle.std.specs.Prelude.{◌≡◌, ◌≢◌, ◌⊎◌, false, true, IfErr, IfOk, IfSome, MatchOption, OnErr, Result, map, string_bytes};
+ghost use Rattle.std.specs.Io.KnownBytes.{Appends};
 ghost use Rattle.clap.specs.declared.error.kind.ErrorKind.TheVariants.{OutOfMemory};
 ghost use Rattle.command_words.specs.declared.task.Task.{Task};
 ghost use Rattle.command_words.specs.declared.storm.StormWords.{StormWords};
@@ -10,21 +11,21 @@ ghost use Rattle.clap.specs.Words.{kind_of};
 ghost use Rattle.byte_streams.specs.Beginning.{AppendsBeginning};
 ghost use Rattle.byte_streams.specs.Ended.{IsEnded};
 ghost use Rattle.command_line.specs.FaultText.{bad_present_line, fault_line, no_words_line};
-ghost use Rattle.command_line.specs.Ended.{TellsBadPresent, TellsOutcome, TellsCheck, Does};
+ghost use Rattle.command_line.specs.Ended.{TellsBadPresent, TellsMistake, TellsOutcome, TellsCheck, Does};
 ghost use Rattle.command_line.specs.Status.{IsRunStatus, IsStatus, status_of, no_words_status, words_status};
+ghost use Rattle.command_line.specs.Viewed.{ShowsSome, ShowsText, TellsEarly};
 
 use crate::fault_line::write_fault;
-use crate::once::write_text;
 use crate::options::network_options;
 use crate::playing::play_storm;
 use crate::verdict::check;
-use crate::viewing::{draw, list_epochs};
+use crate::viewing::{draw, list_epochs, show_text};
 use byte_streams::{Reads, Writes};
 use clap::Error;
 use clap::error::ErrorKind;
 use command_words::{Task, read_words};
 use script_run::{Options, RunFault, run};
-use std::alloc::Global;
+use std::alloc::{AllocError, Global};
 use std::convert::AsStr;
 use std::io::{self, Read, Write};
 use std::rt::Files;
@@ -44,10 +45,11 @@ pub fn status(fault: RunFault) -> u8
 }
 
 /// Tells why a run ended early, in one line, and gives the exit status. The status is the same where the line cannot
-/// be written, or only a beginning of it.
+/// be written, or only a beginning of it, which comes only where a write failed.
 pub fn tell<Faults: Write>(fault: RunFault, faults: &mut Writes<Faults>) -> u8
     ensures status { result ≡ status_of fault }
     ensures told { AppendsBeginning (Faults.contents faults.old.writer) (Faults.contents faults.new.writer) (fault_line fault) }
+    ensures whole { faults.new.failed ≡ false → Appends (Faults.contents faults.old.writer) (Faults.contents faults.new.writer) (fault_line fault) }
 {
     let _ = write_fault(fault, faults);
     status(fault)
@@ -57,6 +59,7 @@ pub fn tell<Faults: Write>(fault: RunFault, faults: &mut Writes<Faults>) -> u8
 pub fn tell_no_words<Faults: Write>(kind: io::ErrorKind, faults: &mut Writes<Faults>) -> u8
     ensures status { result ≡ no_words_status kind }
     ensures told { AppendsBeginning (Faults.contents faults.old.writer) (Faults.contents faults.new.writer) (no_words_line kind) }
+    ensures whole { faults.new.failed ≡ false → Appends (Faults.contents faults.old.writer) (Faults.contents faults.new.writer) (no_words_line kind) }
 {
     if kind == io::ErrorKind::InvalidData {
         let _ = faults.finish(b"! a word is not UTF-8\n");
@@ -69,36 +72,62 @@ pub fn tell_no_words<Faults: Write>(kind: io::ErrorKind, faults: &mut Writes<Fau
 pub fn tell_bad_present<Faults: Write>(faults: &mut Writes<Faults>) -> u8
     ensures status { result ≡ 2 }
     ensures told { AppendsBeginning (Faults.contents faults.old.writer) (Faults.contents faults.new.writer) bad_present_line }
+    ensures whole { faults.new.failed ≡ false → Appends (Faults.contents faults.old.writer) (Faults.contents faults.new.writer) bad_present_line }
 {
     let _ = faults.finish(b"! bad present\n");
     2
 }
 
-// Tells what is wrong with the words, in clap's text, and gives the exit status: 2, or 4 for want of memory.
-fn refuse<Faults: Write>(error: Error, faults: &mut Writes<Faults>) -> u8
+// Tells what is wrong with the words, in clap's text, and gives the exit status: 2, or 4 for want of memory. Where there is no memory
+// for the text, that is told in its place.
+fn refuse<Faults: Write>(alloc: Global, error: Error, faults: &mut Writes<Faults>) -> u8
     ensures status { result ≡ words_status (kind_of error) }
     ensures device { result ≢ 3 }
+    ensures told { TellsMistake (kind_of error) (Faults.contents faults.old.writer) (Faults.contents faults.new.writer) }
 {
     if error.kind() == ErrorKind::OutOfMemory {
         return tell(RunFault::Memory, faults);
     }
-    let _ = write_text(error, faults);
+    let Ok(text) = format!(in alloc; "{error}") else {
+        tell(RunFault::Memory, faults);
+        return 2;
+    };
+    let _ = faults.finish(text.as_bytes());
     2
 }
 
-// Shows the help or the version.
+// Writes a text that was made, or tells that there was no memory for it, and gives the exit status.
+fn show_made<Out: Write, Faults: Write>(
+    made: Result<String, AllocError>,
+    writer: &mut Writes<Out>,
+    faults: &mut Writes<Faults>,
+) -> u8
+    ensures shown { IfOk made (λ text. ShowsText (string_bytes text) 0 (Out.contents writer.old.writer) (Out.contents writer.new.writer)
+        (Faults.contents faults.old.writer) (Faults.contents faults.new.writer) result) }
+    ensures memory { OnErr made (TellsEarly RunFault.Memory (Out.contents writer.old.writer) (Out.contents writer.new.writer)
+        (Faults.contents faults.old.writer) (Faults.contents faults.new.writer) result) }
+    ensures status { IsStatus result }
+    ensures device { result ≡ 3 → writer.new.failed ≡ true }
+{
+    match made {
+        Ok(text) => show_text(text.as_bytes(), 0, writer, faults),
+        Err(_) => tell(RunFault::Memory, faults),
+    }
+}
+
+// Shows the help or the version, in clap's text. Whatever keeps that from being made is told as want of memory.
 fn show<Out: Write, Faults: Write>(
+    alloc: Global,
     text: Error,
     writer: &mut Writes<Out>,
     faults: &mut Writes<Faults>,
 ) -> u8
-    ensures shown { (result ≡ 0) ⊎ (result ≡ 3) }
+    ensures shown { ShowsSome (Out.contents writer.old.writer) (Out.contents writer.new.writer)
+        (Faults.contents faults.old.writer) (Faults.contents faults.new.writer) result }
+    ensures status { IsStatus result }
     ensures device { result ≡ 3 → writer.new.failed ≡ true }
 {
-    match write_text(text, writer) {
-        Ok(()) => 0,
-        Err(_) => tell(RunFault::Write, faults),
-    }
+    show_made(format!(in alloc; "{text}"), writer, faults)
 }
 
 // Runs the script, tells a fault, and gives the exit status.
@@ -205,7 +234,7 @@ pub fn start<S: AsStr, In: Read, Out: Write, Faults: Write, T: Threads + Wait + 
         Ok(Task::Picture { entry }) => draw(alloc, entry, reader, writer, faults),
         Ok(Task::Epochs) => list_epochs(alloc, reader, writer, faults),
         Ok(Task::Storm(asked)) => play_storm(rt, alloc, asked, writer, faults),
-        Ok(Task::Show(text)) => show(text, writer, faults),
-        Err(error) => refuse(error, faults),
+        Ok(Task::Show(text)) => show(alloc, text, writer, faults),
+        Err(error) => refuse(alloc, error, faults),
     }
 }

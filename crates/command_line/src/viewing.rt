@@ -35,8 +35,8 @@ fn missing_line(
     Ok(line)
 }
 
-// Writes the text, and gives the exit status, which is `good` where it was written.
-fn show_text<Out: Write, Faults: Write>(
+/// Writes the text, and gives the exit status, which is `good` where it was written.
+pub fn show_text<Out: Write, Faults: Write>(
     text: &[u8],
     good: u8,
     writer: &mut Writes<Out>,
