@@ -1,6 +1,6 @@
 -- Beginnings of one list, and what a longer history shows.
-use Rattle.std.proofs.Common.{◌≡◌, ◌+◌, ◌≤◌, List, [], ◌∷◌, ◌++◌, length, fold, Some, None, refl, ap, sym, ◌∙◌, subst, arith, append_assoc, length-append}
-use Rattle.std.proofs.lemmas.List.{append-nil}
+use Rattle.std.proofs.Common.{◌≡◌, ◌+◌, ◌≤◌, List, [], ◌∷◌, ◌++◌, length, take, drop, fold, Some, None, refl, ap, sym, ◌∙◌, subst, arith, append_assoc, length-append}
+use Rattle.std.proofs.lemmas.List.{append-nil, nil_from_length, take_at, take-append-drop, take-append-le}
 use Rattle.std.proofs.lemmas.List.Sums.{fold-append}
 use mathlib.Core.List.{IsPrefix}
 use mathlib.Core.Logic.{dite}
@@ -20,21 +20,14 @@ module _ {A : Type 0} where
 
   -- of two beginnings of one list the shorter begins the longer
   pub prefix_shorter : (xs ys zs : List A) → IsPrefix xs zs → IsPrefix ys zs → length xs ≤ length ys → IsPrefix xs ys
-  prefix_shorter [] ys zs p q le = (ys, refl)
-  prefix_shorter (x ∷ xs) [] zs p q le = absurd (omega arith)
-  prefix_shorter (x ∷ xs) (y ∷ ys) [] p q le = absurd (cc (p.1))
-  prefix_shorter (x ∷ xs) (y ∷ ys) (z ∷ zs) p q le =
-      let heads : x ≡ y = cc (p.1, q.1) in
-      let rest = prefix_shorter xs ys zs (p.0, cc (p.1)) (q.0, cc (q.1)) (omega arith) in
-      (rest.0, cc (heads, rest.1))
+  prefix_shorter xs ys zs p q le =
+      let front = sym (take_at xs p.0 (length xs) refl) ∙ ap (take (length xs)) (p.1 ∙ sym q.1) ∙ take-append-le (length xs) ys q.0 le in
+      (drop (length xs) ys, ap (λ w. w ++ drop (length xs) ys) front ∙ take-append-drop (length xs) ys)
 
   -- a beginning as long as the whole is the whole
   pub prefix_whole : (xs ys : List A) → IsPrefix xs ys → length ys ≤ length xs → xs ≡ ys
-  prefix_whole [] [] p le = refl
-  prefix_whole [] (y ∷ ys) p le = absurd (omega arith)
-  prefix_whole (x ∷ xs) [] p le = absurd (cc (p.1))
-  prefix_whole (x ∷ xs) (y ∷ ys) p le =
-      let rest = prefix_whole xs ys (p.0, cc (p.1)) (omega arith) in cc (p.1, rest)
+  prefix_whole xs ys p le =
+      let none = nil_from_length p.0 (omega (arith, length-append xs p.0, ap length p.1)) in sym (append-nil xs) ∙ ap (λ w. xs ++ w) (sym none) ∙ p.1
 
 -- marks take nothing away from what is published
 grows : (marks : List Mark) (s : List Entry × List Entry) → IsPrefix s.0 (fold marked s marks).0

@@ -81,17 +81,11 @@ run_pointers t start (entry ∷ log) end h =
     run_pointers t (record { state = h.0; spent = spent_after start.spent entry.1 }) log end h.2
     ∙ ap (λ row. fold effect row log) (answered t start.state start.spent h.0 entry.0 entry.1 h.1).0
 
-pub run_here : (t : RuleTable) (start : Moment) (log : List Entry) (end : Moment) → Run t start log end → end.state.network.here ≡ fold here_by start.state.network.here log
-run_here t start [] end h = ap (λ m. m.state.network.here) h
-run_here t start (entry ∷ log) end h =
-    let left = answered t start.state start.spent h.0 entry.0 entry.1 h.1 in
-    run_here t (record { state = h.0; spent = spent_after start.spent entry.1 }) log end h.2 ∙ ap (λ here. fold here_by here log) (ap (λ n. n.1) left.1)
-
-pub run_size : (t : RuleTable) (start : Moment) (log : List Entry) (end : Moment) → Run t start log end → end.state.network.size ≡ start.state.network.size
-run_size t start [] end h = ap (λ m. m.state.network.size) h
-run_size t start (entry ∷ log) end h =
-    let left = answered t start.state start.spent h.0 entry.0 entry.1 h.1 in
-    run_size t (record { state = h.0; spent = spent_after start.spent entry.1 }) log end h.2 ∙ ap (λ n. n.0) left.1
+pub run_names : (t : RuleTable) (start : Moment) (log : List Entry) (end : Moment) → Run t start log end → names_of end.state ≡ (start.state.network.size, fold here_by start.state.network.here log)
+run_names t start [] end h = ap (λ m. names_of m.state) h
+run_names t start (entry ∷ log) end h =
+    run_names t (record { state = h.0; spent = spent_after start.spent entry.1 }) log end h.2
+    ∙ ap (λ n. (n.0, fold here_by n.1 log)) (answered t start.state start.spent h.0 entry.0 entry.1 h.1).1
 
 pub run_begins : (t : RuleTable) (start : Moment) (some rest : List Entry) (end : Moment) → Run t start (some ++ rest) end → (middle : Moment) × Run t start some middle
 run_begins t start [] rest end h = (start, refl)

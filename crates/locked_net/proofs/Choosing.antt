@@ -1,5 +1,6 @@
 -- What is told of an event that somebody else chose, and of a call that is not answered.
 use Rattle.std.proofs.Common.{◌≡◌, ◌∷◌, ◌++◌, [], ℕ, Bool, List, Option, None, Some, Result, Ok, Err, IfOk, IfErr, IfSome, OnOk, IsNone, MatchOption, ◌↔◌, ◌+◌, ◌≤◌, length, refl, ap, sym, ◌∙◌, subst, arith}
+use Rattle.std.proofs.lemmas.Result.{IfErr-weaker}
 use Rattle.rule_machine.specs.declared.choice.Item.{Item}
 use Rattle.rule_machine.specs.declared.event.Event.{Event}
 use Rattle.rule_machine.specs.declared.event.Event.TheVariants.{Step}
@@ -69,13 +70,11 @@ keeps_fault t log after old new Same (Ok (Some reply)) free is = record {
 }
 
 pub refuses : {A : Type 0} (setting : Setting) (seen : ℕ) (log : Log) (result : Result A CallFault) → IsLogIn setting log → IfErr result (λ fault. Explains (call_fault seen log) fault) → IfErr result (Refuses setting seen)
-refuses setting seen log (Ok told) own explained = tt
-refuses setting seen log (Err fault) own explained = record { log = log; own = own; explained = explained }
+refuses setting seen log result own = IfErr-weaker result _ (Refuses setting seen) (λ fault explained. record { log = log; own = own; explained = explained })
 
 pub refuses_step : {A : Type 0} (setting : Setting) (seen workers : ℕ) (log : Log) (result : Result A StepFault) → IsLogIn setting log → IfErr result (λ fault. ExplainsStep (call_fault seen log) workers fault)
     → IfErr result (RefusesStep setting seen workers)
-refuses_step setting seen workers log (Ok told) own explained = tt
-refuses_step setting seen workers log (Err fault) own explained = record { log = log; own = own; explained = explained }
+refuses_step setting seen workers log result own = IfErr-weaker result _ (RefusesStep setting seen workers) (λ fault explained. record { log = log; own = own; explained = explained })
 
 -- ---- a checkpoint
 
@@ -84,5 +83,4 @@ holds_all setting seen log (Ok number) own count all = record { log = log; own =
 holds_all setting seen log (Err fault) own count all = tt
 
 pub refuses_checkpoint : (setting : Setting) (seen : ℕ) (log : Log) (result : Result ℕ CallFault) → IsLogIn setting log → IfErr result (λ fault. Explains (checkpoint_fault seen log) fault) → IfErr result (RefusesCheckpoint setting seen)
-refuses_checkpoint setting seen log (Ok number) own explained = tt
-refuses_checkpoint setting seen log (Err fault) own explained = record { log = log; own = own; explained = explained }
+refuses_checkpoint setting seen log result own = IfErr-weaker result _ (RefusesCheckpoint setting seen) (λ fault explained. record { log = log; own = own; explained = explained })

@@ -1,11 +1,12 @@
 -- A daemon's choice among the enabled nodes is accepted as a step.
 -- Each item's node is enabled, hence present with a rule, and has no wish; ascending nodes differ, so none was chosen before; there is an
 -- item, and one alone where the daemon is central. That is all that a step is judged by.
-use Rattle.std.proofs.Common.{◌≡◌, ◌≢◌, ℕ, zero, suc, ◌+◌, ◌<◌, ◌≤◌, Bool, true, false, not, cond, ◌&&◌, ◌||◌, List, [], ◌∷◌, ◌++◌, length, filter, get_or, Option, None, Some, is_some, IsTrue, nat_eq, nat_lt, if◌then◌else◌, refl, sym, ap, ◌∙◌, ⊎_elim, arith}
+use Rattle.std.proofs.Common.{◌≡◌, ℕ, suc, ◌<◌, Bool, true, false, not, ◌&&◌, ◌||◌, List, [], ◌∷◌, ◌++◌, length, get_or, Option, None, Some, is_some, IsTrue, nat_eq, nat_lt, if◌then◌else◌, refl, sym, ap, ◌∙◌, subst, arith}
 use Rattle.std.specs.List.{list_any, range_with_len, AllByRecursion, IsDistinct}
 use Rattle.std.specs.Option.{option_or}
-use Rattle.std.proofs.lemmas.Bool.{cases_eq, eq-eqb, ne_eqb, or_right, true≢false, cond-false}
-use Rattle.std.proofs.lemmas.List.Folds.{list_any-append}
+use Rattle.std.proofs.lemmas.Bool.{eqb-true, ne_eqb, true≢false, cond-false}
+use Rattle.std.proofs.lemmas.List.Elements.{All-filter, filter_passes}
+use Rattle.std.proofs.lemmas.List.Folds.{Any-from_list_any, list_any-append}
 use Rattle.rule_machine.specs.declared.act.Act.{Act}
 use Rattle.rule_machine.specs.declared.choice.Item.{Item}
 use Rattle.rule_machine.specs.declared.refusal.Refusal.TheVariants.{UnknownNode, ChosenTwice, EmptyChoice, NotCentral}
@@ -16,51 +17,28 @@ use Rattle.rule_machine.specs.Refuse.{wish_refusal, rule_refusal, item_refusal, 
 use Rattle.enabled_set.specs.Members.{is_in, members}
 use Rattle.enabled_set.proofs.Members.{inside}
 use Rattle.daemon.specs.Lawful.{nodes_of, IsLawful}
+use Rattle.rule_engine.proofs.Looked.{listed_in}
 use Rattle.step_log.proofs.Rising.{rising_distinct}
 
--- ---- filters of a range
+-- ---- the enabled nodes
 
--- a number of a range that passes is kept
-kept_in : (p : ℕ → Bool) (a n w : ℕ) → p w ≡ true → a ≤ w → w < a + n → list_any (nat_eq w) (filter p (range_with_len a n)) ≡ true
-kept_in p a zero w on low high = absurd (omega arith)
-kept_in p a (suc n) w on low high =
-    ⊎_elim
-    (λ (same : w ≡ a). ap (λ b. list_any (nat_eq w) (cond b (a ∷ filter p (range_with_len (a + 1) n)) (filter p (range_with_len (a + 1) n)))) (ap p (sym same) ∙ on) ∙ ap (λ b. b || list_any (nat_eq w) (filter p (range_with_len (a + 1) n))) (eq-eqb w a same))
-    (λ (apart : w ≢ a). later (p a) (kept_in p (a + 1) n w on (omega arith) (omega arith)))
-    (cases_eq w a)
-  where
-    later : (b : Bool) → list_any (nat_eq w) (filter p (range_with_len (a + 1) n)) ≡ true → list_any (nat_eq w) (cond b (a ∷ filter p (range_with_len (a + 1) n)) (filter p (range_with_len (a + 1) n))) ≡ true
-    later true h = or_right (nat_eq w a) (list_any (nat_eq w) (filter p (range_with_len (a + 1) n))) h
-    later false h = h
+-- each is present, and has a rule
+pub record IsEnabled (t : RuleTable) (s : State) (v : ℕ) : Type 0 where
+  pub has : present s.network v ≡ true
+  pub rule : is_some (rule_at t s v) ≡ true
 
--- what is kept passes, and was there before
-abbrev IsKeptOf : (ℕ → Bool) → List ℕ → ℕ → Type 0
-IsKeptOf p xs w = (p w ≡ true) × (list_any (nat_eq w) xs ≡ true)
+pub enabled_at : (t : RuleTable) (s : State) (k v : ℕ) → k < length (enabled_names t s) → get_or (enabled_names t s) k v ≡ v → IsEnabled t s v
+enabled_at t s k v within is =
+    let rule : ℕ → Bool = λ u. is_some (rule_at t s u) in
+    let has = All-filter rule (λ u. present s.network u ≡ true) (names s.network) (filter_passes (present s.network) (range_with_len 1 s.network.size)) k v within in
+    subst (IsEnabled t s) is (record { has = has; rule = filter_passes rule (names s.network) k v within })
 
-kept_from : (p : ℕ → Bool) (xs : List ℕ) (w : ℕ) → list_any (nat_eq w) (filter p xs) ≡ true → IsKeptOf p xs w
-kept_from p [] w h = absurd (true≢false (sym h))
-kept_from p (x ∷ xs) w h = by_first (p x) refl (kept_from p xs w) h
-  where
-    rest : List ℕ
-    rest = filter p xs
-
-    behind : IsKeptOf p xs w → IsKeptOf p (x ∷ xs) w
-    behind more = (more.0, or_right (nat_eq w x) (list_any (nat_eq w) xs) more.1)
-
-    by_first : (b : Bool) → p x ≡ b → (list_any (nat_eq w) rest ≡ true → IsKeptOf p xs w) → list_any (nat_eq w) (cond b (x ∷ rest) rest) ≡ true → IsKeptOf p (x ∷ xs) w
-    by_first false is later h = behind (later h)
-    by_first true is later h =
-        ⊎_elim
-        (λ (same : w ≡ x). (ap p same ∙ is, ap (λ b. b || list_any (nat_eq w) xs) (eq-eqb w x same)))
-        (λ (apart : w ≢ x). behind (later (ap (λ b. b || list_any (nat_eq w) rest) (sym (ne_eqb w x apart)) ∙ h)))
-        (cases_eq w x)
-
--- a member is an enabled node: it is present, and has a rule
-member_enabled : (t : RuleTable) (s : State) (bits : List Bool) (v : ℕ) → members bits ≡ enabled_names t s → is_in bits v ≡ true → (present s.network v ≡ true) × (is_some (rule_at t s v) ≡ true)
+-- a member is one
+member_enabled : (t : RuleTable) (s : State) (bits : List Bool) (v : ℕ) → members bits ≡ enabled_names t s → is_in bits v ≡ true → IsEnabled t s v
 member_enabled t s bits v same on =
-    let listed = kept_in (is_in bits) 0 (length bits) v on (omega arith) (omega (arith, inside bits v on)) in
-    let kept = kept_from (λ u. is_some (rule_at t s u)) (names s.network) v (ap (list_any (nat_eq v)) (sym same) ∙ listed) in
-    ((kept_from (present s.network) (range_with_len 1 s.network.size) v kept.1).0, kept.0)
+    let listed = listed_in (is_in bits) 0 (length bits) v on (omega arith) (omega (arith, inside bits v on)) in
+    let named = Any-from_list_any (nat_eq v) (enabled_names t s) (ap (list_any (nat_eq v)) (sym same) ∙ listed) in
+    subst (IsEnabled t s) (sym (eqb-true v named.1 named.4)) (enabled_at t s named.0 named.1 named.2 named.3)
 
 -- ---- the items
 
@@ -114,7 +92,7 @@ lawful_taken t s bits items same lawful =
     let each : (k : ℕ) (d : Item) → k < length items → IsFine t s (get_or items k d) = λ k d below. (
     let item : Item = get_or items k d in
     let on = member_enabled t s bits item.node same (lawful.chosen k d below) in
-    record { has = on.0; rule = on.1; free = lawful.no_wish k d below }
+    record { has = on.has; rule = on.rule; free = lawful.no_wish k d below }
     ) in
     let taken : items_refusal t s [] items ≡ None = items_taken t s [] items (all_fine t s items each) (fresh_none (nodes_of items)) (rising_distinct (nodes_of items) lawful.ascending) in
     cond-false (nat_eq (length items) 0) (Some EmptyChoice) (if t.central && nat_lt 1 (length items) then Some NotCentral else items_refusal t s [] items) (ne_eqb (length items) 0 (λ none. omega (arith, none, lawful.some)))

@@ -2,7 +2,7 @@
 use Rattle.std.proofs.Common.{◌≡◌, ℕ, ◌+◌, ◌<◌, ◌≤◌, ◌⊎◌, ⊎_elim, inl, inr, Bool, true, false, ◌&&◌, IsTrue, nat_le, slice_index_or, le-leb, List, [], ◌∷◌, ◌++◌, length, fold, Option, None, Some, IfSome, if◌then◌else◌, nat_lt, refl, sym, ap, ◌∙◌, subst, arith, length-append}
 use Rattle.std.specs.List.{slice_get}
 use Rattle.std.specs.Prelude.{replicate}
-use Rattle.std.proofs.lemmas.Bool.{ltb-true, ltb-false, leb-true}
+use Rattle.std.proofs.lemmas.Bool.{and_from, and_left, and_right, lt-leb, ltb-true, ltb-false}
 use Rattle.std.proofs.lemmas.List.{length-replicate, get_or_append_left}
 use Rattle.std.proofs.lemmas.Option.{same_Some, none-some, slice_get-get_or, slice_get_within, get_or_from_slice_get}
 use mathlib.Core.List.{IsPrefix}
@@ -13,7 +13,7 @@ use Rattle.rule_machine.specs.Run.{Entry, Moment, beginning_with}
 use Rattle.board.specs.Row.{Row, Extent, pointer_in, partner_in, effect, pointers_after, here_after, IsRun}
 use Rattle.board.specs.Sight.{held_in, found_after}
 use Rattle.board.specs.Views.{Name, Reading, Told}
-use Rattle.board.proofs.Machine.{run_pointers, run_here, run_size}
+use Rattle.board.proofs.Machine.{run_names, run_pointers}
 use Rattle.board.proofs.Rows.{effect_length}
 use Rattle.step_log.specs.declared.receipt.Receipt.{Receipt}
 use Rattle.locked_net.specs.Receipts.{ClerkView, IsClerk, IsEntry, NotesLast, StandsLastFrom, StandsLast}
@@ -58,26 +58,13 @@ missing_where row here place true is e = inr (not_held row place (nat_lt place (
 
 is_present : (net : Network) (v : ℕ) → 1 ≤ v → v ≤ net.size → slice_index_or net.here v false ≡ true → present net v ≡ true
 is_present net v low high there =
-    ap (λ b. b && (nat_le v net.size && slice_index_or net.here v false)) (le-leb 1 v low) ∙ ap (λ b. b && slice_index_or net.here v false) (le-leb v net.size high) ∙ there
-
-neither : (a b : Bool) → (a && (b && false)) ≡ false
-neither true true = refl
-neither true false = refl
-neither false b = refl
+    and_from _ _ (le-leb 1 v low) (and_from _ _ (le-leb v net.size high) there)
 
 not_there : (net : Network) (v : ℕ) → slice_index_or net.here v false ≡ false → present net v ≡ false
-not_there net v is = ap (λ b. nat_le 1 v && (nat_le v net.size && b)) is ∙ neither (nat_le 1 v) (nat_le v net.size)
-
-too_great : (low high here : Bool) → high ≡ false → (low && (high && here)) ≡ false
-too_great true high here is = ap (λ b. b && here) is
-too_great false high here is = refl
-
-no_name : (v size : ℕ) (b : Bool) → nat_le v size ≡ b → size < v → nat_le v size ≡ false
-no_name v size true is far = absurd (omega (arith, leb-true v size is, far))
-no_name v size false is far = is
+not_there net v is = and_right (nat_le 1 v) _ (and_right (nat_le v net.size) _ is)
 
 not_named : (net : Network) (v : ℕ) → net.size < v → present net v ≡ false
-not_named net v far = too_great (nat_le 1 v) (nat_le v net.size) (slice_index_or net.here v false) (no_name v net.size (nat_le v net.size) refl far)
+not_named net v far = and_right (nat_le 1 v) _ (and_left (nat_le v net.size) _ (lt-leb v net.size far))
 
 -- ---- the run
 
@@ -94,8 +81,8 @@ shows t extent log P (size, end, is, run) f =
     let at : ℕ → Extent = λ n. record { places = n; present = extent.present } in
     let ends : IsEnd extent log end.state = record {
       pointers = run_pointers t begun log end run ∙ ap (λ n. pointers_after n log) (sym is);
-      here = run_here t begun log end run ∙ ap (λ n. here_after (at n) log) (sym is);
-      size = ap (λ n. n + 1) (run_size t begun log end run) ∙ sym is;
+      here = ap (λ n. n.1) (run_names t begun log end run) ∙ ap (λ n. here_after (at n) log) (sym is);
+      size = ap (λ n. n.0 + 1) (run_names t begun log end run) ∙ sym is;
     } in
     (size, end, is, run, f end.state ends)
 

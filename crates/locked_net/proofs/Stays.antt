@@ -1,8 +1,8 @@
 -- What clerks that roamed turn for turn have, and what is told of their fault.
-use Rattle.std.proofs.Common.{◌≡◌, ◌∙◌, ℕ, zero, suc, ◌+◌, ◌<◌, ◌≤◌, Bool, true, false, List, [], ◌∷◌, ◌++◌, length, take, drop, min, Option, None, Some, if◌then◌else◌, nat_eq, nat_lt, refl, sym, ap, subst, append_assoc, length-append, arith}
+use Rattle.std.proofs.Common.{◌≡◌, ◌∙◌, ℕ, zero, suc, ◌+◌, ◌<◌, ◌≤◌, Bool, true, false, List, [], ◌∷◌, ◌++◌, length, take, drop, min, Option, None, Some, if◌then◌else◌, nat_eq, nat_lt, refl, sym, ap, subst, ⊎_elim, append_assoc, length-append, arith}
 use Rattle.std.specs.List.{All, slice_get}
-use Rattle.std.proofs.lemmas.Bool.{ltb-true}
-use Rattle.std.proofs.lemmas.List.{append-nil}
+use Rattle.std.proofs.lemmas.Bool.{cases_lt, ltb-true}
+use Rattle.std.proofs.lemmas.List.{append-nil, drop_all, drop_at, nil_from_length, take_all, take_at}
 use Rattle.std.proofs.lemmas.Option.{same_Some, none-some}
 use Rattle.std.proofs.lemmas.List.Elements.{All-nil, All-cons, All-append}
 use Rattle.rule_machine.specs.RuleTable.{RuleTable}
@@ -62,20 +62,12 @@ all_roam setting turns (old ∷ olds) (new ∷ news) fault (own, others, is, end
 
 -- a list in two parts, the first of which has n, or fewer and all
 front_part : {X : Type 0} (n : ℕ) (part rest : List X) → length part ≤ n → (length part < n → rest ≡ []) → take n (part ++ rest) ≡ part
-front_part zero [] rest few all = refl
-front_part (suc n) [] rest few all = ap (take (suc n)) (all (omega arith))
-front_part zero (x ∷ part) rest few all = absurd (omega (arith, few))
-front_part (suc n) (x ∷ part) rest few all = ap (λ xs. x ∷ xs) (front_part n part rest (omega (arith, few)) (λ less. all (omega (arith, less))))
+front_part n part rest few all =
+    ⊎_elim (λ (less : length part < n). ap (λ xs. take n (part ++ xs)) (all less) ∙ ap (take n) (append-nil part) ∙ take_all n part few) (λ (full : n ≤ length part). take_at part rest n (omega (arith, few, full))) (cases_lt (length part) n)
 
 back_part : {X : Type 0} (n : ℕ) (part rest : List X) → length part ≤ n → (length part < n → rest ≡ []) → drop n (part ++ rest) ≡ rest
-back_part zero [] rest few all = refl
-back_part (suc n) [] rest few all = let none = all (omega arith) in ap (drop (suc n)) none ∙ sym none
-back_part zero (x ∷ part) rest few all = absurd (omega (arith, few))
-back_part (suc n) (x ∷ part) rest few all = back_part n part rest (omega (arith, few)) (λ less. all (omega (arith, less)))
-
-empty : {X : Type 0} (xs : List X) → length xs ≡ 0 → xs ≡ []
-empty [] none = refl
-empty (x ∷ xs) none = absurd (omega (arith, none))
+back_part n part rest few all =
+    ⊎_elim (λ (less : length part < n). ap (λ xs. drop n (part ++ xs)) (all less) ∙ drop_all n (part ++ []) (omega (arith, few, length-append part [])) ∙ sym (all less)) (λ (full : n ≤ length part). drop_at part rest n (omega (arith, few, full))) (cases_lt (length part) n)
 
 -- the first 64 of a row, or all
 record IsFront (whole part rest : List ClerkView) : Type 0 where
@@ -85,7 +77,7 @@ record IsFront (whole part rest : List ClerkView) : Type 0 where
 front_of_row : (whole part rest : List ClerkView) → whole ≡ part ++ rest → length part ≡ min (length whole) 64 → IsFront whole part rest
 front_of_row whole part rest value size =
     let lengths : length whole ≡ length part + length rest = ap length value ∙ length-append part rest in
-    record { few = omega (arith, size); all = λ less. empty rest (omega (arith, less, size, lengths)) }
+    record { few = omega (arith, size); all = λ less. nil_from_length rest (omega (arith, less, size, lengths)) }
 
 record IsSplit (whole part new rest : List ClerkView) : Type 0 where
   olds : take 64 whole ≡ part

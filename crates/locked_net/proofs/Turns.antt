@@ -1,5 +1,6 @@
 -- A clerk's turns, one after another.
 use Rattle.std.proofs.Common.{◌≡◌, ℕ, List, ◌++◌, None, Result, Ok, Err, OnOk, IfErr}
+use Rattle.std.proofs.lemmas.Result.{IfErr-weaker}
 use Rattle.step_log.specs.declared.receipt.Receipt.{Receipt}
 use Rattle.step_log.specs.Log.{Log}
 use Rattle.locked_net.specs.Receipts.{front_of}
@@ -16,5 +17,4 @@ turn_taken setting turn (Err b) log old new own free added = tt
 
 pub fault_met : {A : Type 0} (setting : Setting) (turn : ℕ) (result : Result A CallFault) (log : Log) (old : List Receipt) → IsLogIn setting log
     → IfErr result (λ fault. FaultInTurn setting.table (front_of old) log turn fault) → IfErr result (λ fault. MeetsFault setting turn old fault)
-fault_met setting turn (Ok a) log old own met = tt
-fault_met setting turn (Err fault) log old own met = record { log = log; own = own; met = met }
+fault_met setting turn result log old own = IfErr-weaker result _ (MeetsFault setting turn old) (λ fault met. record { log = log; own = own; met = met })
