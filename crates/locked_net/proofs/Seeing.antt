@@ -1,5 +1,5 @@
 -- What a look at a board says of the log that the board shows.
-use Rattle.std.proofs.Common.{◌≡◌, ℕ, ◌+◌, ◌<◌, ◌≤◌, ◌⊎◌, ⊎_elim, inl, inr, Bool, true, false, ◌&&◌, IsTrue, nat_le, slice_index_or, le-leb, List, [], ◌∷◌, ◌++◌, length, fold, Option, None, Some, IfSome, if◌then◌else◌, nat_lt, refl, sym, ap, ◌∙◌, subst, arith, length-append}
+use Rattle.std.proofs.Common.{◌≡◌, ℕ, ◌+◌, ◌<◌, ◌≤◌, ◌⊎◌, ⊎_elim, inl, inr, Bool, true, false, IsTrue, nat_le, slice_index_or, le-leb, List, [], ◌∷◌, ◌++◌, length, fold, Option, None, Some, IfSome, if◌then◌else◌, nat_lt, refl, sym, ap, ◌∙◌, subst, arith, length-append}
 use Rattle.std.specs.List.{slice_get}
 use Rattle.std.specs.Prelude.{replicate}
 use Rattle.std.proofs.lemmas.Bool.{and_from, and_left, and_right, lt-leb, ltb-true, ltb-false}
