@@ -22,7 +22,7 @@ there is a library. By a program a network is for one thread. A transcript is ke
 from . import daemons, graphs
 from .audits import audit, epochs
 from .batch import Batch, Pending
-from .errors import Damaged, Ended, Garbled, NoSuchCommand, PastBound, Refused, RudekpiError, WrongChoice
+from .errors import Damaged, Ended, Garbled, Lost, NoSuchCommand, PastBound, Refused, RudekpiError, WrongChoice
 from .network import Network
 from .parts import audit_parts
 from .pieces import Audit
@@ -37,7 +37,7 @@ from .sweeps import sweep
 __version__ = "0.1.0"
 
 __all__ = [
-    "Accepted", "Audit", "Base", "Batch", "Damaged", "Enabled", "Ended", "Epoch", "Fault", "Garbled", "Matching", "Move", "Moves",
+    "Accepted", "Audit", "Base", "Batch", "Damaged", "Enabled", "Ended", "Epoch", "Fault", "Garbled", "Lost", "Matching", "Move", "Moves",
     "Network", "NoSuchCommand", "PastBound", "Pending", "Refused", "Registers", "RudekpiError", "Settled", "Shown", "Status", "Summary", "Turns",
     "Wish", "WrongChoice", "audit", "audit_parts", "daemons", "epochs", "graphs", "longest", "replay", "storm", "sweep",
 ]

@@ -46,6 +46,16 @@ class Slice:
                 at += taken
 
 
+def bytes_of(transcript: Text) -> bytes:
+    """The bytes of a transcript. Raises `TypeError` for what is neither text nor bytes."""
+    if isinstance(transcript, str):
+        return transcript.encode()
+    if not isinstance(transcript, (bytes, bytearray, memoryview)):
+        # `bytes` would make something of a number, and of a path
+        raise TypeError(f"a transcript is text or bytes, and not {transcript!r}; a pathlib.Path is for audit_parts")
+    return bytes(transcript)
+
+
 def audit(transcript: Union[Text, Slice], *, program: Program = None, engine: Optional[str] = None) -> Summary:
     """Judges a transcript: what it has where it is that of a run of the rules; else raises `Damaged`. By an engine as that of a
     `Network`; where there is no memory the library raises `MemoryError`, and the program `Ended`."""
@@ -53,7 +63,7 @@ def audit(transcript: Union[Text, Slice], *, program: Program = None, engine: Op
     if judge:
         if isinstance(transcript, Slice):
             return transcript.audit(judge)
-        return judge.audit_bytes(transcript.encode() if isinstance(transcript, str) else bytes(transcript))
+        return judge.audit_bytes(bytes_of(transcript))
     return summary_read(judged(["audit"], transcript, program))
 
 
@@ -89,7 +99,7 @@ def picture(transcript: Text, entry: Optional[int] = None, *, program: Program =
 
 def judged(words: list[str], transcript: Union[Text, Slice], program: Program) -> str:
     """What the program says of a transcript that it accepts."""
-    given = transcript.encode() if isinstance(transcript, str) else transcript
+    given = transcript if isinstance(transcript, (Slice, bytearray, memoryview)) else bytes_of(transcript)
     return said_by(*fed([found_program(program), *words], given))
 
 

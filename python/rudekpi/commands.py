@@ -8,7 +8,6 @@ import math
 import re
 import statistics
 import sys
-from concurrent.futures import ProcessPoolExecutor
 from typing import Any, Callable, Iterable, Iterator, Optional, Sequence
 
 from . import daemons, json_lines, script_words, shell, sweeps
@@ -77,7 +76,7 @@ def words_of_sweep(parser: argparse.ArgumentParser, rules: str) -> None:
 
 @contextlib.contextmanager
 def executor_of(given: argparse.Namespace) -> Iterator[Any]:
-    """What plays: a cluster, so many processes, or whatever is the default."""
+    """What plays: a cluster, or processes of this machine."""
     if given.dask:
         try:
             import distributed
@@ -85,9 +84,6 @@ def executor_of(given: argparse.Namespace) -> Iterator[Any]:
             raise ImportError("--dask wants distributed, which is not there") from None
         with distributed.Client(given.dask) as client:  # type: ignore[no-untyped-call]
             yield client.get_executor()
-    elif given.processes:
-        with ProcessPoolExecutor(given.processes, initializer=sweeps.ignore_interrupts) as pool:
-            yield pool
     else:
         yield None
 
@@ -107,7 +103,7 @@ def rows_of(given: argparse.Namespace, rows: list[Row], file: Any) -> int:
         from . import plots
         plots.check(given.plot)
     with executor_of(given) as executor:
-        found = sweeps.sweep(*words, executor=executor, program=given.program)
+        found = sweeps.sweep(*words, executor=executor, program=given.program, processes=given.processes)
         written: Iterable[Row] = sweeps.write_csv(found, file) if file else found
         try:
             rows.extend(shown(written, total))

@@ -20,7 +20,7 @@ from __future__ import annotations
 
 import itertools
 from dataclasses import dataclass
-from typing import TYPE_CHECKING, Callable, Union
+from typing import TYPE_CHECKING, Any, Callable, Union, get_args
 
 from . import rules
 from .numbers import MOST_TURNS
@@ -110,6 +110,13 @@ WORDS: dict[str, Callable[[int], AnyDaemon]] = {
     "synchronous": lambda seed: Synchronous(), "least": lambda seed: ByName(), "greatest": lambda seed: ByName(greatest=True),
     "age": lambda seed: ByAge(), "seeded": Seeded, "greedy": lambda seed: Greedy(), "helpful": lambda seed: Greedy(most=True),
 }
+
+
+def check_daemon(daemon: Any) -> None:
+    """Raises `TypeError` for what is no daemon: a word, or one of the types above in the place of what it makes."""
+    is_type = isinstance(daemon, type) and issubclass(daemon, get_args(AnyDaemon))
+    if is_type or not (callable(daemon) or hasattr(daemon, "begin") or isinstance(daemon, Seeded)):
+        raise TypeError(f"{daemon!r} is no daemon: such are ByName(), named('least') and any function from the enabled nodes to those that move")
 
 
 def named(word: str, seed: int = 0) -> AnyDaemon:

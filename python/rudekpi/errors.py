@@ -62,6 +62,10 @@ class Damaged(RudekpiError):
         return cls(int(found[1]), found[2])
 
 
+class Lost(RudekpiError):
+    """Workers died twice over the same part of some work: over experiments of a sweep, or a part of a transcript."""
+
+
 class WrongChoice(RudekpiError):
     """A daemon chose nobody while somebody is enabled, or a node that is not enabled."""
 

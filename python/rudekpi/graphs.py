@@ -34,6 +34,8 @@ class Graph:
 
 def numbered(title: str, count: int, edges: Iterable[tuple[int, int]]) -> Graph:
     """A graph of the nodes 1 to a count."""
+    if count < 0:
+        raise ValueError(f"{title}: no number is below 0")
     return Graph(title, tuple(range(1, count + 1)), tuple(edges))
 
 
@@ -59,6 +61,8 @@ def complete(n: int) -> Graph:
 
 def grid(rows: int, columns: int) -> Graph:
     """Rows of nodes, each linked with the next in its row and in its column."""
+    if min(rows, columns) < 0:
+        raise ValueError(f"grid:{rows}x{columns}: no number is below 0")
     across = [(a, a + 1) for a in range(1, rows * columns) if a % columns]
     down = [(a, a + columns) for a in range(1, (rows - 1) * columns + 1)]
     return numbered(f"grid:{rows}x{columns}", rows * columns, across + down)

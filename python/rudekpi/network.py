@@ -9,7 +9,7 @@ from . import audits, drawings, library
 from .answers import Setting
 from .batch import Batch
 from .choices import Daemon, checked_choice
-from .daemons import AnyDaemon, Seeded
+from .daemons import AnyDaemon, Seeded, check_daemon
 from .direct import Direct
 from .errors import PastBound
 from .names import Names
@@ -69,6 +69,9 @@ class Network:
             self._session.kill()
         else:
             self.close()
+
+    def __reduce__(self) -> Any:
+        raise TypeError("a network belongs to one process and is not copied: replay makes another one of its transcript")
 
     def __repr__(self) -> str:
         session = self._session
@@ -184,10 +187,12 @@ class Network:
         """Lets a daemon choose who moves until nobody is enabled.
 
         The daemon gets the enabled nodes, a mapping from name to rule, and gives back those that move, with a `Wish` where
-        it has one; those of `rudekpi.daemons` are given as they are. Raises `WrongChoice` where it chooses nobody or a node that is not enabled, `Refused` where the network
-        takes the choice otherwise amiss (two nodes under `hh`), and `PastBound` where there are more moves than the charge.
+        it has one; those of `rudekpi.daemons` are given as they are. Raises `TypeError` where it is no daemon,
+        `WrongChoice` where it chooses nobody or a node that is not enabled, `Refused` where the network takes the choice otherwise amiss
+        (two nodes under `hh`), and `PastBound` where there are more moves than the charge.
         The transcript has the `status` asked at first, and an `enabled` in front of each step and at the end.
         """
+        check_daemon(daemon)
         if isinstance(daemon, Seeded):
             return daemon.settle(self)
         choose: Any = daemon.begin(self) if hasattr(daemon, "begin") else daemon

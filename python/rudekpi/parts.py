@@ -2,18 +2,21 @@
 
 from __future__ import annotations
 
+import contextlib
+import functools
 import os
 import re
 import stat
-from concurrent.futures import Executor, ProcessPoolExecutor, ThreadPoolExecutor
-from typing import Iterator, Optional, Union
+from concurrent.futures import Executor, Future, ProcessPoolExecutor, ThreadPoolExecutor
+from typing import Any, Iterator, Optional, Tuple, Union
 
-from .audits import Slice, audit
-from .errors import Damaged
+from .audits import Slice, audit, bytes_of
+from .errors import Damaged, Lost
 from .library import chosen
 from .numbers import MOST_EDGES, MOST_NODES
 from .program import Program
 from .replies import Summary
+from .workers import Handing
 
 HEAD_START = b"\nmatching2 "
 # the first lines of a base, and more bytes than they may have
@@ -23,6 +26,21 @@ HEAD_SIZE = 256
 PIECE = 1 << 18
 # a part has no more of what is left than one of so many parts for each thread, so that the last ones are small and all end together
 PARTS_LEFT = 2
+# where a part begins, and where it ends
+Part = Tuple[int, int]
+# the audit of a part, or None where it is lost
+Verdict = Optional["Future[Summary]"]
+
+
+class LostPart(Lost):
+    """Workers died twice over a part of a transcript, the bytes from `start` to before `end`, which begin with a line's number `line`. All in
+    front of it is accepted."""
+    def __init__(self, start: int, end: int, line: int) -> None:
+        super().__init__(f"no verdict from line {line} on: the workers that judged the bytes {start} to {end} died twice")
+        self.start, self.end, self.line = start, end, line
+
+    def __reduce__(self) -> Any:
+        return type(self), (self.start, self.end, self.line)
 
 
 class Held:
@@ -64,11 +82,12 @@ def audit_parts(
     The executor is any of `concurrent.futures` or a cluster's, whose workers have this package and the program; by default a thread
     for each processor of this machine, each of which waits for an audit. A `pathlib.Path` names a file, which is not read as a whole:
     its bytes go from the file to the program, where workers are threads or processes of this machine, or where it is `shared`: all
-    workers find it by this path. It is not to change meanwhile.
+    workers find it by this path. It is not to change meanwhile. A part of which a cluster loses the verdict, as where its worker dies, is
+    judged once more; where that is lost too, and all in front is accepted, `LostPart` is raised. A pool of processes breaks where one of
+    them dies: that is the caller's, is not replaced, and raises its `BrokenExecutor`.
     """
     if not isinstance(transcript, os.PathLike):
-        text = transcript.encode() if isinstance(transcript, str) else bytes(transcript)
-        return audit_held(Held(text), executor, size, program, engine)
+        return audit_held(Held(bytes_of(transcript)), executor, size, program, engine)
     with open(transcript, "rb", buffering=0) as file:
         if not stat.S_ISREG(os.fstat(file.fileno()).st_mode):
             return audit_held(Held(file.readall()), executor, size, program, engine)
@@ -84,28 +103,37 @@ def audit_held(held: Held, executor: Optional[Executor], size: int, program: Pro
         return verdict_of(held, parts_of(held, size, PARTS_LEFT * workers), threads, program, engine)
 
 
-def verdict_of(held: Held, parts: Iterator[tuple[int, int]], executor: Executor, program: Program, engine: Optional[str]) -> Summary:
+def verdict_of(held: Held, parts: Iterator[Part], executor: Executor, program: Program, engine: Optional[str]) -> Summary:
     """What the parts' verdicts say of the whole."""
-    starts, under_way = [], []
-    for start, end in parts:
-        starts.append(start)
-        under_way.append(executor.submit(audit, held.part(start, end, executor), program=program, engine=engine))
+    judge = functools.partial(audit, program=program, engine=engine)
+    handing: Handing[tuple[int, Part]] = Handing(enumerate(parts), lambda task: (judge, held.part(*task[1], executor)), executor)
     entries = moves = 0
     epochs = 1
-    try:
-        for start, future in zip(starts, under_way):
-            found = future.result()
+    with contextlib.closing(handing.done()) as done:
+        for (start, end), future in in_order(done):
+            if not future:
+                raise LostPart(start, end, held.lines_before(start) + 1)
+            try:
+                found = future.result()
+            except Damaged as damaged:
+                raise Damaged(held.lines_before(start) + damaged.line, damaged.why) from None
             # a part begins within an epoch of the one before it
             entries, moves, epochs = entries + found.entries, moves + found.moves, epochs + found.epochs - 1
-    except Damaged as damaged:
-        raise Damaged(held.lines_before(start) + damaged.line, damaged.why) from None
-    finally:
-        for future in under_way:
-            future.cancel()
     return Summary(entries, epochs, moves)
 
 
-def parts_of(held: Held, size: int, parts_left: int = 0) -> Iterator[tuple[int, int]]:
+def in_order(done: Iterator[tuple[tuple[int, Part], Verdict]]) -> Iterator[tuple[Part, Verdict]]:
+    """Parts with verdicts that come with the numbers 0, 1, 2, .. in any order, in that of their numbers."""
+    held: dict[int, tuple[Part, Verdict]] = {}
+    turn = 0
+    for (number, part), verdict in done:
+        held[number] = part, verdict
+        while turn in held:
+            yield held.pop(turn)
+            turn += 1
+
+
+def parts_of(held: Held, size: int, parts_left: int = 0) -> Iterator[Part]:
     """Where parts begin and end: from a base, or the beginning, to the end of a later base, or of all.
 
     Each has the size or more, and where it is said into about how many parts all that is left shall be divided, as much as that."""

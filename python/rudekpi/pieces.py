@@ -9,7 +9,7 @@ import tempfile
 import threading
 from typing import Any, Optional, Union
 
-from .audits import Text, said_by, send, summary_read
+from .audits import Text, bytes_of, said_by, send, summary_read
 from .library import NO_SESSION, Library, Slot, Verdict, chosen, summary_of
 from .program import Program, found_program
 from .replies import Summary
@@ -40,11 +40,14 @@ class Audit:
     def __exit__(self, *_: Any) -> None:
         self.close()
 
+    def __reduce__(self) -> Any:
+        raise TypeError("an audit belongs to one process and is not copied")
+
     def feed(self, piece: Text) -> None:
         """Feeds it what comes next. Raises `Damaged` where what came is no transcript, whatever comes behind, and so do later calls; the
         program may be seen to say so at a later call, at `finish` at the latest. Raises `MemoryError`, or by a program `Ended`, where
         there is no memory, which ends it."""
-        self._judge.feed(piece.encode() if isinstance(piece, str) else bytes(piece))
+        self._judge.feed(bytes_of(piece))
 
     def finish(self) -> Summary:
         """What the transcript has that it was fed; else raises as `feed` does. It may be asked again, and nothing more can be fed."""

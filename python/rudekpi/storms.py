@@ -29,6 +29,8 @@ def storm(
     """
     if rules not in ("hh", "manne"):
         raise ValueError(f"rules are 'hh' or 'manne', and not {rules!r}")
+    if isinstance(scripts, (str, bytes)):
+        raise TypeError("scripts are a list of scripts, and no text alone")
     count = number_within(nodes, MOST_NODES, "a number of nodes")
     words = ["storm", "--rules", rules, "--nodes", str(count)]
     if present is not None:

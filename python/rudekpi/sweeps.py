@@ -2,35 +2,33 @@
 
 from __future__ import annotations
 
+import contextlib
 import csv
 import itertools
 import os
 import random
-import signal
 import time
-import traceback
 from collections import deque
-from concurrent.futures import FIRST_COMPLETED, BrokenExecutor, CancelledError, Executor, Future, ProcessPoolExecutor, wait
+from concurrent.futures import Executor
 from dataclasses import asdict, astuple, dataclass, fields
 from typing import Any, Callable, Iterable, Iterator, Optional, Sequence, TextIO, Union
 
 from . import daemons
 from .audits import epochs
-from .errors import RudekpiError
+from .errors import Lost, RudekpiError
 from .graphs import Graph
 from .network import Network
 from .numbers import MOST_SEED, MOST_TURNS, number_within
 from .program import Program, found_program
 from .replies import Name
+from .workers import Handing, count_of
 
 REGISTERS = ("any", "pointer", "flag")
-# about how many seconds a task takes, and how many tasks a processor has under way
-TASK_SECONDS, UNDER_WAY = 1.0, 2
-# how many processors an executor is taken to have that does not tell
-MOST_UNKNOWN = 64
+# about how many seconds a task takes
+TASK_SECONDS = 1.0
 
 
-class Lost(RudekpiError):
+class LostExperiments(Lost):
     """Workers died twice over these experiments, all others of a sweep are done."""
     def __init__(self, experiments: list[Experiment]) -> None:
         super().__init__(f"{len(experiments)} experiments are lost, since their workers died twice: {experiments[0].told()}, ..")
@@ -89,6 +87,8 @@ class Experiment:
     program: Program = None
 
     def __post_init__(self) -> None:
+        if not isinstance(self.graph, Graph):
+            raise TypeError(f"{self.graph!r} is no graph: rudekpi.graphs makes them, graph_of of words")
         hit, count = self.disturbance, len(self.graph.nodes)
         if self.rules not in ("hh", "manne"):
             raise ValueError(f"rules are 'hh' or 'manne', and not {self.rules!r}")
@@ -96,6 +96,8 @@ class Experiment:
         number_within(hit.faults, MOST_TURNS, "a number of faults")
         if isinstance(self.daemon, str):
             daemons.named(self.daemon, self.seed)
+        else:
+            daemons.check_daemon(self.daemon)
         if hit.joins + hit.leaves > count:
             raise ValueError(f"{self.graph.title}: {hit} are more than its {count} nodes")
 
@@ -194,104 +196,66 @@ def is_synchronous(daemon: Any) -> bool:
 def sweep(
     graphs: Iterable[Graph], rules: Iterable[str] = ("manne",), daemons: Iterable[Any] = ("seeded",), seeds: Iterable[int] = (0,),
     faults: Iterable[Union[int, Disturbance]] = (0,), *, executor: Optional[Executor] = None, program: Program = None,
+    processes: Optional[int] = None,
 ) -> Iterator[Row]:
     """A row for each graph, rules, daemon, seed and disturbance, in the order in which they are done.
 
     A disturbance is a `Disturbance`, or a number of faults. The executor is any of `concurrent.futures`, or a cluster's
     (`distributed.Client().get_executor()`, `mpi4py.futures`), whose workers have this package and the program; by default
-    processes on all processors of this machine. Experiments are handed out in tasks of about a second. A task whose worker dies is
-    tried once more; where that dies too, the rest is done and `Lost` is raised at the end. An error of an experiment is raised as it
-    is. Where the caller stops, nothing more is handed out.
+    processes of this machine, one a processor or as many as are said. Experiments are handed out in tasks of about a second. A task
+    whose worker dies is tried once more; where that dies too, the rest is done and `LostExperiments` is raised at the end. A pool of
+    processes of the caller's own breaks where one of them dies: it is not replaced, and raises its `BrokenExecutor`. An error of an
+    experiment is raised as it is. Where the caller stops, nothing more is handed out, and processes that were begun here are ended.
     """
-    if executor is None:
-        # built and named once, before any worker looks for it
-        found_program(program)
+    if processes is not None and processes < 1:
+        raise ValueError(f"there is one process or more, and not {processes}")
     todo = experiments_of(graphs, rules, daemons, seeds, faults, program)
-    return Handing(todo, executor).rows()
+    if executor is not None:
+        return rows_of(todo, executor)
+    # built and named once, before any worker looks for it
+    found_program(program)
+    return rows_of(todo, max(1, min(processes or os.cpu_count() or 1, len(todo))))
 
 
-def ignore_interrupts() -> None:
-    """In a worker: Ctrl-C at the terminal is for the process that hands out the work."""
-    signal.signal(signal.SIGINT, signal.SIG_IGN)
+class Tasks:
+    """Experiments in tasks of about a second, as far as the rows so far tell how long one takes, and of no more for a worker than for each."""
 
-
-def is_death(error: BaseException) -> bool:
-    """Whether an error tells that a worker died, here or on a cluster."""
-    if isinstance(error, (BrokenExecutor, CancelledError)) or type(error).__name__ in ("KilledWorker", "CommClosedError"):
-        return True
-    # where a worker dies while its result is handed over, distributed takes the result for an error, and fails in that itself
-    frames = [frame for frame, _ in traceback.walk_tb(error.__traceback__)]
-    return bool(frames) and frames[-1].f_code.co_name == "_cascade_future"
-
-
-class Handing:
-    """The handing out of experiments in tasks."""
-
-    def __init__(self, todo: list[Experiment], executor: Optional[Executor]) -> None:
-        self.todo, self.given = deque([experiment] for experiment in todo), executor
-        # tasks whose worker died, each to be tried once more and alone, and what is lost
-        self.again: deque[list[Experiment]] = deque()
-        self.lost: list[Experiment] = []
-        self.under_way: dict[Future[list[Row]], tuple[list[Experiment], bool]] = {}
+    def __init__(self, todo: Iterable[Experiment], workers: int) -> None:
+        self.todo, self.workers = deque(todo), workers
         self.count, self.seconds = 0, 0.0
-        self.processors = os.cpu_count() or 1 if executor is None else getattr(executor, "_max_workers", MOST_UNKNOWN)
-        self.executor: Executor = executor or self.new_pool()
 
-    def new_pool(self) -> Executor:
-        return ProcessPoolExecutor(self.processors, initializer=ignore_interrupts)
+    def __iter__(self) -> Tasks:
+        return self
 
-    def rows(self) -> Iterator[Row]:
-        try:
-            while self.todo or self.again or self.under_way:
-                self.hand_out()
-                for future in wait(self.under_way, return_when=FIRST_COMPLETED).done:
-                    yield from self.rows_of(future)
-        finally:
-            for future in self.under_way:
-                future.cancel()
-            if self.given is None:
-                # where all is done, no thread of the pool is left behind that a later fork would meet
-                self.executor.shutdown(wait=not self.under_way, cancel_futures=True)
-        if self.lost:
-            raise Lost(self.lost)
-
-    def hand_out(self) -> None:
-        """Keeps as many tasks under way as are wanted; one that is tried once more is alone under way."""
-        if self.again and not self.under_way:
-            self.submit(self.again.popleft(), True)
-        while self.todo and not self.again and len(self.under_way) < UNDER_WAY * self.processors:
-            size = min(self.size(), -(-len(self.todo) // self.processors))
-            self.submit([self.todo.popleft()[0] for _ in range(size)], False)
+    def __next__(self) -> list[Experiment]:
+        if not self.todo:
+            raise StopIteration
+        size = min(self.size(), -(-len(self.todo) // self.workers))
+        return [self.todo.popleft() for _ in range(size)]
 
     def size(self) -> int:
         """How many experiments take about a second."""
         return max(1, int(TASK_SECONDS * self.count / self.seconds)) if self.seconds else 1
 
-    def submit(self, task: list[Experiment], is_second: bool) -> None:
-        try:
-            future = self.executor.submit(run_all, task)
-        except BrokenExecutor:
-            if self.given is not None:
-                raise
-            self.executor = self.new_pool()
-            future = self.executor.submit(run_all, task)
-        self.under_way[future] = (task, is_second)
-
-    def rows_of(self, future: Future[list[Row]]) -> list[Row]:
-        """The rows of a task that is done; none where its worker died."""
-        task, is_second = self.under_way.pop(future)
-        try:
-            rows = future.result()
-        except BaseException as error:
-            if not is_death(error):
-                raise
-            if is_second:
-                self.lost += task
-            else:
-                self.again.append(task)
-            return []
+    def add(self, rows: list[Row]) -> None:
+        """Learns from a task that is done."""
         self.count, self.seconds = self.count + len(rows), self.seconds + sum(row.seconds for row in rows)
-        return rows
+
+
+def rows_of(todo: list[Experiment], given: Union[Executor, int]) -> Iterator[Row]:
+    """The rows of experiments, as they are done by an executor or by so many processes."""
+    tasks, lost = Tasks(todo, count_of(given)), []
+    handing: Handing[list[Experiment]] = Handing(tasks, lambda task: (run_all, task), given)
+    with contextlib.closing(handing.done()) as done:
+        for task, future in done:
+            if not future:
+                lost += task
+                continue
+            rows = future.result()
+            tasks.add(rows)
+            yield from rows
+    if lost:
+        raise LostExperiments(lost)
 
 
 COLUMNS = tuple(it.name for it in fields(Row))

@@ -1,10 +1,15 @@
 """What the tests of the client share: a limit of time, programs of their own, and commands and replies as texts."""
 
+import concurrent.futures
+import contextlib
+import glob
 import os
 import signal
 import stat
+import subprocess
 import sys
 import tempfile
+import time
 import unittest
 from unittest import mock
 
@@ -48,6 +53,70 @@ class Timed(unittest.TestCase):
             file.write(first + text)
         os.chmod(path, os.stat(path).st_mode | stat.S_IXUSR)
         return path
+
+    def expect_end_by_interrupt(self, script, marks, count):
+        """Runs a script in Python until it has made so many files of such names; Ctrl-C, as a terminal sends it to all its processes, then ends
+        them all. What it told on standard error."""
+        folder = self.folder()
+        with open(os.path.join(folder, "script.py"), "w") as file:
+            file.write(script)
+        paths = dict(os.environ, PYTHONPATH=os.path.join(TOP, "python"))
+        run = subprocess.Popen([sys.executable, file.name], env=paths, cwd=folder, stderr=subprocess.PIPE, start_new_session=True)
+        self.addCleanup(run.stderr.close)
+        self.addCleanup(end_group, run.pid)
+        while run.poll() is None and len(glob.glob(os.path.join(folder, marks))) < count:
+            time.sleep(0.01)
+        if run.poll() is None:
+            os.killpg(run.pid, signal.SIGINT)
+        said = run.communicate()[1].decode()
+        # what multiprocessing itself has begun ends a moment behind its process; else this test ends by its time
+        while is_group(run.pid):
+            time.sleep(0.01)
+        return said
+
+
+def is_group(group):
+    """Whether there is a process of this group."""
+    try:
+        os.killpg(group, 0)
+    except ProcessLookupError:
+        return False
+    return True
+
+
+def end_group(group):
+    with contextlib.suppress(ProcessLookupError):
+        os.killpg(group, signal.SIGKILL)
+
+
+class Losing(concurrent.futures.Executor):
+    """Does each task at once, and loses those results of which the numbers are among the ones that are said, as distributed does where a
+    worker dies while it hands a result over."""
+
+    def __init__(self, lost=(1,)):
+        self.asked, self.lost = 0, lost
+
+    def submit(self, task, *words):
+        future = concurrent.futures.Future()
+
+        def _cascade_future(result):
+            try:
+                kind, error, trace = result
+                raise error.with_traceback(trace)
+            except Exception as error:
+                return future.set_exception(error)
+
+        self.asked += 1
+        try:
+            result = task(*words)
+        except Exception as error:
+            future.set_exception(error)
+            return future
+        if self.asked in self.lost:
+            _cascade_future(result)
+        else:
+            future.set_result(result)
+        return future
 
 
 def has_ended(net):

@@ -11,7 +11,7 @@ import sys
 import time
 import unittest
 
-from rudekpi import Network, audit, graphs
+from rudekpi import Damaged, Network, audit, graphs
 from rudekpi.parts import audit_parts
 from rudekpi.sweeps import sweep
 from support import TOP, Timed
@@ -85,6 +85,18 @@ class Cluster(Timed):
             self.assertEqual(audit_parts(path, executor, size=500, shared=shared), audit(text))
         os.kill(self.workers[1].pid, signal.SIGKILL)
         self.assertEqual(audit_parts(text, executor, size=500), audit(text))
+
+    def test_a_file_that_has_changed_is_judged_again(self):
+        # distributed gives what is called with the same words the answer that it has, while somebody holds that
+        path, executor = pathlib.Path(self.folder(), "transcript"), self.client.get_executor()
+        path.write_text("matching hh 2\n1 link 1 2 = no\n")
+        try:
+            audit_parts(path, executor, shared=True)
+        except Damaged as error:
+            held = error
+        path.write_text("matching hh 2\n1 link 1 2 = ok\n")
+        self.assertEqual(audit_parts(path, executor, shared=True).entries, 1)
+        self.assertEqual(held.line, 2)
 
     def test_by_the_command_line(self):
         import json

@@ -47,6 +47,9 @@ class Made(Timed):
         for words in ("ring:2", "ring:x", "ring:", "regular:5,3", "regular:4,4", "grid:3x4x5", "gnp:3", "path:65536", "path:70000"):
             with self.subTest(words), self.assertRaises(ValueError):
                 graphs.graph_of(words)
+        for make, numbers in ((graphs.path, [-1]), (graphs.star, [-1]), (graphs.complete, [-2]), (graphs.grid, [-2, -3]), (graphs.unit_disk, [-1, 1])):
+            with self.subTest(make=make.__name__):
+                self.assertRaisesRegex(ValueError, "below 0", make, *numbers)
         for nodes, edges in [((1, 2), ((1, 1),)), ((1, 2), ((1, 3),)), ((1, 2), ((1, 2), (2, 1))), ((1, 1), ())]:
             with self.subTest(edges), self.assertRaises(ValueError):
                 graphs.Graph("none", nodes, edges)

@@ -3,15 +3,17 @@
 import concurrent.futures
 import os
 import pathlib
+import pickle
 import random
+import signal
 import threading
 import unittest
 import unittest.mock
 
-from rudekpi import Damaged, Network, audit, parts
+from rudekpi import Damaged, Lost, Network, audit, parts
 from rudekpi.audits import Slice
-from rudekpi.parts import Held, audit_parts
-from support import Timed
+from rudekpi.parts import Held, LostPart, audit_parts
+from support import Losing, Timed
 
 
 def transcript(seed, turns=12, nodes=12):
@@ -34,6 +36,10 @@ def verdict(judge, *words, **more):
         return judge(*words, **more)
     except Damaged as damaged:
         return damaged.line, damaged.why
+
+
+def dies(transcript, **words):
+    os.kill(os.getpid(), signal.SIGKILL)
 
 
 class Parts(Timed):
@@ -136,6 +142,81 @@ class Parts(Timed):
         writer.start()
         self.addCleanup(writer.join)
         self.assertEqual(audit_parts(path, size=500), audit(text))
+
+
+class Deaths(Timed):
+    """Parts whose workers die, or whose verdicts are lost."""
+    seconds = 120
+
+    def in_parts(self, count):
+        """A transcript, and where its parts begin and end."""
+        text = transcript(7, turns=count - 1).encode()
+        found = list(parts.parts_of(Held(text), 1))
+        self.assertEqual(len(found), count)
+        return text, found
+
+    def test_verdicts_that_a_cluster_loses(self):
+        for count in (3, 64):
+            text, _ = self.in_parts(count)
+            path = pathlib.Path(self.folder(), "transcript")
+            path.write_bytes(text)
+            for lost in ((1,), (count,), (1, 2, count), range(1, count + 1)):
+                for given in (text, path):
+                    with self.subTest(count=count, lost=lost, given=type(given)):
+                        executor = Losing(lost)
+                        self.assertEqual(audit_parts(given, executor, size=1), audit(text))
+                        self.assertEqual(executor.asked, count + len(lost))
+            damaged = text[:-2] + b"?\n"
+            self.assertEqual(verdict(audit_parts, damaged, Losing((1, 2)), size=1), verdict(audit, damaged))
+
+    def test_a_verdict_that_is_lost_twice(self):
+        for count, at in ((3, 0), (3, 1), (64, 40)):
+            text, found = self.in_parts(count)
+            # at first all of them are handed out, in their order
+            with self.subTest(count=count, at=at), self.assertRaises(Lost) as caught:
+                audit_parts(text, Losing((at + 1, count + 1)), size=1)
+            lost, line = caught.exception, text[: found[at][0]].count(b"\n") + 1
+            self.assertEqual((lost.start, lost.end, lost.line), (*found[at], line))
+            self.assertIn(f"no verdict from line {line} on", str(lost))
+            again = pickle.loads(pickle.dumps(lost))
+            self.assertEqual((type(again), vars(again), str(again)), (LostPart, vars(lost), str(lost)))
+
+    def test_the_first_that_is_wrong_is_told(self):
+        text, found = self.in_parts(64)
+        # another last figure in the last line of a part, in front of the next one's base
+        damaged = {at: text[: found[at + 1][0] - 2] + b"?" + text[found[at + 1][0] - 1 :] for at in (10, 30)}
+        twice = (20 + 1, 64 + 1)
+        self.assertEqual(verdict(audit_parts, damaged[10], Losing(twice), size=1), verdict(audit, damaged[10]))
+        with self.assertRaises(LostPart) as caught:
+            audit_parts(damaged[30], Losing(twice), size=1)
+        self.assertEqual(caught.exception.start, found[20][0])
+
+    def test_a_pool_that_breaks_is_the_callers(self):
+        text, _ = self.in_parts(3)
+        with unittest.mock.patch.object(parts, "audit", dies), concurrent.futures.ProcessPoolExecutor(2) as pool:
+            self.assertRaises(concurrent.futures.BrokenExecutor, audit_parts, text, pool, size=1)
+
+    def test_an_error_of_an_audit_is_no_death(self):
+        text, _ = self.in_parts(3)
+        executor = Losing(())
+        with unittest.mock.patch.object(parts, "audit", side_effect=MemoryError("of the audit")):
+            self.assertRaisesRegex(MemoryError, "of the audit", audit_parts, text, executor, size=1)
+        self.assertEqual(executor.asked, 3)
+
+    def test_what_is_under_way_is_bounded(self):
+        text, _ = self.in_parts(64)
+        made, most = [], [0]
+
+        class Counting(concurrent.futures.ThreadPoolExecutor):
+            def submit(self, *words):
+                made.append(super().submit(*words))
+                most[0] = max(most[0], sum(not future.done() for future in made))
+                return made[-1]
+
+        with Counting(2) as executor:
+            self.assertEqual(audit_parts(text, executor, size=1), audit(text))
+        self.assertEqual(len(made), 64)
+        self.assertLessEqual(most[0], 4)
 
 
 if __name__ == "__main__":

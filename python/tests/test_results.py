@@ -12,7 +12,7 @@ import random
 import subprocess
 import unittest
 
-from rudekpi import Damaged, Ended, Network, Registers, WrongChoice, audit, epochs, replay, storm
+from rudekpi import Audit, Damaged, Ended, Network, Registers, WrongChoice, audit, audit_parts, daemons, epochs, replay, storm
 from support import Timed, told
 
 PAIR = "matching hh 2\n1 link 1 2 = ok\n2 step 1 = 1:seduce>2\n3 step 2 = 2:marry>1\n4 matching = 1-2\n"
@@ -59,6 +59,37 @@ class Results(Timed):
         with self.assertRaises(Damaged) as caught:
             audit(b"\xff\n")
         self.assertEqual((caught.exception.line, caught.exception.why), (1, "bad header"))
+
+
+class WrongWords(Timed):
+    def test_what_is_no_transcript(self):
+        for wrong in (3, None, [109], pathlib.Path(os.devnull)):
+            with self.subTest(wrong):
+                for judge in (audit, epochs, replay):
+                    self.assertRaisesRegex(TypeError, "a transcript is text or bytes", judge, wrong)
+                with Audit() as judge:
+                    self.assertRaisesRegex(TypeError, "a transcript is text or bytes", judge.feed, wrong)
+        for wrong in (3, None, [109]):
+            self.assertRaisesRegex(TypeError, "a transcript is text or bytes", audit_parts, wrong)
+        for kind in (bytes, bytearray, memoryview):
+            self.assertEqual(audit(kind(b"matching hh 2\n")), audit("matching hh 2\n"))
+
+    def test_what_is_no_daemon(self):
+        with Network("hh", 2) as net:
+            for wrong in (None, "least", 3, daemons.ByName, daemons.Seeded):
+                with self.subTest(wrong):
+                    self.assertRaisesRegex(TypeError, "is no daemon", net.settle, wrong)
+            self.assertEqual(net.status().entry, 1, "nothing was asked")
+
+    def test_a_network_is_not_copied(self):
+        with Network("hh", 2) as net, Audit() as judge:
+            for take in (pickle.dumps, copy.copy, copy.deepcopy):
+                self.assertRaisesRegex(TypeError, "belongs to one process", take, net)
+                self.assertRaisesRegex(TypeError, "belongs to one process", take, judge)
+            self.assertEqual(net.status().nodes, 2)
+
+    def test_a_storm_of_one_text(self):
+        self.assertRaisesRegex(TypeError, "a list of scripts", storm, "link 1 2\n", nodes=2)
 
 
 class Questions(Timed):

@@ -3,13 +3,16 @@
 import collections
 import concurrent.futures
 import io
+import multiprocessing
 import os
 import signal
+import time
 import unittest
+import unittest.mock
 
-from rudekpi import Network, WrongChoice, audits, daemons, graphs, sweeps
+from rudekpi import Lost, Network, WrongChoice, audits, daemons, graphs, sweeps, workers
 from rudekpi.sweeps import Disturbance, sweep
-from support import Timed
+from support import Losing, Timed
 
 try:
     import pandas
@@ -43,6 +46,21 @@ def dies_once(enabled):
 
 def dies(enabled):
     os.kill(os.getpid(), signal.SIGKILL)
+
+
+ENDLESS = """
+import os
+import time
+from rudekpi import graphs, sweep
+
+def daemon(enabled):
+    open(f"plays-{os.getpid()}", "w").close()
+    while True:
+        time.sleep(60)
+
+if __name__ == "__main__":
+    list(sweep([graphs.ring(5)], ["hh"], [daemon], range(9), processes=PROCESSES))
+"""
 
 
 class Rows(Timed):
@@ -95,10 +113,13 @@ class Rows(Timed):
     def test_experiments_that_are_none_are_raised_at_once(self):
         for words in [
             dict(daemons=["fair"]), dict(rules=["x"]), dict(seeds=[-1]), dict(seeds=[2**64]), dict(faults=[1_000_001]),
-            dict(faults=[Disturbance(joins=3, leaves=len(RING.nodes))]),
+            dict(faults=[Disturbance(joins=3, leaves=len(RING.nodes))]), dict(processes=0),
         ]:
             with self.subTest(words):
                 self.assertRaises(ValueError, sweep, [RING], **words)
+        for words in [dict(graphs=["ring:5"]), dict(graphs="ring:5"), dict(graphs=[RING], daemons=[daemons.ByName]), dict(graphs=[RING], daemons=[None])]:
+            with self.subTest(words):
+                self.assertRaises(TypeError, sweep, **words)
         left = sweeps.experiments_of([RING], ["hh", "manne"], ["seeded", "synchronous"], [0], [Disturbance(1, "flag"), Disturbance(1)])
         self.assertEqual([(it.rules, it.daemon, it.disturbance.registers) for it in left], [
             ("hh", "seeded", "any"), ("manne", "seeded", "flag"), ("manne", "seeded", "any"), ("manne", "synchronous", "flag"), ("manne", "synchronous", "any"),
@@ -121,29 +142,7 @@ class Rows(Timed):
         self.assertEqual(list(frame["moves"]), [row.moves for row in made])
 
 
-class Losing(concurrent.futures.Executor):
-    """Does each task at once, and loses the first result as distributed does where a worker dies while it hands that over."""
-
-    def __init__(self):
-        self.asked = 0
-
-    def submit(self, task, *words):
-        future = concurrent.futures.Future()
-
-        def _cascade_future(result):
-            self.asked += 1
-            if self.asked > 1:
-                return future.set_result(result)
-            try:
-                kind, error, trace = result
-            except ValueError as error:
-                return future.set_exception(error)
-
-        _cascade_future(task(*words))
-        return future
-
-
-class Failing(Losing):
+class Failing(concurrent.futures.Executor):
     def submit(self, task, *words):
         future = concurrent.futures.Future()
         try:
@@ -160,6 +159,11 @@ class Workers(Timed):
         self.assertEqual(sorted(row.seed for row in made), [0, 1])
         self.assertEqual(executor.asked, 3)
 
+    def test_results_that_are_lost_again_and_again(self):
+        with self.assertRaisesRegex(Lost, "2 experiments are lost") as caught:
+            list(sweep([RING], ["hh"], ["seeded"], range(2), executor=Losing(range(99))))
+        self.assertEqual(sorted(it.seed for it in caught.exception.experiments), [0, 1])
+
     def test_an_error_of_the_task_is_no_death(self):
         self.assertRaisesRegex(ValueError, "of the task", list, sweep([RING], ["hh"], ["seeded"], range(2), executor=Failing()))
 
@@ -170,9 +174,13 @@ class Workers(Timed):
         self.assertTrue(os.path.exists(os.environ["RUDEKPI_TEST_DEATH"]))
         self.assertEqual(collections.Counter(row.daemon for row in made), {"seeded": 12, "dies_once": 12})
 
+    def test_a_pool_of_the_callers_own_that_breaks_is_not_replaced(self):
+        with concurrent.futures.ProcessPoolExecutor(2) as executor:
+            self.assertRaises(concurrent.futures.BrokenExecutor, list, sweep([RING], ["hh"], ["seeded", dies], range(12), executor=executor))
+
     def test_a_task_of_which_the_workers_die_twice_is_lost_alone(self):
         made = []
-        with self.assertRaisesRegex(sweeps.Lost, "1 experiments are lost.*dies seed 0") as caught:
+        with self.assertRaisesRegex(sweeps.LostExperiments, "1 experiments are lost.*dies seed 0") as caught:
             for row in sweep([RING], ["hh"], [dies, "seeded", "least"], range(1)):
                 made.append(row)
         self.assertEqual(sorted(row.daemon for row in made), ["least", "seeded"])
@@ -188,14 +196,42 @@ class Workers(Timed):
         self.assertGreaterEqual(len(made), 5)
         self.assertLess(len(made), 500)
 
+    def test_an_interrupt_ends_experiments_that_take_long(self):
+        for processes, count in ((None, min(os.cpu_count(), 9)), (2, 2)):
+            with self.subTest(processes=processes):
+                # where all of them play, none is still beginning, which Ctrl-C would end with words of its own
+                said = self.expect_end_by_interrupt(ENDLESS.replace("PROCESSES", str(processes)), "plays-*", count)
+                self.assertEqual((said.splitlines()[-1], said.count("Traceback")), ("KeyboardInterrupt", 1), said)
+
+    def test_a_caller_who_stops_leaves_no_process(self):
+        rows = sweep([RING], ["hh"], ["least"], range(500))
+        self.assertEqual(next(rows).graph, "ring:12")
+        self.assertNotEqual(multiprocessing.active_children(), [])
+        rows.close()
+        self.expect_no_process()
+        self.assertRaises(WrongChoice, list, sweep([RING], ["hh"], ["least", wrong], range(50)))
+        self.expect_no_process()
+
+    def expect_no_process(self):
+        # from Python 3.14 on nobody waits for what is killed; where it does not end, this test ends by its time
+        while multiprocessing.active_children():
+            time.sleep(0.01)
+
+    def test_no_more_processes_than_experiments(self):
+        with unittest.mock.patch.object(workers, "ProcessPoolExecutor", wraps=workers.ProcessPoolExecutor) as made:
+            self.assertEqual(len(list(sweep([RING], ["hh"], ["least"], range(2), processes=1000))), 2)
+        self.assertEqual(made.call_args.args, (2,))
+
     def test_tasks_take_about_a_second(self):
-        handing = sweeps.Handing([], None)
-        self.addCleanup(handing.executor.shutdown)
-        self.assertEqual(handing.size(), 1)
-        handing.count, handing.seconds = 100, 2.0
-        self.assertEqual(handing.size(), 50)
-        handing.count, handing.seconds = 3, 20.0
-        self.assertEqual(handing.size(), 1)
+        tasks = sweeps.Tasks(range(1000), 4)
+        self.assertEqual(tasks.size(), 1)
+        tasks.count, tasks.seconds = 100, 2.0
+        self.assertEqual(tasks.size(), 50)
+        self.assertEqual(next(tasks), list(range(50)))
+        tasks.count, tasks.seconds = 3, 20.0
+        self.assertEqual(tasks.size(), 1)
+        tasks.count, tasks.seconds = 1000, 1.0
+        self.assertEqual(len(next(tasks)), 238, "what is left is for all four")
 
 
 if __name__ == "__main__":

@@ -1,0 +1,148 @@
+"""Tasks that are handed out: workers that die, a stop in the middle, and pools of the caller's own."""
+
+import concurrent.futures
+import multiprocessing
+import os
+import signal
+import threading
+import time
+import types
+import unittest
+import unittest.mock
+from concurrent.futures.process import BrokenProcessPool
+
+from rudekpi import workers
+from rudekpi.workers import Handing
+from support import Timed
+
+# more than a pipe holds: what is sent of it to a worker that dies stays there
+MUCH = bytes(1 << 20)
+
+
+def given_back(number, much):
+    return number
+
+
+def dies_once(number, much, mark):
+    """Kills its process where it makes the file."""
+    try:
+        os.close(os.open(mark, os.O_CREAT | os.O_EXCL))
+    except FileExistsError:
+        return number
+    os.kill(os.getpid(), signal.SIGKILL)
+
+
+def dies(number, much):
+    os.kill(os.getpid(), signal.SIGKILL)
+
+
+def never_ends(number, much):
+    while True:
+        time.sleep(60)
+
+
+def ended(handing):
+    """The tasks of which there is a result, with it, and those that are lost."""
+    results, lost = {}, []
+    for task, future in handing.done():
+        if future:
+            results[task] = future.result()
+        else:
+            lost.append(task)
+    return results, lost
+
+
+class OnlyPublic:
+    """A pool of a later Python, of which nothing but what is public is known."""
+
+    def __init__(self):
+        self.asked = []
+
+    def shutdown(self, wait=True, *, cancel_futures=False):
+        self.asked.append(("shutdown", wait, cancel_futures))
+
+
+class KillsWorkers(OnlyPublic):
+    def kill_workers(self):
+        self.asked.append("kill_workers")
+
+
+class Pools(Timed):
+    """Processes that are begun for the tasks."""
+    seconds = 120
+    engines = ("program",)
+
+    def setUp(self):
+        super().setUp()
+        self.threads = threading.active_count()
+
+    def expect_nothing_left(self):
+        # from Python 3.14 on nobody waits for what is killed; where it does not end, this test ends by its time
+        while multiprocessing.active_children() or threading.active_count() > self.threads:
+            time.sleep(0.01)
+
+    def test_a_task_whose_worker_dies_is_tried_again(self):
+        for count in (1, 3):
+            with self.subTest(count=count):
+                mark = os.path.join(self.folder(), "died")
+                handing = Handing(iter(range(9)), lambda task: (dies_once, task, MUCH, mark) if task == 4 else (given_back, task, MUCH), count)
+                self.assertEqual(ended(handing), ({task: task for task in range(9)}, []))
+                self.assertTrue(os.path.exists(mark))
+                self.expect_nothing_left()
+
+    def test_a_task_whose_workers_die_twice_is_lost_alone(self):
+        for lost in ([0], [8], [2, 5]):
+            with self.subTest(lost=lost):
+                handing = Handing(iter(range(9)), lambda task: (dies if task in lost else given_back, task, MUCH), 2)
+                results, found = ended(handing)
+                self.assertEqual((results, sorted(found)), ({task: task for task in range(9) if task not in lost}, lost))
+                self.expect_nothing_left()
+
+    def test_a_stop_in_the_middle_ends_all_at_once(self):
+        for count in (1, 3):
+            with self.subTest(count=count):
+                handing = Handing(iter(range(99)), lambda task: (never_ends if task else given_back, task, MUCH), count)
+                done = handing.done()
+                self.assertEqual(next(done)[0], 0)
+                done.close()
+                self.expect_nothing_left()
+
+    def test_of_a_later_python_only_what_is_public_is_asked(self):
+        with unittest.mock.patch.object(workers, "sys", types.SimpleNamespace(version_info=(3, 15, 0))):
+            for pool, first in ((KillsWorkers(), ["kill_workers"]), (OnlyPublic(), [])):
+                workers.end_at_once(pool)
+                self.assertEqual(pool.asked, [*first, ("shutdown", True, True)])
+
+
+class Given(Timed):
+    """Executors of the caller's own."""
+    engines = ("program",)
+
+    def test_a_pool_that_breaks_is_not_replaced(self):
+        with concurrent.futures.ProcessPoolExecutor(2) as pool:
+            handing = Handing(iter(range(9)), lambda task: (dies if task == 3 else given_back, task, b""), pool)
+            self.assertRaises(BrokenProcessPool, ended, handing)
+            self.assertIs(handing.executor, pool)
+
+    def test_what_is_under_way_is_taken_back_and_no_more(self):
+        begun, may_end = threading.Event(), threading.Event()
+        self.addCleanup(may_end.set)
+
+        def waits():
+            begun.set()
+            may_end.wait()
+            return "ended"
+
+        with unittest.mock.patch.object(workers, "UNDER_WAY", 3), concurrent.futures.ThreadPoolExecutor(1) as pool:
+            handing = Handing(iter(range(9)), lambda task: (waits,) if task else (int,), pool)
+            done = handing.done()
+            self.assertEqual(next(done)[0], 0)
+            begun.wait()
+            done.close()
+            may_end.set()
+            self.assertEqual({task: future.cancelled() for future, (task, _) in handing.under_way.items()}, {1: False, 2: True})
+            self.assertEqual(pool.submit(int).result(), 0, "the pool takes more")
+
+
+if __name__ == "__main__":
+    unittest.main()
