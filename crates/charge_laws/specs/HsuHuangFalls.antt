@@ -22,13 +22,13 @@ use Rattle.charge_laws.specs.HsuHuangTurns.{SoloTurn, takes, courts, leaves, IsS
 -- ---- the step in pointers
 
 -- one move is of one node
-one_mover : (moves : List Moved) → length moves ≡ 1 → (x : ℕ) × ((v : ℕ) → IsTrue (is_moved moves v) → v ≡ x) × IsTrue (is_moved moves x)
+pub one_mover : (moves : List Moved) → length moves ≡ 1 → (x : ℕ) × ((v : ℕ) → IsTrue (is_moved moves v) → v ≡ x) × IsTrue (is_moved moves x)
 one_mover [] e = absurd (omega (arith, e))
 one_mover (m ∷ []) e =
     (m.node, λ v h. ⊎_elim (λ same. sym (eqb-true m.node v same)) (λ none. absurd (true≢false (sym none))) (or_cases (nat_eq m.node v) false h), or_left (nat_eq m.node m.node) false (eq-eqb m.node m.node refl))
 one_mover (m ∷ n ∷ moves) e = absurd (omega (arith, e))
 
-solo_from : (s s' : State) (moves : List Moved) (x : ℕ) → IsState s → IsDone hsu_huang s s' moves → ((v : ℕ) → IsTrue (is_moved moves v) → v ≡ x) → IsTrue (is_moved moves x) → IsSolo (pointer s) (pointer s') x
+pub solo_from : (s s' : State) (moves : List Moved) (x : ℕ) → IsState s → IsDone hsu_huang s s' moves → ((v : ℕ) → IsTrue (is_moved moves v) → v ≡ x) → IsTrue (is_moved moves x) → IsSolo (pointer s) (pointer s') x
 solo_from s s' moves x good done only here = record { others = λ v apart. other v apart (done.deeds v); turn = own (done.deeds x) }
   where
     other : (v : ℕ) → (v ≡ x → ⊥) → Deed hsu_huang s s' moves v → pointer s' v ≡ pointer s v

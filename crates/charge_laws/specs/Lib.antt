@@ -33,3 +33,5 @@ pub mod CostsOfRuns
 pub mod Present
 pub mod ManneCosts
 pub mod ManneStableCharge
+pub mod Silent
+pub mod LeastCharge

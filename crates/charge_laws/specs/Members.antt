@@ -16,7 +16,7 @@ in_range : (a n v : ℕ) → a ≤ v → v < a + n → IsIn v (range_with_len a 
 in_range a zero v low high = absurd (omega arith)
 in_range a (suc n) v low high = ⊎_elim (λ same. inl same) (λ apart. inr (in_range (a + 1) n v (omega arith) (omega arith))) (cases_eq a v)
 
-range_bounds : (a n v : ℕ) → IsIn v (range_with_len a n) → (a ≤ v) × (v < a + n)
+pub range_bounds : (a n v : ℕ) → IsIn v (range_with_len a n) → (a ≤ v) × (v < a + n)
 range_bounds a zero v h = absurd h
 range_bounds a (suc n) v (inl same) = (omega arith, omega arith)
 range_bounds a (suc n) v (inr there) = let rest = range_bounds (a + 1) n v there in (omega arith, omega arith)

@@ -17,7 +17,7 @@ use Rattle.charge_laws.specs.HsuHuangTurns.{IsClosed, low_paired, high_paired, l
 use Rattle.charge_laws.specs.HsuHuangFalls.{closed_is}
 
 -- with no unanswered pointer among the names there is none
-all_answered : (s : State) → IsState s → count_by (is_unanswered s) (names s.network) ≡ 0 → (v w : ℕ) → pointer s v ≡ Some w → pointer s w ≡ Some v
+pub all_answered : (s : State) → IsState s → count_by (is_unanswered s) (names s.network) ≡ 0 → (v w : ℕ) → pointer s v ≡ Some w → pointer s w ≡ Some v
 all_answered s good none v w e = by_stance (standing (pointer s) v)
   where
     answered : is_waiting (stance (pointer s) v) ≡ false

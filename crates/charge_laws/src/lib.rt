@@ -14,6 +14,7 @@
 
 mod cost;
 mod law;
+mod silence;
 
 pub use cost::{
     disturbances_cost, disturbed_moves_are_paid, one_disturbance_pays, stable_charge,
@@ -22,4 +23,7 @@ pub use cost::{
 pub use law::{
     enough_moves_give_half, enough_moves_settle, enough_steps_settle, epochs_are_bounded,
     moves_are_bounded, moves_are_paid, runs_may_begin, runs_may_go_on, spending_is_bounded,
+};
+pub use silence::{
+    fewer_moves_settle, least_charge_is_stable, long_runs_end_silent, silence_lasts,
 };

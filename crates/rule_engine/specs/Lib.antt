@@ -6,3 +6,4 @@ pub mod Refused
 pub mod Applied
 pub mod Prepared
 pub mod Costs
+pub mod Reached

@@ -37,7 +37,7 @@ impl<R: Rules> Touched for TouchedNodes<'_, R> {
 }
 
 /// Whether an event is a disturbance that is not refused.
-fn is_disturbance<R: Rules>(state: &IndexedState<R>, event: &Event) -> bool
+pub(crate) fn is_disturbance<R: Rules>(state: &IndexedState<R>, event: &Event) -> bool
     ensures { result ≡ disturbs R.table state.now.state event.now }
 {
     let store = state.store();

@@ -17,11 +17,14 @@ ghost use Rattle.rule_machine.specs.declared.reply.Reply.TheVariants.{Accepted};
 ghost use Rattle.rule_engine.specs.Kept.{guard_at, IsAnswered};
 ghost use Rattle.rule_engine.specs.Applied.{Prepares, told};
 ghost use Rattle.rule_engine.specs.Costs.{cost_of};
+ghost use Rattle.rule_engine.specs.Reached.{would_reach};
+ghost use Rattle.containment_laws.specs.Rest.{is_at_rest};
 ghost use Rattle.rule_engine.specs.Prepared.{HasRoomTo};
 ghost use Rattle.rule_engine.specs.Choosing.{verdict_of, verdicts_of};
 
 use crate::charge::totals_of;
 use crate::cost::cost_of;
+use crate::reach::would_reach;
 use crate::edits::{
     put, put_edit, refusal_of, refused_flag, refused_join, refused_leave, refused_point,
     refused_unlink,
@@ -132,6 +135,20 @@ impl<R: Rules> Engine<R> {
         ensures { result ≡ cost_of R.table R.cost self.now.state event.now }
     {
         cost_of(&self.state, event)
+    }
+
+    /// Whether an event would reach a node, where it would be accepted; else false.
+    pub(crate) fn would_reach(&self, event: &Event, v: Node) -> bool
+        ensures { result ≡ would_reach R.table self.now.state event.now v }
+    {
+        would_reach(&self.state, event, v)
+    }
+
+    /// Whether a node is at rest.
+    pub(crate) fn is_at_rest(&self, v: Node) -> bool
+        ensures { result ≡ is_at_rest R.table.flags self.now.state v }
+    {
+        containment::is_at_rest(self.state.net(), R::FLAGS, v)
     }
 
     /// The rule that is enabled at a node, if any is; none at an absent one. What the guard asks about all neighbours is

@@ -27,6 +27,7 @@ mod listing;
 mod look;
 mod moves;
 mod net;
+mod reach;
 mod taking;
 
 pub use enabled_set::EnabledSet;

@@ -18,6 +18,8 @@ ghost use Rattle.rule_engine.specs.Kept.{guard_at, IsAnswered};
 ghost use Rattle.rule_engine.specs.Applied.{StopsAt, moment_after_all, takes_memory};
 ghost use Rattle.rule_engine.specs.Choosing.{verdict_of, verdicts_of};
 ghost use Rattle.rule_engine.specs.Costs.{cost_of, BoundsGrowth};
+ghost use Rattle.rule_engine.specs.Reached.{would_reach};
+ghost use Rattle.containment_laws.specs.Rest.{is_at_rest};
 ghost use Rattle.rule_engine.specs.Prepared.{IsPrepared, moment_of};
 
 use crate::charge::spent_after;
@@ -155,6 +157,23 @@ impl<R: Rules> Net<R> {
         // By its contract the state is sound.
         let _ = self.engine.registers();
         self.engine.cost_of(event)
+    }
+
+    /// Whether a node is at rest: its flag is right where flags are used, and it is married, or points nowhere and each of its
+    /// neighbours is married. Whatever the daemon chooses, it never moves and stays at rest until a disturbance reaches it. It goes
+    /// through the node's neighbours only where it points nowhere.
+    pub fn is_at_rest(&self, v: Node) -> bool
+        ensures { result ≡ is_at_rest R.table.flags self.now.state v }
+    {
+        self.engine.is_at_rest(v)
+    }
+
+    /// Whether an event would reach a node if it came now: whoever is at rest and not in reach stays at rest. False for one that
+    /// would be refused, for a step and for a question. It goes through the node's neighbours, and nothing changes.
+    pub fn would_reach(&self, event: &Event, v: Node) -> bool
+        ensures { result ≡ would_reach R.table self.now.state event.now v }
+    {
+        self.engine.would_reach(event, v)
     }
 
     /// The base at which the network stands where so many entries led there: what is spent, each node with its registers, and the

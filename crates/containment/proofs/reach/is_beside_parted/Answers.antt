@@ -1,0 +1,7 @@
+use Rattle.std.proofs.Common.{◌∙◌, sym}
+use Rattle.containment_laws.specs.Reach.{is_parted}
+use Rattle.containment.proofs.Absent.{absent_alone}
+use Rattle.containment.proofs.reach.is_beside_parted.Goals as goal
+
+pub returns-then-not-has : goal.returns-then-not-has
+returns-then-not-has c = absent_alone c.args.net.now.state (is_parted c.args.net.now.state c.args.event.now) c.args.v c.registers.ensures.sound (sym c.has.ensures ∙ c.if-not-has.true)

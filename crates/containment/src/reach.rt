@@ -1,0 +1,77 @@
+//! What a disturbance can reach.
+
+ghost use Rattle.std.specs.Prelude.{◌≡◌, ◌&&◌, ◌||◌, nat_eq, is_some, find};
+ghost use Rattle.rule_machine.specs.Network.{neighbours};
+ghost use Rattle.rule_machine.specs.State as state;
+ghost use Rattle.containment_laws.specs.Reach as of;
+
+use crate::rest::is_married;
+use net_state::NetState;
+use rule_machine::{Event, Node};
+
+/// Whether two names point at each other.
+fn is_mutual(net: &NetState, v: Node, w: Node) -> bool
+    ensures { result ≡ state.is_mutual net.now.state v w }
+{
+    net.points(v, w) && net.points(w, v)
+}
+
+/// Whether a node is a, and married, or a's partner.
+fn is_of_pair(net: &NetState, a: Node, v: Node) -> bool
+    ensures { result ≡ (state.is_mutual net.now.state a v || (nat_eq v a && state.married net.now.state a)) }
+{
+    is_mutual(net, a, v) || (v == a && is_married(net, a))
+}
+
+/// Whether the event takes a node's partner from it.
+fn is_parted(net: &NetState, event: &Event, v: Node) -> bool
+    ensures { result ≡ of.is_parted net.now.state event.now v }
+{
+    match event {
+        Event::Unlink(a, b) => is_mutual(net, *a, *b) && (v == *a || v == *b),
+        Event::Point(a, None) => is_of_pair(net, *a, v),
+        Event::Point(a, Some(w)) => !net.points(*a, *w) && is_of_pair(net, *a, v),
+        Event::Leave(a) => is_mutual(net, *a, v),
+        _ => false,
+    }
+}
+
+/// Whether the event itself hits a node.
+fn is_hit(net: &NetState, event: &Event, v: Node) -> bool
+    ensures { result ≡ of.is_hit net.now.state event.now v }
+{
+    match event {
+        Event::Link(a, b) => !is_married(net, *a) && !is_married(net, *b) && (v == *a || v == *b),
+        Event::Point(a, Some(w)) => v == *a && !is_married(net, *a) && !net.points(*a, *w),
+        Event::Flag(a, value) => v == *a && *value != is_married(net, *a),
+        _ => false,
+    }
+}
+
+/// Whether a neighbour of a node is parted from its partner.
+fn is_beside_parted(net: &NetState, event: &Event, v: Node) -> bool
+    ensures { result ≡ is_some (find (of.is_parted net.now.state event.now) (neighbours net.now.state.network v)) }
+{
+    // By its contract the state is sound.
+    let _ = net.registers();
+    if !net.has(v) {
+        return false;
+    }
+    for &w in net.neighbours(v) {
+        if is_parted(net, event, w) {
+            return true;
+        }
+    }
+    false
+}
+
+/// Whether an event that is not refused would reach a node, if it came now: the event hits it, or parts it from its partner, or it is
+/// not married and a neighbour of one that is parted. Whoever is at rest and not in reach stays at rest. It goes through the neighbours
+/// of the node.
+pub fn is_in_reach(net: &NetState, event: &Event, v: Node) -> bool
+    ensures { result ≡ of.is_in_reach net.now.state event.now v }
+{
+    is_hit(net, event, v)
+        || is_parted(net, event, v)
+        || (!is_married(net, v) && is_beside_parted(net, event, v))
+}

@@ -1,0 +1,10 @@
+use Rattle.rule_machine.specs.HsuHuang.{hsu_huang}
+use Rattle.rule_machine.specs.Manne.{manne}
+use Rattle.containment_laws.specs.Proved as proved
+use Rattle.containment_laws.proofs.law.reach_is_exact.Goals as goal
+
+pub returns-clause-hsu_huang : goal.returns-clause-hsu_huang
+returns-clause-hsu_huang c = proved.reach_is_exact hsu_huang proved.hsu_huang_contains
+
+pub returns-clause-manne : goal.returns-clause-manne
+returns-clause-manne c = proved.reach_is_exact manne proved.manne_contains

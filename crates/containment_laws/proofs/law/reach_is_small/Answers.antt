@@ -1,0 +1,5 @@
+use Rattle.containment_laws.specs.Small as small
+use Rattle.containment_laws.proofs.law.reach_is_small.Goals as goal
+
+pub returns : goal.returns
+returns c = small.reach_is_small

@@ -1,0 +1,148 @@
+-- What is claimed of containment, for a table of rules. The functions of src/law.rt have these as their contracts.
+use Rattle.std.specs.Prelude.{◌≡◌, ℕ, ◌+◌, ◌≤◌, false, List, length, count_by, None, Contains, Any, IsTrue, ◌⊎◌}
+use Rattle.rule_machine.specs.declared.choice.Item.{Item}
+use Rattle.rule_machine.specs.declared.act.Moved.{Moved}
+use Rattle.rule_machine.specs.declared.event.Event.{Event}
+use Rattle.rule_machine.specs.declared.reply.Reply.TheVariants.{Accepted, Moves}
+use Rattle.rule_machine.specs.Network.{Network, names, linked, present}
+use Rattle.rule_machine.specs.State.{State, IsState}
+use Rattle.rule_machine.specs.RuleTable.{RuleTable, rule_at}
+use Rattle.rule_machine.specs.Step.{IsStep}
+use Rattle.rule_machine.specs.Stable.{IsStable, mutual_pairs}
+use Rattle.rule_machine.specs.Answer.{Answers}
+use Rattle.rule_machine.specs.Run.{Entry, Moment, Run}
+use Rattle.charge_laws.specs.Charged.{IsUndisturbed}
+use Rattle.charge_laws.specs.Costs.{end_of, log_of}
+use Rattle.charge_laws.specs.Epochs.{IsPath}
+use Rattle.containment_laws.specs.Rest.{is_surrounded, is_at_rest}
+use Rattle.containment_laws.specs.Reach.{is_parted, is_in_reach, reach_size, lost_pairs, partings_in, named_by}
+use Rattle.containment_laws.specs.Moved.{moves_at, has_moved, is_ever_reached, KeepsRegisters}
+
+-- ---- steps
+
+-- No rule is enabled at a node at rest.
+abbrev pub RestIsIdle : RuleTable → Type 0
+RestIsIdle t = (s : State) → IsState s → (v : ℕ) → IsTrue (is_at_rest t.flags s v) → rule_at t s v ≡ None
+
+-- In a step a node at rest does not move, keeps its registers, and is at rest then, whoever moves.
+abbrev pub StepsLeaveRest : RuleTable → Type 0
+StepsLeaveRest t =
+    (s : State) → IsState s → (items : List Item) (moves : List Moved) (s' : State) → IsStep t s items moves s'
+    → (v : ℕ) → IsTrue (is_at_rest t.flags s v) → (moves_at v (Moves moves) ≡ false) × KeepsRegisters s s' v × IsTrue (is_at_rest t.flags s' v)
+
+-- A step breaks no pair.
+abbrev pub StepsKeepPairs : RuleTable → Type 0
+StepsKeepPairs t =
+    (s : State) → IsState s → (items : List Item) (moves : List Moved) (s' : State) → IsStep t s items moves s'
+    → (e : ℕ × ℕ) → Contains (mutual_pairs s) e → Contains (mutual_pairs s') e
+
+-- ---- runs without a disturbance
+
+-- A node at rest never moves, keeps its registers, and is at rest at the end: from any state, whatever the daemon chooses.
+abbrev pub RunsLeaveRest : RuleTable → Type 0
+RunsLeaveRest t =
+    (start : Moment) → IsState start.state → (log : List Entry) (end : Moment) → Run t start log end → IsUndisturbed log
+    → (v : ℕ) → IsTrue (is_at_rest t.flags start.state v) → (has_moved log v ≡ false) × KeepsRegisters start.state end.state v × IsTrue (is_at_rest t.flags end.state v)
+
+-- Whoever moves was not at rest at the start.
+abbrev pub MoversWereRestless : RuleTable → Type 0
+MoversWereRestless t =
+    (start : Moment) → IsState start.state → (log : List Entry) (end : Moment) → Run t start log end → IsUndisturbed log
+    → (v : ℕ) → IsTrue (has_moved log v) → is_at_rest t.flags start.state v ≡ false
+
+-- No schedule breaks a pair.
+abbrev pub RunsKeepPairs : RuleTable → Type 0
+RunsKeepPairs t =
+    (start : Moment) → IsState start.state → (log : List Entry) (end : Moment) → Run t start log end → IsUndisturbed log
+    → (e : ℕ × ℕ) → Contains (mutual_pairs start.state) e → Contains (mutual_pairs end.state) e
+
+-- ---- one disturbance
+
+-- Whoever is at rest and not in its reach is at rest after it, with the same registers if it is still there.
+abbrev pub DisturbancesReach : RuleTable → Type 0
+DisturbancesReach t =
+    (s : State) → IsState s → (spent : ℕ) (event : Event) (after : State) → Answers t s spent event Accepted after
+    → (v : ℕ) → IsTrue (is_at_rest t.flags s v) → is_in_reach s event v ≡ false
+    → IsTrue (is_at_rest t.flags after v) × (IsTrue (present after.network v) → KeepsRegisters s after v)
+
+-- No more nodes are in its reach than a sum of degrees says, whatever the size of the network.
+abbrev pub ReachIsSmall : Type 0
+ReachIsSmall =
+    (s : State) → IsState s → (event : Event) → count_by (is_in_reach s event) (names s.network) ≤ reach_size s event
+
+-- In a stable network the reach is exact: whoever is in it is not at rest after it. But for one thing: where no flags are used, one that
+-- is parted among married neighbours may have nothing left to do.
+abbrev pub ReachIsExact : RuleTable → Type 0
+ReachIsExact t =
+    (s : State) → IsState s → IsStable t.flags s → (spent : ℕ) (event : Event) (after : State) → Answers t s spent event Accepted after
+    → (v : ℕ) → IsTrue (is_in_reach s event v) → IsTrue t.flags ⊎ (is_parted s event v ≡ false) ⊎ (is_surrounded s v ≡ false)
+    → is_at_rest t.flags after v ≡ false
+
+-- It breaks one pair at most: any two that it breaks are the same.
+abbrev pub DisturbancesBreakOne : RuleTable → Type 0
+DisturbancesBreakOne t =
+    (s : State) → IsState s → (spent : ℕ) (event : Event) (after : State) → Answers t s spent event Accepted after
+    → (e f : ℕ × ℕ) → Contains (mutual_pairs s) e → Contains (mutual_pairs s) f
+    → (Contains (mutual_pairs after) e → ⊥) → (Contains (mutual_pairs after) f → ⊥) → e ≡ f
+
+-- two links away at most
+abbrev pub IsWithinTwo : Network → ℕ → ℕ → Type 0
+IsWithinTwo net a v =
+    (v ≡ a) ⊎ IsTrue (linked net a v) ⊎ ((w : ℕ) × IsTrue (linked net a w) × IsTrue (linked net w v))
+
+-- Its reach is within two links of a node that it names: that is the radius of containment.
+abbrev pub ReachIsNear : Type 0
+ReachIsNear =
+    (s : State) → IsState s → (event : Event) (v : ℕ) → IsTrue (is_in_reach s event v) → Any (λ a. IsWithinTwo s.network a v) (named_by event)
+
+-- ---- containment
+
+-- After one disturbance of a stable network, whatever the daemon chooses: only nodes in its reach ever move; each other node keeps its
+-- registers if it is still there, and is at rest.
+abbrev pub OneIsContained : RuleTable → Type 0
+OneIsContained t =
+    (s : State) → IsState s → IsStable t.flags s → (spent : ℕ) (event : Event) (after : State) → Answers t s spent event Accepted after
+    → (log : List Entry) (end : Moment) → Run t (record { state = after; spent = 0 }) log end → IsUndisturbed log
+    → (v : ℕ) → is_in_reach s event v ≡ false
+    → (has_moved log v ≡ false) × (IsTrue (present end.state.network v) → KeepsRegisters s end.state v) × IsTrue (is_at_rest t.flags end.state v)
+
+-- So whoever moves is in it.
+abbrev pub MoversWereReached : RuleTable → Type 0
+MoversWereReached t =
+    (s : State) → IsState s → IsStable t.flags s → (spent : ℕ) (event : Event) (after : State) → Answers t s spent event Accepted after
+    → (log : List Entry) (end : Moment) → Run t (record { state = after; spent = 0 }) log end → IsUndisturbed log
+    → (v : ℕ) → IsTrue (has_moved log v) → IsTrue (is_in_reach s event v)
+
+-- And all pairs but one at most are there at the end, from any state.
+abbrev pub OnePairIsLost : RuleTable → Type 0
+OnePairIsLost t =
+    (s : State) → IsState s → (spent : ℕ) (event : Event) (after : State) → Answers t s spent event Accepted after
+    → (log : List Entry) (end : Moment) → Run t (record { state = after; spent = 0 }) log end → IsUndisturbed log
+    → (e f : ℕ × ℕ) → Contains (mutual_pairs s) e → Contains (mutual_pairs s) f
+    → (Contains (mutual_pairs end.state) e → ⊥) → (Contains (mutual_pairs end.state) f → ⊥) → e ≡ f
+
+-- Whatever disturbances come, and whatever the daemon chooses between them, from any state: whoever is at rest at the start and in the
+-- reach of none of them never moves, and is at rest at the end.
+abbrev pub AllAreContained : RuleTable → Type 0
+AllAreContained t =
+    (start : Moment) → IsState start.state → (path : List (Entry × State)) → IsPath t start path
+    → (v : ℕ) → IsTrue (is_at_rest t.flags start.state v) → is_ever_reached start.state path v ≡ false
+    → (has_moved (log_of path) v ≡ false) × IsTrue (is_at_rest t.flags (end_of start.state path) v)
+
+-- Whoever moves was not at rest at the start, or is in the reach of one of them.
+abbrev pub MoversAreAccountedFor : RuleTable → Type 0
+MoversAreAccountedFor t =
+    (start : Moment) → IsState start.state → (path : List (Entry × State)) → IsPath t start path
+    → (v : ℕ) → IsTrue (has_moved (log_of path) v) → (is_at_rest t.flags start.state v ≡ false) ⊎ IsTrue (is_ever_reached start.state path v)
+
+-- Of the pairs at the start no more are lost at the end than disturbances part one.
+abbrev pub PairsAreAccountedFor : RuleTable → Type 0
+PairsAreAccountedFor t =
+    (start : Moment) → IsState start.state → (path : List (Entry × State)) → IsPath t start path
+    → lost_pairs start.state (end_of start.state path) ≤ partings_in start.state path
+
+-- So there are no fewer at the end, but for as many.
+abbrev pub PairsAreLeft : RuleTable → Type 0
+PairsAreLeft t =
+    (start : Moment) → IsState start.state → (path : List (Entry × State)) → IsPath t start path
+    → length (mutual_pairs start.state) ≤ length (mutual_pairs (end_of start.state path)) + partings_in start.state path

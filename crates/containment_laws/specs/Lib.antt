@@ -1,0 +1,15 @@
+pub mod Rest
+pub mod Reach
+pub mod Moved
+pub mod AtRest
+pub mod Idle
+pub mod Steps
+pub mod Edits
+pub mod Contained
+pub mod Partings
+pub mod Laws
+pub mod Proved
+pub mod Near
+pub mod Exact
+pub mod Small
+pub mod Lost

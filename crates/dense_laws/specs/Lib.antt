@@ -1,0 +1,12 @@
+pub mod Counts
+pub mod Kinds
+pub mod Arithmetic
+pub mod Moves
+pub mod Starts
+pub mod Potential
+pub mod Falls
+pub mod Runs
+pub mod Silent
+pub mod Plays
+pub mod Schedule
+pub mod Complete

@@ -1,0 +1,52 @@
+//! The bound by nodes alone, as laws of all runs by Hsu and Huang's rules.
+
+ghost use Rattle.std.specs.Prelude.{◌≡◌, ℕ, ◌+◌, ◌-◌, ◌*◌, ◌≤◌, List, [], length};
+ghost use Rattle.rule_machine.specs.declared.act.Moved.{Moved};
+ghost use Rattle.rule_machine.specs.declared.choice.Item.{Item};
+ghost use Rattle.rule_machine.specs.Network.{node_count};
+ghost use Rattle.rule_machine.specs.State.{State, IsState};
+ghost use Rattle.rule_machine.specs.RuleTable.{enabled_names};
+ghost use Rattle.rule_machine.specs.HsuHuang.{hsu_huang};
+ghost use Rattle.rule_machine.specs.Step.{IsStep};
+ghost use Rattle.rule_machine.specs.Run.{Entry, Moment, Run};
+ghost use Rattle.charge_laws.specs.Charged.{moves_in, IsUndisturbed};
+ghost use Rattle.charge_laws.specs.Costs.{end_of, log_of};
+ghost use Rattle.charge_laws.specs.Epochs.{IsPath};
+ghost use Rattle.charge_laws.specs.Silent.{IsDriven};
+ghost use Rattle.dense_laws.specs.Complete.{IsReached};
+ghost use Rattle.dense_laws.specs.Potential.{dense_charge};
+
+/// Each move lowers the dense charge of a state by two at least, whatever the edges; and it is at most n² + 2n.
+pub fn dense_charge_falls()
+    ensures falls { (s : State) (items : List Item) (moves : List Moved) (after : State) → IsState s → IsStep hsu_huang s items moves after
+        → dense_charge after + 2 * length moves ≤ dense_charge s }
+    ensures bounded { (s : State) → IsState s → dense_charge s ≤ node_count s.network * node_count s.network + 2 * node_count s.network }
+{}
+
+/// Twice the moves of a run without a disturbance, and the dense charge that is left, are no more than it was at the start, from
+/// whatever state and whatever the daemon chooses.
+pub fn dense_moves_are_paid()
+    ensures { (start : Moment) → IsState start.state → (log : List Entry) (end : Moment) → Run hsu_huang start log end → IsUndisturbed log
+        → 2 * moves_in log + dense_charge end.state ≤ dense_charge start.state }
+{}
+
+/// Between two disturbances, from whatever state, whatever the edges and whatever the daemon chooses: with n nodes at most
+/// n²/2 + n - 2 moves, rounded down, and none where n is 0 or 1.
+pub fn moves_are_few()
+    ensures { (start : Moment) → IsState start.state → (log : List Entry) (end : Moment) → Run hsu_huang start log end → IsUndisturbed log
+        → 2 * moves_in log ≤ node_count start.state.network * node_count start.state.network + 2 * node_count start.state.network - 4 }
+{}
+
+/// A run without a disturbance in which each entry moves someone or comes where nobody is enabled, and that has n²/2 + n - 2 entries,
+/// rounded down, ends where nobody is enabled.
+pub fn enough_turns_end_silent()
+    ensures { (start : Moment) → IsState start.state → (path : List (Entry × State)) → IsPath hsu_huang start path → IsUndisturbed (log_of path)
+        → IsDriven hsu_huang start.state path
+        → node_count start.state.network * node_count start.state.network + 2 * node_count start.state.network ≤ 2 * length path + 5
+        → enabled_names hsu_huang (end_of start.state path) ≡ [] }
+{}
+
+/// The bound is reached: among n nodes, two or more, a run without a disturbance has half of n² + 2n - 4 moves, rounded down.
+pub fn bound_is_reached()
+    ensures { (n : ℕ) → 2 ≤ n → IsReached n }
+{}
