@@ -14,7 +14,16 @@ from rudekpi import Network
 HOSTS = [f"h{number:02}" for number in range(1, 13)]
 # a ring in which each third host has a link to the host across it
 LINKS = [(HOSTS[at], HOSTS[(at + 1) % 12]) for at in range(12)] + [(HOSTS[at], HOSTS[at + 6]) for at in (0, 3)]
-EVENTS = ["fails h02", "fails h08", "returns h02", "fails h05", "fails h06", "returns h08", "returns h06", "returns h05"]
+EVENTS = [
+    "fails h02",
+    "fails h08",
+    "returns h02",
+    "fails h05",
+    "fails h06",
+    "returns h08",
+    "returns h06",
+    "returns h05",
+]
 
 
 def some(enabled, drawn=random.Random(7)):
@@ -26,7 +35,12 @@ def tell(net, event, down):
     """Lets the network settle, and tells what that cost and who backs up whom. Answers the moves."""
     settled, pairs = net.settle(some), net.matching()
     alone = [host for host in HOSTS if pairs.partner(host) is None and host not in down]
-    print(f"{event}: {settled.moves} moves of {settled.charge} at most;", *("-".join(pair) for pair in pairs), "alone:", *alone or "-")
+    print(
+        f"{event}: {settled.moves} moves of {settled.charge} at most;",
+        *("-".join(pair) for pair in pairs),
+        "alone:",
+        *alone or "-",
+    )
     return settled.moves
 
 

@@ -53,7 +53,11 @@ def main():
             change(net, waiting, number)
             settled = net.settle(list)  # all who are enabled move at once
             pairs = net.matching()
-            print(f"round {number}:", *("-".join(pair) for pair in pairs), f"({settled.moves} moves of {settled.charge} at most)")
+            print(
+                f"round {number}:",
+                *("-".join(pair) for pair in pairs),
+                f"({settled.moves} moves of {settled.charge} at most)",
+            )
             with net.batch() as batch:
                 for pair in pairs:
                     batch.unlink(*pair)

@@ -49,15 +49,22 @@ def beside(name):
     for folder in (HERE, HERE.parent):
         if (folder / name).exists():
             return folder / name
-    raise FileNotFoundError(f"{name} lies neither in {HERE} nor above it: build in the repository, by pip 21.3 or later")
+    raise FileNotFoundError(
+        f"{name} lies neither in {HERE} nor above it: build in the repository, by pip 21.3 or later"
+    )
 
 
 def page_maker():
     """The files that make pages of transcripts, by their names in the repository."""
     viewer = beside("viewer")
-    shown = sorted(path for path in viewer.rglob("*") if path.suffix in (".html", ".css", ".mjs") and "tests" not in path.parts)
+    shown = sorted(
+        path for path in viewer.rglob("*") if path.suffix in (".html", ".css", ".mjs") and "tests" not in path.parts
+    )
     others = ["scripts/play", "scripts/page.py", "release/playground.html"]
-    return {**{name: beside(name) for name in others}, **{f"viewer/{path.relative_to(viewer).as_posix()}": path for path in shown}}
+    return {
+        **{name: beside(name) for name in others},
+        **{f"viewer/{path.relative_to(viewer).as_posix()}": path for path in shown},
+    }
 
 
 def program():
@@ -149,7 +156,11 @@ def build_sdist(sdist_directory, config_settings=None):
     top = f"rudekpi-{version()}"
     files = {**sources(), "PKG-INFO": METADATA.format(version=version()).encode()}
     files.update({name: (HERE / name).read_bytes() for name in ("pyproject.toml", "wheel_builder.py")})
-    released = ["release/console", "release/MADE_FROM", *(["release/librudekpi.so", "release/LIBRARY_MADE_FROM"] if library() else [])]
+    released = [
+        "release/console",
+        "release/MADE_FROM",
+        *(["release/librudekpi.so", "release/LIBRARY_MADE_FROM"] if library() else []),
+    ]
     files.update({name: beside(name).read_bytes() for name in ("LICENSE", *released)})
     files.update({name: path.read_bytes() for name, path in page_maker().items()})
     with tarfile.open(os.path.join(sdist_directory, f"{top}.tar.gz"), "w:gz") as archive:

@@ -7,7 +7,9 @@ import shutil
 import subprocess
 import sys
 
-WITHOUT = "nothing is proved or built without it, and ./console runs as long as the sources are those of release/console"
+WITHOUT = (
+    "nothing is proved or built without it, and ./console runs as long as the sources are those of release/console"
+)
 
 
 def require():

@@ -35,7 +35,9 @@ def joined_script():
     for path, text in module_order(SOURCES / "page", set()):
         told = ", ".join(exported for _, exported in EXPORT.findall(text))
         plain = IMPORT.sub(lambda found: f'const {found[1]} = modules["{named(path.parent / found[2])}"];', text)
-        parts.append(f'modules["{named(path)}"] = (() => {{\n{EXPORT.sub(lambda found: found[1], plain)}\nreturn {{ {told} }};\n}})();\n')
+        parts.append(
+            f'modules["{named(path)}"] = (() => {{\n{EXPORT.sub(lambda found: found[1], plain)}\nreturn {{ {told} }};\n}})();\n'
+        )
     return "\n".join(parts)
 
 

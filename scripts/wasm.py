@@ -22,7 +22,16 @@ LAYOUT = "e-m:e-p:64:64-p10:8:8-p20:8:8-i64:64-i128:128-n32:64-S128-ni:1:10:20"
 PROCESSOR = re.compile(r' "(?:probe-stack|stack-probe-size|target-cpu|target-features|tune-cpu)"(?:="[^"]*")?')
 CODE = [f"--target={TARGET}", "-mcpu=lime1", "-O3", "-no-canonical-prefixes", "--no-default-config"]
 WIDE = ["-mllvm", "-expand-div-rem-bits=64", "-mllvm", "-expand-fp-convert-bits=64", "-mllvm", "-trap-unreachable"]
-LINK = ["-mwasm64", "--no-entry", "--gc-sections", "--stack-first", "-z", "stack-size=1048576", "--strip-all", "--threads=1"]
+LINK = [
+    "-mwasm64",
+    "--no-entry",
+    "--gc-sections",
+    "--stack-first",
+    "-z",
+    "stack-size=1048576",
+    "--strip-all",
+    "--threads=1",
+]
 CALLS = ["session_new", "session_feed", "session_length", "session_read", "session_free", "audit", "room", "give_back"]
 # keeps the LLVM module that it compiles
 COMPILER = """#!/bin/sh
@@ -58,7 +67,9 @@ def is_wanting():
     if not BUILT.exists() or not KEPT.exists():
         return True
     parts = [path for part in ("src", "specs", "proofs") for path in TOP.glob(f"crates/*/{part}")]
-    found = run("find", TOP / "HANDLES", TOP / "crates.txt", *parts, "-newer", KEPT, "-print", "-quit", stdout=subprocess.PIPE)
+    found = run(
+        "find", TOP / "HANDLES", TOP / "crates.txt", *parts, "-newer", KEPT, "-print", "-quit", stdout=subprocess.PIPE
+    )
     return found.stdout != b""
 
 
@@ -90,7 +101,19 @@ def module_of(rtlib):
     with tempfile.TemporaryDirectory() as made:
         shutil.copyfile(KEPT, f"{made}/engine.bc")
         shutil.copyfile(HEAP, f"{made}/heap.c")
-        run(tools / "clang", "-x", "ir", "engine.bc", "-S", "-emit-llvm", "-Xclang", "-disable-llvm-passes", "-o", "engine.ll", cwd=made)
+        run(
+            tools / "clang",
+            "-x",
+            "ir",
+            "engine.bc",
+            "-S",
+            "-emit-llvm",
+            "-Xclang",
+            "-disable-llvm-passes",
+            "-o",
+            "engine.ll",
+            cwd=made,
+        )
         text = pathlib.Path(made, "engine.ll")
         text.write_text(turned(text.read_text(encoding="utf-8")), encoding="utf-8")
         run(tools / "clang", *CODE, *WIDE, "-x", "ir", "-c", "engine.ll", "-o", "engine.o", cwd=made)

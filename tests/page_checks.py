@@ -86,7 +86,9 @@ def definitions(top):
                 continue
             for name in itertools.chain.from_iterable(spread(quoted) for quoted in QUOTED.findall(cells[column])):
                 places = [top / "crates" / name.removeprefix("crates/"), top / "crates/rule_machine/specs" / name]
-                there = any(place.with_name(place.name + ending).exists() for place in places for ending in ("", ".antt", ".rt"))
+                there = any(
+                    place.with_name(place.name + ending).exists() for place in places for ending in ("", ".antt", ".rt")
+                )
                 # a name in parentheses is a definition in the file before it
                 yield there or f"(`{name}`)" in cells[column], f"{page.name}:{number}: no definitions in {name}"
 
@@ -111,12 +113,16 @@ def constants(top):
 def lines_in(top, folder):
     """How many lines stand in one kind of folder of all crates but those of tests."""
     paths = [path for path in top.glob(f"crates/*/{folder}/**/*") if path.suffix in (".rt", ".antt")]
-    return sum(len(path.read_bytes().splitlines()) for path in paths if not path.relative_to(top).parts[1].endswith("_tests"))
+    return sum(
+        len(path.read_bytes().splitlines()) for path in paths if not path.relative_to(top).parts[1].endswith("_tests")
+    )
 
 
 def figures(top):
     """What is said of names and figures: the kit, the crates, the limits, the refusals, and how many lines there are."""
-    readme, use, tree, costs = ((top / name).read_text() for name in ("README.md", "docs/USE.md", "docs/ARCHITECTURE.md", "docs/COSTS.md"))
+    readme, use, tree, costs = (
+        (top / name).read_text() for name in ("README.md", "docs/USE.md", "docs/ARCHITECTURE.md", "docs/COSTS.md")
+    )
     kit = re.search(r"^kit (.+)$", (top / "release/MADE_FROM").read_text(), re.M)[1]
     yield f"`{kit}`" in readme, f"README.md: the kit is {kit}"
     named = re.findall(r"^(\w+)(?: staticlib)?:(.*)$", (top / "crates.txt").read_text(), re.M)
@@ -149,7 +155,11 @@ def help_lines(top):
     for name, value in re.findall(r'const (\w+): &str =\s+"((?:[^"\\]|\\.)*)";', text):
         short, kind = name.rpartition("_")[::2]
         front = {"HELP": 19 if short == "ENTRY" else 23, "ABOUT": 11 if short else 0, "USAGE": 7}.get(kind, 0)
-        widest = max(len(line) for line in value.replace("\\\\", "\\").split("\n")) + front + around.get(short, 0) * (kind == "HELP")
+        widest = (
+            max(len(line) for line in value.replace("\\\\", "\\").split("\n"))
+            + front
+            + around.get(short, 0) * (kind == "HELP")
+        )
         yield widest <= 80, f"help.rt: {name} makes a line of {widest} columns"
 
 
@@ -163,7 +173,11 @@ def quotes(top):
         lines = re.findall(r"^((?:function|old|new): .+|ensures .+)$", text, re.M)
         yield len(lines) >= 3, f"{page.name}: no mistake is quoted"
         for line in lines:
-            stands = any(f"    {line}\n" in source for source in sources) if line.startswith("ensures") else f"{line}\n" in edit
+            stands = (
+                any(f"    {line}\n" in source for source in sources)
+                if line.startswith("ensures")
+                else f"{line}\n" in edit
+            )
             yield stands, f"{page.name}: this stands nowhere: {line[:60]}"
 
 

@@ -75,10 +75,16 @@ def fills(pages, browser):
     pages.expect("a ring of five fills the drawing", (high > 0.75, wide > 0.4), (True, True))
     links = "".join(f"{v} link {v} {v + 1} = ok\n" for v in range(1, 30))
     browser.open(pages.write(f"matching hh 2500\n{links}".encode()))
-    network, plots, window = browser.value("""["#network", "#plots", "body"].map((name) => document.querySelector(name).clientHeight)""")
+    network, plots, window = browser.value(
+        """["#network", "#plots", "body"].map((name) => document.querySelector(name).clientHeight)"""
+    )
     pages.expect("plots in place of a drawing", (network < 0.15 * window, plots > 0.6 * window), (True, True))
     said = browser.value("document.getElementById('undrawn').textContent")
-    pages.expect("what is said there", said.startswith("2,500 nodes: up to 2,000 are drawn. The plots of the whole transcript"), True)
+    pages.expect(
+        "what is said there",
+        said.startswith("2,500 nodes: up to 2,000 are drawn. The plots of the whole transcript"),
+        True,
+    )
     type_number(browser, "3")
     pages.expect("a node that is not drawn", browser.value(CARD)[2]["neighbours"], "none")
     browser.key("End", "End", 35)
@@ -92,7 +98,11 @@ def titles(pages, browser):
     for text, title, entry in [
         (RING, "hh: 5 nodes, 8 entries", ["the opening state", "no entry yet", "0"]),
         (b"matching manne 1\n1 show 1 = -\n", "manne: 1 node, 1 entry", ["the opening state", "no entry yet", "0"]),
-        (BASE, "hh: 3 nodes, 1 entry, from the base at entry 822", ["base 822 spent=1 nodes=3 edges=1", "the state that 822 entries led to", "822"]),
+        (
+            BASE,
+            "hh: 3 nodes, 1 entry, from the base at entry 822",
+            ["base 822 spent=1 nodes=3 edges=1", "the state that 822 entries led to", "822"],
+        ),
     ]:
         browser.open(pages.write(text))
         pages.expect(f"the title {title}", browser.value("document.title"), title)
@@ -102,20 +112,30 @@ def titles(pages, browser):
 
 def long_one(pages, browser):
     """Of many entries the plots are lines of means with a band, and digits are grouped in one way."""
-    script = "".join(f"link {v} {v % 60 + 1}\n" for v in range(1, 61)) + "".join(f"scramble {k} 7\ndrive {k} 900\n" for k in range(1, 1500))
+    script = "".join(f"link {v} {v % 60 + 1}\n" for v in range(1, 61)) + "".join(
+        f"scramble {k} 7\ndrive {k} 900\n" for k in range(1, 1500)
+    )
     text = pages.run([pages.program, "run", "--rules", "hh", "--nodes", "60"], script.encode())[1]
     browser.open(pages.write(text))
     entries = text.count(b"\n") - 1
     pages.expect("there are many entries", entries > 20_000, True)
-    shapes = browser.value("""["line", "range"].map((kind) => [...document.querySelectorAll(`#budget .${kind}`)].map((path) => path.getAttribute("d").split(/[LHV]/).length))""")
-    pages.expect("lines and bands are short", [max(counts) <= 1_300 and len(counts) == 3 for counts in shapes], [True, True])
-    bands = browser.value("[document.querySelectorAll('#budget .epoch').length, getComputedStyle(document.querySelector('.key.epoch')).display]")
+    shapes = browser.value(
+        """["line", "range"].map((kind) => [...document.querySelectorAll(`#budget .${kind}`)].map((path) => path.getAttribute("d").split(/[LHV]/).length))"""
+    )
+    pages.expect(
+        "lines and bands are short", [max(counts) <= 1_300 and len(counts) == 3 for counts in shapes], [True, True]
+    )
+    bands = browser.value(
+        "[document.querySelectorAll('#budget .epoch').length, getComputedStyle(document.querySelector('.key.epoch')).display]"
+    )
     pages.expect("no bands of epochs that can't be told apart", bands, [0, "none"])
     said = browser.value("document.querySelector('.shared').textContent")
     pages.expect("what a line is", bool(re.fullmatch(r"mean and range of [\d,]+ entries", said)), True)
     browser.value("document.getElementById('last').click()")
     pages.expect("digits that are grouped otherwise", browser.value(UNGROUPED), [])
-    pages.expect("the number of the last entry", browser.value("document.getElementById('number').textContent"), f"{entries:,}")
+    pages.expect(
+        "the number of the last entry", browser.value("document.getElementById('number').textContent"), f"{entries:,}"
+    )
 
 
 def phone(pages, browser):
@@ -130,10 +150,16 @@ def phone(pages, browser):
             pages.expect(f"what the bar covers, {width} by {height}", browser.value(COVERED), [])
         for part in ["#figures", "#judged", "#counts"]:
             browser.value(f"document.querySelector('{part}').scrollIntoView({{ block: 'end' }})")
-            lowest = browser.value(f"document.querySelector('{part}').getBoundingClientRect().bottom <= document.querySelector('nav').getBoundingClientRect().top + 1")
+            lowest = browser.value(
+                f"document.querySelector('{part}').getBoundingClientRect().bottom <= document.querySelector('nav').getBoundingClientRect().top + 1"
+            )
             pages.expect(f"{part} above the bar, {width} by {height}", lowest, True)
-        pages.expect(f"the tools in one row, {width} by {height}", max(found := browser.value(tools)) - min(found) < 6, True)
-        pages.expect(f"nothing is wider, {width} by {height}", browser.value("document.documentElement.scrollWidth"), width)
+        pages.expect(
+            f"the tools in one row, {width} by {height}", max(found := browser.value(tools)) - min(found) < 6, True
+        )
+        pages.expect(
+            f"nothing is wider, {width} by {height}", browser.value("document.documentElement.scrollWidth"), width
+        )
     browser.window(1280, 900)
 
 
@@ -180,7 +206,11 @@ def pinches(pages, browser):
         browser.touch("Move", (x - 60 + 10 * step, y), (x + 60 + 10 * step, y))
     moved = browser.value(BOX)
     unit = near[2] / browser.value("document.getElementById('graph').clientWidth")
-    pages.expect("two fingers to the right: moved along", (round(moved[2], 1), moved[0] < near[0] - 30 * unit), (round(near[2], 1), True))
+    pages.expect(
+        "two fingers to the right: moved along",
+        (round(moved[2], 1), moved[0] < near[0] - 30 * unit),
+        (round(near[2], 1), True),
+    )
     browser.touch("End")
     browser.touch("Start", (x, y))
     for step in range(1, 5):
@@ -210,15 +240,25 @@ def type_number(browser, digits):
 
 
 WAITING = {
-    "pointer": "at 2, which does not point back", "pointed at by": "nobody", "neighbours": "2 and 4", "may abandon": "since it points at 2, which points at 1",
+    "pointer": "at 2, which does not point back",
+    "pointed at by": "nobody",
+    "neighbours": "2 and 4",
+    "may abandon": "since it points at 2, which points at 1",
     "charge": "1 here, for its pointer, which is not answered; 2 for its open edge, to 4",
 }
 MARRIED = {
-    "pointer": "at 2, which points back: they are married", "pointed at by": "2", "neighbours": "2 and 5", "not enabled": "since it and 2 point at each other",
+    "pointer": "at 2, which points back: they are married",
+    "pointed at by": "2",
+    "neighbours": "2 and 5",
+    "not enabled": "since it and 2 point at each other",
     "charge": "0 here",
 }
 SUITED = {
-    "pointer": "null: it points nowhere", "flag": "0", "pointed at by": "1", "neighbours": "1 and 3", "may marry": "since its flag is right, it points nowhere, and 1 points at it",
+    "pointer": "null: it points nowhere",
+    "flag": "0",
+    "pointed at by": "1",
+    "neighbours": "1 and 3",
+    "may marry": "since its flag is right, it points nowhere, and 1 points at it",
     "charge": "1 here, for its flag, which is 0; 2 for its open edge, to 3",
 }
 
@@ -230,7 +270,14 @@ def tells(pages, browser):
     browser.move(*place(browser, "[data-node='3'] .body"))
     pages.expect("a node under the mouse", browser.value(CARD), ["Node 3", "abandon", WAITING])
     browser.move(*edge_place(browser, 4, 5))
-    pages.expect("an edge under the mouse", browser.value(CARD)[:1] + [browser.value(CARD)[2]["charge"]], ["Edge 4 – 5", "2: it is open, since neither end is married or waits for the other, and they are not both courted"])
+    pages.expect(
+        "an edge under the mouse",
+        browser.value(CARD)[:1] + [browser.value(CARD)[2]["charge"]],
+        [
+            "Edge 4 – 5",
+            "2: it is open, since neither end is married or waits for the other, and they are not both courted",
+        ],
+    )
     browser.move(*place(browser, "#judged"))
     pages.expect("nothing under the mouse", browser.value(CARD), None)
     browser.click(*place(browser, "[data-node='1'] .body"))
@@ -243,10 +290,19 @@ def tells(pages, browser):
     browser.key("End", "End", 35)
     browser.value("document.getElementById('graph').focus()")
     walked = []
-    for key, code, number, text in [("ArrowDown", "ArrowDown", 40, ""), ("ArrowDown", "ArrowDown", 40, ""), *[("e", "KeyE", 69, "e")] * 3, ("ArrowUp", "ArrowUp", 38, "")]:
+    for key, code, number, text in [
+        ("ArrowDown", "ArrowDown", 40, ""),
+        ("ArrowDown", "ArrowDown", 40, ""),
+        *[("e", "KeyE", 69, "e")] * 3,
+        ("ArrowUp", "ArrowUp", 38, ""),
+    ]:
         browser.key(key, code, number, text)
         walked.append(browser.value(CARD)[0])
-    pages.expect("from node to node and to its edges by keys", walked, ["Node 1", "Node 2", "Edge 1 – 2", "Edge 2 – 3", "Edge 1 – 2", "Node 1"])
+    pages.expect(
+        "from node to node and to its edges by keys",
+        walked,
+        ["Node 1", "Node 2", "Edge 1 – 2", "Edge 2 – 3", "Edge 1 – 2", "Node 1"],
+    )
     browser.click(*edge_place(browser, 4, 5))
     browser.key("e", "KeyE", 69, "e")
     pages.expect("the next edge of a clicked edge's lower end", browser.value(CARD)[0], "Edge 3 – 4")
@@ -255,7 +311,11 @@ def tells(pages, browser):
     type_number(browser, "2")
     pages.expect("a node by its number, under manne", browser.value(CARD), ["Node 2", "marry", SUITED])
     type_number(browser, "9")
-    pages.expect("no such node", (browser.value(CARD), browser.value("document.getElementById('find').validationMessage")), (None, "names are 1 to 3"))
+    pages.expect(
+        "no such node",
+        (browser.value(CARD), browser.value("document.getElementById('find').validationMessage")),
+        (None, "names are 1 to 3"),
+    )
     pages.expect("complaints of telling", browser.complaints, [])
 
 
@@ -289,16 +349,30 @@ def saves(pages, browser):
     browser.click(*place(browser, "#save-png"))
     picture = ElementTree.fromstring(saved(pages.folder, "matching-hh-5-entry-8.svg"))
     names = sorted(text.text for text in picture.iter(f"{SVG}text"))
-    pages.expect("the names in the SVG, and the marks of the enabled nodes", names, sorted(["1", "2", "3", "4", "5", "A", "S", "S"]))
+    pages.expect(
+        "the names in the SVG, and the marks of the enabled nodes",
+        names,
+        sorted(["1", "2", "3", "4", "5", "A", "S", "S"]),
+    )
     fills_of = {circle.get("fill") for circle in picture.iter(f"{SVG}circle")}
-    pages.expect("filled nodes, and no style sheet", ({"rgb(0, 102, 166)", "rgb(255, 255, 255)"} <= fills_of, b"class" in ElementTree.tostring(picture)), (True, False))
+    pages.expect(
+        "filled nodes, and no style sheet",
+        ({"rgb(0, 102, 166)", "rgb(255, 255, 255)"} <= fills_of, b"class" in ElementTree.tostring(picture)),
+        (True, False),
+    )
     pages.expect("the title of the SVG", picture.find(f"{SVG}title").text, "hh: 5 nodes, 8 entries: after entry 8")
     width, height, colours = colours_of(saved(pages.folder, "matching-hh-5-entry-8.png"))
     wide, high = (float(number) for number in picture.get("viewBox").split(" ")[2:])
-    pages.expect("the PNG", (width >= 1600, round(width / height, 1), colours > 20), (True, round(wide / high, 1), True))
+    pages.expect(
+        "the PNG", (width >= 1600, round(width / height, 1), colours > 20), (True, round(wide / high, 1), True)
+    )
     links = "".join(f"{v} link {v} {v + 1} = ok\n" for v in range(1, 900))
     browser.open(pages.write(f"matching hh 900\n{links}".encode()))
-    pages.expect("names that are too small to be read", browser.value("getComputedStyle(document.querySelector('.name')).display"), "none")
+    pages.expect(
+        "names that are too small to be read",
+        browser.value("getComputedStyle(document.querySelector('.name')).display"),
+        "none",
+    )
     browser.click(*place(browser, "#save-svg"))
     picture = ElementTree.fromstring(saved(pages.folder, "matching-hh-900-entry-0.svg"))
     pages.expect("stand in the SVG", len(list(picture.iter(f"{SVG}text"))), 900)
@@ -324,7 +398,14 @@ def judges(pages, browser):
     """The foot of a page names its judge; text that a false judge lets in runs nothing, and is told to be no transcript."""
     browser.open(pages.write(RING))
     foot = browser.value("document.getElementById('judged').textContent")
-    pages.expect("the judge that was named", (foot.startswith(f"Judged by {pages.program} audit, which whoever made this page named"), "counts otherwise" in foot), (True, False))
+    pages.expect(
+        "the judge that was named",
+        (
+            foot.startswith(f"Judged by {pages.program} audit, which whoever made this page named"),
+            "counts otherwise" in foot,
+        ),
+        (True, False),
+    )
     verdict = pages.run([pages.program, "audit"], RING)[1].decode().strip()
     pages.expect("its verdict", verdict in foot, True)
     folder = os.path.join(pages.folder, "<script>document.title = 'ran'<")
@@ -335,16 +416,33 @@ def judges(pages, browser):
     os.chmod(false, stat.S_IRWXU)
     for text, line in zip(HOSTILE, WRONG_LINES, strict=True):
         browser.open(pages.write(text, false))
-        said = browser.value("[document.title, document.getElementById('title').textContent, document.querySelectorAll('img, script').length]")
-        pages.expect(f"what is said of {text[:40]}", (said[0], said[1].startswith(f"This is no transcript: line {line} "), said[2]), ("no transcript", True, 4))
-        pages.expect(f"what {text[:40]} fetches", [url for url in browser.fetched if not url.startswith("file:///")], [])
+        said = browser.value(
+            "[document.title, document.getElementById('title').textContent, document.querySelectorAll('img, script').length]"
+        )
+        pages.expect(
+            f"what is said of {text[:40]}",
+            (said[0], said[1].startswith(f"This is no transcript: line {line} "), said[2]),
+            ("no transcript", True, 4),
+        )
+        pages.expect(
+            f"what {text[:40]} fetches", [url for url in browser.fetched if not url.startswith("file:///")], []
+        )
     browser.open(pages.write(RING, false))
     foot = browser.value("document.getElementById('judged').textContent")
-    pages.expect("a judge that counts otherwise", (false in foot, "This page counts otherwise: accepted: 8 entries" in foot), (True, True))
-    for name, answer in [("says nothing", "exit 0"), ("says more", "printf 'accepted: 1 entries, 1 epochs, 0 moves\\n\\n'")]:
+    pages.expect(
+        "a judge that counts otherwise",
+        (false in foot, "This page counts otherwise: accepted: 8 entries" in foot),
+        (True, True),
+    )
+    for name, answer in [
+        ("says nothing", "exit 0"),
+        ("says more", "printf 'accepted: 1 entries, 1 epochs, 0 moves\\n\\n'"),
+    ]:
         with open(false, "w", encoding="ascii") as file:
             file.write(f"#!/usr/bin/env bash\ncat > /dev/null\n{answer}\n")
-        pages.expect(f"a judge that {name}", pages.play(RING, false), (3, b"", f"! {false} gives no verdict\n".encode()))
+        pages.expect(
+            f"a judge that {name}", pages.play(RING, false), (3, b"", f"! {false} gives no verdict\n".encode())
+        )
 
 
 def use(pages, browser):

@@ -91,7 +91,10 @@ def settles(browser, seconds=15):
 
 def edge(browser, low, high, which=0):
     """A place on an edge of the picture, beside its middle where another might lie."""
-    return browser.value(PLACE.replace("document.querySelector(%r)", "document.querySelectorAll(%r)[%d]") % (f"[data-ends='{low}-{high}']", which))
+    return browser.value(
+        PLACE.replace("document.querySelector(%r)", "document.querySelectorAll(%r)[%d]")
+        % (f"[data-ends='{low}-{high}']", which)
+    )
 
 
 def node(browser, name):
@@ -103,7 +106,14 @@ def drag(browser, start, end, steps=4):
     browser.move(x1, y1)
     browser.call("Input.dispatchMouseEvent", type="mousePressed", x=x1, y=y1, button="left", buttons=1, clickCount=1)
     for at in range(1, steps + 1):
-        browser.call("Input.dispatchMouseEvent", type="mouseMoved", x=x1 + (x2 - x1) * at / steps, y=y1 + (y2 - y1) * at / steps, button="left", buttons=1)
+        browser.call(
+            "Input.dispatchMouseEvent",
+            type="mouseMoved",
+            x=x1 + (x2 - x1) * at / steps,
+            y=y1 + (y2 - y1) * at / steps,
+            button="left",
+            buttons=1,
+        )
     browser.call("Input.dispatchMouseEvent", type="mouseReleased", x=x2, y=y2, button="left", clickCount=1)
 
 
@@ -137,14 +147,18 @@ def agrees(pages, browser, name, rules="hh"):
     weight = {"hh": 1, "manne": 3}[rules]
     numbers = [int(told["spent"]), int(told["charge"]), 2 * int(told["edges"]) + weight * int(told["nodes"])]
     pages.expect(f"{name}: the numbers", seen["numbers"], numbers)
-    pages.expect(f"{name}: the picture", {key: seen[key] for key in ("nodes", "edges", "arrows")}, pages.drawing(written))
+    pages.expect(
+        f"{name}: the picture", {key: seen[key] for key in ("nodes", "edges", "arrows")}, pages.drawing(written)
+    )
 
 
 def opens(pages, browser):
     """Who opens the page sees a network that runs or has settled within a second, is told what to do, and sees it mend."""
     browser.open(PLAYGROUND)
     time.sleep(1)
-    said = browser.value("[document.getElementById('hint').textContent, document.querySelectorAll('.graph .node:not(.absent)').length >= 10, document.querySelectorAll('.pointer, .edge.mutual').length > 0]")
+    said = browser.value(
+        "[document.getElementById('hint').textContent, document.querySelectorAll('.graph .node:not(.absent)').length >= 10, document.querySelectorAll('.pointer, .edge.mutual').length > 0]"
+    )
     pages.expect("within a second", said, ["Click a link to cut it.", True, True])
     pages.expect("it settles", settles(browser), True)
     pair = browser.value("document.querySelector('.edge.mutual').dataset.ends").split("-")
@@ -185,11 +199,21 @@ def acts(pages, browser):
     x, y, _ = browser.value(EMPTY)
     browser.click(x, y)
     pages.expect("a node joins", last_act(browser, "join 7"), "join 7")
-    pages.expect("where the click was", [abs(a - b) < 3 for a, b in zip(node(browser, 7), (x, y), strict=True)], [True, True])
+    pages.expect(
+        "where the click was", [abs(a - b) < 3 for a, b in zip(node(browser, 7), (x, y), strict=True)], [True, True]
+    )
     browser.click(*node(browser, 4))
     pages.expect("a node leaves", last_act(browser, "leave 4"), "leave 4")
     browser.click(*place(browser, "#scramble"))
-    pages.expect("registers are scrambled", bool(re.fullmatch(r"scramble \d+ 3", browser.value(f"(document.getElementById('show-script').click(), {ACTS}.at(-1))"))), True)
+    pages.expect(
+        "registers are scrambled",
+        bool(
+            re.fullmatch(
+                r"scramble \d+ 3", browser.value(f"(document.getElementById('show-script').click(), {ACTS}.at(-1))")
+            )
+        ),
+        True,
+    )
     agrees(pages, browser, "acts")
     pages.expect("complaints of acts", browser.complaints, [])
 
@@ -227,7 +251,11 @@ def moves(pages, browser):
         browser.click(*place(browser, "#undo"))
         time.sleep(0.4)
         presses += 1
-    pages.expect("acts are taken back one by one", (browser.value(f"{ACTS}.at(-1)"), browser.value(f"{LINES}.length") < lines), (wanted, True))
+    pages.expect(
+        "acts are taken back one by one",
+        (browser.value(f"{ACTS}.at(-1)"), browser.value(f"{LINES}.length") < lines),
+        (wanted, True),
+    )
     agrees(pages, browser, "what is left", "manne")
     pages.expect("complaints of moves", browser.complaints, [])
 
@@ -237,10 +265,18 @@ def networks(pages, browser):
     for kind in ["ring", "path", "grid", "star", "disk", "random", "racks", "mesh"]:
         for nodes in (2, 23):
             fresh(browser, kind, nodes, "manne" if nodes == 23 else "hh")
-            pages.expect(f"{kind} of {nodes}", (settles(browser), browser.value("document.querySelectorAll('.graph .node:not(.absent)').length")), (True, nodes))
+            pages.expect(
+                f"{kind} of {nodes}",
+                (settles(browser), browser.value("document.querySelectorAll('.graph .node:not(.absent)').length")),
+                (True, nodes),
+            )
         agrees(pages, browser, f"a {kind}", "manne")
     fresh(browser, "mesh", 12, "both")
-    pages.expect("two pictures", browser.value("[...document.querySelectorAll('.pane')].map((pane) => pane.className)"), ["pane hh", "pane manne"])
+    pages.expect(
+        "two pictures",
+        browser.value("[...document.querySelectorAll('.pane')].map((pane) => pane.className)"),
+        ["pane hh", "pane manne"],
+    )
     low, high = browser.value("document.querySelector('#graph-manne .edge.mutual').dataset.ends").split("-")
     browser.click(*browser.value(PLACE % f"#graph-manne [data-ends='{low}-{high}']"))
     browser.click(*place(browser, "#run"))
@@ -255,7 +291,15 @@ def networks(pages, browser):
 def typed(browser, text):
     """Types a text in the place of the field's own, as hands do."""
     browser.click(*place(browser, "#text"))
-    browser.call("Input.dispatchKeyEvent", type="keyDown", key="a", code="KeyA", windowsVirtualKeyCode=65, modifiers=2, commands=["selectAll"])
+    browser.call(
+        "Input.dispatchKeyEvent",
+        type="keyDown",
+        key="a",
+        code="KeyA",
+        windowsVirtualKeyCode=65,
+        modifiers=2,
+        commands=["selectAll"],
+    )
     browser.call("Input.dispatchKeyEvent", type="keyUp", key="a", code="KeyA", windowsVirtualKeyCode=65, modifiers=2)
     browser.call("Input.insertText", text=text)
 
@@ -271,7 +315,15 @@ def texts(pages, browser):
     typed(browser, "link 1 2\n<img src=x onerror=\"document.title = 'ran'\">\n")
     browser.click(*place(browser, "#text-use"))
     said = browser.value(f"[{STORY}, document.title, document.images.length]")
-    pages.expect("a line that is none", said, ["The script was not played: line 2 is no command: <img src=x onerror=\"document.title = 'ran'\">.", "Break a network by hand", 0])
+    pages.expect(
+        "a line that is none",
+        said,
+        [
+            "The script was not played: line 2 is no command: <img src=x onerror=\"document.title = 'ran'\">.",
+            "Break a network by hand",
+            0,
+        ],
+    )
     browser.click(*place(browser, "#undo"))
     browser.click(*place(browser, "#text-save"))
     browser.click(*place(browser, "#show-transcript"))
@@ -283,13 +335,27 @@ def texts(pages, browser):
     typed(browser, "matching hh 2\n1 link 1 2 = ok\n2 step 1 = 1:marry>2\n")
     browser.click(*place(browser, "#text-use"))
     refusal = browser.value("['refusal-said', 'refusal-line'].map((id) => document.getElementById(id).textContent)")
-    pages.expect("a transcript that was forged", refusal, ["The transcript is refused: line 3: not the machine's reply", "2 step 1 = 1:marry>2"])
+    pages.expect(
+        "a transcript that was forged",
+        refusal,
+        ["The transcript is refused: line 3: not the machine's reply", "2 step 1 = 1:marry>2"],
+    )
     typed(browser, "matching hh 2\n1 link 1 2 = ok\n2 step 1 = 1:seduce>2\n")
     browser.click(*place(browser, "#text-use"))
-    pages.expect("one that was mended is played", waited(browser, "document.title", "hh: 2 nodes, 2 entries"), "hh: 2 nodes, 2 entries")
+    pages.expect(
+        "one that was mended is played",
+        waited(browser, "document.title", "hh: 2 nodes, 2 entries"),
+        "hh: 2 nodes, 2 entries",
+    )
     browser.key("End", "End", 35)
-    foot = browser.value("[document.body.dataset.entry, document.getElementById('judged').textContent, document.getElementById('judged').className]")
-    pages.expect("and its judge is named", (foot[0], "the audit inside this page" in foot[1], "2 entries, 2 epochs, 1 moves" in foot[1], foot[2]), ("2", True, True, ""))
+    foot = browser.value(
+        "[document.body.dataset.entry, document.getElementById('judged').textContent, document.getElementById('judged').className]"
+    )
+    pages.expect(
+        "and its judge is named",
+        (foot[0], "the audit inside this page" in foot[1], "2 entries, 2 epochs, 1 moves" in foot[1], foot[2]),
+        ("2", True, True, ""),
+    )
     browser.click(*place(browser, "#to-lab"))
     pages.expect("and back", waited(browser, "document.title", "Break a network by hand"), "Break a network by hand")
     pages.expect("complaints of texts", browser.complaints, [])
@@ -320,13 +386,23 @@ def drops(pages, browser):
         dropped(browser, path)
         wanted = f"The transcript is refused: {said}"
         came = waited(browser, "document.getElementById('refusal-said').textContent", wanted)
-        seen = browser.value("[document.title, document.images.length, document.querySelectorAll('script').length, document.getElementById('refusal').hidden]")
+        seen = browser.value(
+            "[document.title, document.images.length, document.querySelectorAll('script').length, document.getElementById('refusal').hidden]"
+        )
         pages.expect(f"a hostile transcript, {at}", (came, seen), (wanted, ["Break a network by hand", 0, 4, False]))
     example = f"{TOP}/examples/breaks_and_mends.transcript"
     dropped(browser, example)
     verdict = pages.run([pages.program, "audit"], open(example, "rb").read())[1].decode().strip()
-    pages.expect("one that is accepted is played", waited(browser, f"document.getElementById('judged').textContent.includes({verdict!r})", True), True)
-    pages.expect("heads of arrows are drawn", browser.value("document.querySelector('#arrow').ownerSVGElement.getClientRects().length"), 1)
+    pages.expect(
+        "one that is accepted is played",
+        waited(browser, f"document.getElementById('judged').textContent.includes({verdict!r})", True),
+        True,
+    )
+    pages.expect(
+        "heads of arrows are drawn",
+        browser.value("document.querySelector('#arrow').ownerSVGElement.getClientRects().length"),
+        1,
+    )
     pages.expect("the refusal is gone", browser.value("document.getElementById('refusal').hidden"), True)
     browser.key("End", "End", 35)
     entries = verdict.split(" ")[1]
@@ -334,10 +410,14 @@ def drops(pages, browser):
     with open(path, "wb") as file:
         file.write(b"matching hh 2\n1 link 1 2 = ok\n")
     dropped(browser, path)
-    pages.expect("another one in its place", waited(browser, "document.title", "hh: 2 nodes, 1 entry"), "hh: 2 nodes, 1 entry")
+    pages.expect(
+        "another one in its place", waited(browser, "document.title", "hh: 2 nodes, 1 entry"), "hh: 2 nodes, 1 entry"
+    )
     browser.key("ArrowRight", "ArrowRight", 39)
     pages.expect("is alone played by keys", browser.value("document.body.dataset.entry"), "1")
-    pages.expect("what dropping fetches", [url for url in browser.fetched if not url.startswith(("file:", "blob:"))], [])
+    pages.expect(
+        "what dropping fetches", [url for url in browser.fetched if not url.startswith(("file:", "blob:"))], []
+    )
     pages.expect("complaints of dropping", browser.complaints, [])
 
 
@@ -349,17 +429,30 @@ def addresses(pages, browser):
     pages.expect("a script in the address", browser.value(LINES), ["link 1 2", "link 2 3", "drive 7 100"])
     agrees(pages, browser, "a script in the address", "manne")
     browser.click(*place(browser, "#text-link"))
-    pages.expect("and written there", browser.value("location.hash"), "#script=link+1+2;link+2+3;drive+7+100&rules=manne&nodes=4&present=3")
-    for at, (words, said) in enumerate([
-        ("script=%3Cimg+src=x+onerror=document.title='ran'%3E", "line 1 is no command: <img src"), ("script=link+1+2&nodes=99999", "nodes has to be a number from 0 to 600"),
-        ("script=link+1+2&rules=<script>", "rules are hh or manne"), ("script=" + "link+1+2;" * 900, "is longer than 4000"), ("script=link+1+2&nodes=2&present=3", "present has to be"),
-        ("script=javascript:alert(1)", "line 1 is no command"), ("script=%ff%00", "line 1 is no command"), ("script=link+1+2;lnk&nodes=4", "line 2 is no command: lnk"),
-    ]):
+    pages.expect(
+        "and written there",
+        browser.value("location.hash"),
+        "#script=link+1+2;link+2+3;drive+7+100&rules=manne&nodes=4&present=3",
+    )
+    for at, (words, said) in enumerate(
+        [
+            ("script=%3Cimg+src=x+onerror=document.title='ran'%3E", "line 1 is no command: <img src"),
+            ("script=link+1+2&nodes=99999", "nodes has to be a number from 0 to 600"),
+            ("script=link+1+2&rules=<script>", "rules are hh or manne"),
+            ("script=" + "link+1+2;" * 900, "is longer than 4000"),
+            ("script=link+1+2&nodes=2&present=3", "present has to be"),
+            ("script=javascript:alert(1)", "line 1 is no command"),
+            ("script=%ff%00", "line 1 is no command"),
+            ("script=link+1+2;lnk&nodes=4", "line 2 is no command: lnk"),
+        ]
+    ):
         browser.open(f"{TOP}/viewer/page.css")
         browser.open(PLAYGROUND + "#" + words)
         refusal = "document.getElementById('refusal-said').textContent"
         waited(browser, f"{refusal}.startsWith('The address holds no script')", True, 3)
-        told = browser.value(f"[{refusal}, document.title, document.images.length, document.querySelectorAll('script').length]")
+        told = browser.value(
+            f"[{refusal}, document.title, document.images.length, document.querySelectorAll('script').length]"
+        )
         pages.expect(f"a hostile address, {at}", (said in told[0], told[1:]), (True, ["Break a network by hand", 0, 4]))
     pages.expect("what addresses fetch", [url for url in browser.fetched if not url.startswith("file:")], [])
     pages.expect("complaints of addresses", browser.complaints, [])
@@ -382,7 +475,9 @@ def fingers(pages, browser):
         browser.touch("Move", (before[0] + 6 * step, before[1] + 5 * step))
     browser.touch("End")
     after = node(browser, 5)
-    pages.expect("a finger drags a node", [24 < after[0] - before[0] < 36, 19 < after[1] - before[1] < 31], [True, True])
+    pages.expect(
+        "a finger drags a node", [24 < after[0] - before[0] < 36, 19 < after[1] - before[1] < 31], [True, True]
+    )
     browser.value("document.querySelector(\"[data-tool='link']\").click()")
     start, end = node(browser, 1), node(browser, 4)
     browser.touch("Start", start)
@@ -405,8 +500,15 @@ def keys(pages, browser):
     fresh(browser, "ring", 6)
     browser.value("document.querySelector('.graph').focus()")
     press = {
-        "down": ("ArrowDown", "ArrowDown", 40), "enter": ("Enter", "Enter", 13), "e": ("e", "KeyE", 69, "e"), "z": ("z", "KeyZ", 90, "z"), "a": ("a", "KeyA", 65, "a"),
-        "x": ("x", "KeyX", 88, "x"), ".": (".", "Period", 190, "."), " ": (" ", "Space", 32, " "), **{str(n): (str(n), f"Digit{n}", 48 + n, str(n)) for n in range(1, 7)},
+        "down": ("ArrowDown", "ArrowDown", 40),
+        "enter": ("Enter", "Enter", 13),
+        "e": ("e", "KeyE", 69, "e"),
+        "z": ("z", "KeyZ", 90, "z"),
+        "a": ("a", "KeyA", 65, "a"),
+        "x": ("x", "KeyX", 88, "x"),
+        ".": (".", "Period", 190, "."),
+        " ": (" ", "Space", 32, " "),
+        **{str(n): (str(n), f"Digit{n}", 48 + n, str(n)) for n in range(1, 7)},
     }
 
     def strike(*names):
@@ -427,7 +529,14 @@ def keys(pages, browser):
     pages.expect("and is back", last_act(browser, "join 7"), "join 7")
     before = node(browser, 2)
     strike("1", "down", "down")
-    browser.call("Input.dispatchKeyEvent", type="rawKeyDown", key="ArrowRight", code="ArrowRight", windowsVirtualKeyCode=39, modifiers=8)
+    browser.call(
+        "Input.dispatchKeyEvent",
+        type="rawKeyDown",
+        key="ArrowRight",
+        code="ArrowRight",
+        windowsVirtualKeyCode=39,
+        modifiers=8,
+    )
     pages.expect("a node is moved", node(browser, 2)[0] > before[0] + 5, True)
     strike("x", " ")
     pages.expect("it mends", settles(browser), True)
@@ -464,7 +573,9 @@ def many(pages, browser):
 
 def without(pages, browser):
     """A browser without 64-bit memory gets one sentence, and plays transcripts."""
-    script = browser.call("Page.addScriptToEvaluateOnNewDocument", source="WebAssembly.validate = () => false;")["identifier"]
+    script = browser.call("Page.addScriptToEvaluateOnNewDocument", source="WebAssembly.validate = () => false;")[
+        "identifier"
+    ]
     browser.open(PLAYGROUND)
     hint = browser.value("document.getElementById('hint').textContent")
     pages.expect("one clear sentence", "64-bit WebAssembly memory, which this browser lacks" in hint, True)

@@ -46,7 +46,14 @@ def graph(nodes, edges, seed):
 
 def mended(seed, faults=6):
     """It settles, is broken, and settles again."""
-    return [f"drive {seed} 10000", "status", f"scramble {seed + 1} {faults}", "enabled", f"drive {seed + 2} 10000", "matching"]
+    return [
+        f"drive {seed} 10000",
+        "status",
+        f"scramble {seed + 1} {faults}",
+        "enabled",
+        f"drive {seed + 2} 10000",
+        "matching",
+    ]
 
 
 def stirred(nodes, seed, events):
@@ -54,17 +61,49 @@ def stirred(nodes, seed, events):
     chance = random.Random(seed)
     name = lambda: chance.randint(1, nodes + 1)  # noqa: E731
     kinds = [
-        lambda: f"link {name()} {name()}", lambda: f"unlink {name()} {name()}", lambda: f"point {name()} {name()}",
-        lambda: f"point {name()} -", lambda: f"flag {name()} {chance.randint(0, 1)}", lambda: f"step {name()}",
-        lambda: f"step {name()}>{name()}", lambda: f"step {name()} {name()}", lambda: "step", lambda: f"show {name()}",
-        lambda: "enabled", lambda: "matching", lambda: "status", lambda: f"join {name()}", lambda: f"leave {name()}", lambda: f"drive {chance.randint(0, 99)} 3",
+        lambda: f"link {name()} {name()}",
+        lambda: f"unlink {name()} {name()}",
+        lambda: f"point {name()} {name()}",
+        lambda: f"point {name()} -",
+        lambda: f"flag {name()} {chance.randint(0, 1)}",
+        lambda: f"step {name()}",
+        lambda: f"step {name()}>{name()}",
+        lambda: f"step {name()} {name()}",
+        lambda: "step",
+        lambda: f"show {name()}",
+        lambda: "enabled",
+        lambda: "matching",
+        lambda: "status",
+        lambda: f"join {name()}",
+        lambda: f"leave {name()}",
+        lambda: f"drive {chance.randint(0, 99)} 3",
     ]
     return [chance.choice(kinds)() for _ in range(events)]
 
 
 EVERY_REFUSAL = [
-    "link 1 1", "link 1 9", "link 1 2", "link 2 1", "unlink 1 3", "unlink 9 9", "point 1 3", "point 9 -", "flag 9 1", "flag 1 1",
-    "join 1", "join 9", "leave 9", "step", "step 9", "show 9", "step 1 1", "step 3", "step 2>3", "step 1>3", "drive 1 5", "enabled",
+    "link 1 1",
+    "link 1 9",
+    "link 1 2",
+    "link 2 1",
+    "unlink 1 3",
+    "unlink 9 9",
+    "point 1 3",
+    "point 9 -",
+    "flag 9 1",
+    "flag 1 1",
+    "join 1",
+    "join 9",
+    "leave 9",
+    "step",
+    "step 9",
+    "show 9",
+    "step 1 1",
+    "step 3",
+    "step 2>3",
+    "step 1>3",
+    "drive 1 5",
+    "enabled",
 ]
 
 
@@ -78,15 +117,31 @@ def examples():
 def of_both():
     """Networks that both rule sets play."""
     wide = [f"step {' '.join(map(str, range(1, 13)))}", "step 12 3 7", "drive 4 9"]
-    parted = ["link 1 2", "drive 1 9", "unlink 1 2", "link 2 3", "drive 2 9", "unlink 2 3", "unlink 2 3", "link 1 2", "status"]
+    parted = [
+        "link 1 2",
+        "drive 1 9",
+        "unlink 1 2",
+        "link 2 3",
+        "drive 2 9",
+        "unlink 2 3",
+        "unlink 2 3",
+        "link 1 2",
+        "status",
+    ]
     scripts = {
         "no nodes": (0, ["enabled", "matching", "status", "link 1 2"]),
         "one node": (1, ["link 1 1", "step 1", "drive 1 5", "scramble 1 3", "status"]),
         "a pair that is parted": (3, parted),
-        "hosts that leave and come back": (6, ring(6) + ["drive 3 99", "leave 2", "enabled", "drive 5 99", "leave 5", "join 2", "link 2 1", "drive 7 99"]),
+        "hosts that leave and come back": (
+            6,
+            ring(6) + ["drive 3 99", "leave 2", "enabled", "drive 5 99", "leave 5", "join 2", "link 2 1", "drive 7 99"],
+        ),
         "every refusal": (3, EVERY_REFUSAL),
         "a ring of seven": (7, ring(7) + mended(3)),
-        "a ring of forty, with a chord": (40, ring(40) + mended(7, 12) + ["unlink 7 8", "link 7 20", "drive 9 99", "link 7 8"]),
+        "a ring of forty, with a chord": (
+            40,
+            ring(40) + mended(7, 12) + ["unlink 7 8", "link 7 20", "drive 9 99", "link 7 8"],
+        ),
         "a ring of seventy": (70, ring(70) + mended(5, 20)),
         "a path of nine": (9, path(9) + mended(11)),
         "two rings and nodes alone": (14, ring(5) + [f"link {v + 5} {(v + 1) % 4 + 6}" for v in range(4)] + mended(2)),
@@ -106,15 +161,46 @@ def of_both():
 def scripts():
     storm = ("link 1 2\ndrive 7 100\nscramble 3 9\n", "link 3 4\nlink 2 3\nscramble 5 20\ndrive 2 9\n")
     joined = [f"join {v}" for v in range(7, 13)]
-    grown = "".join(f"{line}\n" for line in [*grid(3, 2), "drive 3 40", *joined, *grid(3, 4), *mended(9), "leave 5", *mended(3)])
-    kept = "".join(f"{line}\n" for line in ["checkpoint", *grid(3, 3), "checkpoint", *mended(5), "checkpoint", "checkpoint", "leave 5", *mended(8)])
-    begun = "".join(f"{line}\n" for line in [*grid(3, 3), "drive 3 5", "scramble 4 6", "leave 8", "drive 2 3", "checkpoint", *mended(8), "join 8", "link 7 8"])
+    grown = "".join(
+        f"{line}\n" for line in [*grid(3, 2), "drive 3 40", *joined, *grid(3, 4), *mended(9), "leave 5", *mended(3)]
+    )
+    kept = "".join(
+        f"{line}\n"
+        for line in [
+            "checkpoint",
+            *grid(3, 3),
+            "checkpoint",
+            *mended(5),
+            "checkpoint",
+            "checkpoint",
+            "leave 5",
+            *mended(8),
+        ]
+    )
+    begun = "".join(
+        f"{line}\n"
+        for line in [
+            *grid(3, 3),
+            "drive 3 5",
+            "scramble 4 6",
+            "leave 8",
+            "drive 2 3",
+            "checkpoint",
+            *mended(8),
+            "join 8",
+            "link 7 8",
+        ]
+    )
     many = [f"link {v} {v + 7}" for v in range(1, 2_600)] + ["drive 3 60", "status"]
     return [
-        *examples(), *of_both(),
+        *examples(),
+        *of_both(),
         Page("a storm under manne", "manne", 4, storm=storm),
         Page("no entries under hh", "hh", 5),
-        *[Page(f"a grid of which half is there under {rules}", rules, 12, grown, present=6) for rules in ("hh", "manne")],
+        *[
+            Page(f"a grid of which half is there under {rules}", rules, 12, grown, present=6)
+            for rules in ("hh", "manne")
+        ],
         *[Page(f"checkpoints under {rules}", rules, 9, kept) for rules in ("hh", "manne")],
         *[Page(f"a grid from a base on under {rules}", rules, 10, begun, from_base=True) for rules in ("hh", "manne")],
         Page("more nodes than are drawn", "manne", 2_607, "".join(f"{line}\n" for line in many)),

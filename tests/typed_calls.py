@@ -27,19 +27,36 @@ class Counts(ctypes.Structure):
 def typed(library, slot):
     """The calls of a shared library, with their types."""
     number, told = ctypes.c_uint32, ctypes.POINTER(Told)
-    of = {name: [number] for name in ("join", "leave", "show")} | {name: [number] * 2 for name in ("link", "unlink", "point")}
-    of |= {"flag": [number, ctypes.c_bool], "step": [ctypes.POINTER(Item), ctypes.c_size_t], "enabled": [], "pairs": [], "checkpoint": []}
+    of = {name: [number] for name in ("join", "leave", "show")} | {
+        name: [number] * 2 for name in ("link", "unlink", "point")
+    }
+    of |= {
+        "flag": [number, ctypes.c_bool],
+        "step": [ctypes.POINTER(Item), ctypes.c_size_t],
+        "enabled": [],
+        "pairs": [],
+        "checkpoint": [],
+    }
     of |= {"status": [ctypes.POINTER(Counts)]} | {name: [ctypes.c_uint64, number] for name in ("drive", "scramble")}
     calls = {}
     for name, words in of.items():
         calls[name] = library[f"rudekpi_{name}"]
         calls[name].argtypes = [slot, *words, told]
-    for name, words in {"rows": [ctypes.POINTER(Row), ctypes.c_size_t], "transcript": [ctypes.c_bool], "partner": [number, ctypes.POINTER(number)]}.items():
+    for name, words in {
+        "rows": [ctypes.POINTER(Row), ctypes.c_size_t],
+        "transcript": [ctypes.c_bool],
+        "partner": [number, ctypes.POINTER(number)],
+    }.items():
         calls[name] = library[f"rudekpi_{name}"]
         calls[name].argtypes = [slot, *words]
     for name, count in EDITS.items():
         calls[f"cost_of_{name}"] = library[f"rudekpi_cost_of_{name}"]
-        calls[f"cost_of_{name}"].argtypes = [slot, *[number] * (count - (name == "flag")), *[ctypes.c_bool] * (name == "flag"), ctypes.POINTER(number)]
+        calls[f"cost_of_{name}"].argtypes = [
+            slot,
+            *[number] * (count - (name == "flag")),
+            *[ctypes.c_bool] * (name == "flag"),
+            ctypes.POINTER(number),
+        ]
     calls["rows"].restype = ctypes.c_size_t
     return calls
 
@@ -85,7 +102,9 @@ def expected(line, entries, base):
     number, reply = entries[-1].split(" ")[0], entries[-1].split(" = ")[1]
     if reply.startswith("refused "):
         return REFUSED, (int(number), int(reply.split(" ")[1]), 0, 0), [], None
-    listed = [row_of(it) for it in reply.split(" ")] if word in ("step", "enabled", "matching") and reply != "none" else []
+    listed = (
+        [row_of(it) for it in reply.split(" ")] if word in ("step", "enabled", "matching") and reply != "none" else []
+    )
     target = int(reply) if word == "show" and reply != "-" else 0
     counts = [int(it.split("=")[1]) for it in reply.split(" ")] if word == "status" else None
     return DONE, (int(number), 0, target, len(listed)), listed, counts

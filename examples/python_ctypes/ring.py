@@ -12,11 +12,17 @@ MANNE, DONE, ACCEPTED = 1, 0, 0
 
 class Slot(ctypes.Structure):
     """Where a session is kept: all bytes 0 at first, and never copied while it is full."""
+
     _fields_ = [("at", ctypes.c_void_p), ("full", ctypes.c_bool)]
 
 
 class Told(ctypes.Structure):
-    _fields_ = [("entry", ctypes.c_uint32), ("refusal", ctypes.c_uint32), ("target", ctypes.c_uint32), ("rows", ctypes.c_size_t)]
+    _fields_ = [
+        ("entry", ctypes.c_uint32),
+        ("refusal", ctypes.c_uint32),
+        ("target", ctypes.c_uint32),
+        ("rows", ctypes.c_size_t),
+    ]
 
 
 class Counts(ctypes.Structure):
@@ -28,7 +34,10 @@ class Row(ctypes.Structure):
 
 
 class Verdict(ctypes.Structure):
-    _fields_ = [(name, ctypes.c_uint32) for name in ("kind", "entries", "epochs")] + [("moves", ctypes.c_uint64), ("line", ctypes.c_uint64)]
+    _fields_ = [(name, ctypes.c_uint32) for name in ("kind", "entries", "epochs")] + [
+        ("moves", ctypes.c_uint64),
+        ("line", ctypes.c_uint64),
+    ]
 
 
 class Ring:
@@ -87,7 +96,10 @@ def main():
         ring.ask("status", ctypes.byref(counts))
         text = ring.text()
         verdict = ring.audit(text)
-    print(f"{counts.pairs} pairs after {counts.spent} moves; the audit has {verdict.entries} entries, {verdict.moves} moves", file=sys.stderr)
+    print(
+        f"{counts.pairs} pairs after {counts.spent} moves; the audit has {verdict.entries} entries, {verdict.moves} moves",
+        file=sys.stderr,
+    )
     sys.stdout.write(text.decode())
     return 0 if verdict.kind == ACCEPTED and not counts.enabled else 1
 

@@ -38,6 +38,7 @@ def handed_on(words: Sequence[str]) -> int:
 def told(words: Sequence[str]) -> int:
     """Does what the words of the bench say."""
     from . import commands
+
     try:
         return commands.run(words)
     except BrokenPipeError:

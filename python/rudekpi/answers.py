@@ -39,8 +39,22 @@ class Answers:
     """
 
     __slots__ = (
-        "setting", "asked", "front", "dropped", "came", "rest", "lines", "entries", "held", "held_size", "base_nodes", "base_size",
-        "said", "said_size", "last_base", "wrong",
+        "setting",
+        "asked",
+        "front",
+        "dropped",
+        "came",
+        "rest",
+        "lines",
+        "entries",
+        "held",
+        "held_size",
+        "base_nodes",
+        "base_size",
+        "said",
+        "said_size",
+        "last_base",
+        "wrong",
     )
 
     def __init__(self, setting: Setting) -> None:
@@ -77,7 +91,13 @@ class Answers:
         new: Answers = Answers.__new__(Answers)
         new.setting, new.asked, new.front, new.dropped = self.setting, self.asked, self.front, self.dropped
         new.came, new.lines, new.entries = [], self.lines, self.entries
-        new.held, new.base_nodes, new.base_size, new.said, new.wrong = self.held, self.base_nodes, self.base_size, self.said, self.wrong
+        new.held, new.base_nodes, new.base_size, new.said, new.wrong = (
+            self.held,
+            self.base_nodes,
+            self.base_size,
+            self.said,
+            self.wrong,
+        )
         new.last_base = None
         return new
 

@@ -23,6 +23,7 @@ Text = Union[str, bytes, bytearray, memoryview]
 @dataclass(frozen=True)
 class Slice:
     """The bytes of a file from a place to another, of which no copy is made; the file is a path, the number of an open one, or bytes."""
+
     file: Union[str, int, bytes]
     start: int
     end: int

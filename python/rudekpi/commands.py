@@ -38,10 +38,12 @@ def listed(text: str) -> list[str]:
 
 def least(fewest: int) -> Callable[[str], int]:
     """A reader of numbers, of which none is below the least."""
+
     def read(text: str) -> int:
         if not (text.isascii() and text.isdigit()) or int(text) < fewest:
             raise argparse.ArgumentTypeError(f"{text!r} is no number from {fewest} on")
         return int(text)
+
     return read
 
 
@@ -60,17 +62,31 @@ def words_of_sweep(parser: argparse.ArgumentParser, rules: str) -> None:
     """What `sweep` and `compare` are told."""
     parser.add_argument("--graph", action="append", required=True, type=graph_given, help=f"{MADE}; may be given again")
     parser.add_argument("--rules", type=listed, default=rules, help="hh,manne or one of them (%(default)s)")
-    parser.add_argument("--daemon", type=listed, default="seeded", help=f"some of {','.join(daemons.WORDS)} (%(default)s)")
+    parser.add_argument(
+        "--daemon", type=listed, default="seeded", help=f"some of {','.join(daemons.WORDS)} (%(default)s)"
+    )
     parser.add_argument("--seeds", type=least(1), default=10, help="how many seeds (%(default)s)")
     parser.add_argument("--first-seed", type=least(0), default=0, help="the first of them (%(default)s)")
-    parser.add_argument("--faults", type=counts, default="0", help="numbers of faults, as 10,50, once it is silent; 0: from the start (%(default)s)")
-    parser.add_argument("--registers", choices=sweeps.REGISTERS, default="any", help="which registers faults hit; flags are there under manne alone (%(default)s)")
+    parser.add_argument(
+        "--faults",
+        type=counts,
+        default="0",
+        help="numbers of faults, as 10,50, once it is silent; 0: from the start (%(default)s)",
+    )
+    parser.add_argument(
+        "--registers",
+        choices=sweeps.REGISTERS,
+        default="any",
+        help="which registers faults hit; flags are there under manne alone (%(default)s)",
+    )
     parser.add_argument("--joins", type=least(0), default=0, help="how many nodes come, with their edges (%(default)s)")
     parser.add_argument("--leaves", type=least(0), default=0, help="how many nodes go (%(default)s)")
     parser.add_argument("--csv", help="a file for the rows, each as it comes (standard output)")
     parser.add_argument("--plot", help="a file for a plot: .svg, .png or .pdf; wants matplotlib")
     parser.add_argument("--processes", type=least(1), help="how many (one a processor)")
-    parser.add_argument("--dask", metavar="tcp://HOST:PORT", help="a scheduler of Dask, whose workers then play; wants distributed")
+    parser.add_argument(
+        "--dask", metavar="tcp://HOST:PORT", help="a scheduler of Dask, whose workers then play; wants distributed"
+    )
     parser.add_argument("--program", help="the program that plays")
 
 
@@ -101,6 +117,7 @@ def rows_of(given: argparse.Namespace, rows: list[Row], file: Any) -> int:
         print(f"! left out: {math.prod(map(len, words)) - total} experiments, since {why}", file=sys.stderr)
     if given.plot:
         from . import plots
+
         plots.check(given.plot)
     with executor_of(given) as executor:
         found = sweeps.sweep(*words, executor=executor, program=given.program, processes=given.processes)
@@ -124,6 +141,7 @@ def run_sweep(given: argparse.Namespace) -> int:
 def plot_rows(given: argparse.Namespace, rows: list[Row]) -> None:
     if given.plot and rows:
         from . import plots
+
         plots.of_rows(rows, given.plot)
 
 
@@ -146,21 +164,40 @@ def table_of(rows: Sequence[Row]) -> list[str]:
     groups: dict[tuple[str, ...], list[Row]] = {}
     for row in rows:
         groups.setdefault((row.graph, row.disturbance, row.daemon, row.rules), []).append(row)
-    lines: list[tuple[str, ...]] = [("graph", "disturbance", "daemon", "rules", "runs", "min", "mean", "median", "95th", "max", "bound")]
+    lines: list[tuple[str, ...]] = [
+        ("graph", "disturbance", "daemon", "rules", "runs", "min", "mean", "median", "95th", "max", "bound")
+    ]
     for key, group in sorted(groups.items(), key=lambda item: [by_number(word) for word in item[0]]):
         moves = sorted(row.moves for row in group)
-        figures = [min(moves), f"{statistics.mean(moves):.1f}", f"{statistics.median(moves):g}", moves[(len(moves) * 95 + 99) // 100 - 1], max(moves)]
+        figures = [
+            min(moves),
+            f"{statistics.mean(moves):.1f}",
+            f"{statistics.median(moves):g}",
+            moves[(len(moves) * 95 + 99) // 100 - 1],
+            max(moves),
+        ]
         lines.append((*key, *map(str, [len(moves), *figures, max(row.bound for row in group)])))
     widths = [max(map(len, column)) for column in zip(*lines)]
-    return ["  ".join(text.ljust(width) if at < 4 else text.rjust(width) for at, (text, width) in enumerate(zip(line, widths))) for line in lines]
+    return [
+        "  ".join(
+            text.ljust(width) if at < 4 else text.rjust(width) for at, (text, width) in enumerate(zip(line, widths))
+        )
+        for line in lines
+    ]
 
 
 def run_worst(given: argparse.Namespace) -> int:
     """The longest schedule, as a script that was played and judged."""
     found = longest(given.graph, given.rules, seconds=given.seconds, seed=given.seed)
     transcript = found.play(program=given.program)
-    known = f"the longest of all, in {found.states} states" if found.is_proved else f"the longest found, in {found.states} tries"
-    print(f"{found.graph.title}, {found.rules}: {found.moves} moves, {known}; the bound is {found.bound}", file=sys.stderr)
+    known = (
+        f"the longest of all, in {found.states} states"
+        if found.is_proved
+        else f"the longest found, in {found.states} tries"
+    )
+    print(
+        f"{found.graph.title}, {found.rules}: {found.moves} moves, {known}; the bound is {found.bound}", file=sys.stderr
+    )
     with opened(given.output, "w", sys.stdout) as file:
         file.write(transcript if given.transcript else found.script())
     return DONE
@@ -174,7 +211,9 @@ def run_check(given: argparse.Namespace) -> int:
     for count, (number, why) in enumerate(script_words.faults_of(script), 1):
         print(f"line {number}: {why}")
     if not count:
-        print(f"each of {script.count(10) + (not script.endswith(b'%c' % 10) and bool(script))} lines is a command, or empty")
+        print(
+            f"each of {script.count(10) + (not script.endswith(b'%c' % 10) and bool(script))} lines is a command, or empty"
+        )
     return FAILED if count else DONE
 
 
@@ -206,11 +245,18 @@ def parser_of() -> argparse.ArgumentParser:
         return made
 
     words_of_sweep(command("sweep", run_sweep, "plays networks by the thousand, a CSV row each"), "manne")
-    words_of_sweep(command("compare", run_compare, "a table of the moves under both rule sets, beside the bound"), "hh,manne")
+    words_of_sweep(
+        command("compare", run_compare, "a table of the moves under both rule sets, beside the bound"), "hh,manne"
+    )
     worst = command("worst", run_worst, "the longest schedule of a network, as a script")
     worst.add_argument("--graph", required=True, type=graph_given, help=MADE)
     worst.add_argument("--rules", choices=("hh", "manne"), default="manne")
-    worst.add_argument("--seconds", type=least(0), default=10, help="for a search, where there are too many states to look at all (%(default)s)")
+    worst.add_argument(
+        "--seconds",
+        type=least(0),
+        default=10,
+        help="for a search, where there are too many states to look at all (%(default)s)",
+    )
     worst.add_argument("--seed", type=least(0), default=0, help="of that search (%(default)s)")
     worst.add_argument("--transcript", action="store_true", help="writes the transcript, and not the script")
     worst.add_argument("--output", help="a file (standard output)")

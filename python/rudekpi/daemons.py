@@ -39,13 +39,16 @@ class Synchronous:
 
     def begin(self, net: Network) -> Daemon:
         if net.rules == "hh":
-            raise ValueError("the synchronous daemon wants the rules 'manne': those of Hsu and Huang take one node at a time")
+            raise ValueError(
+                "the synchronous daemon wants the rules 'manne': those of Hsu and Huang take one node at a time"
+            )
         return list
 
 
 @dataclass(frozen=True)
 class ByName:
     """The enabled node of the least number, or of the greatest."""
+
     greatest: bool = False
 
     def begin(self, net: Network) -> Daemon:
@@ -65,6 +68,7 @@ class ByAge:
             node = min(enabled, key=lambda name: (moved.get(name, -1), net.number_of(name)))
             moved[node] = next(turns)
             return [node]
+
         return choose
 
 
@@ -72,6 +76,7 @@ class ByAge:
 class Seeded:
     """The program's own daemon of chance with this seed, 0 to 2^64 - 1: one enabled node under `hh`; under `manne` each with the chance
     of a half, and one at least. A run costs one command, not two a step."""
+
     seed: int = 0
 
     def settle(self, net: Network) -> Settled:
@@ -88,6 +93,7 @@ class Seeded:
 class Greedy:
     """The enabled node, and its target, of which the move lets the charge fall least; or most. Each step looks at every enabled node
     and at the edges near it."""
+
     most: bool = False
 
     def begin(self, net: Network) -> Daemon:
@@ -101,14 +107,20 @@ class Greedy:
                     found.append((sign * rules.fall(state, node, rule, target), node, target))
             _, node, target = min(found)
             return [Wish(net.name_of(node), net.name_of(target)) if target else net.name_of(node)]
+
         return choose
 
 
 AnyDaemon = Union[Synchronous, ByName, ByAge, Seeded, Greedy]
 # each daemon's word, and what it is made of
 WORDS: dict[str, Callable[[int], AnyDaemon]] = {
-    "synchronous": lambda seed: Synchronous(), "least": lambda seed: ByName(), "greatest": lambda seed: ByName(greatest=True),
-    "age": lambda seed: ByAge(), "seeded": Seeded, "greedy": lambda seed: Greedy(), "helpful": lambda seed: Greedy(most=True),
+    "synchronous": lambda seed: Synchronous(),
+    "least": lambda seed: ByName(),
+    "greatest": lambda seed: ByName(greatest=True),
+    "age": lambda seed: ByAge(),
+    "seeded": Seeded,
+    "greedy": lambda seed: Greedy(),
+    "helpful": lambda seed: Greedy(most=True),
 }
 
 
@@ -116,7 +128,9 @@ def check_daemon(daemon: Any) -> None:
     """Raises `TypeError` for what is no daemon: a word, or one of the types above in the place of what it makes."""
     is_type = isinstance(daemon, type) and issubclass(daemon, get_args(AnyDaemon))
     if is_type or not (callable(daemon) or hasattr(daemon, "begin") or isinstance(daemon, Seeded)):
-        raise TypeError(f"{daemon!r} is no daemon: such are ByName(), named('least') and any function from the enabled nodes to those that move")
+        raise TypeError(
+            f"{daemon!r} is no daemon: such are ByName(), named('least') and any function from the enabled nodes to those that move"
+        )
 
 
 def named(word: str, seed: int = 0) -> AnyDaemon:

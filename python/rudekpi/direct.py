@@ -12,7 +12,21 @@ from .batch import Batch
 from .choices import numbers_of
 from .errors import Ended, Refused, RudekpiError, text_of
 from .library import (
-    COUNTS, ENTRY, LOG_FULL, MOVES, NO_MEMORY, NO_SESSION, REFUSAL, REFUSALS, REFUSED, ROW_NUMBERS, TARGET, TOLD_NUMBERS, TOLD_ROWS, Library, Slot,
+    COUNTS,
+    ENTRY,
+    LOG_FULL,
+    MOVES,
+    NO_MEMORY,
+    NO_SESSION,
+    REFUSAL,
+    REFUSALS,
+    REFUSED,
+    ROW_NUMBERS,
+    TARGET,
+    TOLD_NUMBERS,
+    TOLD_ROWS,
+    Library,
+    Slot,
 )
 from .names import Names
 from .numbers import MOST_NODES, MOST_SEED, MOST_TURNS, number_within
@@ -27,7 +41,8 @@ class Direct:
     """A session of the library. A lock is held round each call, since other threads run meanwhile.
 
     A call of C is not cut short by an interrupt, and what is known of the session is known by single stores behind one. So a command is
-    carried out as a whole or not at all. What the session has written is taken over by one call into a buffer that stands ready."""
+    carried out as a whole or not at all. What the session has written is taken over by one call into a buffer that stands ready.
+    """
 
     # of one that is not wholly made
     owner = 0
@@ -127,7 +142,9 @@ class Direct:
         with self.lock:
             for event in (line, "status") if line.startswith(("drive ", "scramble ")) else (line,):
                 text = event.encode()
-                status = self.library.session_feed(self.at, text, ctypes.c_size_t(len(text)), ctypes.byref(ctypes.c_uint64()))
+                status = self.library.session_feed(
+                    self.at, text, ctypes.c_size_t(len(text)), ctypes.byref(ctypes.c_uint64())
+                )
                 if status:
                     self.raise_for(status)
 
@@ -189,7 +206,9 @@ def shown_of(names: Names, entry: int, node: int, target: int) -> Shown:
 def moves_of(names: Names, entry: int, rows: list[int]) -> Moves:
     name_of = names.name_of
     each = zip(rows[::3], rows[1::3], rows[2::3])
-    return Moves(tuple(Move(name_of(node), MOVES[rule], name_of(other) if other else None) for node, rule, other in each), entry)
+    return Moves(
+        tuple(Move(name_of(node), MOVES[rule], name_of(other) if other else None) for node, rule, other in each), entry
+    )
 
 
 def enabled_of(names: Names, entry: int, rows: list[int]) -> Enabled:
@@ -277,12 +296,16 @@ class DirectBatch(Batch):
 
     def link(self, a: Name, b: Name) -> Any:
         return self._edit("link", self._number(a), self._number(b))
+
     def unlink(self, a: Name, b: Name) -> Any:
         return self._edit("unlink", self._number(a), self._number(b))
+
     def flag(self, node: Name, value: bool) -> Any:
         return self._edit("flag", self._number(node), number_within(value, 1, "a flag"))
+
     def join(self, node: Name) -> Any:
         return self._edit("join", self._number(node))
+
     def leave(self, node: Name) -> Any:
         return self._edit("leave", self._number(node))
 
@@ -313,6 +336,7 @@ class DirectBatch(Batch):
 
     def enabled(self) -> Any:
         return self._listed(enabled_of, "enabled", lambda: "enabled")
+
     def matching(self) -> Any:
         return self._listed(matching_of, "pairs", lambda: "matching")
 
@@ -332,13 +356,16 @@ class DirectBatch(Batch):
 
     def drive(self, seed: int, turns: int) -> Any:
         return self._turned("drive", read_moves, seed, turns)
+
     def scramble(self, seed: int, faults: int) -> Any:
         return self._turned("scramble", read_fault, seed, faults)
 
     def _turned(self, word: str, read: Callable[..., Any], seed: int, turns: int) -> Any:
         """Many entries, of which the turns are read from the transcript, and the status behind them."""
         session = self._session
-        numbers = ctypes.c_uint64(number_within(seed, MOST_SEED, "a seed")), number_within(turns, MOST_TURNS, "a number of turns")
+        numbers = ctypes.c_uint64(number_within(seed, MOST_SEED, "a seed")), number_within(
+            turns, MOST_TURNS, "a number of turns"
+        )
         with session.lock:
             lines = self._written(getattr(session.library, word), *numbers)
             entry, counts = self._standing()

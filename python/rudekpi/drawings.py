@@ -21,7 +21,10 @@ MOST_DRAWN, MOST_NAMED, SIZE = 200, 40, 260
 def places(nodes: list[int]) -> dict[int, tuple[float, float]]:
     """A place on a ring for each node."""
     radius, turn = SIZE / 2 - 20, 2 * math.pi / max(1, len(nodes))
-    return {node: (SIZE / 2 + radius * math.sin(at * turn), SIZE / 2 - radius * math.cos(at * turn)) for at, node in enumerate(nodes)}
+    return {
+        node: (SIZE / 2 + radius * math.sin(at * turn), SIZE / 2 - radius * math.cos(at * turn))
+        for at, node in enumerate(nodes)
+    }
 
 
 def edge_line(state: State, a: int, b: int, at: dict[int, tuple[float, float]]) -> str:
@@ -51,7 +54,9 @@ def html_of(title: str, state: State, names: Names) -> str:
     at = places(nodes)
     lines = [edge_line(state, a, b, at) for a, b in state.edges()]
     signs = [node_sign(state, node, names, at) for node in nodes]
-    return f'{head}<svg xmlns="http://www.w3.org/2000/svg" width="{SIZE}" height="{SIZE}">{"".join(lines + signs)}</svg>'
+    return (
+        f'{head}<svg xmlns="http://www.w3.org/2000/svg" width="{SIZE}" height="{SIZE}">{"".join(lines + signs)}</svg>'
+    )
 
 
 def write_page(transcript: str, path: Union[str, os.PathLike[str]], program: Program) -> None:

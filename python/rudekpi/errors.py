@@ -18,6 +18,7 @@ class RudekpiError(Exception):
 
 class Refused(RudekpiError):
     """The network refused an event, and is as it was."""
+
     def __init__(self, event: str, number: int, text: str, entry: int) -> None:
         super().__init__(f"{event}: refused {number} {text} (entry {entry})")
         self.event, self.number, self.text, self.entry = event, number, text, entry
@@ -28,6 +29,7 @@ class Refused(RudekpiError):
 
 class Ended(RudekpiError):
     """The program has ended: its exit status, and the last line that it wrote to standard error."""
+
     def __init__(self, status: int, told: bytes) -> None:
         self.status, self.last_line = status, text_of(told).rstrip("\n").rpartition("\n")[2]
         super().__init__(f"the program ended with status {status}: {self.last_line or '(it said nothing)'}")
@@ -46,6 +48,7 @@ class Garbled(RudekpiError):
 
 class Damaged(RudekpiError):
     """`audit` refuses a transcript: the line that is wrong, and why."""
+
     def __init__(self, line: int, why: str) -> None:
         super().__init__(f"line {line}: {why}")
         self.line, self.why = line, why

@@ -16,6 +16,7 @@ from .replies import Name
 @dataclass(frozen=True)
 class Graph:
     """A simple undirected graph with a title; the order of the nodes is that of their numbers in a network."""
+
     title: str
     nodes: tuple[Name, ...]
     edges: tuple[tuple[Name, Name], ...] = field(repr=False)
@@ -24,12 +25,16 @@ class Graph:
         known, seen = set(self.nodes), set()
         for a, b in self.edges:
             if a == b or a not in known or b not in known or frozenset((a, b)) in seen:
-                raise ValueError(f"{self.title}: {a!r}, {b!r} is a loop, an edge that is there twice, or one without its nodes")
+                raise ValueError(
+                    f"{self.title}: {a!r}, {b!r} is a loop, an edge that is there twice, or one without its nodes"
+                )
             seen.add(frozenset((a, b)))
         if len(known) != len(self.nodes) or len(known) > MOST_NODES:
             raise ValueError(f"{self.title}: nodes are there once, and {MOST_NODES} at most")
         if len(self.edges) > MOST_EDGES:
-            raise ValueError(f"{self.title}: {len(self.edges)} edges are more than a network has, which is {MOST_EDGES}")
+            raise ValueError(
+                f"{self.title}: {len(self.edges)} edges are more than a network has, which is {MOST_EDGES}"
+            )
 
 
 def numbered(title: str, count: int, edges: Iterable[tuple[int, int]]) -> Graph:
@@ -120,8 +125,13 @@ def pairs(n: int) -> Iterator[tuple[int, int]]:
 
 # what is made of the numbers behind a word and a colon, with commas or, of a grid, an x between them
 MADE: dict[str, tuple[Callable[..., Graph], str, tuple[Callable[[str], Any], ...]]] = {
-    "path": (path, "N", (int,)), "ring": (ring, "N", (int,)), "star": (star, "N", (int,)), "complete": (complete, "N", (int,)),
-    "grid": (grid, "RxC", (int, int)), "gnp": (gnp, "N,P,SEED", (int, float, int)), "regular": (regular, "N,DEGREE,SEED", (int, int, int)),
+    "path": (path, "N", (int,)),
+    "ring": (ring, "N", (int,)),
+    "star": (star, "N", (int,)),
+    "complete": (complete, "N", (int,)),
+    "grid": (grid, "RxC", (int, int)),
+    "gnp": (gnp, "N,P,SEED", (int, float, int)),
+    "regular": (regular, "N,DEGREE,SEED", (int, int, int)),
     "disk": (unit_disk, "N,RADIUS,SEED", (int, float, int)),
 }
 
@@ -131,7 +141,9 @@ def graph_of(words: str) -> Graph:
     word, colon, rest = words.partition(":")
     if not colon or word not in MADE:
         if not os.path.exists(words):
-            raise FileNotFoundError(f"no file {words!r}; graphs that are made: {', '.join(f'{name}:{of}' for name, (_, of, _) in MADE.items())}")
+            raise FileNotFoundError(
+                f"no file {words!r}; graphs that are made: {', '.join(f'{name}:{of}' for name, (_, of, _) in MADE.items())}"
+            )
         return read(words)
     make, of, kinds = MADE[word]
     given = rest.replace("x", ",").split(",")
@@ -155,12 +167,21 @@ def read(path: Union[str, "os.PathLike[str]"]) -> Graph:
     networkx, and any other an edge list, a line an edge. Raises `ValueError` where it is none, and `ImportError` for want of
     networkx."""
     end = os.path.splitext(path)[1].lower()
-    readers = {".col": dimacs, ".dimacs": dimacs, ".metis": metis, ".graph": metis, ".graphml": by_networkx, ".json": by_networkx}
+    readers = {
+        ".col": dimacs,
+        ".dimacs": dimacs,
+        ".metis": metis,
+        ".graph": metis,
+        ".graphml": by_networkx,
+        ".json": by_networkx,
+    }
     try:
         return readers.get(end, edge_list)(os.fspath(path))
     except (ValueError, LookupError) as error:
         text = str(error)
-        raise ValueError(text if text.startswith(f"{path}: ") else f"{path}: no graph that can be read: {text}") from None
+        raise ValueError(
+            text if text.startswith(f"{path}: ") else f"{path}: no graph that can be read: {text}"
+        ) from None
 
 
 def lines_of(path: str, comment: str) -> list[list[str]]:

@@ -30,7 +30,14 @@ def base_of(part: list[str], names: Names, rules: str) -> dict[str, Any]:
     base = read_base(names, 0, "", "\n".join(part))
     nodes = [{"node": node, "pointer": held.pointer, "flag": held.flag} for node, held in base.nodes.items()]
     number = int(part[1].split(" ")[1])
-    return {"base": number, "rules": rules, "names": names.count, "spent": base.spent, "nodes": nodes, "edges": base.edges}
+    return {
+        "base": number,
+        "rules": rules,
+        "names": names.count,
+        "spent": base.spent,
+        "nodes": nodes,
+        "edges": base.edges,
+    }
 
 
 def entry_of(line: str, names: Names) -> dict[str, Any]:
@@ -58,7 +65,9 @@ def told(word: str, names: Names, event: str, reply: str) -> dict[str, Any]:
     if word == "show":
         return {"target": None if reply == "-" else int(reply)}
     if word == "enabled":
-        return {"enabled": [{"node": node, "rule": rule} for node, rule in read_enabled(names, 0, event, reply).items()]}
+        return {
+            "enabled": [{"node": node, "rule": rule} for node, rule in read_enabled(names, 0, event, reply).items()]
+        }
     if word == "matching":
         return {"pairs": list(read_matching(names, 0, event, reply))}
     if word == "step":

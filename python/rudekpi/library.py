@@ -16,8 +16,19 @@ DONE, BAD_LINE, LOG_FULL, NO_MEMORY, NO_SESSION, BAD_ARGUMENT, REFUSED = range(7
 ENGINES = ("library", "program")
 # the refusals, by their numbers from 1 on
 REFUSALS = (
-    "unknown-node", "self-loop", "already-linked", "not-linked", "too-many-edges", "not-neighbour", "no-flag", "empty-choice", "not-central",
-    "chosen-twice", "not-enabled", "bad-target", "already-present",
+    "unknown-node",
+    "self-loop",
+    "already-linked",
+    "not-linked",
+    "too-many-edges",
+    "not-neighbour",
+    "no-flag",
+    "empty-choice",
+    "not-central",
+    "chosen-twice",
+    "not-enabled",
+    "bad-target",
+    "already-present",
 )
 MOVES = ("", "update", "marry", "seduce", "abandon")
 DAMAGES = {1: "bad header", 2: "not a transcript line", 3: "out of order", 4: "not the machine's reply", 5: "bad base"}
@@ -34,7 +45,9 @@ class Slot(ctypes.Structure):
 
 
 class Verdict(ctypes.Structure):
-    _fields_ = [(name, ctypes.c_uint32) for name in ("kind", "entries", "epochs")] + [(name, ctypes.c_uint64) for name in ("moves", "line")]
+    _fields_ = [(name, ctypes.c_uint32) for name in ("kind", "entries", "epochs")] + [
+        (name, ctypes.c_uint64) for name in ("moves", "line")
+    ]
 
 
 def summary_of(verdict: Verdict) -> Summary:
@@ -51,7 +64,18 @@ def summary_of(verdict: Verdict) -> Summary:
 COSTED = ("link", "unlink", "join", "leave", "point", "flag")
 SHORT = ("link", "unlink", "point", "flag", "show", "status", "partner", *(f"cost_of_{word}" for word in COSTED))
 LONG = (
-    "session_new", "session_feed", "join", "leave", "step", "enabled", "pairs", "drive", "scramble", "checkpoint", "audit_new", "audit_feed",
+    "session_new",
+    "session_feed",
+    "join",
+    "leave",
+    "step",
+    "enabled",
+    "pairs",
+    "drive",
+    "scramble",
+    "checkpoint",
+    "audit_new",
+    "audit_feed",
     "audit_finish",
 )
 SIZES = ("rows", "session_length", "session_read")
@@ -68,7 +92,12 @@ class Library:
         held, holding = ctypes.CDLL(path), ctypes.PyDLL(path)
         number, size = ctypes.c_uint32, ctypes.c_size_t
         try:
-            for where, names, answer in ((holding, SHORT, number), (held, LONG, number), (held, SIZES, size), (held, NONE, None)):
+            for where, names, answer in (
+                (holding, SHORT, number),
+                (held, LONG, number),
+                (held, SIZES, size),
+                (held, NONE, None),
+            ):
                 for name in names:
                     made = getattr(where, f"rudekpi_{name}")
                     made.restype = answer
@@ -118,7 +147,10 @@ def paths() -> list[str]:
     given = os.environ.get("RUDEKPI_LIBRARY")
     if given:
         return [os.path.abspath(given)]
-    return [os.path.join(PACKAGE, "bin", "librudekpi.so"), os.path.join(os.path.dirname(os.path.dirname(PACKAGE)), "release", "librudekpi.so")]
+    return [
+        os.path.join(PACKAGE, "bin", "librudekpi.so"),
+        os.path.join(os.path.dirname(os.path.dirname(PACKAGE)), "release", "librudekpi.so"),
+    ]
 
 
 def found_library() -> Optional[Library]:
@@ -136,7 +168,8 @@ def chosen(engine: Optional[str], program: Program) -> Optional[Library]:
     """The library, where it is the engine; None where that is a program.
 
     With no engine it is that of the environment's RUDEKPI_ENGINE, else the library where it is found and no program is given. Raises
-    `ValueError` for an engine that is none, or the library with a program, and `OSError` where the library is wanted and not found."""
+    `ValueError` for an engine that is none, or the library with a program, and `OSError` where the library is wanted and not found.
+    """
     engine = engine or (None if program else os.environ.get("RUDEKPI_ENGINE") or None)
     if engine is None:
         return None if program else found_library()

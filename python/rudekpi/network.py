@@ -16,7 +16,20 @@ from .names import Names
 from .numbers import number_within
 from .program import Program, found_program
 from .replies import (
-    Accepted, Base, Choice, Enabled, Fault, Matching, Moves, Name, Registers, Settled, Shown, Status, Summary, Turns,
+    Accepted,
+    Base,
+    Choice,
+    Enabled,
+    Fault,
+    Matching,
+    Moves,
+    Name,
+    Registers,
+    Settled,
+    Shown,
+    Status,
+    Summary,
+    Turns,
 )
 from .session import Session
 from .state import Follower, State
@@ -39,8 +52,14 @@ class Network:
     """
 
     def __init__(
-        self, rules: str = "manne", nodes: Union[int, Iterable[Name]] = 0, *, present: Optional[int] = None,
-        program: Program = None, keep: bool = True, engine: Optional[str] = None,
+        self,
+        rules: str = "manne",
+        nodes: Union[int, Iterable[Name]] = 0,
+        *,
+        present: Optional[int] = None,
+        program: Program = None,
+        keep: bool = True,
+        engine: Optional[str] = None,
     ) -> None:
         if rules not in ("hh", "manne"):
             raise ValueError(f"rules are 'hh' or 'manne', and not {rules!r}")
@@ -49,7 +68,9 @@ class Network:
         start = count if present is None else number_within(present, count, "a number of nodes that are present")
         held = library.chosen(engine, program)
         self.engine = "library" if held else "program"
-        self._session: Union[Direct, Session] = Direct(held, self._names, rules, start, keep) if held else self._run(start, keep)
+        self._session: Union[Direct, Session] = (
+            Direct(held, self._names, rules, start, keep) if held else self._run(start, keep)
+        )
         self._single = self._session.batch(keeps=False)
         self._follower = Follower(self._session)
 
@@ -64,6 +85,7 @@ class Network:
 
     def __enter__(self) -> Network:
         return self
+
     def __exit__(self, kind: Any, *_: Any) -> None:
         if kind:
             self._session.kill()
@@ -71,7 +93,9 @@ class Network:
             self.close()
 
     def __reduce__(self) -> Any:
-        raise TypeError("a network belongs to one process and is not copied: replay makes another one of its transcript")
+        raise TypeError(
+            "a network belongs to one process and is not copied: replay makes another one of its transcript"
+        )
 
     def __repr__(self) -> str:
         session = self._session
@@ -135,42 +159,55 @@ class Network:
     def link(self, a: Name, b: Name) -> Accepted:
         """Adds an edge."""
         return self._single.link(a, b).result()
+
     def unlink(self, a: Name, b: Name) -> Accepted:
         """Removes an edge, and clears the pointers that crossed it."""
         return self._single.unlink(a, b).result()
+
     def point(self, node: Name, target: Optional[Name]) -> Accepted:
         """A fault: the node's pointer becomes a neighbour, or null (None)."""
         return self._single.point(node, target).result()
+
     def flag(self, node: Name, value: bool) -> Accepted:
         """A fault: the node's married flag is written (`manne` only)."""
         return self._single.flag(node, value).result()
+
     def join(self, node: Name) -> Accepted:
         """A name becomes present, without an edge, null and unflagged."""
         return self._single.join(node).result()
+
     def leave(self, node: Name) -> Accepted:
         """A node goes, with its edges and the pointers at it; its name may join again."""
         return self._single.leave(node).result()
+
     def step(self, choice: Choice) -> Moves:
         """These nodes move at once, each by its rule: names, and `Wish(node, target)` where a target is wished."""
         return self._single.step(choice).result()
+
     def show(self, node: Name) -> Shown:
         """Where a node points."""
         return self._single.show(node).result()
+
     def enabled(self) -> Enabled:
         """Who may move, and by which rule."""
         return self._single.enabled().result()
+
     def matching(self) -> Matching:
         """The pairs of nodes that point at each other."""
         return self._single.matching().result()
+
     def status(self) -> Status:
         """Numbers of nodes, edges, pairs and enabled nodes, the charge, and the moves since the last disturbance."""
         return self._single.status().result()
+
     def drive(self, seed: int, turns: int) -> Turns[Moves]:
         """Up to so many steps of the program's seeded daemon, until nobody is enabled; and the status then, an entry too."""
         return self._single.drive(seed, turns).result()
+
     def scramble(self, seed: int, faults: int) -> Turns[Fault]:
         """So many faults of registers, drawn from a seed; and the status then, an entry too."""
         return self._single.scramble(seed, faults).result()
+
     def checkpoint(self) -> Base:
         """Where the network stands, as a base whose lines stand in the transcript then; they are no entry."""
         return self._single.checkpoint().result()
@@ -202,7 +239,9 @@ class Network:
             if not enabled:
                 return Settled(steps, moves, charge)
             if moves >= charge:
-                raise PastBound(f"{len(enabled)} nodes are enabled after {moves} moves, as many as the charge was: who disturbs?")
+                raise PastBound(
+                    f"{len(enabled)} nodes are enabled after {moves} moves, as many as the charge was: who disturbs?"
+                )
             moves += len(self.step(checked_choice(choose(enabled), enabled)))
             steps += 1
 
@@ -232,6 +271,7 @@ class Network:
         Nodes have the attributes `pointer` and `flag`, and edges `pair`, whether their ends are paired.
         """
         import networkx
+
         state, name_of = self._state(), self.name_of
         graph = networkx.Graph()
         for node in sorted(state.neighbours):
@@ -242,7 +282,13 @@ class Network:
 
     @classmethod
     def from_networkx(
-        cls, graph: Any, rules: str = "manne", *, program: Program = None, keep: bool = True, engine: Optional[str] = None,
+        cls,
+        graph: Any,
+        rules: str = "manne",
+        *,
+        program: Program = None,
+        keep: bool = True,
+        engine: Optional[str] = None,
     ) -> Network:
         """A network with the nodes and edges of a simple undirected `networkx.Graph`, all pointers null."""
         if graph.is_directed() or graph.is_multigraph():

@@ -35,8 +35,11 @@ Verdict = Optional["Future[Summary]"]
 class LostPart(Lost):
     """Workers died twice over a part of a transcript, the bytes from `start` to before `end`, which begin with a line's number `line`. All in
     front of it is accepted."""
+
     def __init__(self, start: int, end: int, line: int) -> None:
-        super().__init__(f"no verdict from line {line} on: the workers that judged the bytes {start} to {end} died twice")
+        super().__init__(
+            f"no verdict from line {line} on: the workers that judged the bytes {start} to {end} died twice"
+        )
         self.start, self.end, self.line = start, end, line
 
     def __reduce__(self) -> Any:
@@ -70,8 +73,13 @@ class Held:
 
 
 def audit_parts(
-    transcript: Union[str, bytes, "os.PathLike[str]"], executor: Optional[Executor] = None, *, program: Program = None, size: int = 1 << 21,
-    shared: bool = False, engine: Optional[str] = None,
+    transcript: Union[str, bytes, "os.PathLike[str]"],
+    executor: Optional[Executor] = None,
+    *,
+    program: Program = None,
+    size: int = 1 << 21,
+    shared: bool = False,
+    engine: Optional[str] = None,
 ) -> Summary:
     """The verdict of `audit` on a transcript that has bases, reached in parts of about `size` bytes or more.
 
@@ -91,7 +99,9 @@ def audit_parts(
     with open(transcript, "rb", buffering=0) as file:
         if not stat.S_ISREG(os.fstat(file.fileno()).st_mode):
             return audit_held(Held(file.readall()), executor, size, program, engine)
-        return audit_held(Held(b"", file.fileno(), os.path.abspath(transcript), shared), executor, size, program, engine)
+        return audit_held(
+            Held(b"", file.fileno(), os.path.abspath(transcript), shared), executor, size, program, engine
+        )
 
 
 def audit_held(held: Held, executor: Optional[Executor], size: int, program: Program, engine: Optional[str]) -> Summary:
@@ -103,10 +113,14 @@ def audit_held(held: Held, executor: Optional[Executor], size: int, program: Pro
         return verdict_of(held, parts_of(held, size, PARTS_LEFT * workers), threads, program, engine)
 
 
-def verdict_of(held: Held, parts: Iterator[Part], executor: Executor, program: Program, engine: Optional[str]) -> Summary:
+def verdict_of(
+    held: Held, parts: Iterator[Part], executor: Executor, program: Program, engine: Optional[str]
+) -> Summary:
     """What the parts' verdicts say of the whole."""
     judge = functools.partial(audit, program=program, engine=engine)
-    handing: Handing[tuple[int, Part]] = Handing(enumerate(parts), lambda task: (judge, held.part(*task[1], executor)), executor)
+    handing: Handing[tuple[int, Part]] = Handing(
+        enumerate(parts), lambda task: (judge, held.part(*task[1], executor)), executor
+    )
     entries = moves = 0
     epochs = 1
     with contextlib.closing(handing.done()) as done:
@@ -136,7 +150,8 @@ def in_order(done: Iterator[tuple[tuple[int, Part], Verdict]]) -> Iterator[tuple
 def parts_of(held: Held, size: int, parts_left: int = 0) -> Iterator[Part]:
     """Where parts begin and end: from a base, or the beginning, to the end of a later base, or of all.
 
-    Each has the size or more, and where it is said into about how many parts all that is left shall be divided, as much as that."""
+    Each has the size or more, and where it is said into about how many parts all that is left shall be divided, as much as that.
+    """
     start = 0
     while True:
         wanted = max(size, (held.size - start) // parts_left) if parts_left else size

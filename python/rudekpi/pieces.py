@@ -33,10 +33,13 @@ class Audit:
     def __init__(self, *, program: Program = None, engine: Optional[str] = None) -> None:
         judge = chosen(engine, program)
         self.engine = "library" if judge else "program"
-        self._judge: Union[DirectAudit, AuditRun] = DirectAudit(judge) if judge else AuditRun([found_program(program), "audit"])
+        self._judge: Union[DirectAudit, AuditRun] = (
+            DirectAudit(judge) if judge else AuditRun([found_program(program), "audit"])
+        )
 
     def __enter__(self) -> Audit:
         return self
+
     def __exit__(self, *_: Any) -> None:
         self.close()
 

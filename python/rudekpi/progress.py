@@ -29,5 +29,10 @@ def plainly_shown(items: Iterable[Item], total: int) -> Iterator[Item]:
         now = time.monotonic()
         if now - told > 0.2 or done == total:
             told, rate = now, done / max(now - began, 1e-9)
-            print(f"\r{done} of {total}, {rate:.1f} a second, {(total - done) / rate:.0f} seconds left ", end="", file=sys.stderr, flush=True)
+            print(
+                f"\r{done} of {total}, {rate:.1f} a second, {(total - done) / rate:.0f} seconds left ",
+                end="",
+                file=sys.stderr,
+                flush=True,
+            )
     print(file=sys.stderr)

@@ -74,7 +74,9 @@ def read_fault(names: Names, entry: int, event: str, text: str) -> Fault:
         raise ValueError
     if found[3]:
         return Fault(entry, names.name_of(int(found[3])), "flag", found[4] == "1")
-    return Fault(entry, names.name_of(int(found[1])), "pointer", None if found[2] == "-" else names.name_of(int(found[2])))
+    return Fault(
+        entry, names.name_of(int(found[1])), "pointer", None if found[2] == "-" else names.name_of(int(found[2]))
+    )
 
 
 def numbers_of(found: re.Match[str]) -> tuple[Any, ...]:

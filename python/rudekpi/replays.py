@@ -15,7 +15,11 @@ from .replies import Name
 
 
 def replay(
-    transcript: Text, *, names: Optional[Iterable[Name]] = None, program: Program = None, engine: Optional[str] = None,
+    transcript: Text,
+    *,
+    names: Optional[Iterable[Name]] = None,
+    program: Program = None,
+    engine: Optional[str] = None,
 ) -> Network:
     """A network that stands where a transcript ends, so that it can go on; raises `Damaged` where `audit` refuses it.
 

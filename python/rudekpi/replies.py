@@ -28,6 +28,7 @@ class Fixed(Dict[Key, Value]):
 @dataclass(frozen=True)
 class Wish:
     """An item of a choice: this node shall move, and to that target."""
+
     node: Name
     target: Name
 
@@ -35,12 +36,14 @@ class Wish:
 @dataclass(frozen=True)
 class Accepted:
     """A disturbance was carried out."""
+
     entry: int
 
 
 @dataclass(frozen=True)
 class Move:
     """A node moved by a rule: update, marry, seduce or abandon; marry and seduce have a target."""
+
     node: Name
     rule: str
     target: Optional[Name] = None
@@ -52,6 +55,7 @@ class _Items(abc.Sequence[Reply], Generic[Reply]):
 
     def __getitem__(self, place: Any) -> Any:
         return self.items[place]
+
     def __len__(self) -> int:
         return len(self.items)
 
@@ -59,12 +63,14 @@ class _Items(abc.Sequence[Reply], Generic[Reply]):
 @dataclass(frozen=True)
 class Moves(_Items[Move]):
     """The moves of a step, ascending by the nodes' numbers: a sequence of `Move`."""
+
     entry: int
 
 
 @dataclass(frozen=True)
 class Shown:
     """Where a node points; None is null."""
+
     entry: int
     node: Name
     target: Optional[Name]
@@ -73,13 +79,16 @@ class Shown:
 @dataclass(frozen=True, eq=False)
 class Enabled(abc.Mapping[Name, str]):
     """The enabled nodes, ascending by their numbers: a mapping from each to its rule."""
+
     entry: int
     rules: Mapping[Name, str]
 
     def __getitem__(self, node: Name) -> str:
         return self.rules[node]
+
     def __iter__(self) -> Iterator[Name]:
         return iter(self.rules)
+
     def __len__(self) -> int:
         return len(self.rules)
 
@@ -87,6 +96,7 @@ class Enabled(abc.Mapping[Name, str]):
 @dataclass(frozen=True, eq=False)
 class Matching(abc.Set["tuple[Name, Name]"]):
     """The pairs of nodes that point at each other: a set of tuples, each with the node of the lower number first."""
+
     entry: int
     pairs: tuple[tuple[Name, Name], ...]
     partners: Mapping[Name, Name] = field(repr=False)
@@ -96,7 +106,12 @@ class Matching(abc.Set["tuple[Name, Name]"]):
         return self.partners.get(node)
 
     def __contains__(self, pair: object) -> bool:
-        return isinstance(pair, tuple) and len(pair) == 2 and pair[0] in self.partners and self.partners[pair[0]] == pair[1]
+        return (
+            isinstance(pair, tuple)
+            and len(pair) == 2
+            and pair[0] in self.partners
+            and self.partners[pair[0]] == pair[1]
+        )
 
     def __iter__(self) -> Iterator[tuple[Name, Name]]:
         return iter(self.pairs)
@@ -112,6 +127,7 @@ class Matching(abc.Set["tuple[Name, Name]"]):
 @dataclass(frozen=True)
 class Status:
     """Where the network stands. No more moves than `charge` can come before the next disturbance."""
+
     entry: int
     nodes: int
     edges: int
@@ -124,6 +140,7 @@ class Status:
 @dataclass(frozen=True)
 class Fault:
     """A fault of a register: `pointer` holds a neighbour or None now, `flag` True or False."""
+
     entry: int
     node: Name
     register: str
@@ -133,12 +150,14 @@ class Fault:
 @dataclass(frozen=True)
 class Turns(_Items[Reply]):
     """What the turns of `drive` (steps: `Moves`) or `scramble` (`Fault`) did, in a sequence, and the status behind them."""
+
     status: Status
 
 
 @dataclass(frozen=True)
 class Registers:
     """What a node holds: its pointer, at a neighbour or None, and its flag."""
+
     pointer: Optional[Name]
     flag: bool
 
@@ -147,6 +166,7 @@ class Registers:
 class Base:
     """Where the network stands behind so many entries: the moves since the last disturbance, the nodes that are present,
     ascending by their numbers, and the edges. It is no entry: the next entry has the number behind this one."""
+
     number: int
     spent: int
     nodes: Mapping[Name, Registers] = field(hash=False)
@@ -156,6 +176,7 @@ class Base:
 @dataclass(frozen=True)
 class Settled:
     """How a daemon settled a network: its steps, their moves, and the charge at the beginning, which bounds the moves."""
+
     steps: int
     moves: int
     charge: int
@@ -164,6 +185,7 @@ class Settled:
 @dataclass(frozen=True)
 class Summary:
     """What an accepted transcript has."""
+
     entries: int
     epochs: int
     moves: int
@@ -174,6 +196,7 @@ class Epoch:
     """The part of a run behind an accepted disturbance: the entry of that, its moves, and their bound. The entry is 0 where
     it is the start, and None where a transcript begins with a base, which does not tell it. The cost is that of the disturbance,
     a sum of degrees; None in the first epoch, which no disturbance of the transcript began."""
+
     start: Optional[int]
     moves: int
     edges: int

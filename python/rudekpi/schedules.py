@@ -29,6 +29,7 @@ MOST_STATES = 400_000
 class Longest:
     """A schedule: the registers at its start, and who moves in each step. `is_proved` where all states and choices were looked at, so
     that there is no longer one; else it is the best that was found."""
+
     graph: Graph
     rules: str
     moves: int
@@ -43,9 +44,17 @@ class Longest:
         """The schedule as a script: the edges, the faults that lead to its start, its steps and two questions."""
         number = {node: place for place, node in enumerate(self.graph.nodes, 1)}
         lines = [f"link {number[a]} {number[b]}" for a, b in self.graph.edges]
-        lines += [f"point {number[a]} {number[b]}" for a, b in self.pointers] + [f"flag {number[node]} 1" for node in self.flags]
-        items = [[f"{number[it.node]}>{number[it.target]}" if it.target is not None else f"{number[it.node]}" for it in step] for step in self.steps]
-        return "".join(f"{line}\n" for line in [*lines, "status", *(" ".join(["step", *step]) for step in items), "enabled", "status"])
+        lines += [f"point {number[a]} {number[b]}" for a, b in self.pointers] + [
+            f"flag {number[node]} 1" for node in self.flags
+        ]
+        items = [
+            [f"{number[it.node]}>{number[it.target]}" if it.target is not None else f"{number[it.node]}" for it in step]
+            for step in self.steps
+        ]
+        return "".join(
+            f"{line}\n"
+            for line in [*lines, "status", *(" ".join(["step", *step]) for step in items), "enabled", "status"]
+        )
 
     def play(self, *, program: Program = None) -> str:
         """The transcript of the script, which `audit` accepts and whose last epoch has the moves; raises what went wrong."""
@@ -139,7 +148,10 @@ class Search:
     def schedule(self, code: int) -> Iterator[tuple[tuple[int, int, str, int], ...]]:
         """The steps of a longest schedule from a state."""
         while self.best[code]:
-            step = max(self.steps_at(code), key=lambda step: (len(step) + self.best[code + sum(move[0] for move in step)], -len(step)))
+            step = max(
+                self.steps_at(code),
+                key=lambda step: (len(step) + self.best[code + sum(move[0] for move in step)], -len(step)),
+            )
             yield step
             code += sum(move[0] for move in step)
 
@@ -158,12 +170,16 @@ def longest(graph: Graph, rules: str, *, seconds: float = 10.0, seed: int = 0) -
     return told(search, moves, True, search.size, steps)
 
 
-def told(search: Search, moves: int, is_proved: bool, states: int, steps: Sequence[Sequence[tuple[int, str, int]]]) -> Longest:
+def told(
+    search: Search, moves: int, is_proved: bool, states: int, steps: Sequence[Sequence[tuple[int, str, int]]]
+) -> Longest:
     """A schedule from the state of the search, by the graph's names."""
     graph, state = search.graph, search.state
     name: Callable[[int], Name] = lambda number: graph.nodes[number - 1]
     pointers = tuple((name(node), name(target)) for node, target in sorted(state.pointers.items()))
-    played = tuple(tuple(Wish(name(node), name(target) if target else None) for node, _, target in sorted(step)) for step in steps)
+    played = tuple(
+        tuple(Wish(name(node), name(target) if target else None) for node, _, target in sorted(step)) for step in steps
+    )
     bound = rule_sets.bound(search.rules, len(graph.edges), len(graph.nodes))
     flags = tuple(name(node) for node in sorted(state.flags))
     return Longest(graph, search.rules, moves, bound, is_proved, states, pointers, flags, played)
@@ -191,7 +207,9 @@ def greedy_from(search: Search, code: int, drawn: random.Random) -> list[tuple[i
         moves = [move for of_node in search.moves_at(code) for move in of_node]
         if not moves:
             return steps
-        change, node, rule, target = min(moves, key=lambda move: (rule_sets.fall(search.state, *move[1:]), drawn.random()))
+        change, node, rule, target = min(
+            moves, key=lambda move: (rule_sets.fall(search.state, *move[1:]), drawn.random())
+        )
         steps.append((node, rule, target))
         code += change
 
@@ -209,7 +227,11 @@ def connected_graphs(n: int) -> Iterator[Graph]:
         for renaming in renamings:
             seen[sum(1 << renaming[at] for at in held)] = 1
         if is_connected(n, [pairs[at] for at in held]):
-            yield Graph(f"{n} nodes: " + " ".join(f"{a}-{b}" for a, b in (pairs[at] for at in held)), tuple(range(1, n + 1)), tuple(pairs[at] for at in held))
+            yield Graph(
+                f"{n} nodes: " + " ".join(f"{a}-{b}" for a, b in (pairs[at] for at in held)),
+                tuple(range(1, n + 1)),
+                tuple(pairs[at] for at in held),
+            )
 
 
 def is_connected(n: int, edges: Sequence[tuple[int, int]]) -> bool:
@@ -226,4 +248,6 @@ def renamed(graph: Graph) -> Iterator[Graph]:
         edges = tuple(sorted((min(new[a - 1], new[b - 1]), max(new[a - 1], new[b - 1])) for a, b in graph.edges))
         if edges not in seen:
             seen.add(edges)
-            yield Graph(graph.title.partition(":")[0] + ": " + " ".join(f"{a}-{b}" for a, b in edges), graph.nodes, edges)
+            yield Graph(
+                graph.title.partition(":")[0] + ": " + " ".join(f"{a}-{b}" for a, b in edges), graph.nodes, edges
+            )

@@ -11,17 +11,49 @@ from .numbers import MOST_NODES, MOST_SEED, MOST_TURNS
 LONGEST_LINE = 1_048_576
 NUMERAL = re.compile(r"0|[1-9][0-9]*")
 # what words behind a command have to be
-NODE, NULLABLE, BIT, SEED, TURNS, ITEM = "a node", "a node or -", "0 or 1", "a seed", "a number of turns", "a node, or A>B"
+NODE, NULLABLE, BIT, SEED, TURNS, ITEM = (
+    "a node",
+    "a node or -",
+    "0 or 1",
+    "a seed",
+    "a number of turns",
+    "a node, or A>B",
+)
 COMMANDS: dict[str, tuple[str, ...]] = {
-    "link": (NODE, NODE), "unlink": (NODE, NODE), "point": (NODE, NULLABLE), "flag": (NODE, BIT), "join": (NODE,), "leave": (NODE,),
-    "step": (ITEM,), "show": (NODE,), "enabled": (), "matching": (), "status": (), "checkpoint": (), "drive": (SEED, TURNS),
+    "link": (NODE, NODE),
+    "unlink": (NODE, NODE),
+    "point": (NODE, NULLABLE),
+    "flag": (NODE, BIT),
+    "join": (NODE,),
+    "leave": (NODE,),
+    "step": (ITEM,),
+    "show": (NODE,),
+    "enabled": (),
+    "matching": (),
+    "status": (),
+    "checkpoint": (),
+    "drive": (SEED, TURNS),
     "scramble": (SEED, TURNS),
 }
 LIMITS = {NODE: (1, MOST_NODES), SEED: (0, MOST_SEED), TURNS: (0, MOST_TURNS)}
 # what people write for a command
 MEANT = {
-    "add": "link", "connect": "link", "edge": "link", "remove": "unlink", "delete": "unlink", "cut": "unlink", "move": "step", "pairs": "matching",
-    "match": "matching", "fault": "point", "run": "drive", "base": "checkpoint", "save": "checkpoint", "random": "scramble", "settle": "drive", "quit": "",
+    "add": "link",
+    "connect": "link",
+    "edge": "link",
+    "remove": "unlink",
+    "delete": "unlink",
+    "cut": "unlink",
+    "move": "step",
+    "pairs": "matching",
+    "match": "matching",
+    "fault": "point",
+    "run": "drive",
+    "base": "checkpoint",
+    "save": "checkpoint",
+    "random": "scramble",
+    "settle": "drive",
+    "quit": "",
 }
 
 
@@ -78,7 +110,9 @@ def why_unknown(word: str) -> str:
     meant = MEANT.get(word.lower()) or (near[0] if near else "")
     if NUMERAL.fullmatch(word):
         return "the line begins with a number, as those of a transcript: a script has the text between the number and ` = `"
-    return f"`{word[:40]}` is no command" + (f": `{meant}` may be meant" if meant else f": they are {', '.join(COMMANDS)}")
+    return f"`{word[:40]}` is no command" + (
+        f": `{meant}` may be meant" if meant else f": they are {', '.join(COMMANDS)}"
+    )
 
 
 def why_no_word(text: str, kind: str) -> Optional[str]:
@@ -97,12 +131,14 @@ def why_no_word(text: str, kind: str) -> Optional[str]:
     least, most = LIMITS[kind]
     if not NUMERAL.fullmatch(text):
         return f"`{text[:40]}` is not {kind}: a number from {least} to {most}"
-    return None if len(text) < 25 and least <= int(text) <= most else f"{text[:40]} is not {kind}, which is {least} to {most}"
+    return (
+        None
+        if len(text) < 25 and least <= int(text) <= most
+        else f"{text[:40]} is not {kind}, which is {least} to {most}"
+    )
 
 
 def faults_of(script: bytes) -> Iterator[tuple[int, str]]:
     """The lines of a script that are no commands, each with its number and why."""
     lines = script.split(b"\n")
     return ((number, why) for number, line in enumerate(lines, 1) if (why := why_no_command(line)))
-
-

@@ -63,7 +63,11 @@ class Session:
     def tell(self, line: str) -> None:
         """Carries out a line of a script; behind one that writes several entries the status is asked, which ends them."""
         is_ended_by_status = line.startswith(("drive ", "scramble "))
-        words = ("status", read_accepted, None, f"{line}\n".encode()) if is_ended_by_status else (line, read_accepted, None, b"")
+        words = (
+            ("status", read_accepted, None, f"{line}\n".encode())
+            if is_ended_by_status
+            else (line, read_accepted, None, b"")
+        )
         self.ask(Pending(self, *words))
 
     def ask(self, pending: Pending[Any]) -> None:

@@ -13,8 +13,12 @@ from .script_words import COMMANDS, why_no_command
 
 HISTORY = "~/.rudekpi_history"
 OWN = {
-    "help": "this text", "picture": "[FILE]: the network, for Graphviz", "transcript": "[FILE]: all that was written so far",
-    "audit": "what the transcript has", "play": "FILE: a page that plays the transcript", "quit": "ends the session, as Ctrl-D does",
+    "help": "this text",
+    "picture": "[FILE]: the network, for Graphviz",
+    "transcript": "[FILE]: all that was written so far",
+    "audit": "what the transcript has",
+    "play": "FILE: a page that plays the transcript",
+    "quit": "ends the session, as Ctrl-D does",
 }
 
 
@@ -48,7 +52,9 @@ class Shell:
     def own(self, word: str, path: str) -> str:
         if word == "help":
             own = "".join(f"{name} {text}\n" for name, text in OWN.items())
-            return "".join(f"{name} {', '.join(kinds)}".rstrip() + "\n" for name, kinds in COMMANDS.items()) + "\n" + own
+            return (
+                "".join(f"{name} {', '.join(kinds)}".rstrip() + "\n" for name, kinds in COMMANDS.items()) + "\n" + own
+            )
         if word == "audit":
             found = self.net.audit()
             return f"accepted: {found.entries} entries, {found.epochs} epochs, {found.moves} moves\n"
@@ -86,6 +92,7 @@ def prepare() -> None:
 def leave() -> None:
     with contextlib.suppress(ImportError, OSError):
         import readline
+
         readline.write_history_file(os.path.expanduser(HISTORY))
 
 

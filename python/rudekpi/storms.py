@@ -17,8 +17,15 @@ Script = Union[str, "os.PathLike[str]", Iterable[str]]
 
 
 def storm(
-    scripts: Iterable[Script], rules: str = "manne", nodes: int = 0, *, present: Optional[int] = None, workers: int = 1,
-    roam: int = 0, turns: int = 1000, program: Program = None,
+    scripts: Iterable[Script],
+    rules: str = "manne",
+    nodes: int = 0,
+    *,
+    present: Optional[int] = None,
+    workers: int = 1,
+    roam: int = 0,
+    turns: int = 1000,
+    program: Program = None,
 ) -> str:
     """Plays up to 64 scripts at once on one network of the nodes 1 to a number, and answers the transcript of its one log.
 
@@ -37,13 +44,23 @@ def storm(
         words += ["--present", str(number_within(present, count, "a number of nodes that are present"))]
     if not number_within(workers, MOST_WORKERS, "a number of workers"):
         raise ValueError("a number of workers is 1 to 64, and not 0")
-    words += ["--workers", str(workers), "--roam", str(number_within(roam, MOST_WORKERS, "a number of workers who roam"))]
+    words += [
+        "--workers",
+        str(workers),
+        "--roam",
+        str(number_within(roam, MOST_WORKERS, "a number of workers who roam")),
+    ]
     words += ["--turns", str(number_within(turns, MOST_TURNS, "a number of turns"))]
     with tempfile.TemporaryDirectory() as folder:
         paths = [path_of(script, os.path.join(folder, str(place))) for place, script in enumerate(scripts, 1)]
         if not 0 < len(paths) <= MOST_SCRIPTS:
             raise ValueError(f"a storm has 1 to {MOST_SCRIPTS} scripts, and not {len(paths)}")
-        done = subprocess.run([found_program(program), *words, *paths], stdin=subprocess.DEVNULL, stdout=subprocess.PIPE, stderr=subprocess.PIPE)
+        done = subprocess.run(
+            [found_program(program), *words, *paths],
+            stdin=subprocess.DEVNULL,
+            stdout=subprocess.PIPE,
+            stderr=subprocess.PIPE,
+        )
     if done.returncode:
         raise Ended(done.returncode, done.stderr)
     return text_of(done.stdout)

@@ -30,8 +30,11 @@ TASK_SECONDS = 1.0
 
 class LostExperiments(Lost):
     """Workers died twice over these experiments, all others of a sweep are done."""
+
     def __init__(self, experiments: list[Experiment]) -> None:
-        super().__init__(f"{len(experiments)} experiments are lost, since their workers died twice: {experiments[0].told()}, ..")
+        super().__init__(
+            f"{len(experiments)} experiments are lost, since their workers died twice: {experiments[0].told()}, .."
+        )
         self.experiments = experiments
 
     def __reduce__(self) -> Any:
@@ -42,6 +45,7 @@ class LostExperiments(Lost):
 class Disturbance:
     """What hits a network that is silent: faults of registers (any, pointers or flags alone), nodes that leave, and nodes that join,
     with their edges. Where it is nothing at all, the network settles from the start, all pointers null."""
+
     faults: int = 0
     registers: str = "any"
     joins: int = 0
@@ -49,11 +53,17 @@ class Disturbance:
 
     def __post_init__(self) -> None:
         if self.registers not in REGISTERS or min(self.faults, self.joins, self.leaves) < 0:
-            raise ValueError(f"{self} is no disturbance: registers are one of {', '.join(REGISTERS)}, and no number is below 0")
+            raise ValueError(
+                f"{self} is no disturbance: registers are one of {', '.join(REGISTERS)}, and no number is below 0"
+            )
 
     def __str__(self) -> str:
         faults = f"{self.faults} faults" if self.registers == "any" else f"{self.faults} faults of {self.registers}s"
-        parts = [faults] * bool(self.faults) + [f"{self.joins} joins"] * bool(self.joins) + [f"{self.leaves} leaves"] * bool(self.leaves)
+        parts = (
+            [faults] * bool(self.faults)
+            + [f"{self.joins} joins"] * bool(self.joins)
+            + [f"{self.leaves} leaves"] * bool(self.leaves)
+        )
         return ", ".join(parts) or "start"
 
 
@@ -61,6 +71,7 @@ class Disturbance:
 class Row:
     """What an experiment showed: moves in so many steps, of the charge at the beginning, which is within the bound 2m + n (`hh`) or
     2m + 3n (`manne`), and the pairs at the end. `seconds` is the time that it all took."""
+
     graph: str
     rules: str
     n: int
@@ -79,6 +90,7 @@ class Row:
 @dataclass(frozen=True)
 class Experiment:
     """One network to be disturbed and settled; the daemon is a word of `daemons.WORDS`, a daemon, or a function."""
+
     graph: Graph
     rules: str
     daemon: Any
@@ -105,7 +117,9 @@ class Experiment:
         return f"{self.graph.title} {self.rules} {self.daemon_word()} seed {self.seed} {self.disturbance}"
 
     def daemon_word(self) -> str:
-        return self.daemon if isinstance(self.daemon, str) else getattr(self.daemon, "__name__", None) or repr(self.daemon)
+        return (
+            self.daemon if isinstance(self.daemon, str) else getattr(self.daemon, "__name__", None) or repr(self.daemon)
+        )
 
     def run(self) -> Row:
         """Plays it. The moves and the bound are those of the last epoch of the transcript, which the program judges for that."""
@@ -125,8 +139,19 @@ class Experiment:
         if not last.moves == status.spent == before.spent + settled.moves:
             raise RudekpiError(f"{self.told()}: the daemon itself disturbed the network")
         return Row(
-            self.graph.title, self.rules, last.nodes, last.edges, self.daemon_word(), self.seed, str(self.disturbance),
-            settled.steps, settled.moves, settled.charge, last.bound, status.pairs, round(time.perf_counter() - began, 6),
+            self.graph.title,
+            self.rules,
+            last.nodes,
+            last.edges,
+            self.daemon_word(),
+            self.seed,
+            str(self.disturbance),
+            settled.steps,
+            settled.moves,
+            settled.charge,
+            last.bound,
+            status.pairs,
+            round(time.perf_counter() - began, 6),
         )
 
     def begin(self, net: Network, joining: set[Name]) -> None:
@@ -178,15 +203,26 @@ def run_all(experiments: Sequence[Experiment]) -> list[Row]:
 
 
 def experiments_of(
-    graphs: Iterable[Graph], rules: Iterable[str], daemons: Iterable[Any], seeds: Iterable[int],
-    disturbances: Iterable[Union[int, Disturbance]], program: Program = None,
+    graphs: Iterable[Graph],
+    rules: Iterable[str],
+    daemons: Iterable[Any],
+    seeds: Iterable[int],
+    disturbances: Iterable[Union[int, Disturbance]],
+    program: Program = None,
 ) -> list[Experiment]:
     """All experiments of a sweep. Under `hh`, which has no flags and takes one node at a time, those of flags and of the synchronous
     daemon are left out. Raises `ValueError` for words and numbers that none takes."""
     of = [it if isinstance(it, Disturbance) else Disturbance(it) for it in disturbances]
     every = itertools.product(graphs, rules, daemons, seeds, of)
-    lawful = (words for words in every if not (words[1] == "hh" and (is_synchronous(words[2]) or words[4].registers == "flag")))
-    return [Experiment(graph, rule_set, daemon, seed, disturbance, program) for graph, rule_set, daemon, seed, disturbance in lawful]
+    lawful = (
+        words
+        for words in every
+        if not (words[1] == "hh" and (is_synchronous(words[2]) or words[4].registers == "flag"))
+    )
+    return [
+        Experiment(graph, rule_set, daemon, seed, disturbance, program)
+        for graph, rule_set, daemon, seed, disturbance in lawful
+    ]
 
 
 def is_synchronous(daemon: Any) -> bool:
@@ -194,8 +230,14 @@ def is_synchronous(daemon: Any) -> bool:
 
 
 def sweep(
-    graphs: Iterable[Graph], rules: Iterable[str] = ("manne",), daemons: Iterable[Any] = ("seeded",), seeds: Iterable[int] = (0,),
-    faults: Iterable[Union[int, Disturbance]] = (0,), *, executor: Optional[Executor] = None, program: Program = None,
+    graphs: Iterable[Graph],
+    rules: Iterable[str] = ("manne",),
+    daemons: Iterable[Any] = ("seeded",),
+    seeds: Iterable[int] = (0,),
+    faults: Iterable[Union[int, Disturbance]] = (0,),
+    *,
+    executor: Optional[Executor] = None,
+    program: Program = None,
     processes: Optional[int] = None,
 ) -> Iterator[Row]:
     """A row for each graph, rules, daemon, seed and disturbance, in the order in which they are done.

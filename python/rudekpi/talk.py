@@ -56,7 +56,9 @@ class Talk:
 
     def start(self, words: list[str]) -> None:
         pipe = subprocess.PIPE
-        start: Any = functools.partial(subprocess.Popen, stdin=pipe, stdout=pipe, stderr=self.told, bufsize=0, start_new_session=True)
+        start: Any = functools.partial(
+            subprocess.Popen, stdin=pipe, stdout=pipe, stderr=self.told, bufsize=0, start_new_session=True
+        )
         self.runs.extend(map(start, (words,)))
         run = self.runs[0]
         # the pipes are closed with this object, whatever becomes of that one

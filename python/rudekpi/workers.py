@@ -11,7 +11,15 @@ import sys
 import traceback
 import uuid
 from collections import deque
-from concurrent.futures import FIRST_COMPLETED, BrokenExecutor, CancelledError, Executor, Future, ProcessPoolExecutor, wait
+from concurrent.futures import (
+    FIRST_COMPLETED,
+    BrokenExecutor,
+    CancelledError,
+    Executor,
+    Future,
+    ProcessPoolExecutor,
+    wait,
+)
 from typing import Any, Callable, Generator, Generic, Iterator, Optional, Tuple, TypeVar, Union
 
 Task = TypeVar("Task")
@@ -84,11 +92,18 @@ def called(token: str, call: Callable[..., Any], *words: Any) -> Any:
 
 def is_death(error: BaseException) -> bool:
     """Whether an error tells that a worker died, here or on a cluster."""
-    if isinstance(error, (BrokenExecutor, CancelledError)) or type(error).__name__ in ("KilledWorker", "CommClosedError"):
+    if isinstance(error, (BrokenExecutor, CancelledError)) or type(error).__name__ in (
+        "KilledWorker",
+        "CommClosedError",
+    ):
         return True
     # where a worker dies while its result is handed over, distributed takes the result for an error, and fails in that itself
     frames = [frame for frame, _ in traceback.walk_tb(error.__traceback__)]
-    return bool(frames) and frames[-1].f_code.co_name == "_cascade_future" and isinstance(error, (AttributeError, TypeError, ValueError))
+    return (
+        bool(frames)
+        and frames[-1].f_code.co_name == "_cascade_future"
+        and isinstance(error, (AttributeError, TypeError, ValueError))
+    )
 
 
 def has_died(future: Future[Any]) -> bool:

@@ -61,7 +61,9 @@ class Timed(unittest.TestCase):
         with open(os.path.join(folder, "script.py"), "w") as file:
             file.write(script)
         paths = dict(os.environ, PYTHONPATH=os.path.join(TOP, "python"))
-        run = subprocess.Popen([sys.executable, file.name], env=paths, cwd=folder, stderr=subprocess.PIPE, start_new_session=True)
+        run = subprocess.Popen(
+            [sys.executable, file.name], env=paths, cwd=folder, stderr=subprocess.PIPE, start_new_session=True
+        )
         self.addCleanup(run.stderr.close)
         self.addCleanup(end_group, run.pid)
         while run.poll() is None and len(glob.glob(os.path.join(folder, marks))) < count:
@@ -122,7 +124,11 @@ class Losing(concurrent.futures.Executor):
 def has_ended(net):
     """Whether the run behind a network has ended well, and holds nothing any more."""
     session = net._session
-    return not session.slot.full if net.engine == "library" else session.talk.ended is not None and session.talk.runs[0].poll() is not None
+    return (
+        not session.slot.full
+        if net.engine == "library"
+        else session.talk.ended is not None and session.talk.runs[0].poll() is not None
+    )
 
 
 def play(player, line, name=int):
@@ -141,7 +147,12 @@ def play(player, line, name=int):
         return getattr(player, word)(name(rest[0]))
     if word in ("drive", "scramble"):
         return getattr(player, word)(int(rest[0]), int(rest[1]))
-    calls = {"enabled": player.enabled, "matching": player.matching, "status": player.status, "checkpoint": player.checkpoint}
+    calls = {
+        "enabled": player.enabled,
+        "matching": player.matching,
+        "status": player.status,
+        "checkpoint": player.checkpoint,
+    }
     return calls[word]()
 
 
@@ -174,7 +185,9 @@ def spelled(reply, number=str):
     if isinstance(reply, Base):
         lines = [f"base {reply.number} spent={reply.spent} nodes={len(reply.nodes)} edges={len(reply.edges)}"]
         for node, held in reply.nodes.items():
-            lines.append(f"node {number(node)} {'-' if held.pointer is None else number(held.pointer)} {int(held.flag)}")
+            lines.append(
+                f"node {number(node)} {'-' if held.pointer is None else number(held.pointer)} {int(held.flag)}"
+            )
         return "\n".join([*lines, *(f"edge {number(a)} {number(b)}" for a, b in reply.edges)])
     if isinstance(reply, Fault) and reply.register == "pointer":
         return f"point {number(reply.node)} {'-' if reply.value is None else number(reply.value)}"

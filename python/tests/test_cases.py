@@ -93,7 +93,9 @@ class Rows(Timed):
                     pending = [play(batch, line) for line in lines]
                 self.expect(lines, [told(each.result) for each in pending], wanted)
                 refused = [f"{it.event} = {spelled(it)}" for it in batch.refusals]
-                self.assertEqual(refused, [f"{event} = {said}" for event, said in entries_of(wanted) if said.startswith("refused ")])
+                self.assertEqual(
+                    refused, [f"{event} = {said}" for event, said in entries_of(wanted) if said.startswith("refused ")]
+                )
 
     def test_with_names_of_the_callers_own(self):
         played = 0

@@ -37,8 +37,16 @@ def stirred(net, seed):
     with net.batch(raises=False) as batch:
         for _ in range(120):
             a, b = drawn.sample(nodes, 2)
-            call = drawn.choice(["link", "link", "link", "unlink", "point", "flag", "join", "leave", "drive", "checkpoint", "show"])
-            words = {"link": (a, b), "unlink": (a, b), "point": (a, b), "flag": (a, True), "drive": (drawn.randint(0, 99), 2)}
+            call = drawn.choice(
+                ["link", "link", "link", "unlink", "point", "flag", "join", "leave", "drive", "checkpoint", "show"]
+            )
+            words = {
+                "link": (a, b),
+                "unlink": (a, b),
+                "point": (a, b),
+                "flag": (a, True),
+                "drive": (drawn.randint(0, 99), 2),
+            }
             getattr(batch, call)(*words.get(call, () if call == "checkpoint" else (a,)))
 
 
@@ -103,11 +111,23 @@ class Bases(Timed):
             self.assertEqual((last.result().number, last.result().spent), (broken.result().status.entry, 0))
 
     def test_as_the_program_writes_it(self):
-        script = ["link 1 2", "checkpoint", "link 2 3", "step 1 2", "checkpoint", "leave 3", "checkpoint", "flag 1 1", "checkpoint"]
+        script = [
+            "link 1 2",
+            "checkpoint",
+            "link 2 3",
+            "step 1 2",
+            "checkpoint",
+            "leave 3",
+            "checkpoint",
+            "flag 1 1",
+            "checkpoint",
+        ]
         with Network("manne", 3) as net:
             bases = [spelled(reply) for reply in [play(net, line) for line in script] if isinstance(reply, Base)]
         words = [os.environ["RUDEKPI_CONSOLE"], "run", "--rules", "manne", "--nodes", "3"]
-        said = subprocess.run(words, input="".join(f"{line}\n" for line in script).encode(), stdout=subprocess.PIPE).stdout.decode()
+        said = subprocess.run(
+            words, input="".join(f"{line}\n" for line in script).encode(), stdout=subprocess.PIPE
+        ).stdout.decode()
         self.assertEqual(net.transcript(), said)
         written = "".join(f"{base}\n" for base in bases)
         self.assertEqual("".join(line for line in said.splitlines(keepends=True) if line[0] in "bne"), written)
@@ -123,7 +143,9 @@ class Bases(Timed):
             self.assertEqual(status.result().entry, nodes)
             path = tuple((node, node + 1) for node in range(1, nodes))
             for each in asked:
-                self.assertEqual((each.result().number, len(each.result().nodes), each.result().edges), (nodes - 1, nodes, path))
+                self.assertEqual(
+                    (each.result().number, len(each.result().nodes), each.result().edges), (nodes - 1, nodes, path)
+                )
 
 
 class Pieces(Timed):
@@ -131,7 +153,8 @@ class Pieces(Timed):
 
     def writes(self, *texts):
         """A program that writes its header, and one of these texts a line that it reads, byte by byte."""
-        return self.program(f"""import sys
+        return self.program(
+            f"""import sys
 def put(text):
     for sign in text:
         sys.stdout.write(sign)
@@ -141,11 +164,14 @@ for text in {texts!r}:
     sys.stdin.readline()
     put(text)
 sys.stdin.read()
-""")
+"""
+        )
 
     def test_byte_by_byte(self):
         lines = AT_BASE.splitlines(keepends=True)
-        with Network("hh", 2, program=self.writes(*BEFORE.splitlines(keepends=True), "".join(lines[:5]), lines[5])) as net:
+        with Network(
+            "hh", 2, program=self.writes(*BEFORE.splitlines(keepends=True), "".join(lines[:5]), lines[5])
+        ) as net:
             with net.batch() as batch:
                 batch.link(1, 2)
                 batch.step([1])
@@ -163,10 +189,24 @@ sys.stdin.read()
     def test_garbled(self):
         right = ["matching2 hh 2", "base 0 spent=1 nodes=2 edges=1", "node 1 2 0", "node 2 - 0", "edge 1 2"]
         wrong = {
-            0: ["matching2 hh 3", "matching2 manne 2", "matching hh 2", "matching2 hh 2 1", right[1], "1 status = ok", ""],
+            0: [
+                "matching2 hh 3",
+                "matching2 manne 2",
+                "matching hh 2",
+                "matching2 hh 2 1",
+                right[1],
+                "1 status = ok",
+                "",
+            ],
             1: [
-                "base 1 spent=1 nodes=2 edges=1", "base 0 spent= nodes=2 edges=1", "base 0 nodes=2 edges=1", "node 1 2 0", "",
-                "base 0 spent=1 nodes=1 edges=1", "base 0 spent=1 nodes=3 edges=1", "base 0 spent=-1 nodes=2 edges=1",
+                "base 1 spent=1 nodes=2 edges=1",
+                "base 0 spent= nodes=2 edges=1",
+                "base 0 nodes=2 edges=1",
+                "node 1 2 0",
+                "",
+                "base 0 spent=1 nodes=1 edges=1",
+                "base 0 spent=1 nodes=3 edges=1",
+                "base 0 spent=-1 nodes=2 edges=1",
                 f"base 0 spent=1 nodes={'9' * 5000} edges=1",
             ],
             2: ["node 1 2", "node 1 2 2", "node 0 2 0", "node 1 3 0", "node 2 - 0", "node 1 x 0", "edge 1 2", "node"],
@@ -188,7 +228,9 @@ sys.stdin.read()
             net.status()
         entry = "matching2 hh 2\nbase 0 spent=0 nodes=2 edges=0\nnode 1 - 0\nnode 2 - 0\n"
         wanted = "line 6 is 'node 2 - 0'; asked was 'status'"
-        with self.assertRaisesRegex(Garbled, wanted), Network("hh", 2, program=self.writes(entry, "node 2 - 0\n")) as net:
+        with self.assertRaisesRegex(Garbled, wanted), Network(
+            "hh", 2, program=self.writes(entry, "node 2 - 0\n")
+        ) as net:
             net.checkpoint()
             net.status()
 
@@ -199,7 +241,11 @@ class Transcripts(Timed):
         self.assertEqual(audit(AT_BASE), Summary(1, 1, 1))
         self.assertEqual(audit(AT_BASE.replace("spent=1", "spent=3")), Summary(1, 1, 1))
         few = AT_BASE.replace("edge 1 2\n", "")
-        for text, line in [(PAIR.replace("spent=1", "spent=3"), 5), (AT_BASE.replace("spent=1", "spent=4"), 2), (few, 5)]:
+        for text, line in [
+            (PAIR.replace("spent=1", "spent=3"), 5),
+            (AT_BASE.replace("spent=1", "spent=4"), 2),
+            (few, 5),
+        ]:
             for judge in (audit, epochs, replay):
                 with self.subTest(judge.__name__, text=text), self.assertRaises(Damaged) as caught:
                     judge(text)
@@ -208,7 +254,9 @@ class Transcripts(Timed):
     def test_epochs(self):
         self.assertEqual(epochs(PAIR), [Epoch(0, 0, 0, 2, 2, None), Epoch(1, 2, 1, 2, 4, 2)])
         self.assertEqual(epochs(AT_BASE), [Epoch(None, 2, 1, 2, 4, None)])
-        self.assertEqual(epochs(AT_BASE + "4 unlink 1 2 = ok\n"), [Epoch(None, 2, 1, 2, 4, None), Epoch(4, 0, 0, 2, 2, 0)])
+        self.assertEqual(
+            epochs(AT_BASE + "4 unlink 1 2 = ok\n"), [Epoch(None, 2, 1, 2, 4, None), Epoch(4, 0, 0, 2, 2, 0)]
+        )
 
     def test_a_replay_goes_on(self):
         with replay(PAIR, names=["ann", "bob"]) as net:
@@ -234,7 +282,9 @@ class Transcripts(Timed):
             self.assertEqual(net.matching(), {(2, 3)})
         absent = "matching2 manne 4\nbase 9 spent=0 nodes=2 edges=1\nnode 1 - 1\nnode 3 1 0\nedge 1 3\n"
         with replay(absent) as net:
-            self.assertEqual(net.checkpoint(), Base(4, 0, {1: Registers(None, True), 3: Registers(1, False)}, ((1, 3),)))
+            self.assertEqual(
+                net.checkpoint(), Base(4, 0, {1: Registers(None, True), 3: Registers(1, False)}, ((1, 3),))
+            )
         self.assertEqual(net.transcript().splitlines()[:2], ["matching manne 4 1", "1 join 3 = ok"])
 
     def test_a_replay_from_each_base_of_a_run(self):

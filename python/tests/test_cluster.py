@@ -28,8 +28,11 @@ class Cluster(Timed):
     def start(self, module, *words):
         folder = os.path.join(TOP, "python")
         run = subprocess.Popen(
-            [sys.executable, "-m", module, *words], env=dict(os.environ, PYTHONPATH=f"{folder}:{folder}/tests"),
-            stdout=subprocess.DEVNULL, stderr=subprocess.DEVNULL, cwd=self.folder(),
+            [sys.executable, "-m", module, *words],
+            env=dict(os.environ, PYTHONPATH=f"{folder}:{folder}/tests"),
+            stdout=subprocess.DEVNULL,
+            stderr=subprocess.DEVNULL,
+            cwd=self.folder(),
         )
         self.addCleanup(run.wait)
         self.addCleanup(run.kill)
@@ -38,11 +41,21 @@ class Cluster(Timed):
     def setUp(self):
         super().setUp()
         import distributed
+
         # that a worker is gone is what these tests are about
         logging.getLogger("distributed").setLevel(logging.CRITICAL)
         logging.getLogger("distributed.client").setLevel(logging.CRITICAL)
         self.file = os.path.join(self.folder(), "scheduler.json")
-        self.start("distributed.cli.dask_scheduler", "--host", "127.0.0.1", "--port", "0", "--no-dashboard", "--scheduler-file", self.file)
+        self.start(
+            "distributed.cli.dask_scheduler",
+            "--host",
+            "127.0.0.1",
+            "--port",
+            "0",
+            "--no-dashboard",
+            "--scheduler-file",
+            self.file,
+        )
         words = ["--scheduler-file", self.file, "--nthreads", "1", "--no-nanny", "--no-dashboard"]
         self.workers = [self.start("distributed.cli.dask_worker", *words) for _ in range(2)]
         last = time.monotonic() + 60
@@ -100,18 +113,28 @@ class Cluster(Timed):
 
     def test_by_the_command_line(self):
         import json
+
         with open(self.file) as file:
             address = json.load(file)["address"]
         words = [sys.executable, "-m", "rudekpi", "sweep", "--graph", "ring:9", "--seeds", "6", "--dask", address]
-        done = subprocess.run(words, env=dict(os.environ, PYTHONPATH=os.path.join(TOP, "python")), capture_output=True, text=True)
+        done = subprocess.run(
+            words, env=dict(os.environ, PYTHONPATH=os.path.join(TOP, "python")), capture_output=True, text=True
+        )
         self.assertEqual((done.returncode, len(done.stdout.splitlines())), (0, 7), done.stderr)
 
 
 class WithoutDistributed(Timed):
     def test_it_is_told(self):
         hides = "import sys; sys.modules['distributed'] = None; import rudekpi.__main__ as it; sys.exit(it.main(['sweep', '--graph', 'ring:5', '--dask', 'tcp://127.0.0.1:1']))"
-        done = subprocess.run([sys.executable, "-c", hides], env=dict(os.environ, PYTHONPATH=os.path.join(TOP, "python")), capture_output=True, text=True)
-        self.assertEqual((done.returncode, done.stderr.splitlines()[-1]), (1, "! --dask wants distributed, which is not there"))
+        done = subprocess.run(
+            [sys.executable, "-c", hides],
+            env=dict(os.environ, PYTHONPATH=os.path.join(TOP, "python")),
+            capture_output=True,
+            text=True,
+        )
+        self.assertEqual(
+            (done.returncode, done.stderr.splitlines()[-1]), (1, "! --dask wants distributed, which is not there")
+        )
 
 
 if __name__ == "__main__":

@@ -28,7 +28,14 @@ def environment(**more):
 
 
 def rudekpi(*words, given="", **more):
-    return subprocess.run([sys.executable, "-m", "rudekpi", *words], input=given, env=environment(), capture_output=True, text=True, **more)
+    return subprocess.run(
+        [sys.executable, "-m", "rudekpi", *words],
+        input=given,
+        env=environment(),
+        capture_output=True,
+        text=True,
+        **more,
+    )
 
 
 def said(*words, given=""):
@@ -42,19 +49,29 @@ def said(*words, given=""):
 class HandedOn(Timed):
     def test_what_the_program_does(self):
         text = pathlib.Path(TOP, "examples", "pair.transcript").read_text()
-        self.assertEqual(said("run", "--rules", "hh", "--nodes", "2", given=pathlib.Path(TOP, "examples", "pair.script").read_text()), text)
+        self.assertEqual(
+            said(
+                "run", "--rules", "hh", "--nodes", "2", given=pathlib.Path(TOP, "examples", "pair.script").read_text()
+            ),
+            text,
+        )
         self.assertTrue(said("audit", given=text).startswith("accepted: 7 entries"))
         self.assertEqual(said("epochs", given=text).splitlines()[0], "start,moves,edges,nodes,bound,cost")
         console = [os.environ["RUDEKPI_CONSOLE"]]
         for words in (["--version"], ["run", "--help"], ["foo"], ["run"]):
             done, wanted = rudekpi(*words), subprocess.run(console + words, capture_output=True, text=True)
-            self.assertEqual((done.returncode, done.stdout, done.stderr), (wanted.returncode, wanted.stdout, wanted.stderr))
+            self.assertEqual(
+                (done.returncode, done.stdout, done.stderr), (wanted.returncode, wanted.stdout, wanted.stderr)
+            )
         for words in (["--help"], ["-h"], ["help"]):
             text = said(*words)
             self.assertIn("sweep, compare, worst, check, shell, json", text)
             self.assertTrue(text.endswith(subprocess.run([*console, *words], capture_output=True, text=True).stdout))
         done = rudekpi("sweeep")
-        self.assertEqual((done.returncode, done.stdout, done.stderr), (2, "", "! no command is called 'sweeep'; 'sweep' may be meant\n"))
+        self.assertEqual(
+            (done.returncode, done.stdout, done.stderr),
+            (2, "", "! no command is called 'sweeep'; 'sweep' may be meant\n"),
+        )
 
     def test_without_words_and_without_a_program(self):
         done = rudekpi()
@@ -62,8 +79,12 @@ class HandedOn(Timed):
         self.assertIn("sweep, compare, worst, check, shell, json", done.stderr)
         without = environment(RUDEKPI_CONSOLE="/no/such/program")
         # the library wants none for a session
-        for words in (["run", "--rules", "hh"], ["sweep", "--graph", "ring:5"], ["shell", "--nodes", "2"])[: 3 if self.engine == "program" else 2]:
-            done = subprocess.run([sys.executable, "-m", "rudekpi", *words], env=without, capture_output=True, text=True)
+        for words in (["run", "--rules", "hh"], ["sweep", "--graph", "ring:5"], ["shell", "--nodes", "2"])[
+            : 3 if self.engine == "program" else 2
+        ]:
+            done = subprocess.run(
+                [sys.executable, "-m", "rudekpi", *words], env=without, capture_output=True, text=True
+            )
             self.assertEqual(done.returncode, 3, done.stderr)
             self.assertIn("/no/such/program", done.stderr)
             self.assertNotIn("Traceback", done.stderr)
@@ -74,7 +95,20 @@ class Bench(Timed):
         folder = self.folder()
         edges, rows = os.path.join(folder, "edges.txt"), os.path.join(folder, "out.csv")
         pathlib.Path(edges).write_text("1 2\n2 3\n3 4\n4 1\n")
-        words = ["--graph", edges, "--graph", "path:6", "--rules", "hh,manne", "--daemon", "seeded,synchronous,greedy", "--seeds", "3", "--faults", "0,5"]
+        words = [
+            "--graph",
+            edges,
+            "--graph",
+            "path:6",
+            "--rules",
+            "hh,manne",
+            "--daemon",
+            "seeded,synchronous,greedy",
+            "--seeds",
+            "3",
+            "--faults",
+            "0,5",
+        ]
         self.assertEqual(said("sweep", *words, "--csv", rows, "--processes", "2"), "")
         with open(rows) as file:
             made = sweeps.read_csv(file)
@@ -96,27 +130,50 @@ class Bench(Timed):
         self.assertEqual(done.stderr, "ring:4, manne: 20 moves, the longest of all, in 1296 states; the bound is 20\n")
         played = said("run", "--rules", "manne", "--nodes", "4", given=done.stdout)
         self.assertEqual(played, said("worst", "--graph", "ring:4", "--transcript"))
-        self.assertIn("the longest found", rudekpi("worst", "--graph", "ring:40", "--rules", "hh", "--seconds", "0").stderr)
+        self.assertIn(
+            "the longest found", rudekpi("worst", "--graph", "ring:40", "--rules", "hh", "--seconds", "0").stderr
+        )
 
     def test_what_is_left_out_is_told(self):
         done = rudekpi("sweep", "--graph", "ring:5", "--rules", "hh,manne", "--daemon", "synchronous", "--seeds", "2")
         self.assertEqual((done.returncode, done.stdout.count("\n")), (0, 3))
-        self.assertEqual(done.stderr, "! left out: 2 experiments, since under hh no two nodes move at once, and there are no flags\n")
+        self.assertEqual(
+            done.stderr, "! left out: 2 experiments, since under hh no two nodes move at once, and there are no flags\n"
+        )
         done = rudekpi("sweep", "--graph", "ring:5", "--rules", "hh", "--registers", "flag", "--faults", "3")
         self.assertEqual((done.returncode, done.stdout), (2, ""))
         self.assertIn("nothing to play", done.stderr)
 
     def test_a_table_is_sorted_by_numbers(self):
-        lines = said("compare", "--graph", "ring:10", "--graph", "ring:9", "--seeds", "1", "--faults", "10,9").splitlines()
+        lines = said(
+            "compare", "--graph", "ring:10", "--graph", "ring:9", "--seeds", "1", "--faults", "10,9"
+        ).splitlines()
         found = [line.split()[:2] for line in lines[1::2]]
         self.assertEqual(found, [["ring:9", "9"], ["ring:9", "10"], ["ring:10", "9"], ["ring:10", "10"]])
 
     def test_bad_words(self):
-        more = ["--seeds 0", "--seeds x", "--processes 0", "--joins 9", "--leaves -1", "--faults 1.5", "--faults ,", "--rules ,", "--first-seed -1"]
+        more = [
+            "--seeds 0",
+            "--seeds x",
+            "--processes 0",
+            "--joins 9",
+            "--leaves -1",
+            "--faults 1.5",
+            "--faults ,",
+            "--rules ,",
+            "--first-seed -1",
+        ]
         for words in (
-            *(["sweep", "--graph", "ring:5", *words.split(" ")] for words in more), ["worst", "--graph", "ring:5", "--seconds", "-1"],
-            ["sweep"], ["sweep", "--graph", "ring:2"], ["sweep", "--graph", "/no/such/file"], ["sweep", "--graph", "ring:5", "--daemon", "fair"],
-            ["sweep", "--graph", "ring:5", "--faults", "x"], ["sweep", "--graph", "ring:5", "--rules", "x"], ["shell"], ["worst", "--graph", "ring:x"],
+            *(["sweep", "--graph", "ring:5", *words.split(" ")] for words in more),
+            ["worst", "--graph", "ring:5", "--seconds", "-1"],
+            ["sweep"],
+            ["sweep", "--graph", "ring:2"],
+            ["sweep", "--graph", "/no/such/file"],
+            ["sweep", "--graph", "ring:5", "--daemon", "fair"],
+            ["sweep", "--graph", "ring:5", "--faults", "x"],
+            ["sweep", "--graph", "ring:5", "--rules", "x"],
+            ["shell"],
+            ["worst", "--graph", "ring:x"],
         ):
             done = rudekpi(*words)
             self.assertEqual((done.returncode, done.stdout.count("\n") <= 1), (2, True), (words, done.stderr))
@@ -136,22 +193,41 @@ class Bench(Timed):
             self.assertEqual((done.returncode, done.stdout.count("\n") <= 1), (status, True), done.stderr)
         script = pathlib.Path(TOP, "examples", "broken_ring.transcript")
         from rudekpi import plots
+
         path = os.path.join(folder, "run.png")
         plots.of_run(script.read_text(), path)
         self.assertGreater(os.path.getsize(path), 5000)
 
     def test_the_charge_over_a_run(self):
         from rudekpi import plots
+
         text = said("run", "--rules", "hh", "--nodes", "2", given="link 1 2\nstatus\nstep 1\nstatus\nstep 2\nstatus\n")
         self.assertEqual(plots.charges_of(text), [(0, 2, True), (1, 1, False), (2, 0, False)])
-        self.assertEqual([line.split("charge=")[1].split(" ")[0] for line in text.splitlines() if "charge" in line], ["2", "1", "0"])
+        self.assertEqual(
+            [line.split("charge=")[1].split(" ")[0] for line in text.splitlines() if "charge" in line], ["2", "1", "0"]
+        )
 
     def test_an_interrupt_leaves_the_rows_so_far(self):
         path = os.path.join(self.folder(), "out.csv")
-        words = [sys.executable, "-m", "rudekpi", "sweep", "--graph", "grid:12x12", "--daemon", "least", "--seeds", "3000", "--csv", path]
+        words = [
+            sys.executable,
+            "-m",
+            "rudekpi",
+            "sweep",
+            "--graph",
+            "grid:12x12",
+            "--daemon",
+            "least",
+            "--seeds",
+            "3000",
+            "--csv",
+            path,
+        ]
         with subprocess.Popen(words, env=environment(), stderr=subprocess.PIPE, text=True) as run:
             last = time.monotonic() + 30
-            while time.monotonic() < last and not (os.path.exists(path) and pathlib.Path(path).read_text().count("\n") > 3):
+            while time.monotonic() < last and not (
+                os.path.exists(path) and pathlib.Path(path).read_text().count("\n") > 3
+            ):
                 time.sleep(0.05)
             run.send_signal(signal.SIGINT)
             told = run.communicate()[1]
@@ -186,12 +262,20 @@ class Lines(Timed):
         self.assertEqual(made[0], {"header": "hh", "nodes": 3, "present": 2})
         self.assertEqual(made[1], {"entry": 1, "event": "link", "words": [1, 2], "reply": "ok"})
         self.assertEqual(made[2]["enabled"], [{"node": 1, "rule": "seduce"}, {"node": 2, "rule": "seduce"}])
-        self.assertEqual((made[3]["choice"], made[3]["moves"]), ([{"node": 1}], [{"node": 1, "rule": "seduce", "target": 2}]))
+        self.assertEqual(
+            (made[3]["choice"], made[3]["moves"]), ([{"node": 1}], [{"node": 1, "rule": "seduce", "target": 2}])
+        )
         self.assertEqual((made[6]["pairs"], made[7]["status"]["pairs"]), ([[1, 2]], 1))
         self.assertEqual((made[8]["refused"], made[8]["text"]), (3, "already-linked"))
         base = {"base": 8, "rules": "hh", "names": 3, "spent": 2, "edges": [[1, 2]]}
-        self.assertEqual(made[9], {**base, "nodes": [{"node": 1, "pointer": 2, "flag": False}, {"node": 2, "pointer": 1, "flag": False}]})
-        self.assertEqual((made[10]["target"], made[11]["words"], made[12]["choice"]), (2, [1, None], [{"node": 2, "target": 1}, {"node": 1}]))
+        self.assertEqual(
+            made[9],
+            {**base, "nodes": [{"node": 1, "pointer": 2, "flag": False}, {"node": 2, "pointer": 1, "flag": False}]},
+        )
+        self.assertEqual(
+            (made[10]["target"], made[11]["words"], made[12]["choice"]),
+            (2, [1, None], [{"node": 2, "target": 1}, {"node": 1}]),
+        )
         self.assertEqual(len(made), text.count(" = ") + 2)
         done = rudekpi("json", given=text.replace("seduce", "marry", 1))
         self.assertEqual((done.returncode, done.stdout, done.stderr), (1, "", "line 3: not the machine's reply\n"))
@@ -199,11 +283,28 @@ class Lines(Timed):
     def test_check(self):
         self.assertEqual(said("check", given=PAIR), "each of 7 lines is a command, or empty\n")
         for line, why in [
-            ("link 1 2\r", "CRLF"), ("\ufefflink 1 2", "byte order mark"), ("link 01 2", "leading zeros: `1`"), ("lnik 1 2", "`link` may be meant"),
-            ("LINK 1 2", "small letters: `link`"), ("link 1", "takes a node and a node, and not 1"), ("link 1  2", "two spaces"), (" link 1 2", "beginning"),
-            ("link\t1 2", "tab"), ("# a", "comments"), ("1 link 1 2 = ok", "of a transcript"), ("link 0 1", "1 to 65535"), ("link a 1", "not a node"),
-            ("flag 1 2", "0 or 1"), ("step 1>2>3", "A>B"), ("drive 1 1000001", "number of turns"), ("link 1 \u00fc", "0xc3"), ("connect 1 2", "`link` may"),
-            ("step 0", "1 to 65535"), ("status 1", "takes nothing, and not 1 word"), ("link -1 2", "not a node"), ("link 1,2", "a comma"),
+            ("link 1 2\r", "CRLF"),
+            ("\ufefflink 1 2", "byte order mark"),
+            ("link 01 2", "leading zeros: `1`"),
+            ("lnik 1 2", "`link` may be meant"),
+            ("LINK 1 2", "small letters: `link`"),
+            ("link 1", "takes a node and a node, and not 1"),
+            ("link 1  2", "two spaces"),
+            (" link 1 2", "beginning"),
+            ("link\t1 2", "tab"),
+            ("# a", "comments"),
+            ("1 link 1 2 = ok", "of a transcript"),
+            ("link 0 1", "1 to 65535"),
+            ("link a 1", "not a node"),
+            ("flag 1 2", "0 or 1"),
+            ("step 1>2>3", "A>B"),
+            ("drive 1 1000001", "number of turns"),
+            ("link 1 \u00fc", "0xc3"),
+            ("connect 1 2", "`link` may"),
+            ("step 0", "1 to 65535"),
+            ("status 1", "takes nothing, and not 1 word"),
+            ("link -1 2", "not a node"),
+            ("link 1,2", "a comma"),
         ]:
             with self.subTest(line):
                 path = pathlib.Path(self.folder(), "script")
@@ -214,12 +315,39 @@ class Lines(Timed):
 
     def test_what_is_no_command_is_none_to_the_program(self):
         drawn = random.Random(9)
-        words = [*script_words.COMMANDS, "1", "2", "07", "0", "-", "1>2", "1>02", "3>", ">", "65535", "65536", "x", "1000000", "18446744073709551615", "18446744073709551616", ""]
-        lines = {" ".join(drawn.choices(words, k=drawn.randint(0, 3))) for _ in range(150)} | {f"{word} 1 2" for word in words} | {f"{word} 1" for word in words} | set(words)
+        words = [
+            *script_words.COMMANDS,
+            "1",
+            "2",
+            "07",
+            "0",
+            "-",
+            "1>2",
+            "1>02",
+            "3>",
+            ">",
+            "65535",
+            "65536",
+            "x",
+            "1000000",
+            "18446744073709551615",
+            "18446744073709551616",
+            "",
+        ]
+        lines = (
+            {" ".join(drawn.choices(words, k=drawn.randint(0, 3))) for _ in range(150)}
+            | {f"{word} 1 2" for word in words}
+            | {f"{word} 1" for word in words}
+            | set(words)
+        )
         seen = set()
         for line in sorted(lines):
             why = script_words.why_no_command(line.encode())
-            done = subprocess.run([os.environ["RUDEKPI_CONSOLE"], "run", "--rules", "manne", "--nodes", "2"], input=f"{line}\n".encode(), capture_output=True)
+            done = subprocess.run(
+                [os.environ["RUDEKPI_CONSOLE"], "run", "--rules", "manne", "--nodes", "2"],
+                input=f"{line}\n".encode(),
+                capture_output=True,
+            )
             with self.subTest(line, why=why):
                 self.assertEqual(done.returncode, 2 if why else 0, done.stderr)
             seen.add(bool(why))
@@ -229,8 +357,15 @@ class Lines(Timed):
         page = os.path.join(self.folder(), "page.html")
         given = f"link 1 2\nlnik 1 2\nlink 1 2\ndrive 7 9\n\ncheckpoint\npicture\naudit\nplay {page}\nplay\nhelp\nquit\nstatus\n"
         lines = said("shell", "--nodes", "2", "--rules", "hh", given=given)
-        for text in ("matching hh 2\n1 link 1 2 = ok\nnot sent: `lnik` is no command: `link` may be meant\n2 link 1 2 = refused 3 already-linked\n",
-                     "base 5 spent=2", "accepted: 5 entries", f"written: {page}", "play wants a file's name", "quit ends the session", "graph"):
+        for text in (
+            "matching hh 2\n1 link 1 2 = ok\nnot sent: `lnik` is no command: `link` may be meant\n2 link 1 2 = refused 3 already-linked\n",
+            "base 5 spent=2",
+            "accepted: 5 entries",
+            f"written: {page}",
+            "play wants a file's name",
+            "quit ends the session",
+            "graph",
+        ):
             self.assertIn(text, lines)
         self.assertNotIn("6 status", lines)
         self.assertTrue(os.path.exists(page))

@@ -62,7 +62,11 @@ class Daemons(Timed):
         """The nodes that were enabled and those that moved, of each step."""
         with stirred(rule_set, graph, 3) as net:
             net.settle(daemon)
-            lines = [line.split(" ", 1)[1] for line in net.transcript().splitlines() if " enabled = " in line or " step " in line]
+            lines = [
+                line.split(" ", 1)[1]
+                for line in net.transcript().splitlines()
+                if " enabled = " in line or " step " in line
+            ]
         found = []
         for asked, step in zip(lines[::2], lines[1::2]):
             enabled = [int(word.split(":")[0]) for word in asked.split(" = ")[1].split(" ")]
@@ -74,8 +78,15 @@ class Daemons(Timed):
         ring = graphs.ring(15)
         self.assertTrue(all(moved == enabled for enabled, moved in self.steps_of(daemons.Synchronous(), "manne", ring)))
         for rule_set in ("hh", "manne"):
-            self.assertTrue(all(moved == [min(enabled)] for enabled, moved in self.steps_of(daemons.ByName(), rule_set, ring)))
-            self.assertTrue(all(moved == [max(enabled)] for enabled, moved in self.steps_of(daemons.ByName(greatest=True), rule_set, ring)))
+            self.assertTrue(
+                all(moved == [min(enabled)] for enabled, moved in self.steps_of(daemons.ByName(), rule_set, ring))
+            )
+            self.assertTrue(
+                all(
+                    moved == [max(enabled)]
+                    for enabled, moved in self.steps_of(daemons.ByName(greatest=True), rule_set, ring)
+                )
+            )
             moves = {}
             for place, (enabled, [node]) in enumerate(self.steps_of(daemons.ByAge(), rule_set, ring)):
                 self.assertTrue(all((moves.get(node, -1), node) <= (moves.get(other, -1), other) for other in enabled))

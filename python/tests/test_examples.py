@@ -70,7 +70,10 @@ class Examples(Timed):
     def test_each_host_has_a_partner_or_no_free_neighbour(self):
         lines = printed("backup_partners.py")
         hosts = [f"h{number:02}" for number in range(1, 13)]
-        links = {frozenset((hosts[at], hosts[at - 1])) for at in range(12)} | {frozenset(("h01", "h07")), frozenset(("h04", "h10"))}
+        links = {frozenset((hosts[at], hosts[at - 1])) for at in range(12)} | {
+            frozenset(("h01", "h07")),
+            frozenset(("h04", "h10")),
+        }
         failed, moves = set(), 0
         for line in lines[:-1]:
             event, told = line.split(": ", 1)

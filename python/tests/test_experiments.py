@@ -21,7 +21,12 @@ PAGE = pathlib.Path(TOP, "docs", "EXPERIMENTS.md").read_text()
 
 
 def run(*words):
-    return subprocess.run([sys.executable, *words], env=dict(os.environ, PYTHONPATH=os.path.join(TOP, "python")), capture_output=True, text=True)
+    return subprocess.run(
+        [sys.executable, *words],
+        env=dict(os.environ, PYTHONPATH=os.path.join(TOP, "python")),
+        capture_output=True,
+        text=True,
+    )
 
 
 class Page(Timed):
@@ -36,18 +41,29 @@ class Page(Timed):
     def test_its_code(self):
         code = re.search(r"```python\n(.*?)```", PAGE, re.DOTALL)[1]
         path = os.path.join(self.folder(), "out.svg")
-        code = code.replace("ring(50)", "ring(5)").replace("grid(7, 7)", "grid(2, 2)").replace("range(20)", "range(2)").replace("out.svg", path)
+        code = (
+            code.replace("ring(50)", "ring(5)")
+            .replace("grid(7, 7)", "grid(2, 2)")
+            .replace("range(20)", "range(2)")
+            .replace("out.svg", path)
+        )
         done = run("-c", re.sub(r".*frame_of.*\n", "", code))
         self.assertEqual((done.returncode, done.stderr), (0, ""))
         self.assertTrue(os.path.exists(path))
 
     def test_the_smaller_rows_of_its_table(self):
-        rows = [[word.strip("* ") for word in line.split("|")[1:-1]] for line in PAGE.splitlines() if re.match(r"\| [1-6] \| ", line)]
+        rows = [
+            [word.strip("* ") for word in line.split("|")[1:-1]]
+            for line in PAGE.splitlines()
+            if re.match(r"\| [1-6] \| ", line)
+        ]
         self.assertEqual(sum(int(row[2]) for row in rows), 143)
         found = {}
         for n in (1, 2, 3, 4):
             for graph in connected_graphs(n):
-                hh, manne = longest(graph, "hh"), max((longest(it, "manne") for it in renamed(graph)), key=lambda it: it.moves)
+                hh, manne = longest(graph, "hh"), max(
+                    (longest(it, "manne") for it in renamed(graph)), key=lambda it: it.moves
+                )
                 found.setdefault((n, len(graph.edges)), []).append((hh, manne))
         for row in rows:
             n, m, count = map(int, row[:3])
@@ -61,7 +77,17 @@ class Page(Timed):
 
 class Scripts(Timed):
     def test_the_table_graph_by_graph(self):
-        done = run(os.path.join(TOP, "bench", "longest"), "--nodes", "3", "--central-nodes", "3", "--processes", "2", "--program", os.environ["RUDEKPI_CONSOLE"])
+        done = run(
+            os.path.join(TOP, "bench", "longest"),
+            "--nodes",
+            "3",
+            "--central-nodes",
+            "3",
+            "--processes",
+            "2",
+            "--program",
+            os.environ["RUDEKPI_CONSOLE"],
+        )
         self.assertEqual(done.returncode, 0, done.stderr)
         self.assertIn("| 3 nodes: 1-2 1-3 2-3 | 3 | 5 | 9 | 12 | 15 |", done.stdout)
 

@@ -21,8 +21,19 @@ def degrees(graph):
 class Made(Timed):
     def test_their_sizes(self):
         for words, n, m in [
-            ("path:5", 5, 4), ("path:1", 1, 0), ("ring:3", 3, 3), ("ring:7", 7, 7), ("star:6", 6, 5), ("complete:6", 6, 15), ("grid:3x4", 12, 17),
-            ("grid:1,5", 5, 4), ("gnp:9,0", 9, 0), ("gnp:9,1", 9, 36), ("regular:10,3", 10, 15), ("regular:6,5,1", 6, 15), ("disk:9,2", 9, 36),
+            ("path:5", 5, 4),
+            ("path:1", 1, 0),
+            ("ring:3", 3, 3),
+            ("ring:7", 7, 7),
+            ("star:6", 6, 5),
+            ("complete:6", 6, 15),
+            ("grid:3x4", 12, 17),
+            ("grid:1,5", 5, 4),
+            ("gnp:9,0", 9, 0),
+            ("gnp:9,1", 9, 36),
+            ("regular:10,3", 10, 15),
+            ("regular:6,5,1", 6, 15),
+            ("disk:9,2", 9, 36),
             ("disk:9,0", 9, 0),
         ]:
             with self.subTest(words):
@@ -44,10 +55,26 @@ class Made(Timed):
             self.assertNotEqual(made[0].edges, made[2].edges)
 
     def test_what_makes_none(self):
-        for words in ("ring:2", "ring:x", "ring:", "regular:5,3", "regular:4,4", "grid:3x4x5", "gnp:3", "path:65536", "path:70000"):
+        for words in (
+            "ring:2",
+            "ring:x",
+            "ring:",
+            "regular:5,3",
+            "regular:4,4",
+            "grid:3x4x5",
+            "gnp:3",
+            "path:65536",
+            "path:70000",
+        ):
             with self.subTest(words), self.assertRaises(ValueError):
                 graphs.graph_of(words)
-        for make, numbers in ((graphs.path, [-1]), (graphs.star, [-1]), (graphs.complete, [-2]), (graphs.grid, [-2, -3]), (graphs.unit_disk, [-1, 1])):
+        for make, numbers in (
+            (graphs.path, [-1]),
+            (graphs.star, [-1]),
+            (graphs.complete, [-2]),
+            (graphs.grid, [-2, -3]),
+            (graphs.unit_disk, [-1, 1]),
+        ):
             with self.subTest(make=make.__name__):
                 self.assertRaisesRegex(ValueError, "below 0", make, *numbers)
         for nodes, edges in [((1, 2), ((1, 1),)), ((1, 2), ((1, 3),)), ((1, 2), ((1, 2), (2, 1))), ((1, 1), ())]:
@@ -64,12 +91,16 @@ class Read(Timed):
 
     def test_edge_lists(self):
         self.assertEqual(self.read("a.txt", "# two\n2 10\n10 1\n\n7\n1 10\n"), ((1, 2, 7, 10), ((2, 10), (1, 10))))
-        self.assertEqual(self.read("a.edges", "ann bob\nbob cleo 0.5\n"), (("ann", "bob", "cleo"), (("ann", "bob"), ("bob", "cleo"))))
+        self.assertEqual(
+            self.read("a.edges", "ann bob\nbob cleo 0.5\n"), (("ann", "bob", "cleo"), (("ann", "bob"), ("bob", "cleo")))
+        )
         self.assertEqual(self.read("a", ""), ((), ()))
         self.assertRaisesRegex(ValueError, "itself", self.read, "a", "1 1\n")
 
     def test_dimacs(self):
-        self.assertEqual(self.read("a.col", "c a comment\np edge 4 3\ne 1 2\ne 4 2\ne 2 1\n"), ((1, 2, 3, 4), ((1, 2), (2, 4))))
+        self.assertEqual(
+            self.read("a.col", "c a comment\np edge 4 3\ne 1 2\ne 4 2\ne 2 1\n"), ((1, 2, 3, 4), ((1, 2), (2, 4)))
+        )
         self.assertRaisesRegex(ValueError, "one line p", self.read, "a.col", "e 1 2\n")
         self.assertRaises(ValueError, self.read, "a.dimacs", "p edge 2 1\ne 1 3\n")
 
@@ -94,7 +125,15 @@ class Read(Timed):
         self.assertRaisesRegex(FileNotFoundError, "no file 'rng:5'.* ring:N", graphs.graph_of, "rng:5")
 
     def test_files_that_are_no_graphs(self):
-        broken = {"a.json": "{", "b.json": "[]", "c.json": "{}", "a.graphml": "<x/>", "b.graphml": "<x", "a.col": "p edge x 1\n", "a.metis": "x y\n"}
+        broken = {
+            "a.json": "{",
+            "b.json": "[]",
+            "c.json": "{}",
+            "a.graphml": "<x/>",
+            "b.graphml": "<x",
+            "a.col": "p edge x 1\n",
+            "a.metis": "x y\n",
+        }
         for name, text in broken.items():
             with self.subTest(name):
                 if networkx or name.endswith(("col", "metis")):
@@ -105,8 +144,16 @@ class Read(Timed):
 
     def test_words_that_make_no_graph(self):
         for words, why in [
-            ("ring:x", "it is ring:N"), ("ring:2", "3 nodes or more"), ("grid:3", "it is grid:RxC"), ("grid:2x3x4", "it is"), ("path:-1", "below 0"),
-            ("gnp:5", "it is gnp:N,P,SEED"), ("gnp:5,2", "a chance"), ("regular:5,3", "no graph of 5"), ("disk:5", "it is"), ("complete:1500", "1048576"),
+            ("ring:x", "it is ring:N"),
+            ("ring:2", "3 nodes or more"),
+            ("grid:3", "it is grid:RxC"),
+            ("grid:2x3x4", "it is"),
+            ("path:-1", "below 0"),
+            ("gnp:5", "it is gnp:N,P,SEED"),
+            ("gnp:5,2", "a chance"),
+            ("regular:5,3", "no graph of 5"),
+            ("disk:5", "it is"),
+            ("complete:1500", "1048576"),
             ("ring:70000", "65535"),
         ]:
             with self.subTest(words):

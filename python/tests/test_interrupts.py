@@ -76,7 +76,11 @@ class EachInstruction(Timed):
     def test_of_an_answer(self):
         net = Network("hh", 3)
         made = lambda: net
-        cuts = self.cut_everywhere(lambda net: net.show(2), lambda net: self.assertEqual((net.show(1).node, net.status().edges), (1, 0)), made=made)
+        cuts = self.cut_everywhere(
+            lambda net: net.show(2),
+            lambda net: self.assertEqual((net.show(1).node, net.status().edges), (1, 0)),
+            made=made,
+        )
         if not cuts and sys.version_info >= (3, 12):
             # its `sys.settrace` tells of no instruction of a frame that has no loop
             self.skipTest("this Python traces no instructions here")
@@ -200,6 +204,7 @@ class RandomTimes(Timed):
 
     def test_in_batches(self):
         with Network("hh", 3000) as net:
+
             def play():
                 with net.batch(raises=False) as batch:
                     for node in range(1, 3000):
@@ -265,7 +270,11 @@ class Sessions(Timed):
     def test_an_interrupt_at_a_terminal_does_not_reach_the_program(self):
         pid, end = pty.fork()
         if pid == 0:
-            os.execve(sys.executable, [sys.executable, "-c", TERMINAL], dict(os.environ, PYTHONPATH=os.path.join(TOP, "python")))
+            os.execve(
+                sys.executable,
+                [sys.executable, "-c", TERMINAL],
+                dict(os.environ, PYTHONPATH=os.path.join(TOP, "python")),
+            )
         said = b""
         while b"closed True" not in said:
             if not select.select([end], [], [], 20)[0]:
@@ -309,7 +318,9 @@ class Sessions(Timed):
     def test_at_the_end_of_the_process(self):
         uses = "import rudekpi; net = rudekpi.Network('hh', 2); net.link(1, 2); print(net._session.talk.runs[0].pid)"
         words = [sys.executable, "-X", "dev", "-W", "error", "-c", uses]
-        done = subprocess.run(words, env=dict(os.environ, PYTHONPATH=os.path.join(TOP, "python")), capture_output=True, text=True)
+        done = subprocess.run(
+            words, env=dict(os.environ, PYTHONPATH=os.path.join(TOP, "python")), capture_output=True, text=True
+        )
         self.assertEqual((done.returncode, done.stderr), (0, ""))
         self.assertFalse(os.path.exists(f"/proc/{int(done.stdout)}"))
 

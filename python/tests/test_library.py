@@ -54,7 +54,14 @@ class Chosen(Timed):
                 self.assertEqual(net.engine, "program")
 
     def test_a_library_that_lacks_calls(self):
-        libc = next((line.split()[-1] for line in pathlib.Path("/proc/self/maps").read_text().splitlines() if "/libc.so" in line or "/libc-" in line), None)
+        libc = next(
+            (
+                line.split()[-1]
+                for line in pathlib.Path("/proc/self/maps").read_text().splitlines()
+                if "/libc.so" in line or "/libc-" in line
+            ),
+            None,
+        )
         if libc is None:
             self.skipTest("no libc.so")
         with mock.patch.dict(os.environ, RUDEKPI_LIBRARY=libc):
@@ -71,10 +78,21 @@ class Same(Timed):
         """The lines of a random script."""
         node = lambda: drawn.randint(1, nodes + 1)
         kinds = [
-            lambda: f"link {node()} {node()}", lambda: f"link {node()} {node()}", lambda: f"unlink {node()} {node()}", lambda: f"flag {node()} {drawn.randint(0, 1)}",
-            lambda: f"point {node()} {drawn.choice(['-', node()])}", lambda: f"join {node()}", lambda: f"leave {node()}", lambda: f"show {node()}",
-            lambda: "step " + " ".join(drawn.choice([f"{node()}", f"{node()}>{node()}"]) for _ in range(drawn.randint(1, 3))),
-            lambda: "enabled", lambda: "matching", lambda: "status", lambda: "checkpoint", lambda: f"drive {drawn.randint(0, 2**64 - 1)} {drawn.randint(0, 9)}",
+            lambda: f"link {node()} {node()}",
+            lambda: f"link {node()} {node()}",
+            lambda: f"unlink {node()} {node()}",
+            lambda: f"flag {node()} {drawn.randint(0, 1)}",
+            lambda: f"point {node()} {drawn.choice(['-', node()])}",
+            lambda: f"join {node()}",
+            lambda: f"leave {node()}",
+            lambda: f"show {node()}",
+            lambda: "step "
+            + " ".join(drawn.choice([f"{node()}", f"{node()}>{node()}"]) for _ in range(drawn.randint(1, 3))),
+            lambda: "enabled",
+            lambda: "matching",
+            lambda: "status",
+            lambda: "checkpoint",
+            lambda: f"drive {drawn.randint(0, 2**64 - 1)} {drawn.randint(0, 9)}",
             lambda: f"scramble {drawn.randint(0, 9)} {drawn.randint(0, 5)}",
         ]
         return [drawn.choice(kinds)() for _ in range(drawn.randint(1, 60))]
@@ -88,11 +106,26 @@ class Same(Timed):
             lines, found = self.lines(drawn, nodes), []
             if names != nodes:
                 # a name that is none is told by the client itself
-                lines = [line for line in lines if str(nodes + 1) not in line.replace(">", " ").split(" ")[1:] or line.startswith(("drive", "scramble"))]
+                lines = [
+                    line
+                    for line in lines
+                    if str(nodes + 1) not in line.replace(">", " ").split(" ")[1:]
+                    or line.startswith(("drive", "scramble"))
+                ]
             for engine in library.ENGINES:
-                with Network(rules, names, present=drawn.randint(0, 0) or nodes - nodes // 3, engine=engine, keep=keep) as net:
+                with Network(
+                    rules, names, present=drawn.randint(0, 0) or nodes - nodes // 3, engine=engine, keep=keep
+                ) as net:
                     said = [told(lambda: play(net, line, name)) for line in lines]
-                    found.append(([repr(it) for it in said], net.edges, net.present, [net.partner(it) for it in net.present], net.transcript()))
+                    found.append(
+                        (
+                            [repr(it) for it in said],
+                            net.edges,
+                            net.present,
+                            [net.partner(it) for it in net.present],
+                            net.transcript(),
+                        )
+                    )
             with self.subTest(seed=seed):
                 self.assertEqual(*found)
                 self.assertEqual(audit(found[0][-1]), audit(found[0][-1], engine="program"))
@@ -105,7 +138,9 @@ class Same(Timed):
                 with Network("manne", 6, engine=engine) as net:
                     with net.batch(raises=False) as batch:
                         asked = [play(batch, line) for line in lines]
-                    found.append(([repr(told(it.result)) for it in asked], [repr(it) for it in batch.refusals], net.transcript()))
+                    found.append(
+                        ([repr(told(it.result)) for it in asked], [repr(it) for it in batch.refusals], net.transcript())
+                    )
             with self.subTest(seed=seed):
                 self.assertEqual(*found)
 
@@ -134,7 +169,13 @@ class Same(Timed):
             with self.subTest(turn):
                 self.assertEqual(verdict(text, "library"), verdict(text, "program"))
         self.assertEqual(whys, {"not a transcript line", "out of order", "not the machine's reply", "bad base"})
-        for text in (b"", b"x", "matching hh 2\n", bytearray(b"matching hh 2\n"), memoryview(b"matching hh 2\n1 show 1 = 2\n")):
+        for text in (
+            b"",
+            b"x",
+            "matching hh 2\n",
+            bytearray(b"matching hh 2\n"),
+            memoryview(b"matching hh 2\n1 show 1 = 2\n"),
+        ):
             self.assertEqual(verdict(text, "library"), verdict(text, "program"))
 
 
@@ -145,10 +186,22 @@ class CostsTold(Timed):
     # ann and bob are a pair with two other edges each; cleo points at ann, who does not answer; gus is not there
     names = ("ann", "bob", "cleo", "dan", "eve", "fay", "gus")
     rows = (
-        (("link", "cleo", "dan"), 2, 2), (("unlink", "ann", "bob"), 8, 12), (("unlink", "ann", "cleo"), 4, 0), (("unlink", "bob", "eve"), 0, 0),
-        (("point", "ann", "cleo"), 12, 16), (("point", "cleo", None), 6, 2), (("point", "dan", "ann"), 1, 1), (("flag", "ann", True), 0, 7),
-        (("flag", "dan", 1), 0, 1), (("join", "gus"), 0, 1), (("leave", "ann"), 4, 6), (("leave", "cleo"), 4, 0), (("leave", "dan"), 0, 0),
-        (("link", "ann", "bob"), 0, 0), (("join", "ann"), 0, 0), (("point", "dan", "eve"), 0, 0),
+        (("link", "cleo", "dan"), 2, 2),
+        (("unlink", "ann", "bob"), 8, 12),
+        (("unlink", "ann", "cleo"), 4, 0),
+        (("unlink", "bob", "eve"), 0, 0),
+        (("point", "ann", "cleo"), 12, 16),
+        (("point", "cleo", None), 6, 2),
+        (("point", "dan", "ann"), 1, 1),
+        (("flag", "ann", True), 0, 7),
+        (("flag", "dan", 1), 0, 1),
+        (("join", "gus"), 0, 1),
+        (("leave", "ann"), 4, 6),
+        (("leave", "cleo"), 4, 0),
+        (("leave", "dan"), 0, 0),
+        (("link", "ann", "bob"), 0, 0),
+        (("join", "ann"), 0, 0),
+        (("point", "dan", "eve"), 0, 0),
     )
 
     def network(self, rules, engine=None):
@@ -175,7 +228,9 @@ class CostsTold(Timed):
 
     def test_by_the_program(self):
         with self.network("hh", "program") as net:
-            self.assertRaisesRegex(NoSuchCommand, "the program tells no cost of unlink beforehand", net.cost_of, "unlink", "ann", "bob")
+            self.assertRaisesRegex(
+                NoSuchCommand, "the program tells no cost of unlink beforehand", net.cost_of, "unlink", "ann", "bob"
+            )
             self.assertRaisesRegex(ValueError, "has a cost, and not 'show'", net.cost_of, "show", "ann")
             self.assertEqual(net.link("cleo", "dan").entry, 9)
 
@@ -196,11 +251,18 @@ class Pieces(Timed):
 
     def test_cut_anywhere(self):
         whole = self.text.encode()
-        for text, wanted in ((whole, Summary(3, 2, 1)), (whole[:-1], "line 4: not a transcript line"), (b"", "line 1: bad header"), (whole.replace(b">2", b">1"), "line 4: not the machine's reply")):
+        for text, wanted in (
+            (whole, Summary(3, 2, 1)),
+            (whole[:-1], "line 4: not a transcript line"),
+            (b"", "line 1: bad header"),
+            (whole.replace(b">2", b">1"), "line 4: not the machine's reply"),
+        ):
             for size in (1, 7, 100):
                 with self.subTest(text, size=size):
                     self.assertEqual(self.verdict(text[at : at + size] for at in range(0, len(text), size)), wanted)
-        self.assertEqual(self.verdict([self.text[:20], bytearray(whole[20:40]), memoryview(whole)[40:]]), Summary(3, 2, 1))
+        self.assertEqual(
+            self.verdict([self.text[:20], bytearray(whole[20:40]), memoryview(whole)[40:]]), Summary(3, 2, 1)
+        )
 
     def test_what_is_said_once_is_said_again(self):
         with Audit() as judge:
@@ -274,6 +336,7 @@ class Threads(Timed):
 
     def test_one_session_of_several(self):
         with Network("manne", 40) as net:
+
             def call(number):
                 for turn in range(150):
                     a, b = random.Random(f"{number} {turn}").sample(range(1, 41), 2)
@@ -359,7 +422,9 @@ class Memory(Timed):
     def test_at_the_end_of_the_process(self):
         uses = "import rudekpi; net = rudekpi.Network('hh', 2); net.link(1, 2); net.me = net; print(net.engine)"
         environment = dict(os.environ, PYTHONPATH=os.path.join(TOP, "python"))
-        done = subprocess.run([sys.executable, "-X", "dev", "-W", "error", "-c", uses], env=environment, capture_output=True, text=True)
+        done = subprocess.run(
+            [sys.executable, "-X", "dev", "-W", "error", "-c", uses], env=environment, capture_output=True, text=True
+        )
         self.assertEqual((done.returncode, done.stdout, done.stderr), (0, "library\n", ""))
 
     def test_a_child_of_this_process_asks_nothing(self):
@@ -369,7 +434,13 @@ class Memory(Timed):
             child = os.fork()
             if child == 0:
                 said = []
-                for call in (net.status, lambda: net.link(1, 2), lambda: batch.show(1), net.checkpoint, lambda: net.drive(1, 1)):
+                for call in (
+                    net.status,
+                    lambda: net.link(1, 2),
+                    lambda: batch.show(1),
+                    net.checkpoint,
+                    lambda: net.drive(1, 1),
+                ):
                     try:
                         call()
                         said.append("answered")

@@ -10,8 +10,10 @@ from support import Timed
 
 def allowed(rules, near, pointers, flags, node):
     """The moves of a node, written from the tables of the rules: what its pointer and flag become."""
+
     def suits(other):
         return pointers[other] == node
+
     married = pointers[node] is not None and pointers[pointers[node]] == node
     if rules == "manne" and flags[node] != married:
         return [(pointers[node], married)]
@@ -43,10 +45,19 @@ def longest_by_recursion(graph, rules):
             stays = [[held, *allowed(rules, near, pointers, flags, node)] for node, held in zip(graph.nodes, state)]
             steps = (after for after in itertools.product(*stays) if after != state)
             counts = ((after, sum(one != other for one, other in zip(state, after))) for after in steps)
-            known[state] = max((count + most(after) for after, count in counts if rules == "manne" or count == 1), default=0)
+            known[state] = max(
+                (count + most(after) for after, count in counts if rules == "manne" or count == 1), default=0
+            )
         return known[state]
 
-    places = [[(pointer, flag) for pointer in (None, *near[node]) for flag in ((False, True) if rules == "manne" else (False,))] for node in graph.nodes]
+    places = [
+        [
+            (pointer, flag)
+            for pointer in (None, *near[node])
+            for flag in ((False, True) if rules == "manne" else (False,))
+        ]
+        for node in graph.nodes
+    ]
     return max(map(most, itertools.product(*places)))
 
 
@@ -63,7 +74,14 @@ class Longest(Timed):
                 self.assertEqual(longest(graph, "manne").moves, longest_by_recursion(graph, "manne"))
 
     def test_they_are_played_and_accepted(self):
-        for graph in [graphs.path(1), graphs.path(4), graphs.ring(4), graphs.star(4), graphs.complete(3), graphs.ring(5)]:
+        for graph in [
+            graphs.path(1),
+            graphs.path(4),
+            graphs.ring(4),
+            graphs.star(4),
+            graphs.complete(3),
+            graphs.ring(5),
+        ]:
             for rules in ("hh", "manne"):
                 found = longest(graph, rules)
                 with self.subTest(graph=graph.title, rules=rules):
@@ -83,7 +101,9 @@ class Longest(Timed):
     def test_how_many_graphs_there_are(self):
         # the numbers of connected graphs of n nodes, and of such with numbered nodes: A001349 and A001187 of the OEIS
         self.assertEqual([len(list(connected_graphs(n))) for n in range(1, 6)], [1, 1, 2, 6, 21])
-        self.assertEqual([sum(len(list(renamed(graph))) for graph in connected_graphs(n)) for n in range(1, 6)], [1, 1, 4, 38, 728])
+        self.assertEqual(
+            [sum(len(list(renamed(graph))) for graph in connected_graphs(n)) for n in range(1, 6)], [1, 1, 4, 38, 728]
+        )
 
     def test_the_best_that_is_found(self):
         graph = graphs.ring(30)

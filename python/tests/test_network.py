@@ -58,7 +58,15 @@ class Names(Timed):
 
 class WrongArguments(Timed):
     def test_a_network(self):
-        for words in [("foo", 1), ("hh", -1), ("hh", 65536), ("hh", "abc"), ("hh", [1, 1]), ("hh", [1, None]), ("HH", 1)]:
+        for words in [
+            ("foo", 1),
+            ("hh", -1),
+            ("hh", 65536),
+            ("hh", "abc"),
+            ("hh", [1, 1]),
+            ("hh", [1, None]),
+            ("HH", 1),
+        ]:
             with self.subTest(words), self.assertRaises(ValueError):
                 Network(*words)
         for nodes in (2.5, None, [[]]):
@@ -70,13 +78,29 @@ class WrongArguments(Timed):
     def test_nothing_is_asked(self):
         with Network("manne", 2) as net:
             for call, *words in [
-                (net.link, 0, 1), (net.link, 1, 65536), (net.unlink, -1, 1), (net.point, 0, 1), (net.flag, 1, 2), (net.show, 0),
-                (net.step, [1, 0]), (net.step, [1] * 65536), (net.drive, -1, 1), (net.drive, 2**64, 1), (net.drive, 1, 1000001),
-                (net.scramble, 1, -1), (net.step, [Wish(1, 0)]),
+                (net.link, 0, 1),
+                (net.link, 1, 65536),
+                (net.unlink, -1, 1),
+                (net.point, 0, 1),
+                (net.flag, 1, 2),
+                (net.show, 0),
+                (net.step, [1, 0]),
+                (net.step, [1] * 65536),
+                (net.drive, -1, 1),
+                (net.drive, 2**64, 1),
+                (net.drive, 1, 1000001),
+                (net.scramble, 1, -1),
+                (net.step, [Wish(1, 0)]),
             ]:
                 with self.subTest(call.__name__, words=str(words)[:50]), self.assertRaises(ValueError):
                     call(*words)
-            for call, *words in [(net.link, "1", 2), (net.step, 1), (net.show, None), (net.drive, 1.5, 1), (net.link, 1, 2.0)]:
+            for call, *words in [
+                (net.link, "1", 2),
+                (net.step, 1),
+                (net.show, None),
+                (net.drive, 1.5, 1),
+                (net.link, 1, 2.0),
+            ]:
                 with self.subTest(call.__name__, words=words), self.assertRaises(TypeError):
                     call(*words)
             self.assertEqual(net.transcript(), "matching manne 2\n")
@@ -117,7 +141,9 @@ class Batches(Timed):
                 last, status = batch.link(2, 3), batch.status()
                 batch.step([1, 2])
             self.assertEqual((caught.exception.number, caught.exception.entry), (3, 2))
-            self.assertEqual([(it.number, it.text) for it in batch.refusals], [(3, "already-linked"), (9, "not-central")])
+            self.assertEqual(
+                [(it.number, it.text) for it in batch.refusals], [(3, "already-linked"), (9, "not-central")]
+            )
             self.assertEqual((first.result().entry, last.result().entry), (1, 3))
             self.assertEqual(status.result().edges, 2)
             self.assertRaises(Refused, wrong.result)
@@ -166,7 +192,9 @@ class Batches(Timed):
                 batch.scramble(4, 50)
                 batch.matching()
             said = net.transcript()
-        script = "".join(f"link {a} {b}\n" for a, b in links) + "drive 3 1000\nstatus\nscramble 4 50\nstatus\nmatching\n"
+        script = (
+            "".join(f"link {a} {b}\n" for a, b in links) + "drive 3 1000\nstatus\nscramble 4 50\nstatus\nmatching\n"
+        )
         words = [os.environ["RUDEKPI_CONSOLE"], "run", "--rules", "manne", "--nodes", "300"]
         self.assertEqual(said, subprocess.run(words, input=script.encode(), stdout=subprocess.PIPE).stdout.decode())
 
@@ -214,8 +242,16 @@ class Daemons(Timed):
 
     def test_wrong_choices(self):
         for choice, text in [
-            ([], "chose nobody while 2"), (set(), "chose nobody"), (iter(()), "chose nobody"), (None, "list of nodes"), ([3], "chose 3"),
-            (1, "list of nodes"), ("1", "list of nodes"), ([1, 4], "chose 4"), ([Wish(3, 1)], "chose 3"), (Wish(1, 2), "list of nodes"),
+            ([], "chose nobody while 2"),
+            (set(), "chose nobody"),
+            (iter(()), "chose nobody"),
+            (None, "list of nodes"),
+            ([3], "chose 3"),
+            (1, "list of nodes"),
+            ("1", "list of nodes"),
+            ([1, 4], "chose 4"),
+            ([Wish(3, 1)], "chose 3"),
+            (Wish(1, 2), "list of nodes"),
         ]:
             with self.subTest(choice=str(choice)), Network("hh", 3) as net:
                 net.link(1, 2)
@@ -269,7 +305,13 @@ class Transcripts(Timed):
             self.assertIn("3 step 2>3 = 2:seduce>3\n4 step 3>2 = 3:marry>2\n", net.transcript())
 
     def test_what_is_no_transcript(self):
-        for text, line in [("", 1), (PAIR[:-1], 5), (PAIR.replace("4 m", "5 m"), 5), (PAIR.replace("seduce", "marry"), 3), ("\u00fc\n", 1)]:
+        for text, line in [
+            ("", 1),
+            (PAIR[:-1], 5),
+            (PAIR.replace("4 m", "5 m"), 5),
+            (PAIR.replace("seduce", "marry"), 3),
+            ("\u00fc\n", 1),
+        ]:
             for judge in (audit, epochs, replay):
                 with self.subTest(judge.__name__, text=text), self.assertRaises(Damaged) as caught:
                     judge(text)

@@ -84,11 +84,17 @@ class Graphs(Timed):
         # by hand: 1 and 2 seduce, 3 marries 2, 2 and 3 update, and 1 abandons
         held = {"ann": (None, False), "bob": ("cleo", True), "cleo": ("bob", True)}
         self.assertEqual({node: (it["pointer"], it["flag"]) for node, it in graph.nodes(data=True)}, held)
-        self.assertEqual({(a, b): it["pair"] for a, b, it in graph.edges(data=True)}, {("ann", "bob"): False, ("bob", "cleo"): True})
+        self.assertEqual(
+            {(a, b): it["pair"] for a, b, it in graph.edges(data=True)}, {("ann", "bob"): False, ("bob", "cleo"): True}
+        )
 
     def test_graphs_that_are_none(self):
         loop = networkx.Graph([(1, 2), (2, 2)])
-        for graph, text in [(networkx.DiGraph([(1, 2)]), "undirected"), (networkx.MultiGraph([(1, 2)]), "simple"), (loop, "itself")]:
+        for graph, text in [
+            (networkx.DiGraph([(1, 2)]), "undirected"),
+            (networkx.MultiGraph([(1, 2)]), "simple"),
+            (loop, "itself"),
+        ]:
             with self.assertRaisesRegex(ValueError, text):
                 Network.from_networkx(graph)
 

@@ -146,6 +146,7 @@ class Parts(Timed):
 
 class Deaths(Timed):
     """Parts whose workers die, or whose verdicts are lost."""
+
     seconds = 120
 
     def in_parts(self, count):

@@ -37,7 +37,9 @@ class Sizes(Timed):
                 linked = batch.link(1, 2)
             self.assertEqual(linked.result().entry, 61)
             self.assertEqual(len(asked[0].result().pairs), 150_000)
-            self.assertEqual(len(net.transcript()), 14 + sum(len(f"{k} matching = \n") for k in range(1, 61)) + 60 * 599_999 + 17)
+            self.assertEqual(
+                len(net.transcript()), 14 + sum(len(f"{k} matching = \n") for k in range(1, 61)) + 60 * 599_999 + 17
+            )
 
     def test_replies_that_nobody_asks_for_till_the_end(self):
         net = Network("hh", 3, program=self.program(LARGE))
@@ -114,7 +116,7 @@ class Ends(Timed):
         with self.assertRaisesRegex(Ended, "status 3: ! write failed"):
             net.close()
         net.close()
-        answers = self.program(HEADER + "read -r line; echo \"1 $line = ok\"; cat > /dev/null; exit 3")
+        answers = self.program(HEADER + 'read -r line; echo "1 $line = ok"; cat > /dev/null; exit 3')
         with self.assertRaisesRegex(Ended, "status 3"), Network("hh", 3, program=answers) as net:
             net.link(1, 2)
         self.assertEqual(net.transcript(), "matching hh 3\n1 link 1 2 = ok\n")
@@ -147,7 +149,6 @@ class Ends(Timed):
         with self.assertRaisesRegex(Ended, "status 4"):
             audit("matching hh 3\n" * 100_000, program=self.program("exit 4"))
 
-
     def test_nothing_is_left_open(self):
         uses = """
 import rudekpi
@@ -161,9 +162,18 @@ for program in programs:
         print(type(error).__name__)
 """
         garbled = self.program(HEADER + "read -r line; echo hello; cat > /dev/null")
-        programs = [None, self.program(STOPS), self.program("exit 1"), self.program("echo hello; cat"), garbled, "/no/such/program"]
+        programs = [
+            None,
+            self.program(STOPS),
+            self.program("exit 1"),
+            self.program("echo hello; cat"),
+            garbled,
+            "/no/such/program",
+        ]
         words = [sys.executable, "-X", "dev", "-W", "error::ResourceWarning", "-c", uses % programs]
-        done = subprocess.run(words, env=dict(os.environ, PYTHONPATH=os.path.join(TOP, "python")), capture_output=True, text=True)
+        done = subprocess.run(
+            words, env=dict(os.environ, PYTHONPATH=os.path.join(TOP, "python")), capture_output=True, text=True
+        )
         kinds = "Refused Ended Ended Garbled Garbled FileNotFoundError".split(" ")
         self.assertEqual((done.stdout.split(), done.stderr), (kinds, ""))
 
@@ -176,22 +186,39 @@ class Answers(Timed):
 
     def test_garbled(self):
         for text, asks in [
-            ("echo 'matching hh 4'", None), ("echo 'matching manne 3'", None), ("echo hello", None), ("echo", None),
-            (HEADER + "read -r line; echo '2 link 1 2 = ok'", "link"), (HEADER + "read -r line; echo '1 link 1 3 = ok'", "link"),
-            (HEADER + "read -r line; echo '1 link 1 2 = yes'", "link"), (HEADER + "echo '1 enabled = none'; cat >/dev/null", "link"),
-            (HEADER + "read -r line; echo '1 enabled = 1'", "enabled"), (HEADER + "read -r line; echo '1 enabled = 4:marry'", "enabled"),
-            (HEADER + "read -r line; echo '1 status = nodes=3'", "status"), (HEADER + "read -r line; echo '1 matching = 1'", "matching"),
-            (HEADER + "read -r line; echo '1 status = nodes=3'", "drive"), (HEADER + "read -r line; echo '1 step 1 = 1:run'; cat", "drive"),
+            ("echo 'matching hh 4'", None),
+            ("echo 'matching manne 3'", None),
+            ("echo hello", None),
+            ("echo", None),
+            (HEADER + "read -r line; echo '2 link 1 2 = ok'", "link"),
+            (HEADER + "read -r line; echo '1 link 1 3 = ok'", "link"),
+            (HEADER + "read -r line; echo '1 link 1 2 = yes'", "link"),
+            (HEADER + "echo '1 enabled = none'; cat >/dev/null", "link"),
+            (HEADER + "read -r line; echo '1 enabled = 1'", "enabled"),
+            (HEADER + "read -r line; echo '1 enabled = 4:marry'", "enabled"),
+            (HEADER + "read -r line; echo '1 status = nodes=3'", "status"),
+            (HEADER + "read -r line; echo '1 matching = 1'", "matching"),
+            (HEADER + "read -r line; echo '1 status = nodes=3'", "drive"),
+            (HEADER + "read -r line; echo '1 step 1 = 1:run'; cat", "drive"),
         ]:
             calls = {
-                "link": lambda net: net.link(1, 2), "enabled": Network.enabled, "status": Network.status,
-                "matching": Network.matching, "drive": lambda net: net.drive(1, 1), None: lambda net: self.fail("no header"),
+                "link": lambda net: net.link(1, 2),
+                "enabled": Network.enabled,
+                "status": Network.status,
+                "matching": Network.matching,
+                "drive": lambda net: net.drive(1, 1),
+                None: lambda net: self.fail("no header"),
             }
             with self.subTest(text), self.assertRaises(Garbled), Network("hh", 3, program=self.program(text)) as net:
                 calls[asks](net)
 
     def test_a_garbled_verdict(self):
-        for text in ("echo accepted", "true", "echo 'line 1: bad header'", "echo start,moves,edges,nodes,bound,cost; echo 1,2"):
+        for text in (
+            "echo accepted",
+            "true",
+            "echo 'line 1: bad header'",
+            "echo start,moves,edges,nodes,bound,cost; echo 1,2",
+        ):
             for judge in (audit, epochs):
                 with self.subTest(text), self.assertRaises(Garbled):
                     judge("", program=self.program("cat > /dev/null; " + text))
@@ -201,6 +228,7 @@ class Found(Timed):
     """Which program is called."""
 
     engines = ("program",)
+
     def test_by_the_argument_and_the_environment(self):
         told = self.program("echo environment >&2; exit 7")
         with mock.patch.dict(os.environ, RUDEKPI_CONSOLE=told):
@@ -235,7 +263,9 @@ class Found(Timed):
         self.assertIn("build: it failed\n", done.stderr)
         self.assertIn("Ended: the program ended with status 1: the program could not be built\n", done.stderr)
         done = self.of_a_repository(None)
-        self.assertTrue(re.search(r"FileNotFoundError: no program at .*/console: .*RUDEKPI_CONSOLE", done.stderr), done.stderr)
+        self.assertTrue(
+            re.search(r"FileNotFoundError: no program at .*/console: .*RUDEKPI_CONSOLE", done.stderr), done.stderr
+        )
 
 
 if __name__ == "__main__":

@@ -12,7 +12,20 @@ import random
 import subprocess
 import unittest
 
-from rudekpi import Audit, Damaged, Ended, Network, Registers, WrongChoice, audit, audit_parts, daemons, epochs, replay, storm
+from rudekpi import (
+    Audit,
+    Damaged,
+    Ended,
+    Network,
+    Registers,
+    WrongChoice,
+    audit,
+    audit_parts,
+    daemons,
+    epochs,
+    replay,
+    storm,
+)
 from support import Timed, told
 
 PAIR = "matching hh 2\n1 link 1 2 = ok\n2 step 1 = 1:seduce>2\n3 step 2 = 2:marry>1\n4 matching = 1-2\n"
@@ -21,9 +34,29 @@ PAIR = "matching hh 2\n1 link 1 2 = ok\n2 step 1 = 1:seduce>2\n3 step 2 = 2:marr
 def every_result():
     """A result of every kind, errors among them."""
     with Network("manne", ["ann", ("bob", 2), 3.5]) as net:
-        made = [net.link("ann", ("bob", 2)), net.enabled(), net.step(["ann"]), net.show("ann"), net.drive(7, 100), net.matching()]
-        made += [net.status(), net.scramble(3, 4), net.checkpoint(), net.settle(list), told(lambda: net.link("ann", "ann"))]
-        return [*made, net.audit(), *epochs(net.transcript()), Damaged(3, "bad base"), Ended(4, b"! out of memory\n"), WrongChoice("nobody")]
+        made = [
+            net.link("ann", ("bob", 2)),
+            net.enabled(),
+            net.step(["ann"]),
+            net.show("ann"),
+            net.drive(7, 100),
+            net.matching(),
+        ]
+        made += [
+            net.status(),
+            net.scramble(3, 4),
+            net.checkpoint(),
+            net.settle(list),
+            told(lambda: net.link("ann", "ann")),
+        ]
+        return [
+            *made,
+            net.audit(),
+            *epochs(net.transcript()),
+            Damaged(3, "bad base"),
+            Ended(4, b"! out of memory\n"),
+            WrongChoice("nobody"),
+        ]
 
 
 class Results(Timed):
@@ -47,7 +80,12 @@ class Results(Timed):
             net.link(1, 2)
             rules = net.enabled().rules
         self.assertEqual(rules, {1: "seduce", 2: "seduce"})
-        for change in (lambda: rules.update({1: "x"}), lambda: rules.pop(1), lambda: rules.clear(), lambda: rules.__setitem__(1, "x")):
+        for change in (
+            lambda: rules.update({1: "x"}),
+            lambda: rules.pop(1),
+            lambda: rules.clear(),
+            lambda: rules.__setitem__(1, "x"),
+        ):
             self.assertRaises(TypeError, change)
         self.assertEqual(rules, {1: "seduce", 2: "seduce"})
 
@@ -102,12 +140,16 @@ class Questions(Timed):
             # by hand: 1 and 2 seduce, 3 marries 2, 2 and 3 update, and 1 abandons
             self.assertEqual((net.present, net.edges), (["ann", "bob", "cleo"], [("ann", "bob"), ("bob", "cleo")]))
             self.assertEqual((net.neighbours("bob"), net.neighbours("cleo")), (["ann", "cleo"], ["bob"]))
-            self.assertEqual((net.registers("bob"), net.registers("ann")), (Registers("cleo", True), Registers(None, False)))
+            self.assertEqual(
+                (net.registers("bob"), net.registers("ann")), (Registers("cleo", True), Registers(None, False))
+            )
             self.assertEqual((net.partner("bob"), net.partner("cleo"), net.partner("ann")), ("cleo", "bob", None))
             self.assertEqual(net.status().entry, asked + 1, "no question of these is an entry")
             net.join("dan")
             net.leave("bob")
-            self.assertEqual((net.present, net.edges, net.registers("cleo")), (["ann", "cleo", "dan"], [], Registers(None, True)))
+            self.assertEqual(
+                (net.present, net.edges, net.registers("cleo")), (["ann", "cleo", "dan"], [], Registers(None, True))
+            )
             for ask in (net.neighbours, net.registers, net.partner):
                 self.assertRaisesRegex(ValueError, "'bob' is not present", ask, "bob")
                 self.assertRaisesRegex(ValueError, "no node has the name", ask, "eve")
@@ -122,13 +164,17 @@ class Questions(Timed):
                         for _ in range(25):
                             a, b = drawn.sample(range(1, 13), 2)
                             word = drawn.choice(["link", "link", "link", "unlink", "point", "flag", "join", "leave"])
-                            getattr(batch, word)(*{"flag": (a, drawn.random() < 0.5), "join": (a,), "leave": (a,)}.get(word, (a, b)))
+                            getattr(batch, word)(
+                                *{"flag": (a, drawn.random() < 0.5), "join": (a,), "leave": (a,)}.get(word, (a, b))
+                            )
                         batch.drive(seed, drawn.randint(0, 9))
                         batch.scramble(seed, 2)
                     base, pairs = net.checkpoint(), net.matching()
                     self.assertEqual({node: net.registers(node) for node in net.present}, dict(base.nodes))
                     self.assertEqual(net.edges, list(base.edges))
-                    self.assertEqual({node: net.partner(node) for node in net.present if net.partner(node)}, dict(pairs.partners))
+                    self.assertEqual(
+                        {node: net.partner(node) for node in net.present if net.partner(node)}, dict(pairs.partners)
+                    )
 
     def test_a_network_tells_what_it_is(self):
         with Network("hh", 2) as net:
@@ -155,7 +201,9 @@ class Questions(Timed):
             net.settle(lambda enabled: [min(enabled)])
             said = net.transcript()
             words = [os.environ["RUDEKPI_CONSOLE"], "picture"]
-            self.assertEqual(net.picture(), subprocess.run(words, input=said.encode(), stdout=subprocess.PIPE).stdout.decode())
+            self.assertEqual(
+                net.picture(), subprocess.run(words, input=said.encode(), stdout=subprocess.PIPE).stdout.decode()
+            )
             self.assertNotEqual(net.picture(0), net.picture())
             with self.assertRaisesRegex(ValueError, "no entry 99: the transcript has"):
                 net.picture(99)
@@ -223,7 +271,9 @@ class Storms(Timed):
     def test_scripts_of_all_kinds(self):
         path = pathlib.Path(self.folder(), "script")
         path.write_text("link 3 4\n")
-        said = storm(["link 1 2\ndrive 7 100\n", ["link 2 3", "scramble 5 20"], path], "manne", 4, roam=2, turns=50, workers=2)
+        said = storm(
+            ["link 1 2\ndrive 7 100\n", ["link 2 3", "scramble 5 20"], path], "manne", 4, roam=2, turns=50, workers=2
+        )
         for event in ("link 1 2 = ok", "link 2 3 = ok", "link 3 4 = ok"):
             self.assertIn(f" {event}\n", said)
         audit(said)
@@ -236,7 +286,15 @@ class Storms(Timed):
             storm(["link 1 2\n", "lnik 1 2\n"], "hh", 2)
         with self.assertRaisesRegex(Ended, "status 3"):
             storm([pathlib.Path("/no/such/script")], "hh", 2)
-        for words in [dict(rules="x"), dict(nodes=-1), dict(nodes=2, present=3), dict(workers=0), dict(workers=65), dict(roam=65), dict(turns=10**6 + 1)]:
+        for words in [
+            dict(rules="x"),
+            dict(nodes=-1),
+            dict(nodes=2, present=3),
+            dict(workers=0),
+            dict(workers=65),
+            dict(roam=65),
+            dict(turns=10**6 + 1),
+        ]:
             with self.subTest(words), self.assertRaises(ValueError):
                 storm(["\n"], **words)
         for scripts in ([], ["\n"] * 65):

@@ -78,7 +78,10 @@ class Rows(Timed):
                 self.assertGreater(3 * row.pairs + 2 + gone, row.n // 2)
         start = [row for row in made if row.disturbance == "start" and row.graph == "ring:12"]
         self.assertTrue(all(row.m == 12 and row.moves >= 12 for row in start))
-        self.assertEqual({row.disturbance for row in made}, {"start", "20 faults", "9 faults of pointers", "9 faults of flags, 2 joins, 3 leaves"})
+        self.assertEqual(
+            {row.disturbance for row in made},
+            {"start", "20 faults", "9 faults of pointers", "9 faults of flags, 2 joins, 3 leaves"},
+        )
 
     def test_as_a_network_of_ones_own(self):
         [row] = sweep([RING], ["hh"], ["least"], [3])
@@ -87,11 +90,20 @@ class Rows(Timed):
                 for a, b in RING.edges:
                     batch.link(a, b)
             settled = net.settle(daemons.ByName())
-            self.assertEqual((row.steps, row.moves, row.charge, row.pairs), (settled.steps, settled.moves, settled.charge, len(net.matching())))
+            self.assertEqual(
+                (row.steps, row.moves, row.charge, row.pairs),
+                (settled.steps, settled.moves, settled.charge, len(net.matching())),
+            )
             self.assertEqual(row.bound, audits.epochs(net.transcript())[-1].bound)
 
     def test_the_same_in_every_executor(self):
-        words = ([RING, graphs.star(5)], ["hh", "manne"], ["seeded", "least", "synchronous", greatest], range(4), [0, 7])
+        words = (
+            [RING, graphs.star(5)],
+            ["hh", "manne"],
+            ["seeded", "least", "synchronous", greatest],
+            range(4),
+            [0, 7],
+        )
         wanted = without_time(sweep(*words))
         self.assertEqual(len(wanted), 2 * 4 * 2 * (3 + 4), "no synchronous daemon under hh")
         with concurrent.futures.ThreadPoolExecutor(3) as executor:
@@ -112,24 +124,46 @@ class Rows(Timed):
 
     def test_experiments_that_are_none_are_raised_at_once(self):
         for words in [
-            dict(daemons=["fair"]), dict(rules=["x"]), dict(seeds=[-1]), dict(seeds=[2**64]), dict(faults=[1_000_001]),
-            dict(faults=[Disturbance(joins=3, leaves=len(RING.nodes))]), dict(processes=0),
+            dict(daemons=["fair"]),
+            dict(rules=["x"]),
+            dict(seeds=[-1]),
+            dict(seeds=[2**64]),
+            dict(faults=[1_000_001]),
+            dict(faults=[Disturbance(joins=3, leaves=len(RING.nodes))]),
+            dict(processes=0),
         ]:
             with self.subTest(words):
                 self.assertRaises(ValueError, sweep, [RING], **words)
-        for words in [dict(graphs=["ring:5"]), dict(graphs="ring:5"), dict(graphs=[RING], daemons=[daemons.ByName]), dict(graphs=[RING], daemons=[None])]:
+        for words in [
+            dict(graphs=["ring:5"]),
+            dict(graphs="ring:5"),
+            dict(graphs=[RING], daemons=[daemons.ByName]),
+            dict(graphs=[RING], daemons=[None]),
+        ]:
             with self.subTest(words):
                 self.assertRaises(TypeError, sweep, **words)
-        left = sweeps.experiments_of([RING], ["hh", "manne"], ["seeded", "synchronous"], [0], [Disturbance(1, "flag"), Disturbance(1)])
-        self.assertEqual([(it.rules, it.daemon, it.disturbance.registers) for it in left], [
-            ("hh", "seeded", "any"), ("manne", "seeded", "flag"), ("manne", "seeded", "any"), ("manne", "synchronous", "flag"), ("manne", "synchronous", "any"),
-        ])
+        left = sweeps.experiments_of(
+            [RING], ["hh", "manne"], ["seeded", "synchronous"], [0], [Disturbance(1, "flag"), Disturbance(1)]
+        )
+        self.assertEqual(
+            [(it.rules, it.daemon, it.disturbance.registers) for it in left],
+            [
+                ("hh", "seeded", "any"),
+                ("manne", "seeded", "flag"),
+                ("manne", "seeded", "any"),
+                ("manne", "synchronous", "flag"),
+                ("manne", "synchronous", "any"),
+            ],
+        )
 
     def test_csv(self):
         made = list(sweep([RING], ["hh", "manne"], ["seeded"], range(3)))
         file = io.StringIO()
         self.assertEqual(list(sweeps.write_csv(made, file)), made)
-        self.assertEqual(file.getvalue().splitlines()[0], "graph,rules,n,m,daemon,seed,disturbance,steps,moves,charge,bound,pairs,seconds")
+        self.assertEqual(
+            file.getvalue().splitlines()[0],
+            "graph,rules,n,m,daemon,seed,disturbance,steps,moves,charge,bound,pairs,seconds",
+        )
         file.seek(0)
         self.assertEqual(sweeps.read_csv(file), made)
         self.assertRaises(ValueError, sweeps.read_csv, io.StringIO("a,b\n1,2\n"))
@@ -165,7 +199,9 @@ class Workers(Timed):
         self.assertEqual(sorted(it.seed for it in caught.exception.experiments), [0, 1])
 
     def test_an_error_of_the_task_is_no_death(self):
-        self.assertRaisesRegex(ValueError, "of the task", list, sweep([RING], ["hh"], ["seeded"], range(2), executor=Failing()))
+        self.assertRaisesRegex(
+            ValueError, "of the task", list, sweep([RING], ["hh"], ["seeded"], range(2), executor=Failing())
+        )
 
     def test_one_that_dies_costs_its_task_which_is_tried_again(self):
         os.environ["RUDEKPI_TEST_DEATH"] = os.path.join(self.folder(), "died")
@@ -176,7 +212,11 @@ class Workers(Timed):
 
     def test_a_pool_of_the_callers_own_that_breaks_is_not_replaced(self):
         with concurrent.futures.ProcessPoolExecutor(2) as executor:
-            self.assertRaises(concurrent.futures.BrokenExecutor, list, sweep([RING], ["hh"], ["seeded", dies], range(12), executor=executor))
+            self.assertRaises(
+                concurrent.futures.BrokenExecutor,
+                list,
+                sweep([RING], ["hh"], ["seeded", dies], range(12), executor=executor),
+            )
 
     def test_a_task_of_which_the_workers_die_twice_is_lost_alone(self):
         made = []

@@ -69,6 +69,7 @@ class KillsWorkers(OnlyPublic):
 
 class Pools(Timed):
     """Processes that are begun for the tasks."""
+
     seconds = 120
     engines = ("program",)
 
@@ -85,7 +86,11 @@ class Pools(Timed):
         for count in (1, 3):
             with self.subTest(count=count):
                 mark = os.path.join(self.folder(), "died")
-                handing = Handing(iter(range(9)), lambda task: (dies_once, task, MUCH, mark) if task == 4 else (given_back, task, MUCH), count)
+                handing = Handing(
+                    iter(range(9)),
+                    lambda task: (dies_once, task, MUCH, mark) if task == 4 else (given_back, task, MUCH),
+                    count,
+                )
                 self.assertEqual(ended(handing), ({task: task for task in range(9)}, []))
                 self.assertTrue(os.path.exists(mark))
                 self.expect_nothing_left()
@@ -95,7 +100,9 @@ class Pools(Timed):
             with self.subTest(lost=lost):
                 handing = Handing(iter(range(9)), lambda task: (dies if task in lost else given_back, task, MUCH), 2)
                 results, found = ended(handing)
-                self.assertEqual((results, sorted(found)), ({task: task for task in range(9) if task not in lost}, lost))
+                self.assertEqual(
+                    (results, sorted(found)), ({task: task for task in range(9) if task not in lost}, lost)
+                )
                 self.expect_nothing_left()
 
     def test_a_stop_in_the_middle_ends_all_at_once(self):
@@ -116,6 +123,7 @@ class Pools(Timed):
 
 class Given(Timed):
     """Executors of the caller's own."""
+
     engines = ("program",)
 
     def test_a_pool_that_breaks_is_not_replaced(self):
@@ -140,7 +148,9 @@ class Given(Timed):
             begun.wait()
             done.close()
             may_end.set()
-            self.assertEqual({task: future.cancelled() for future, (task, _) in handing.under_way.items()}, {1: False, 2: True})
+            self.assertEqual(
+                {task: future.cancelled() for future, (task, _) in handing.under_way.items()}, {1: False, 2: True}
+            )
             self.assertEqual(pool.submit(int).result(), 0, "the pool takes more")
 
 

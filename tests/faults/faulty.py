@@ -67,7 +67,14 @@ class Faulty:
     def ended(self, words, text, environment, err=subprocess.PIPE):
         """How a run ended; its status is None where it did not in the time it may take. What is told goes to `err`, and is None where that is a file."""
         try:
-            made = subprocess.run([self.program, *words], input=text, stdout=subprocess.PIPE, stderr=err, timeout=self.wait, env=environment)
+            made = subprocess.run(
+                [self.program, *words],
+                input=text,
+                stdout=subprocess.PIPE,
+                stderr=err,
+                timeout=self.wait,
+                env=environment,
+            )
         except subprocess.TimeoutExpired as late:
             return None, late.stdout or b"", late.stderr or b""
         return made.returncode, made.stdout, made.stderr
