@@ -1,1 +1,3 @@
 pub mod Absent
+pub mod Covered
+pub mod Merging

@@ -11,8 +11,10 @@
 //! ```
 #![tactic(auto)]
 
+mod list;
 mod reach;
 mod rest;
 
+pub use list::list_reach;
 pub use reach::is_in_reach;
 pub use rest::is_at_rest;

@@ -24,7 +24,7 @@ fn is_of_pair(net: &NetState, a: Node, v: Node) -> bool
 }
 
 /// Whether the event takes a node's partner from it.
-fn is_parted(net: &NetState, event: &Event, v: Node) -> bool
+pub(crate) fn is_parted(net: &NetState, event: &Event, v: Node) -> bool
     ensures { result ≡ of.is_parted net.now.state event.now v }
 {
     match event {
@@ -37,7 +37,7 @@ fn is_parted(net: &NetState, event: &Event, v: Node) -> bool
 }
 
 /// Whether the event itself hits a node.
-fn is_hit(net: &NetState, event: &Event, v: Node) -> bool
+pub(crate) fn is_hit(net: &NetState, event: &Event, v: Node) -> bool
     ensures { result ≡ of.is_hit net.now.state event.now v }
 {
     match event {

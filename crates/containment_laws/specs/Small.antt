@@ -107,7 +107,7 @@ own_few net p u v there_v out near =
 -- ---- who is in reach
 
 -- how a node comes to be in reach
-reach_cases : (s : State) (event : Event) (v : ℕ) → is_in_reach s event v ≡ true → (is_hit s event v ≡ true) ⊎ (is_parted s event v ≡ true) ⊎ ((married s v ≡ false) × ((w : ℕ) × IsTrue (linked s.network w v) × (is_parted s event w ≡ true)))
+pub reach_cases : (s : State) (event : Event) (v : ℕ) → is_in_reach s event v ≡ true → (is_hit s event v ≡ true) ⊎ (is_parted s event v ≡ true) ⊎ ((married s v ≡ false) × ((w : ℕ) × IsTrue (linked s.network w v) × (is_parted s event w ≡ true)))
 reach_cases s event v h =
     ⊎_elim
     (λ own. ⊎_elim (λ hit. inl hit) (λ parted. inr (inl parted)) (or_cases (is_hit s event v) (is_parted s event v) own))

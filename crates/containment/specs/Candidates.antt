@@ -1,0 +1,25 @@
+-- Who may be in the reach of a disturbance, from two ascending lists.
+use Rattle.std.specs.Prelude.{ℕ, min, Bool, cond, not, ◌&&◌, ◌||◌, List, [], ◌∷◌, Option, None, Some, nat_eq}
+use Rattle.rule_machine.specs.declared.event.Event.{Event}
+use Rattle.rule_machine.specs.State.{State, married}
+use Rattle.containment_laws.specs.Reach.{is_parted, is_hit, parts_a_pair}
+
+-- the lesser of the first numbers of two lists
+abbrev pub least_head : List ℕ → List ℕ → Option ℕ
+least_head [] [] = None
+least_head [] (y ∷ ys) = Some y
+least_head (x ∷ xs) [] = Some x
+least_head (x ∷ xs) (y ∷ ys) = Some (min x y)
+
+-- the list without its first number, if that is v
+abbrev pub without_head : ℕ → List ℕ → List ℕ
+without_head v [] = []
+without_head v (x ∷ xs) = cond (nat_eq x v) xs (x ∷ xs)
+
+-- v is hit or parted, or a pair is parted and v is not married: told without a look at v's neighbours
+abbrev pub is_touched : State → Event → ℕ → Bool
+is_touched s event v = is_hit s event v || is_parted s event v || (parts_a_pair s event && not (married s v))
+
+-- passes one of two tests, and a third
+abbrev pub is_kept : (ℕ → Bool) → (ℕ → Bool) → (ℕ → Bool) → ℕ → Bool
+is_kept p q test v = (p v || q v) && test v

@@ -1,0 +1,167 @@
+//! Whom a disturbance can reach, as a list.
+
+ghost use Rattle.std.specs.Prelude.{◌≡◌, ℕ, Bool, [], ◌∷◌, IfOk, IsTrue, filter, nat_eq};
+ghost use Rattle.rule_machine.specs.Network.{names, neighbours};
+ghost use Rattle.rule_machine.specs.State as state;
+ghost use Rattle.containment_laws.specs.Reach as of;
+ghost use Rattle.containment.specs.Candidates as among;
+
+use crate::reach::{is_hit, is_parted};
+use crate::rest::is_married;
+use net_state::NetState;
+use rule_machine::{Event, Node, Want};
+use std::alloc::Global;
+
+/// The lesser of the first nodes of two lists.
+fn least_head(xs: &[Node], ys: &[Node]) -> Option<Node>
+    ensures { result ≡ among.least_head xs.now ys.now }
+{
+    match (xs.first(), ys.first()) {
+        (Some(x), Some(y)) => Some(if *x <= *y { *x } else { *y }),
+        (Some(x), None) => Some(*x),
+        (None, Some(y)) => Some(*y),
+        (None, None) => None,
+    }
+}
+
+/// The list without its first node, if that is `v`.
+fn without_head(nodes: &[Node], v: Node) -> &[Node]
+    ensures { result.now ≡ among.without_head v nodes.now }
+{
+    match nodes.split_first() {
+        Some((first, rest)) if *first == v => rest,
+        _ => nodes,
+    }
+}
+
+/// The neighbours of a node; an absent one has none.
+fn near(net: &NetState, v: Node) -> &[Node]
+    ensures { result.now ≡ neighbours net.now.state.network v }
+{
+    // By its contract the state is sound.
+    let _ = net.registers();
+    if !net.has(v) {
+        return &[];
+    }
+    net.neighbours(v)
+}
+
+/// The node with which a node is paired.
+fn partner(net: &NetState, v: Node) -> Option<Node>
+    ensures { result ≡ state.partner net.now.state v }
+{
+    // By its contract the state is sound.
+    let _ = net.registers();
+    if !net.has(v) {
+        return None;
+    }
+    let Some(w) = net.pointer(v) else {
+        return None;
+    };
+    if net.points(w, v) {
+        return Some(w);
+    }
+    None
+}
+
+/// Whether the event parts a pair.
+fn parts_a_pair(net: &NetState, event: &Event) -> bool
+    ensures { result ≡ of.parts_a_pair net.now.state event.now }
+{
+    match event {
+        Event::Unlink(a, b) => net.points(*a, *b) && net.points(*b, *a),
+        Event::Point(a, None) => is_married(net, *a),
+        Event::Point(a, Some(w)) => !net.points(*a, *w) && is_married(net, *a),
+        Event::Leave(a) => is_married(net, *a),
+        _ => false,
+    }
+}
+
+/// Whether the event touches a node: a few looks, and none at the node's neighbours. `parts` is whether it parts a pair.
+fn is_touched(net: &NetState, event: &Event, parts: bool, v: Node) -> bool
+    requires { parts ≡ of.parts_a_pair net.now.state event.now }
+    ensures { result ≡ among.is_touched net.now.state event.now v }
+{
+    is_hit(net, event, v) || is_parted(net, event, v) || (parts && !is_married(net, v))
+}
+
+/// Those of two lists, each ascending, whom the event touches: one look through both.
+fn touched(
+    alloc: Global,
+    net: &NetState,
+    event: &Event,
+    xs: &[Node],
+    ys: &[Node],
+) -> Result<Vec<Node>, Want>
+    ensures { (p q : ℕ → Bool) → xs.now ≡ filter p (names net.now.state.network) → ys.now ≡ filter q (names net.now.state.network)
+        → IfOk result (λ list. list.items ≡ filter (among.is_kept p q (among.is_touched net.now.state event.now)) (names net.now.state.network)) }
+{
+    let parts = parts_a_pair(net, event);
+    let mut list = Vec::new(alloc);
+    let mut first = xs;
+    let mut second = ys;
+    while let Some(v) = least_head(first, second) {
+        if is_touched(net, event, parts, v) {
+            list.push(v)?;
+        }
+        first = without_head(first, v);
+        second = without_head(second, v);
+    }
+    Ok(list)
+}
+
+/// The name alone, if a node has it. `one` is the list of it.
+fn only<'a>(net: &NetState, v: Node, one: &'a [Node]) -> &'a [Node]
+    requires { one.now ≡ v ∷ [] }
+    ensures { result.now ≡ filter (λ x. nat_eq x v) (names net.now.state.network) }
+{
+    if net.has(v) {
+        return one;
+    }
+    &[]
+}
+
+/// Whom an event reaches that parts a pair: neighbours of one node or two, up to those that are married.
+fn list_beside(alloc: Global, net: &NetState, event: &Event) -> Result<Vec<Node>, Want>
+    requires { IsTrue (of.parts_a_pair net.now.state event.now) }
+    ensures { IfOk result (λ list. list.items ≡ filter (of.is_in_reach net.now.state event.now) (names net.now.state.network)) }
+{
+    // By its contract the state is sound.
+    let _ = net.registers();
+    match event {
+        Event::Unlink(a, b) => touched(alloc, net, event, near(net, *a), near(net, *b)),
+        Event::Point(v, _) => match partner(net, *v) {
+            Some(u) => touched(alloc, net, event, near(net, *v), near(net, u)),
+            None => Ok(Vec::new(alloc)),
+        },
+        Event::Leave(v) => match partner(net, *v) {
+            Some(u) => touched(alloc, net, event, near(net, u), only(net, u, &[u])),
+            None => Ok(Vec::new(alloc)),
+        },
+        _ => Ok(Vec::new(alloc)),
+    }
+}
+
+/// The nodes, ascending, that an event that is not refused would reach if it came now. It goes through the neighbours of the nodes that the
+/// event names and of their partners, and through each only once. `AllocError` if memory runs out.
+pub fn list_reach(alloc: Global, net: &NetState, event: &Event) -> Result<Vec<Node>, Want>
+    ensures { IfOk result (λ list. list.items ≡ filter (of.is_in_reach net.now.state event.now) (names net.now.state.network)) }
+{
+    // By its contract the state is sound.
+    let _ = net.registers();
+    if parts_a_pair(net, event) {
+        return list_beside(alloc, net, event);
+    }
+    match event {
+        Event::Link(a, b) => touched(
+            alloc,
+            net,
+            event,
+            only(net, *a, &[*a]),
+            only(net, *b, &[*b]),
+        ),
+        Event::Point(v, _) => touched(alloc, net, event, only(net, *v, &[*v]), &[]),
+        Event::Flag(v, _) => touched(alloc, net, event, only(net, *v, &[*v]), &[]),
+        _ => Ok(Vec::new(alloc)),
+    }
+}
