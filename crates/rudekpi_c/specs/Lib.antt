@@ -6,6 +6,7 @@ pub mod Counted
 pub mod Held
 pub mod Judged
 pub mod Looked
+pub mod Reached
 pub mod Session
 pub mod Slot
 pub mod Told

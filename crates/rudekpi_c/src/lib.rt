@@ -27,6 +27,7 @@ mod handle;
 mod judged;
 mod looks;
 mod parts;
+mod reach;
 mod row;
 mod session;
 mod sessions;

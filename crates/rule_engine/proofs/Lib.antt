@@ -19,3 +19,4 @@ pub mod Ascending
 pub mod Moments
 pub mod Counted
 pub mod Costed
+pub mod Reaching

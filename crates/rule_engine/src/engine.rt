@@ -17,14 +17,14 @@ ghost use Rattle.rule_machine.specs.declared.reply.Reply.TheVariants.{Accepted};
 ghost use Rattle.rule_engine.specs.Kept.{guard_at, IsAnswered};
 ghost use Rattle.rule_engine.specs.Applied.{Prepares, told};
 ghost use Rattle.rule_engine.specs.Costs.{cost_of};
-ghost use Rattle.rule_engine.specs.Reached.{would_reach};
+ghost use Rattle.rule_engine.specs.Reached.{would_reach, reach_of};
+ghost use Rattle.containment_laws.specs.Reach.{reach_size};
 ghost use Rattle.containment_laws.specs.Rest.{is_at_rest};
 ghost use Rattle.rule_engine.specs.Prepared.{HasRoomTo};
 ghost use Rattle.rule_engine.specs.Choosing.{verdict_of, verdicts_of};
 
 use crate::charge::totals_of;
 use crate::cost::cost_of;
-use crate::reach::would_reach;
 use crate::edits::{
     put, put_edit, refusal_of, refused_flag, refused_join, refused_leave, refused_point,
     refused_unlink,
@@ -33,6 +33,7 @@ use crate::guard::{outcome, put_reply_to_one, rule_enabled, take_items};
 use crate::listing::{enabled_rules, mutual_edges};
 use crate::look::{look_after_write, look_at, look_at_target};
 use crate::moves::{Gathered, step_reply};
+use crate::reach::{reach_of, would_reach};
 use crate::taking::{refused_size, take_verdicts};
 use enabled_set::{EnabledSet, Marks};
 use graph_store::{EdgeStore, GraphFault};
@@ -142,6 +143,14 @@ impl<R: Rules> Engine<R> {
         ensures { result ≡ would_reach R.table self.now.state event.now v }
     {
         would_reach(&self.state, event, v)
+    }
+
+    /// The nodes, ascending, that an event would reach, where it would be accepted; else none.
+    pub(crate) fn reach_of(&self, event: &Event) -> Result<Vec<Node>, Want>
+        ensures reach { IfOk result (λ list. list.items ≡ reach_of R.table self.now.state event.now) }
+        ensures few { IfOk result (λ list. length list.items ≤ reach_size self.now.state event.now) }
+    {
+        reach_of(self.alloc, &self.state, event)
     }
 
     /// Whether a node is at rest.

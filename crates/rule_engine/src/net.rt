@@ -18,7 +18,8 @@ ghost use Rattle.rule_engine.specs.Kept.{guard_at, IsAnswered};
 ghost use Rattle.rule_engine.specs.Applied.{StopsAt, moment_after_all, takes_memory};
 ghost use Rattle.rule_engine.specs.Choosing.{verdict_of, verdicts_of};
 ghost use Rattle.rule_engine.specs.Costs.{cost_of, BoundsGrowth};
-ghost use Rattle.rule_engine.specs.Reached.{would_reach};
+ghost use Rattle.rule_engine.specs.Reached.{would_reach, reach_of, Spares};
+ghost use Rattle.containment_laws.specs.Reach.{reach_size};
 ghost use Rattle.containment_laws.specs.Rest.{is_at_rest};
 ghost use Rattle.rule_engine.specs.Prepared.{IsPrepared, moment_of};
 
@@ -174,6 +175,19 @@ impl<R: Rules> Net<R> {
         ensures { result ≡ would_reach R.table self.now.state event.now v }
     {
         self.engine.would_reach(event, v)
+    }
+
+    /// The nodes, ascending, that an event would reach if it came now: whoever is at rest and not among them stays at rest. Empty
+    /// for one that would be refused, for a step and for a question. `AllocError` if memory runs out. It goes once through the neighbours
+    /// of the nodes that the event names and of their partners, whatever the size of the network, and nothing changes.
+    pub fn reach_of(&self, event: &Event) -> Result<Vec<Node>, Want>
+        ensures reach { IfOk result (λ list. list.items ≡ reach_of R.table self.now.state event.now) }
+        ensures few { IfOk result (λ list. length list.items ≤ reach_size self.now.state event.now) }
+        ensures spares { IfOk result (λ list. Spares R.table self.now.state self.now.spent event.now list.items) }
+    {
+        // By its contract the state is sound.
+        let _ = self.engine.registers();
+        self.engine.reach_of(event)
     }
 
     /// The base at which the network stands where so many entries led there: what is spent, each node with its registers, and the

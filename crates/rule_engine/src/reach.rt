@@ -1,17 +1,36 @@
 //! Whom a disturbance would reach.
 
-ghost use Rattle.std.specs.Prelude.{◌≡◌};
-ghost use Rattle.rule_engine.specs.Reached.{would_reach};
+ghost use Rattle.std.specs.Prelude.{◌≡◌, ◌≤◌, IfOk, length};
+ghost use Rattle.containment_laws.specs.Reach.{reach_size};
+ghost use Rattle.rule_engine.specs.Reached.{would_reach, reach_of};
 
 use crate::cost::is_disturbance;
 use indexed_state::IndexedState;
 use net_state::Disturb;
-use rule_machine::{Event, Node};
+use rule_machine::{Event, Node, Want};
 use rule_set::Rules;
+use std::alloc::Global;
 
 /// Whether an event would reach a node, where it would be accepted; else false.
 pub(crate) fn would_reach<R: Rules>(state: &IndexedState<R>, event: &Event, v: Node) -> bool
     ensures { result ≡ would_reach R.table state.now.state event.now v }
 {
     is_disturbance(state, event) && containment::is_in_reach(state.net(), event, v)
+}
+
+/// The nodes, ascending, that an event would reach, where it would be accepted; else none.
+pub(crate) fn reach_of<R: Rules>(
+    alloc: Global,
+    state: &IndexedState<R>,
+    event: &Event,
+) -> Result<Vec<Node>, Want>
+    ensures reach { IfOk result (λ list. list.items ≡ reach_of R.table state.now.state event.now) }
+    ensures few { IfOk result (λ list. length list.items ≤ reach_size state.now.state event.now) }
+{
+    // By its contract the state is sound.
+    let _ = state.registers();
+    if !is_disturbance(state, event) {
+        return Ok(Vec::new(alloc));
+    }
+    containment::list_reach(alloc, state.net(), event)
 }

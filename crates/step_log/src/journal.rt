@@ -5,6 +5,9 @@ ghost use Rattle.graph_store.specs.Fault.{nodes_fault, Explains};
 ghost use Rattle.rule_machine.specs.declared.event.Event.TheVariants.{Step};
 ghost use Rattle.rule_engine.specs.Choosing.{verdicts_of};
 ghost use Rattle.rule_engine.specs.Costs.{cost_of, BoundsGrowth};
+ghost use Rattle.rule_engine.specs.Reached.{reach_of, Spares};
+ghost use Rattle.containment_laws.specs.Reach.{reach_size};
+ghost use Rattle.containment_laws.specs.Rest.{is_at_rest};
 ghost use Rattle.step_log.specs.declared.fault.RecordFault.TheVariants.{LogFull};
 ghost use Rattle.step_log.specs.declared.fault.NoEntry.TheVariants.{Forgotten, Beyond};
 ghost use Rattle.step_log.specs.Epochs.{AreEpochs, IsBounded};
@@ -19,7 +22,7 @@ ghost use Rattle.step_log.specs.Headline.{Upholds};
 use crate::epoch::Epochs;
 use crate::{Epoch, MAX_ENTRIES, NoEntry, Prepared, Receipt, RecordFault};
 use log_entry::Entry;
-use rule_engine::{Choice, Event, GraphFault, Net, Reply, Rules, Verdict, Want};
+use rule_engine::{Choice, Event, GraphFault, Net, Node, Reply, Rules, Verdict, Want};
 use rule_machine::{Base, Start};
 use std::alloc::Global;
 use std::marker::Model;
@@ -178,6 +181,25 @@ impl<R: Rules> Journal<R> {
         ensures grows { BoundsGrowth R.table self.now.state self.now.spent event.now result }
     {
         self.net().cost_of(event)
+    }
+
+    /// Whether a node is at rest: whatever the daemon chooses, it never moves until a disturbance reaches it. Nothing is recorded; it costs
+    /// what `Net::is_at_rest` does.
+    pub fn is_at_rest(&self, v: Node) -> bool
+        ensures { result ≡ is_at_rest R.table.flags self.now.state v }
+    {
+        self.net().is_at_rest(v)
+    }
+
+    /// The nodes, ascending, that an event would reach if it were recorded now: whoever is at rest and not among them stays at rest.
+    /// Empty for one that would be refused, for a step and for a question. Nothing is recorded. `AllocError` if memory runs out; it costs
+    /// what `Net::reach_of` does.
+    pub fn reach_of(&self, event: &Event) -> Result<Vec<Node>, Want>
+        ensures reach { IfOk result (λ list. list.items ≡ reach_of R.table self.now.state event.now) }
+        ensures few { IfOk result (λ list. length list.items ≤ reach_size self.now.state event.now) }
+        ensures spares { IfOk result (λ list. Spares R.table self.now.state self.now.spent event.now list.items) }
+    {
+        self.net().reach_of(event)
     }
 
     /// The epochs of the log in order, the first from the start, or the one in which its base stands, the last up to now: each has at

@@ -1,0 +1,226 @@
+//! Which nodes are at rest, and whom edits and faults would reach, where C has not made them yet. Nothing is carried out, and no entry
+//! added.
+
+ghost use Rattle.std.specs.Prelude.{◌≡◌, ◌≤◌, ◌++◌, SomeIff, IfOk, IsTrue, length, drop};
+ghost use Rattle.containment_laws.specs.Rest.{is_at_rest};
+ghost use Rattle.rule_engine.specs.Reached.{reach_of};
+ghost use Rattle.rule_machine.specs.State.{IsState};
+ghost use Rattle.rule_machine.specs.Tables.{table_of};
+ghost use Rattle.rule_machine.specs.declared.event.Event.{Event};
+ghost use Rattle.rule_machine.specs.declared.event.Event.TheVariants.{Link, Unlink, Point, Flag, Join, Leave};
+ghost use Rattle.script_text.specs.declared.command.Command.TheVariants.{Tell};
+ghost use Rattle.script_text.specs.Command.{IsCommand};
+ghost use Rattle.rudekpi_c.specs.Called.{named_by};
+ghost use Rattle.rudekpi_c.specs.Reached.{rests_at, StaysAtRest, reach_at, Rests, Reached};
+ghost use Rattle.rudekpi_c.specs.Session.{stands, rules_of};
+
+use crate::asked;
+use crate::session::{Machine, Session};
+use crate::slot::Slot;
+use crate::status::{BAD_ARGUMENT, DONE, MEMORY, NO_SESSION};
+use line_run::Run;
+use rule_machine::{Event, Node, Want};
+use rule_set::Rules;
+use script_text::Command;
+use std::alloc::Global;
+
+// Whether a node is at rest where a run stands.
+fn rests<R: Rules>(run: &Run<R>, v: Node) -> bool
+    ensures rests { result ≡ is_at_rest R.table.flags run.now.recorder.state v }
+    ensures state { IsState run.now.recorder.state }
+{
+    let net = run.recorder.net();
+    // By its contract the state is sound.
+    let _ = net.registers();
+    net.is_at_rest(v)
+}
+
+// The nodes that an event would reach where a run stands.
+fn reach_in<R: Rules>(run: &Run<R>, event: &Event) -> Result<Vec<Node>, Want>
+    ensures { IfOk result (λ list. list.items ≡ reach_of R.table run.now.recorder.state event.now) }
+{
+    run.recorder.net().reach_of(event)
+}
+
+impl Session {
+    /// Whether a node is at rest where the session stands.
+    pub(crate) fn is_at_rest(&self, v: Node) -> bool
+        ensures rests { result ≡ rests_at self.now v }
+        ensures stays { IsTrue result → StaysAtRest (table_of (rules_of self.now)) (stands self.now).moment v }
+    {
+        match &self.machine {
+            Machine::Hh(run) => rests(run, v),
+            Machine::Manne(run) => rests(run, v),
+        }
+    }
+
+    /// The nodes that an event would reach where the session stands.
+    pub(crate) fn reach_of(&self, event: &Event) -> Result<Vec<Node>, Want>
+        ensures { IfOk result (λ list. list.items ≡ reach_at self.now event.now) }
+    {
+        match &self.machine {
+            Machine::Hh(run) => reach_in(run, event),
+            Machine::Manne(run) => reach_in(run, event),
+        }
+    }
+}
+
+// Writes names in front of what lies behind them.
+fn put_names(out: &mut [u32], nodes: &[Node])
+    requires { length nodes.now ≤ length out.old }
+    ensures { out.new ≡ nodes.now ++ drop (length nodes.now) out.old }
+{
+    for at in 0..nodes.len() {
+        out[at] = nodes[at].name();
+    }
+}
+
+// Tells whom an event would reach, or that there is none, since its numbers are out of their ranges.
+fn reach_of(
+    alloc: Global,
+    slot: &mut Slot,
+    asked: Option<Command>,
+    out: &mut [u32],
+    count: &mut usize,
+) -> u32
+    ensures reached { (event : Event) → SomeIff asked (IsCommand (Tell event)) (Tell event) → Reached event result count.new out.old out.new slot.old.handle.value }
+    ensures kept { slot.new.handle.value ≡ slot.old.handle.value }
+{
+    *count = 0;
+    let Some(Command::Tell(event)) = asked else {
+        return BAD_ARGUMENT;
+    };
+    let Some(session) = slot.take(alloc) else {
+        return NO_SESSION;
+    };
+    let reach = session.reach_of(&event);
+    slot.put(session);
+    let Ok(nodes) = reach else {
+        return MEMORY;
+    };
+    *count = nodes.len();
+    if nodes.len() <= out.len() {
+        put_names(out, &nodes);
+    }
+    DONE
+}
+
+/// Whether a node is at rest: whatever the daemon chooses, it does not move until a disturbance reaches it. Answers 4 where there is no
+/// session, 5 for a name that is 0 or above 65,535.
+#[unsafe(no_mangle)]
+pub extern "C" fn rudekpi_is_at_rest(
+    alloc: Global,
+    slot: &mut Slot,
+    node: u32,
+    rests: &mut bool,
+) -> u32
+    ensures rests { Rests node result rests.new slot.old.handle.value }
+    ensures kept { slot.new.handle.value ≡ slot.old.handle.value }
+{
+    *rests = false;
+    let Some(node) = Node::new(node) else {
+        return BAD_ARGUMENT;
+    };
+    let Some(session) = slot.take(alloc) else {
+        return NO_SESSION;
+    };
+    *rests = session.is_at_rest(node);
+    slot.put(session);
+    DONE
+}
+
+/// Copies the names of the nodes that an edge that comes would reach, ascending, to the start of `out`, if there is room for all, and
+/// says how many there are. None for one that would be refused. Answers 3 if memory runs out, 4 where there is no session, 5 for a name
+/// that is 0 or above 65,535; so do the others.
+#[unsafe(no_mangle)]
+pub extern "C" fn rudekpi_reach_of_link(
+    alloc: Global,
+    slot: &mut Slot,
+    a: u32,
+    b: u32,
+    out: &mut [u32],
+    count: &mut usize,
+) -> u32
+    ensures reached { Reached (Link a b) result count.new out.old out.new slot.old.handle.value }
+    ensures kept { slot.new.handle.value ≡ slot.old.handle.value }
+{
+    reach_of(alloc, slot, asked::link(a, b), out, count)
+}
+
+/// Whom an edge that goes would reach.
+#[unsafe(no_mangle)]
+pub extern "C" fn rudekpi_reach_of_unlink(
+    alloc: Global,
+    slot: &mut Slot,
+    a: u32,
+    b: u32,
+    out: &mut [u32],
+    count: &mut usize,
+) -> u32
+    ensures reached { Reached (Unlink a b) result count.new out.old out.new slot.old.handle.value }
+    ensures kept { slot.new.handle.value ≡ slot.old.handle.value }
+{
+    reach_of(alloc, slot, asked::unlink(a, b), out, count)
+}
+
+/// Whom a node that comes would reach.
+#[unsafe(no_mangle)]
+pub extern "C" fn rudekpi_reach_of_join(
+    alloc: Global,
+    slot: &mut Slot,
+    node: u32,
+    out: &mut [u32],
+    count: &mut usize,
+) -> u32
+    ensures reached { Reached (Join node) result count.new out.old out.new slot.old.handle.value }
+    ensures kept { slot.new.handle.value ≡ slot.old.handle.value }
+{
+    reach_of(alloc, slot, asked::join(node), out, count)
+}
+
+/// Whom a node that goes would reach.
+#[unsafe(no_mangle)]
+pub extern "C" fn rudekpi_reach_of_leave(
+    alloc: Global,
+    slot: &mut Slot,
+    node: u32,
+    out: &mut [u32],
+    count: &mut usize,
+) -> u32
+    ensures reached { Reached (Leave node) result count.new out.old out.new slot.old.handle.value }
+    ensures kept { slot.new.handle.value ≡ slot.old.handle.value }
+{
+    reach_of(alloc, slot, asked::leave(node), out, count)
+}
+
+/// Whom a pointer that is written would reach; 0 is null.
+#[unsafe(no_mangle)]
+pub extern "C" fn rudekpi_reach_of_point(
+    alloc: Global,
+    slot: &mut Slot,
+    node: u32,
+    target: u32,
+    out: &mut [u32],
+    count: &mut usize,
+) -> u32
+    ensures reached { Reached (Point node (named_by target)) result count.new out.old out.new slot.old.handle.value }
+    ensures kept { slot.new.handle.value ≡ slot.old.handle.value }
+{
+    reach_of(alloc, slot, asked::point(node, target), out, count)
+}
+
+/// Whom a flag that is written would reach.
+#[unsafe(no_mangle)]
+pub extern "C" fn rudekpi_reach_of_flag(
+    alloc: Global,
+    slot: &mut Slot,
+    node: u32,
+    value: bool,
+    out: &mut [u32],
+    count: &mut usize,
+) -> u32
+    ensures reached { Reached (Flag node value) result count.new out.old out.new slot.old.handle.value }
+    ensures kept { slot.new.handle.value ≡ slot.old.handle.value }
+{
+    reach_of(alloc, slot, asked::flag(node, value), out, count)
+}
