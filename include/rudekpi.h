@@ -189,6 +189,25 @@ uint32_t rudekpi_cost_of_leave(struct rudekpi_slot *slot, uint32_t node, uint32_
 uint32_t rudekpi_cost_of_point(struct rudekpi_slot *slot, uint32_t node, uint32_t target, uint32_t *cost);
 uint32_t rudekpi_cost_of_flag(struct rudekpi_slot *slot, uint32_t node, bool value, uint32_t *cost);
 
+/* Whether a node is at rest: its flag is right where the rules use flags, and it is paired, or points nowhere and each of its neighbours is
+ * paired. Whatever the daemon chooses, it does not move until an edit or a fault reaches it. An absent one is at rest. It looks at the
+ * node's neighbours only where it points nowhere; no entry is added. DONE; NO_SESSION; BAD_ARGUMENT for a name that is 0 or above 65,535.
+ * `rests` is written in each case, false where the answer is not DONE. */
+uint32_t rudekpi_is_at_rest(struct rudekpi_slot *slot, uint32_t node, bool *rests);
+
+/* Whom an edit or a fault would reach if it came now: each other node that is at rest stays at rest. Copies their names, ascending, to the
+ * start of `out`, if there is room for all of them; else `out` is as before. `count` says how many there are: they were copied where that
+ * is at most `room`. Nobody where the machine would refuse it. It is told by one look through the neighbours of the nodes that it names
+ * and of their partners (docs/BOUNDS.md has the table, with how many there are at most); nothing is done, and no entry added. DONE;
+ * NO_MEMORY; NO_SESSION; BAD_ARGUMENT for a name that is 0 or above 65,535, but for a target, of which 0 is null. `count` is written in
+ * each case, 0 where the answer is not DONE, and then `out` is as before. */
+uint32_t rudekpi_reach_of_link(struct rudekpi_slot *slot, uint32_t a, uint32_t b, uint32_t *out, size_t room, size_t *count);
+uint32_t rudekpi_reach_of_unlink(struct rudekpi_slot *slot, uint32_t a, uint32_t b, uint32_t *out, size_t room, size_t *count);
+uint32_t rudekpi_reach_of_join(struct rudekpi_slot *slot, uint32_t node, uint32_t *out, size_t room, size_t *count);
+uint32_t rudekpi_reach_of_leave(struct rudekpi_slot *slot, uint32_t node, uint32_t *out, size_t room, size_t *count);
+uint32_t rudekpi_reach_of_point(struct rudekpi_slot *slot, uint32_t node, uint32_t target, uint32_t *out, size_t room, size_t *count);
+uint32_t rudekpi_reach_of_flag(struct rudekpi_slot *slot, uint32_t node, bool value, uint32_t *out, size_t room, size_t *count);
+
 /* What an audit finds. */
 struct rudekpi_verdict {
     uint32_t kind;    /* one of the following */

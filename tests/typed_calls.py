@@ -57,6 +57,16 @@ def typed(library, slot):
             *[ctypes.c_bool] * (name == "flag"),
             ctypes.POINTER(number),
         ]
+    for name in EDITS:
+        calls[f"reach_of_{name}"] = library[f"rudekpi_reach_of_{name}"]
+        calls[f"reach_of_{name}"].argtypes = [
+            *calls[f"cost_of_{name}"].argtypes[:-1],
+            ctypes.POINTER(number),
+            ctypes.c_size_t,
+            ctypes.POINTER(ctypes.c_size_t),
+        ]
+    calls["is_at_rest"] = library.rudekpi_is_at_rest
+    calls["is_at_rest"].argtypes = [slot, number, ctypes.POINTER(ctypes.c_bool)]
     calls["rows"].restype = ctypes.c_size_t
     return calls
 
@@ -136,4 +146,21 @@ def cost(calls, slot, kind, *numbers):
     found = ctypes.c_uint32(9)
     if calls[f"cost_of_{kind}"](slot, *(number or 0 for number in numbers), found) != DONE:
         raise ValueError(f"no cost for {kind} {numbers}")
+    return found.value
+
+
+def reach(calls, slot, room, kind, *numbers):
+    """Whom an edit or a fault is told to reach, and how many; the list is None where nothing was written to `out`."""
+    out, count = (ctypes.c_uint32 * (room + 1))(*[0] * (room + 1)), ctypes.c_size_t(9)
+    if calls[f"reach_of_{kind}"](slot, *(number or 0 for number in numbers), out, room, count) != DONE:
+        raise ValueError(f"no reach of {kind} {numbers}")
+    written = [name for name in out if name]
+    return (None if count.value > room and not written else written), count.value
+
+
+def is_at_rest(calls, slot, node):
+    """Whether a node is told to be at rest."""
+    found = ctypes.c_bool(True)
+    if calls["is_at_rest"](slot, node, found) != DONE:
+        raise ValueError(f"no answer whether {node} is at rest")
     return found.value
