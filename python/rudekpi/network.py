@@ -5,7 +5,7 @@ from __future__ import annotations
 import os
 from typing import Any, Iterable, Optional, Union
 
-from . import audits, drawings, library
+from . import audits, drawings, library, reach
 from .answers import Setting
 from .batch import Batch
 from .choices import Daemon, checked_choice
@@ -219,6 +219,30 @@ class Network:
         if word not in library.COSTED:
             raise ValueError(f"{' or '.join(library.COSTED)} has a cost, and not {word!r}")
         return self._session.cost_of(word, *given)
+
+    def reach(self, word: str, *given: Any) -> set[Name]:
+        """The nodes that an edit or a fault would reach if it came now: `net.reach("unlink", "ann", "bob")`.
+
+        So for `link`, `join`, `leave`, `point` and `flag`. Each other node that is at rest stays at rest. Empty if it would
+        be refused; no entry is added. Raises `ValueError` for another word or a name that no node has, and `NoSuchCommand`
+        by a program.
+        """
+        return {self.name_of(number) for number in reach.reach(self._session, word, *given)}
+
+    def is_at_rest(self, node: Name) -> bool:
+        """Whether a node does not move before an edit or a fault reaches it, whatever the daemon chooses.
+
+        A name that is absent is at rest. No entry is added. Raises `ValueError` for a name that no node has, and
+        `NoSuchCommand` by a program.
+        """
+        return reach.is_at_rest(self._session, self.number_of(node))
+
+    def restless(self) -> list[Name]:
+        """The nodes that are not at rest, in the order of their numbers: only these may move before the next disturbance.
+
+        Raises `NoSuchCommand` by a program.
+        """
+        return [node for node in self.present if not self.is_at_rest(node)]
 
     def settle(self, daemon: Union[Daemon, AnyDaemon]) -> Settled:
         """Lets a daemon choose who moves until nobody is enabled.
