@@ -24,7 +24,6 @@ ghost use Rattle.rule_engine.specs.Choosing.{verdict_of, verdicts_of};
 
 use crate::charge::totals_of;
 use crate::cost::cost_of;
-use crate::reach::would_reach;
 use crate::edits::{
     put, put_edit, refusal_of, refused_flag, refused_join, refused_leave, refused_point,
     refused_unlink,
@@ -33,6 +32,7 @@ use crate::guard::{outcome, put_reply_to_one, rule_enabled, take_items};
 use crate::listing::{enabled_rules, mutual_edges};
 use crate::look::{look_after_write, look_at, look_at_target};
 use crate::moves::{Gathered, step_reply};
+use crate::reach::would_reach;
 use crate::taking::{refused_size, take_verdicts};
 use enabled_set::{EnabledSet, Marks};
 use graph_store::{EdgeStore, GraphFault};
