@@ -19,12 +19,16 @@ def bound(rules: str, edges: int, nodes: int) -> int:
     return 2 * edges + WEIGHTS[rules] * nodes
 
 
-def moves_left(rules: str, charge: int, nodes: int) -> int:
-    """The most moves that can come before the next disturbance, from a state with this charge and so many nodes.
+def dense_bound(nodes: int) -> int:
+    """The most moves between two disturbances under `hh` among so many nodes, whatever the edges: n²/2 + n - 2, the half
+    rounded down; 0 for one node or none."""
+    return max(0, nodes * nodes // 2 + nodes - 2)
 
-    It is the charge. Under `hh` it is also at most n²/2 + n - 2 among n nodes, the half rounded down, whatever the edges.
-    """
-    return min(charge, max(0, nodes * nodes // 2 + nodes - 2)) if rules == "hh" else charge
+
+def moves_left(rules: str, charge: int, nodes: int) -> int:
+    """The most moves that can come before the next disturbance, from a state with this charge and so many nodes: the
+    charge, or under `hh` the bound by nodes alone if that is less."""
+    return min(charge, dense_bound(nodes)) if rules == "hh" else charge
 
 
 def most_moves(rules: str, edges: int, nodes: int) -> int:
