@@ -208,6 +208,11 @@ uint32_t rudekpi_reach_of_leave(struct rudekpi_slot *slot, uint32_t node, uint32
 uint32_t rudekpi_reach_of_point(struct rudekpi_slot *slot, uint32_t node, uint32_t target, uint32_t *out, size_t room, size_t *count);
 uint32_t rudekpi_reach_of_flag(struct rudekpi_slot *slot, uint32_t node, bool value, uint32_t *out, size_t room, size_t *count);
 
+/* How many moves can still come before the next edit or fault that is accepted: at most this many, whatever the daemon chooses. It is the
+ * charge; under RUDEKPI_HH it is also at most n*n/2 + n - 2 among n nodes, the half rounded down. Adds no entry; a look at what has changed
+ * since this or a status was last asked. DONE; NO_SESSION, where `moves` is 0. */
+uint32_t rudekpi_moves_left(struct rudekpi_slot *slot, uint32_t *moves);
+
 /* What an audit finds. */
 struct rudekpi_verdict {
     uint32_t kind;    /* one of the following */

@@ -7,7 +7,7 @@ import os
 import re
 import subprocess
 import tempfile
-from dataclasses import dataclass
+from dataclasses import dataclass, replace
 from typing import Any, Optional, Union
 
 from .errors import VERDICT, Damaged, Ended, Garbled, text_of
@@ -16,6 +16,7 @@ from .numbers import number_within
 from .program import Program, found_program
 from .reading import numbers_of
 from .replies import Epoch, Summary
+from .rules import moves_left
 
 Text = Union[str, bytes, bytearray, memoryview]
 
@@ -77,8 +78,20 @@ def epochs(transcript: Text, *, program: Program = None) -> list[Epoch]:
     """The epochs of a transcript, each with its bound and what the disturbance that began it cost. Raises `Damaged` where `audit`
     refuses it, or `Ended`."""
     row = ",".join(["([0-9]+|-)", *["([0-9]+)"] * 4, "([0-9]+|-)"]) + "\n"
-    said = judged(["epochs"], transcript, program)
-    return [Epoch(*numbers) for numbers in numbers_in("epochs", said, row, "start,moves,edges,nodes,bound,cost\n")]
+    rows = numbers_in("epochs", judged(["epochs"], transcript, program), row, "start,moves,edges,nodes,bound,cost\n")
+    # a header's second word, which is that of a transcript that begins with a base, too
+    rules = "hh" if bytes_of(transcript[:16]).split(b" ")[1] == b"hh" else "manne"
+    return [bounded(Epoch(*numbers), rules) for numbers in rows]
+
+
+def bounded(epoch: Epoch, rules: str) -> Epoch:
+    """An epoch with the smaller of its bounds.
+
+    The epoch that an opening base cuts keeps the bound of the program: the base says what was spent, and no move shows it.
+    """
+    if epoch.start is None:
+        return epoch
+    return replace(epoch, bound=moves_left(rules, epoch.bound, epoch.nodes))
 
 
 def picture(transcript: Text, entry: Optional[int] = None, *, program: Program = None) -> str:

@@ -160,6 +160,15 @@ class Direct:
         cost: int = getattr(Costs(self), word)(*given)
         return cost
 
+    def moves_left(self) -> Optional[int]:
+        """How many moves can still come before the next disturbance."""
+        found = ctypes.c_uint32()
+        with self.lock:
+            status = self.library.moves_left(self.at, ctypes.byref(found))
+        if status:
+            self.raise_for(status)
+        return found.value
+
     def batch(self, raises: bool = True, keeps: bool = True) -> Batch:
         return DirectBatch(self, raises, keeps)
 

@@ -62,7 +62,17 @@ def summary_of(verdict: Verdict) -> Summary:
 # the calls of a session and of an audit. They are called with references and numbers below 2^31, or with numbers that are wrapped, for which ctypes
 # wants no types: to convert to them would take as long as the call. While those that may take long run, other threads of Python do
 COSTED = ("link", "unlink", "join", "leave", "point", "flag")
-SHORT = ("link", "unlink", "point", "flag", "show", "status", "partner", *(f"cost_of_{word}" for word in COSTED))
+SHORT = (
+    "link",
+    "unlink",
+    "point",
+    "flag",
+    "show",
+    "status",
+    "partner",
+    "moves_left",
+    *(f"cost_of_{word}" for word in COSTED),
+)
 LONG = (
     "session_new",
     "session_feed",

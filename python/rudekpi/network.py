@@ -31,6 +31,7 @@ from .replies import (
     Summary,
     Turns,
 )
+from .rules import moves_left
 from .session import Session
 from .state import Follower, State
 
@@ -243,6 +244,17 @@ class Network:
         Raises `NoSuchCommand` by a program.
         """
         return [node for node in self.present if not self.is_at_rest(node)]
+
+    def moves_left(self) -> int:
+        """How many moves can still come before the next edit or fault: at most this many, whatever the daemon chooses.
+
+        It is the charge; under `hh` it is also at most n²/2 + n - 2 among n nodes, the half rounded down. The library adds
+        no entry. A program is asked for its `status`, which is one."""
+        found = self._session.moves_left()
+        if found is not None:
+            return found
+        status = self.status()
+        return moves_left(self.rules, status.charge, status.nodes)
 
     def settle(self, daemon: Union[Daemon, AnyDaemon]) -> Settled:
         """Lets a daemon choose who moves until nobody is enabled.

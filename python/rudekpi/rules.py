@@ -10,13 +10,30 @@ from typing import Iterable, Optional
 
 from .state import State
 
-# the bound of the moves between two disturbances is twice the edges, and this weight for each node that is present
+# the charge is at most twice the edges, and this weight for each node that is present
 WEIGHTS = {"hh": 1, "manne": 3}
 
 
 def bound(rules: str, edges: int, nodes: int) -> int:
-    """The most moves between two disturbances."""
+    """The greatest charge, 2m + n or 2m + 3n: a bound on the moves between two disturbances by edges and nodes."""
     return 2 * edges + WEIGHTS[rules] * nodes
+
+
+def dense_bound(nodes: int) -> int:
+    """The most moves between two disturbances under `hh` among so many nodes, whatever the edges: n²/2 + n - 2, the half
+    rounded down; 0 for one node or none."""
+    return max(0, nodes * nodes // 2 + nodes - 2)
+
+
+def moves_left(rules: str, charge: int, nodes: int) -> int:
+    """The most moves that can come before the next disturbance, from a state with this charge and so many nodes: the
+    charge, or under `hh` the bound by nodes alone if that is less."""
+    return min(charge, dense_bound(nodes)) if rules == "hh" else charge
+
+
+def most_moves(rules: str, edges: int, nodes: int) -> int:
+    """The most moves between two disturbances among so many edges and nodes, from any state."""
+    return moves_left(rules, bound(rules, edges, nodes), nodes)
 
 
 def suitors(state: State, node: int) -> list[int]:

@@ -180,7 +180,7 @@ def told(
     played = tuple(
         tuple(Wish(name(node), name(target) if target else None) for node, _, target in sorted(step)) for step in steps
     )
-    bound = rule_sets.bound(search.rules, len(graph.edges), len(graph.nodes))
+    bound = rule_sets.most_moves(search.rules, len(graph.edges), len(graph.nodes))
     flags = tuple(name(node) for node in sorted(state.flags))
     return Longest(graph, search.rules, moves, bound, is_proved, states, pointers, flags, played)
 

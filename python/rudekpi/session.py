@@ -60,6 +60,10 @@ class Session:
     def cost_of(self, word: str, *given: Any) -> int:
         raise NoSuchCommand(f"the program tells no cost of {word} beforehand: play the network by engine='library'")
 
+    def moves_left(self) -> Optional[int]:
+        """None: the program has no such question."""
+        return None
+
     def tell(self, line: str) -> None:
         """Carries out a line of a script; behind one that writes several entries the status is asked, which ends them."""
         is_ended_by_status = line.startswith(("drive ", "scramble "))

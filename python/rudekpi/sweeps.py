@@ -69,8 +69,10 @@ class Disturbance:
 
 @dataclass(frozen=True)
 class Row:
-    """What an experiment showed: moves in so many steps, of the charge at the beginning, which is within the bound 2m + n (`hh`) or
-    2m + 3n (`manne`), and the pairs at the end. `seconds` is the time that it all took."""
+    """What an experiment showed: the steps and moves, the charge at the beginning, the bound, and the pairs at the end.
+
+    The bound is that of the last `Epoch`: 2m + n (`hh`) or 2m + 3n (`manne`), and under `hh` at most n²/2 + n - 2. The
+    moves are at most the charge and at most the bound. `seconds` is the time that it all took."""
 
     graph: str
     rules: str

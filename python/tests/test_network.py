@@ -320,7 +320,7 @@ class Transcripts(Timed):
 
     def test_the_epochs_of_a_pair(self):
         found = [(it.start, it.moves, it.edges, it.nodes, it.bound, it.cost) for it in epochs(PAIR)]
-        self.assertEqual(found, [(0, 0, 0, 2, 2, None), (1, 2, 1, 2, 4, 2)])
+        self.assertEqual(found, [(0, 0, 0, 2, 2, None), (1, 2, 1, 2, 2, 2)], "two nodes make two moves at most")
 
     def test_turns_end_with_a_status(self):
         with Network("hh", 2) as net:

@@ -10,3 +10,4 @@ pub mod Silent
 pub mod Plays
 pub mod Schedule
 pub mod Complete
+pub mod Bound

@@ -13,6 +13,7 @@ ghost use Rattle.charge_laws.specs.Charged.{moves_in, IsUndisturbed};
 ghost use Rattle.charge_laws.specs.Costs.{end_of, log_of};
 ghost use Rattle.charge_laws.specs.Epochs.{IsPath};
 ghost use Rattle.charge_laws.specs.Silent.{IsDriven};
+ghost use Rattle.dense_laws.specs.Bound.{dense_bound};
 ghost use Rattle.dense_laws.specs.Complete.{IsReached};
 ghost use Rattle.dense_laws.specs.Potential.{dense_charge};
 
@@ -49,4 +50,10 @@ pub fn enough_turns_end_silent()
 /// The bound is reached: among n nodes, two or more, a run without a disturbance has half of n² + 2n - 4 moves, rounded down.
 pub fn bound_is_reached()
     ensures { (n : ℕ) → 2 ≤ n → IsReached n }
+{}
+
+/// The same bound as one number: n²/2 + n - 2 with the half rounded down, and 0 for one node or none.
+pub fn dense_bound_holds()
+    ensures { (start : Moment) → IsState start.state → (log : List Entry) (end : Moment) → Run hsu_huang start log end → IsUndisturbed log
+        → moves_in log ≤ dense_bound (node_count start.state.network) }
 {}

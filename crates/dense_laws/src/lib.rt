@@ -13,6 +13,6 @@
 mod law;
 
 pub use law::{
-    bound_is_reached, dense_charge_falls, dense_moves_are_paid, enough_turns_end_silent,
-    moves_are_few,
+    bound_is_reached, dense_bound_holds, dense_charge_falls, dense_moves_are_paid,
+    enough_turns_end_silent, moves_are_few,
 };

@@ -23,6 +23,7 @@ mod cost;
 mod edits;
 mod engine;
 mod guard;
+mod left;
 mod listing;
 mod look;
 mod moves;
@@ -33,6 +34,7 @@ mod taking;
 pub use enabled_set::EnabledSet;
 pub use graph_store::{Edge, GraphFault, Node};
 pub use net::Net;
+pub use node_bound::NodeBound;
 pub use rule_machine::{
     Act, Base, Choice, Counts, Event, Item, Listing, Moved, Outcome, Place, Refusal, Reply,
     RuleSet, Verdict, Want,

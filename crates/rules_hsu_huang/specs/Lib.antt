@@ -2,3 +2,4 @@ pub mod Rule
 pub mod Target
 pub mod Quiet
 pub mod Charge
+pub mod NodeBound

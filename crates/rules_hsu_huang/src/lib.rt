@@ -13,6 +13,7 @@
 //! ```
 #![tactic(auto)]
 
+mod by_nodes;
 mod cost;
 mod hsu_huang;
 

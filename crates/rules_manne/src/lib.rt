@@ -14,6 +14,7 @@
 //! ```
 #![tactic(auto)]
 
+mod by_nodes;
 mod cost;
 mod rules;
 

@@ -4,3 +4,4 @@ pub mod Lengths
 pub mod Ending
 pub mod Lining
 pub mod Counting
+pub mod Silence

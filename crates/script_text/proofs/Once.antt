@@ -39,7 +39,7 @@ turns_once a b f g e =
     ap (λ n. turns_of n a.count) seeds ∙ ap (λ n. turns_of b.seed n) counts
 
 -- the first two bytes, which tell the commands apart
-abbrev head_of : List ℕ → ℕ
+abbrev pub head_of : List ℕ → ℕ
 head_of line = get_or line 0 0 + 256 * get_or line 1 0
 
 -- whether a line has the head of a command that is no event

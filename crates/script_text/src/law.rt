@@ -1,10 +1,15 @@
 //! What holds of all scripts.
 
-ghost use Rattle.std.specs.Prelude.{◌≡◌, ◌<◌, ℕ, List, length};
-ghost use Rattle.rule_machine.specs.RuleTable.{RuleTable};
+ghost use Rattle.std.specs.Prelude.{◌≡◌, ◌<◌, ◌≤◌, ℕ, List, [], length};
+ghost use Rattle.rule_machine.specs.HsuHuang.{hsu_huang};
+ghost use Rattle.rule_machine.specs.Manne.{manne};
+ghost use Rattle.rule_machine.specs.RuleTable.{RuleTable, enabled_names};
+ghost use Rattle.rule_machine.specs.State.{IsState};
 ghost use Rattle.script_text.specs.Command.{Says, SaysNothing};
 ghost use Rattle.script_text.specs.declared.command.Command.{Command};
-ghost use Rattle.script_text.specs.Script.{Progress, LinesDo};
+ghost use Rattle.script_text.specs.declared.command.Command.TheVariants.{Drive};
+ghost use Rattle.script_text.specs.declared.command.Turns.{Turns};
+ghost use Rattle.script_text.specs.Script.{Progress, LineDoes, LinesDo};
 
 /// A line says at most one command, and what the lines of a script do is determined: from one beginning they lead to one end.
 pub fn one_end()
@@ -16,4 +21,14 @@ pub fn one_end()
 /// A line of more than 1,048,576 bytes is no command, so a run can stop at it before it has all of it.
 pub fn long_line()
     ensures { (line : List ℕ) → 1048576 < length line → SaysNothing line }
+{}
+
+/// After a line of a script that drives as many turns as the charge was then, or more, nobody is enabled, whatever its seed.
+pub fn long_drives_end_silent()
+    ensures hsu_huang { (limit : ℕ) (lines : List (List ℕ)) (line : List ℕ) (turns : Turns) (start before after : Progress) → IsState start.moment.state
+        → LinesDo hsu_huang limit lines start before → Says line (Drive turns) → LineDoes hsu_huang limit line before after
+        → hsu_huang.charge before.moment.state ≤ turns.count → enabled_names hsu_huang after.moment.state ≡ [] }
+    ensures manne { (limit : ℕ) (lines : List (List ℕ)) (line : List ℕ) (turns : Turns) (start before after : Progress) → IsState start.moment.state
+        → LinesDo manne limit lines start before → Says line (Drive turns) → LineDoes manne limit line before after
+        → manne.charge before.moment.state ≤ turns.count → enabled_names manne after.moment.state ≡ [] }
 {}

@@ -20,6 +20,7 @@ mod epoch;
 mod fault;
 mod journal;
 mod law;
+mod left;
 mod prepared;
 mod receipt;
 mod recorder;

@@ -22,7 +22,7 @@ use std::marker::Model;
 /// A network under the rules `R` that numbers its entries and hands them out, up to a limit. It keeps none.
 #[derive(Drop)]
 pub struct Recorder<R: Rules> {
-    net: Net<R>,
+    pub(crate) net: Net<R>,
     len: u32,
     limit: u32,
     present: u32,

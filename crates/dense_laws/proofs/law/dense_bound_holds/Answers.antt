@@ -1,0 +1,5 @@
+use Rattle.dense_laws.specs.Bound.{within_bound}
+use Rattle.dense_laws.proofs.law.dense_bound_holds.Goals as goal
+
+pub returns : goal.returns
+returns c = within_bound

@@ -1,0 +1,20 @@
+//! A bound by nodes alone.
+
+ghost use Rattle.std.specs.Prelude.{◌≡◌, ℕ, ◌≤◌, Option};
+ghost use Rattle.node_bound.specs.MovesLeft.{BoundsByNodes};
+
+use rule_set::Rules;
+
+/// How many moves the number of nodes alone allows.
+pub trait NodeBound: Rules {
+    ghost most: { ℕ → Option ℕ };
+
+    /// The most moves that can come between two disturbances among this many nodes, whatever the edges, the state and the daemon; `None`
+    /// if no such bound is known.
+    fn most_moves(nodes: u32) -> Option<u32>
+        requires few { nodes ≤ 65535 }
+        ensures { result ≡ most nodes };
+
+    /// No run without a disturbance has more moves.
+    ghost bounds_moves: { BoundsByNodes Self.table most };
+}

@@ -1,0 +1,11 @@
+-- No more moves come than the number of nodes alone allows.
+use Rattle.std.proofs.Common.{◌≡◌, ℕ, Some, subst}
+use Rattle.std.proofs.lemmas.Option.{same_Some}
+use Rattle.rule_machine.specs.HsuHuang.{hsu_huang}
+use Rattle.rule_machine.specs.Network.{node_count}
+use Rattle.dense_laws.specs.Bound.{dense_bound, within_bound}
+use Rattle.node_bound.specs.MovesLeft.{BoundsByNodes, BoundsMoves}
+
+pub bounded_by_nodes : BoundsByNodes hsu_huang (λ n. Some (dense_bound n))
+bounded_by_nodes s spent good bound is =
+    subst (BoundsMoves hsu_huang s spent) (same_Some (dense_bound (node_count s.network)) bound is) (within_bound (record { state = s; spent = spent }) good)

@@ -1,0 +1,19 @@
+//! How many moves the number of nodes alone allows.
+
+use crate::HsuHuang;
+use node_bound::NodeBound;
+
+impl NodeBound for HsuHuang {
+    ghost use Rattle.std.specs.Prelude.{Some};
+    ghost use Rattle.dense_laws.specs.Bound.{dense_bound};
+    ghost use Rattle.rules_hsu_huang.specs.NodeBound.{bounded_by_nodes};
+
+    ghost most = { λ n. Some (dense_bound n) };
+
+    fn most_moves(nodes: u32) -> Option<u32> {
+        let half = nodes * nodes / 2;
+        Some((half + nodes).saturating_sub(2))
+    }
+
+    ghost bounds_moves = { bounded_by_nodes };
+}

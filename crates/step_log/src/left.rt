@@ -1,0 +1,30 @@
+//! How many moves can still come.
+
+ghost use Rattle.std.specs.Prelude.{◌≡◌};
+ghost use Rattle.rule_machine.specs.Network.{node_count};
+ghost use Rattle.node_bound.specs.MovesLeft.{moves_left, BoundsMoves};
+
+use crate::{Journal, Recorder};
+use rule_engine::NodeBound;
+
+impl<R: NodeBound> Recorder<R> {
+    /// How many moves can still come before the next accepted disturbance: at most this many, as `Net::moves_left` has it, by its looks.
+    pub fn moves_left(&mut self) -> u32
+        ensures value { result ≡ moves_left (R.table.charge self.old.state) (R.most (node_count self.old.state.network)) }
+        ensures promise { BoundsMoves R.table self.old.state self.old.spent result }
+        ensures kept { self.new ≡ self.old }
+    {
+        self.net.moves_left()
+    }
+}
+
+impl<R: NodeBound> Journal<R> {
+    /// How many moves can still come before the next accepted disturbance: at most this many, as `Net::moves_left` has it, by its looks.
+    pub fn moves_left(&mut self) -> u32
+        ensures value { result ≡ moves_left (R.table.charge self.old.state) (R.most (node_count self.old.state.network)) }
+        ensures promise { BoundsMoves R.table self.old.state self.old.spent result }
+        ensures kept { self.new ≡ self.old }
+    {
+        self.net.moves_left()
+    }
+}

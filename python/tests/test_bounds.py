@@ -1,0 +1,92 @@
+"""How many moves can still come, and the bounds of epochs. The numbers are worked out by hand from the two bounds."""
+
+import unittest
+
+from rudekpi import Network, daemons, epochs, graphs, longest
+from support import Timed
+
+
+def linked(rules, graph, pointers=()):
+    """A network of a graph, with pointers as faults have written them."""
+    net = Network(rules, graph.nodes)
+    for a, b in graph.edges:
+        net.link(a, b)
+    for node, target in pointers:
+        net.point(node, target)
+    return net
+
+
+class MovesLeft(Timed):
+    def test_what_the_nodes_allow_is_less(self):
+        # fifteen edges, none of them open for good: 2 * 15 and 6 pointers that are not answered
+        cycle = [(node, node % 6 + 1) for node in range(1, 7)]
+        with linked("hh", graphs.complete(6), cycle) as net:
+            self.assertEqual((net.status().charge, net.moves_left()), (36, 36 // 2 + 6 - 2))
+            net.step([1])
+            # one move later the nodes allow as many as before: what is spent is not taken from it
+            self.assertEqual(net.moves_left(), 22)
+
+    def test_the_charge_is_less(self):
+        with linked("hh", graphs.path(3)) as net:
+            self.assertEqual((net.status().charge, net.moves_left()), (4, 4))
+        with linked("hh", graphs.path(2)) as net:
+            self.assertEqual((net.status().charge, net.moves_left()), (2, 2))
+
+    def test_the_other_rules_have_the_charge(self):
+        cycle = [(node, node % 4 + 1) for node in range(1, 5)]
+        with linked("manne", graphs.complete(4), cycle) as net:
+            self.assertEqual((net.status().charge, net.moves_left()), (2 * 3 + 4 + 4, 14))
+
+    def test_of_few_nodes(self):
+        for nodes in (0, 1):
+            with self.subTest(nodes=nodes), Network("hh", nodes) as net:
+                self.assertEqual(net.moves_left(), 0)
+
+    def test_of_those_that_are_present(self):
+        with Network("hh", 6, present=2) as net:
+            net.link(1, 2)
+            self.assertEqual(net.moves_left(), 2)
+
+    def test_of_a_network_that_is_closed(self):
+        net = Network("hh", 2)
+        net.close()
+        self.assertRaisesRegex(ValueError, "closed", net.moves_left)
+
+    def test_asking_the_library_is_no_entry(self):
+        for engine, entries in (("library", 0), ("program", 1)):
+            with self.subTest(engine), Network("hh", 2, engine=engine) as net:
+                net.moves_left()
+                self.assertEqual(net.transcript().count(" = "), entries)
+
+
+class Bounds(Timed):
+    def test_epochs_in_a_dense_network(self):
+        graph = graphs.complete(6)
+        with linked("hh", graph) as net:
+            net.settle(daemons.Seeded(3))
+            said = net.transcript()
+        last = epochs(said)[-1]
+        self.assertEqual((last.nodes, last.edges, last.bound), (6, 15, 22))
+        # with five edges 2m + n is less
+        self.assertEqual([epoch.bound for epoch in epochs(said)][:9], [6, 8, 10, 12, 14, 16, 18, 20, 22])
+
+    def test_the_epoch_that_a_base_cuts_has_the_charge_s_bound(self):
+        with linked("hh", graphs.complete(4)) as net:
+            net.step([1])
+            net.checkpoint()
+            said = net.transcript()
+        lines = said.splitlines(keepends=True)
+        base = next(at for at, line in enumerate(lines) if line.startswith("base "))
+        cut = "matching2 hh 4\n" + "".join(lines[base:])
+        self.assertEqual([(it.start, it.bound) for it in epochs(cut)], [(None, 2 * 6 + 4)])
+        self.assertEqual(epochs(said)[-1].bound, 10)
+
+    def test_the_longest_schedules_of_complete_graphs_reach_it(self):
+        for n in (2, 3, 4, 5):
+            with self.subTest(n=n):
+                found = longest(graphs.complete(n), "hh")
+                self.assertEqual((found.moves, found.bound), (n * n // 2 + n - 2,) * 2)
+
+
+if __name__ == "__main__":
+    unittest.main()
