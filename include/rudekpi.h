@@ -235,6 +235,15 @@ enum {
  * bytes. Costs what the program's `audit` costs. Takes no slot, so any thread may call it. */
 void rudekpi_audit(const uint8_t *bytes, size_t length, struct rudekpi_verdict *verdict);
 
+/* Joins the verdict of a text with that of one that it meets: the first text ends with the lines of a base, all of them, with which the next
+ * begins. Joined the base stands once, and `verdict` becomes what rudekpi_audit says of that: accepted exactly if both are, with the sums of
+ * entries and moves, and of epochs less one; else the damage of the first, or that of the next so many `lines` further on, which stand in
+ * the first text before the base; they are used for nothing else. UNJUDGED, if that is the verdict of the first, or if the first is
+ * accepted and it is that of the next. Texts that meet one another in a row are joined in their order, two by two, in any grouping. DONE;
+ * BAD_ARGUMENT for a kind above 6, or a sum that its field does not hold: `verdict` is as before. That the texts meet nothing checks.
+ * Takes no memory and no slot. */
+uint32_t rudekpi_audit_join(struct rudekpi_verdict *verdict, uint64_t lines, const struct rudekpi_verdict *next);
+
 /* Where an audit is kept that is fed a transcript as it comes: what C has to keep of a slot holds of it, too. */
 struct rudekpi_audit_slot {
     void *at;

@@ -30,11 +30,11 @@ use Rattle.containment_laws.specs.Partings.{main_node, share, spared_stays, none
 
 -- ---- the list of pairs
 
-contains_in : {X : Type 0} (x : X) (xs : List X) → Contains xs x → IsIn x xs
+pub contains_in : {X : Type 0} (x : X) (xs : List X) → Contains xs x → IsIn x xs
 contains_in x [] h = absurd (contains_empty x h)
 contains_in x (y ∷ xs) h = ⊎_elim (λ same. inl same) (λ there. inr (contains_in x xs there)) (contains_cases y x xs h)
 
-in_contains : {X : Type 0} (x : X) (xs : List X) → IsIn x xs → Contains xs x
+pub in_contains : {X : Type 0} (x : X) (xs : List X) → IsIn x xs → Contains xs x
 in_contains x [] h = absurd h
 in_contains x (y ∷ xs) (inl same) = subst (Contains (y ∷ xs)) same (contains_first y xs)
 in_contains x (y ∷ xs) (inr there) = contains_rest y x xs (in_contains x xs there)
@@ -60,7 +60,7 @@ above_first : (v : ℕ) (o : Option ℕ) (e : ℕ × ℕ) → pair_above v o ≡
 above_first v None e h = absurd cc
 above_first v (Some w) e h = ap (λ (p : ℕ × ℕ). p.0) (cond_some (nat_lt v w) (v, w) e h).1
 
-pairs_once : (s : State) → IsWithoutRepeats (mutual_pairs s)
+pub pairs_once : (s : State) → IsWithoutRepeats (mutual_pairs s)
 pairs_once s =
     given_once (λ v. pair_above v (partner s v))
     (λ x z e first second. above_first x (partner s x) e first ∙ sym (above_first z (partner s z) e second))

@@ -8,6 +8,7 @@ pub mod Counting
 pub mod Feeding
 pub mod Going
 pub mod Handing
+pub mod Joining
 pub mod Judging
 pub mod Partners
 pub mod Rowing

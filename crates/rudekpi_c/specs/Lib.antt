@@ -4,6 +4,7 @@ pub mod Called
 pub mod Costed
 pub mod Counted
 pub mod Held
+pub mod Joined
 pub mod Judged
 pub mod Looked
 pub mod Reached

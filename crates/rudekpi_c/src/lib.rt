@@ -24,6 +24,7 @@ mod costs;
 mod counted;
 mod follow;
 mod handle;
+mod joined;
 mod judged;
 mod looks;
 mod parts;

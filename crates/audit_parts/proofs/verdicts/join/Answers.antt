@@ -1,0 +1,5 @@
+use Rattle.audit_parts.proofs.Proved.{joined_judged}
+use Rattle.audit_parts.proofs.verdicts.join.Goals as goal
+
+pub returns-clause-judged : goal.returns-clause-judged
+returns-clause-judged c = joined_judged c.args.first c.args.second c.args.lines c.join_numbers.result c.join_numbers.ensures.joined

@@ -1,0 +1,64 @@
+-- Texts that meet at a base: the first ends with its lines, the second begins with them.
+use Rattle.std.specs.Prelude.{◌≡◌, ℕ, ◌+◌, ◌-◌, List, [], ◌∷◌, ◌++◌, Result, Ok, Err}
+use Rattle.byte_streams.specs.Lines.{IsLine}
+use Rattle.line_text.specs.BaseText.{base_counts}
+use Rattle.entry_grammar.specs.Reading.{AreCounts}
+use Rattle.auditor.specs.declared.damage.Damage.{Damage}
+use Rattle.auditor.specs.declared.damage.Damage.TheVariants.{BadHeader, NotALine, OutOfOrder, NotTheMachines, BadBase}
+use Rattle.auditor.specs.declared.damage.JudgeFault.{JudgeFault}
+use Rattle.auditor.specs.declared.damage.JudgeFault.TheVariants.{Damaged, Memory}
+use Rattle.auditor.specs.declared.summary.Summary.{Summary}
+use Rattle.auditor.specs.Damage.{BeginsBase, line_feeds}
+
+-- nothing, or whole lines
+abbrev pub EndsLine : List ℕ → Type 0
+EndsLine [] = Unit {0}
+EndsLine (b ∷ []) = b ≡ 10
+EndsLine (b ∷ c ∷ bytes) = EndsLine (c ∷ bytes)
+
+-- A text that is as long as it tells: the head of a base, a second line, and whole lines behind it. If the second line has the numbers of
+-- a base, there are as many lines as it tells nodes and edges, whatever these lines say.
+pub record IsSeam (text : List ℕ) : Type 0 where
+  pub head : List ℕ
+  pub numbers : List ℕ
+  pub rest : List ℕ
+  pub is : text ≡ head ++ 10 ∷ (numbers ++ 10 ∷ rest)
+  pub begins : BeginsBase head
+  pub first : IsLine head
+  pub second : IsLine numbers
+  pub whole : EndsLine rest
+  pub told : (number spent nodes edges : ℕ) → AreCounts (number, spent, nodes, edges) → numbers ≡ base_counts number spent nodes edges → line_feeds rest ≡ nodes + edges
+
+-- The first text ends with a seam with which the second begins. Joined, the seam stands once: the first text's own lines, and the second.
+pub record Meets (first second : List ℕ) : Type 0 where
+  pub own : List ℕ
+  pub seam : List ℕ
+  pub behind : List ℕ
+  pub lines : EndsLine own
+  pub is_seam : IsSeam seam
+  pub ends : first ≡ own ++ seam
+  pub begins : second ≡ seam ++ behind
+
+-- ---- verdicts
+
+abbrev pub Verdict : Type 0
+Verdict = Result Summary JudgeFault
+
+-- the counts of both: the second begins within the last epoch of the first
+abbrev pub counted_both : Summary → Summary → Summary
+counted_both c d = record { entries = c.entries + d.entries; epochs = c.epochs + d.epochs - 1; moves = c.moves + d.moves }
+
+-- the damage, so many lines further on
+abbrev pub further : ℕ → Damage → Damage
+further lines BadHeader = BadHeader
+further lines (NotALine line) = NotALine (lines + line)
+further lines (OutOfOrder line) = OutOfOrder (lines + line)
+further lines (NotTheMachines line) = NotTheMachines (lines + line)
+further lines (BadBase line) = BadBase (lines + line)
+
+-- the verdict of a text and of one that it meets behind so many lines, as one
+abbrev pub joined : Verdict → ℕ → Verdict → Verdict
+joined (Err fault) lines second = Err fault
+joined (Ok c) lines (Ok d) = Ok (counted_both c d)
+joined (Ok c) lines (Err (Damaged d)) = Err (Damaged (further lines d))
+joined (Ok c) lines (Err Memory) = Err Memory

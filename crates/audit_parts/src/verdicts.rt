@@ -1,0 +1,81 @@
+//! The verdict of two texts that meet, from the verdict of each.
+
+ghost use Rattle.std.specs.Prelude.{◌≡◌, ◌++◌, ℕ, List, IfSome, IsNone, Ok, Err};
+ghost use Rattle.auditor.specs.declared.damage.JudgeFault.TheVariants.{Damaged};
+ghost use Rattle.auditor.specs.Verdict.{IsJudged};
+ghost use Rattle.audit_parts.specs.Seams.{Meets, counted_both, further, joined};
+ghost use Rattle.audit_parts.specs.Fits.{AreLinesBefore, Fits};
+
+use auditor::{Damage, JudgeFault, Summary};
+
+// The counts of both, if each fits its field.
+fn count_both(first: Summary, second: Summary) -> Option<Summary>
+    ensures both { IfSome result (λ both. both ≡ counted_both first second) }
+    ensures fits { IsNone result → Fits (Ok (counted_both first second)) → ⊥ }
+{
+    let epochs = u64::from(first.epochs) + u64::from(second.epochs);
+    Some(Summary {
+        entries: first.entries.checked_add(second.entries)?,
+        epochs: u32::try_from(epochs.saturating_sub(1)).ok()?,
+        moves: first.moves.checked_add(second.moves)?,
+    })
+}
+
+// The damage so many lines further on, if its line fits.
+fn move_on(lines: u64, damage: Damage) -> Option<Damage>
+    ensures moved { IfSome result (λ moved. moved ≡ further lines damage) }
+    ensures fits { IsNone result → Fits (Err (Damaged (further lines damage))) → ⊥ }
+{
+    match damage {
+        Damage::BadHeader => Some(Damage::BadHeader),
+        Damage::NotALine { line } => Some(Damage::NotALine {
+            line: lines.checked_add(line)?,
+        }),
+        Damage::OutOfOrder { line } => Some(Damage::OutOfOrder {
+            line: lines.checked_add(line)?,
+        }),
+        Damage::NotTheMachines { line } => Some(Damage::NotTheMachines {
+            line: lines.checked_add(line)?,
+        }),
+        Damage::BadBase { line } => Some(Damage::BadBase {
+            line: lines.checked_add(line)?,
+        }),
+    }
+}
+
+// The verdict of both, if each of its numbers fits its field.
+fn join_numbers(
+    first: Result<Summary, JudgeFault>,
+    lines: u64,
+    second: Result<Summary, JudgeFault>,
+) -> Option<Result<Summary, JudgeFault>>
+    ensures joined { IfSome result (λ whole. whole ≡ joined first lines second) }
+    ensures fits { IsNone result → Fits (joined first lines second) → ⊥ }
+{
+    match (first, second) {
+        (Ok(counted), Ok(more)) => Some(Ok(count_both(counted, more)?)),
+        (Ok(_), Err(JudgeFault::Damaged(damage))) => {
+            let moved = move_on(lines, damage)?;
+            Some(Err(JudgeFault::Damaged(moved)))
+        }
+        (Ok(_), Err(JudgeFault::Memory)) => Some(Err(JudgeFault::Memory)),
+        (Err(fault), _) => Some(Err(fault)),
+    }
+}
+
+/// The verdict of two texts as one, from the verdict of each: the first ends with the base with which the second begins.
+/// `lines` counts the lines of the first text before that base; it is used only if the first is accepted and the second damaged.
+/// An `Err` of the first is the answer; else one of the second, a damage as many lines further on; else the sums.
+/// `None` if a number of the answer does not fit its field. Takes no memory.
+pub fn join(
+    first: Result<Summary, JudgeFault>,
+    lines: u64,
+    second: Result<Summary, JudgeFault>,
+) -> Option<Result<Summary, JudgeFault>>
+    ensures judged { (former latter : List ℕ) (m : Meets former latter) → AreLinesBefore lines m.own first second → IsJudged former first → IsJudged latter second
+        → IfSome result (IsJudged (m.own ++ latter)) }
+    ensures joined { IfSome result (λ whole. whole ≡ joined first lines second) }
+    ensures fits { IsNone result → Fits (joined first lines second) → ⊥ }
+{
+    join_numbers(first, lines, second)
+}

@@ -1,0 +1,7 @@
+use Rattle.std.proofs.Common.{inl, refl}
+use Rattle.rudekpi_c.proofs.Joining.{was_joined}
+use Rattle.rudekpi_c.proofs.joined.rudekpi_audit_join.Goals as goal
+
+pub returns : goal.returns
+returns c =
+    inl (refl, was_joined c.args.lines c.args.verdict.now c.args.next.now c.told.result c.in-Some-Some.first c.in-Some-Some.second c.in-Some.both c.in-Some-Some.ensures c.in-Some-Some.ensures' c.told.ensures c.in-Some.ensures.joined c.in-Some.ensures.judged)

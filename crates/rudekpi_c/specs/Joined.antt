@@ -1,0 +1,36 @@
+-- What the call of C that joins two verdicts says, status by status.
+use Rattle.std.specs.Prelude.{◌≡◌, ◌≤◌, ◌⊎◌, ◌++◌, ℕ, List, Ok, Err, nat_eq, if◌then◌else◌}
+use Rattle.auditor.specs.declared.damage.Damage.{Damage}
+use Rattle.auditor.specs.declared.damage.Damage.TheVariants.{BadHeader, NotALine, OutOfOrder, NotTheMachines, BadBase}
+use Rattle.auditor.specs.declared.damage.JudgeFault.TheVariants.{Damaged, Memory}
+use Rattle.auditor.specs.declared.summary.Summary.{Summary}
+use Rattle.auditor.specs.Damage.{line_feeds}
+use Rattle.audit_parts.specs.Fits.{Fits}
+use Rattle.audit_parts.specs.Seams as seams
+use Rattle.rudekpi_c.specs.declared.judged.Verdict.{Verdict}
+use Rattle.rudekpi_c.specs.Judged.{JudgedAs, accepted, damaged, verdict_of}
+
+-- what a verdict says, by its kind
+abbrev pub said_by : Verdict → seams.Verdict
+said_by v =
+    if nat_eq v.kind 0 then Ok (record { entries = v.entries; epochs = v.epochs; moves = v.moves })
+    else (if nat_eq v.kind 1 then Err (Damaged BadHeader)
+    else (if nat_eq v.kind 2 then Err (Damaged (NotALine v.line))
+    else (if nat_eq v.kind 3 then Err (Damaged (OutOfOrder v.line))
+    else (if nat_eq v.kind 4 then Err (Damaged (NotTheMachines v.line))
+    else (if nat_eq v.kind 5 then Err (Damaged (BadBase v.line)) else Err Memory)))))
+
+-- the new verdict is that of both: of texts that meet, it is that of the joined text, if so many lines stand before the seam
+pub record IsJoined (lines : ℕ) (old next new : Verdict) : Type 0 where
+  pub judged : (former latter : List ℕ) (m : seams.Meets former latter) → ((c : Summary) (d : Damage) → old ≡ accepted c → next ≡ damaged d → lines ≡ line_feeds m.own)
+      → JudgedAs former old → JudgedAs latter next → JudgedAs (m.own ++ latter) new
+  pub is : (first second : seams.Verdict) → old ≡ verdict_of first → next ≡ verdict_of second → new ≡ verdict_of (seams.joined first lines second)
+
+-- a kind is none, or a number of the joined verdict does not fit its field
+pub record IsUnjoined (lines : ℕ) (old next new : Verdict) : Type 0 where
+  pub kept : new ≡ old
+  pub why : (7 ≤ old.kind) ⊎ (7 ≤ next.kind) ⊎ ((first second : seams.Verdict) → old ≡ verdict_of first → next ≡ verdict_of second → Fits (seams.joined first lines second) → ⊥)
+
+-- 0: the verdicts are joined; 5: they are not
+abbrev pub AuditJoined : ℕ → ℕ → Verdict → Verdict → Verdict → Type 0
+AuditJoined lines status old next new = ((status ≡ 0) × IsJoined lines old next new) ⊎ ((status ≡ 5) × IsUnjoined lines old next new)

@@ -1,0 +1,56 @@
+//! Verdicts of texts that meet, as one.
+
+ghost use Rattle.std.specs.Prelude.{◌≡◌, ◌≤◌, MatchOption};
+ghost use Rattle.rudekpi_c.specs.Joined.{AuditJoined, said_by};
+
+use crate::judged::{Verdict, told};
+use crate::status::{BAD_ARGUMENT, DONE};
+use audit_parts::join;
+use auditor::{Damage, JudgeFault, Summary};
+
+// What a verdict says, if its kind is one.
+fn found_in(verdict: Verdict) -> Option<Result<Summary, JudgeFault>>
+    ensures { MatchOption result (7 ≤ verdict.kind) (λ found. found ≡ said_by verdict) }
+{
+    let Verdict {
+        kind,
+        entries,
+        epochs,
+        moves,
+        line,
+    } = verdict;
+    if kind == 0 {
+        return Some(Ok(Summary {
+            entries,
+            epochs,
+            moves,
+        }));
+    }
+    let damage = match kind {
+        1 => Damage::BadHeader,
+        2 => Damage::NotALine { line },
+        3 => Damage::OutOfOrder { line },
+        4 => Damage::NotTheMachines { line },
+        5 => Damage::BadBase { line },
+        6 => return Some(Err(JudgeFault::Memory)),
+        _ => return None,
+    };
+    Some(Err(JudgeFault::Damaged(damage)))
+}
+
+/// Joins the verdict of a text with that of one that it meets: the first ends with the base with which the next begins. Before that
+/// base the first has so many lines, which is used only if it is accepted and the next is damaged. 5 for a kind that is none, or a sum that
+/// its field does not hold: the verdict is as before then.
+#[unsafe(no_mangle)]
+pub extern "C" fn rudekpi_audit_join(verdict: &mut Verdict, lines: u64, next: &Verdict) -> u32
+    ensures { AuditJoined lines result verdict.old next.now verdict.new }
+{
+    let (Some(first), Some(second)) = (found_in(*verdict), found_in(*next)) else {
+        return BAD_ARGUMENT;
+    };
+    let Some(both) = join(first, lines, second) else {
+        return BAD_ARGUMENT;
+    };
+    *verdict = told(both);
+    DONE
+}

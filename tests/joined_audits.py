@@ -1,0 +1,85 @@
+"""Verdicts of a transcript's parts, joined by the library, beside the program's verdict on the whole."""
+
+import ctypes
+import re
+
+DONE, BAD_ARGUMENT = 0, 5
+ACCEPTED, DAMAGED_LINE, UNJUDGED = 0, 2, 6
+BASE = re.compile(rb"^matching2 [^\n]*\nbase \d+ spent=\d+ nodes=(\d+) edges=(\d+)\n", re.M)
+# a verdict's numbers, in their order
+FIELDS = ("kind", "entries", "epochs", "moves", "line")
+
+
+def seams(text):
+    """Where each base behind the first line begins and ends, if the text has as many lines there as its numbers tell."""
+    for found in BASE.finditer(text, 1):
+        lines = int(found[1]) + int(found[2])
+        behind = text[found.end() :].split(b"\n", lines)
+        if len(behind) > lines:
+            yield found.start(), len(text) - len(behind[-1])
+
+
+def numbers(verdict):
+    return tuple(getattr(verdict, name) for name in FIELDS)
+
+
+def joined(join, made, verdicts):
+    """The numbers of the verdicts as one; of each is told how many lines stand before it. Raises `ValueError` where they are not joined."""
+    (first, _), *others = verdicts
+    whole = made(*first)
+    for verdict, lines in others:
+        status = join(whole, ctypes.c_uint64(lines), made(*verdict))
+        if status != DONE:
+            raise ValueError(f"status {status}")
+    return numbers(whole)
+
+
+def joined_backwards(join, made, verdicts):
+    """The same, where the last two are joined first, then the one before them."""
+    *others, (whole, before) = verdicts
+    for verdict, lines in reversed(others):
+        first = made(*verdict)
+        status = join(first, ctypes.c_uint64(before - lines), made(*whole))
+        if status != DONE:
+            raise ValueError(f"status {status}")
+        whole, before = numbers(first), lines
+    return whole
+
+
+def differs(join, made, judge, text):
+    """What is wrong with the joined verdicts of a text's parts, cut at each of its bases; or how many parts there were."""
+    cuts = list(seams(text))
+    starts, ends = [0, *(start for start, _ in cuts)], [*(end for _, end in cuts), len(text)]
+    verdicts = [(judge(text[start:end]), text.count(b"\n", 0, start)) for start, end in zip(starts, ends)]
+    wanted = judge(text)
+    for way in (joined, joined_backwards):
+        found = way(join, made, verdicts)
+        if found != wanted:
+            return f"{way.__name__}: {found} of {len(verdicts)} parts, where the whole is {wanted}"
+    return len(verdicts)
+
+
+def at_limits(join, made):
+    """What is wrong where verdicts are none, or their sums do not fit, or memory was refused; or None."""
+    fine, far, unsaid = (ACCEPTED, 1, 1, 1, 0), (DAMAGED_LINE, 0, 0, 0, 9), (UNJUDGED, 0, 0, 0, 0)
+    for first, lines, second, status, wanted in (
+        (fine, 5, (ACCEPTED, 2, 3, 4, 0), DONE, (ACCEPTED, 3, 3, 5, 0)),
+        (fine, 5, far, DONE, (DAMAGED_LINE, 0, 0, 0, 14)),
+        (far, 5, fine, DONE, far),
+        (far, 5, (3, 0, 0, 0, 1), DONE, far),
+        (fine, 5, unsaid, DONE, unsaid),
+        (unsaid, 5, far, DONE, unsaid),
+        (far, 5, unsaid, DONE, far),
+        ((7, 0, 0, 0, 0), 5, fine, BAD_ARGUMENT, (7, 0, 0, 0, 0)),
+        (fine, 5, (7, 0, 0, 0, 0), BAD_ARGUMENT, fine),
+        ((ACCEPTED, 2**32 - 1, 1, 1, 0), 5, fine, BAD_ARGUMENT, (ACCEPTED, 2**32 - 1, 1, 1, 0)),
+        ((ACCEPTED, 1, 2**32 - 1, 1, 0), 5, fine, DONE, (ACCEPTED, 2, 2**32 - 1, 2, 0)),
+        ((ACCEPTED, 1, 2**32 - 1, 1, 0), 5, (ACCEPTED, 1, 2, 1, 0), BAD_ARGUMENT, (ACCEPTED, 1, 2**32 - 1, 1, 0)),
+        ((ACCEPTED, 1, 1, 2**64 - 1, 0), 5, fine, BAD_ARGUMENT, (ACCEPTED, 1, 1, 2**64 - 1, 0)),
+        (fine, 2**64 - 1, far, BAD_ARGUMENT, fine),
+    ):
+        whole = made(*first)
+        found = join(whole, ctypes.c_uint64(lines), made(*second))
+        if (found, numbers(whole)) != (status, wanted):
+            return f"{first} and {second} behind {lines} lines: status {found}, {numbers(whole)}"
+    return None
