@@ -21,6 +21,7 @@ impl<R: Rules> Journal<R> {
     pub fn checkpoint(&mut self) -> Result<u32, Want>
         ensures number { IfOk result (λ number. number ≡ last_number (kept_of self.old)) }
         ensures log { OnOk result (kept_of self.new ≡ checkpointed (kept_of self.old)) }
+        ensures room { OnOk result ((self.new.spare ≡ 0) × (self.new.spare_epochs ≡ 0)) }
         ensures kept { OnErr result (self.new ≡ self.old) }
     {
         let number = self.len();
