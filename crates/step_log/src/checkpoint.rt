@@ -26,9 +26,11 @@ impl<R: Rules> Journal<R> {
     {
         let number = self.len();
         let base = self.net.base(number)?;
+        let entries = Vec::new(self.alloc);
+        let epochs = Epochs::new(self.alloc, Start::Forgotten);
         self.base = Some(base);
-        self.entries = Vec::new(self.alloc);
-        self.epochs = Epochs::new(self.alloc, Start::Forgotten);
+        self.entries = entries;
+        self.epochs = epochs;
         Ok(number)
     }
 
