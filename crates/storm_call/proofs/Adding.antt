@@ -102,7 +102,7 @@ gains_above P old new base same gains above =
 
 -- ---- the words of a turn
 
-always : {A : Type 0} (P : Type 0) (told : Option A) → P → IfSome told (λ _. P)
+pub always : {A : Type 0} (P : Type 0) (told : Option A) → P → IfSome told (λ _. P)
 always P None p = tt
 always P (Some a) p = p
 

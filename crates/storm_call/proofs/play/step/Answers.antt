@@ -12,5 +12,5 @@ returns-in-Ok-clause-plays g c =
     let old = c.args.clerk.now in
     let new = c.recall.new.clerk in
     let same = sym c.recall.ensures.receipts in
-    told_one (scene_of (setting_of g.R.Rules.table c.args.stage.now.net.now) new) (front_of old.receipts) (Step c.args.choice) old new _
-    (subst (λ rs. Keeps old.receipts rs (Step c.args.choice) _) same c.in-Ok.ensures.receipt) (subst (λ rs. seen_by old < front_of rs) same c.in-Ok.ensures.above)
+    told_one (scene_of (setting_of g.R.Rules.table c.args.stage.now.net.now) new) (front_of old.receipts) (Step c.args.choice) old new c.in-Ok.field-0
+    (subst (λ rs. Keeps old.receipts rs (Step c.args.choice) c.in-Ok.field-0) same c.in-Ok.ensures.receipt) (subst (λ rs. seen_by old < front_of rs) same c.in-Ok.ensures.above)

@@ -17,5 +17,5 @@ returns-in_ok-call-in_default-clause-plays g c =
     let same = sym c.recall.ensures.receipts in
     let is = c.in_ok-call-in_default.ensures in
     subst (λ (event : Event). Adds (λ own. IsFor scene (front_of old.receipts) (Tell event) own × AreAbove old.base own) old.receipts new.receipts) c.in_ok-event.ensures.cases
-    (told_one scene (front_of old.receipts) c.in_ok-event.event old new _
-    (subst (λ rs. Keeps old.receipts rs c.in_ok-event.event _) same is.receipt) (subst (λ rs. seen_by old < front_of rs) same is.above))
+    (told_one scene (front_of old.receipts) c.in_ok-event.event old new c.in_ok-call-in_default.field-0
+    (subst (λ rs. Keeps old.receipts rs c.in_ok-event.event c.in_ok-call-in_default.field-0) same is.receipt) (subst (λ rs. seen_by old < front_of rs) same is.above))
