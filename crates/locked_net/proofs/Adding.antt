@@ -91,10 +91,7 @@ is_clerk_after t log after event told old new note base rise free is tells added
     let shown : told.log ≡ (recorded t log event).entries = tells ∙ ap (λ (l : Log). l.entries) is in
     let stands : StandsLast told.log (old ++ receipt ∷ []) =
     subst (λ l. StandsLast l (old ++ receipt ∷ [])) (sym shown) (stands_last (recorded t log event).entries old receipt (added_is_entry t log event)) in
-    let size : length told.log ≡ length log.entries + 1 = omega (arith, ap length shown, length-append log.entries (entry_of t log event ∷ [])) in
-    let ends : length told.log ≡ front_of (old ++ receipt ∷ []) = size ∙ sym (front_more 0 old receipt) in
     record {
       rise = subst (RiseAbove 0) (sym added) (rise_more 0 old receipt rise (omega (arith, few)));
       last = subst (λ o. NotesLast new o) (sym kept) (subst (λ rs. NotesLast rs (Some told)) (sym added) stands);
-      ends = subst (λ o. length (noted o) ≡ front_of new) (sym kept) (subst (λ rs. length told.log ≡ front_of rs) (sym added) ends);
     }

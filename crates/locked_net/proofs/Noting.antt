@@ -14,13 +14,6 @@ use Rattle.locked_net.specs.Settings.{Setting}
 use Rattle.logbook.specs.Pages.{Book}
 use Rattle.step_log.specs.Kept.{Kept}
 
--- of two lists of which one begins the other, the one that is no longer begins the other
-pub shorter_begins : (one other : List Entry) → AreComparable one other → length one ≤ length other → IsPrefix one other
-shorter_begins one other comparable few =
-    ⊎_elim (λ (p : IsPrefix one other). p)
-    (λ (q : IsPrefix other one). subst (λ (l : List Entry). IsPrefix l other) (prefix_whole other one q few) (prefix_self other))
-    comparable
-
 -- what no note tells begins each log
 pub none_begins : (note : Option Told) (other : List Entry) → ((told : Told) → note ≡ Some told → ⊥) → AreComparable (noted note) other
 none_begins None other none = inl (other, refl)
@@ -29,22 +22,6 @@ none_begins (Some told) other none = absurd (none told refl)
 pub none_follows : {A : Type 0} (found : Option A) (Has : A → Type 0) (note : Option Told) (other : List Entry) → ((a : A) → found ≡ Some a → ⊥) → MatchOption found (note ≡ None) Has → AreComparable other (noted note)
 none_follows None Has note other none is = subst (λ (o : Option Told). AreComparable other (noted o)) (sym is) (inr (other, refl))
 none_follows (Some a) Has note other none is = absurd (none a refl)
-
--- ---- a later note of a clerk
-
-low_front : (low : ℕ) (receipts : List Receipt) → RiseAbove low receipts → low ≤ front_from low receipts
-low_front low [] rise = omega arith
-low_front low (receipt ∷ receipts) rise = let more = low_front receipt.seq receipts rise.1 in omega (arith, more, rise.0)
-
-front_rises : (low : ℕ) (old own : List Receipt) → RiseAbove low (old ++ own) → front_from low old ≤ front_from low (old ++ own)
-front_rises low [] own rise = low_front low own rise
-front_rises low (receipt ∷ old) own rise = front_rises receipt.seq old own rise.1
-
--- with more receipts a clerk's note tells at least what it told
-pub later_note : (old new : ClerkView) (own : List Receipt) → IsClerk old → IsClerk new → new.receipts ≡ old.receipts ++ own → AreComparable (noted old.note) (noted new.note) → IsPrefix (noted old.note) (noted new.note)
-later_note old new own was is added comparable =
-    let rises : front_of old.receipts ≤ front_of (old.receipts ++ own) = front_rises 0 old.receipts own (subst (RiseAbove 0) added is.rise) in
-    shorter_begins (noted old.note) (noted new.note) comparable (omega (arith, rises, was.ends, is.ends, ap front_of added))
 
 -- ---- the log
 

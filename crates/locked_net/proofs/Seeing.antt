@@ -16,7 +16,7 @@ use Rattle.board.specs.Views.{Name, Reading, Told}
 use Rattle.board.proofs.Machine.{run_names, run_pointers}
 use Rattle.board.proofs.Rows.{effect_length}
 use Rattle.step_log.specs.declared.receipt.Receipt.{Receipt}
-use Rattle.locked_net.specs.Receipts.{ClerkView, IsClerk, IsEntry, NotesLast, StandsLastFrom, StandsLast}
+use Rattle.locked_net.specs.Receipts.{ClerkView, noted, IsClerk, IsEntry, NotesLast, StandsLastFrom, StandsLast}
 use Rattle.locked_net.specs.Seen.{Shows}
 
 -- ---- the places
@@ -172,3 +172,11 @@ last_of receipts (Some told) all stands p = stays_last told.log all receipts p s
 -- so it does in each that goes on from a clerk's note
 pub noted_last : (clerk : ClerkView) (all : List Entry) → IsClerk clerk → IfSome clerk.note (λ told. IsPrefix told.log all) → StandsLast all clerk.receipts
 noted_last clerk all is p = last_of clerk.receipts clerk.note all is.last p
+
+last_in : (receipts : List Receipt) (note : Option Told) (all : List Entry) → NotesLast receipts note → IsPrefix (noted note) all → StandsLast all receipts
+last_in receipts None all none p = subst (StandsLast all) (sym none) tt
+last_in receipts (Some told) all stands p = stays_last told.log all receipts p stands
+
+-- a clerk stays one with a note that tells more
+pub sees_more : (clerk : ClerkView) (told : Told) → IsClerk clerk → IsPrefix (noted clerk.note) told.log → IsClerk (record { receipts = clerk.receipts; note = Some told; base = clerk.base })
+sees_more clerk told is p = record { rise = is.rise; last = last_in clerk.receipts clerk.note told.log is.last p }

@@ -1,6 +1,6 @@
 -- What a clerk keeps: a receipt for each reply that it got, oldest first, each with the number of its entry in the log; a note of what was
--- published when it got the last; and the greatest number that a checkpoint answered it.
-use Rattle.std.specs.Prelude.{◌≡◌, ℕ, ◌<◌, ◌-◌, max, List, [], ◌∷◌, length, Option, None, Some, IfSome, IsSomeAnd, slice_get}
+-- published when it got the last, or when it saw more; and the greatest number that a checkpoint answered it.
+use Rattle.std.specs.Prelude.{◌≡◌, ℕ, ◌<◌, ◌-◌, max, List, [], ◌∷◌, Option, None, Some, IfSome, IsSomeAnd, slice_get}
 use Rattle.rule_machine.specs.Run.{Entry}
 use Rattle.step_log.specs.declared.receipt.Receipt.{Receipt}
 use Rattle.logbook.specs.Pages.{Book}
@@ -64,11 +64,10 @@ abbrev pub noted : Option Told → List Entry
 noted None = []
 noted (Some told) = told.log
 
--- the numbers rise, and the note has the last, and ends with it
+-- the numbers rise, and the note has the last
 pub record IsClerk (clerk : ClerkView) : Type 0 where
   pub rise : RiseAbove 0 clerk.receipts
   pub last : NotesLast clerk.receipts clerk.note
-  pub ends : length (noted clerk.note) ≡ front_of clerk.receipts
 
 -- the greater of two numbers, where there is any
 abbrev pub greater_base : Option ℕ → Option ℕ → Option ℕ

@@ -13,13 +13,14 @@ mod calls;
 mod checkpoint;
 mod judged;
 mod locked;
+mod seeing;
 
 pub(crate) use calls::admit;
 pub(crate) use checkpoint::greater;
 
 /// A caller of a network, seen in contracts as its receipts, oldest first (one for each of its calls that was answered; their
-/// numbers rise strictly), its note of what was published when it got the last, and the greatest number that its `checkpoint`
-/// answered.
+/// numbers rise strictly), its note of what was published when it got the last, or of more that it `sees`, and the greatest number
+/// that its `checkpoint` answered.
 #[derive(Drop)]
 pub struct Clerk {
     receipts: Vec<Receipt>,
@@ -87,7 +88,7 @@ impl Clerk {
         &self.receipts
     }
 
-    /// The note that it got with its last receipt.
+    /// The note that it got with its last receipt, or of more that it has seen.
     pub(crate) fn note(&self) -> Option<&Note>
         ensures note { MatchOption result (self.now.note ≡ None) (λ note. self.now.note ≡ Some note.now) }
         ensures clerk { IsClerk self.now }
@@ -95,7 +96,8 @@ impl Clerk {
         self.note.as_ref()
     }
 
-    /// A copy of the note that it got with its last receipt: what it tells ends with the entry of that receipt. It takes no memory.
+    /// A copy of the note that it got with its last receipt, or of more that it has seen since: what it tells has the entry of that
+    /// receipt. It takes no memory.
     pub fn noted(&self) -> Option<Note>
         ensures note { result ≡ self.now.note }
         ensures clerk { IsClerk self.now }

@@ -8,7 +8,7 @@ ghost use Rattle.step_log.specs.Kept.{IsKept};
 ghost use Rattle.locked_net.specs.Above.{IsBack, IsPart, IsPartNoted};
 ghost use Rattle.locked_net.specs.Headline.{Headline};
 ghost use Rattle.locked_net.specs.Nets.{book_of, nodes_of, present_of, limit_of, setting_of};
-ghost use Rattle.locked_net.specs.Receipts.{IsOfBook, noted};
+ghost use Rattle.locked_net.specs.Receipts.{HasNoteOf, IsOfBook, noted};
 ghost use Rattle.locked_net.specs.Settled.{Settled, Unsettles};
 ghost use Rattle.locked_net.specs.declared.settle_fault.SettleFault.TheVariants.{Memory};
 
@@ -87,10 +87,11 @@ fn all_begin(clerks: &[Clerk], last: &Note) -> bool
 }
 
 /// Whether what a clerk's note tells is seen to begin what another note of its network tells.
-fn begins(clerk: &Clerk, last: &Note) -> bool
+pub(crate) fn begins(clerk: &Clerk, last: &Note) -> bool
     requires { IsOfBook last.now.book clerk.now }
     ensures yes { IsTrue result → IsPrefix (noted clerk.now.note) last.now.log }
     ensures no { result ≡ false → IsPrefix last.now.log (noted clerk.now.note) }
+    ensures none { result ≡ false → HasNoteOf last.now.book clerk.now }
 {
     match clerk.note() {
         Some(note) => note.begins(last),

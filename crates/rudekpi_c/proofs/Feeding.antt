@@ -29,8 +29,8 @@ does_of line number s after (Ok (Some (BadLine n))) bad = inr (inl (refl, bad.1,
 does_of line number s after (Ok (Some LogFull)) full = inr (inr (inl (refl, full)))
 does_of line number s after (Err want) begun = inr (inr (inr (refl, begun)))
 
-pub was_fed : {line : List ℕ} {number status : ℕ} {E : Type 0} {old new : Option Session} {result : Result (Option Stop) E} → Turn line number E old new result → status ≡ line_status result → Fed line status number old new
-was_fed {line} {number} {status} {E} {old} {new} {result} turn told =
+pub was_fed : {line : List ℕ} {was number status : ℕ} {E : Type 0} {old new : Option Session} {result : Result (Option Stop) E} → Turn line number E old new result → status ≡ line_status result → Fed line was status number old new
+was_fed {line} {was} {number} {status} {E} {old} {new} {result} turn told =
     let ends = subst (λ (s : Session). LineEnded {E = E} (rules_of s) (limit_of s) turn.fed.lines line (stands s) (stands turn.fed) result) turn.same turn.ends in
     let number_is : number ≡ turn.back.t.lines = turn.number_is ∙ sym turn.back.lines_is in
     let does = does_of line number turn.from (stands turn.fed) result (subst (λ n. LineEnded {E = E} (rules_of turn.from) (limit_of turn.from) n line (stands turn.from) (stands turn.fed) result) (sym turn.number_is) ends) in

@@ -1,5 +1,5 @@
 -- What the calls of C do to a session that C keeps, status by status.
-use Rattle.std.specs.Prelude.{◌≡◌, ◌≤◌, ◌<◌, ◌⊎◌, ◌+◌, ◌-◌, ◌^◌, ℕ, true, false, min, zero, suc, List, length, take, Option, None, Some, Result, Ok, Err}
+use Rattle.std.specs.Prelude.{◌≡◌, ◌≤◌, ◌<◌, ◌⊎◌, ◌+◌, ◌-◌, ◌^◌, ℕ, true, false, min, zero, suc, List, ◌++◌, length, drop, Option, None, Some, Result, Ok, Err}
 use Rattle.rule_machine.specs.declared.reply.Reply.TheVariants.{Accepted}
 use Rattle.rule_machine.specs.declared.rules.RuleSet.{RuleSet}
 use Rattle.rule_machine.specs.declared.rules.RuleSet.TheVariants.{Hh, Manne}
@@ -85,25 +85,26 @@ pub record IsFed (line : List ℕ) (status number : ℕ) (old new : Option Sessi
 abbrev pub IsNobody : ℕ → Option Session → Option Session → Type 0
 IsNobody status old new = (status ≡ 4) × (old ≡ None) × (new ≡ None)
 
--- a line was given to the session, or there was none
-abbrev pub Fed : List ℕ → ℕ → ℕ → Option Session → Option Session → Type 0
-Fed line status number old new = IsFed line status number old new ⊎ IsNobody status old new
+-- a line was given to the session, and its number told; or there was none, and the number is as it was
+abbrev pub Fed : List ℕ → ℕ → ℕ → ℕ → Option Session → Option Session → Type 0
+Fed line was status number old new = IsFed line status number old new ⊎ (IsNobody status old new × (number ≡ was))
 
 -- how many bytes of text there are
 abbrev pub text_length : Option Session → ℕ
 text_length None = 0
 text_length (Some s) = length (stands s).text
 
--- where there is room for the text it begins what was written, and the session goes on with none; else nothing has changed
-pub record IsHanded (out : List ℕ) (n : ℕ) (s : Session) (new : Option Session) : Type 0 where
+-- where there is room for the text it takes the place of as many bytes at the start, what stands behind them stays, and the session goes on
+-- with none; else nothing has changed
+pub record IsHanded (was out : List ℕ) (n : ℕ) (s : Session) (new : Option Session) : Type 0 where
   pub t : Session
   pub is : new ≡ Some t
   pub goes_on : GoesOn s t
   pub lines_is : t.lines ≡ s.lines
   pub answer_is : t.answer ≡ s.answer
-  pub all : n ≤ length out → (take n out ≡ (stands s).text) × (stands t ≡ shown false (stands s))
-  pub none : length out < n → t ≡ s
+  pub all : n ≤ length was → (out ≡ (stands s).text ++ drop n was) × (stands t ≡ shown false (stands s))
+  pub none : length was < n → (out ≡ was) × (t ≡ s)
 
-abbrev pub Handed : List ℕ → ℕ → Option Session → Option Session → Type 0
-Handed out n None new = (n ≡ 0) × (new ≡ None)
-Handed out n (Some s) new = (n ≡ length (stands s).text) × IsHanded out n s new
+abbrev pub Handed : List ℕ → List ℕ → ℕ → Option Session → Option Session → Type 0
+Handed was out n None new = (n ≡ 0) × (out ≡ was) × (new ≡ None)
+Handed was out n (Some s) new = (n ≡ length (stands s).text) × IsHanded was out n s new

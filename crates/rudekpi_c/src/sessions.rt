@@ -48,7 +48,7 @@ pub extern "C" fn rudekpi_session_new(
 
 /// Carries out the next line of the session, without its LF, and tells its number. 1 where it is neither empty nor a command, and
 /// nothing was done; 2 where it met a full log; 3 if memory runs out: at most some first turns of the line were taken, and the
-/// session goes on from there.
+/// session goes on from there. 4 where there is no session, and the number stays as it was.
 #[unsafe(no_mangle)]
 pub extern "C" fn rudekpi_session_feed(
     alloc: Global,
@@ -56,7 +56,7 @@ pub extern "C" fn rudekpi_session_feed(
     line: &[u8],
     number: &mut u64,
 ) -> u32
-    ensures { Fed line.now result number.new slot.old.handle.value slot.new.handle.value }
+    ensures { Fed line.now number.old result number.new slot.old.handle.value slot.new.handle.value }
 {
     let Some(mut session) = slot.take(alloc) else {
         return NO_SESSION;
@@ -81,10 +81,11 @@ pub extern "C" fn rudekpi_session_length(alloc: Global, slot: &mut Slot) -> usiz
     len
 }
 
-/// Copies the text to the start of `out` and forgets it, if there is room for all of it. How many bytes it has.
+/// Copies the text to the start of `out` and forgets it, if there is room for all of it; no byte behind it is written, nor any where
+/// there is less room. How many bytes the text has.
 #[unsafe(no_mangle)]
 pub extern "C" fn rudekpi_session_read(alloc: Global, slot: &mut Slot, out: &mut [u8]) -> usize
-    ensures { Handed out.new result slot.old.handle.value slot.new.handle.value }
+    ensures { Handed out.old out.new result slot.old.handle.value slot.new.handle.value }
 {
     let Some(mut session) = slot.take(alloc) else {
         return 0;

@@ -21,13 +21,16 @@ impl<R: Rules> Journal<R> {
     pub fn checkpoint(&mut self) -> Result<u32, Want>
         ensures number { IfOk result (λ number. number ≡ last_number (kept_of self.old)) }
         ensures log { OnOk result (kept_of self.new ≡ checkpointed (kept_of self.old)) }
+        ensures room { OnOk result ((self.new.spare ≡ 0) × (self.new.spare_epochs ≡ 0)) }
         ensures kept { OnErr result (self.new ≡ self.old) }
     {
         let number = self.len();
         let base = self.net.base(number)?;
+        let entries = Vec::new(self.alloc);
+        let epochs = Epochs::new(self.alloc, Start::Forgotten);
         self.base = Some(base);
-        self.entries = Vec::new(self.alloc);
-        self.epochs = Epochs::new(self.alloc, Start::Forgotten);
+        self.entries = entries;
+        self.epochs = epochs;
         Ok(number)
     }
 

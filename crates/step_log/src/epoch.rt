@@ -48,9 +48,10 @@ pub(crate) struct Epochs {
 }
 
 impl Epochs {
-    /// The epochs before any entry, where the first began there.
+    /// The epochs before any entry, where the first began there. There is room for none.
     pub fn new(alloc: Global, begun: Start) -> Epochs
         ensures over { result.over.items ≡ [] }
+        ensures room { vec_capacity result.over ≡ 0 }
         ensures begun { result.begun ≡ begun }
     {
         Epochs {

@@ -12,57 +12,76 @@ use Rattle.rule_machine.specs.declared.reply.Reply.{Reply}
 use Rattle.rule_machine.specs.declared.event.Event.{Event}
 use Rattle.rule_machine.specs.declared.event.Event.TheVariants.{Step}
 use Rattle.rule_machine.specs.Network.{node_count}
-use Rattle.rule_machine.specs.RuleTable.{enabled_names}
+use Rattle.rule_machine.specs.RuleTable.{RuleTable, enabled_names}
+use Rattle.rule_machine.specs.State.{State}
 use Rattle.daemon.specs.Drawn.{drawn}
 use Rattle.daemon.proofs.Rests.{rests}
-use Rattle.seeded_turns.specs.Drawn.{Draws, drawn_step}
+use Rattle.seeded_turns.specs.Drawn.{Draws, drawn_step, drawn_fault}
 use Rattle.step_log.specs.declared.receipt.Receipt.{Receipt}
-use Rattle.step_log.specs.Log.{Log, receipt_of}
-use Rattle.board.specs.History.{AreComparable}
-use Rattle.board.specs.Views.{Told}
-use Rattle.locked_net.specs.Receipts.{ClerkView, front_from, front_of, base_from, seen_by, noted, IsClerk}
-use Rattle.locked_net.specs.Settings.{Setting}
-use Rattle.locked_net.specs.Calls.{KeepsStep, KeepsFault}
-use Rattle.locked_net.specs.Choosing.{ChoosesStep, IsTold, TakesChoice}
+use Rattle.step_log.specs.Log.{Log, entry_of, recorded, receipt_of}
+use Rattle.board.proofs.Fronts.{prefix_self}
+use Rattle.locked_net.specs.Desks.{DeskView}
+use Rattle.locked_net.specs.Receipts.{ClerkView, front_from, front_of, base_from, seen_by, noted}
+use Rattle.locked_net.specs.Settings.{Setting, IsLogIn}
+use Rattle.locked_net.specs.Calls.{call_fault, Drives, Breaks}
+use Rattle.locked_net.specs.Choosing.{ChoosesOn, ChoosesStep, IsTold}
 use Rattle.locked_net.proofs.Adding.{seen_few, front_more}
-use Rattle.locked_net.proofs.Noting.{later_note}
 use Rattle.storm_call.specs.Storm.{IsOfStep, IsOfFault, AreAbove}
-use Rattle.storm_call.specs.Turns.{Scene, Draw, Gains, IsTurn, AreTurns, DrawnFrom, IsQuietBehind, IsEmptyBehind}
+use Rattle.storm_call.specs.Turns.{Scene, Chose, Draw, Gains, IsTurn, AreTurns, DrawnFrom, IsLogBehind, IsQuietBehind, IsEmptyBehind}
 use Rattle.storm_call.specs.Played.{scene_of}
 use Rattle.storm_call.proofs.Lasting.{turns_last}
 
 -- ---- one turn
 
-gains_step : (central : Bool) (old new : List Receipt) (reply : Reply) → KeepsStep central old new reply → Gains IsOfStep old new
-gains_step central old new reply kept = record {
-  receipt = record { seq = kept.kept.seq; event = Step kept.items; reply = reply };
-  added = kept.kept.added;
-  is = record { items = kept.items; moves = kept.moves; stepped = refl; moved = kept.moved };
+gains_step : (t : RuleTable) (before after : Log) (old new : List Receipt) (reply : Reply) → Drives t before after old new reply → Gains IsOfStep old new
+gains_step t before after old new reply drove = record {
+  receipt = receipt_of t before (Step drove.items);
+  added = drove.told.receipt;
+  is = record { items = drove.items; moves = drove.moves; stepped = refl; moved = sym drove.told.reply_is ∙ drove.moved };
 }
 
-gains_fault : (old new : List Receipt) (reply : Reply) → KeepsFault old new reply → Gains IsOfFault old new
-gains_fault old new reply kept = record {
-  receipt = record { seq = kept.kept.seq; event = kept.event; reply = reply };
-  added = kept.kept.added;
-  is = record { register = kept.register; accepted = kept.accepted };
+gains_fault : (t : RuleTable) (before after : Log) (old new : List Receipt) (reply : Reply) → Breaks t before after old new reply → Gains IsOfFault old new
+gains_fault t before after old new reply broke = record {
+  receipt = receipt_of t before broke.event;
+  added = broke.told.receipt;
+  is = record { register = broke.register; accepted = sym broke.told.reply_is ∙ broke.accepted };
 }
 
 -- a turn of a daemon gains its step
-pub stepped : {E : Type 0} (central : Bool) (old new : ClerkView) (result : Result (Option Reply) E) → IfOk result (λ told. MatchOption told (new ≡ old) (KeepsStep central old.receipts new.receipts))
-    → IfOk result (λ told. MatchOption told (new ≡ old) (λ _. Gains IsOfStep old.receipts new.receipts))
-stepped central old new (Err fault) kept = tt
-stepped central old new (Ok None) kept = kept
-stepped central old new (Ok (Some reply)) kept = gains_step central old.receipts new.receipts reply kept
+pub stepped : (t : RuleTable) (before after : DeskView) (old mid new : ClerkView) (told : Option Reply) → MatchOption told ((mid ≡ old) × (after ≡ before)) (λ reply. Drives t before.log after.log old.receipts mid.receipts reply)
+    → new.receipts ≡ mid.receipts → MatchOption told (new.receipts ≡ old.receipts) (λ _. Gains IsOfStep old.receipts new.receipts)
+stepped t before after old mid new None kept same = same ∙ ap (λ (c : ClerkView). c.receipts) kept.0
+stepped t before after old mid new (Some reply) kept same =
+    subst (λ rs. Gains IsOfStep old.receipts rs) (sym same) (gains_step t before.log after.log old.receipts mid.receipts reply kept)
 
 -- and one of an injector its fault
-pub struck : {E : Type 0} (old new : ClerkView) (result : Result (Option Reply) E) → IfOk result (λ told. MatchOption told (new ≡ old) (KeepsFault old.receipts new.receipts))
-    → IfOk result (λ told. MatchOption told (new ≡ old) (λ _. Gains IsOfFault old.receipts new.receipts))
-struck old new (Err fault) kept = tt
-struck old new (Ok None) kept = kept
-struck old new (Ok (Some reply)) kept = gains_fault old.receipts new.receipts reply kept
+pub struck : (t : RuleTable) (before after : DeskView) (old mid new : ClerkView) (told : Option Reply) → MatchOption told ((mid ≡ old) × (after ≡ before)) (λ reply. Breaks t before.log after.log old.receipts mid.receipts reply)
+    → new.receipts ≡ mid.receipts → MatchOption told (new.receipts ≡ old.receipts) (λ _. Gains IsOfFault old.receipts new.receipts)
+struck t before after old mid new None kept same = same ∙ ap (λ (c : ClerkView). c.receipts) kept.0
+struck t before after old mid new (Some reply) kept same =
+    subst (λ rs. Gains IsOfFault old.receipts rs) (sym same) (gains_fault t before.log after.log old.receipts mid.receipts reply kept)
+
+-- the log goes on from what it was
+goes_on : (t : RuleTable) (before after : Log) (event : Event) → after ≡ recorded t before event → IsPrefix before.entries after.entries
+goes_on t before after event is = (entry_of t before event ∷ [], sym (ap (λ (l : Log). l.entries) is))
+
+pub step_goes_on : (t : RuleTable) (before after : DeskView) (old mid : ClerkView) (told : Option Reply) → MatchOption told ((mid ≡ old) × (after ≡ before)) (λ reply. Drives t before.log after.log old.receipts mid.receipts reply)
+    → IsPrefix before.log.entries after.log.entries
+step_goes_on t before after old mid None kept = subst (λ (d : DeskView). IsPrefix before.log.entries d.log.entries) (sym kept.1) (prefix_self before.log.entries)
+step_goes_on t before after old mid (Some reply) kept = goes_on t before.log after.log (Step kept.items) kept.told.log
+
+pub fault_goes_on : (t : RuleTable) (before after : DeskView) (old mid : ClerkView) (told : Option Reply) → MatchOption told ((mid ≡ old) × (after ≡ before)) (λ reply. Breaks t before.log after.log old.receipts mid.receipts reply)
+    → IsPrefix before.log.entries after.log.entries
+fault_goes_on t before after old mid None kept = subst (λ (d : DeskView). IsPrefix before.log.entries d.log.entries) (sym kept.1) (prefix_self before.log.entries)
+fault_goes_on t before after old mid (Some reply) kept = goes_on t before.log after.log kept.event kept.told.log
+
+-- a clerk that has a receipt more has seen more
+pub seen_more : (old mid new : ClerkView) (told : Option Reply) → IfSome told (λ _. seen_by old < front_of mid.receipts) → new.receipts ≡ mid.receipts → IfSome told (λ _. seen_by old < front_of new.receipts)
+seen_more old mid new None above same = tt
+seen_more old mid new (Some reply) above same = subst (λ rs. seen_by old < front_of rs) (sym same) above
 
 -- a turn that did not find nothing
-pub gained : (P : Receipt → Type 0) (old new : ClerkView) (told : Option Reply) (b : Bool) → MatchOption told (new ≡ old) (λ _. Gains P old.receipts new.receipts) → is_some told ≡ not b → b ≡ false → Gains P old.receipts new.receipts
+pub gained : (P : Receipt → Type 0) (old new : ClerkView) (told : Option Reply) (b : Bool) → MatchOption told (new.receipts ≡ old.receipts) (λ _. Gains P old.receipts new.receipts) → is_some told ≡ not b → b ≡ false → Gains P old.receipts new.receipts
 gained P old new None b gains e f = absurd (false≢true (e ∙ ap not f))
 gained P old new (Some reply) b gains e f = gains
 
@@ -81,49 +100,59 @@ pub gains_above : (P : Receipt → Type 0) (old new : ClerkView) (base : Option 
 gains_above P old new base same gains above =
     record { receipt = gains.receipt; added = gains.added; is = (gains.is, last_above old new base gains.receipt same gains.added above) }
 
--- so what the clerk's note told before begins what it tells now
-pub grown : (P : Receipt → Type 0) (old new : ClerkView) (before : Option Told) → before ≡ old.note → IsClerk old → Gains P old.receipts new.receipts → AreComparable (noted before) (noted new.note) → IsClerk new
-    → IsPrefix (noted old.note) (noted new.note)
-grown P old new before is was gains comparable now =
-    later_note old new (gains.receipt ∷ []) was now gains.added (subst (λ (o : Option Told). AreComparable (noted o) (noted new.note)) is comparable)
-
 -- ---- the words of a turn
 
+pub always : {A : Type 0} (P : Type 0) (told : Option A) → P → IfSome told (λ _. P)
+always P None p = tt
+always P (Some a) p = p
+
+-- what was chosen on a beginning of what a clerk's note tells
+abbrev pub chose : (setting : Setting) (Chooses : State → Option Event → Type 0) (log : Log) (old mid : List Receipt) (new : ClerkView) (told : Option Reply) → IsLogIn setting log → call_fault (front_of old) log ≡ None
+    → ChoosesOn setting.table log Chooses old mid told → new.receipts ≡ mid → IsPrefix log.entries (noted new.note) → Chose setting Chooses old new told
+chose setting Chooses log old mid new told own free taken same begins = record {
+  took = record {
+    log = log;
+    own = own;
+    free = free;
+    taken = subst (λ rs. ChoosesOn setting.table log Chooses old rs told) (sym same) taken;
+    begins = always (IsPrefix log.entries (noted new.note)) told begins;
+  };
+  begins = begins;
+}
+
 -- a daemon's choice by its words is its event
-drew_step : (setting : Setting) (words left : Stream) (old : List Receipt) (new : ClerkView) (told : Option Reply)
-    → TakesChoice setting (ChoosesStep setting.table (λ names choice. (choice, left) ≡ drawn setting.table.central names words)) old new.receipts new.note told → Draw setting drawn_step words left old new told
+pub drew_step : (setting : Setting) (words left : Stream) (old : List Receipt) (new : ClerkView) (told : Option Reply)
+    → Chose setting (ChoosesStep setting.table (λ names choice. (choice, left) ≡ drawn setting.table.central names words)) old new told → Draw setting drawn_step words left old new told
 drew_step setting words left old new told took =
-    let chosen = took.taken.chosen in
+    let chosen = took.took.taken.chosen in
     record {
-      log = took.log;
-      own = took.own;
-      free = took.free;
-      taken = record {
-        event = took.taken.event;
-        chosen =
-            ap (λ (event : Option Event). (event, left)) chosen.1
-            ∙ ap (λ (d : Option (List Item) × Stream). (option_map (λ items. Step items) d.0, d.1)) chosen.2;
-        is_told = took.taken.is_told;
+      took = record {
+        log = took.took.log;
+        own = took.took.own;
+        free = took.took.free;
+        taken = record {
+          event = took.took.taken.event;
+          chosen =
+              ap (λ (event : Option Event). (event, left)) chosen.1
+              ∙ ap (λ (d : Option (List Item) × Stream). (option_map (λ items. Step items) d.0, d.1)) chosen.2;
+          is_told = took.took.taken.is_told;
+        };
+        begins = took.took.begins;
       };
       begins = took.begins;
     }
-
-pub drew_steps : {E : Type 0} (setting : Setting) (words left : Stream) (old : List Receipt) (new : ClerkView) (result : Result (Option Reply) E)
-    → IfOk result (TakesChoice setting (ChoosesStep setting.table (λ names choice. (choice, left) ≡ drawn setting.table.central names words)) old new.receipts new.note) → IfOk result (Draw setting drawn_step words left old new)
-drew_steps setting words left old new (Ok told) took = drew_step setting words left old new told took
-drew_steps setting words left old new (Err fault) took = tt
 
 -- the receipt of a turn that was answered is the one that was added
 present_of : (r other : Receipt) → r ∷ [] ≡ other ∷ [] → r ≡ other
 present_of r other same = cc
 
-turn_at : (setting : Setting) (draws : Draws) (words left : Stream) (old : List Receipt) (new : ClerkView) (told : Option Reply) (receipt : Receipt) (took : Draw setting draws words left old new told) (event : Option Event)
-    → (event, left) ≡ draws setting.table took.log.state words → IsTold setting.table took.log event old new.receipts told → is_some told ≡ true → new.receipts ≡ old ++ receipt ∷ [] → IsTurn (scene_of setting new) draws words receipt left
-turn_at setting draws words left old new told receipt took None is (none, same) some added = absurd (false≢true (sym (ap is_some none) ∙ some))
-turn_at setting draws words left old new told receipt took (Some event) is (answer, more) some added =
-    let same : receipt_of setting.table took.log event ≡ receipt = present_of (receipt_of setting.table took.log event) receipt (append_cancel_left old _ _ (sym more ∙ added)) in
-    let begins : IsPrefix took.log.entries (noted new.note) = subst (λ (o : Option Reply). IfSome o (λ _. IsPrefix took.log.entries (noted new.note))) answer took.begins in
-    subst (λ r. IsTurn (scene_of setting new) draws words r left) same (record { log = took.log; own = took.own; begins = begins; drawn = is; told = refl })
+turn_at : (setting : Setting) (draws : Draws) (words left : Stream) (old : List Receipt) (new : ClerkView) (told : Option Reply) (receipt : Receipt) (drew : Draw setting draws words left old new told) (event : Option Event)
+    → (event, left) ≡ draws setting.table drew.took.log.state words → IsTold setting.table drew.took.log event old new.receipts told → is_some told ≡ true → new.receipts ≡ old ++ receipt ∷ [] → IsTurn (scene_of setting new) draws words receipt left
+turn_at setting draws words left old new told receipt drew None is (none, same) some added = absurd (false≢true (sym (ap is_some none) ∙ some))
+turn_at setting draws words left old new told receipt drew (Some event) is (answer, more) some added =
+    let log = drew.took.log in
+    let same : receipt_of setting.table log event ≡ receipt = present_of (receipt_of setting.table log event) receipt (append_cancel_left old _ _ (sym more ∙ added)) in
+    subst (λ r. IsTurn (scene_of setting new) draws words r left) same (record { log = log; own = drew.took.own; begins = drew.begins; drawn = is; told = refl })
 
 -- ---- some turns
 
@@ -143,10 +172,10 @@ are_more scene draws words next left (first ∷ own) receipt (second, taken, tur
 
 pub one_more : (setting : Setting) (draws : Draws) (P : Receipt → Type 0) (words next left : Stream) (count : ℕ) (old : List Receipt) (mid new : ClerkView) (told : Option Reply) (b : Bool) → IsPrefix (noted mid.note) (noted new.note)
     → Took setting draws P words count old mid next → Gains P mid.receipts new.receipts → Draw setting draws next left mid.receipts new told → is_some told ≡ not b → b ≡ false → Took setting draws P words (count + 1) old new left
-one_more setting draws P words next left count old mid new told b grows so_far gains took e f =
+one_more setting draws P words next left count old mid new told b grows so_far gains drew e f =
     let own = so_far.own in
     let last = gains.receipt in
-    let turn = turn_at setting draws next left mid.receipts new told last took took.taken.event took.taken.chosen took.taken.is_told (e ∙ ap not f) gains.added in
+    let turn = turn_at setting draws next left mid.receipts new told last drew drew.took.taken.event drew.took.taken.chosen drew.took.taken.is_told (e ∙ ap not f) gains.added in
     let as_many = so_far.as_many in record {
       own = own ++ last ∷ [];
       added = gains.added ∙ ap (λ rs. rs ++ last ∷ []) so_far.added ∙ append_assoc old own (last ∷ []);
@@ -164,11 +193,10 @@ drawn_from setting draws P base words left count old new so_far = (All-weaker (A
 pub took_above : (setting : Setting) (draws : Draws) (P : Receipt → Type 0) (base : Option ℕ) (words left : Stream) (count : ℕ) (old : List Receipt) (new : ClerkView) (so_far : Took setting draws (Above P base) words count old new left) → AreAbove base so_far.own
 took_above setting draws P base words left count old new so_far = All-weaker (Above P base) (λ r. base_from base < r.seq) (λ r is. is.1) so_far.own so_far.kind
 
--- the front of some receipts is not beyond that of all
-front_low : (own old : List Receipt) (low : ℕ) → front_of own ≤ front_from low (old ++ own)
-front_low [] old low = omega arith
-front_low (receipt ∷ own) [] low = omega arith
-front_low (receipt ∷ own) (first ∷ old) low = front_low (receipt ∷ own) old first.seq
+-- the front of some receipts is that of those behind, from that of those before
+pub front_behind : (low : ℕ) (old own : List Receipt) → front_from low (old ++ own) ≡ front_from (front_from low old) own
+front_behind low [] own = refl
+front_behind low (receipt ∷ old) own = front_behind receipt.seq old own
 
 no_event : {A B : Type 0} (f : A → B) (choice : Option A) → option_map f choice ≡ None → choice ≡ None
 no_event f None none = refl
@@ -178,37 +206,33 @@ none_drawn : (setting : Setting) (log : Log) (old new : List Receipt) (told : Op
 none_drawn setting log old new told None is none = refl
 none_drawn setting log old new told (Some event) (answer, more) none = absurd (false≢true (sym none ∙ ap is_some answer))
 
--- a daemon that finds nothing finds no node enabled, behind all that its clerk has seen
-quiet_behind : (setting : Setting) (words left : Stream) (old mid : List Receipt) (new : ClerkView) (own : List Receipt) → mid ≡ old ++ own → Draw setting drawn_step words left mid new None → IsQuietBehind setting own
-quiet_behind setting words left old mid new own added took =
-    let names = enabled_names setting.table took.log.state in
-    let none = none_drawn setting took.log mid new.receipts None took.taken.event took.taken.is_told refl in
+-- where a clerk looked that was told all of this, there is a beginning of what its note tells now
+abbrev looked : (setting : Setting) (Chooses : State → Option Event → Type 0) (old mid own : List Receipt) (new : ClerkView) (told : Option Reply) → mid ≡ old ++ own → Chose setting Chooses mid new told → IsLogBehind (scene_of setting new) (front_of old) own
+looked setting Chooses old mid own new told added chose =
+    let few : front_of mid ≤ length chose.took.log.entries = seen_few (front_of mid) chose.took.log chose.took.free in
+    let front : front_of mid ≡ front_from (front_of old) own = ap front_of added ∙ front_behind 0 old own in
+    record { log = chose.took.log; is_own = chose.took.own; begins = chose.begins; behind = omega (arith, few, front) }
+
+-- a daemon that finds nothing finds no node enabled, behind all that its clerk was told
+quiet_behind : (setting : Setting) (words left : Stream) (old mid : List Receipt) (new : ClerkView) (own : List Receipt) → mid ≡ old ++ own → Draw setting drawn_step words left mid new None → IsQuietBehind (scene_of setting new) (front_of old) own
+quiet_behind setting words left old mid new own added drew =
+    let log = drew.took.log in
+    let names = enabled_names setting.table log.state in
+    let none = none_drawn setting log mid new.receipts None drew.took.taken.event drew.took.taken.is_told refl in
     let nobody : option_map (λ items. Step items) (drawn setting.table.central names words).0 ≡ None =
-    sym (ap (λ (d : Option Event × Stream). d.0) took.taken.chosen) ∙ none in
-    let few : front_of mid ≤ length took.log.entries = seen_few (front_of mid) took.log took.free in
-    let low : front_of own ≤ front_of mid = subst (λ rs. front_of own ≤ front_of rs) (sym added) (front_low own old 0) in
+    sym (ap (λ (d : Option Event × Stream). d.0) drew.took.taken.chosen) ∙ none in
     record {
-      log = took.log;
-      is_own = took.own;
-      behind = omega (arith, few, low);
+      at = looked setting (λ s event. (event, left) ≡ drawn_step setting.table s words) old mid own new None added drew;
       quiet = (rests setting.table.central names words).0 (no_event (λ items. Step items) (drawn setting.table.central names words).0 nobody);
     }
 
-pub daemon_rests : {E : Type 0} (setting : Setting) (words left : Stream) (mid : List Receipt) (new : ClerkView) (result : Result (Option Reply) E) → IfOk result (Draw setting drawn_step words left mid new)
-    → IfOk result (λ told. IsNone told → (old own : List Receipt) → mid ≡ old ++ own → IsQuietBehind setting own)
-daemon_rests setting words left mid new (Err fault) took = tt
-daemon_rests setting words left mid new (Ok None) took = λ none old own added. quiet_behind setting words left old mid new own added took
-daemon_rests setting words left mid new (Ok (Some reply)) took = λ none. absurd (false≢true (sym none))
+pub daemon_rests : (setting : Setting) (words left : Stream) (mid : List Receipt) (new : ClerkView) (told : Option Reply) → Draw setting drawn_step words left mid new told
+    → IsNone told → (old own : List Receipt) → mid ≡ old ++ own → IsQuietBehind (scene_of setting new) (front_of old) own
+daemon_rests setting words left mid new None drew none old own added = quiet_behind setting words left old mid new own added drew
+daemon_rests setting words left mid new (Some reply) drew none old own added = absurd (false≢true (sym none))
 
--- an injector that finds nothing finds no node, behind all that its clerk has seen
-empty_behind : (setting : Setting) (old mid : List Receipt) (new : ClerkView) (own : List Receipt) (told : Option Reply) → mid ≡ old ++ own
-    → TakesChoice setting (λ s _. IsNone told ↔ (node_count s.network ≡ 0)) mid new.receipts new.note told → IsNone told → IsEmptyBehind setting own
-empty_behind setting old mid new own told added took none =
-    let few : front_of mid ≤ length took.log.entries = seen_few (front_of mid) took.log took.free in
-    let low : front_of own ≤ front_of mid = subst (λ rs. front_of own ≤ front_of rs) (sym added) (front_low own old 0) in
-    record { log = took.log; is_own = took.own; behind = omega (arith, few, low); empty = took.taken.chosen.0 none }
-
-pub injector_rests : {E : Type 0} (setting : Setting) (mid : List Receipt) (new : ClerkView) (result : Result (Option Reply) E) → IfOk result (λ told. TakesChoice setting (λ s _. IsNone told ↔ (node_count s.network ≡ 0)) mid new.receipts new.note told)
-    → IfOk result (λ told. IsNone told → (old own : List Receipt) → mid ≡ old ++ own → IsEmptyBehind setting own)
-injector_rests setting mid new (Err fault) took = tt
-injector_rests setting mid new (Ok told) took = λ none old own added. empty_behind setting old mid new own told added took none
+-- an injector that finds nothing finds no node, behind all that its clerk was told
+pub injector_rests : (setting : Setting) (words left : Stream) (mid : List Receipt) (new : ClerkView) (told : Option Reply) (drew : Draw setting drawn_fault words left mid new told)
+    → (IsNone told ↔ (node_count drew.took.log.state.network ≡ 0)) → IsNone told → (old own : List Receipt) → mid ≡ old ++ own → IsEmptyBehind (scene_of setting new) (front_of old) own
+injector_rests setting words left mid new told drew empty none old own added =
+    record { at = looked setting (λ s event. (event, left) ≡ drawn_fault setting.table s words) old mid own new told added drew; empty = empty.0 none }

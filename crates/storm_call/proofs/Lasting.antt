@@ -6,13 +6,13 @@ use Rattle.rule_machine.specs.Run.{Entry}
 use Rattle.board.proofs.Fronts.{prefix_trans}
 use Rattle.seeded_turns.specs.Drawn.{Draws, seeded_stream, drawn_step, drawn_fault}
 use Rattle.step_log.specs.declared.receipt.Receipt.{Receipt}
-use Rattle.locked_net.specs.Receipts.{ClerkView}
+use Rattle.locked_net.specs.Receipts.{ClerkView, front_from, front_of}
 use Rattle.locked_net.specs.Settings.{Setting}
 use Rattle.locked_net.specs.declared.call_fault.CallFault.{CallFault}
 use Rattle.script_text.specs.declared.command.Command.{Command}
 use Rattle.script_text.specs.declared.command.Command.TheVariants.{Tell, Drive, Scramble, Checkpoint}
 use Rattle.script_text.specs.declared.script.ScriptLine.{ScriptLine}
-use Rattle.storm_call.specs.Turns.{Scene, IsTurn, AreTurns, DrawnFrom}
+use Rattle.storm_call.specs.Turns.{Scene, IsTurn, AreTurns, DrawnFrom, IsLogBehind}
 use Rattle.storm_call.specs.Storm.{IsOfStep, IsOfFault, IsFor, IsPartOf, Stands, IsLastCheckpoint, StandsInPart, MayStop}
 
 module _ (setting : Setting) (some all : List Entry) (p : IsPrefix some all) where
@@ -36,14 +36,20 @@ module _ (setting : Setting) (some all : List Entry) (p : IsPrefix some all) whe
   turns_last draws words (receipt ∷ receipts) left (next, turn, turns) =
       (next, turn_lasts draws words receipt next turn, turns_last draws next receipts left turns)
 
-  drawn_lasts : (draws : Draws) (words : Stream) (P : Receipt → Type 0) (own : List Receipt) → DrawnFrom short draws words P own → DrawnFrom long draws words P own
+  pub drawn_lasts : (draws : Draws) (words : Stream) (P : Receipt → Type 0) (own : List Receipt) → DrawnFrom short draws words P own → DrawnFrom long draws words P own
   drawn_lasts draws words P own (kind, (left, turns)) = (kind, (left, turns_last draws words own left turns))
 
-  for_lasts : (command : Command) (own : List Receipt) → IsFor short command own → IsFor long command own
-  for_lasts (Tell event) own is = is
-  for_lasts (Drive turns) own (few, drawn, quiet) = (few, drawn_lasts drawn_step (seeded_stream turns.seed) IsOfStep own drawn, quiet)
-  for_lasts (Scramble turns) own (few, drawn, empty) = (few, drawn_lasts drawn_fault (seeded_stream turns.seed) IsOfFault own drawn, empty)
-  for_lasts Checkpoint own none = none
+  abbrev behind_lasts : (front : ℕ) (own : List Receipt) → IsLogBehind short front own → IsLogBehind long front own
+  behind_lasts front own at =
+      record { log = at.log; is_own = at.is_own; begins = prefix_trans at.log.entries some all at.begins p; behind = at.behind }
+
+  for_lasts : (front : ℕ) (command : Command) (own : List Receipt) → IsFor short front command own → IsFor long front command own
+  for_lasts front (Tell event) own is = is
+  for_lasts front (Drive turns) own (few, drawn, quiet) =
+      (few, drawn_lasts drawn_step (seeded_stream turns.seed) IsOfStep own drawn, λ less. let there = quiet less in record { at = behind_lasts front own there.at; quiet = there.quiet })
+  for_lasts front (Scramble turns) own (few, drawn, empty) =
+      (few, drawn_lasts drawn_fault (seeded_stream turns.seed) IsOfFault own drawn, λ less. let there = empty less in record { at = behind_lasts front own there.at; empty = there.empty })
+  for_lasts front Checkpoint own none = none
 
   part_lasts : (command : Command) (own : List Receipt) → IsPartOf short command own → IsPartOf long command own
   part_lasts (Tell event) own is = is
@@ -51,9 +57,10 @@ module _ (setting : Setting) (some all : List Entry) (p : IsPrefix some all) whe
   part_lasts (Scramble turns) own (few, drawn) = (few, drawn_lasts drawn_fault (seeded_stream turns.seed) IsOfFault own drawn)
   part_lasts Checkpoint own none = none
 
-  pub stands_last : (lines : List ScriptLine) (receipts : List Receipt) → Stands short lines receipts → Stands long lines receipts
-  stands_last [] receipts none = none
-  stands_last (line ∷ lines) receipts (own, rest, is, for, others) = (own, rest, is, for_lasts line.command own for, stands_last lines rest others)
+  pub stands_last : (front : ℕ) (lines : List ScriptLine) (receipts : List Receipt) → Stands short front lines receipts → Stands long front lines receipts
+  stands_last front [] receipts none = none
+  stands_last front (line ∷ lines) receipts (own, rest, is, for, others) =
+      (own, rest, is, for_lasts front line.command own for, stands_last (front_from front own) lines rest others)
 
   placed_lasts : (lines : List ScriptLine) (receipts : List Receipt) (number : ℕ) → IsLastCheckpoint short lines receipts number → IsLastCheckpoint long lines receipts number
   placed_lasts lines receipts number is = record {
@@ -66,8 +73,8 @@ module _ (setting : Setting) (some all : List Entry) (p : IsPrefix some all) whe
     made = is.made;
     last = is.last;
     told = is.told;
-    earlier = stands_last is.before is.done is.earlier;
-    later = stands_last is.behind is.rest is.later;
+    earlier = stands_last 0 is.before is.done is.earlier;
+    later = stands_last (front_of is.done) is.behind is.rest is.later;
     above = is.above;
     below = is.below;
   }
@@ -85,7 +92,7 @@ module _ (setting : Setting) (some all : List Entry) (p : IsPrefix some all) whe
     part = part.part;
     splits = part.splits;
     told = part.told;
-    whole = stands_last part.before part.done part.whole;
+    whole = stands_last 0 part.before part.done part.whole;
     broken = part_lasts part.line.command part.part part.broken;
     based = part.based;
     placed = base_lasts part.before part.done clerk.base part.placed;
@@ -94,5 +101,5 @@ module _ (setting : Setting) (some all : List Entry) (p : IsPrefix some all) whe
 
   pub stop_lasts : (lines : List ScriptLine) (clerk : ClerkView) (fault : Option CallFault) → MayStop short lines clerk fault → MayStop long lines clerk fault
   stop_lasts lines clerk None (stands, based, placed) =
-      (stands_last lines clerk.receipts stands, based, base_lasts lines clerk.receipts clerk.base placed)
+      (stands_last 0 lines clerk.receipts stands, based, base_lasts lines clerk.receipts clerk.base placed)
   stop_lasts lines clerk (Some fault) part = in_part_lasts lines clerk part

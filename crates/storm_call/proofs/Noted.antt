@@ -1,5 +1,5 @@
 -- Whose notes a clerk has, and what they tell after a call.
-use Rattle.std.proofs.Common.{◌≡◌, ◌∙◌, ◌<◌, ◌∷◌, [], Bool, false, not, Option, None, Some, IfSome, IsSomeAnd, refl, ap, sym, subst}
+use Rattle.std.proofs.Common.{◌≡◌, ◌∙◌, ℕ, ◌<◌, ◌∷◌, [], Bool, false, not, Option, None, Some, IfSome, IsSomeAnd, MatchOption, refl, ap, sym, subst}
 use Rattle.std.specs.Option.{is_some}
 use Rattle.std.proofs.lemmas.Bool.{false≢true}
 use Rattle.std.proofs.lemmas.List.Elements.{All-nil, All-cons}
@@ -8,15 +8,14 @@ use mathlib.Core.List.{IsPrefix}
 use Rattle.logbook.specs.Pages.{Book}
 use Rattle.rule_machine.specs.declared.event.Event.{Event}
 use Rattle.rule_machine.specs.declared.reply.Reply.{Reply}
-use Rattle.board.specs.History.{AreComparable}
 use Rattle.board.specs.Views.{Told}
-use Rattle.locked_net.specs.Receipts.{ClerkView, front_of, base_from, seen_by, noted, IsClerk, HasNoteOf, IsOfBook}
+use Rattle.locked_net.specs.Receipts.{ClerkView, front_of, base_from, seen_by, noted, HasNoteOf, IsOfBook}
 use Rattle.locked_net.specs.Calls.{Keeps}
 use Rattle.script_text.specs.declared.command.Command.TheVariants.{Tell}
 use Rattle.storm_call.specs.Turns.{Scene}
 use Rattle.storm_call.specs.Storm.{IsFor, AreAbove}
 use Rattle.storm_call.specs.Played.{Adds}
-use Rattle.storm_call.proofs.Adding.{grown, last_above}
+use Rattle.storm_call.proofs.Adding.{last_above}
 
 -- what holds at an answer
 pub answered : {A : Type 0} (P : Type 0) (told : Option A) (b : Bool) → IfSome told (λ _. P) → is_some told ≡ not b → b ≡ false → P
@@ -40,14 +39,18 @@ may_follow book before old new is was has = follow before (subst (λ (o : Option
     follow (Some told) own = subst (λ b. IsOfBook b new) (sym own) (of_book book new has)
 
 -- an event was told, with a number above the clerk's base
-pub told_one : (scene : Scene) (event : Event) (old new : ClerkView) (reply : Reply) → Keeps old.receipts new.receipts event reply → seen_by old < front_of new.receipts → Adds (λ own. IsFor scene (Tell event) own × AreAbove old.base own) old.receipts new.receipts
-told_one scene event old new reply kept above =
+pub told_one : (scene : Scene) (front : ℕ) (event : Event) (old new : ClerkView) (reply : Reply) → Keeps old.receipts new.receipts event reply → seen_by old < front_of new.receipts → Adds (λ own. IsFor scene front (Tell event) own × AreAbove old.base own) old.receipts new.receipts
+told_one scene front event old new reply kept above =
     let receipt : Receipt = record { seq = kept.seq; event = event; reply = reply } in
     let P = λ (r : Receipt). base_from old.base < r.seq in
     record { own = receipt ∷ []; added = kept.added; fits = (refl, All-cons P receipt [] (last_above old new old.base receipt refl kept.added above) (All-nil P)) }
 
--- with one receipt more
-pub kept_grown : (old new : ClerkView) (before : Option Told) (event : Event) (reply : Reply) → before ≡ old.note → IsClerk old → Keeps old.receipts new.receipts event reply → AreComparable (noted before) (noted new.note) → IsClerk new
-    → IsPrefix (noted old.note) (noted new.note)
-kept_grown old new before event reply is was kept comparable now =
-    grown (λ _. Unit {0}) old new before is was (record { receipt = record { seq = kept.seq; event = event; reply = reply }; added = kept.added; is = tt }) comparable now
+-- a clerk's note has the history that it had before a call was recalled
+pub recalled : (book : Book) (old new : ClerkView) (before : Option Told) → HasNoteOf book old → IfSome before (λ told. told.book ≡ book) → MatchOption before (new ≡ old) (λ told. HasNoteOf told.book new) → HasNoteOf book new
+recalled book old new None has own same = subst (λ (c : ClerkView). HasNoteOf book c) (sym same) has
+recalled book old new (Some told) has own now = subst (λ b. HasNoteOf b new) own now
+
+-- what no note tells begins what any tells
+pub nothing_before : (before note : Option Told) → ((told : Told) → before ≡ Some told → ⊥) → IsPrefix (noted before) (noted note)
+nothing_before None note none = (noted note, refl)
+nothing_before (Some told) note none = absurd (none told refl)

@@ -6,18 +6,20 @@ use Rattle.rand_core.specs.Stream.{Stream}
 use Rattle.rule_machine.specs.declared.reply.Reply.{Reply}
 use Rattle.seeded_turns.specs.Drawn.{Draws, seeded_stream, drawn_step, drawn_fault}
 use Rattle.step_log.specs.declared.receipt.Receipt.{Receipt}
-use Rattle.locked_net.specs.Receipts.{ClerkView}
+use mathlib.Core.List.{IsPrefix}
+use Rattle.locked_net.specs.Receipts.{ClerkView, front_of, noted}
 use Rattle.locked_net.specs.Settings.{Setting}
 use Rattle.locked_net.specs.declared.call_fault.CallFault.{CallFault}
 use Rattle.script_text.specs.declared.command.Command.TheVariants.{Drive, Scramble}
 use Rattle.script_text.specs.declared.command.Turns.{Turns}
-use Rattle.storm_call.specs.Turns.{DrawnFrom, IsQuietBehind, IsEmptyBehind}
+use Rattle.storm_call.specs.Turns.{Scene, DrawnFrom, IsQuietBehind, IsEmptyBehind}
 use Rattle.storm_call.specs.Storm.{AreAbove, IsOfStep, IsOfFault}
 use Rattle.storm_call.specs.Played.{Adds, Plays, TurnsEnd, scene_of}
 use Rattle.storm_call.proofs.Adding.{Above, Took, drawn_from, took_above}
+use Rattle.storm_call.proofs.Lasting.{drawn_lasts}
 
--- a clerk that was told nothing has what it had
-pub rested : (Kept : Reply → Type 0) (old new : ClerkView) (told : Option Reply) (b : Bool) → MatchOption told (new ≡ old) Kept → is_some told ≡ not b → b ≡ true → new ≡ old
+-- a clerk that was told nothing has the receipts that it had
+pub rested : (Kept : Reply → Type 0) (old new : ClerkView) (told : Option Reply) (b : Bool) → MatchOption told (new.receipts ≡ old.receipts) Kept → is_some told ≡ not b → b ≡ true → new.receipts ≡ old.receipts
 rested Kept old new None b same e f = same
 rested Kept old new (Some reply) b kept e f = absurd (false≢true (sym (e ∙ ap not f)))
 
@@ -31,26 +33,26 @@ taken setting draws P base words left count old new so_far Fits then = record {
 }
 
 -- a fault broke them off
-pub breaks_off : (setting : Setting) (draws : Draws) (Fits : Receipt → Type 0) (Rests : Setting → List Receipt → Type 0) (words : Stream) (count : ℕ) (old new : ClerkView) (result : Result (Unit {0}) CallFault) → IsErr result
+pub breaks_off : (setting : Setting) (draws : Draws) (Fits : Receipt → Type 0) (Rests : Scene → ℕ → List Receipt → Type 0) (words : Stream) (count : ℕ) (old new : ClerkView) (result : Result (Unit {0}) CallFault) → IsErr result
     → Adds (λ own. ((length own < count) × DrawnFrom (scene_of setting new) draws words Fits own) × AreAbove old.base own) old.receipts new.receipts → TurnsEnd setting draws Fits Rests words count old new result
 breaks_off setting draws Fits Rests words count old new (Ok done) err part = absurd (false≢true err)
 breaks_off setting draws Fits Rests words count old new (Err fault) err part = part
 
 -- the turns before one that found nothing to do are all that there are
-pub turns_rested : (setting : Setting) (draws : Draws) (Fits : Receipt → Type 0) (Rests : Setting → List Receipt → Type 0) (words : Stream) (base : Option ℕ) (asked count : ℕ) (left : Stream) (old : List Receipt) (mid new : ClerkView) → count < asked
-    → Took setting draws (Above Fits base) words count old mid left → new ≡ mid → ((old own : List Receipt) → mid.receipts ≡ old ++ own → Rests setting own)
-    → Adds (λ own. ((length own ≤ asked) × DrawnFrom (scene_of setting new) draws words Fits own × (length own < asked → Rests setting own)) × AreAbove base own) old new.receipts
-turns_rested setting draws Fits Rests words base asked count left old mid new less so_far same rests =
+pub turns_rested : (setting : Setting) (draws : Draws) (Fits : Receipt → Type 0) (Rests : Scene → ℕ → List Receipt → Type 0) (words : Stream) (base : Option ℕ) (asked count : ℕ) (left : Stream) (old : List Receipt) (mid new : ClerkView) → count < asked
+    → Took setting draws (Above Fits base) words count old mid left → new.receipts ≡ mid.receipts → IsPrefix (noted mid.note) (noted new.note) → ((before own : List Receipt) → mid.receipts ≡ before ++ own → Rests (scene_of setting new) (front_of before) own)
+    → Adds (λ own. ((length own ≤ asked) × DrawnFrom (scene_of setting new) draws words Fits own × (length own < asked → Rests (scene_of setting new) (front_of old) own)) × AreAbove base own) old new.receipts
+turns_rested setting draws Fits Rests words base asked count left old mid new less so_far same grows rests =
     let as_many = so_far.as_many in
-    subst (λ (v : ClerkView). Adds (λ own. ((length own ≤ asked) × DrawnFrom (scene_of setting v) draws words Fits own × (length own < asked → Rests setting own)) × AreAbove base own) old v.receipts) (sym same)
-    (record {
+    let drawn = drawn_lasts setting (noted mid.note) (noted new.note) grows draws words Fits so_far.own (drawn_from setting draws Fits base words left count old mid so_far) in
+    record {
       own = so_far.own;
-      added = so_far.added;
+      added = same ∙ so_far.added;
       fits = (
-        (omega (arith, less, as_many), drawn_from setting draws Fits base words left count old mid so_far, λ _. rests old so_far.own so_far.added),
+        (omega (arith, less, as_many), drawn, λ _. rests old so_far.own so_far.added),
         took_above setting draws Fits base words left count old mid so_far,
       );
-    })
+    }
 
 -- it found nothing
 pub at_rest : {X : Type 0} (told : Option Reply) (b : Bool) → (IsNone told → X) → is_some told ≡ not b → b ≡ true → X

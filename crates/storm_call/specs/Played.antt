@@ -29,14 +29,14 @@ pub record Adds (P : List Receipt → Type 0) (old new : List Receipt) : Type 0 
 
 -- the command was carried out, or a fault broke it off, on the log as the clerk's note tells it then, behind the base that the clerk had
 abbrev pub Plays : {A E : Type 0} → Setting → Command → ClerkView → ClerkView → Result A E → Type 0
-Plays setting command old new (Ok done) = Adds (λ own. IsFor (scene_of setting new) command own × AreAbove old.base own) old.receipts new.receipts
+Plays setting command old new (Ok done) = Adds (λ own. IsFor (scene_of setting new) (front_of old.receipts) command own × AreAbove old.base own) old.receipts new.receipts
 Plays setting command old new (Err fault) = Adds (λ own. IsPartOf (scene_of setting new) command own × AreAbove old.base own) old.receipts new.receipts
 
 -- So many turns were taken, by these words, above the base that the clerk had; fewer only where there was nothing to do behind the last of
 -- them, or where a fault broke them off.
-abbrev pub TurnsEnd : {A E : Type 0} → Setting → Draws → (Receipt → Type 0) → (Setting → List Receipt → Type 0) → Stream → ℕ → ClerkView → ClerkView → Result A E → Type 0
+abbrev pub TurnsEnd : {A E : Type 0} → Setting → Draws → (Receipt → Type 0) → (Scene → ℕ → List Receipt → Type 0) → Stream → ℕ → ClerkView → ClerkView → Result A E → Type 0
 TurnsEnd setting draws Fits Rests words count old new (Ok done) = Adds
-    (λ own. ((length own ≤ count) × DrawnFrom (scene_of setting new) draws words Fits own × (length own < count → Rests setting own)) × AreAbove old.base own)
+    (λ own. ((length own ≤ count) × DrawnFrom (scene_of setting new) draws words Fits own × (length own < count → Rests (scene_of setting new) (front_of old.receipts) own)) × AreAbove old.base own)
     old.receipts new.receipts
 TurnsEnd setting draws Fits Rests words count old new (Err fault) =
     Adds (λ own. ((length own < count) × DrawnFrom (scene_of setting new) draws words Fits own) × AreAbove old.base own) old.receipts new.receipts

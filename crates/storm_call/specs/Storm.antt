@@ -20,7 +20,7 @@ use Rattle.seeded_turns.specs.Drawn.{seeded_stream, drawn_step, drawn_fault}
 use Rattle.script_text.specs.declared.command.Command.{Command}
 use Rattle.script_text.specs.declared.command.Command.TheVariants.{Tell, Drive, Scramble, Checkpoint}
 use Rattle.locked_net.specs.Above.{IsPart}
-use Rattle.locked_net.specs.Receipts.{ClerkView, front_of, base_from}
+use Rattle.locked_net.specs.Receipts.{ClerkView, front_from, front_of, base_from}
 use Rattle.locked_net.specs.Settings.{Setting}
 use Rattle.locked_net.specs.Settled.{Settled}
 use Rattle.locked_net.specs.Roamed.{IsLoneStep, TakesTurns}
@@ -40,16 +40,16 @@ pub record IsOfFault (receipt : Receipt) : Type 0 where
   pub register : IsTrue (is_register_fault receipt.event)
   pub accepted : receipt.reply ≡ Accepted
 
--- What a command is told when it was carried out: one receipt of its event; none of a checkpoint; or the receipts of its turns, by the
--- words of the generator that it seeds. There are fewer turns than it asks for only where a daemon found no node enabled, or an
--- injector no node to break, behind the last of them.
-abbrev pub IsFor : Scene → Command → List Receipt → Type 0
-IsFor scene (Tell event) own = map (λ r. r.event) own ≡ event ∷ []
-IsFor scene (Drive turns) own =
-    (length own ≤ turns.count) × DrawnFrom scene drawn_step (seeded_stream turns.seed) IsOfStep own × (length own < turns.count → IsQuietBehind scene.setting own)
-IsFor scene (Scramble turns) own =
-    (length own ≤ turns.count) × DrawnFrom scene drawn_fault (seeded_stream turns.seed) IsOfFault own × (length own < turns.count → IsEmptyBehind scene.setting own)
-IsFor scene Checkpoint own = own ≡ []
+-- What a command is told when it was carried out, behind what its clerk was told before, up to this number: one receipt of its event; none of a
+-- checkpoint; or the receipts of its turns, by the words of the generator that it seeds. There are fewer turns than it asks for only where a
+-- daemon found no node enabled, or an injector no node to break, behind the last of them.
+abbrev pub IsFor : Scene → ℕ → Command → List Receipt → Type 0
+IsFor scene front (Tell event) own = map (λ r. r.event) own ≡ event ∷ []
+IsFor scene front (Drive turns) own =
+    (length own ≤ turns.count) × DrawnFrom scene drawn_step (seeded_stream turns.seed) IsOfStep own × (length own < turns.count → IsQuietBehind scene front own)
+IsFor scene front (Scramble turns) own =
+    (length own ≤ turns.count) × DrawnFrom scene drawn_fault (seeded_stream turns.seed) IsOfFault own × (length own < turns.count → IsEmptyBehind scene front own)
+IsFor scene front Checkpoint own = own ≡ []
 
 -- what it is told when a fault broke it off: nothing of its event, or of its checkpoint; or fewer turns than it asks for
 abbrev pub IsPartOf : Scene → Command → List Receipt → Type 0
@@ -60,11 +60,11 @@ IsPartOf scene (Scramble turns) own =
     (length own < turns.count) × DrawnFrom scene drawn_fault (seeded_stream turns.seed) IsOfFault own
 IsPartOf scene Checkpoint own = own ≡ []
 
--- the receipts are those of these lines, each line's behind those of the line before it
-abbrev pub Stands : Scene → List ScriptLine → List Receipt → Type 0
-Stands scene [] receipts = receipts ≡ []
-Stands scene (line ∷ lines) receipts =
-    (own : List Receipt) × (rest : List Receipt) × (receipts ≡ own ++ rest) × IsFor scene line.command own × Stands scene lines rest
+-- the receipts are those of these lines, each line's behind those of the line before it, and the first's behind this number
+abbrev pub Stands : Scene → ℕ → List ScriptLine → List Receipt → Type 0
+Stands scene front [] receipts = receipts ≡ []
+Stands scene front (line ∷ lines) receipts =
+    (own : List Receipt) × (rest : List Receipt) × (receipts ≡ own ++ rest) × IsFor scene front line.command own × Stands scene (front_from front own) lines rest
 
 -- a checkpoint is among the lines
 abbrev pub is_checkpoint : Command → Bool
@@ -92,8 +92,8 @@ pub record IsLastCheckpoint (scene : Scene) (lines : List ScriptLine) (receipts 
   pub made : line.command ≡ Checkpoint
   pub last : has_checkpoint behind ≡ false
   pub told : receipts ≡ done ++ rest
-  pub earlier : Stands scene before done
-  pub later : Stands scene behind rest
+  pub earlier : Stands scene 0 before done
+  pub later : Stands scene (front_of done) behind rest
   pub above : front_of done ≤ number
   pub below : AreAbove (Some number) rest
 
@@ -107,7 +107,7 @@ pub record StandsInPart (scene : Scene) (lines : List ScriptLine) (clerk : Clerk
   pub part : List Receipt
   pub splits : lines ≡ before ++ line ∷ behind
   pub told : clerk.receipts ≡ done ++ part
-  pub whole : Stands scene before done
+  pub whole : Stands scene 0 before done
   pub broken : IsPartOf scene line.command part
   pub based : is_some clerk.base ≡ has_checkpoint before
   pub placed : IfSome clerk.base (IsLastCheckpoint scene before done)
@@ -117,7 +117,7 @@ pub record StandsInPart (scene : Scene) (lines : List ScriptLine) (clerk : Clerk
 -- played up to a fault.
 abbrev pub MayStop : Scene → List ScriptLine → ClerkView → Option CallFault → Type 0
 MayStop scene lines clerk None =
-    Stands scene lines clerk.receipts × (is_some clerk.base ≡ has_checkpoint lines) × IfSome clerk.base (IsLastCheckpoint scene lines clerk.receipts)
+    Stands scene 0 lines clerk.receipts × (is_some clerk.base ≡ has_checkpoint lines) × IfSome clerk.base (IsLastCheckpoint scene lines clerk.receipts)
 MayStop scene lines clerk (Some fault) = StandsInPart scene lines clerk
 
 -- Each script was played by the clerk at its place; the fault is the first that a script met, in the order of the scripts, and

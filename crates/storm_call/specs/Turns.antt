@@ -2,12 +2,14 @@
 --
 -- A line seeds a generator, and each of its turns takes words from it: the event that these draw in the state of the log, as this was behind
 -- the lock then, is recorded. Between two turns anybody may have recorded anything; the words go on where the turn before has left them.
--- All turns are of one log: what lay behind the lock at a turn is a beginning of it.
-use Rattle.std.specs.Prelude.{◌≡◌, ◌≤◌, List, [], ◌∷◌, ◌++◌, length, Option, Some}
+-- All turns are of one log: what lay behind the lock at a turn is a beginning of it, also where there was nothing to do.
+use Rattle.std.specs.Prelude.{◌≡◌, ◌≤◌, ℕ, List, [], ◌∷◌, ◌++◌, length, Option, Some}
 use Rattle.std.specs.List.{All}
 use mathlib.Core.List.{IsPrefix}
 use Rattle.rand_core.specs.Stream.{Stream}
+use Rattle.rule_machine.specs.declared.event.Event.{Event}
 use Rattle.rule_machine.specs.declared.reply.Reply.{Reply}
+use Rattle.rule_machine.specs.State.{State}
 use Rattle.rule_machine.specs.Network.{node_count}
 use Rattle.rule_machine.specs.RuleTable.{enabled_names}
 use Rattle.rule_machine.specs.Run.{Entry}
@@ -15,7 +17,7 @@ use Rattle.seeded_turns.specs.Drawn.{Draws}
 use Rattle.step_log.specs.declared.receipt.Receipt.{Receipt}
 use Rattle.step_log.specs.Log.{Log, receipt_of}
 use Rattle.locked_net.specs.Choosing.{TakesChoice}
-use Rattle.locked_net.specs.Receipts.{ClerkView, front_of}
+use Rattle.locked_net.specs.Receipts.{ClerkView, front_from, noted}
 use Rattle.locked_net.specs.Settings.{Setting, IsLogIn}
 
 -- where turns are taken: a network's setting, and the entries of its log
@@ -32,9 +34,14 @@ pub record IsTurn (scene : Scene) (draws : Draws) (words : Stream) (receipt : Re
   pub drawn : (Some receipt.event, left) ≡ draws scene.setting.table log.state words
   pub told : receipt ≡ receipt_of scene.setting.table log receipt.event
 
--- what these words draw in the state of a log was recorded, if anything, and those are left
+-- On a beginning of what the clerk's note tells then, which has all that the clerk was told, an event was chosen or none; it was recorded, if any.
+pub record Chose (setting : Setting) (Chooses : State → Option Event → Type 0) (old : List Receipt) (new : ClerkView) (told : Option Reply) : Type 0 where
+  pub took : TakesChoice setting Chooses old new.receipts new.note told
+  pub begins : IsPrefix took.log.entries (noted new.note)
+
+-- by what these words draw in the state there, and those are left
 abbrev pub Draw : Setting → Draws → Stream → Stream → List Receipt → ClerkView → Option Reply → Type 0
-Draw setting draws words left old new told = TakesChoice setting (λ s event. (event, left) ≡ draws setting.table s words) old new.receipts new.note told
+Draw setting draws words left old new told = Chose setting (λ s event. (event, left) ≡ draws setting.table s words) old new told
 
 -- a receipt of the kind was added
 pub record Gains (P : Receipt → Type 0) (old new : List Receipt) : Type 0 where
@@ -52,16 +59,19 @@ AreTurns scene draws words (receipt ∷ receipts) left =
 abbrev pub DrawnFrom : Scene → Draws → Stream → (Receipt → Type 0) → List Receipt → Type 0
 DrawnFrom scene draws words P own = All P own × ((left : Stream) × AreTurns scene draws words own left)
 
--- No node was enabled on a log that has the last of these receipts.
-pub record IsQuietBehind (setting : Setting) (own : List Receipt) : Type 0 where
+-- A beginning of the log has all that its clerk was told: the entry with this number, and those of these receipts behind it.
+pub record IsLogBehind (scene : Scene) (front : ℕ) (own : List Receipt) : Type 0 where
   pub log : Log
-  pub is_own : IsLogIn setting log
-  pub behind : front_of own ≤ length log.entries
-  pub quiet : enabled_names setting.table log.state ≡ []
+  pub is_own : IsLogIn scene.setting log
+  pub begins : IsPrefix log.entries scene.log
+  pub behind : front_from front own ≤ length log.entries
 
--- There was no node on a log that has the last of these receipts.
-pub record IsEmptyBehind (setting : Setting) (own : List Receipt) : Type 0 where
-  pub log : Log
-  pub is_own : IsLogIn setting log
-  pub behind : front_of own ≤ length log.entries
-  pub empty : node_count log.state.network ≡ 0
+-- No node was enabled where such a beginning ends.
+pub record IsQuietBehind (scene : Scene) (front : ℕ) (own : List Receipt) : Type 0 where
+  pub at : IsLogBehind scene front own
+  pub quiet : enabled_names scene.setting.table at.log.state ≡ []
+
+-- There was no node where such a beginning ends.
+pub record IsEmptyBehind (scene : Scene) (front : ℕ) (own : List Receipt) : Type 0 where
+  pub at : IsLogBehind scene front own
+  pub empty : node_count at.log.state.network ≡ 0

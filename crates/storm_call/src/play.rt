@@ -9,7 +9,7 @@ ghost use Rattle.script_text.specs.declared.command.Command.TheVariants.{Tell, C
 ghost use Rattle.storm_call.specs.Played.{Plays, IsBased};
 
 use crate::stage::Stage;
-use crate::turns::{drive, scramble};
+use crate::turns::{drive, recall, scramble};
 use locked_net::{CallFault, Clerk, LockedNet, StepFault};
 use rule_machine::{Choice, Event};
 use rule_set::Rules;
@@ -36,7 +36,7 @@ fn step<R: Rules + Sync, G: Gate, T: Threads + Wait + Sync>(
     let workers = paying_workers(stage.crew.workers, choice.items().len());
     match clerk.step_with(rt, stage.net, choice, workers, &NoGate) {
         Ok(_) => {
-            clerk.follows(&before);
+            recall(clerk, before);
             Ok(())
         }
         Err(StepFault::Call(fault)) => Err(fault),
@@ -61,7 +61,7 @@ fn tell<R: Rules + Sync, G: Gate, T: Threads + Wait + Sync>(
         event => {
             let before = clerk.noted();
             clerk.call(rt, stage.net, event)?;
-            clerk.follows(&before);
+            recall(clerk, before);
             Ok(())
         }
     }

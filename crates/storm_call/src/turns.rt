@@ -1,18 +1,18 @@
 //! How the turns of one line are taken.
 
-ghost use Rattle.std.specs.Prelude.{◌≡◌, ◌++◌, ◌<◌, IfOk, IfSome, IsNone, List, MatchOption, OnErr};
+ghost use Rattle.std.specs.Prelude.{◌≡◌, ◌++◌, ◌<◌, ℕ, IfOk, IfSome, IsNone, List, MatchOption, OnErr, OnOk};
 ghost use mathlib.Core.List.{IsPrefix};
 ghost use Rattle.rand_core.specs.Stream.{Stream};
 ghost use Rattle.seeded_turns.specs.Drawn.{Draws, pcg32_stream, drawn_step, drawn_fault};
 ghost use Rattle.step_log.specs.declared.receipt.Receipt.{Receipt};
 ghost use Rattle.locked_net.specs.Nets.{book_of, setting_of};
 ghost use Rattle.locked_net.specs.Receipts.{HasNoteOf, IsOfBook, front_of, noted, seen_by};
-ghost use Rattle.locked_net.specs.Settings.{Setting};
 ghost use Rattle.script_text.specs.declared.command.Command.TheVariants.{Drive, Scramble};
-ghost use Rattle.storm_call.specs.Played.{Plays, TurnsEnd};
+ghost use Rattle.storm_call.specs.Played.{Plays, TurnsEnd, scene_of};
 ghost use Rattle.storm_call.specs.Storm.{IsOfStep, IsOfFault};
-ghost use Rattle.storm_call.specs.Turns.{Draw, Gains, IsQuietBehind, IsEmptyBehind};
+ghost use Rattle.storm_call.specs.Turns.{Draw, Gains, IsQuietBehind, IsEmptyBehind, Scene};
 
+use board::Note;
 use daemon::Seeded;
 use fault_injector::Injector;
 use locked_net::{CallFault, Clerk, LockedNet};
@@ -35,20 +35,23 @@ pub(crate) trait TurnTaker {
     /// What the receipts of its turns are.
     ghost fits: { Receipt → Type 0 };
 
-    /// That there was nothing to do behind these receipts.
-    ghost rests: { Setting → List Receipt → Type 0 };
+    /// That there was nothing to do behind these receipts, and the number before them.
+    ghost rests: { Scene → ℕ → List Receipt → Type 0 };
 
-    /// Has the clerk take a turn; `None` where there is nothing to do, and nothing is logged then.
+    /// Has the clerk take a turn; `None` where there is nothing to do, and nothing is logged then. The clerk's note tells what was
+    /// published when the turn ended.
     fn turn<R: Rules, W: Wait>(
         &mut self,
         rt: &W,
         net: &LockedNet<R>,
         clerk: &mut Clerk,
     ) -> Result<Option<Reply>, CallFault>
-        ensures gains { IfOk result (λ told. MatchOption told (clerk.new ≡ clerk.old) (λ _. Gains fits clerk.old.receipts clerk.new.receipts)) }
+        requires { IsOfBook (book_of net.now) clerk.old }
+        ensures gains { IfOk result (λ told. MatchOption told (clerk.new.receipts ≡ clerk.old.receipts) (λ _. Gains fits clerk.old.receipts clerk.new.receipts)) }
         ensures drawn { IfOk result (Draw (setting_of R.table net.now) draws (stream self.old) (stream self.new) clerk.old.receipts clerk.new) }
-        ensures rests { IfOk result (λ told. IsNone told → (old own : List Receipt) → clerk.old.receipts ≡ old ++ own → rests (setting_of R.table net.now) own) }
-        ensures note { IfOk result (λ told. IfSome told (λ _. HasNoteOf (book_of net.now) clerk.new)) }
+        ensures rests { IfOk result (λ told. IsNone told → (old own : List Receipt) → clerk.old.receipts ≡ old ++ own → rests (scene_of (setting_of R.table net.now) clerk.new) (front_of old) own) }
+        ensures note { OnOk result (HasNoteOf (book_of net.now) clerk.new) }
+        ensures grows { OnOk result (IsPrefix (noted clerk.old.note) (noted clerk.new.note)) }
         ensures base { clerk.new.base ≡ clerk.old.base }
         ensures above { IfOk result (λ told. IfSome told (λ _. seen_by clerk.old < front_of clerk.new.receipts)) }
         ensures kept { OnErr result (clerk.new ≡ clerk.old) };
@@ -69,7 +72,14 @@ impl TurnTaker for Seeded<Pcg32> {
         net: &LockedNet<R>,
         clerk: &mut Clerk,
     ) -> Result<Option<Reply>, CallFault> {
-        clerk.drive_with(rt, net, self)
+        let before = clerk.noted();
+        let mut held = net.hold(rt);
+        let answer = held.drive(rt, clerk, self);
+        let seen = held.note();
+        held.free();
+        let told = answer?;
+        take_in(clerk, before, seen);
+        Ok(told)
     }
 }
 
@@ -88,7 +98,43 @@ impl TurnTaker for Injector<Pcg32> {
         net: &LockedNet<R>,
         clerk: &mut Clerk,
     ) -> Result<Option<Reply>, CallFault> {
-        clerk.fault_with(rt, net, self)
+        let before = clerk.noted();
+        let mut held = net.hold(rt);
+        let answer = held.fault(rt, clerk, self);
+        let seen = held.note();
+        held.free();
+        let told = answer?;
+        take_in(clerk, before, seen);
+        Ok(told)
+    }
+}
+
+/// Has the clerk's note tell what it told before, if there was one, and what was published when its turn ended.
+fn take_in(clerk: &mut Clerk, before: Option<Note>, seen: Note)
+    requires own { IsOfBook seen.book clerk.old }
+    requires before { IfSome before (λ told. told.book ≡ seen.book) }
+    ensures seen { IsPrefix seen.log (noted clerk.new.note) }
+    ensures before { IsPrefix (noted before) (noted clerk.new.note) }
+    ensures grows { IsPrefix (noted clerk.old.note) (noted clerk.new.note) }
+    ensures note { HasNoteOf seen.book clerk.new }
+    ensures receipts { clerk.new.receipts ≡ clerk.old.receipts }
+    ensures base { clerk.new.base ≡ clerk.old.base }
+{
+    clerk.sees(seen);
+    recall(clerk, before);
+}
+
+/// Has the clerk's note tell what it told before a call, if there was one.
+pub(crate) fn recall(clerk: &mut Clerk, before: Option<Note>)
+    requires { IfSome before (λ told. IsOfBook told.book clerk.old) }
+    ensures before { IsPrefix (noted before) (noted clerk.new.note) }
+    ensures grows { IsPrefix (noted clerk.old.note) (noted clerk.new.note) }
+    ensures note { MatchOption before (clerk.new ≡ clerk.old) (λ told. HasNoteOf told.book clerk.new) }
+    ensures receipts { clerk.new.receipts ≡ clerk.old.receipts }
+    ensures base { clerk.new.base ≡ clerk.old.base }
+{
+    if let Some(before) = before {
+        clerk.sees(before);
     }
 }
 
@@ -107,11 +153,9 @@ fn take_turns<R: Rules, S: TurnTaker, W: Wait>(
     ensures grows { IsPrefix (noted clerk.old.note) (noted clerk.new.note) }
 {
     for _ in 0..count {
-        let before = clerk.noted();
         if source.turn(rt, net, clerk)?.is_none() {
             return Ok(());
         }
-        clerk.follows(&before);
     }
     Ok(())
 }

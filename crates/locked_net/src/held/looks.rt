@@ -4,7 +4,7 @@ ghost use Rattle.std.specs.Prelude.{◌≡◌, IfOk};
 ghost use Rattle.rule_engine.specs.Costs.{cost_of, BoundsGrowth};
 
 use crate::{HeldNet, SeenCost};
-use board::{NoPlace, Reader, Runs};
+use board::{NoPlace, Note, Reader, Runs};
 use rule_engine::{Event, Rules};
 
 impl<R: Rules> HeldNet<'_, R> {
@@ -15,6 +15,13 @@ impl<R: Rules> HeldNet<'_, R> {
         ensures note { (result.note.log ≡ self.now.log.entries) × (result.note.book ≡ self.now.name.book) }
     {
         self.desk.cost_of(event)
+    }
+
+    /// A note of what is published: the whole log, just as it lies behind the lock. It takes no memory.
+    pub fn note(&self) -> Note
+        ensures { (result.log ≡ self.now.log.entries) × (result.book ≡ self.now.name.book) }
+    {
+        self.desk.note()
     }
 
     /// A reader of what is published.

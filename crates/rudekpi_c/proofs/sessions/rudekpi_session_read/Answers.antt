@@ -9,4 +9,4 @@ returns-then-len-out c = handed_none _ c.in-Some.ensures.some c.put.ensures (c.t
 pub returns : goal.returns
 returns c =
     handed_all _ c.in-Some.ensures.some c.put-2.ensures c.deref_mut.ensures.value c.forget_text.ensures.stands c.forget_text.ensures.rules c.forget_text.ensures.limit c.forget_text.ensures.keeps c.forget_text.ensures.lines c.forget_text.ensures.answer
-    (c.text-text.ensures ∙ ap (λ s. (stands s).text) c.deref.ensures) c.copy_from_slice.ensures.after
+    (c.text-text.ensures ∙ ap (λ s. (stands s).text) c.deref.ensures) c.copy_from_slice.ensures.after c.if-len-out.false

@@ -1,20 +1,21 @@
-use Rattle.locked_net.specs.Nets.{setting_of}
-use Rattle.std.proofs.Common.{subst}
+use Rattle.std.proofs.Common.{◌<◌, sym, subst}
 use Rattle.rule_machine.specs.declared.event.Event.{Event}
+use Rattle.locked_net.specs.Calls.{Keeps}
+use Rattle.locked_net.specs.Nets.{setting_of}
+use Rattle.locked_net.specs.Receipts.{front_of, seen_by}
 use Rattle.script_text.specs.declared.command.Command.TheVariants.{Tell}
 use Rattle.storm_call.specs.Storm.{IsFor, AreAbove}
 use Rattle.storm_call.specs.Played.{Adds, scene_of}
-use Rattle.storm_call.proofs.Noted.{kept_grown, told_one}
+use Rattle.storm_call.proofs.Noted.{told_one}
 use Rattle.storm_call.proofs.play.tell.Goals as goal
-
-pub returns-in_ok-call-in_default-clause-grows : goal.returns-in_ok-call-in_default-clause-grows
-returns-in_ok-call-in_default-clause-grows g c =
-    kept_grown c.args.clerk.now c.call.new.self c.noted-before.result _ _ c.noted-before.ensures.note c.noted-before.ensures.clerk c.in_ok-call-in_default.ensures.receipt c.follows.ensures.notes c.follows.ensures.clerk
 
 pub returns-in_ok-call-in_default-clause-plays : goal.returns-in_ok-call-in_default-clause-plays
 returns-in_ok-call-in_default-clause-plays g c =
-    let scene = scene_of (setting_of g.R.Rules.table c.args.stage.now.net.now) c.call.new.self in
     let old = c.args.clerk.now in
-    let new = c.call.new.self in
-    subst (λ (event : Event). Adds (λ own. IsFor scene (Tell event) own × AreAbove old.base own) old.receipts new.receipts) c.in_ok-event.ensures.cases
-    (told_one scene c.in_ok-event.event old new _ c.in_ok-call-in_default.ensures.receipt c.in_ok-call-in_default.ensures.above)
+    let new = c.recall.new.clerk in
+    let scene = scene_of (setting_of g.R.Rules.table c.args.stage.now.net.now) new in
+    let same = sym c.recall.ensures.receipts in
+    let is = c.in_ok-call-in_default.ensures in
+    subst (λ (event : Event). Adds (λ own. IsFor scene (front_of old.receipts) (Tell event) own × AreAbove old.base own) old.receipts new.receipts) c.in_ok-event.ensures.cases
+    (told_one scene (front_of old.receipts) c.in_ok-event.event old new c.in_ok-call-in_default.field-0
+    (subst (λ rs. Keeps old.receipts rs c.in_ok-event.event c.in_ok-call-in_default.field-0) same is.receipt) (subst (λ rs. seen_by old < front_of rs) same is.above))

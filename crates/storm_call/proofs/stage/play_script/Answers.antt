@@ -14,7 +14,7 @@ returns-in_err-play-clause-played g c =
     let mid = c.loop-line.clerk in
     let new = c.play.new.clerk in
     let scene = scene_of setting new in
-    let stands = stands_last setting (noted mid.note) (noted new.note) c.play.ensures.grows (take c.loop-line.line-index lines) mid.receipts c.loop-line.invariant.stands in
+    let stands = stands_last setting (noted mid.note) (noted new.note) c.play.ensures.grows 0 (take c.loop-line.line-index lines) mid.receipts c.loop-line.invariant.stands in
     let placed = base_lasts setting (noted mid.note) (noted new.note) c.play.ensures.grows (take c.loop-line.line-index lines) mid.receipts mid.base c.loop-line.invariant.placed in
     let part : StandsInPart scene lines new =
     stands_part scene lines c.loop-line.line-index c.line-item.result mid new c.loop-line-test.true c.line-item.is stands c.in_err-play.ensures.plays c.loop-line.invariant.based placed c.in_err-play.ensures.kept in
@@ -26,7 +26,7 @@ loop-line-preserved g c =
     let lines = c.lines-line-items.result.now in
     let mid = c.loop-line.clerk in
     let new = c.play.new.clerk in
-    let stands = stands_last setting (noted mid.note) (noted new.note) c.play.ensures.grows (take c.loop-line.line-index lines) mid.receipts c.loop-line.invariant.stands in
+    let stands = stands_last setting (noted mid.note) (noted new.note) c.play.ensures.grows 0 (take c.loop-line.line-index lines) mid.receipts c.loop-line.invariant.stands in
     let placed = base_lasts setting (noted mid.note) (noted new.note) c.play.ensures.grows (take c.loop-line.line-index lines) mid.receipts mid.base c.loop-line.invariant.placed in
     record {
       stands = stands_next (scene_of setting new) mid.base lines c.loop-line.line-index c.line-item.result mid.receipts new.receipts c.loop-line-test.true c.line-item.is stands c.in_ok-play.ensures.plays;

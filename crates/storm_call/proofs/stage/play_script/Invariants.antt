@@ -9,7 +9,7 @@ use Rattle.storm_call.proofs.stage.play_script.Given as goal
 abbrev pub invariant-loop-line : goal.invariant-loop-line
 invariant-loop-line g l =
     record {
-      stands : Stands (scene_of (setting_of g.R.Rules.table l.fn.stage.net.now) l.clerk) (take l.line-index l.line-items) l.clerk.receipts;
+      stands : Stands (scene_of (setting_of g.R.Rules.table l.fn.stage.net.now) l.clerk) 0 (take l.line-index l.line-items) l.clerk.receipts;
       note : IsOfBook (book_of l.fn.stage.net.now) l.clerk;
       based : is_some l.clerk.base ≡ has_checkpoint (take l.line-index l.line-items);
       placed : IfSome l.clerk.base (IsLastCheckpoint (scene_of (setting_of g.R.Rules.table l.fn.stage.net.now) l.clerk) (take l.line-index l.line-items) l.clerk.receipts);

@@ -1,12 +1,12 @@
 use Rattle.std.proofs.Common.{◌<◌, ◌≤◌, length, sym, subst, ◌∙◌, arith}
 use Rattle.locked_net.specs.Nets.{book_of, setting_of}
-use Rattle.locked_net.specs.Receipts.{ClerkView, noted}
+use Rattle.locked_net.specs.Receipts.{ClerkView, front_of, noted}
 use Rattle.board.proofs.Fronts.{prefix_trans}
 use Rattle.storm_call.specs.Storm.{AreAbove}
 use Rattle.storm_call.specs.Turns.{DrawnFrom}
 use Rattle.storm_call.specs.Played.{Adds, scene_of}
-use Rattle.storm_call.proofs.Adding.{Above, gained, gains_above, grown, one_more}
-use Rattle.storm_call.proofs.Noted.{answered, of_book, may_follow}
+use Rattle.storm_call.proofs.Adding.{Above, gained, gains_above, one_more}
+use Rattle.storm_call.proofs.Noted.{answered, of_book}
 use Rattle.storm_call.proofs.Turning.{at_rest, breaks_off, taken, rested, turns_rested}
 use Rattle.storm_call.proofs.turns.take_turns.Goals as goal
 
@@ -17,14 +17,9 @@ returns-then-is_none-clause-ends g c =
     let told = c.in_ok-turn.ensures in
     let mid = c.loop.clerk in
     let new = c.turn.new.clerk in
-    let same = rested _ _ _ _ _ told.gains c.is_none.ensures c.if-is_none.true in
-    turns_rested setting taker.draws taker.fits taker.rests (taker.stream c.args.source.now) c.args.clerk.now.base c.args.count c.loop.counter (taker.stream c.loop.source) c.args.clerk.now.receipts mid new c.loop-test.true c.loop.invariant.took same
+    let same = rested _ mid new _ _ told.gains c.is_none.ensures c.if-is_none.true in
+    turns_rested setting taker.draws taker.fits taker.rests (taker.stream c.args.source.now) c.args.clerk.now.base c.args.count c.loop.counter (taker.stream c.loop.source) c.args.clerk.now.receipts mid new c.loop-test.true c.loop.invariant.took same told.grows
     (at_rest _ _ told.rests c.is_none.ensures c.if-is_none.true)
-
-pub follows-requires : goal.follows-requires
-follows-requires g c =
-    let has = answered _ _ _ c.in_ok-turn.ensures.note c.is_none.ensures c.if-is_none.false in
-    may_follow (book_of c.args.net.now) c.noted-before.result c.loop.clerk c.turn.new.clerk c.noted-before.ensures.note c.loop.invariant.note has
 
 pub loop-preserved : goal.loop-preserved
 loop-preserved g c =
@@ -38,11 +33,10 @@ loop-preserved g c =
     let base = c.args.clerk.now.base in
     let above = answered _ _ _ told.above c.is_none.ensures c.if-is_none.false in
     let gains = gains_above taker.fits mid new base c.loop.invariant.base (gained taker.fits mid new _ _ told.gains c.is_none.ensures c.if-is_none.false) above in
-    let grows = grown (Above taker.fits base) mid new c.noted-before.result c.noted-before.ensures.note c.noted-before.ensures.clerk gains c.follows.ensures.notes c.follows.ensures.clerk in
-    let has = answered _ _ _ told.note c.is_none.ensures c.if-is_none.false in
+    let grows = told.grows in
     record {
       took = one_more setting taker.draws (Above taker.fits base) (taker.stream c.args.source.now) left next c.loop.counter c.args.clerk.now.receipts mid new _ _ grows c.loop.invariant.took gains told.drawn c.is_none.ensures c.if-is_none.false;
-      note = of_book (book_of c.args.net.now) new has;
+      note = of_book (book_of c.args.net.now) new told.note;
       grows = prefix_trans (noted c.args.clerk.now.note) (noted mid.note) (noted new.note) c.loop.invariant.grows grows;
       base = c.turn.ensures.base ∙ c.loop.invariant.base;
     }
@@ -53,7 +47,7 @@ returns-clause-ends g c =
     let taker = g.S.TurnTaker in
     let words = taker.stream c.args.source.now in
     taken setting taker.draws taker.fits c.args.clerk.now.base words (taker.stream c.loop.source) c.loop.counter c.args.clerk.now.receipts c.loop.clerk c.loop.invariant.took
-    (λ own. (length own ≤ c.args.count) × DrawnFrom (scene_of setting c.loop.clerk) taker.draws words taker.fits own × (length own < c.args.count → taker.rests setting own))
+    (λ own. (length own ≤ c.args.count) × DrawnFrom (scene_of setting c.loop.clerk) taker.draws words taker.fits own × (length own < c.args.count → taker.rests (scene_of setting c.loop.clerk) (front_of c.args.clerk.now.receipts) own))
     (λ own as_many drawn. (omega (arith, as_many), drawn, λ less. absurd (omega (arith, as_many, less))))
 
 pub returns-in_err-turn-clause-ends : goal.returns-in_err-turn-clause-ends

@@ -24,7 +24,7 @@ invariant_of-self g c =
     let number : c.len-number.result ≡ last_number kept = c.len-number.ensures.number ∙ ap (λ (held : Held). last_number (kept_of held)) (sym c.self.view_is) in
     let is : made ≡ base_of (last_number kept) (moment_in kept) = c.in_ok-base.ensures.base ∙ ap (λ (n : ℕ). base_of n (moment_in kept)) number in
     let short : IsShort (Some (base_of (last_number kept) (moment_in kept))) = subst (λ (b : Base). IsShort (Some b)) is c.in_ok-base.ensures.few in
-    let over = c.new-2.result.over.items in
-    let there = checkpointed_is_journal t weight table charged laws.no_update kept c.self.invariant.is_kept short over c.new-2.ensures.over in
-    subst (λ (s : Start). IsJournal t weight (record { state = j.net.state; spent = j.net.spent; base = Some made; entries = c.new.result.items; limit = j.limit; present = j.present }) over s) (sym c.new-2.ensures.begun)
-    (subst (λ (k : Kept). IsJournal t weight k over Forgotten) (sym (ap₂ (λ (b : Base) (es : List Entry). record { state = j.net.state; spent = j.net.spent; base = Some b; entries = es; limit = j.limit; present = j.present }) is c.new.ensures.items)) there)
+    let over = c.new-epochs.result.over.items in
+    let there = checkpointed_is_journal t weight table charged laws.no_update kept c.self.invariant.is_kept short over c.new-epochs.ensures.over in
+    subst (λ (s : Start). IsJournal t weight (record { state = j.net.state; spent = j.net.spent; base = Some made; entries = c.new-entries.result.items; limit = j.limit; present = j.present }) over s) (sym c.new-epochs.ensures.begun)
+    (subst (λ (k : Kept). IsJournal t weight k over Forgotten) (sym (ap₂ (λ (b : Base) (es : List Entry). record { state = j.net.state; spent = j.net.spent; base = Some b; entries = es; limit = j.limit; present = j.present }) is c.new-entries.ensures.items)) there)

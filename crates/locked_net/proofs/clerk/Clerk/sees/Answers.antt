@@ -1,0 +1,12 @@
+use Rattle.std.proofs.Common.{refl, sym, subst}
+use mathlib.Core.List.{IsPrefix}
+use Rattle.locked_net.specs.Receipts.{ClerkView, noted}
+use Rattle.locked_net.proofs.Seeing.{sees_more}
+use Rattle.locked_net.proofs.clerk.Clerk.sees.Goals as goal
+
+pub invariant_of-self : goal.invariant_of-self
+invariant_of-self c =
+    let inside = c.self.inside in
+    let begins : IsPrefix (noted inside.note) c.args.other.log =
+    subst (λ (clerk : ClerkView). IsPrefix (noted clerk.note) c.args.other.log) (sym c.self.view_is) (c.if-begins.ensures.yes refl) in
+    sees_more (record { receipts = inside.receipts.items; note = inside.note; base = inside.base }) c.args.other c.self.invariant begins
