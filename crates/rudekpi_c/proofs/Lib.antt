@@ -9,5 +9,6 @@ pub mod Feeding
 pub mod Going
 pub mod Handing
 pub mod Judging
+pub mod Naming
 pub mod Partners
 pub mod Rowing
