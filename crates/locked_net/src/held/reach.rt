@@ -25,7 +25,7 @@ impl<R: Rules> HeldNet<'_, R> {
         ensures spares { IfOk result (λ seen. Spares R.table self.now.log.state self.now.log.spent event.now seen.nodes.items) }
         ensures note { IfOk result (λ seen. (seen.note.log ≡ self.now.log.entries) × (seen.note.book ≡ self.now.name.book)) }
     {
-        let nodes = self.desk.net().reach_of(event)?;
+        let nodes = self.desk.reach_of(event)?;
         Ok(SeenReach {
             nodes,
             note: self.desk.note(),
