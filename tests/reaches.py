@@ -1,4 +1,4 @@
-"""Who is at rest, and whom edits and faults reach, by the table of docs/BOUNDS.md, in a network that tests/costs keeps from entries."""
+"""Who is at rest, and whom edits and faults reach, by docs/BOUNDS.md; a network is that of tests/costs."""
 
 
 def lone(net, node):

@@ -8,6 +8,7 @@ pub mod Marks
 pub mod Desks
 pub mod Nets
 pub mod Looks
+pub mod Reaches
 pub mod Roaming
 pub mod Roamed
 pub mod Seen

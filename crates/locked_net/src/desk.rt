@@ -5,6 +5,7 @@ ghost use Rattle.graph_store.specs.Fault.{nodes_fault, Explains};
 ghost use Rattle.rule_machine.specs.declared.event.Event.TheVariants.{Step};
 ghost use Rattle.rule_engine.specs.Choosing.{verdicts_of};
 ghost use Rattle.rule_engine.specs.Costs.{cost_of, BoundsGrowth};
+ghost use Rattle.rule_engine.specs.Reached.{reach_of, Spares};
 ghost use Rattle.step_log.specs.declared.fault.RecordFault.TheVariants.{LogFull};
 ghost use Rattle.step_log.specs.Held.{IsReady, kept_of};
 ghost use Rattle.step_log.specs.Kept.{IsKept};
@@ -14,7 +15,7 @@ ghost use Rattle.locked_net.specs.Desks.{IsDesk, based, KeepsKey};
 
 use crate::SeenCost;
 use board::{Board, NoPlace, Note, Reader, Runs};
-use rule_engine::{Choice, Event, GraphFault, Net, Reply, Rules, Verdict, Want};
+use rule_engine::{Choice, Event, GraphFault, Net, Node, Reply, Rules, Verdict, Want};
 use std::alloc::{AllocError, Global};
 use std::marker::Model;
 use std::sync::Wait;
@@ -121,6 +122,14 @@ impl<R: Rules> Desk<R> {
             cost: self.journal.cost_of(event),
             note: self.note(),
         }
+    }
+
+    /// The nodes that an event would reach.
+    pub(crate) fn reach_of(&self, event: &Event) -> Result<Vec<Node>, Want>
+        ensures reach { IfOk result (λ list. list.items ≡ reach_of R.table self.now.log.state event.now) }
+        ensures spares { IfOk result (λ list. Spares R.table self.now.log.state self.now.log.spent event.now list.items) }
+    {
+        self.journal.reach_of(event)
     }
 
     /// Carries out an event, records it and publishes its entry. At a fault nothing has changed.

@@ -18,6 +18,7 @@ mod chosen;
 mod judged;
 mod lone;
 mod looks;
+mod reach;
 
 /// A network whose lock its holder has, who alone calls it until `free`. Contracts see what lies behind the lock: the whole log, with
 /// the entries that a checkpoint dropped, just as it is published; the base of what is kept of it; and the name of its board. It can't

@@ -10,5 +10,6 @@ pub mod Going
 pub mod Handing
 pub mod Joining
 pub mod Judging
+pub mod Naming
 pub mod Partners
 pub mod Rowing

@@ -1,0 +1,27 @@
+-- What a look behind a network's lock tells of who is at rest, and of whom an event would reach.
+use Rattle.std.specs.Prelude.{◌≡◌, ℕ, Bool, List}
+use Rattle.rule_machine.specs.declared.event.Event.{Event}
+use Rattle.containment_laws.specs.Rest.{is_at_rest}
+use Rattle.rule_engine.specs.Reached.{reach_of, Spares}
+use Rattle.logbook.specs.Pages.{Book}
+use Rattle.board.specs.Views.{Told}
+use Rattle.step_log.specs.Log.{Log}
+use Rattle.locked_net.specs.Settings.{Setting, IsLogIn}
+
+-- The log that lay behind the lock was just what the note tells, published in this history. In the state in which it ends the node is at
+-- rest, or is not.
+pub record IsRestSeen (setting : Setting) (book : Book) (v : ℕ) (rests : Bool) (note : Told) : Type 0 where
+  pub log : Log
+  pub own : IsLogIn setting log
+  pub published : note.log ≡ log.entries
+  pub in_book : note.book ≡ book
+  pub rests_is : rests ≡ is_at_rest setting.table.flags log.state v
+
+-- In that state the event would reach these nodes, and if it is accepted, whoever is at rest and not among them stays so.
+pub record IsReachSeen (setting : Setting) (book : Book) (event : Event) (reach : List ℕ) (note : Told) : Type 0 where
+  pub log : Log
+  pub own : IsLogIn setting log
+  pub published : note.log ≡ log.entries
+  pub in_book : note.book ≡ book
+  pub reaches : reach ≡ reach_of setting.table log.state event
+  pub spares : Spares setting.table log.state log.spent event reach
