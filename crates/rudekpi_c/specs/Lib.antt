@@ -9,3 +9,5 @@ pub mod Looked
 pub mod Session
 pub mod Slot
 pub mod Told
+pub mod Left
+pub mod Silenced

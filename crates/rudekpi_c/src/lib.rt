@@ -25,6 +25,7 @@ mod counted;
 mod follow;
 mod handle;
 mod judged;
+mod left;
 mod looks;
 mod parts;
 mod row;
