@@ -159,8 +159,8 @@ enum { RUDEKPI_UPDATE = 1, RUDEKPI_MARRY = 2, RUDEKPI_SEDUCE = 3, RUDEKPI_ABANDO
 size_t rudekpi_rows(struct rudekpi_slot *slot, struct rudekpi_row *out, size_t room);
 
 /* `drive seed count`, `scramble seed count`: up to so many steps of a seeded daemon, until nobody is enabled; so many seeded faults of
- * registers. Each turn adds an entry. DONE; LOG_FULL and NO_MEMORY, where the turns before stay; NO_SESSION; BAD_ARGUMENT above 1,000,000
- * turns. */
+ * registers. Each turn adds an entry. After a drive that is DONE, of at least as many steps as the charge was, nobody is enabled. DONE;
+ * LOG_FULL and NO_MEMORY, where the turns before stay; NO_SESSION; BAD_ARGUMENT above 1,000,000 turns. */
 uint32_t rudekpi_drive(struct rudekpi_slot *slot, uint64_t seed, uint32_t count, struct rudekpi_told *told);
 uint32_t rudekpi_scramble(struct rudekpi_slot *slot, uint64_t seed, uint32_t count, struct rudekpi_told *told);
 

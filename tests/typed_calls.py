@@ -46,6 +46,7 @@ def typed(library, slot):
         "rows": [ctypes.POINTER(Row), ctypes.c_size_t],
         "transcript": [ctypes.c_bool],
         "partner": [number, ctypes.POINTER(number)],
+        "moves_left": [ctypes.POINTER(number)],
     }.items():
         calls[name] = library[f"rudekpi_{name}"]
         calls[name].argtypes = [slot, *words]
@@ -164,3 +165,15 @@ def is_at_rest(calls, slot, node):
     if calls["is_at_rest"](slot, node, found) != DONE:
         raise ValueError(f"no answer whether {node} is at rest")
     return found.value
+
+
+def left(calls, slot):
+    """How many moves can still come, as the library says."""
+    found = ctypes.c_uint32(9)
+    status = calls["moves_left"](slot, ctypes.byref(found))
+    return found.value if not status else f"status {status}"
+
+
+def most_left(rules, charge, nodes):
+    """The smaller of the charge and, under the rules 0, n²/2 + n - 2 with the half rounded down; never below 0."""
+    return min(charge, max(0, nodes * nodes // 2 + nodes - 2)) if rules == 0 else charge

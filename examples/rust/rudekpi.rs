@@ -105,6 +105,7 @@ extern "C" {
     fn rudekpi_cost_of_leave(slot: *mut Slot, node: u32, cost: *mut u32) -> u32;
     fn rudekpi_cost_of_point(slot: *mut Slot, node: u32, target: u32, cost: *mut u32) -> u32;
     fn rudekpi_cost_of_flag(slot: *mut Slot, node: u32, value: bool, cost: *mut u32) -> u32;
+    fn rudekpi_moves_left(slot: *mut Slot, moves: *mut u32) -> u32;
     fn rudekpi_audit(bytes: *const u8, length: usize, verdict: *mut Verdict);
     fn rudekpi_audit_new(slot: *mut Slot) -> u32;
     fn rudekpi_audit_feed(slot: *mut Slot, bytes: *const u8, length: usize) -> u32;
@@ -197,6 +198,13 @@ impl Network {
             0 => Ok(cost),
             _ => Err(Fault::BadArgument),
         }
+    }
+
+    /// How many moves can still come before the next edit or fault, at most.
+    pub fn moves_left(&mut self) -> u32 {
+        let mut moves = 0;
+        unsafe { rudekpi_moves_left(&mut *self.slot, &mut moves) };
+        moves
     }
 
     /// A fault writes a node's pointer.

@@ -88,5 +88,15 @@ class Bounds(Timed):
                 self.assertEqual((found.moves, found.bound), (n * n // 2 + n - 2,) * 2)
 
 
+class Drives(Timed):
+    def test_as_many_turns_as_the_charge_end_silent(self):
+        for rules in ("hh", "manne"):
+            for seed in range(6):
+                with self.subTest(rules=rules, seed=seed), linked(rules, graphs.gnp(8, 0.5, seed)) as net:
+                    net.scramble(seed, 20)
+                    net.drive(seed, net.status().charge)
+                    self.assertEqual(net.enabled(), {})
+
+
 if __name__ == "__main__":
     unittest.main()

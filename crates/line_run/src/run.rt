@@ -1,8 +1,11 @@
 //! A run under one set of rules.
 
-ghost use Rattle.std.specs.Prelude.{◌≡◌, ◌≤◌, IfOk, IfSome, IsTrue, OnErr, OnOk, min};
+ghost use Rattle.std.specs.Prelude.{◌≡◌, ◌≤◌, [], None, Ok, IfOk, IfSome, IsTrue, OnErr, OnOk, min};
 ghost use Rattle.line_text.specs.EventText.{event_text};
 ghost use Rattle.rule_machine.specs.Least.{reply_of};
+ghost use Rattle.rule_machine.specs.RuleTable.{enabled_names};
+ghost use Rattle.script_text.specs.declared.command.Command.TheVariants.{Drive};
+ghost use Rattle.script_text.specs.declared.command.Turns.{Turns};
 ghost use Rattle.script_text.specs.Command.{Says};
 ghost use Rattle.script_text.specs.Script.{checkpointed};
 ghost use Rattle.seeded_turns.specs.Drawn.{seeded_stream, drawn_step, drawn_fault};
@@ -101,8 +104,11 @@ impl<R: Rules> Run<R> {
     /// a turn meets a full log, before the daemon is asked. At want of memory some first turns were taken, whole.
     pub fn drive(&mut self, alloc: Global, turns: Turns) -> Result<bool, Want>
         ensures ends { TurnsEnd drawn_step R.table self.old.recorder.limit turns.count (seeded_stream turns.seed) (progress_of self.old) (progress_of self.new) result }
+        ensures silent { IfOk result (λ done. IsTrue done → R.table.charge self.old.recorder.state ≤ turns.count → enabled_names R.table self.new.recorder.state ≡ []) }
         ensures limit { self.new.recorder.limit ≡ self.old.recorder.limit }
     {
+        // By its contract the state is sound.
+        let _ = self.recorder.net().registers();
         let mut daemon = DaemonTurns::new(alloc, turns.seed);
         self.take_turns(&mut daemon, turns.count)
     }
@@ -159,8 +165,11 @@ impl<R: Rules> Run<R> {
         line: &[u8],
     ) -> Result<Option<Stop>, Want>
         ensures ends { LineEnds R.table self.old.recorder.limit number line.now (progress_of self.old) (progress_of self.new) result }
+        ensures silent { (turns : Turns) → Says line.now (Drive turns) → result ≡ Ok None → R.table.charge self.old.recorder.state ≤ turns.count → enabled_names R.table self.new.recorder.state ≡ [] }
         ensures limit { self.new.recorder.limit ≡ self.old.recorder.limit }
     {
+        // By its contract the state is sound.
+        let _ = self.recorder.net().registers();
         if line.is_empty() {
             return Ok(None);
         }

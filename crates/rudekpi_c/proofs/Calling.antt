@@ -1,5 +1,5 @@
 -- What a command has done to a session that C keeps.
-use Rattle.std.proofs.Common.{◌≡◌, ◌∙◌, ℕ, Bool, true, false, Option, Result, Ok, Err, Some, inl, inr, refl, sym, ap, subst}
+use Rattle.std.proofs.Common.{◌≡◌, ◌∙◌, ℕ, Bool, true, false, Option, Result, Ok, Err, Some, IfOk, IsTrue, inl, inr, refl, sym, ap, subst, arith}
 use Rattle.rule_machine.specs.declared.reply.Reply.{Reply}
 use Rattle.rule_machine.specs.RuleTable.{RuleTable}
 use Rattle.rule_machine.specs.Tables.{table_of}
@@ -10,6 +10,7 @@ use Rattle.line_run.specs.Line.{CommandEnds}
 use Rattle.rudekpi_c.specs.declared.session.Session.{Session}
 use Rattle.rudekpi_c.specs.declared.told.Told.{Told}
 use Rattle.rudekpi_c.specs.Session.{stands, rules_of, limit_of, GoesOn, CommandEnded}
+use Rattle.rudekpi_c.specs.Silenced.{Silences}
 use Rattle.rudekpi_c.specs.Slot.{IsPutBack}
 use Rattle.rudekpi_c.specs.Told.{told_of, entry_status}
 use Rattle.rudekpi_c.specs.Called.{Called, Follows, number_at, reply_kept, command_status}
@@ -22,6 +23,13 @@ follows_of t limit command number reply before after (Ok true) does n r = inl (a
 follows_of t limit command number reply before after (Ok false) fills n r = inr (inl (refl, fills, n, r))
 follows_of t limit command number reply before after (Err want) begun n r = inr (inr (refl, begun, n, r))
 
+-- a command that was answered DONE was followed
+silenced : {E : Type 0} (t : RuleTable) (command : Command) (reply : Reply) (before after : Progress) (result : Result Bool E) → command_status reply result ≡ 0
+    → IfOk result (λ done. IsTrue done → Silences t command before.moment.state after.moment.state) → Silences t command before.moment.state after.moment.state
+silenced t command reply before after (Ok true) zero silent = silent refl
+silenced t command reply before after (Ok false) zero silent = absurd (omega (arith, zero))
+silenced t command reply before after (Err want) zero silent = absurd (omega (arith, zero))
+
 -- the session `from` was taken out, has followed a command and is put back
 pub record Heard (command : Command) (E : Type 0) (old new : Option Session) (result : Result Bool E) : Type 0 where
   pub from : Session
@@ -30,6 +38,7 @@ pub record Heard (command : Command) (E : Type 0) (old new : Option Session) (re
   pub was : old ≡ Some from
   pub same : borrowed ≡ from
   pub ends : CommandEnded {E = E} (rules_of borrowed) (limit_of borrowed) command (stands borrowed) (stands followed) result
+  pub silent : IfOk result (λ done. IsTrue done → Silences (table_of (rules_of borrowed)) command (stands borrowed).moment.state (stands followed).moment.state)
   pub number : followed.answer.seq ≡ number_at command (stands followed).count result
   pub reply : followed.answer.reply ≡ reply_kept (table_of (rules_of borrowed)) command (stands borrowed) result
   pub goes_on : GoesOn borrowed followed
@@ -59,6 +68,8 @@ was_called {command} {E} {status} {told} {old} {new} {result} good heard status_
         lines = heard.back.lines_is ∙ heard.lines ∙ ap (λ (s : Session). s.lines) heard.same;
         after = stands heard.followed;
         follows = subst (λ n. Follows t (limit_of heard.from) command n to.answer.seq to.answer.reply (stands heard.from) (stands heard.followed)) (sym told_status) follows;
+        silent = λ zero. silenced t command to.answer.reply (stands heard.from) (stands heard.followed) result (sym told_status ∙ zero)
+            (subst (λ (s : Session). IfOk result (λ done. IsTrue done → Silences (table_of (rules_of s)) command (stands s).moment.state (stands heard.followed).moment.state)) heard.same heard.silent);
         stands_is = heard.back.stands_is;
         told_is = told_is ∙ ap (λ a. told_of a.seq a.reply) (sym answer);
       },

@@ -1,11 +1,13 @@
 -- What a line has done to a session that C keeps.
-use Rattle.std.proofs.Common.{◌≡◌, ◌∙◌, ◌+◌, ◌-◌, ◌^◌, ℕ, List, Option, Result, Ok, Err, None, Some, inl, inr, refl, sym, ap, subst}
+use Rattle.std.proofs.Common.{◌≡◌, ◌∙◌, ◌+◌, ◌-◌, ◌^◌, ℕ, List, Option, Result, Ok, Err, None, Some, inl, inr, refl, sym, ap, subst, arith}
 use Rattle.std.specs.Prelude.{min}
+use Rattle.rule_machine.specs.Tables.{table_of}
 use Rattle.script_text.specs.Script.{Progress}
 use Rattle.line_run.specs.declared.stop.Stop.{Stop}
 use Rattle.line_run.specs.declared.stop.Stop.TheVariants.{BadLine, LogFull}
 use Rattle.rudekpi_c.specs.declared.session.Session.{Session}
 use Rattle.rudekpi_c.specs.Session.{stands, rules_of, limit_of, GoesOn, LineEnded}
+use Rattle.rudekpi_c.specs.Silenced.{LineSilences}
 use Rattle.rudekpi_c.specs.Slot.{Does, Fed, IsPutBack, line_status}
 use Rattle.rudekpi_c.proofs.Going.{goes_from, goes_further}
 
@@ -17,6 +19,7 @@ pub record Turn (line : List ℕ) (number : ℕ) (E : Type 0) (old new : Option 
   pub was : old ≡ Some from
   pub same : borrowed ≡ from
   pub ends : LineEnded {E = E} (rules_of borrowed) (limit_of borrowed) fed.lines line (stands borrowed) (stands fed) result
+  pub silent : result ≡ Ok None → LineSilences (table_of (rules_of borrowed)) line (stands borrowed).moment.state (stands fed).moment.state
   pub lines : fed.lines ≡ min (borrowed.lines + 1) (2 ^ 64 - 1)
   pub goes_on : GoesOn borrowed fed
   pub answer : fed.answer ≡ borrowed.answer
@@ -28,6 +31,12 @@ does_of line number s after (Ok None) does = inl (refl, does)
 does_of line number s after (Ok (Some (BadLine n))) bad = inr (inl (refl, bad.1, bad.2))
 does_of line number s after (Ok (Some LogFull)) full = inr (inr (inl (refl, full)))
 does_of line number s after (Err want) begun = inr (inr (inr (refl, begun)))
+
+carried_out : {E : Type 0} (result : Result (Option Stop) E) → line_status result ≡ 0 → result ≡ Ok None
+carried_out (Ok None) zero = refl
+carried_out (Ok (Some (BadLine n))) zero = absurd (omega (arith, zero))
+carried_out (Ok (Some LogFull)) zero = absurd (omega (arith, zero))
+carried_out (Err want) zero = absurd (omega (arith, zero))
 
 pub was_fed : {line : List ℕ} {was number status : ℕ} {E : Type 0} {old new : Option Session} {result : Result (Option Stop) E} → Turn line number E old new result → status ≡ line_status result → Fed line was status number old new
 was_fed {line} {was} {number} {status} {E} {old} {new} {result} turn told =
@@ -47,5 +56,6 @@ was_fed {line} {was} {number} {status} {E} {old} {new} {result} turn told =
       };
       after = stands turn.fed;
       does = subst (λ n. Does line n turn.from (stands turn.fed)) (sym told) does;
+      silent = λ zero. subst (λ (s : Session). LineSilences (table_of (rules_of s)) line (stands s).moment.state (stands turn.fed).moment.state) turn.same (turn.silent (carried_out result (sym told ∙ zero)));
       stands_is = turn.back.stands_is;
     })

@@ -14,6 +14,7 @@ use Rattle.script_text.specs.Command.{IsCommand}
 use Rattle.script_text.specs.Script.{Progress, CommandDoes, CommandFills}
 use Rattle.line_run.specs.Line.{CommandBegins}
 use Rattle.rudekpi_c.specs.Session.{stands, rules_of, limit_of, shown, GoesOn}
+use Rattle.rudekpi_c.specs.Silenced.{Silences}
 use Rattle.rudekpi_c.specs.Slot.{IsNobody}
 use Rattle.rudekpi_c.specs.Told.{told_of, untold, entry_status}
 use Rattle.rudekpi_c.specs.declared.asked.Chosen.{Chosen}
@@ -80,6 +81,7 @@ pub record IsCalled (command : Command) (status : ℕ) (told : Told) (old new : 
   pub lines : t.lines ≡ s.lines
   pub after : Progress
   pub follows : Follows (table_of (rules_of s)) (limit_of s) command status t.answer.seq t.answer.reply (stands s) after
+  pub silent : status ≡ 0 → Silences (table_of (rules_of s)) command (stands s).moment.state after.moment.state
   pub stands_is : stands t ≡ shown t.keeps after
   pub told_is : told ≡ told_of t.answer.seq t.answer.reply
 

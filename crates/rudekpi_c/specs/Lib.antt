@@ -11,3 +11,5 @@ pub mod Reached
 pub mod Session
 pub mod Slot
 pub mod Told
+pub mod Left
+pub mod Silenced

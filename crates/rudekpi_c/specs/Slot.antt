@@ -10,6 +10,7 @@ use Rattle.line_run.specs.Line.{LineBegins}
 use Rattle.line_run.specs.declared.stop.Stop.{Stop}
 use Rattle.line_run.specs.declared.stop.Stop.TheVariants.{BadLine, LogFull}
 use Rattle.rudekpi_c.specs.Session.{stands, rules_of, limit_of, shown, GoesOn}
+use Rattle.rudekpi_c.specs.Silenced.{LineSilences}
 use Rattle.rudekpi_c.specs.declared.session.Session.{Session}
 
 -- 0 names the rules of Hsu and Huang, any other number those of Manne and others
@@ -79,6 +80,7 @@ pub record IsFed (line : List ℕ) (status number : ℕ) (old new : Option Sessi
   pub next : IsNext number s t
   pub after : Progress
   pub does : Does line status s after
+  pub silent : status ≡ 0 → LineSilences (table_of (rules_of s)) line (stands s).moment.state after.moment.state
   pub stands_is : stands t ≡ shown t.keeps after
 
 -- there was none

@@ -1,6 +1,6 @@
 //! What a run does with a command.
 
-ghost use Rattle.std.specs.Prelude.{◌≡◌};
+ghost use Rattle.std.specs.Prelude.{◌≡◌, IfOk, IsTrue};
 ghost use Rattle.rule_engine.specs.Costs.{cost_of};
 ghost use Rattle.rule_machine.specs.State.{partner, pointer_of};
 ghost use Rattle.line_run.specs.Line.{moment_of, progress_of, CommandEnds};
@@ -8,6 +8,7 @@ ghost use Rattle.rule_machine.specs.declared.reply.Reply.TheVariants.{Accepted};
 ghost use Rattle.script_text.specs.declared.command.Command.TheVariants.{Tell, Checkpoint};
 ghost use Rattle.rudekpi_c.specs.Called.{number_at, reply_kept};
 ghost use Rattle.rudekpi_c.specs.Costed.{GrowsBy};
+ghost use Rattle.rudekpi_c.specs.Silenced.{Silences};
 
 use line_run::Run;
 use registers::Registers;
@@ -67,6 +68,7 @@ pub(crate) fn follow<R: Rules>(
     answer: &mut Answer,
 ) -> Result<bool, Want>
     ensures ends { CommandEnds R.table run.old.recorder.limit command.now (progress_of run.old) (progress_of run.new) result }
+    ensures silent { IfOk result (λ done. IsTrue done → Silences R.table command.now run.old.recorder.state run.new.recorder.state) }
     ensures number { answer.new.seq ≡ number_at command.now run.new.recorder.len result }
     ensures reply { answer.new.reply ≡ reply_kept R.table command.now (progress_of run.old) result }
     ensures limit { run.new.recorder.limit ≡ run.old.recorder.limit }

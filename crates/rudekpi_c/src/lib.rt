@@ -26,6 +26,7 @@ mod follow;
 mod handle;
 mod joined;
 mod judged;
+mod left;
 mod looks;
 mod parts;
 mod reach;

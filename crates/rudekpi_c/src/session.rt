@@ -1,15 +1,18 @@
 //! A session: a network, and the run of what it is told.
 
-ghost use Rattle.std.specs.Prelude.{◌≡◌, ◌≤◌, ◌+◌, ◌^◌, ◌-◌, true, false, IfOk, min};
+ghost use Rattle.std.specs.Prelude.{◌≡◌, ◌≤◌, ◌+◌, ◌^◌, ◌-◌, true, false, None, Ok, IfOk, IsTrue, min};
 ghost use Rattle.line_run.specs.Beginning.{beginning};
 ghost use Rattle.rule_machine.specs.declared.reply.Reply.TheVariants.{Accepted};
 ghost use Rattle.rule_machine.specs.State.{partner};
 ghost use Rattle.rule_machine.specs.Tables.{table_of};
 ghost use Rattle.rudekpi_c.specs.Called.{number_at, reply_kept};
 ghost use Rattle.rudekpi_c.specs.Costed.{cost_at, GrowsBy};
+ghost use Rattle.rudekpi_c.specs.Left.{left_at, IsMost};
+ghost use Rattle.rudekpi_c.specs.Silenced.{LineSilences, Silences};
 ghost use Rattle.rudekpi_c.specs.Session.{stands, limit_of, rules_of, shown, LineEnded, CommandEnded};
 
 use crate::follow::{cost_of, follow, partner, unanswered};
+use crate::left::moves_left;
 use line_run::{Run, Stop};
 use rule_machine::{Event, Node, RuleSet, Want};
 use rules_hsu_huang::HsuHuang;
@@ -67,6 +70,7 @@ impl Session {
     /// Carries out a line, which has the number that the session gives it.
     pub(crate) fn feed(&mut self, alloc: Global, line: &[u8]) -> Result<Option<Stop>, Want>
         ensures ends { LineEnded (rules_of self.old) (limit_of self.old) self.new.lines line.now (stands self.old) (stands self.new) result }
+        ensures silent { result ≡ Ok None → LineSilences (table_of (rules_of self.old)) line.now (stands self.old).moment.state (stands self.new).moment.state }
         ensures lines { self.new.lines ≡ min (self.old.lines + 1) (2 ^ 64 - 1) }
         ensures rules { rules_of self.new ≡ rules_of self.old }
         ensures limit { limit_of self.new ≡ limit_of self.old }
@@ -83,6 +87,7 @@ impl Session {
     /// Follows a command, and keeps the answer to it.
     pub(crate) fn follow(&mut self, alloc: Global, command: &Command) -> Result<bool, Want>
         ensures ends { CommandEnded (rules_of self.old) (limit_of self.old) command.now (stands self.old) (stands self.new) result }
+        ensures silent { IfOk result (λ done. IsTrue done → Silences (table_of (rules_of self.old)) command.now (stands self.old).moment.state (stands self.new).moment.state) }
         ensures number { self.new.answer.seq ≡ number_at command.now (stands self.new).count result }
         ensures reply { self.new.answer.reply ≡ reply_kept (table_of (rules_of self.old)) command.now (stands self.old) result }
         ensures rules { rules_of self.new ≡ rules_of self.old }
@@ -114,6 +119,18 @@ impl Session {
         match &self.machine {
             Machine::Hh(run) => cost_of(run, event),
             Machine::Manne(run) => cost_of(run, event),
+        }
+    }
+
+    /// How many moves can still come where the session stands.
+    pub(crate) fn moves_left(&mut self) -> u32
+        ensures value { result ≡ left_at self.old }
+        ensures promise { IsMost (table_of (rules_of self.old)) (stands self.old).moment result }
+        ensures kept { self.new ≡ self.old }
+    {
+        match &mut self.machine {
+            Machine::Hh(run) => moves_left(run),
+            Machine::Manne(run) => moves_left(run),
         }
     }
 

@@ -20,6 +20,7 @@ returns c asked given =
       was = c.in-Some-take.ensures.some;
       same = c.deref_mut.ensures.value;
       ends = c.follow-done.ensures.ends;
+      silent = c.follow-done.ensures.silent;
       number = c.follow-done.ensures.number;
       reply = c.follow-done.ensures.reply;
       goes_on = record { rules = c.follow-done.ensures.rules; limit = c.follow-done.ensures.limit; keeps = c.follow-done.ensures.keeps };

@@ -1,4 +1,4 @@
-use Rattle.std.proofs.Common.{◌∙◌, inr, refl, sym, ap}
+use Rattle.std.proofs.Common.{◌∙◌, inr, refl, sym, ap, arith}
 use Rattle.rudekpi_c.specs.declared.session.Session.{Session}
 use Rattle.rudekpi_c.specs.Session.{stands, shown}
 use Rattle.rudekpi_c.specs.Told.{told_of}
@@ -23,6 +23,7 @@ returns c event good =
         lines = back.lines_is ∙ forgot.lines ∙ ap (λ (s : Session). s.lines) same;
         after = stands c.in-Some.session.value;
         follows = inr (inr (refl, refl, number, reply));
+        silent = λ zero. absurd (omega (arith, zero));
         stands_is = back.stands_is ∙ ap (shown back.t.keeps) (forgot.stands ∙ ap stands same);
         told_is = c.nothing.ensures ∙ sym (ap (λ n. told_of n back.t.answer.reply) number ∙ ap (told_of 0) reply);
       },

@@ -12,6 +12,7 @@ returns c =
       was = c.in-Some.ensures.some;
       same = c.deref_mut.ensures.value;
       ends = c.feed-done.ensures.ends;
+      silent = c.feed-done.ensures.silent;
       lines = c.feed-done.ensures.lines;
       goes_on = record { rules = c.feed-done.ensures.rules; limit = c.feed-done.ensures.limit; keeps = c.feed-done.ensures.keeps };
       answer = c.feed-done.ensures.answer;

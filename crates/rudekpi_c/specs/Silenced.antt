@@ -1,0 +1,17 @@
+-- After a drive of as many turns as the charge nobody is enabled.
+use Rattle.std.specs.Prelude.{◌≡◌, ℕ, ◌≤◌, [], List}
+use Rattle.rule_machine.specs.RuleTable.{RuleTable, enabled_names}
+use Rattle.rule_machine.specs.State.{State}
+use Rattle.script_text.specs.declared.command.Command.{Command}
+use Rattle.script_text.specs.declared.command.Command.TheVariants.{Drive}
+use Rattle.script_text.specs.declared.command.Turns.{Turns}
+use Rattle.script_text.specs.Command.{Says}
+
+-- what a command that was followed leaves: nobody enabled, if it drove as many turns as the charge was
+abbrev pub Silences : RuleTable → Command → State → State → Type 0
+Silences t (Drive turns) before after = t.charge before ≤ turns.count → enabled_names t after ≡ []
+Silences t other before after = Unit {0}
+
+-- and a line that says such a command
+abbrev pub LineSilences : RuleTable → List ℕ → State → State → Type 0
+LineSilences t line before after = (turns : Turns) → Says line (Drive turns) → t.charge before ≤ turns.count → enabled_names t after ≡ []

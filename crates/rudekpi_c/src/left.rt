@@ -1,0 +1,36 @@
+//! How many moves can still come where a session stands. No entry is added.
+
+ghost use Rattle.std.specs.Prelude.{◌≡◌};
+ghost use Rattle.rule_machine.specs.Network.{node_count};
+ghost use Rattle.node_bound.specs.MovesLeft.{moves_left, BoundsMoves};
+ghost use Rattle.rudekpi_c.specs.Left.{Left};
+
+use crate::slot::Slot;
+use crate::status::{DONE, NO_SESSION};
+use line_run::Run;
+use rule_engine::NodeBound;
+use std::alloc::Global;
+
+/// How many moves can still come where a run stands.
+pub(crate) fn moves_left<R: NodeBound>(run: &mut Run<R>) -> u32
+    ensures value { result ≡ moves_left (R.table.charge run.old.recorder.state) (R.most (node_count run.old.recorder.state.network)) }
+    ensures promise { BoundsMoves R.table run.old.recorder.state run.old.recorder.spent result }
+    ensures kept { run.new ≡ run.old }
+{
+    run.recorder.moves_left()
+}
+
+/// Writes how many moves can still come before the next edit or fault that is accepted: at most this many. Answers 4 if there is no session.
+#[unsafe(no_mangle)]
+pub extern "C" fn rudekpi_moves_left(alloc: Global, slot: &mut Slot, moves: &mut u32) -> u32
+    ensures left { Left result moves.new slot.old.handle.value }
+    ensures kept { slot.new.handle.value ≡ slot.old.handle.value }
+{
+    *moves = 0;
+    let Some(mut session) = slot.take(alloc) else {
+        return NO_SESSION;
+    };
+    *moves = session.moves_left();
+    slot.put(session);
+    DONE
+}
