@@ -1,0 +1,23 @@
+//! By how much one disturbance changes a silent network, whatever the daemon chooses.
+
+ghost use Rattle.rule_machine.specs.HsuHuang.{hsu_huang};
+ghost use Rattle.rule_machine.specs.Manne.{manne};
+ghost use Rattle.silence_laws.specs.Laws.{FewAreGained, FewAreLost, ManneMovesArePaid};
+
+/// After one disturbance of a stable network there is at most one pair more: only if an edge comes between two unmarried nodes, the edge of
+/// a pair goes, or the pointer of a paired node is written anew.
+pub fn few_are_gained()
+    ensures hsu_huang { FewAreGained hsu_huang }
+    ensures manne { FewAreGained manne }
+{}
+
+/// Once it is stable again there is at most one pair fewer: only if the edge of a pair goes, or one of its nodes.
+pub fn few_are_lost()
+    ensures hsu_huang { FewAreLost hsu_huang }
+    ensures manne { FewAreLost manne }
+{}
+
+/// By the rules of Manne and others the moves after it are no more than its cost, and two if a pair may come, and one for a node that goes.
+pub fn manne_moves_are_paid()
+    ensures { ManneMovesArePaid }
+{}
