@@ -1,8 +1,7 @@
 -- What a joined verdict says.
-use Rattle.std.proofs.Common.{◌≡◌, ◌≤◌, ◌⊎◌, ◌++◌, ◌∙◌, ℕ, List, Option, None, Some, IfSome, IsNone, Result, Ok, Err, inl, inr, refl, sym, ap, subst, arith}
+use Rattle.std.proofs.Common.{◌≡◌, ◌⊎◌, ◌++◌, ◌∙◌, ℕ, List, Ok, Err, inl, inr, refl, sym, ap, subst}
 use Rattle.auditor.specs.declared.damage.Damage.{Damage}
 use Rattle.auditor.specs.declared.damage.Damage.TheVariants.{BadHeader, NotALine, OutOfOrder, NotTheMachines, BadBase}
-use Rattle.auditor.specs.declared.damage.JudgeFault.{JudgeFault}
 use Rattle.auditor.specs.declared.damage.JudgeFault.TheVariants.{Damaged, Memory}
 use Rattle.auditor.specs.declared.summary.Summary.{Summary}
 use Rattle.auditor.specs.Damage.{IsDamage, line_feeds}
@@ -12,7 +11,7 @@ use Rattle.auditor.proofs.Exact.{judged_accepts, judged_names}
 use Rattle.audit_parts.specs.Fits.{AreLinesBefore, Fits}
 use Rattle.audit_parts.specs.Seams as seams
 use Rattle.rudekpi_c.specs.declared.judged.Verdict.{Verdict}
-use Rattle.rudekpi_c.specs.Joined.{AuditJoined, IsJoined, IsUnjoined, said_by}
+use Rattle.rudekpi_c.specs.Joined.{IsJoined, IsUnjoined, said_by}
 use Rattle.rudekpi_c.specs.Judged.{JudgedAs, accepted, damaged, unjudged, verdict_of}
 use Rattle.rudekpi_c.proofs.Judging.{judged_as}
 
