@@ -1,9 +1,10 @@
 -- What is claimed of one disturbance of a silent network, for a table of rules. The functions of src/law.rt have these as their contracts.
-use Rattle.std.specs.Prelude.{ℕ, ◌+◌, ◌*◌, ◌≤◌, List, length}
+use Rattle.std.specs.Prelude.{ℕ, ◌+◌, ◌*◌, ◌≤◌, List, length, false}
 use Rattle.rule_machine.specs.declared.event.Event.{Event}
 use Rattle.rule_machine.specs.declared.reply.Reply.TheVariants.{Accepted}
 use Rattle.rule_machine.specs.State.{State, IsState}
 use Rattle.rule_machine.specs.RuleTable.{RuleTable}
+use Rattle.rule_machine.specs.HsuHuang.{hsu_huang}
 use Rattle.rule_machine.specs.Manne.{manne}
 use Rattle.rule_machine.specs.Stable.{IsStable, mutual_pairs}
 use Rattle.rule_machine.specs.Answer.{Answers}
@@ -11,6 +12,7 @@ use Rattle.rule_machine.specs.Run.{Entry, Moment, Run}
 use Rattle.charge_laws.specs.Charged.{IsUndisturbed, moves_in}
 use Rattle.charge_laws.specs.Costs.{manne_cost}
 use Rattle.silence_laws.specs.Changes.{most_gained, most_lost, nodes_gone}
+use Rattle.silence_laws.specs.Costs.{silent_cost}
 
 -- After one disturbance of a stable network, whatever the daemon chooses: no more pairs come than that.
 abbrev pub FewAreGained : RuleTable → Type 0
@@ -32,3 +34,10 @@ ManneMovesArePaid =
     (s : State) → IsState s → IsStable manne.flags s → (spent : ℕ) (event : Event) (after : State) → Answers manne s spent event Accepted after
     → (log : List Entry) (end : Moment) → Run manne (record { state = after; spent = 0 }) log end → IsUndisturbed log
     → moves_in log ≤ manne_cost s event + 2 * most_gained s event + nodes_gone event
+
+-- By the rules of Hsu and Huang the moves after it are no more than this cost, by the unmarried neighbours of who is parted.
+abbrev pub SilentCostPays : Type 0
+SilentCostPays =
+    (s : State) → IsState s → IsStable false s → (spent : ℕ) (event : Event) (after : State) → Answers hsu_huang s spent event Accepted after
+    → (log : List Entry) (end : Moment) → Run hsu_huang (record { state = after; spent = 0 }) log end → IsUndisturbed log
+    → moves_in log ≤ silent_cost s event

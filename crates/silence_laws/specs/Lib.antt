@@ -1,4 +1,6 @@
 pub mod Changes
+pub mod Costs
 pub mod Laws
 pub mod Gained
 pub mod Left
+pub mod Cheaper

@@ -12,4 +12,4 @@
 
 mod law;
 
-pub use law::{few_are_gained, few_are_lost, manne_moves_are_paid};
+pub use law::{few_are_gained, few_are_lost, manne_moves_are_paid, silent_cost_pays};
