@@ -1,8 +1,9 @@
 -- What is claimed of one disturbance of a silent network, for a table of rules. The functions of src/law.rt have these as their contracts.
-use Rattle.std.specs.Prelude.{ℕ, ◌+◌, ◌*◌, ◌≤◌, List, length, false}
+use Rattle.std.specs.Prelude.{◌≡◌, ℕ, ◌+◌, ◌*◌, ◌≤◌, List, length, false}
 use Rattle.rule_machine.specs.declared.event.Event.{Event}
+use Rattle.rule_machine.specs.declared.event.Event.TheVariants.{Point}
 use Rattle.rule_machine.specs.declared.reply.Reply.TheVariants.{Accepted}
-use Rattle.rule_machine.specs.State.{State, IsState}
+use Rattle.rule_machine.specs.State.{State, IsState, pointer}
 use Rattle.rule_machine.specs.RuleTable.{RuleTable}
 use Rattle.rule_machine.specs.HsuHuang.{hsu_huang}
 use Rattle.rule_machine.specs.Manne.{manne}
@@ -10,7 +11,7 @@ use Rattle.rule_machine.specs.Stable.{IsStable, mutual_pairs}
 use Rattle.rule_machine.specs.Answer.{Answers}
 use Rattle.rule_machine.specs.Run.{Entry, Moment, Run}
 use Rattle.charge_laws.specs.Charged.{IsUndisturbed, moves_in}
-use Rattle.charge_laws.specs.Costs.{manne_cost}
+use Rattle.charge_laws.specs.Costs.{hsu_huang_cost, manne_cost}
 use Rattle.silence_laws.specs.Changes.{most_gained, most_lost, nodes_gone}
 use Rattle.silence_laws.specs.Costs.{silent_cost}
 
@@ -41,3 +42,13 @@ SilentCostPays =
     (s : State) → IsState s → IsStable false s → (spent : ℕ) (event : Event) (after : State) → Answers hsu_huang s spent event Accepted after
     → (log : List Entry) (end : Moment) → Run hsu_huang (record { state = after; spent = 0 }) log end → IsUndisturbed log
     → moves_in log ≤ silent_cost s event
+
+-- And that cost is no more than the table of costs says.
+abbrev pub SilentCostIsLess : Type 0
+SilentCostIsLess =
+    (s : State) → IsState s → IsStable false s → (event : Event) → silent_cost s event ≤ hsu_huang_cost s event
+
+-- To write the pointer that is there changes nothing, from any state.
+abbrev pub RewritingChangesNothing : Type 0
+RewritingChangesNothing =
+    (t : RuleTable) (s : State) (spent : ℕ) (v : ℕ) (after : State) → Answers t s spent (Point v (pointer s v)) Accepted after → after ≡ s

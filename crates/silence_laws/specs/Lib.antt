@@ -4,3 +4,4 @@ pub mod Laws
 pub mod Gained
 pub mod Left
 pub mod Cheaper
+pub mod Less

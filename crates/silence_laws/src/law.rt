@@ -2,7 +2,7 @@
 
 ghost use Rattle.rule_machine.specs.HsuHuang.{hsu_huang};
 ghost use Rattle.rule_machine.specs.Manne.{manne};
-ghost use Rattle.silence_laws.specs.Laws.{FewAreGained, FewAreLost, ManneMovesArePaid, SilentCostPays};
+ghost use Rattle.silence_laws.specs.Laws.{FewAreGained, FewAreLost, ManneMovesArePaid, RewritingChangesNothing, SilentCostIsLess, SilentCostPays};
 
 /// After one disturbance of a stable network there is at most one pair more: only if an edge comes between two unmarried nodes, the edge of
 /// a pair goes, or the pointer of a paired node is written anew.
@@ -25,5 +25,11 @@ pub fn manne_moves_are_paid()
 /// By the rules of Hsu and Huang the moves after it are no more than 2 for each unmarried neighbour of a node that is parted from its
 /// partner, if an edge or a node goes; else no more than its cost.
 pub fn silent_cost_pays()
-    ensures { SilentCostPays }
+    ensures pays { SilentCostPays }
+    ensures less { SilentCostIsLess }
+{}
+
+/// To write the pointer that is there changes nothing, from any state.
+pub fn rewriting_changes_nothing()
+    ensures { RewritingChangesNothing }
 {}
