@@ -40,9 +40,13 @@ use Rattle.containment_laws.specs.Reach.{is_parted}
 use Rattle.silence_laws.specs.Costs.{silent_cost, single_neighbours, single_neighbours_at}
 use Rattle.silence_laws.specs.Laws.{SilentCostPays}
 
+-- an edge of a node whose other end passes a test
+abbrev pub is_edge_to : (ℕ → Bool) → ℕ → ℕ × ℕ → Bool
+is_edge_to p v e = (nat_eq e.0 v && p e.1) || (nat_eq e.1 v && p e.0)
+
 -- an edge of a node whose other end is unmarried
 abbrev pub is_single_edge : State → ℕ → ℕ × ℕ → Bool
-is_single_edge s v e = (nat_eq e.0 v && not (married s e.1)) || (nat_eq e.1 v && not (married s e.0))
+is_single_edge s v e = is_edge_to (λ w. not (married s w)) v e
 
 -- an end is parted, and the other is unmarried
 abbrev pub is_touched : State → Event → ℕ × ℕ → Bool
@@ -92,37 +96,37 @@ abbrev other_end : ℕ → ℕ × ℕ → ℕ
 other_end v e = cond (nat_eq e.0 v) e.1 e.0
 
 -- the node is the lower end, or the higher one
-abbrev Ends : State → ℕ → ℕ × ℕ → Type 0
-Ends s v e =
-    ((other_end v e ≡ e.1) × (e.0 ≡ v) × (not (married s e.1) ≡ true)) ⊎ ((other_end v e ≡ e.0) × (e.1 ≡ v) × (not (married s e.0) ≡ true))
+abbrev Ends : (ℕ → Bool) → ℕ → ℕ × ℕ → Type 0
+Ends p v e = ((other_end v e ≡ e.1) × (e.0 ≡ v) × (p e.1 ≡ true)) ⊎ ((other_end v e ≡ e.0) × (e.1 ≡ v) × (p e.0 ≡ true))
 
-single_ends : (s : State) (v : ℕ) (e : ℕ × ℕ) → e.0 < e.1 → is_single_edge s v e ≡ true → Ends s v e
-single_ends s v e ordered h =
+edge_ends : (p : ℕ → Bool) (v : ℕ) (e : ℕ × ℕ) → e.0 < e.1 → is_edge_to p v e ≡ true → Ends p v e
+edge_ends p v e ordered h =
     ⊎_elim
     (λ low.
-    let both = and_parts (nat_eq e.0 v) (not (married s e.1)) low in
+    let both = and_parts (nat_eq e.0 v) (p e.1) low in
     inl (cond-true (nat_eq e.0 v) e.1 e.0 both.0, eqb-true e.0 v both.0, both.1))
     (λ high.
-    let both = and_parts (nat_eq e.1 v) (not (married s e.0)) high in
+    let both = and_parts (nat_eq e.1 v) (p e.0) high in
     let is = eqb-true e.1 v both.0 in
     inr (cond-false (nat_eq e.0 v) e.1 e.0 (ne_eqb e.0 v (λ same. omega (arith, same, is, ordered))), is, both.1))
-    (or_cases (nat_eq e.0 v && not (married s e.1)) (nat_eq e.1 v && not (married s e.0)) h)
+    (or_cases (nat_eq e.0 v && p e.1) (nat_eq e.1 v && p e.0) h)
 
 pair_is : (e f : ℕ × ℕ) → e.0 ≡ f.0 → e.1 ≡ f.1 → e ≡ f
 pair_is e f a b = λ i. (a i, b i)
 
-same_edge : (s : State) (v : ℕ) (e f : ℕ × ℕ) → e.0 < e.1 → f.0 < f.1 → Ends s v e → Ends s v f → other_end v e ≡ other_end v f → e ≡ f
-same_edge s v e f up rise (inl x) (inl y) same = pair_is e f (x.1 ∙ sym y.1) (sym x.0 ∙ same ∙ y.0)
-same_edge s v e f up rise (inr x) (inr y) same = pair_is e f (sym x.0 ∙ same ∙ y.0) (x.1 ∙ sym y.1)
-same_edge s v e f up rise (inl x) (inr y) same = absurd (omega (arith, up, rise, x.0, x.1, y.0, y.1, same))
-same_edge s v e f up rise (inr x) (inl y) same = absurd (omega (arith, up, rise, x.0, x.1, y.0, y.1, same))
+same_edge : (p : ℕ → Bool) (v : ℕ) (e f : ℕ × ℕ) → e.0 < e.1 → f.0 < f.1 → Ends p v e → Ends p v f → other_end v e ≡ other_end v f → e ≡ f
+same_edge p v e f up rise (inl x) (inl y) same = pair_is e f (x.1 ∙ sym y.1) (sym x.0 ∙ same ∙ y.0)
+same_edge p v e f up rise (inr x) (inr y) same = pair_is e f (sym x.0 ∙ same ∙ y.0) (x.1 ∙ sym y.1)
+same_edge p v e f up rise (inl x) (inr y) same = absurd (omega (arith, up, rise, x.0, x.1, y.0, y.1, same))
+same_edge p v e f up rise (inr x) (inl y) same = absurd (omega (arith, up, rise, x.0, x.1, y.0, y.1, same))
 
-pub single_few : (s s' : State) → IsState s → IsState s' → IsWithin s.network s'.network → (v : ℕ) → count_by (is_single_edge s v) (edge_list s'.network) ≤ single_neighbours s v
-single_few s s' good good' within v =
-    count_into (is_single_edge s v) (edge_list s'.network) (other_end v) (λ w. linked s.network v w && not (married s w)) (names s.network) (edges_without_repeats s'.network) (record {
+-- there are no more of them than neighbours that pass it
+pub edges_few : (s s' : State) → IsState s → IsState s' → IsWithin s.network s'.network → (p : ℕ → Bool) (v : ℕ) → count_by (is_edge_to p v) (edge_list s'.network) ≤ count_by (λ w. linked s.network v w && p w) (names s.network)
+edges_few s s' good good' within p v =
+    count_into (is_edge_to p v) (edge_list s'.network) (other_end v) (λ w. linked s.network v w && p w) (names s.network) (edges_without_repeats s'.network) (record {
       lands = λ e there h. in_names s.network (other_end v e) (linked_present s.network (other_end v e) v good.is_network (linked_back s.network (other_end v e) v ∙ (found e there h).0));
-      passes = λ e there h. and_from (linked s.network v (other_end v e)) (not (married s (other_end v e))) (found e there h).0 (found e there h).1;
-      apart = λ e f there also h k same. same_edge s v e f (ordered e there) (ordered f also) (single_ends s v e (ordered e there) h) (single_ends s v f (ordered f also) k) same;
+      passes = λ e there h. and_from (linked s.network v (other_end v e)) (p (other_end v e)) (found e there h).0 (found e there h).1;
+      apart = λ e f there also h k same. same_edge p v e f (ordered e there) (ordered f also) (edge_ends p v e (ordered e there) h) (edge_ends p v f (ordered f also) k) same;
     })
   where
     ordered : (e : ℕ × ℕ) → IsIn e (edge_list s'.network) → e.0 < e.1
@@ -131,14 +135,17 @@ single_few s s' good good' within v =
     near : (e : ℕ × ℕ) → IsIn e (edge_list s'.network) → IsTrue (linked s.network e.0 e.1)
     near e there = linked_pair s.network e.0 e.1 (ordered e there) ∙ edges_contain s.network e (within.edges e there)
 
-    by : (e : ℕ × ℕ) → IsTrue (linked s.network e.0 e.1) → Ends s v e → IsTrue (linked s.network v (other_end v e)) × (not (married s (other_end v e)) ≡ true)
-    by e link (inl (is, at, alone)) = (subst (λ w. IsTrue (linked s.network v w)) (sym is) (subst (λ x. IsTrue (linked s.network x e.1)) at link), subst (λ w. not (married s w) ≡ true) (sym is) alone)
-    by e link (inr (is, at, alone)) = (subst (λ w. IsTrue (linked s.network v w)) (sym is) (linked_back s.network v e.0 ∙ subst (λ x. IsTrue (linked s.network e.0 x)) at link), subst (λ w. not (married s w) ≡ true) (sym is) alone)
+    by : (e : ℕ × ℕ) → IsTrue (linked s.network e.0 e.1) → Ends p v e → IsTrue (linked s.network v (other_end v e)) × (p (other_end v e) ≡ true)
+    by e link (inl (is, at, fine)) = (subst (λ w. IsTrue (linked s.network v w)) (sym is) (subst (λ x. IsTrue (linked s.network x e.1)) at link), subst (λ w. p w ≡ true) (sym is) fine)
+    by e link (inr (is, at, fine)) = (subst (λ w. IsTrue (linked s.network v w)) (sym is) (linked_back s.network v e.0 ∙ subst (λ x. IsTrue (linked s.network e.0 x)) at link), subst (λ w. p w ≡ true) (sym is) fine)
 
-    found : (e : ℕ × ℕ) → IsIn e (edge_list s'.network) → is_single_edge s v e ≡ true → IsTrue (linked s.network v (other_end v e)) × (not (married s (other_end v e)) ≡ true)
-    found e there h = by e (near e there) (single_ends s v e (ordered e there) h)
+    found : (e : ℕ × ℕ) → IsIn e (edge_list s'.network) → is_edge_to p v e ≡ true → IsTrue (linked s.network v (other_end v e)) × (p (other_end v e) ≡ true)
+    found e there h = by e (near e there) (edge_ends p v e (ordered e there) h)
 
-or_le : (t p q : Bool) → (t ≡ true → (p ≡ true) ⊎ (q ≡ true)) → ◌≤◌ (cond t 1 0) (cond p 1 0 + cond q 1 0)
+single_few : (s s' : State) → IsState s → IsState s' → IsWithin s.network s'.network → (v : ℕ) → count_by (is_single_edge s v) (edge_list s'.network) ≤ single_neighbours s v
+single_few s s' good good' within v = edges_few s s' good good' within (λ w. not (married s w)) v
+
+pub or_le : (t p q : Bool) → (t ≡ true → (p ≡ true) ⊎ (q ≡ true)) → ◌≤◌ (cond t 1 0) (cond p 1 0 + cond q 1 0)
 or_le false p q h = omega arith
 or_le true true q h = omega arith
 or_le true false true h = omega arith

@@ -1,9 +1,9 @@
 -- What is claimed of one disturbance of a silent network, for a table of rules. The functions of src/law.rt have these as their contracts.
-use Rattle.std.specs.Prelude.{◌≡◌, ℕ, ◌+◌, ◌*◌, ◌≤◌, List, length, false}
+use Rattle.std.specs.Prelude.{◌≡◌, ℕ, ◌+◌, ◌*◌, ◌≤◌, List, length, false, true, Some}
 use Rattle.rule_machine.specs.declared.event.Event.{Event}
 use Rattle.rule_machine.specs.declared.event.Event.TheVariants.{Point}
 use Rattle.rule_machine.specs.declared.reply.Reply.TheVariants.{Accepted}
-use Rattle.rule_machine.specs.State.{State, IsState, pointer}
+use Rattle.rule_machine.specs.State.{State, IsState, married, pointer}
 use Rattle.rule_machine.specs.RuleTable.{RuleTable}
 use Rattle.rule_machine.specs.HsuHuang.{hsu_huang}
 use Rattle.rule_machine.specs.Manne.{manne}
@@ -52,3 +52,10 @@ SilentCostIsLess =
 abbrev pub RewritingChangesNothing : Type 0
 RewritingChangesNothing =
     (t : RuleTable) (s : State) (spent : ℕ) (v : ℕ) (after : State) → Answers t s spent (Point v (pointer s v)) Accepted after → after ≡ s
+
+-- A pointer of a paired node that is turned to another neighbour costs 2 less than the table of costs says, by the rules of Hsu and Huang.
+abbrev pub TurnedCostsLess : Type 0
+TurnedCostsLess =
+    (s : State) → IsState s → IsStable false s → (spent : ℕ) (v w : ℕ) (after : State) → Answers hsu_huang s spent (Point v (Some w)) Accepted after
+    → married s v ≡ true → (pointer s v ≡ Some w → ⊥) → (log : List Entry) (end : Moment) → Run hsu_huang (record { state = after; spent = 0 }) log end → IsUndisturbed log
+    → moves_in log + 2 ≤ hsu_huang_cost s (Point v (Some w))

@@ -5,3 +5,4 @@ pub mod Gained
 pub mod Left
 pub mod Cheaper
 pub mod Less
+pub mod Turned

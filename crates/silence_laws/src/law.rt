@@ -2,7 +2,7 @@
 
 ghost use Rattle.rule_machine.specs.HsuHuang.{hsu_huang};
 ghost use Rattle.rule_machine.specs.Manne.{manne};
-ghost use Rattle.silence_laws.specs.Laws.{FewAreGained, FewAreLost, ManneMovesArePaid, RewritingChangesNothing, SilentCostIsLess, SilentCostPays};
+ghost use Rattle.silence_laws.specs.Laws.{FewAreGained, FewAreLost, ManneMovesArePaid, RewritingChangesNothing, SilentCostIsLess, SilentCostPays, TurnedCostsLess};
 
 /// After one disturbance of a stable network there is at most one pair more: only if an edge comes between two unmarried nodes, the edge of
 /// a pair goes, or the pointer of a paired node is written anew.
@@ -32,4 +32,10 @@ pub fn silent_cost_pays()
 /// To write the pointer that is there changes nothing, from any state.
 pub fn rewriting_changes_nothing()
     ensures { RewritingChangesNothing }
+{}
+
+/// By the rules of Hsu and Huang, to turn the pointer of a paired node of a stable network to another neighbour costs 2 less than
+/// its cost says.
+pub fn turned_costs_less()
+    ensures { TurnedCostsLess }
 {}

@@ -13,5 +13,6 @@
 mod law;
 
 pub use law::{
-    few_are_gained, few_are_lost, manne_moves_are_paid, rewriting_changes_nothing, silent_cost_pays,
+    few_are_gained, few_are_lost, manne_moves_are_paid, rewriting_changes_nothing,
+    silent_cost_pays, turned_costs_less,
 };
