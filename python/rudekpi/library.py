@@ -6,7 +6,7 @@ import ctypes
 import functools
 import mmap
 import os
-from typing import Any, Optional
+from typing import Any, Optional, Union
 
 from .errors import Damaged
 from .program import PACKAGE, Program
@@ -59,6 +59,13 @@ def summary_of(verdict: Verdict) -> Summary:
     raise Damaged(verdict.line, DAMAGES[verdict.kind])
 
 
+def verdict_of(found: Union[Summary, Damaged]) -> Verdict:
+    """The verdict that says so, as `summary_of` reads it. Raises `KeyError` for a damage that is none of the library's."""
+    if isinstance(found, Summary):
+        return Verdict(0, found.entries, found.epochs, found.moves, 0)
+    return Verdict({why: kind for kind, why in DAMAGES.items()}[found.why], 0, 0, 0, found.line)
+
+
 # the calls of a session and of an audit. They are called with references and numbers below 2^31, or with numbers that are wrapped, for which ctypes
 # wants no types: to convert to them would take as long as the call. While those that may take long run, other threads of Python do
 COSTED = ("link", "unlink", "join", "leave", "point", "flag")
@@ -87,6 +94,7 @@ LONG = (
     "audit_new",
     "audit_feed",
     "audit_finish",
+    "audit_join",
 )
 SIZES = ("rows", "session_length", "session_read")
 NONE = ("session_free", "audit_free")
@@ -124,6 +132,17 @@ class Library:
         """The verdict on so many bytes at an address; raises `Damaged`, or `MemoryError`."""
         verdict = Verdict()
         self.judge(at, size, ctypes.addressof(verdict))
+        return summary_of(verdict)
+
+    def joined(self, whole: Summary, found: Union[Summary, Damaged], lines: int) -> Summary:
+        """The verdict on a text that is accepted and on one that it meets at a base, as one.
+
+        `lines` of the first stand before the base, which matters only for a damage. Raises `Damaged`, or `OverflowError` where a sum
+        is more than a verdict holds.
+        """
+        verdict, second = verdict_of(whole), verdict_of(found)
+        if self.audit_join(ctypes.byref(verdict), ctypes.c_uint64(lines), ctypes.byref(second)) != DONE:
+            raise OverflowError(f"a verdict holds no sum of {whole} and {found!r} behind {lines} lines")
         return summary_of(verdict)
 
     def audit_bytes(self, text: bytes, start: int = 0, end: Optional[int] = None) -> Summary:

@@ -12,7 +12,7 @@ from typing import Any, Iterator, Optional, Tuple, Union
 
 from .audits import Slice, audit, bytes_of
 from .errors import Damaged, Lost
-from .library import chosen
+from .library import chosen, found_library
 from .numbers import MOST_EDGES, MOST_NODES
 from .program import Program
 from .replies import Summary
@@ -116,24 +116,39 @@ def audit_held(held: Held, executor: Optional[Executor], size: int, program: Pro
 def verdict_of(
     held: Held, parts: Iterator[Part], executor: Executor, program: Program, engine: Optional[str]
 ) -> Summary:
-    """What the parts' verdicts say of the whole."""
+    """What the parts' verdicts say of the whole, joined in their order."""
     judge = functools.partial(audit, program=program, engine=engine)
     handing: Handing[tuple[int, Part]] = Handing(
         enumerate(parts), lambda task: (judge, held.part(*task[1], executor)), executor
     )
-    entries = moves = 0
-    epochs = 1
+    whole: Optional[Summary] = None
     with contextlib.closing(handing.done()) as done:
         for (start, end), future in in_order(done):
             if not future:
                 raise LostPart(start, end, held.lines_before(start) + 1)
             try:
-                found = future.result()
+                found: Union[Summary, Damaged] = future.result()
             except Damaged as damaged:
-                raise Damaged(held.lines_before(start) + damaged.line, damaged.why) from None
-            # a part begins within an epoch of the one before it
-            entries, moves, epochs = entries + found.entries, moves + found.moves, epochs + found.epochs - 1
-    return Summary(entries, epochs, moves)
+                found = damaged
+            whole = joined(whole, found, 0 if isinstance(found, Summary) else held.lines_before(start))
+    return whole or Summary(0, 1, 0)
+
+
+def joined(whole: Optional[Summary], found: Union[Summary, Damaged], lines: int) -> Summary:
+    """The verdict on the parts so far, if there are some, and on the next, as one; raises `Damaged`. `lines` of the whole stand
+    before the next, which matters only for a damage.
+
+    The library joins them wherever there is one, whatever has judged the parts: its call is proved. Else the same sums are made here.
+    """
+    library = found_library()
+    if whole and library:
+        return library.joined(whole, found, lines)
+    if isinstance(found, Damaged):
+        raise Damaged(lines + found.line, found.why)
+    if not whole:
+        return found
+    # a part begins within an epoch of the one before it
+    return Summary(whole.entries + found.entries, whole.epochs + found.epochs - 1, whole.moves + found.moves)
 
 
 def in_order(done: Iterator[tuple[tuple[int, Part], Verdict]]) -> Iterator[tuple[Part, Verdict]]:

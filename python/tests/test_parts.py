@@ -13,6 +13,7 @@ import unittest.mock
 from rudekpi import Damaged, Lost, Network, audit, parts
 from rudekpi.audits import Slice
 from rudekpi.parts import Held, LostPart, audit_parts
+from rudekpi.replies import Summary
 from support import Losing, Timed
 
 
@@ -142,6 +143,49 @@ class Parts(Timed):
         writer.start()
         self.addCleanup(writer.join)
         self.assertEqual(audit_parts(path, size=500), audit(text))
+
+
+class Joining(Timed):
+    """What verdicts on parts say of the whole: by the library's call where there is one, and by the same sums where there is none."""
+
+    def tried(self):
+        fine = Summary(7, 3, 40)
+        self.assertEqual(parts.joined(None, fine, 0), fine)
+        self.assertEqual(parts.joined(fine, Summary(5, 4, 2), 0), Summary(12, 6, 42))
+        for line, why in (
+            (2, "bad base"),
+            (9, "out of order"),
+            (3, "not a transcript line"),
+            (8, "not the machine's reply"),
+        ):
+            with self.assertRaises(Damaged) as caught:
+                parts.joined(fine, Damaged(line, why), 30)
+            self.assertEqual((caught.exception.line, caught.exception.why), (30 + line, why))
+            with self.assertRaises(Damaged) as caught:
+                parts.joined(None, Damaged(line, why), 0)
+            self.assertEqual((caught.exception.line, caught.exception.why), (line, why))
+
+    def test_by_sums(self):
+        with unittest.mock.patch.object(parts, "found_library", return_value=None):
+            self.tried()
+            text = transcript(8)
+            self.assertEqual(audit_parts(text, size=100), audit(text))
+
+    def test_by_the_library(self):
+        if not parts.found_library():
+            self.skipTest("no library")
+        self.tried()
+
+    def test_what_the_library_says_is_told(self):
+        text = transcript(8)
+        count = len(list(parts.parts_of(Held(text.encode()), 100, parts.PARTS_LEFT * len(os.sched_getaffinity(0)))))
+        library = unittest.mock.Mock()
+        library.joined.side_effect = lambda whole, found, lines: Summary(whole.entries + 1, found.epochs, lines)
+        with unittest.mock.patch.object(parts, "found_library", return_value=library):
+            found = audit_parts(text, size=100)
+        self.assertEqual(library.joined.call_count, count - 1)
+        self.assertGreater(count, 2)
+        self.assertEqual(found.moves, 0)
 
 
 class Deaths(Timed):

@@ -1,8 +1,7 @@
 -- What a joined verdict says.
-use Rattle.std.proofs.Common.{◌≡◌, ◌≤◌, ◌⊎◌, ◌++◌, ◌∙◌, ℕ, List, Option, None, Some, IfSome, IsNone, Result, Ok, Err, inl, inr, refl, sym, ap, subst, arith}
+use Rattle.std.proofs.Common.{◌≤◌, ◌≡◌, ◌⊎◌, ◌++◌, ◌∙◌, ℕ, List, Ok, Err, inl, inr, refl, sym, ap, subst}
 use Rattle.auditor.specs.declared.damage.Damage.{Damage}
 use Rattle.auditor.specs.declared.damage.Damage.TheVariants.{BadHeader, NotALine, OutOfOrder, NotTheMachines, BadBase}
-use Rattle.auditor.specs.declared.damage.JudgeFault.{JudgeFault}
 use Rattle.auditor.specs.declared.damage.JudgeFault.TheVariants.{Damaged, Memory}
 use Rattle.auditor.specs.declared.summary.Summary.{Summary}
 use Rattle.auditor.specs.Damage.{IsDamage, line_feeds}
@@ -12,7 +11,7 @@ use Rattle.auditor.proofs.Exact.{judged_accepts, judged_names}
 use Rattle.audit_parts.specs.Fits.{AreLinesBefore, Fits}
 use Rattle.audit_parts.specs.Seams as seams
 use Rattle.rudekpi_c.specs.declared.judged.Verdict.{Verdict}
-use Rattle.rudekpi_c.specs.Joined.{AuditJoined, IsJoined, IsUnjoined, said_by}
+use Rattle.rudekpi_c.specs.Joined.{IsJoined, IsUnjoined, said_by}
 use Rattle.rudekpi_c.specs.Judged.{JudgedAs, accepted, damaged, unjudged, verdict_of}
 use Rattle.rudekpi_c.proofs.Judging.{judged_as}
 
@@ -49,10 +48,11 @@ said_once (Err Memory) = refl
 reads : (v : Verdict) (found said : seams.Verdict) → found ≡ said_by v → v ≡ verdict_of said → found ≡ said
 reads v found said is e = is ∙ ap said_by e ∙ said_once said
 
-pub was_joined : (lines : ℕ) (old next new : Verdict) (first second both : seams.Verdict) → first ≡ said_by old → second ≡ said_by next → new ≡ verdict_of both → both ≡ seams.joined first lines second
+pub was_joined : (lines : ℕ) (old next new : Verdict) (first second both : seams.Verdict) → (old.kind ≤ 6) × (next.kind ≤ 6) → first ≡ said_by old → second ≡ said_by next → new ≡ verdict_of both → both ≡ seams.joined first lines second
     → ((former latter : List ℕ) (m : seams.Meets former latter) → AreLinesBefore lines m.own first second → IsJudged former first → IsJudged latter second → IsJudged (m.own ++ latter) both)
     → IsJoined lines old next new
-was_joined lines old next new first second both had also told is judged = record {
+was_joined lines old next new first second both known had also told is judged = record {
+  known = known;
   judged = λ former latter m before x y.
       let v = found_as former old x in
       let w = found_as latter next y in

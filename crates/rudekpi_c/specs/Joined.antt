@@ -22,6 +22,7 @@ said_by v =
 
 -- the new verdict is that of both: of texts that meet, it is that of the joined text, if so many lines stand before the seam
 pub record IsJoined (lines : ℕ) (old next new : Verdict) : Type 0 where
+  pub known : (old.kind ≤ 6) × (next.kind ≤ 6)
   pub judged : (former latter : List ℕ) (m : seams.Meets former latter) → ((c : Summary) (d : Damage) → old ≡ accepted c → next ≡ damaged d → lines ≡ line_feeds m.own)
       → JudgedAs former old → JudgedAs latter next → JudgedAs (m.own ++ latter) new
   pub is : (first second : seams.Verdict) → old ≡ verdict_of first → next ≡ verdict_of second → new ≡ verdict_of (seams.joined first lines second)

@@ -10,7 +10,7 @@ use auditor::{Damage, JudgeFault, Summary};
 
 // What a verdict says, if its kind is one.
 fn found_in(verdict: Verdict) -> Option<Result<Summary, JudgeFault>>
-    ensures { MatchOption result (7 ≤ verdict.kind) (λ found. found ≡ said_by verdict) }
+    ensures { MatchOption result (7 ≤ verdict.kind) (λ found. (verdict.kind ≤ 6) × (found ≡ said_by verdict)) }
 {
     let Verdict {
         kind,

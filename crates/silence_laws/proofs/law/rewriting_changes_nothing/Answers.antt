@@ -1,0 +1,5 @@
+use Rattle.silence_laws.specs.Less as less
+use Rattle.silence_laws.proofs.law.rewriting_changes_nothing.Goals as goal
+
+pub returns : goal.returns
+returns c = less.rewriting_changes_nothing

@@ -1,0 +1,61 @@
+-- What is claimed of one disturbance of a silent network, for a table of rules. The functions of src/law.rt have these as their contracts.
+use Rattle.std.specs.Prelude.{◌≡◌, ℕ, ◌+◌, ◌*◌, ◌≤◌, List, length, false, true, Some}
+use Rattle.rule_machine.specs.declared.event.Event.{Event}
+use Rattle.rule_machine.specs.declared.event.Event.TheVariants.{Point}
+use Rattle.rule_machine.specs.declared.reply.Reply.TheVariants.{Accepted}
+use Rattle.rule_machine.specs.State.{State, IsState, married, pointer}
+use Rattle.rule_machine.specs.RuleTable.{RuleTable}
+use Rattle.rule_machine.specs.HsuHuang.{hsu_huang}
+use Rattle.rule_machine.specs.Manne.{manne}
+use Rattle.rule_machine.specs.Stable.{IsStable, mutual_pairs}
+use Rattle.rule_machine.specs.Answer.{Answers}
+use Rattle.rule_machine.specs.Run.{Entry, Moment, Run}
+use Rattle.charge_laws.specs.Charged.{IsUndisturbed, moves_in}
+use Rattle.charge_laws.specs.Costs.{hsu_huang_cost, manne_cost}
+use Rattle.silence_laws.specs.Changes.{most_gained, most_lost, nodes_gone}
+use Rattle.silence_laws.specs.Costs.{silent_cost}
+
+-- After one disturbance of a stable network, whatever the daemon chooses: no more pairs come than that.
+abbrev pub FewAreGained : RuleTable → Type 0
+FewAreGained t =
+    (s : State) → IsState s → IsStable t.flags s → (spent : ℕ) (event : Event) (after : State) → Answers t s spent event Accepted after
+    → (log : List Entry) (end : Moment) → Run t (record { state = after; spent = 0 }) log end → IsUndisturbed log
+    → length (mutual_pairs end.state) ≤ length (mutual_pairs s) + most_gained s event
+
+-- And where it is stable again, no more were lost.
+abbrev pub FewAreLost : RuleTable → Type 0
+FewAreLost t =
+    (s : State) → IsState s → IsStable t.flags s → (spent : ℕ) (event : Event) (after : State) → Answers t s spent event Accepted after
+    → (log : List Entry) (end : Moment) → Run t (record { state = after; spent = 0 }) log end → IsUndisturbed log → IsStable t.flags end.state
+    → length (mutual_pairs s) ≤ length (mutual_pairs end.state) + most_lost s event
+
+-- So by the rules of Manne and others the moves after it are no more than its cost, two if a pair may come, and one for a node that goes.
+abbrev pub ManneMovesArePaid : Type 0
+ManneMovesArePaid =
+    (s : State) → IsState s → IsStable manne.flags s → (spent : ℕ) (event : Event) (after : State) → Answers manne s spent event Accepted after
+    → (log : List Entry) (end : Moment) → Run manne (record { state = after; spent = 0 }) log end → IsUndisturbed log
+    → moves_in log ≤ manne_cost s event + 2 * most_gained s event + nodes_gone event
+
+-- By the rules of Hsu and Huang the moves after it are no more than this cost, by the unmarried neighbours of who is parted.
+abbrev pub SilentCostPays : Type 0
+SilentCostPays =
+    (s : State) → IsState s → IsStable false s → (spent : ℕ) (event : Event) (after : State) → Answers hsu_huang s spent event Accepted after
+    → (log : List Entry) (end : Moment) → Run hsu_huang (record { state = after; spent = 0 }) log end → IsUndisturbed log
+    → moves_in log ≤ silent_cost s event
+
+-- And that cost is no more than the table of costs says.
+abbrev pub SilentCostIsLess : Type 0
+SilentCostIsLess =
+    (s : State) → IsState s → IsStable false s → (event : Event) → silent_cost s event ≤ hsu_huang_cost s event
+
+-- To write the pointer that is there changes nothing, from any state.
+abbrev pub RewritingChangesNothing : Type 0
+RewritingChangesNothing =
+    (t : RuleTable) (s : State) (spent : ℕ) (v : ℕ) (after : State) → Answers t s spent (Point v (pointer s v)) Accepted after → after ≡ s
+
+-- A pointer of a paired node that is turned to another neighbour costs 2 less than the table of costs says, by the rules of Hsu and Huang.
+abbrev pub TurnedCostsLess : Type 0
+TurnedCostsLess =
+    (s : State) → IsState s → IsStable false s → (spent : ℕ) (v w : ℕ) (after : State) → Answers hsu_huang s spent (Point v (Some w)) Accepted after
+    → married s v ≡ true → (pointer s v ≡ Some w → ⊥) → (log : List Entry) (end : Moment) → Run hsu_huang (record { state = after; spent = 0 }) log end → IsUndisturbed log
+    → moves_in log + 2 ≤ hsu_huang_cost s (Point v (Some w))

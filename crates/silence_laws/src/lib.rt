@@ -1,0 +1,20 @@
+//! Laws from silence to silence: what one disturbance of a silent network changes, whatever the daemon chooses.
+//!
+//! Nothing of this crate runs: each public function has an empty body and its contract is the law, which `specs/Laws` states in words.
+//! `specs/Changes` has by how many pairs each edit and fault may change a silent network: one more or one fewer at most, whatever its size
+//! (`few_are_gained`, `few_are_lost`). So the moves after one disturbance of Manne's rules are paid by its cost, two for the pair that may
+//! come, and one for a node that goes (`manne_moves_are_paid`). Under Hsu and Huang's rules an edge or a node that goes costs 2 for each
+//! unmarried neighbour of who is parted (`specs/Costs`, `silent_cost_pays`), a pointer of a pair that is turned 2 less than its cost
+//! (`turned_costs_less`), and one that is written again nothing (`rewriting_changes_nothing`).
+//!
+//! ```rust
+//! few_are_gained();                                 // from here on the prover knows the law
+//! ```
+#![tactic(auto)]
+
+mod law;
+
+pub use law::{
+    few_are_gained, few_are_lost, manne_moves_are_paid, rewriting_changes_nothing,
+    silent_cost_pays, turned_costs_less,
+};
