@@ -1,15 +1,15 @@
 -- How it ends where there is no such entry.
 use Rattle.std.proofs.Common.{◌≡◌, ℕ, List, Result, Ok, Err, OnErr, IfOk, inl, inr, subst}
 use Rattle.std.proofs.KnownBytes.{Keeps-refl}
-use Rattle.byte_streams.specs.Beginning.{AppendsBeginning}
 use Rattle.script_run.specs.declared.fault.RunFault.TheVariants as run
 use Rattle.command_line.specs.FaultText.{fault_line}
+use Rattle.command_line.specs.Heard.{Heard, Tells}
 use Rattle.command_line.specs.Viewed.{Known, TellsMissing}
 
 -- it is told in a line, if there was memory for it
-pub missed : {V E : Type 0} (items : V → List ℕ) (line : Result V E) (text : List ℕ) (old before after : Known) (status : ℕ)
-    → IfOk line (λ v. items v ≡ text) → IfOk line (λ v. (status ≡ 2) × AppendsBeginning before after (items v)) → OnErr line ((status ≡ 4) × AppendsBeginning before after (fault_line run.Memory))
+pub missed : {V E : Type 0} (items : V → List ℕ) (line : Result V E) (text : List ℕ) (old before : Known) (after : Heard) (status : ℕ)
+    → IfOk line (λ v. items v ≡ text) → IfOk line (λ v. (status ≡ 2) × Tells before after (items v)) → OnErr line ((status ≡ 4) × Tells before after (fault_line run.Memory))
     → TellsMissing text old old before after status
 missed items (Ok v) text old before after status is told memory =
-    inl (told.0, Keeps-refl old, subst (λ (l : List ℕ). AppendsBeginning before after l) is told.1)
+    inl (told.0, Keeps-refl old, subst (λ (l : List ℕ). Tells before after l) is told.1)
 missed items (Err e) text old before after status is told memory = inr (memory.0, Keeps-refl old, memory.1)

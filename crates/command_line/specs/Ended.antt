@@ -6,7 +6,6 @@ use Rattle.clap.specs.declared.error.Error.{Error}
 use Rattle.clap.specs.declared.error.kind.ErrorKind.{ErrorKind}
 use Rattle.clap.specs.declared.error.kind.ErrorKind.TheVariants.{OutOfMemory}
 use Rattle.rule_machine.specs.declared.rules.RuleSet.{RuleSet}
-use Rattle.byte_streams.specs.Beginning.{AppendsBeginning}
 use Rattle.script_run.specs.declared.fault.RunFault.{RunFault}
 use Rattle.script_run.specs.declared.fault.RunFault.TheVariants.{Memory}
 use Rattle.script_run.specs.Outcome.{IsOutcome}
@@ -18,15 +17,16 @@ use Rattle.command_line.specs.declared.verdict.CheckEnd.{CheckEnd}
 use Rattle.command_line.specs.Status.{status_of, words_status}
 use Rattle.command_line.specs.FaultText.{bad_present_line, fault_line}
 use Rattle.transcript_view.specs.Views.{IsPicture, IsTable}
+use Rattle.command_line.specs.Heard.{Heard, Tells}
 use Rattle.command_line.specs.Viewed.{Known, ShowsSome, Views}
 use Rattle.command_line.specs.Network.{asked_storm}
 use Rattle.command_line.specs.Played.{PlaysStorm}
 use Rattle.command_line.specs.Checked.{IsVerdict, TellsVerdict, verdict_status}
 
 -- the line of the fault, or a beginning of it where a write failed; nothing where there is no fault
-abbrev pub TellsFault : {X : Type 0} → Known → Known → Result X RunFault → Type 0
-TellsFault old new (Ok _) = Keeps old new
-TellsFault old new (Err fault) = AppendsBeginning old new (fault_line fault)
+abbrev pub TellsFault : {X : Type 0} → Known → Heard → Result X RunFault → Type 0
+TellsFault before after (Ok _) = Keeps before after.got
+TellsFault before after (Err fault) = Tells before after (fault_line fault)
 
 -- the exit status of a run that ended so
 abbrev pub ended_status : Result Unit RunFault → ℕ
@@ -39,32 +39,32 @@ checked_status (Ok end) = verdict_status end
 checked_status (Err fault) = status_of fault
 
 -- the script was run, the writer has its transcript, a fault was told, and the status tells how it ended
-abbrev pub TellsOutcome : RuleSet → ℕ → ℕ → ℕ → List ℕ → Known → Known → Known → Known → ℕ → Type 0
+abbrev pub TellsOutcome : RuleSet → ℕ → ℕ → ℕ → List ℕ → Known → Known → Known → Heard → ℕ → Type 0
 TellsOutcome rules nodes present limit script old new before after status =
     (ended : Result Unit RunFault) × IsOutcome rules nodes present limit script old new ended × TellsFault before after ended × (status ≡ ended_status ended)
 
 -- it is told that more nodes would be present at the start than there may be, and nothing is read or written
-abbrev pub TellsBadPresent : Known → Known → Known → Known → ℕ → Type 0
-TellsBadPresent old new before after status = (status ≡ 2) × Keeps old new × AppendsBeginning before after bad_present_line
+abbrev pub TellsBadPresent : Known → Known → Known → Heard → ℕ → Type 0
+TellsBadPresent old new before after status = (status ≡ 2) × Keeps old new × Tells before after bad_present_line
 
 -- what is done for a run: where there can be so many nodes at the start, it is run with them
-abbrev pub DoesRun : RuleSet → ℕ → Option ℕ → List ℕ → Known → Known → Known → Known → ℕ → Type 0
+abbrev pub DoesRun : RuleSet → ℕ → Option ℕ → List ℕ → Known → Known → Known → Heard → ℕ → Type 0
 DoesRun rules nodes None input old new before after status = TellsBadPresent old new before after status
 DoesRun rules nodes (Some present) input old new before after status = TellsOutcome rules nodes present 16777216 input old new before after status
 
 -- the transcript was judged, the writer has the line of its verdict, a fault was told, and the status tells how it ended
-abbrev pub TellsCheck : List ℕ → Known → Known → Known → Known → ℕ → Type 0
+abbrev pub TellsCheck : List ℕ → Known → Known → Known → Heard → ℕ → Type 0
 TellsCheck bytes old new before after status =
     (ended : Result CheckEnd RunFault) × IfOk ended (IsVerdict bytes) × TellsVerdict old new ended × TellsFault before after ended × (status ≡ checked_status ended)
 
 -- what is done for a storm: where there can be so many nodes at the start, its scripts are played on them
-abbrev pub DoesStorm : Storm → Option ℕ → Known → Known → Known → Known → ℕ → Type 0
+abbrev pub DoesStorm : Storm → Option ℕ → Known → Known → Known → Heard → ℕ → Type 0
 DoesStorm storm None old new before after status = TellsBadPresent old new before after status
 DoesStorm storm (Some present) old new before after status = PlaysStorm (asked_storm storm present) (length storm.scripts) old new before after status
 
 -- what is done for a task: a run's bytes and status are the same for each number of workers; where the help or the version is
 -- asked for, a text is shown
-abbrev pub DoesTask : Task → List ℕ → Known → Known → Known → Known → ℕ → Type 0
+abbrev pub DoesTask : Task → List ℕ → Known → Known → Known → Heard → ℕ → Type 0
 DoesTask (Run rules nodes present workers) input old new before after status = DoesRun rules nodes (present_at_start nodes present) input old new before after status
 DoesTask Audit input old new before after status = TellsCheck input old new before after status
 DoesTask (Picture entry) input old new before after status = Views (IsPicture input entry) old new before after status
@@ -74,11 +74,11 @@ DoesTask (variants.Storm words) input old new before after status =
 DoesTask (Show text) input old new before after status = ShowsSome old new before after status
 
 -- what is told of words that can't be followed: that memory ran out, where it did, else a text of which nothing is said, or a beginning
-abbrev pub TellsMistake : ErrorKind → Known → Known → Type 0
+abbrev pub TellsMistake : ErrorKind → Known → Heard → Type 0
 TellsMistake kind before after =
-    (kind ≡ OutOfMemory → AppendsBeginning before after (fault_line Memory)) × ((text : List ℕ) × AppendsBeginning before after text)
+    (kind ≡ OutOfMemory → Tells before after (fault_line Memory)) × ((text : List ℕ) × Tells before after text)
 
 -- the task is done; for bad words, or where memory ran out as they were read, that is told and the writer gets nothing
-abbrev pub Does : Result Task Error → List ℕ → Known → Known → Known → Known → ℕ → Type 0
+abbrev pub Does : Result Task Error → List ℕ → Known → Known → Known → Heard → ℕ → Type 0
 Does (Ok task) input old new before after status = DoesTask task input old new before after status
 Does (Err e) input old new before after status = Keeps old new × TellsMistake (kind_of e) before after × (status ≡ words_status (kind_of e))

@@ -6,3 +6,4 @@ pub mod Checked
 pub mod Viewed
 pub mod Played
 pub mod Ended
+pub mod Heard

@@ -1,13 +1,12 @@
 -- How it ends where a storm is played: what the writers have got, and the exit status.
 use Rattle.std.specs.Prelude.{◌≡◌, ◌<◌, ℕ, List, length, Result}
-use Rattle.byte_streams.specs.Beginning.{AppendsBeginning}
 use Rattle.script_run.specs.Asked.{Asked}
 use Rattle.storm_call.specs.declared.fault.StormFault.{StormFault}
 use Rattle.storm_call.specs.declared.fault.StormFault.TheVariants.{Read, Memory}
 use Rattle.storm_call.specs.FaultText.{end_line}
 use Rattle.storm_call.specs.Outcome.{IsOutcome}
 use Rattle.storm_call.specs.Status.{end_status}
-use Rattle.command_line.specs.Viewed.{Known}
+use Rattle.command_line.specs.Heard.{Known, Heard, Tells}
 
 -- one of so many files can't be opened, or there is no memory for them
 abbrev pub FailsToOpen : ℕ → StormFault → Type 0
@@ -20,6 +19,6 @@ abbrev pub EndsStorm : Asked → ℕ → Known → Known → Result Unit StormFa
 EndsStorm asked scripts old new ended = (texts : List Known) × (length texts ≡ scripts) × IsOutcome asked texts old new ended
 
 -- that was told, and the status tells how it ended
-abbrev pub PlaysStorm : Asked → ℕ → Known → Known → Known → Known → ℕ → Type 0
+abbrev pub PlaysStorm : Asked → ℕ → Known → Known → Known → Heard → ℕ → Type 0
 PlaysStorm asked scripts old new before after status =
-    (ended : Result Unit StormFault) × EndsStorm asked scripts old new ended × AppendsBeginning before after (end_line ended) × (status ≡ end_status ended)
+    (ended : Result Unit StormFault) × EndsStorm asked scripts old new ended × Tells before after (end_line ended) × (status ≡ end_status ended)

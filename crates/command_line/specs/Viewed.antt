@@ -13,12 +13,10 @@ use Rattle.transcript_view.specs.declared.view.View.{View}
 use Rattle.transcript_view.specs.declared.view.View.TheVariants.{Text, Refused, TooFew, Forgotten}
 use Rattle.command_line.specs.declared.verdict.CheckEnd.TheVariants as verdict
 use Rattle.command_line.specs.FaultText.{fault_line}
+pub use Rattle.command_line.specs.Heard.{Known}
+use Rattle.command_line.specs.Heard.{Heard, Tells}
 use Rattle.command_line.specs.Status.{status_of}
 use Rattle.command_line.specs.VerdictText.{verdict_line}
-
--- what a writer has got
-abbrev pub Known : Type 0
-Known = Option (List ℕ)
 
 -- that there is no such entry, and what there is, with the LF that ends the line
 abbrev pub missing_line : ℕ → List ℕ → ℕ → List ℕ → List ℕ
@@ -31,35 +29,35 @@ abbrev pub forgotten_line : ℕ → ℕ → List ℕ
 forgotten_line asked base = missing_line asked (codes ": the transcript begins behind entry ") base (codes "\n")
 
 -- a fault is told, and nothing is written
-abbrev pub TellsEarly : RunFault → Known → Known → Known → Known → ℕ → Type 0
-TellsEarly fault old new before after status = (status ≡ status_of fault) × Keeps old new × AppendsBeginning before after (fault_line fault)
+abbrev pub TellsEarly : RunFault → Known → Known → Known → Heard → ℕ → Type 0
+TellsEarly fault old new before after status = (status ≡ status_of fault) × Keeps old new × Tells before after (fault_line fault)
 
 -- the text is written, or a beginning of it where a write failed, and that is told
-abbrev pub ShowsText : List ℕ → ℕ → Known → Known → Known → Known → ℕ → Type 0
+abbrev pub ShowsText : List ℕ → ℕ → Known → Known → Known → Heard → ℕ → Type 0
 ShowsText text good old new before after status =
-    ((status ≡ good) × Appends old new text × Keeps before after)
-    ⊎ ((status ≡ 3) × AppendsBeginning old new text × AppendsBeginning before after (fault_line run.Write))
+    ((status ≡ good) × Appends old new text × Keeps before after.got)
+    ⊎ ((status ≡ 3) × AppendsBeginning old new text × Tells before after (fault_line run.Write))
 
 -- some text is shown, of which nothing is said; or memory ran out as it was made, and nothing is written
-abbrev pub ShowsSome : Known → Known → Known → Known → ℕ → Type 0
+abbrev pub ShowsSome : Known → Known → Known → Heard → ℕ → Type 0
 ShowsSome old new before after status =
     ((text : List ℕ) × ShowsText text 0 old new before after status)
     ⊎ TellsEarly run.Memory old new before after status
 
 -- the verdict that an audit gives is written, or memory ran out
-abbrev pub ShowsRefusal : Damage → Known → Known → Known → Known → ℕ → Type 0
+abbrev pub ShowsRefusal : Damage → Known → Known → Known → Heard → ℕ → Type 0
 ShowsRefusal damage old new before after status =
     ShowsText (verdict_line (verdict.Refused (of_damage damage))) 1 old new before after status
     ⊎ TellsEarly run.Memory old new before after status
 
 -- it is told in this line that there is no such entry, or memory ran out; and nothing is written
-abbrev pub TellsMissing : List ℕ → Known → Known → Known → Known → ℕ → Type 0
+abbrev pub TellsMissing : List ℕ → Known → Known → Known → Heard → ℕ → Type 0
 TellsMissing line old new before after status =
-    ((status ≡ 2) × Keeps old new × AppendsBeginning before after line)
+    ((status ≡ 2) × Keeps old new × Tells before after line)
     ⊎ TellsEarly run.Memory old new before after status
 
 -- what is done with a view: the text is written, or the verdict that an audit gives, which is a text that may want memory
-abbrev pub TellsView : Result View InputFault → Known → Known → Known → Known → ℕ → Type 0
+abbrev pub TellsView : Result View InputFault → Known → Known → Known → Heard → ℕ → Type 0
 TellsView (Ok (Text text)) old new before after status = ShowsText text.items 0 old new before after status
 TellsView (Ok (Refused damage)) old new before after status = ShowsRefusal damage old new before after status
 TellsView (Ok (TooFew asked entries)) old new before after status = TellsMissing (too_few_line asked entries) old new before after status
@@ -68,6 +66,6 @@ TellsView (Err input.Read) old new before after status = TellsEarly run.Read old
 TellsView (Err input.Memory) old new before after status = TellsEarly run.Memory old new before after status
 
 -- the view was made of the input, or that was not read or memory ran out, and it is told so
-abbrev pub Views : (View → Type 0) → Known → Known → Known → Known → ℕ → Type 0
+abbrev pub Views : (View → Type 0) → Known → Known → Known → Heard → ℕ → Type 0
 Views is old new before after status =
     (viewed : Result View InputFault) × IfOk viewed is × TellsView viewed old new before after status

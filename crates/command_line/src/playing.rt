@@ -5,6 +5,7 @@ ghost use Rattle.script_run.specs.Asked.{asked_of};
 ghost use Rattle.command_words.specs.Wanted.{present_at_start, storm_of};
 ghost use Rattle.command_line.specs.Ended.{DoesStorm};
 ghost use Rattle.command_line.specs.Played.{EndsStorm, FailsToOpen};
+ghost use Rattle.command_line.specs.Heard.{heard};
 ghost use Rattle.command_line.specs.Status.{IsStatus};
 
 use crate::options::network_options;
@@ -64,7 +65,7 @@ pub fn play_storm<Out: Write, Faults: Write, T: Threads + Wait + Sync + Files>(
     faults: &mut Writes<Faults>,
 ) -> u8
     ensures played { DoesStorm (storm_of asked.entry) (present_at_start asked.entry.nodes asked.entry.present)
-        (Out.contents writer.old.writer) (Out.contents writer.new.writer) (Faults.contents faults.old.writer) (Faults.contents faults.new.writer) result }
+        (Out.contents writer.old.writer) (Out.contents writer.new.writer) (Faults.contents faults.old.writer) (heard Faults.contents faults.new) result }
     ensures status { IsStatus result }
 {
     let network = network_options(asked.rules, asked.nodes, asked.present, asked.workers);

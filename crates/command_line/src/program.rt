@@ -12,6 +12,7 @@ ghost use Rattle.byte_streams.specs.Beginning.{AppendsBeginning};
 ghost use Rattle.byte_streams.specs.Ended.{IsEnded};
 ghost use Rattle.command_line.specs.FaultText.{bad_present_line, fault_line, no_words_line};
 ghost use Rattle.command_line.specs.Ended.{TellsBadPresent, TellsMistake, TellsOutcome, TellsCheck, Does};
+ghost use Rattle.command_line.specs.Heard.{heard};
 ghost use Rattle.command_line.specs.Status.{IsRunStatus, IsStatus, status_of, no_words_status, words_status};
 ghost use Rattle.command_line.specs.Viewed.{ShowsSome, ShowsText, TellsEarly};
 
@@ -83,7 +84,7 @@ pub fn tell_bad_present<Faults: Write>(faults: &mut Writes<Faults>) -> u8
 fn refuse<Faults: Write>(alloc: Global, error: Error, faults: &mut Writes<Faults>) -> u8
     ensures status { result ≡ words_status (kind_of error) }
     ensures device { result ≢ 3 }
-    ensures told { TellsMistake (kind_of error) (Faults.contents faults.old.writer) (Faults.contents faults.new.writer) }
+    ensures told { TellsMistake (kind_of error) (Faults.contents faults.old.writer) (heard Faults.contents faults.new) }
 {
     if error.kind() == ErrorKind::OutOfMemory {
         return tell(RunFault::Memory, faults);
@@ -103,9 +104,9 @@ fn show_made<Out: Write, Faults: Write>(
     faults: &mut Writes<Faults>,
 ) -> u8
     ensures shown { IfOk made (λ text. ShowsText (string_bytes text) 0 (Out.contents writer.old.writer) (Out.contents writer.new.writer)
-        (Faults.contents faults.old.writer) (Faults.contents faults.new.writer) result) }
+        (Faults.contents faults.old.writer) (heard Faults.contents faults.new) result) }
     ensures memory { OnErr made (TellsEarly RunFault.Memory (Out.contents writer.old.writer) (Out.contents writer.new.writer)
-        (Faults.contents faults.old.writer) (Faults.contents faults.new.writer) result) }
+        (Faults.contents faults.old.writer) (heard Faults.contents faults.new) result) }
     ensures status { IsStatus result }
     ensures device { result ≡ 3 → writer.new.failed ≡ true }
 {
@@ -123,7 +124,7 @@ fn show<Out: Write, Faults: Write>(
     faults: &mut Writes<Faults>,
 ) -> u8
     ensures shown { ShowsSome (Out.contents writer.old.writer) (Out.contents writer.new.writer)
-        (Faults.contents faults.old.writer) (Faults.contents faults.new.writer) result }
+        (Faults.contents faults.old.writer) (heard Faults.contents faults.new) result }
     ensures status { IsStatus result }
     ensures device { result ≡ 3 → writer.new.failed ≡ true }
 {
@@ -142,7 +143,7 @@ fn run_script<In: Read, Out: Write, Faults: Write, T: Threads + Wait + Sync>(
     ensures outcome { IfSome (In.remaining reader.old.reader) (λ script.
         TellsOutcome options.now.rules options.now.nodes options.now.present options.now.limit script
         (Out.contents writer.old.writer) (Out.contents writer.new.writer)
-        (Faults.contents faults.old.writer) (Faults.contents faults.new.writer) result) }
+        (Faults.contents faults.old.writer) (heard Faults.contents faults.new) result) }
     ensures status { IsRunStatus result }
     ensures device { result ≡ 3 → IsEnded reader.new.failed reader.new.count ⊎ (writer.new.failed ≡ true) }
 {
@@ -163,10 +164,10 @@ fn run_network<In: Read, Out: Write, Faults: Write, T: Threads + Wait + Sync>(
 ) -> u8
     ensures outcome { IfSome (In.remaining reader.old.reader) (λ script. MatchOption options
         (TellsBadPresent (Out.contents writer.old.writer) (Out.contents writer.new.writer)
-        (Faults.contents faults.old.writer) (Faults.contents faults.new.writer) result)
+        (Faults.contents faults.old.writer) (heard Faults.contents faults.new) result)
         (λ asked. TellsOutcome asked.rules asked.nodes asked.present asked.limit script
         (Out.contents writer.old.writer) (Out.contents writer.new.writer)
-        (Faults.contents faults.old.writer) (Faults.contents faults.new.writer) result)) }
+        (Faults.contents faults.old.writer) (heard Faults.contents faults.new) result)) }
     ensures status { IsRunStatus result }
     ensures device { result ≡ 3 → IsEnded reader.new.failed reader.new.count ⊎ (writer.new.failed ≡ true) }
 {
@@ -185,7 +186,7 @@ fn check_transcript<In: Read, Out: Write, Faults: Write>(
 ) -> u8
     ensures verdict { IfSome (In.remaining reader.old.reader) (λ bytes.
         TellsCheck bytes (Out.contents writer.old.writer) (Out.contents writer.new.writer)
-        (Faults.contents faults.old.writer) (Faults.contents faults.new.writer) result) }
+        (Faults.contents faults.old.writer) (heard Faults.contents faults.new) result) }
     ensures status { IsStatus result }
     ensures device { result ≡ 3 → IsEnded reader.new.failed reader.new.count ⊎ (writer.new.failed ≡ true) }
 {
@@ -213,7 +214,7 @@ pub fn start<S: AsStr, In: Read, Out: Write, Faults: Write, T: Threads + Wait + 
         × IfOk asked (Answers (map S.text words.entry.now))
         × IfErr asked (λ e. (task : Task) → Wants (map S.text words.entry.now) task → kind_of e ≡ OutOfMemory)
         × Does asked input (Out.contents writer.old.writer) (Out.contents writer.new.writer)
-        (Faults.contents faults.old.writer) (Faults.contents faults.new.writer) result) }
+        (Faults.contents faults.old.writer) (heard Faults.contents faults.new) result) }
     ensures status { IsStatus result }
     ensures device { result ≡ 3 → ((storm : StormWords) × Asks (map S.text words.entry.now) (Task.Storm storm))
         ⊎ (IsEnded reader.new.failed reader.new.count ⊎ (writer.new.failed ≡ true)) }

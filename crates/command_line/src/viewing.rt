@@ -1,10 +1,10 @@
 //! What a transcript is shown as, told on the writers.
 
 ghost use Rattle.std.specs.Prelude.{◌≡◌, ◌⊎◌, true, Err, IfErr, IfOk, IfSome, IsErrOf, OnErr};
-ghost use Rattle.byte_streams.specs.Beginning.{AppendsBeginning};
 ghost use Rattle.byte_streams.specs.Ended.{IsEnded};
 ghost use Rattle.transcript_view.specs.Views.{IsPicture, IsTable};
 ghost use Rattle.command_line.specs.FaultText.{fault_line};
+ghost use Rattle.command_line.specs.Heard.{heard, Tells};
 ghost use Rattle.command_line.specs.Status.{IsStatus};
 ghost use Rattle.command_line.specs.Viewed.{ShowsRefusal, ShowsText, TellsView, Views, missing_line};
 
@@ -44,7 +44,7 @@ pub fn show_text<Out: Write, Faults: Write>(
 ) -> u8
     requires { IsStatus good }
     ensures shown { ShowsText text.now good (Out.contents writer.old.writer) (Out.contents writer.new.writer)
-        (Faults.contents faults.old.writer) (Faults.contents faults.new.writer) result }
+        (Faults.contents faults.old.writer) (heard Faults.contents faults.new) result }
     ensures status { IsStatus result }
     ensures device { result ≡ 3 → (good ≡ 3) ⊎ (writer.new.failed ≡ true) }
 {
@@ -62,7 +62,7 @@ fn show_refusal<Out: Write, Faults: Write>(
     faults: &mut Writes<Faults>,
 ) -> u8
     ensures shown { ShowsRefusal damage (Out.contents writer.old.writer) (Out.contents writer.new.writer)
-        (Faults.contents faults.old.writer) (Faults.contents faults.new.writer) result }
+        (Faults.contents faults.old.writer) (heard Faults.contents faults.new) result }
     ensures status { IsStatus result }
     ensures device { result ≡ 3 → writer.new.failed ≡ true }
 {
@@ -74,9 +74,9 @@ fn show_refusal<Out: Write, Faults: Write>(
 
 // Tells that there is no such entry, in this line if there was memory for it, and gives the exit status.
 fn tell_missing<Faults: Write>(line: Result<Vec<u8>, AllocError>, faults: &mut Writes<Faults>) -> u8
-    ensures told { IfOk line (λ text. (result ≡ 2) × AppendsBeginning (Faults.contents faults.old.writer) (Faults.contents faults.new.writer)
+    ensures told { IfOk line (λ text. (result ≡ 2) × Tells (Faults.contents faults.old.writer) (heard Faults.contents faults.new)
         text.items) }
-    ensures memory { OnErr line ((result ≡ 4) × AppendsBeginning (Faults.contents faults.old.writer) (Faults.contents faults.new.writer)
+    ensures memory { OnErr line ((result ≡ 4) × Tells (Faults.contents faults.old.writer) (heard Faults.contents faults.new)
         (fault_line RunFault.Memory)) }
 {
     match line {
@@ -96,7 +96,7 @@ fn tell_view<Out: Write, Faults: Write>(
     faults: &mut Writes<Faults>,
 ) -> u8
     ensures told { TellsView viewed (Out.contents writer.old.writer) (Out.contents writer.new.writer)
-        (Faults.contents faults.old.writer) (Faults.contents faults.new.writer) result }
+        (Faults.contents faults.old.writer) (heard Faults.contents faults.new) result }
     ensures status { IsStatus result }
     ensures device { result ≡ 3 → IsErrOf viewed InputFault.Read ⊎ (writer.new.failed ≡ true) }
 {
@@ -164,7 +164,7 @@ pub fn draw<In: Read, Out: Write, Faults: Write>(
     faults: &mut Writes<Faults>,
 ) -> u8
     ensures shown { IfSome (In.remaining reader.old.reader) (λ bytes. Views (IsPicture bytes entry)
-        (Out.contents writer.old.writer) (Out.contents writer.new.writer) (Faults.contents faults.old.writer) (Faults.contents faults.new.writer) result) }
+        (Out.contents writer.old.writer) (Out.contents writer.new.writer) (Faults.contents faults.old.writer) (heard Faults.contents faults.new) result) }
     ensures status { IsStatus result }
     ensures device { result ≡ 3 → IsEnded reader.new.failed reader.new.count ⊎ (writer.new.failed ≡ true) }
 {
@@ -181,7 +181,7 @@ pub fn list_epochs<In: Read, Out: Write, Faults: Write>(
     faults: &mut Writes<Faults>,
 ) -> u8
     ensures shown { IfSome (In.remaining reader.old.reader) (λ bytes. Views (IsTable bytes)
-        (Out.contents writer.old.writer) (Out.contents writer.new.writer) (Faults.contents faults.old.writer) (Faults.contents faults.new.writer) result) }
+        (Out.contents writer.old.writer) (Out.contents writer.new.writer) (Faults.contents faults.old.writer) (heard Faults.contents faults.new) result) }
     ensures status { IsStatus result }
     ensures device { result ≡ 3 → IsEnded reader.new.failed reader.new.count ⊎ (writer.new.failed ≡ true) }
 {

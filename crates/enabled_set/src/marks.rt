@@ -87,7 +87,7 @@ impl Marks {
         }
     }
 
-    /// Takes the mark from a name and gives that name, the one that was marked last; `None` where none is. Two looks and a write.
+    /// Takes the mark from a name and gives that name, the one that was marked last (tested); `None` where none is. Two looks and a write.
     #[inline(always)]
     pub fn take(&mut self) -> Option<Node>
         ensures none { IsNone result → (v : ℕ) → is_in self.old v ≡ false }

@@ -4,7 +4,9 @@ use Rattle.std.proofs.lemmas.Bool.{true≢false}
 use Rattle.std.proofs.Math.Seq.{take-append_seam, take-append-add, take-length}
 use Rattle.std.specs.Io.KnownBytes.{Appends}
 use Rattle.std.proofs.KnownBytes.{Appends-nil, Appends-trans}
+use Rattle.rule_machine.specs.declared.rules.RuleSet.{RuleSet}
 use Rattle.rule_machine.specs.RuleTable.{RuleTable}
+use Rattle.rule_machine.specs.Tables.{table_of}
 use Rattle.std.specs.Prelude.{OnErr, IsErr, IfSome}
 use Rattle.script_text.specs.Script.{Progress, LineDoes, LinesDo, lines_of}
 use Rattle.byte_streams.specs.Beginning.{AppendsBeginning, AppendsLess}
@@ -12,7 +14,10 @@ use Rattle.line_run.specs.declared.stop.Stop.{Stop}
 use Rattle.line_run.specs.declared.stop.Stop.TheVariants.{BadLine, LogFull}
 use Rattle.script_run.specs.declared.halt.Halt.{Halt}
 use Rattle.script_run.specs.declared.halt.Halt.TheVariants.{Whole, Stopped, Unread, Memory}
-use Rattle.script_run.specs.Outcome.{Ends, EndsFrom, LeadsTo, Reaches}
+use Rattle.line_run.specs.Beginning.{beginning}
+use Rattle.script_run.specs.declared.fault.RunFault.{RunFault}
+use Rattle.script_run.specs.Outcome.{Ends, EndsFrom, IsOutcome, LeadsTo, Reaches}
+use Rattle.script_run.specs.Whole.{DoesWholeLines}
 use Rattle.script_run.specs.Halted.{Hands, Halts, ended, answered}
 use Rattle.script_run.specs.Line.{LineEnds}
 
@@ -119,3 +124,26 @@ module _ {limit limit' : ℕ} {start start' : Progress} (as_far : limit ≡ limi
         for_known a (λ script. Halts t limit (lines_of script) start end (λ text. Hands old known text held)) (λ script. EndsFrom t limit' start' script old new (ended end))
         (λ script halted. as_asked (λ n s. Ends t n (lines_of script) s (ended end) (Appends old new) (AppendsBeginning old new))
         (Ends-written t limit (lines_of script) start end old known new held halted (subst (Appends known new) same wrote))) halts
+
+-- the lines that were read whole, of which what was held was written
+pub Whole-finished : {limit limit' : ℕ} {start start' : Progress} (as_far : limit ≡ limit') (begins : start ≡ start') (t : RuleTable) (had left old known new : Option (List ℕ)) (held held' : List ℕ) → held' ≡ held
+    → DoesWholeLines t limit start had left (λ text. Hands old known text held) → Appends known new held' → DoesWholeLines t limit' start' had left (Appends old new)
+Whole-finished {limit} {limit'} {start} {start'} as_far begins t had left old known new held held' same does wrote =
+    subst (λ n. DoesWholeLines t n start' had left (Appends old new)) as_far (subst (λ s. DoesWholeLines t limit s had left (Appends old new)) begins (record {
+      bytes = does.bytes;
+      gave = does.gave;
+      lines = does.lines;
+      begun = does.begun;
+      whole = does.whole;
+      end = does.end;
+      does = does.does;
+      holds = Hands-all old known new does.end.text held does.holds (subst (Appends known new) same wrote);
+    }))
+
+-- the rules that were asked for have this table
+pub outcome_under : (rules : RuleSet) (t : RuleTable) (nodes present limit : ℕ) (a old new new' : Option (List ℕ)) (result result' : Result Unit RunFault) → table_of rules ≡ t → new' ≡ new → result' ≡ result
+    → IfSome a (λ script. EndsFrom t limit (beginning rules nodes present) script old new result) → IfSome a (λ script. IsOutcome rules nodes present limit script old new' result')
+outcome_under rules t nodes present limit a old new new' result result' table writer ended is =
+    subst (λ u. IfSome a (λ script. EndsFrom u limit (beginning rules nodes present) script old new' result')) (sym table)
+    (subst (λ w. IfSome a (λ script. EndsFrom t limit (beginning rules nodes present) script old w result')) (sym writer)
+    (subst (λ r. IfSome a (λ script. EndsFrom t limit (beginning rules nodes present) script old new r)) (sym ended) is))

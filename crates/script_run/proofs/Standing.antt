@@ -3,8 +3,9 @@ use Rattle.std.proofs.Common.{◌≡◌, ◌∙◌, ℕ, zero, suc, ◌+◌, ◌
 use Rattle.std.proofs.lemmas.Bool.{true≢false}
 use Rattle.std.proofs.Math.Seq.{take-append_seam}
 use Rattle.std.specs.Prelude.{IsErr, IfSome}
-use Rattle.std.proofs.KnownBytes.{Appends-nil, Appends-trans, Consumes-nil, Consumes-trans, Consumes-whole}
-use Rattle.std.specs.Io.KnownBytes.{Consumes, IsAtEnd}
+use Rattle.std.proofs.KnownBytes.{Appends-nil, Appends-trans, Consumes-nil, Consumes-trans, Consumes-whole, Consumes-kept}
+use Rattle.std.proofs.lemmas.List.Elements.{All-nil, All-push}
+use Rattle.std.specs.Io.KnownBytes.{Consumes, IsAtEnd, Keeps}
 use Rattle.rule_machine.specs.RuleTable.{RuleTable}
 use Rattle.script_text.specs.Script.{Progress, LinesDo, IsBadLine, lines_of}
 use Rattle.script_text.proofs.Ending.{GoesOn, goes_on, line_joined, lines_of-ended, lines_of-last}
@@ -19,6 +20,7 @@ use Rattle.script_run.specs.Outcome.{StopsAt, LeadsTo}
 use Rattle.script_run.specs.Halted.{Hands, Halts}
 use Rattle.script_run.specs.Line.{LineEnds}
 use Rattle.script_run.specs.Reading.{Stands, PieceEnds}
+use Rattle.script_run.specs.Whole.{ended_text, DoesWholeLines}
 use Rattle.script_run.proofs.Shifting.{at_line, line_adds, meeting_adds}
 use Rattle.script_run.proofs.Running.{LineEnds-done, LinesDo-more, LeadsTo-before, Hands-less, Hands-begun}
 
@@ -71,6 +73,20 @@ last_line (b ∷ begun) line some = ap lines_of (append-nil (b ∷ begun)) ∙ l
 whole : (read : List ℕ) (P : List (List ℕ) → Type 0) → P (lines_of (read ++ [])) → P (lines_of read)
 whole read P p = subst (λ l. P (lines_of l)) (append-nil read) p
 
+-- a line more, with its LF
+ended_more : (lines : List (List ℕ)) (line : List ℕ) → ended_text (lines ++ line ∷ []) ≡ ended_text lines ++ (line ++ 10 ∷ [])
+ended_more [] line = refl
+ended_more (first ∷ lines) line =
+    ap (λ l. first ++ 10 ∷ l) (ended_more lines line) ∙ sym (append_assoc first (10 ∷ ended_text lines) (line ++ 10 ∷ []))
+
+joined_line : (lines : List (List ℕ)) (begun line behind rest : List ℕ) → rest ≡ line ++ 10 ∷ behind → ended_text lines ++ (begun ++ rest) ≡ ended_text (lines ++ (begun ++ line) ∷ []) ++ ([] ++ behind)
+joined_line lines begun line behind rest e =
+    ap (λ l. ended_text lines ++ (begun ++ l)) e
+    ∙ ap (λ l. ended_text lines ++ l) (sym (append_assoc begun line (10 ∷ behind)))
+    ∙ ap (λ l. ended_text lines ++ l) (sym (append_assoc (begun ++ line) (10 ∷ []) behind))
+    ∙ sym (append_assoc (ended_text lines) ((begun ++ line) ++ 10 ∷ []) behind)
+    ∙ ap (λ l. l ++ behind) (sym (ended_more lines (begun ++ line)))
+
 module _ {t : RuleTable} {limit : ℕ} {start : Progress} {old : Option (List ℕ)} where
   -- nothing was read
   pub Stands-none : Stands t limit start old [] [] [] 0 start old
@@ -78,6 +94,8 @@ module _ {t : RuleTable} {limit : ℕ} {start : Progress} {old : Option (List �
     before = [];
     text = start.text;
     splits = λ more. refl;
+    joined = refl;
+    each = All-nil IsLine;
     unended = tt;
     number = refl;
     does = refl;
@@ -87,10 +105,12 @@ module _ {t : RuleTable} {limit : ℕ} {start : Progress} {old : Option (List �
   -- so much more was read
   Stands-read : {read begun : List ℕ} {n : ℕ} {now : Progress} {known : Option (List ℕ)} (bytes : List ℕ)
       → Stands t limit start old read begun [] n now known → Stands t limit start old (read ++ bytes) begun bytes n now known
-  Stands-read {read} bytes h = record {
+  Stands-read {read} {begun} bytes h = record {
     before = h.before;
     text = h.text;
     splits = λ more. ap lines_of (append_assoc read bytes more) ∙ h.splits (bytes ++ more);
+    joined = ap (λ l. l ++ bytes) (h.joined ∙ ap (λ l. ended_text h.before ++ l) (append-nil begun)) ∙ append_assoc (ended_text h.before) begun bytes;
+    each = h.each;
     unended = h.unended;
     number = h.number;
     does = h.does;
@@ -107,6 +127,8 @@ module _ {t : RuleTable} {limit : ℕ} {start : Progress} {old : Option (List �
         before = h.before ++ (begun ++ line) ∷ [];
         text = h.text ++ adds.more;
         splits = λ more. h.splits more ∙ ap (λ l. h.before ++ l) (first_line begun line behind rest more h.unended ended e) ∙ sym (append_assoc h.before ((begun ++ line) ∷ []) (lines_of (behind ++ more)));
+        joined = h.joined ∙ joined_line h.before begun line behind rest e;
+        each = All-push IsLine h.before (begun ++ line) h.each (line_joined begun line h.unended ended);
         unended = tt;
         number = ap (λ m. m + 1) h.number ∙ sym (length-append h.before ((begun ++ line) ∷ []));
         does = LinesDo-more t limit h.before (begun ++ line) start (at_line now.rules now.moment now.count h.text) _ h.does (adds.leads h.text);
@@ -131,6 +153,8 @@ module _ {t : RuleTable} {limit : ℕ} {start : Progress} {old : Option (List �
     before = h.before;
     text = h.text;
     splits = h.splits;
+    joined = h.joined;
+    each = h.each;
     unended = h.unended;
     number = h.number;
     does = subst (λ r. LinesDo t limit h.before start (at_line r later.moment later.count h.text)) rules
@@ -313,6 +337,19 @@ module _ {t : RuleTable} {limit : ℕ} {start : Progress} {old : Option (List �
     pub Came-began : (known' : Option (List ℕ)) → AppendsBeginning known known' now.text → Fails t limit start old a known'
     Came-began known' part =
         known_read a b h.read (λ script. (end : Progress) × LeadsTo t limit (lines_of script) start end × AppendsBeginning old known' end.text) h.used (Stands-began known' h.stands part)
+
+    -- the reader failed: what was carried out are the lines that it gave whole
+    pub Came-whole : (c : Option (List ℕ)) → Keeps b c → DoesWholeLines t limit start a c (λ text. Hands old known text now.text)
+    Came-whole c kept = record {
+      bytes = h.read;
+      gave = Consumes-kept a b c h.read h.used kept;
+      lines = h.stands.before;
+      begun = begun;
+      whole = record { joined = h.stands.joined ∙ ap (λ l. ended_text h.stands.before ++ l) (append-nil begun); each = h.stands.each; unended = h.stands.unended };
+      end = at_line now.rules now.moment now.count h.stands.text;
+      does = h.stands.does;
+      holds = h.stands.handed;
+    }
 
     pub Came-unread : EndsSo t limit start old a Unread known now.text
     Came-unread = known_read a b h.read (λ script. Halts t limit (lines_of script) start Unread (λ text. Hands old known text now.text)) h.used (Stands-unread h.stands)

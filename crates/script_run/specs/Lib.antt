@@ -4,3 +4,4 @@ pub mod Halted
 pub mod Input
 pub mod Asked
 pub mod Reading
+pub mod Whole

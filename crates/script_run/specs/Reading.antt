@@ -1,5 +1,6 @@
 -- How far a script was read and carried out.
 use Rattle.std.specs.Prelude.{◌≡◌, ℕ, ◌+◌, List, [], ◌++◌, length, Option, None, Some, Result, Ok, Err}
+use Rattle.std.specs.List.{All}
 use Rattle.rule_machine.specs.RuleTable.{RuleTable}
 use Rattle.script_text.specs.Script.{Progress, LinesDo, lines_of}
 use Rattle.byte_streams.specs.Beginning.{AppendsLess}
@@ -8,14 +9,17 @@ use Rattle.script_run.specs.declared.halt.Halt.{Halt}
 use Rattle.script_run.specs.declared.reading.Reading.{Reading}
 use Rattle.script_run.specs.Halted.{Hands, Halts}
 use Rattle.script_run.specs.Outcome.{LeadsTo}
+use Rattle.script_run.specs.Whole.{ended_text}
 
--- Of the bytes that were read so many lines were carried out, from the first on, and they lead to where the run stands now. Behind
--- them a line was begun, whose end is not found yet, and the rest was not looked at. Of the text that the lines make the writer has
--- what stands before that of now.
+-- Of the bytes that were read so many lines were carried out, from the first on, each up to its LF, and they lead to where the run
+-- stands now. Behind them a line was begun, whose end is not found yet, and the rest was not looked at. Of the text that the lines
+-- make the writer has what stands before that of now.
 pub record Stands (t : RuleTable) (limit : ℕ) (start : Progress) (old : Option (List ℕ)) (read begun rest : List ℕ) (n : ℕ) (now : Progress) (known : Option (List ℕ)) : Type 0 where
   pub before : List (List ℕ)
   pub text : List ℕ
   pub splits : (more : List ℕ) → lines_of (read ++ more) ≡ before ++ lines_of (begun ++ (rest ++ more))
+  pub joined : read ≡ ended_text before ++ (begun ++ rest)
+  pub each : All IsLine before
   pub unended : IsLine begun
   pub number : n ≡ length before
   pub does : LinesDo t limit before start (record { rules = now.rules; moment = now.moment; count = now.count; text = text })

@@ -1,7 +1,7 @@
 //! How far a script was read, and how it is read on.
 
 ghost use Rattle.std.specs.Prelude.{◌≡◌, ◌<◌, ◌≤◌, ◌+◌, [], length, take, IfOk, OnErr, OnOk};
-ghost use Rattle.std.specs.Io.KnownBytes.{Consumes, IsAtEnd};
+ghost use Rattle.std.specs.Io.KnownBytes.{Consumes, IsAtEnd, Keeps};
 ghost use Rattle.byte_streams.specs.Ended.{IsEnded};
 
 use byte_streams::{InputFault, Reads};
@@ -43,6 +43,7 @@ pub fn read_on<In: Read>(
     ensures room { length chunk.new ≡ length chunk.old }
     ensures count { OnOk result ((reader.old.count < 4294967295) × (reader.new.count ≡ reader.old.count + 1)) }
     ensures unread { OnErr result (IsEnded reader.new.failed reader.new.count) }
+    ensures kept { OnErr result (Keeps (In.remaining reader.old.reader) (In.remaining reader.new.reader)) }
 {
     reader.read(chunk)
 }

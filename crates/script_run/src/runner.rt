@@ -1,7 +1,7 @@
 //! A run under one set of rules.
 
 ghost use Rattle.std.specs.Prelude.{◌≡◌, true, IfOk, IfSome, OnErr};
-ghost use Rattle.std.specs.Io.KnownBytes.{IsAtEnd};
+ghost use Rattle.std.specs.Io.KnownBytes.{Appends, IsAtEnd};
 ghost use Rattle.script_text.specs.Command.{Says};
 ghost use Rattle.script_text.specs.Script.{Progress, lines_of};
 ghost use Rattle.byte_streams.specs.Beginning.{AppendsBeginning};
@@ -12,6 +12,7 @@ ghost use Rattle.line_run.specs.Line.{progress_of};
 ghost use Rattle.script_run.specs.Line.{CommandGrows, LineGrows, CarriesLine};
 ghost use Rattle.script_run.specs.declared.halt.Halt.TheVariants.{Whole, Unread};
 ghost use Rattle.script_run.specs.Outcome.{EndsFrom, LeadsTo};
+ghost use Rattle.script_run.specs.Whole.{DoesWholeLines};
 
 use crate::Options;
 use crate::halt::Halt;
@@ -153,6 +154,9 @@ impl<R: Rules + Sync> Run<R> {
         ensures fault { OnErr result (IfSome (In.remaining reader.old.reader) (λ script. (end : Progress)
             × LeadsTo R.table self.old.line.recorder.limit (lines_of script) (progress_of self.old.line) end
             × AppendsBeginning (Out.contents writer.old.writer) (Out.contents writer.new.writer) end.text)) }
+        ensures whole { IfOk result (λ end. end ≡ Unread → DoesWholeLines R.table self.old.line.recorder.limit (progress_of self.old.line)
+            (In.remaining reader.old.reader) (In.remaining reader.new.reader)
+            (λ text. Hands (Out.contents writer.old.writer) (Out.contents writer.new.writer) text self.new.line.text.items)) }
         ensures read { IfOk result (λ end. end ≡ Whole → IsAtEnd (In.remaining reader.new.reader)) }
         ensures unread { IfOk result (λ end. end ≡ Unread → IsEnded reader.new.failed reader.new.count) }
         ensures unwritten { OnErr result (writer.new.failed ≡ true) }
@@ -193,6 +197,8 @@ pub fn run_on<R: Rules + Sync, In: Read, Out: Write, T: Threads + Wait + Sync>(
     ensures outcome { IfSome (In.remaining reader.old.reader) (λ script.
         EndsFrom R.table options.now.limit (beginning options.now.rules options.now.nodes options.now.present) script
         (Out.contents writer.old.writer) (Out.contents writer.new.writer) (answered result)) }
+    ensures whole { IfOk result (λ end. end ≡ Unread → DoesWholeLines R.table options.now.limit (beginning options.now.rules options.now.nodes options.now.present)
+        (In.remaining reader.old.reader) (In.remaining reader.new.reader) (Appends (Out.contents writer.old.writer) (Out.contents writer.new.writer))) }
     ensures read { IfOk result (λ end. end ≡ Whole → IsAtEnd (In.remaining reader.new.reader)) }
     ensures unread { IfOk result (λ end. end ≡ Unread → IsEnded reader.new.failed reader.new.count) }
     ensures unwritten { OnErr result (writer.new.failed ≡ true) }

@@ -1,10 +1,13 @@
 //! The run of a script.
 
 ghost use Rattle.std.specs.Prelude.{◌≡◌, true, OnOk, IfSome, IsErrOf};
-ghost use Rattle.std.specs.Io.KnownBytes.{IsAtEnd};
+ghost use Rattle.std.specs.Io.KnownBytes.{Appends, IsAtEnd};
 ghost use Rattle.byte_streams.specs.Ended.{IsEnded};
 ghost use Rattle.script_run.specs.declared.fault.RunFault.TheVariants.{Read as Unread, Write as Unwritten};
+ghost use Rattle.rule_machine.specs.Tables.{table_of};
+ghost use Rattle.line_run.specs.Beginning.{beginning};
 ghost use Rattle.script_run.specs.Outcome.{IsOutcome};
+ghost use Rattle.script_run.specs.Whole.{DoesWholeLines};
 
 use crate::runner::run_on;
 use crate::{Options, RunFault};
@@ -41,6 +44,8 @@ pub fn run<In: Read, Out: Write, T: Threads + Wait + Sync>(
     ensures outcome { IfSome (In.remaining reader.old.reader) (λ script.
         IsOutcome options.now.rules options.now.nodes options.now.present options.now.limit script
         (Out.contents writer.old.writer) (Out.contents writer.new.writer) result) }
+    ensures whole { IsErrOf result Unread → DoesWholeLines (table_of options.now.rules) options.now.limit (beginning options.now.rules options.now.nodes options.now.present)
+        (In.remaining reader.old.reader) (In.remaining reader.new.reader) (Appends (Out.contents writer.old.writer) (Out.contents writer.new.writer)) }
     ensures read { OnOk result (IsAtEnd (In.remaining reader.new.reader)) }
     ensures unread { IsErrOf result Unread → IsEnded reader.new.failed reader.new.count }
     ensures unwritten { IsErrOf result Unwritten → writer.new.failed ≡ true }

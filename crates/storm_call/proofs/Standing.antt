@@ -24,8 +24,7 @@ pub stands_more : (scene : Scene) (front : ℕ) (lines : List ScriptLine) (line 
 stands_more scene front [] line receipts own none for =
     (own, [], ap (λ rs. rs ++ own) none ∙ sym (append-nil own), subst (λ n. IsFor scene n line.command own) (ap (front_from front) none) for, refl)
 stands_more scene front (first ∷ lines) line receipts own (told, rest, is, for_first, others) for =
-    let low : front_from front receipts ≡ front_from (front_from front told) rest = ap (front_from front) is ∙ front_behind front told rest in
-    (
+    let low : front_from front receipts ≡ front_from (front_from front told) rest = ap (front_from front) is ∙ front_behind front told rest in (
       told,
       rest ++ own,
       ap (λ rs. rs ++ own) is ∙ append_assoc told rest own,

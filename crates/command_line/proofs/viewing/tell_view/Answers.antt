@@ -2,6 +2,7 @@ use Rattle.std.proofs.Common.{◌≡◌, Result, Ok, sym, subst}
 use Rattle.byte_streams.specs.declared.input_fault.InputFault.{InputFault}
 use Rattle.transcript_view.specs.declared.view.View.{View}
 use Rattle.transcript_view.specs.declared.view.View.TheVariants.{TooFew, Forgotten}
+use Rattle.command_line.specs.Heard.{heard}
 use Rattle.command_line.specs.Viewed.{TellsView, too_few_line, forgotten_line}
 use Rattle.command_line.proofs.Missing.{missed}
 use Rattle.command_line.proofs.viewing.tell_view.Goals as goal
@@ -10,7 +11,7 @@ pub returns-in-Ok-TooFew-clause-told : goal.returns-in-Ok-TooFew-clause-told
 returns-in-Ok-TooFew-clause-told g c =
     let out = g.Out.Write.contents c.args.writer.now.writer in
     let before = g.Faults.Write.contents c.args.faults.now.writer in
-    let after = g.Faults.Write.contents c.tell_missing.new.faults.writer in
+    let after = heard g.Faults.Write.contents c.tell_missing.new.faults in
     let asked = c.in-Ok-TooFew.asked in
     let entries = c.in-Ok-TooFew.entries in
     let is = c.in-Ok-TooFew.is in
@@ -23,7 +24,7 @@ pub returns-in-Ok-Forgotten-clause-told : goal.returns-in-Ok-Forgotten-clause-to
 returns-in-Ok-Forgotten-clause-told g c =
     let out = g.Out.Write.contents c.args.writer.now.writer in
     let before = g.Faults.Write.contents c.args.faults.now.writer in
-    let after = g.Faults.Write.contents c.tell_missing-in-Ok-Forgotten.new.faults.writer in
+    let after = heard g.Faults.Write.contents c.tell_missing-in-Ok-Forgotten.new.faults in
     let asked = c.in-Ok-Forgotten.asked in
     let base = c.in-Ok-Forgotten.base in
     let is = c.in-Ok-Forgotten.is in

@@ -1,6 +1,6 @@
 use Rattle.script_text.specs.Script.{lines_of}
 use Rattle.line_run.specs.Beginning.{beginning}
-use Rattle.script_run.proofs.Running.{WritesPart, WritesPart-none, Ends-failed, Ends-unwritten, Ends-finished, for_any}
+use Rattle.script_run.proofs.Running.{WritesPart, WritesPart-none, Ends-failed, Ends-unwritten, Ends-finished, Whole-finished, for_any}
 use Rattle.script_run.proofs.runner.run_on.Goals as goal
 
 pub returns-in_default-clause-outcome : goal.returns-in_default-clause-outcome
@@ -27,4 +27,12 @@ returns-clause-outcome g c =
     let known = g.Out.Write.contents in
     Ends-finished c.in-Ok.ensures.limit c.in-Ok.ensures.begins g.R.Rules.table (g.In.Read.remaining c.args.reader.now.reader) (known c.args.writer.now.writer)
     c.in_ok-end.end (known c.carry_out_all.new.writer.writer) (known c.finish.new.self.writer) c.carry_out_all.new.self.line.text.items c.deref.result.now c.deref.ensures.value c.in_ok-end.ensures.ok
+    c.in_ok-finish.ensures.ok
+
+pub returns-clause-whole : goal.returns-clause-whole
+returns-clause-whole g c unread =
+    let known = g.Out.Write.contents in
+    let left = g.In.Read.remaining in
+    Whole-finished c.in-Ok.ensures.limit c.in-Ok.ensures.begins g.R.Rules.table (left c.args.reader.now.reader) (left c.carry_out_all.new.reader.reader) (known c.args.writer.now.writer)
+    (known c.carry_out_all.new.writer.writer) (known c.finish.new.self.writer) c.carry_out_all.new.self.line.text.items c.deref.result.now c.deref.ensures.value (c.in_ok-end.ensures.whole unread)
     c.in_ok-finish.ensures.ok

@@ -3,7 +3,7 @@ use Rattle.std.specs.Prelude.{IsNone}
 use Rattle.script_run.specs.declared.halt.Halt.{Halt}
 use Rattle.line_run.specs.Line.{progress}
 use Rattle.script_run.proofs.Running.{OnErr-holds}
-use Rattle.script_run.proofs.Standing.{take_short, Came-unbegun, Came-none, Came-handed, Came-began, Came-unread, Came-last, Came-piece, Took-goes_on, Took-stops, Took-fails}
+use Rattle.script_run.proofs.Standing.{take_short, Came-unbegun, Came-none, Came-handed, Came-began, Came-unread, Came-whole, Came-last, Came-piece, Took-goes_on, Took-stops, Took-fails}
 use Rattle.script_run.proofs.runner.Run.carry_out_all.Goals as goal
 
 pub returns-in_default-clause-ok : goal.returns-in_default-clause-ok
@@ -29,6 +29,12 @@ returns-in_default-read_on-clause-ok g c =
     let run = c.loop-reading.self.line in
     let handed = Came-handed c.loop-reading.invariant.stands (progress run.rules run.recorder c.hand_over_all.new.text.items) (g.Out.Write.contents c.hand_over_all.new.writer.writer) refl refl refl c.in_ok-hand_over_all.ensures.ok in
     Came-unread handed
+
+pub returns-in_default-read_on-clause-whole : goal.returns-in_default-read_on-clause-whole
+returns-in_default-read_on-clause-whole g c _ =
+    let run = c.loop-reading.self.line in
+    let handed = Came-handed c.loop-reading.invariant.stands (progress run.rules run.recorder c.hand_over_all.new.text.items) (g.Out.Write.contents c.hand_over_all.new.writer.writer) refl refl refl c.in_ok-hand_over_all.ensures.ok in
+    Came-whole handed (g.In.Read.remaining c.read_on.new.reader.reader) c.in_default-read_on.ensures.kept
 
 pub returns-then-len-eq0-clause-ok : goal.returns-then-len-eq0-clause-ok
 returns-then-len-eq0-clause-ok g c =
