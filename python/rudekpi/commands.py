@@ -8,6 +8,7 @@ import math
 import re
 import statistics
 import sys
+import warnings
 from typing import Any, Callable, Iterable, Iterator, Optional, Sequence
 
 from . import daemons, json_lines, script_words, shell, sweeps
@@ -20,7 +21,10 @@ from .progress import shown
 from .sweeps import Disturbance, Row
 
 DONE, FAILED, BAD_WORDS, INTERRUPTED = 0, 1, 2, 130
-MADE = "a file (edge list, .col, .metis, .graphml, .json), or path:N ring:N star:N complete:N grid:RxC gnp:N,P,SEED regular:N,D,SEED disk:N,R,SEED"
+MADE = (
+    "a file (edge list, .csv, .col, .metis, .graphml, .json), or path:N ring:N star:N complete:N grid:RxC gnp:N,P,SEED "
+    "regular:N,D,SEED disk:N,R,SEED"
+)
 
 
 def opened(path: Optional[str], mode: str, otherwise: Any = None) -> Any:
@@ -51,16 +55,38 @@ def counts(text: str) -> list[int]:
     return [least(0)(word) for word in listed(text)]
 
 
-def graph_given(text: str) -> Graph:
+def graph_given(parser: argparse.ArgumentParser, text: str, undirected: bool) -> Graph:
+    """The graph of a word; ends by the parser if there is none, and prints what is left out of it."""
     try:
-        return graph_of(text)
-    except (OSError, ValueError, ImportError) as error:
-        raise argparse.ArgumentTypeError(str(error)) from None
+        with warnings.catch_warnings(record=True) as told:
+            warnings.simplefilter("always")
+            made = graph_of(text, undirected=undirected)
+    except (OSError, ValueError) as error:
+        parser.error(f"argument --graph: {error}")
+    for warning in told:
+        print(f"! {warning.message}", file=sys.stderr)
+    return made
+
+
+def words_of_graph(parser: argparse.ArgumentParser) -> None:
+    """What each command that takes graphs is told about them."""
+    parser.add_argument(
+        "--undirected", action="store_true", help="takes a directed graph of a file, without its directions"
+    )
+    parser.set_defaults(parser=parser)
+
+
+def read_graphs(given: argparse.Namespace) -> None:
+    """Makes graphs of the words behind --graph, once all words are known."""
+    words = given.graph if isinstance(given.graph, list) else [given.graph]
+    made = [graph_given(given.parser, text, given.undirected) for text in words]
+    given.graph = made if isinstance(given.graph, list) else made[0]
 
 
 def words_of_sweep(parser: argparse.ArgumentParser, rules: str) -> None:
     """What `sweep` and `compare` are told."""
-    parser.add_argument("--graph", action="append", required=True, type=graph_given, help=f"{MADE}; may be given again")
+    parser.add_argument("--graph", action="append", required=True, help=f"{MADE}; may be given again")
+    words_of_graph(parser)
     parser.add_argument("--rules", type=listed, default=rules, help="hh,manne or one of them (%(default)s)")
     parser.add_argument(
         "--daemon", type=listed, default="seeded", help=f"some of {','.join(daemons.WORDS)} (%(default)s)"
@@ -156,7 +182,7 @@ def run_compare(given: argparse.Namespace) -> int:
 
 def by_number(word: str) -> list[Any]:
     """What a word is sorted by, so that 5 stands in front of 10."""
-    return [(int(part), "") if part.isdigit() else (0, part) for part in re.split("([0-9]+)", word)]
+    return [(int(part), "") if part.isascii() and part.isdigit() else (0, part) for part in re.split("([0-9]+)", word)]
 
 
 def table_of(rows: Sequence[Row]) -> list[str]:
@@ -249,7 +275,8 @@ def parser_of() -> argparse.ArgumentParser:
         command("compare", run_compare, "a table of the moves under both rule sets, beside the bound"), "hh,manne"
     )
     worst = command("worst", run_worst, "the longest schedule of a network, as a script")
-    worst.add_argument("--graph", required=True, type=graph_given, help=MADE)
+    worst.add_argument("--graph", required=True, help=MADE)
+    words_of_graph(worst)
     worst.add_argument("--rules", choices=("hh", "manne"), default="manne")
     worst.add_argument(
         "--seconds",
@@ -276,5 +303,7 @@ def parser_of() -> argparse.ArgumentParser:
 
 def run(words: Optional[Sequence[str]] = None) -> int:
     given = parser_of().parse_args(words)
+    if hasattr(given, "graph"):
+        read_graphs(given)
     status: int = given.run(given)
     return status
