@@ -20,6 +20,8 @@ def as_sets(edges):
 
 
 class Read(Timed):
+    engines = ("program",)
+
     def path(self, name, text):
         path = os.path.join(self.folder(), name)
         pathlib.Path(path).write_bytes(text if isinstance(text, bytes) else text.encode())

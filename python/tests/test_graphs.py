@@ -33,6 +33,8 @@ def as_sets(edges):
 
 
 class Made(Timed):
+    engines = ("program",)
+
     def test_their_sizes(self):
         for words, n, m in [
             ("path:5", 5, 4),
