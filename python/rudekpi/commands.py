@@ -5,7 +5,6 @@ from __future__ import annotations
 import argparse
 import contextlib
 import math
-import re
 import statistics
 import sys
 import warnings
@@ -144,7 +143,7 @@ def rows_of(given: argparse.Namespace, rows: list[Row], file: Any) -> int:
     if given.plot:
         from . import plots
 
-        plots.check(given.plot)
+        plots.check(given.plot, len(given.graph) * len(hits))
     with executor_of(given) as executor:
         found = sweeps.sweep(*words, executor=executor, program=given.program, processes=given.processes)
         written: Iterable[Row] = sweeps.write_csv(found, file) if file else found
@@ -180,11 +179,6 @@ def run_compare(given: argparse.Namespace) -> int:
     return status
 
 
-def by_number(word: str) -> list[Any]:
-    """What a word is sorted by, so that 5 stands in front of 10."""
-    return [(int(part), "") if part.isascii() and part.isdigit() else (0, part) for part in re.split("([0-9]+)", word)]
-
-
 def table_of(rows: Sequence[Row]) -> list[str]:
     """The moves of each graph, daemon and disturbance under both rule sets, beside the bound, as the lines of a table."""
     groups: dict[tuple[str, ...], list[Row]] = {}
@@ -193,7 +187,7 @@ def table_of(rows: Sequence[Row]) -> list[str]:
     lines: list[tuple[str, ...]] = [
         ("graph", "disturbance", "daemon", "rules", "runs", "min", "mean", "median", "95th", "max", "bound")
     ]
-    for key, group in sorted(groups.items(), key=lambda item: [by_number(word) for word in item[0]]):
+    for key, group in sorted(groups.items(), key=lambda item: [sweeps.natural(word) for word in item[0]]):
         moves = sorted(row.moves for row in group)
         figures = [
             min(moves),

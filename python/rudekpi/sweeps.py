@@ -5,8 +5,10 @@ from __future__ import annotations
 import contextlib
 import csv
 import itertools
+import math
 import os
 import random
+import re
 import time
 from collections import deque
 from concurrent.futures import Executor
@@ -24,6 +26,7 @@ from .replies import Name
 from .workers import Handing, count_of
 
 REGISTERS = ("any", "pointer", "flag")
+MOST_EXPERIMENTS = 1_000_000
 # about how many seconds a task takes
 TASK_SECONDS = 1.0
 
@@ -58,13 +61,18 @@ class Disturbance:
             )
 
     def __str__(self) -> str:
-        faults = f"{self.faults} faults" if self.registers == "any" else f"{self.faults} faults of {self.registers}s"
-        parts = (
-            [faults] * bool(self.faults)
-            + [f"{self.joins} joins"] * bool(self.joins)
-            + [f"{self.leaves} leaves"] * bool(self.leaves)
-        )
-        return ", ".join(parts) or "start"
+        of = "" if self.registers == "any" else f" of {self.registers}s"
+        parts = [
+            f"{self.faults} fault{'s' * (self.faults != 1)}{of}" * bool(self.faults),
+            f"{self.joins} join{'s' * (self.joins != 1)}" * bool(self.joins),
+            f"{self.leaves} leave{'s' * (self.leaves != 1)}" * bool(self.leaves),
+        ]
+        return ", ".join(filter(None, parts)) or "start"
+
+    @property
+    def is_nothing(self) -> bool:
+        """Whether nothing hits the network, so that it settles from the start."""
+        return not (self.faults or self.joins or self.leaves)
 
 
 @dataclass(frozen=True)
@@ -130,7 +138,7 @@ class Experiment:
         joining = set(nodes[: self.disturbance.joins])
         with Network(self.rules, self.graph.nodes, program=self.program) as net:
             self.begin(net, joining)
-            if self.disturbance != Disturbance():
+            if not self.disturbance.is_nothing:
                 net.settle(daemons.Seeded(self.seed))
                 disturb(net, self, joining, drawn)
             daemon = daemons.named(self.daemon, self.seed) if isinstance(self.daemon, str) else self.daemon
@@ -210,10 +218,18 @@ def experiments_of(
     disturbances: Iterable[Union[int, Disturbance]],
     program: Program = None,
 ) -> list[Experiment]:
-    """All experiments of a sweep. Under `hh`, which has no flags and takes one node at a time, those of flags and of the synchronous
-    daemon are left out. Raises `ValueError` for words and numbers that none takes."""
+    """All experiments of a sweep. Under `hh`, which has no flags and takes one node at a time, those of flags and of the
+    synchronous daemon are left out.
+
+    Raises `ValueError` for words and numbers that none takes, two graphs with one title, and more than 1,000,000
+    experiments, which are counted before any is made.
+    """
     of = [it if isinstance(it, Disturbance) else Disturbance(it) for it in disturbances]
-    every = itertools.product(graphs, rules, daemons, seeds, of)
+    lists = [first_of(it) for it in (graphs, rules, daemons, seeds, of)]
+    if math.prod(map(len, lists)) > MOST_EXPERIMENTS:
+        raise ValueError(f"a sweep has at most {MOST_EXPERIMENTS} experiments: fewer seeds, graphs or disturbances")
+    check_titles(lists[0])
+    every = itertools.product(*lists)
     lawful = (
         words
         for words in every
@@ -223,6 +239,21 @@ def experiments_of(
         Experiment(graph, rule_set, daemon, seed, disturbance, program)
         for graph, rule_set, daemon, seed, disturbance in lawful
     ]
+
+
+def first_of(given: Iterable[Any]) -> Sequence[Any]:
+    """As many of these as a sweep may have experiments, and one more, however many there are."""
+    if isinstance(given, range):
+        return given[: MOST_EXPERIMENTS + 1]
+    return list(itertools.islice(given, MOST_EXPERIMENTS + 1))
+
+
+def check_titles(graphs: Sequence[Any]) -> None:
+    """Raises `ValueError` if two graphs that differ have one title, since rows and plots know them by it."""
+    known: dict[str, Graph] = {}
+    for graph in graphs:
+        if isinstance(graph, Graph) and known.setdefault(graph.title, graph) != graph:
+            raise ValueError(f"two graphs have the title {graph.title!r}")
 
 
 def is_synchronous(daemon: Any) -> bool:
@@ -298,6 +329,12 @@ def rows_of(todo: list[Experiment], given: Union[Executor, int]) -> Iterator[Row
             yield from rows
     if lost:
         raise LostExperiments(lost)
+
+
+def natural(word: str) -> list[tuple[int, str]]:
+    """What a word is sorted by, so that 5 stands in front of 10."""
+    parts = re.split("([0-9]+)", word)
+    return [(int(part), "") if place % 2 else (0, part) for place, part in enumerate(parts)]
 
 
 COLUMNS = tuple(it.name for it in fields(Row))
