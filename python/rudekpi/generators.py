@@ -9,12 +9,14 @@ from __future__ import annotations
 import itertools
 import math
 import random
-from typing import Iterable, Iterator, Optional
+from typing import Iterable, Iterator
 
 from .numbers import MOST_EDGES
 from .simple_graph import Graph, check_sizes
 
 Edge = tuple[int, int]
+# how often a regular graph of so few ends is begun anew
+SMALL_TRIES, SMALL_ENDS = 10, 10_000
 
 
 def numbered(title: str, count: int, edges: Iterable[Edge]) -> Graph:
@@ -112,9 +114,17 @@ def regular(n: int, degree: int, seed: int = 0) -> Graph:
 
 
 def joined(n: int, degree: int, drawn: random.Random) -> set[Edge]:
-    """The edges of a regular graph of at most half of all neighbours; tries until one comes out."""
-    made: Optional[EndJoiner] = None
-    while made is None or made.ends:
+    """The edges of a regular graph of at most half of all neighbours.
+
+    A small graph is begun anew up to nine times before its edges are switched, a large one not at all.
+    """
+    for _ in range(SMALL_TRIES if n * degree <= SMALL_ENDS else 1):
+        made = EndJoiner(n, degree, drawn)
+        made.join_free_ends()
+        if not made.ends:
+            return made.edges
+    made.switch_edges()
+    while made.ends:
         made = EndJoiner(n, degree, drawn)
         made.join_free_ends()
         made.switch_edges()
