@@ -127,7 +127,7 @@ def has_ended(net):
     return (
         not session.slot.full
         if net.engine == "library"
-        else session.talk.ended is not None and session.talk.runs[0].poll() is not None
+        else session.talk.ended is not None and session.talk.run.has_status()
     )
 
 

@@ -297,7 +297,7 @@ class Sessions(Timed):
         net = Network("hh", 2)
         batch = net.batch()
         batch.link(1, 2)
-        pid = net._session.talk.runs[0].pid
+        pid = net._session.talk.run.numbers[0]
         self.assertIn(pid, children())
         del net
         self.assertIn(pid, children(), "the batch still refers to it")
@@ -316,7 +316,7 @@ class Sessions(Timed):
         self.assertEqual(set(children()), before)
 
     def test_at_the_end_of_the_process(self):
-        uses = "import rudekpi; net = rudekpi.Network('hh', 2); net.link(1, 2); print(net._session.talk.runs[0].pid)"
+        uses = "import rudekpi; net = rudekpi.Network('hh', 2); net.link(1, 2); print(net._session.talk.run.numbers[0])"
         words = [sys.executable, "-X", "dev", "-W", "error", "-c", uses]
         done = subprocess.run(
             words, env=dict(os.environ, PYTHONPATH=os.path.join(TOP, "python")), capture_output=True, text=True
