@@ -20,16 +20,16 @@ def why_refused(state: State, word: str, node: int, other: int = 0) -> str:
         return "unknown-node"
     if word == "point":
         return "not-neighbour" if other and other not in near[node] else ""
-    if word == "unlink":
-        return "" if other in near[node] else "not-linked"
-    return why_not_linked(state, node, other) if word == "link" else ""
+    return why_no_edge(state, word, node, other) if word in PAIRED else ""
 
 
-def why_not_linked(state: State, a: int, b: int) -> str:
-    """The same of a `link` of two nodes that are present."""
+def why_no_edge(state: State, word: str, a: int, b: int) -> str:
+    """The same of a `link` or `unlink` of nodes that are present."""
     if a == b:
         return "self-loop"
-    if b in state.neighbours[a]:
+    is_linked = b in state.neighbours[a]
+    if word == "unlink":
+        return "" if is_linked else "not-linked"
+    if is_linked:
         return "already-linked"
-    is_full = sum(map(len, state.neighbours.values())) >= 2 * MOST_EDGES
-    return "too-many-edges" if is_full else ""
+    return "too-many-edges" if sum(map(len, state.neighbours.values())) >= 2 * MOST_EDGES else ""
