@@ -217,14 +217,17 @@ class DirectBatch(Batch):
                 functools.partial(getattr(library, call), session.at, *words, desk.at),
                 functools.partial(library.rows, session.at, room, ctypes.c_size_t(most)),
             )
-        if status:
-            return self._refused(status, desk, event())
         entry = desk.told[ENTRY]
-        DESKS.append(desk)
         try:
+            if status:
+                return self._refused(status, desk, event())
+            DESKS.append(desk)
             return Done((make, self._names, entry, room[: ROW_NUMBERS * count]))
         except MemoryError:
-            raise NoReply(entry) from None
+            # no entry is told where the library itself found none
+            if entry:
+                raise NoReply(entry) from None
+            raise
         finally:
             session.rooms.put(room)
 

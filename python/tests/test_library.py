@@ -452,8 +452,66 @@ class Threads(Timed):
         self.assertEqual((cut, net.audit().entries), (300, net.transcript().count(" = ")))
 
 
+# plays a network of many nodes, whose replies are large, in less and less memory; prints how often each came
+SHORT_OF_MEMORY = """
+import resource, rudekpi
+from collections import Counter
+size = 15_000
+net = rudekpi.Network("manne", size, engine="library")
+with net.batch() as batch:
+    for node in range(1, size):
+        batch.link(node, node + 1)
+pages = lambda: int(open("/proc/self/statm").read().split()[0]) * resource.getpagesize()
+whole, hard = resource.getrlimit(resource.RLIMIT_AS)
+calls = dict(
+    enabled=net.enabled,
+    step=lambda: net.step(range(1, size, 2)),
+    drive=lambda: net.drive(1, 3),
+    checkpoint=net.checkpoint,
+)
+for name, call in calls.items():
+    seen = Counter()
+    for room in range(0, 9_000_000, 300_000):
+        net.scramble(room, 2000)
+        last = net.status().entry
+        resource.setrlimit(resource.RLIMIT_AS, (pages() + room, hard))
+        try:
+            reply = call()
+            said = "answered"
+        except rudekpi.Refused:
+            said = "answered"
+        except rudekpi.NoReply as short:
+            said = "no reply"
+            entry = short.entry
+        except MemoryError:
+            said = "nothing"
+        resource.setrlimit(resource.RLIMIT_AS, (whole, hard))
+        status = net.status()
+        if said == "nothing" and status.entry != last + 1:
+            print(f"{name}: {status.entry - last - 1} entries were added where none is told of")
+        if said == "no reply" and not (last if name == "checkpoint" else last + 1) <= entry < status.entry:
+            print(f"{name}: entry {entry} is told, and the last ones are {last} and {status.entry}")
+        seen[said] += 1
+        reply = None
+    print(name, sorted(seen))
+net.close()
+print(net.audit().entries == status.entry)
+"""
+
+
 class Memory(Timed):
     engines = ("library",)
+
+    def test_that_is_refused_for_a_reply_is_told_with_its_entry(self):
+        environment = dict(os.environ, PYTHONPATH=os.path.join(TOP, "python"))
+        done = subprocess.run([sys.executable, "-c", SHORT_OF_MEMORY], env=environment, capture_output=True, text=True)
+        self.assertEqual((done.returncode, done.stderr), (0, ""), done.stdout)
+        *told, whole = done.stdout.splitlines()
+        self.assertEqual([line for line in told if " entr" in line], [])
+        for line in told:
+            self.assertIn("'answered'", line)
+        self.assertGreater(sum("'no reply'" in line for line in told), 1, told)
+        self.assertEqual(whole, "True")
 
     def test_networks_that_nobody_closes(self):
         before = resource.getrusage(resource.RUSAGE_SELF).ru_maxrss
