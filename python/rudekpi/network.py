@@ -10,7 +10,7 @@ from .answers import Setting
 from .batch import Batch
 from .choices import Daemon, checked_choice
 from .costs import PAIRED, why_refused
-from .daemons import AnyDaemon, Seeded, check_daemon
+from .daemons import AnyDaemon, Seeded, check_daemon, named
 from .direct import Direct
 from .errors import PastBound
 from .names import Names
@@ -238,15 +238,17 @@ class Network:
                 raise ValueError(f"{' '.join([word, *map(repr, given)])} would be refused ({why}), so it has no cost")
         return cost
 
-    def settle(self, daemon: Union[Daemon, AnyDaemon]) -> Settled:
+    def settle(self, daemon: Union[Daemon, AnyDaemon, str]) -> Settled:
         """Lets a daemon choose who moves until nobody is enabled.
 
         The daemon gets the enabled nodes, a mapping from name to rule, and gives back those that move, with a `Wish` where
-        it has one; those of `rudekpi.daemons` are given as they are. Raises `TypeError` where it is no daemon,
+        it has one; those of `rudekpi.daemons` are given as they are, or by their words, as "seeded". Raises `TypeError` where it is no daemon,
         `WrongChoice` where it chooses nobody or a node that is not enabled, `Refused` where the network takes the choice otherwise amiss
         (two nodes under `hh`), and `PastBound` where there are more moves than the charge.
         The transcript has the `status` asked at first, and an `enabled` in front of each step and at the end.
         """
+        if isinstance(daemon, str):
+            daemon = named(daemon)
         check_daemon(daemon)
         if isinstance(daemon, Seeded):
             return daemon.settle(self)
@@ -276,11 +278,12 @@ class Network:
         return audits.audit(self.transcript(), program=self._program, engine=self.engine)
 
     def picture(self, entry: Optional[int] = None) -> str:
-        """The network behind an entry, or behind all, for Graphviz. Raises `ValueError` where there is no such entry."""
+        """The network behind an entry, 0 to 16,777,216, or behind all, for Graphviz. Raises `ValueError` where there is no such entry."""
         return audits.picture(self.transcript(), entry, program=self._program)
 
     def play(self, path: Union[str, os.PathLike[str]]) -> None:
-        """Writes a page that plays the transcript in a browser."""
+        """Writes a page that plays the transcript in a browser. Raises `OSError` where it can't be written; a file of that name is then as it
+        was before, or not there."""
         drawings.write_page(self.transcript(), path, self._program)
 
     def to_networkx(self) -> Any:

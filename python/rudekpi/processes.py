@@ -10,6 +10,7 @@ import contextlib
 import functools
 import io
 import itertools
+import operator
 import os
 import signal
 import tempfile
@@ -18,6 +19,10 @@ from typing import IO, Iterator, Sequence
 
 # signals that Python ignores, and a program should not
 IGNORED = [getattr(signal, name) for name in ("SIGPIPE", "SIGXFSZ") if hasattr(signal, name)]
+# how much is read at once, which is what a pipe holds
+READ = 1 << 16
+# whether a read of a pipe that does not wait has found nothing
+IS_NONE = functools.partial(operator.is_, None)
 # how many seconds a program may take to end behind the end of its text
 LAST_SECONDS = 10
 # how many bytes of what it tells are read

@@ -10,22 +10,17 @@ than the answer itself, and to block signals would not help where another thread
 from __future__ import annotations
 
 import atexit
-import functools
 import itertools
-import operator
 import os
 import select
 import weakref
 from typing import Optional, Sequence
 
 from .errors import Ended, Inherited
-from .processes import Run
+from .processes import IS_NONE, READ, Run
 
-# how much is read at once, which is what a pipe holds
-READ = 1 << 16
 # for how many milliseconds the pipes are waited for at the most before it is seen whether a handler has read what was waited for
 LONGEST_PAUSE = 64
-IS_NONE = functools.partial(operator.is_, None)
 TALKS: weakref.WeakSet[Talk] = weakref.WeakSet()
 
 

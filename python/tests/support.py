@@ -9,6 +9,7 @@ import stat
 import subprocess
 import sys
 import tempfile
+import threading
 import time
 import unittest
 from unittest import mock
@@ -75,6 +76,12 @@ class Timed(unittest.TestCase):
         while is_group(run.pid):
             time.sleep(0.01)
         return said
+
+
+def children():
+    """The processes that this thread has started, ended ones that nobody has waited for among them."""
+    with open(f"/proc/self/task/{threading.get_native_id()}/children") as file:
+        return [int(word) for word in file.read().split()]
 
 
 def is_group(group):

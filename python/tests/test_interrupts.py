@@ -15,7 +15,7 @@ import unittest
 
 import rudekpi
 from rudekpi import Ended, Network, audit
-from support import TOP, Timed, has_ended
+from support import TOP, Timed, children, has_ended
 
 PACKAGE = os.path.dirname(rudekpi.__file__)
 
@@ -234,12 +234,6 @@ class RandomTimes(Timed):
                 except Cut:
                     cut += 1
             self.assertEqual((cut, net.status().nodes), (300, 3))
-
-
-def children():
-    """The processes that this one has started, ended ones that nobody has waited for among them."""
-    with open(f"/proc/self/task/{threading.get_native_id()}/children") as file:
-        return [int(word) for word in file.read().split()]
 
 
 def wait_until(is_so, seconds=5):

@@ -1,5 +1,5 @@
-"""Handlers of signals that ask the network in the middle of a call: each answer, that of the handler and that of the call, is what the
-transcript says, and the transcript is whole. RUDEKPI_SIGNALS is how many signals of each kind come."""
+"""Handlers of signals that ask the network in the middle of a call: each answer, the handler's and the call's, is what
+the transcript says, and the transcript is whole. RUDEKPI_SIGNALS is how many signals of each kind come."""
 
 from __future__ import annotations
 
