@@ -22,7 +22,7 @@ there is a library. By a program a network is for one thread. A transcript is ke
 from . import daemons, graphs
 from .audits import audit, epochs
 from .batch import Batch, Pending
-from .errors import Damaged, Ended, Garbled, Lost, NoSuchCommand, PastBound, Refused, RudekpiError, WrongChoice
+from .errors import Damaged, Ended, Garbled, Lost, NoReply, NoSuchCommand, PastBound, Refused, RudekpiError, WrongChoice
 from .network import Network
 from .parts import audit_parts
 from .pieces import Audit
@@ -66,6 +66,7 @@ __all__ = [
     "Move",
     "Moves",
     "Network",
+    "NoReply",
     "NoSuchCommand",
     "PastBound",
     "Pending",

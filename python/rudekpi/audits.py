@@ -12,7 +12,7 @@ from typing import Any, Optional, Union
 
 from .errors import VERDICT, Damaged, Ended, Garbled, text_of
 from .library import Library, chosen
-from .numbers import number_within
+from .numbers import MOST_ENTRIES, number_within
 from .program import Program, found_program
 from .reading import numbers_of
 from .replies import Epoch, Summary
@@ -86,7 +86,9 @@ def picture(transcript: Text, entry: Optional[int] = None, *, program: Program =
 
     Raises `Damaged` where `audit` refuses the transcript, `ValueError` where it has no such entry, or `Ended`.
     """
-    words = ["picture"] if entry is None else ["picture", "--entry", str(number_within(entry, 2**32 - 1, "an entry"))]
+    words = (
+        ["picture"] if entry is None else ["picture", "--entry", str(number_within(entry, MOST_ENTRIES, "an entry"))]
+    )
     try:
         said = judged(words, transcript, program)
     except Ended as ended:
@@ -118,7 +120,8 @@ def send(given: Union[bytes, bytearray, memoryview, Slice], pipe: int) -> None:
     """Writes all bytes to a pipe, as many at once as it takes, which `subprocess.run` does not do."""
     if isinstance(given, Slice):
         return given.send(pipe)
-    left = memoryview(given)
+    whole = memoryview(given)
+    left = whole.cast("B") if whole.c_contiguous else memoryview(whole.tobytes())
     while left:
         left = left[os.write(pipe, left) :]
 

@@ -31,7 +31,12 @@ class Pending(Generic[Reply]):
     __slots__ = ("_session", "_ahead", "_event", "_read", "_entry", "_text", "_turns", "_is_base", "_refusals")
 
     def __init__(
-        self, session: Session, event: str, read: Reader, refusals: Optional[list[Refused]] = None, ahead: bytes = b""
+        self,
+        session: Session,
+        event: str,
+        read: Reader,
+        refusals: Optional[dict[int, Refused]] = None,
+        ahead: bytes = b"",
     ):
         # what the program is told ahead of the event, whose entries then stand in front of that event's
         self._session, self._ahead, self._event, self._read, self._refusals = (
@@ -65,9 +70,14 @@ class Batch:
 
     def __init__(self, session: Session, raises: bool = True, keeps: bool = True) -> None:
         self._session, self._raises, self._number = session, raises, session.names.number_of
-        self.refusals: list[Refused] = []
-        self._kept = self.refusals if keeps else None
+        # by their entries
+        self._kept: Optional[dict[int, Refused]] = {} if keeps else None
         self._last: Optional[Pending[Any]] = None
+
+    @property
+    def refusals(self) -> list[Refused]:
+        """All events so far that are known to be refused, in the order of their entries."""
+        return [refused for _, refused in sorted((self._kept or {}).items())]
 
     def __enter__(self) -> Batch:
         return self

@@ -13,7 +13,11 @@ Daemon = Callable[[Enabled], Choice]
 
 
 def numbers_of(choice: Choice, number_of: Callable[[Name], int]) -> list[tuple[int, int]]:
-    """The nodes of a choice's items with their targets, 0 for none; those of a set by number, so that the same set is the same step."""
+    """The nodes of a choice's items with their targets, 0 for none; those of a set by number, so that the same set is the same step.
+
+    Raises `TypeError` for what is no list of nodes."""
+    if isinstance(choice, (str, bytes, Wish)) or not isinstance(choice, abc.Iterable):
+        raise TypeError(f"a step is given a list of nodes, as [1] or [Wish(1, 2)], and not {choice!r}")
     items = []
     for item in choice:
         wish = number_of(item.target) if isinstance(item, Wish) else 0

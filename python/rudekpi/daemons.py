@@ -125,7 +125,7 @@ WORDS: dict[str, Callable[[int], AnyDaemon]] = {
 
 
 def check_daemon(daemon: Any) -> None:
-    """Raises `TypeError` for what is no daemon: a word, or one of the types above in the place of what it makes."""
+    """Raises `TypeError` for what is no daemon, such as one of the types above in the place of what it makes."""
     is_type = isinstance(daemon, type) and issubclass(daemon, get_args(AnyDaemon))
     if is_type or not (callable(daemon) or hasattr(daemon, "begin") or isinstance(daemon, Seeded)):
         raise TypeError(

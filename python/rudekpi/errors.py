@@ -38,6 +38,28 @@ class Ended(RudekpiError):
         return type(self), (self.status, self.last_line.encode())
 
 
+class Inherited(Ended):
+    """A child of the process that made a network has asked it."""
+
+    def __init__(self, status: int = 0, told: bytes = b"") -> None:
+        super().__init__(0, b"the network belongs to another process, of which this one is a child")
+        self.args = (f"{self.last_line}: ask it there, or replay its transcript here",)
+
+
+class NoReply(RudekpiError, MemoryError):
+    """The command was carried out, and there is no memory for its reply: `entry` is the number of its last entry, which the transcript
+    has. A `MemoryError` that is none of these says that nothing was carried out."""
+
+    def __init__(
+        self, entry: int, what: str = "the command was carried out, and there is no memory for its reply:"
+    ) -> None:
+        super().__init__(f"{what} entry {entry}, which the transcript has")
+        self.entry, self.what = entry, what
+
+    def __reduce__(self) -> Any:
+        return type(self), (self.entry, self.what)
+
+
 class NoSuchCommand(RudekpiError):
     """The program that plays the network has no command for what is asked; the library has."""
 

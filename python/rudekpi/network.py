@@ -3,13 +3,14 @@
 from __future__ import annotations
 
 import os
-from typing import Any, Iterable, Optional, Union
+from typing import Any, Callable, Iterable, Optional, Union
 
 from . import audits, drawings, library
 from .answers import Setting
 from .batch import Batch
 from .choices import Daemon, checked_choice
-from .daemons import AnyDaemon, Seeded, check_daemon
+from .costs import PAIRED, why_refused
+from .daemons import AnyDaemon, Seeded, check_daemon, named
 from .direct import Direct
 from .errors import PastBound
 from .names import Names
@@ -32,7 +33,7 @@ from .replies import (
     Turns,
 )
 from .session import Session
-from .state import Follower, State
+from .state import Follower, Seen, State
 
 
 class Network:
@@ -105,7 +106,7 @@ class Network:
 
     def _repr_html_(self) -> str:
         """A small drawing of the network, for notebooks."""
-        return drawings.html_of(repr(self), self._state(), self._names)
+        return self._look(lambda state: drawings.html_of(repr(self), state, self._names))
 
     def close(self) -> None:
         """Ends the run, once all is carried out. Raises `Ended` where the program did not end well. The transcript stays."""
@@ -119,26 +120,33 @@ class Network:
     @property
     def present(self) -> list[Name]:
         """The names of the nodes that are present, in the order of their numbers."""
-        return [self.name_of(number) for number in sorted(self._state().neighbours)]
+        return [self.name_of(number) for number in self._look(lambda state: sorted(state.neighbours))]
 
     @property
     def edges(self) -> list[tuple[Name, Name]]:
         """The edges, in the order of their numbers, each with the node of the lower number first."""
-        return [(self.name_of(a), self.name_of(b)) for a, b in self._state().edges()]
+        return [(self.name_of(a), self.name_of(b)) for a, b in self._look(State.edges)]
 
     def neighbours(self, node: Name) -> list[Name]:
-        """The neighbours of a node that is present, in the order of their numbers."""
-        return [self.name_of(number) for number in sorted(self._state().neighbours[self._present_number(node)])]
+        """The neighbours of a node that is present, in the order of their numbers. Raises `ValueError` for any other node."""
+        near = self._look_at(node, lambda state, number: sorted(state.neighbours[number]))
+        return [self.name_of(number) for number in near]
 
     def registers(self, node: Name) -> Registers:
-        """What a node that is present holds."""
-        number, state = self._present_number(node), self._state()
-        return Registers(self._names.named(state.pointers.get(number)), number in state.flags)
+        """What a node that is present holds. Raises `ValueError` for any other node."""
+        pointer, flag = self._look_at(node, lambda state, number: (state.pointers.get(number), number in state.flags))
+        return Registers(self._names.named(pointer), flag)
 
     def partner(self, node: Name) -> Optional[Name]:
-        """With whom a node that is present is paired, or None."""
-        number = self.number_of(node)
-        return self._names.named(self._session.partner(number) or self._state().partner(self._present_number(node)))
+        """With whom a node that is present is paired, or None. Raises `ValueError` for any other node.
+
+        By the library the answer is its proved one; by a program, and once the network is closed, it is that of the transcript.
+        """
+        found = self._session.partner(self.number_of(node))
+        if found:
+            return self.name_of(found)
+        followed = self._look_at(node, State.partner)
+        return None if found == 0 else self._names.named(followed)
 
     def number_of(self, name: Name) -> int:
         """The number that the transcript has for a name. A number that is no node's is one that the network refuses."""
@@ -214,21 +222,33 @@ class Network:
 
     def cost_of(self, word: str, *given: Any) -> int:
         """What an edit or a fault would cost if it came now, in moves: `net.cost_of("unlink", "ann", "bob")`, and so for `link`, `join`,
-        `leave`, `point` and `flag`. The charge grows by no more than this; 0 where it would be refused. Nothing is done, and no entry
-        added. Raises `NoSuchCommand` by a program, which has none that tells it."""
+        `leave`, `point` and `flag`. The charge grows by no more than this. Nothing is done, and no entry added.
+
+        Raises `ValueError` for an event that would be refused, as to unlink what is not linked, and `NoSuchCommand` by a program,
+        which has no command for it.
+        """
         if word not in library.COSTED:
             raise ValueError(f"{' or '.join(library.COSTED)} has a cost, and not {word!r}")
-        return self._session.cost_of(word, *given)
+        cost = self._session.cost_of(word, *given)
+        if not cost:
+            # there are edits and faults that cost nothing, and the library says the same of what would be refused
+            numbers = [0 if name is None else self.number_of(name) for name in given[: 2 if word in PAIRED else 1]]
+            why = self._look(lambda state: why_refused(state, word, *numbers))
+            if why:
+                raise ValueError(f"{' '.join([word, *map(repr, given)])} would be refused ({why}), so it has no cost")
+        return cost
 
-    def settle(self, daemon: Union[Daemon, AnyDaemon]) -> Settled:
+    def settle(self, daemon: Union[Daemon, AnyDaemon, str]) -> Settled:
         """Lets a daemon choose who moves until nobody is enabled.
 
         The daemon gets the enabled nodes, a mapping from name to rule, and gives back those that move, with a `Wish` where
-        it has one; those of `rudekpi.daemons` are given as they are. Raises `TypeError` where it is no daemon,
+        it has one; those of `rudekpi.daemons` are given as they are, or by their words, as "seeded". Raises `TypeError` where it is no daemon,
         `WrongChoice` where it chooses nobody or a node that is not enabled, `Refused` where the network takes the choice otherwise amiss
         (two nodes under `hh`), and `PastBound` where there are more moves than the charge.
         The transcript has the `status` asked at first, and an `enabled` in front of each step and at the end.
         """
+        if isinstance(daemon, str):
+            daemon = named(daemon)
         check_daemon(daemon)
         if isinstance(daemon, Seeded):
             return daemon.settle(self)
@@ -258,11 +278,12 @@ class Network:
         return audits.audit(self.transcript(), program=self._program, engine=self.engine)
 
     def picture(self, entry: Optional[int] = None) -> str:
-        """The network behind an entry, or behind all, for Graphviz. Raises `ValueError` where there is no such entry."""
+        """The network behind an entry, 0 to 16,777,216, or behind all, for Graphviz. Raises `ValueError` where there is no such entry."""
         return audits.picture(self.transcript(), entry, program=self._program)
 
     def play(self, path: Union[str, os.PathLike[str]]) -> None:
-        """Writes a page that plays the transcript in a browser."""
+        """Writes a page that plays the transcript in a browser. Raises `OSError` where it can't be written; a file of that name is then as it
+        was before, or not there."""
         drawings.write_page(self.transcript(), path, self._program)
 
     def to_networkx(self) -> Any:
@@ -272,8 +293,11 @@ class Network:
         """
         import networkx
 
-        state, name_of = self._state(), self.name_of
-        graph = networkx.Graph()
+        return self._look(lambda state: self._graph_of(state, networkx.Graph()))
+
+    def _graph_of(self, state: State, graph: Any) -> Any:
+        """A graph to which the nodes that are present and their edges are added."""
+        name_of = self.name_of
         for node in sorted(state.neighbours):
             graph.add_node(name_of(node), pointer=self._names.named(state.pointers.get(node)), flag=node in state.flags)
         for a, b in state.edges():
@@ -301,15 +325,20 @@ class Network:
                 batch.link(a, b)
         return net
 
-    def _present_number(self, node: Name) -> int:
-        number = self.number_of(node)
-        if number not in self._state().neighbours:
-            raise ValueError(f"node {node!r} is not present")
-        return number
+    def _look(self, see: Callable[[State], Seen]) -> Seen:
+        """What a function sees in where the network stands once all commands are carried out."""
+        return self._follower.look(see)
 
-    def _state(self) -> State:
-        """Where the network stands once all commands are carried out, which is not to be changed."""
-        return self._follower.state()
+    def _look_at(self, node: Name, see: Callable[[State, int], Seen]) -> Seen:
+        """What a function sees at a node that is present."""
+        number = self.number_of(node)
+
+        def look(state: State) -> Seen:
+            if number not in state.neighbours:
+                raise ValueError(f"node {node!r} is not present")
+            return see(state, number)
+
+        return self._look(look)
 
     def _played(self, events: Iterable[str]) -> str:
         """The transcript once these events are carried out."""

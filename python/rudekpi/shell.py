@@ -8,6 +8,7 @@ import sys
 from typing import Optional
 
 from .errors import RudekpiError
+from .files import write_whole
 from .network import Network
 from .script_words import COMMANDS, why_no_command
 
@@ -66,8 +67,7 @@ class Shell:
         text = self.net.picture() if word == "picture" else self.net.transcript()
         if not path:
             return text
-        with open(path, "w") as file:
-            file.write(text)
+        write_whole(path, text.encode())
         return f"written: {path}\n"
 
 

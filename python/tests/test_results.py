@@ -261,10 +261,10 @@ class Keeping(Timed):
                     for _ in range(3000):
                         batch.show(1)
                     batch.checkpoint()
-            self.assertLess(net._session.kept()[1], 1000)
+            self.assertLess(len(net.transcript()), 1000)
             self.assertEqual(net.status().entry, 90_001)
             if net.engine == "program":
-                self.assertLess(len(net._session.answers.asked), 10)
+                self.assertLess(len(net._session.asked), 10)
 
 
 class Storms(Timed):
