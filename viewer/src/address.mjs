@@ -9,16 +9,18 @@ export class Address {
     Object.assign(this, { written: -Infinity, timer: null, number: null, known: location.hash });
     const heard = () => {
       this.known = location.hash;
-      goTo(this.entry);
+      if (this.entry !== null) {
+        goTo(this.entry);
+      }
     };
     addEventListener("hashchange", heard, { signal });
     addEventListener("pagehide", () => this.write(), { signal });
     signal.addEventListener("abort", () => clearTimeout(this.timer));
   }
 
-  /** The number that stands there, 0 where there is none. */
+  /** The number that stands there, or null. */
   get entry() {
-    return Number(location.hash.slice(1)) || 0;
+    return /^#\d+$/.test(location.hash) ? Number(location.hash.slice(1)) : null;
   }
 
   /** Writes a number soon: the last of those that come at once. */

@@ -10,6 +10,10 @@ const MARK_DISTANCE = 16;
 // angles: how far two marks stand from the middle of a wide gap, and what is wide
 const ASIDE = 0.5;
 const WIDE = 1.8;
+// so many pixels a unit, and names can be read; nodes grow where there are fewer, as far as their neighbours leave room
+const READABLE = 0.8;
+const SHARE_OF_GAP = 0.42;
+const MOST_GROWTH = 2;
 const MARKS = { update: "U", marry: "M", seduce: "S", abandon: "A" };
 
 /** Two places round a node where marks hide no pointer: both in the widest angle between its edges where that is wide, else one
@@ -29,6 +33,28 @@ export function freeAngles(angles) {
   return [middle(gaps[0]), middle(gaps[1])];
 }
 
+/**
+ * By which factor nodes of this layout may grow until they meet: a few that lie very near each other don't count.
+ * @param {Layout} layout
+ * @param {number} nodes
+ */
+function roomToGrow({ x, y }, nodes) {
+  const gaps = [];
+  for (let v = 1; v <= nodes; v += 1) {
+    let least = Infinity;
+    for (let w = 1; w <= nodes; w += 1) {
+      const far = v === w ? 0 : Math.hypot(x[v] - x[w], y[v] - y[w]);
+      // names that were not placed yet lie at one place
+      least = far > 0 && far < least ? far : least;
+    }
+    gaps.push(least);
+  }
+  gaps.sort((a, b) => a - b);
+  const gap = gaps[Math.floor(gaps.length / 20)] ?? Infinity;
+  return Math.min(MOST_GROWTH, Math.max(1, (SHARE_OF_GAP * gap) / RADIUS));
+}
+
+/** @param {number} name */
 function nameSize(name) {
   return [0, 13, 12, 10, 8][String(name).length];
 }
@@ -43,7 +69,14 @@ function changedEdge(entry) {
 }
 
 export class Drawing {
+  /**
+   * @param {SVGSVGElement} svg
+   * @param {Layout} layout
+   * @param {number} nodes
+   * @param {Link[]} edgesEver
+   */
   constructor(svg, layout, nodes, edgesEver) {
+    this.svg = svg;
     this.layout = layout;
     this.nodes = nodes;
     this.angles = Array.from({ length: nodes + 1 }, () => []);
@@ -61,8 +94,27 @@ export class Drawing {
       this.shapes.push(this.makeNode(v));
     }
     this.shownEdges = [];
+    this.growth = 1;
+    this.mostGrowth = roomToGrow(layout, nodes);
   }
 
+  /**
+   * Enlarges nodes and marks where a unit of the drawing has few pixels, so that their names can be read; returns the factor.
+   * @param {number} pixels
+   */
+  growFor(pixels) {
+    const wanted = pixels > 0 ? Math.min(this.mostGrowth, Math.max(1, READABLE / pixels)) : 1;
+    const growth = Math.round(20 * wanted) / 20;
+    if (growth !== this.growth) {
+      this.growth = growth;
+      this.svg.style.setProperty("--growth", String(growth));
+      const targets = [...this.pointers].map(([v, { target }]) => [v, target]);
+      targets.forEach(([v, target]) => this.point(v, target));
+    }
+    return growth;
+  }
+
+  /** @param {number} v */
   place(v) {
     return [this.layout.x[v], this.layout.y[v]];
   }
@@ -171,11 +223,22 @@ export class Drawing {
       this.pointers.delete(v);
       return;
     }
-    const line = known?.line ?? add(this.layers.pointers, "line", { class: "pointer", "marker-end": "url(#arrow)" });
+    this.point(v, target);
+  }
+
+  /**
+   * Draws the arrow from a node to another.
+   * @param {number} v
+   * @param {number} target
+   */
+  point(v, target) {
+    const line = this.pointers.get(v)?.line ?? add(this.layers.pointers, "line", { class: "pointer", "marker-end": "url(#arrow)" });
     const [[x1, y1], [x2, y2]] = [this.place(v), this.place(target)];
-    const length = Math.hypot(x2 - x1, y2 - y1);
+    // two nodes that lie at one place have no direction
+    const length = Math.hypot(x2 - x1, y2 - y1) || 1;
     const [dx, dy] = [(x2 - x1) / length, (y2 - y1) / length];
-    const end = { x1: x1 + dx * RADIUS, y1: y1 + dy * RADIUS, x2: x2 - dx * (RADIUS + ARROW_GAP), y2: y2 - dy * (RADIUS + ARROW_GAP) };
+    const [from, to] = [RADIUS * this.growth, RADIUS * this.growth + ARROW_GAP];
+    const end = { x1: x1 + dx * from, y1: y1 + dy * from, x2: x2 - dx * to, y2: y2 - dy * to };
     Object.entries(end).forEach(([key, value]) => line.setAttribute(key, value.toFixed(1)));
     line.setAttribute("data-pointer", `${v}>${target}`);
     this.pointers.set(v, { line, target });
@@ -196,7 +259,7 @@ export class Drawing {
     }
     if (thing.node) {
       const [cx, cy] = this.place(thing.node);
-      add(this.layers.picks, "circle", { class: "pick", cx, cy, r: RADIUS + 8 });
+      add(this.layers.picks, "circle", { class: "pick", cx, cy, r: (RADIUS + 8) * this.growth });
       return;
     }
     const [[x1, y1], [x2, y2]] = [this.place(thing.low), this.place(thing.high)];

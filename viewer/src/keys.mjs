@@ -29,6 +29,7 @@ export const LAB_KEYS = {
     " ": "run",
     ".": "step",
     z: "undo",
+    y: "redo",
     x: "scramble",
     a: "join",
     1: "cut",

@@ -11,12 +11,17 @@ const PNG_SCALE = 2;
 const PNG_PIXELS = 1600;
 const MOST_PIXELS = 8192;
 
+/** @param {Element} element */
 function isSeen(element) {
   const style = getComputedStyle(element);
   return style.display !== "none" && style.visibility !== "hidden";
 }
 
-/** Writes how an element looks into a copy of it. */
+/**
+ * Writes how an element looks into a copy of it.
+ * @param {Element} element
+ * @param {Element} copy
+ */
 function writeStyles(element, copy) {
   const style = getComputedStyle(element);
   for (const name of element.localName === "text" ? TEXT_STYLES : SHAPE_STYLES) {
@@ -27,12 +32,30 @@ function writeStyles(element, copy) {
   }
 }
 
-/** A copy of an element with all that is seen in it, which needs no style sheet. */
+/**
+ * Writes by how much an element is enlarged into a copy of it.
+ * @param {Element} element
+ * @param {Element} copy
+ */
+function writeScale(element, copy) {
+  const { scale } = getComputedStyle(element);
+  if (scale && scale !== "none" && scale !== "1") {
+    copy.setAttribute("transform", `scale(${scale}) ${element.getAttribute("transform") ?? ""}`.trim());
+  }
+}
+
+/**
+ * A copy of an element with all that is seen in it, which needs no style sheet.
+ * @param {Element} element
+ * @param {boolean} always whether what is not seen is copied too
+ * @returns {Element}
+ */
 function copyOf(element, always) {
   const made = element.cloneNode(false);
   for (const { name } of [...element.attributes].filter(({ name }) => DROPPED.test(name))) {
     made.removeAttribute(name);
   }
+  writeScale(element, made);
   if (element.children.length === 0) {
     writeStyles(element, made);
   }
@@ -46,16 +69,26 @@ function copyOf(element, always) {
   return made;
 }
 
-/** A copy of the drawing, names that are too small to be read on the page included. */
+/**
+ * A copy of the drawing, with names that are too small to be read on the page, and with the heads of arrows.
+ * @param {SVGSVGElement} svg
+ */
 function drawingOf(svg) {
   const nameless = svg.classList.contains("nameless");
   svg.classList.remove("nameless");
   const made = copyOf(svg, false);
+  if (!svg.querySelector("defs")) {
+    made.prepend(copyOf(document.querySelector("#marks defs"), true));
+  }
   svg.classList.toggle("nameless", nameless);
   return made;
 }
 
-/** The text of an SVG file that shows what an SVG element of the page shows, on the page's paper. */
+/**
+ * The text of an SVG file that shows what an SVG element of the page shows, on the page's paper.
+ * @param {SVGSVGElement} svg
+ * @param {string} title
+ */
 export function standalone(svg, title) {
   const made = drawingOf(svg);
   const [left, top, width, height] = svg.getAttribute("viewBox").split(" ");
@@ -72,7 +105,11 @@ export function standalone(svg, title) {
   return `${new XMLSerializer().serializeToString(made)}\n`;
 }
 
-/** The PNG of an SVG text. */
+/**
+ * The PNG of an SVG text.
+ * @param {string} text
+ * @returns {Promise<Blob>}
+ */
 async function pngOf(text) {
   const image = new Image();
   image.src = `data:image/svg+xml;charset=utf-8,${encodeURIComponent(text)}`;
@@ -85,6 +122,10 @@ async function pngOf(text) {
   return new Promise((done) => canvas.toBlob(done, "image/png"));
 }
 
+/**
+ * @param {Blob} blob
+ * @param {string} name
+ */
 function hand(blob, name) {
   const link = document.createElement("a");
   link.href = URL.createObjectURL(blob);
@@ -93,14 +134,19 @@ function hand(blob, name) {
   setTimeout(() => URL.revokeObjectURL(link.href), 10_000);
 }
 
-/** Lets the buttons save what `svg` shows; `told()` is the file's name without its end, and its title. */
-export function listenToSaving(svg, told) {
-  byId("save-svg").addEventListener("click", () => {
-    const { name, title } = told();
+/**
+ * Lets two buttons save a picture.
+ * @param {string} svgButton
+ * @param {string} pngButton
+ * @param {() => { svg: SVGSVGElement, name: string, title: string }} told the picture, the file's name without its end, and the title
+ */
+export function listenToSaving(svgButton, pngButton, told) {
+  byId(svgButton).addEventListener("click", () => {
+    const { svg, name, title } = told();
     hand(new Blob([standalone(svg, title)], { type: "image/svg+xml" }), `${name}.svg`);
   });
-  byId("save-png").addEventListener("click", async () => {
-    const { name, title } = told();
+  byId(pngButton).addEventListener("click", async () => {
+    const { svg, name, title } = told();
     hand(await pngOf(standalone(svg, title)), `${name}.png`);
   });
 }

@@ -11,18 +11,38 @@ import { Player } from "./player.mjs";
 import { plotsOf } from "./plots.mjs";
 import { Replay } from "./replay.mjs";
 import { Stage } from "./stage.mjs";
-import { byId } from "./svg.mjs";
+import { byId, nameWindow } from "./svg.mjs";
 import { nodesOf, Transcript, TranscriptFault } from "./transcript.mjs";
 
 const RULE_SET_NAMES = { hh: "Hsu and Huang", manne: "Manne, Mjelde, Pilard and Tixeuil" };
 // the parts of the page in which a transcript is played
 const PARTS = ["player", "bar"];
 
-function showTitle({ nodes, length, rules, first, state }) {
-  const size = `${counted(nodes, "node")}, ${counted(length, "entry", "entries")}`;
-  const base = state ? `, from the base at entry ${grouped(first)}` : "";
-  byId("title").textContent = `${size}, rules of ${RULE_SET_NAMES[rules]}${base}`;
-  document.title = `${rules}: ${size}${base}`;
+/**
+ * How large a transcript is.
+ * @param {Transcript} transcript
+ */
+function sizeOf({ nodes, length }) {
+  return `${counted(nodes, "node")}, ${counted(length, "entry", "entries")}`;
+}
+
+/**
+ * The base with which a transcript begins, in words.
+ * @param {Transcript} transcript
+ */
+function baseOf({ first, state }) {
+  return state ? `, from the base at entry ${grouped(first)}` : "";
+}
+
+/** @param {Transcript} transcript */
+function titleOf(transcript) {
+  return `${transcript.rules}: ${sizeOf(transcript)}${baseOf(transcript)}`;
+}
+
+/** @param {Transcript} transcript */
+function showTitle(transcript) {
+  byId("title").textContent = `${sizeOf(transcript)}, rules of ${RULE_SET_NAMES[transcript.rules]}${baseOf(transcript)}`;
+  nameWindow(titleOf(transcript));
 }
 
 /** The stage, or null with a word on what is there in its place. */
@@ -69,10 +89,14 @@ function listenToFinding(nodes, inspector, stage) {
   field.addEventListener("change", () => field.reportValidity());
 }
 
-/** What a saved picture is called. */
+/**
+ * What a saved picture is called.
+ * @param {Replay} replay
+ * @param {number} number
+ */
 function pictureOf({ transcript }, number) {
   const { rules, nodes } = transcript;
-  return { name: `matching-${rules}-${nodes}-entry-${number}`, title: `${document.title}: after entry ${grouped(number)}` };
+  return { svg: /** @type {SVGSVGElement} */ (/** @type {unknown} */ (byId("graph"))), name: `matching-${rules}-${nodes}-entry-${number}`, title: `${titleOf(transcript)}: after entry ${grouped(number)}` };
 }
 
 /** Plays a replay until `signal` ends it; the player. */
@@ -98,9 +122,9 @@ function play(replay, signal) {
   plots.forEach((plot) => plot.draw());
   new ResizeObserver(() => plots.forEach((plot) => plot.draw())).observe(byId("plots"));
   listenToFinding(transcript.nodes, inspector, stage);
-  listenToSaving(byId("graph"), () => pictureOf(replay, player.at));
+  listenToSaving("save-svg", "save-png", () => pictureOf(replay, player.at));
   listen(actions, PLAYER_KEYS, signal);
-  player.goTo(address.entry);
+  player.goTo(address.entry ?? replay.opening);
   player.moved = (number) => address.show(number);
   signal.addEventListener("abort", () => player.pause());
 }
@@ -110,7 +134,7 @@ function play(replay, signal) {
 function refuse(wrong) {
   document.body.classList.add("broken");
   byId("title").textContent = `This is no transcript: ${wrong.message}.`;
-  document.title = "no transcript";
+  nameWindow("no transcript");
 }
 
 /** Puts the transcript of a text on the page, with what its judge said of it. */
@@ -147,6 +171,11 @@ export class Playing {
       refuse(wrong);
       showJudge(judge, "no transcript");
     }
+  }
+
+  /** Whether a transcript is played. */
+  get isOn() {
+    return this.ended !== null && !this.ended.signal.aborted;
   }
 
   /** Lets go of keys and the address. */

@@ -18,6 +18,10 @@ export class Replay {
     const places = transcript.length + 1;
     this.series = Object.fromEntries(["charge", "spent", "nodes", "edges", "pairs", "enabled"].map((name) => [name, new Int32Array(places)]));
     this.disturbances = [];
+    // the last entry of each burst: disturbances between which nobody moves
+    this.burstEnds = [];
+    this.firstMove = null;
+    this.lastMove = 0;
     this.moves = 0;
     this.union = new Map();
     this.snapshots = [];
@@ -42,6 +46,10 @@ export class Replay {
       }
       if (entry.disturbs) {
         this.disturbances.push(number);
+        this.noteBurst(number);
+      } else if (changes(entry)) {
+        this.firstMove ??= number;
+        this.lastMove = number;
       }
       if (entry.disturbs && entry.kind === "link") {
         this.meet(wordsOf(entry).map(Number));
@@ -49,6 +57,12 @@ export class Replay {
       this.note(number, spent);
     }
     this.at = last;
+  }
+
+  /** Adds a disturbance to the burst before it, or begins one if somebody has moved since. */
+  noteBurst(number) {
+    const goesOn = this.burstEnds.length > 0 && !(this.lastMove > this.burstEnds.at(-1));
+    this.burstEnds.splice(goesOn ? -1 : this.burstEnds.length, 1, number);
   }
 
   /** Carries out an entry for the first time; what is spent then. */
@@ -116,13 +130,21 @@ export class Replay {
     return { start: low === 0 ? opening : this.disturbances[low - 1], place: low + 1 };
   }
 
+  /** The end of the first burst that ends after an entry, or null. */
   nextDisturbance(number) {
-    return this.disturbances[this.epochAt(number).place - 1] ?? null;
+    return this.burstEnds.find((end) => end > number) ?? null;
   }
 
-  /** The last disturbance before an entry. */
+  /** The end of the last burst that ends before an entry, or null. */
   previousDisturbance(number) {
-    return this.disturbances[this.epochAt(number - 1).place - 2] ?? null;
+    return this.burstEnds.findLast((end) => end < number) ?? null;
+  }
+
+  /** The entry to open at: the base, or else the first move, so that nobody sees a network before it has its edges. Without moves
+   * it is the end of the first burst. */
+  get opening() {
+    const { first, state } = this.transcript;
+    return state ? first : this.firstMove ?? this.burstEnds[0] ?? first;
   }
 
   /** The machine after so many entries. */

@@ -14,14 +14,22 @@ export class Stage {
     this.svg = svg;
     this.layout = fill(layOut(nodes, edgesEver));
     this.drawing = new Drawing(svg, this.layout, nodes, edgesEver);
-    this.zoom = new Zoom(svg, this.layout.width, this.layout.height, () => this.moved?.());
+    /**
+     * Is told when another part is seen.
+     * @type {() => void}
+     */
+    this.moved = () => {};
+    this.zoom = new Zoom(svg, this.layout.width, this.layout.height, (pixels) => {
+      this.moved();
+      return this.drawing.growFor(pixels);
+    });
   }
 
   /** Lets hands in: what they point at is told to the inspector, and what they drag moves what is seen. */
   listen(inspector, machine) {
     const under = (place) => {
       const { x, y } = this.zoom.placeAt(place);
-      return thingAt(this.layout, machine(), x, y, RADIUS, REACH * this.zoom.unit);
+      return thingAt(this.layout, machine(), x, y, RADIUS * this.drawing.growth, REACH * this.zoom.unit);
     };
     this.moved = () => inspector.place();
     new Gestures(this.svg, {

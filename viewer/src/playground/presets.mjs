@@ -13,6 +13,8 @@ const JITTER = 0.24;
 // no link of a mesh comes nearer to a third node
 const CLEAR = 0.3;
 const RACK_HOSTS = 8;
+// so many leaves of a star lie on one circle
+const ROUND = 40;
 
 function ring(nodes) {
   const links = Array.from({ length: nodes - 1 }, (_, at) => [at + 1, at + 2]);
@@ -42,10 +44,26 @@ function grid(nodes) {
   return { links, places };
 }
 
+/**
+ * A place by its angle and its distance from the middle.
+ * @param {number} angle
+ * @param {number} far
+ * @returns {Link}
+ */
+function around(angle, far) {
+  return [far * Math.cos(angle), far * Math.sin(angle)];
+}
+
+/** The hub in the middle, and the others on a circle; many lie as the seeds of a sunflower do (Vogel, 1979), since their circle would be
+ * too large to be seen. @param {number} nodes */
 function star(nodes) {
-  const round = (at) => [(2 * Math.PI * at) / (nodes - 1) - Math.PI / 2, Math.max(1.6, nodes / 6)];
-  const places = Array.from({ length: nodes }, (_, at) => (at === 0 ? [0, 0] : [round(at)[1] * Math.cos(round(at)[0]), round(at)[1] * Math.sin(round(at)[0])]));
-  return { links: Array.from({ length: nodes - 1 }, (_, at) => [1, at + 2]), places };
+  const leaves = nodes - 1;
+  /** @param {number} at */
+  const onCircle = (at) => around((2 * Math.PI * at) / leaves - Math.PI / 2, Math.max(1.6, nodes / 6));
+  /** @param {number} at */
+  const inFlower = (at) => around(at * Math.PI * (3 - Math.sqrt(5)), 0.6 * Math.sqrt(at + 3));
+  const places = Array.from({ length: nodes }, (_, at) => (at === 0 ? [0, 0] : (leaves > ROUND ? inFlower : onCircle)(at)));
+  return { links: Array.from({ length: leaves }, (_, at) => [1, at + 2]), places };
 }
 
 function distance([x1, y1], [x2, y2]) {
