@@ -7,6 +7,7 @@ import subprocess
 import tempfile
 import time
 
+PROBES = os.path.join(os.path.dirname(os.path.abspath(__file__)), "page_probes.js")
 NAMES = ["chromium", "chromium-browser", "google-chrome"]
 WORDS = [
     "--headless=new",
@@ -66,6 +67,8 @@ class Browser:
         self.session = self.call("Target.attachToTarget", targetId=page, flatten=True)["sessionId"]
         for domain in ["Page", "Runtime", "Log", "Network"]:
             self.call(f"{domain}.enable")
+        with open(PROBES, encoding="utf-8") as file:
+            self.before_pages(file.read())
 
     def __enter__(self):
         return self
@@ -132,6 +135,17 @@ class Browser:
             said = self.message(until)
             if "method" in said:
                 self.note(said)
+
+    def before_pages(self, source):
+        """Has a script run in each page that is opened from now on, before its own; returns what `forget` takes."""
+        return self.call("Page.addScriptToEvaluateOnNewDocument", source=source)["identifier"]
+
+    def forget(self, script):
+        self.call("Page.removeScriptToEvaluateOnNewDocument", identifier=script)
+
+    def ask(self, probe, *words):
+        """What a probe of page_probes.js returns."""
+        return self.value(f"probes.{probe}({', '.join(json.dumps(word) for word in words)})")
 
     def value(self, expression):
         """What an expression is in the page."""

@@ -144,15 +144,15 @@ test("a lab takes no bad line, and plays other lines from the start", { skip }, 
 test("a lab takes no line that would have the page stand still, and says which and why", { skip }, async () => {
   const lab = new Lab(await engineOfPage(), { rules: "hh", names: 3, present: 3 });
   const begun = performance.now();
-  const full = "scramble 1 16777216";
-  assert.throws(() => lab.replay(["link 1 2", full]), { name: "Error", line: 2, text: full, message: /^line 2 writes more than 100,000 registers, .*: scramble 1 16777216$/ });
+  const full = "scramble 1 1000000";
+  assert.throws(() => lab.replay(["link 1 2", full]), { name: "Error", line: 2, text: full, message: /^line 2 writes more than 100,000 registers, .*: scramble 1 1000000$/ });
   assert.equal(lab.script, "link 1 2\n");
   const lines = Array.from({ length: 200 }, (_, at) => `scramble ${at} ${MOST_FAULTS}`);
   assert.throws(() => lab.replay(lines), { message: /^line \d+ comes after 16,777,216 characters of transcript/ });
   assert.ok(lab.size > MOST_TEXT && lab.lines.length < 20, `${lab.size} characters of ${lab.lines.length} lines`);
   assert.ok(performance.now() - begun < 5000, `${performance.now() - begun} ms`);
   // a drive ends where nothing is enabled, however many steps it has
-  const drive = "link 1 2\ndrive 1 16777216\n";
+  const drive = "link 1 2\ndrive 1 1000000\n";
   lab.replay(drive.trimEnd().split("\n"));
   assert.equal(lab.transcript, program(["run", "--rules", "hh", "--nodes", "3"], drive).text);
   lab.free();
