@@ -147,6 +147,16 @@ class Browser:
         """What a probe of page_probes.js returns."""
         return self.value(f"probes.{probe}({', '.join(json.dumps(word) for word in words)})")
 
+    def reload(self):
+        """Loads the page again, as its reader does."""
+        self.seen = []
+        self.call("Page.reload")
+        until = time.monotonic() + self.wait
+        while "Page.loadEventFired" not in self.seen:
+            said = self.message(until)
+            if "method" in said:
+                self.note(said)
+
     def value(self, expression):
         """What an expression is in the page."""
         made = self.call("Runtime.evaluate", expression=expression, returnByValue=True, awaitPromise=True)

@@ -188,6 +188,14 @@ const probes = (() => {
 
     /** The lines of the script that a hand made: no moves of a daemon, and no links. */
     acts: () => probes.script().filter((line) => !/^(drive|link) /.test(line)),
+    scriptLength: () => probes.script().length,
+
+    /** The script as it is now: the field shows it a while later. */
+    scriptNow: () => {
+      one("#show-script").click();
+      return probes.script();
+    },
+    ids: (selector) => all(selector).map((element) => element.id),
     lastLine: () => probes.script().at(-1),
     lastAct: () => probes.acts().at(-1) ?? null,
 
@@ -200,6 +208,12 @@ const probes = (() => {
 
     isStable: () => all(".state").every((state) => state.textContent.includes("stable")),
     isRunning: () => one("#run").getAttribute("aria-pressed") === "true",
+    /** So many pixels high are the smallest name and the least node of the picture; a name that is not drawn is 0. */
+    nameSize: () => Math.min(...all(".graph .node:not(.absent) .name").map((name) => (isShown(name) ? name.getBoundingClientRect().height : 0))),
+    nodeSizes: () => {
+      const sizes = all(".graph .node:not(.absent) .body").map((body) => body.getBoundingClientRect().width);
+      return [Math.min(...sizes), Math.max(...sizes)];
+    },
     present: () => all(".graph .node:not(.absent)").length,
 
     /** The network that is drawn, told from styles: nodes that are filled, edges with their widths, arrows, marks. */
