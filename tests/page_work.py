@@ -245,6 +245,7 @@ def reloads(pages, browser):
     """A reload brings back what stood there, a played transcript too; leaving more than a minute of unsaved work asks."""
     fresh(browser, "ring", 8, "both", 5)
     browser.click(*edge(browser, 2, 3))
+    browser.click(*place(browser, "#run"))
     settles(browser)
     drag_to = [at + 30 for at in node(browser, 5)]
     drag(browser, node(browser, 5), drag_to)
@@ -299,6 +300,7 @@ def redoes(pages, browser):
     fresh(browser, "grid", 9)
     pages.expect("nothing to do again", browser.ask("isDisabled", "#redo"), True)
     browser.click(*edge(browser, 1, 2))
+    browser.click(*place(browser, "#run"))
     settles(browser)
     browser.click(*place(browser, "#run"))
     browser.click(*place(browser, "#scramble"))
