@@ -9,6 +9,16 @@ import time
 
 PROBES = os.path.join(os.path.dirname(os.path.abspath(__file__)), "page_probes.js")
 NAMES = ["chromium", "chromium-browser", "google-chrome"]
+# code, number and text of keys that are no letters
+KEYS = {
+    "Enter": ("Enter", 13, "\r"),
+    "Escape": ("Escape", 27, ""),
+    "ArrowLeft": ("ArrowLeft", 37, ""),
+    "ArrowUp": ("ArrowUp", 38, ""),
+    "ArrowRight": ("ArrowRight", 39, ""),
+    "ArrowDown": ("ArrowDown", 40, ""),
+    " ": ("Space", 32, " "),
+}
 WORDS = [
     "--headless=new",
     "--no-sandbox",
@@ -175,6 +185,21 @@ class Browser:
         words = {"x": x, "y": y, "button": "left", "clickCount": 1}
         self.call("Input.dispatchMouseEvent", type="mousePressed", buttons=1, **words)
         self.call("Input.dispatchMouseEvent", type="mouseReleased", **words)
+
+    def press(self, name):
+        """Presses and releases a key by its name, as `browser.KEYS` or a character has it."""
+        code, number, text = KEYS.get(name, ("", ord(name[0].upper()), name))
+        self.key(name, code or f"Key{name.upper()}", number, text)
+
+    def drag(self, start, end):
+        """Drags the mouse from one place to another."""
+        (x1, y1), (x2, y2) = start, end
+        held = {"button": "left", "buttons": 1}
+        self.move(x1, y1)
+        self.call("Input.dispatchMouseEvent", type="mousePressed", x=x1, y=y1, clickCount=1, **held)
+        for x, y in [((x1 + x2) / 2, (y1 + y2) / 2), (x2, y2)]:
+            self.call("Input.dispatchMouseEvent", type="mouseMoved", x=x, y=y, **held)
+        self.call("Input.dispatchMouseEvent", type="mouseReleased", x=x2, y=y2, button="left", clickCount=1)
 
     def move(self, x, y):
         """Moves the mouse, no button held."""

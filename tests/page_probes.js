@@ -38,6 +38,7 @@ const probes = (() => {
     setValue: (selector, value) => void (one(selector).value = value),
     attribute: (selector, name) => one(selector)?.getAttribute(name) ?? null,
     press: (selector) => one(selector).click(),
+    isPressable: (selector) => isShown(one(selector)) && one(selector).getClientRects().length > 0 && !one(selector).disabled,
     focus: (selector) => one(selector).focus(),
     blur: () => document.activeElement.blur(),
     isHidden: (selector) => one(selector).hidden,
@@ -263,6 +264,13 @@ const probes = (() => {
         };
         requestAnimationFrame(look);
       }),
+
+    /** Writes a text in the place of the script, as hands do that type. */
+    write: (text) => {
+      one("#show-script").click();
+      one("#text").value = text;
+      one("#text").dispatchEvent(new Event("input", { bubbles: true }));
+    },
 
     /** Pastes a text where the focus is. */
     paste: (text) => {

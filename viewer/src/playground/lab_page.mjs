@@ -67,6 +67,9 @@ export class LabPage {
 
   listenToChoice() {
     field("preset").addEventListener("change", () => {
+      if (field("preset").value === OWN) {
+        return;
+      }
       field("size").value = String(PRESETS[field("preset").value].nodes);
       this.openPreset();
     });
