@@ -25,7 +25,13 @@ interface Layout {
   framed?: boolean;
 }
 
-type Link = [number, number];
+/** The two ends of a link. */
+type Link = number[];
+
+/** In browsers and in node, and not yet in TypeScript's own library. */
+interface Array<T> {
+  findLast(isWanted: (value: T) => boolean): T | undefined;
+}
 
 type RuleName = "hh" | "manne";
 
@@ -102,4 +108,12 @@ interface Explained {
   heading: string;
   rule: string | null;
   rows: [string, string][];
+}
+
+/** A column of a plot that stands for several entries. */
+interface Column {
+  middle: number;
+  least: number;
+  most: number;
+  mean: number;
 }

@@ -14,10 +14,14 @@ const WIDE = 1.8;
 const READABLE = 0.8;
 const SHARE_OF_GAP = 0.42;
 const MOST_GROWTH = 2;
+/** @type {Record<string, string>} */
 const MARKS = { update: "U", marry: "M", seduce: "S", abandon: "A" };
 
-/** Two places round a node where marks hide no pointer: both in the widest angle between its edges where that is wide, else one
- * in the middle of each of the two widest. */
+/**
+ * Two places round a node where marks hide no pointer: both in the widest angle between its edges where that is wide, else one
+ * in the middle of each of the two widest.
+ * @param {number[]} angles
+ */
 export function freeAngles(angles) {
   if (angles.length === 0) {
     return [-Math.PI / 4, -Math.PI / 4 + 2 * ASIDE];
@@ -26,6 +30,7 @@ export function freeAngles(angles) {
   const gaps = sorted.map((angle, at) => ({ from: angle, size: (sorted[at + 1] ?? sorted[0] + 2 * Math.PI) - angle }));
   // a hair's breadth tells no two angles apart, so that the first of equal ones is taken
   gaps.sort((one, other) => Math.round(1e6 * (other.size - one.size)));
+  /** @param {{ from: number, size: number }} gap */
   const middle = ({ from, size }) => from + size / 2;
   if (gaps[0].size > WIDE || gaps.length === 1) {
     return [middle(gaps[0]) - ASIDE, middle(gaps[0]) + ASIDE];
@@ -59,7 +64,10 @@ function nameSize(name) {
   return [0, 13, 12, 10, 8][String(name).length];
 }
 
-/** The edge of an entry that links or unlinks, with what the entry did to it. */
+/**
+ * The edge of an entry that links or unlinks, with what the entry did to it.
+ * @param {Entry | null} entry
+ */
 function changedEdge(entry) {
   if (entry && entry.disturbs && (entry.kind === "link" || entry.kind === "unlink")) {
     const [low, high] = entry.event.split(" ").slice(1).map(Number).sort((a, b) => a - b);
@@ -67,6 +75,9 @@ function changedEdge(entry) {
   }
   return null;
 }
+
+/** @typedef {{ line: SVGElement, classes: string }} KnownEdge */
+/** @typedef {{ group: SVGElement, classes: string, mark: SVGElement | null, letter: SVGElement | null, flag: SVGElement | null }} Shape */
 
 export class Drawing {
   /**
@@ -79,6 +90,10 @@ export class Drawing {
     this.svg = svg;
     this.layout = layout;
     this.nodes = nodes;
+    /**
+     * At which angles edges leave each node.
+     * @type {number[][]}
+     */
     this.angles = Array.from({ length: nodes + 1 }, () => []);
     for (const [v, w] of edgesEver) {
       const angle = Math.atan2(layout.y[w] - layout.y[v], layout.x[w] - layout.x[v]);
@@ -87,12 +102,16 @@ export class Drawing {
     }
     this.layers = Object.fromEntries(["edges", "pairs", "picks", "pointers", "nodes", "changes"].map((name) => [name, add(svg, "g", { class: name })]));
     svg.classList.toggle("dense", edgesEver.length > DENSE * nodes);
+    /** @type {Map<number, KnownEdge>} */
     this.edges = new Map();
+    /** @type {Map<number, { line: SVGElement, target: number }>} */
     this.pointers = new Map();
+    /** @type {(Shape | null)[]} */
     this.shapes = [null];
     for (let v = 1; v <= nodes; v += 1) {
       this.shapes.push(this.makeNode(v));
     }
+    /** @type {KnownEdge[]} */
     this.shownEdges = [];
     this.growth = 1;
     this.mostGrowth = roomToGrow(layout, nodes);
@@ -119,21 +138,34 @@ export class Drawing {
     return [this.layout.x[v], this.layout.y[v]];
   }
 
-  /** The first or the second place of a mark beside a node. */
+  /**
+   * The first or the second place of a mark beside a node.
+   * @param {number} v
+   * @param {number} which
+   */
   beside(v, which) {
     const angle = freeAngles(this.angles[v])[which];
     return `translate(${(MARK_DISTANCE * Math.cos(angle)).toFixed(1)} ${(MARK_DISTANCE * Math.sin(angle)).toFixed(1)})`;
   }
 
+  /**
+   * @param {number} v
+   * @returns {Shape}
+   */
   makeNode(v) {
     const [x, y] = this.place(v);
     const group = add(this.layers.nodes, "g", { class: "node", "data-node": v, transform: `translate(${x.toFixed(1)} ${y.toFixed(1)})` });
     add(group, "circle", { class: "halo", r: RADIUS + 5 });
     add(group, "circle", { class: "body", r: RADIUS });
     add(group, "text", { class: "name", "font-size": nameSize(v), dy: "0.36em" }, String(v));
-    return { group, classes: "node", mark: null, flag: null };
+    return { group, classes: "node", mark: null, letter: null, flag: null };
   }
 
+  /**
+   * @param {number} low
+   * @param {number} high
+   * @returns {KnownEdge}
+   */
   edge(low, high) {
     const key = low * 65536 + high;
     if (!this.edges.has(key)) {
@@ -144,7 +176,12 @@ export class Drawing {
     return this.edges.get(key);
   }
 
-  /** Shows the state of a machine after an entry that named the nodes in `lit`. */
+  /**
+   * Shows the state of a machine after an entry that named the nodes in `lit`.
+   * @param {import("./machine.mjs").Machine} machine
+   * @param {Entry | null} entry
+   * @param {number[]} lit
+   */
   show(machine, entry, lit) {
     this.showEdges(machine);
     this.showChange(changedEdge(entry));
@@ -155,6 +192,7 @@ export class Drawing {
     }
   }
 
+  /** @param {import("./machine.mjs").Machine} machine */
   showEdges(machine) {
     const shown = new Map();
     for (const [low, high] of machine.edges()) {
@@ -175,7 +213,10 @@ export class Drawing {
     this.shownEdges = [...shown.keys()].filter((edge) => edge.classes !== "edge absent");
   }
 
-  /** An edge that came has a plus at its middle, and one that went is dashed with a cross. */
+  /**
+   * An edge that came has a plus at its middle, and one that went is dashed with a cross.
+   * @param {{ low: number, high: number, change: string } | null} changed
+   */
   showChange(changed) {
     this.layers.changes.replaceChildren();
     this.layers.edges.querySelector(".change")?.remove();
@@ -189,6 +230,11 @@ export class Drawing {
     add(this.layers.changes, "text", { class: changed.change, ...at, dy: "0.36em" }, changed.change === "came" ? "+" : "×");
   }
 
+  /**
+   * @param {import("./machine.mjs").Machine} machine
+   * @param {number} v
+   * @param {boolean} isLit
+   */
   showNode(machine, v, isLit) {
     const shape = this.shapes[v];
     const rule = machine.rule[v];
@@ -211,7 +257,11 @@ export class Drawing {
     }
   }
 
-  /** A pointer that is not answered is an arrow; one that is answered is half of a bold edge. */
+  /**
+   * A pointer that is not answered is an arrow; one that is answered is half of a bold edge.
+   * @param {import("./machine.mjs").Machine} machine
+   * @param {number} v
+   */
   showPointer(machine, v) {
     const target = machine.isMarried(v) ? 0 : machine.pointer[v];
     const known = this.pointers.get(v);
@@ -244,14 +294,23 @@ export class Drawing {
     this.pointers.set(v, { line, target });
   }
 
-  /** How many nodes that are there touch the box between two places; each has this radius. */
+  /**
+   * How many nodes that are there touch the box between two places; each has this radius.
+   * @param {Place} from
+   * @param {Place} to
+   * @param {number} radius
+   */
   countIn(from, to, radius) {
     const { x, y } = this.layout;
+    /** @param {number} v */
     const isIn = (v) => x[v] > from.x - radius && x[v] < to.x + radius && y[v] > from.y - radius && y[v] < to.y + radius;
     return this.shapes.filter((shape, v) => shape && !shape.classes.includes("absent") && isIn(v)).length;
   }
 
-  /** Marks a node or an edge; null marks none. */
+  /**
+   * Marks a node or an edge; null marks none.
+   * @param {Thing | null} thing
+   */
   pick(thing) {
     this.layers.picks.replaceChildren();
     if (thing === null) {

@@ -32,6 +32,8 @@ class Page {
     const bytes = dataOf("engine");
     this.runs = bytes !== null && canRun();
     // loaded once, when it is needed first
+    /** @type {Promise<Engine> | undefined} */
+    this.loaded = undefined;
     this.engine = () => (this.loaded ??= Engine.load(Uint8Array.from(atob(bytes), (letter) => letter.charCodeAt(0))));
     byId("to-lab").hidden = !this.runs;
     byId("to-lab").addEventListener("click", () => this.openLab(null));

@@ -4,6 +4,7 @@ import { byId } from "./svg.mjs";
 const TEXT_STYLES = ["fill", "font-size", "font-weight", "font-family", "text-anchor"];
 const SHAPE_STYLES = ["fill", "stroke", "stroke-width", "stroke-dasharray", "stroke-linecap", "opacity"];
 // what an element has where nothing is said
+/** @type {Record<string, string>} */
 const PLAIN = { stroke: "none", "stroke-width": "1px", "stroke-dasharray": "none", "stroke-linecap": "butt", opacity: "1" };
 const DROPPED = /^(class|tabindex|role|aria-.*|data-.*)$/;
 // a PNG is twice as fine as what is seen, and at least so many pixels wide or high
@@ -51,7 +52,7 @@ function writeScale(element, copy) {
  * @returns {Element}
  */
 function copyOf(element, always) {
-  const made = element.cloneNode(false);
+  const made = /** @type {Element} */ (element.cloneNode(false));
   for (const { name } of [...element.attributes].filter(({ name }) => DROPPED.test(name))) {
     made.removeAttribute(name);
   }
@@ -62,7 +63,7 @@ function copyOf(element, always) {
   for (const child of element.childNodes) {
     if (child.nodeType === Node.TEXT_NODE) {
       made.append(child.cloneNode());
-    } else if (child.nodeType === Node.ELEMENT_NODE && (always || child.localName === "defs" || isSeen(child))) {
+    } else if (child instanceof Element && (always || child.localName === "defs" || isSeen(child))) {
       made.append(copyOf(child, always || child.localName === "defs"));
     }
   }
@@ -91,17 +92,17 @@ function drawingOf(svg) {
  */
 export function standalone(svg, title) {
   const made = drawingOf(svg);
-  const [left, top, width, height] = svg.getAttribute("viewBox").split(" ");
+  const [left, top, width, height] = svg.getAttribute("viewBox").split(" ").map(Number);
   const paper = document.createElementNS(svg.namespaceURI, "rect");
   const colour = getComputedStyle(document.body).backgroundColor;
-  Object.entries({ x: left, y: top, width, height, fill: colour }).forEach(([key, value]) => paper.setAttribute(key, value));
+  Object.entries({ x: left, y: top, width, height, fill: colour }).forEach(([key, value]) => paper.setAttribute(key, String(value)));
   const name = document.createElementNS(svg.namespaceURI, "title");
   name.textContent = title;
   made.prepend(name, paper);
   made.removeAttribute("id");
   const scale = Math.min(svg.clientWidth / width, svg.clientHeight / height);
-  made.setAttribute("width", Math.round(width * scale));
-  made.setAttribute("height", Math.round(height * scale));
+  made.setAttribute("width", String(Math.round(width * scale)));
+  made.setAttribute("height", String(Math.round(height * scale)));
   return `${new XMLSerializer().serializeToString(made)}\n`;
 }
 

@@ -45,6 +45,14 @@ export function nameWindow(text) {
 }
 
 /**
+ * A picture of the page.
+ * @param {string} id
+ */
+export function graphic(id) {
+  return /** @type {SVGSVGElement} */ (/** @type {unknown} */ (document.getElementById(id)));
+}
+
+/**
  * A field or a button of the page.
  * @param {string} id
  */

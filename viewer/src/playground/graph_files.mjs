@@ -131,6 +131,7 @@ function edgeList(text) {
  */
 function dimacs(text) {
   const found = new Collected();
+  /** @type {number | null} */
   let nodes = null;
   for (const line of linesOf(text, ([first]) => first === "c")) {
     const [kind, ...words] = line.words;

@@ -38,7 +38,7 @@ export class Seen extends Machine {
     this.load(readBase(text, text.indexOf("matching2 ")).state);
     this.enabledNodes = [];
     for (const [, node, rule] of enabled.matchAll(/(\d+):([a-z]+)/g)) {
-      this.rule[node] = rule;
+      this.rule[Number(node)] = rule;
       this.enabledNodes.push(Number(node));
     }
     this.present = this.told.nodes;
