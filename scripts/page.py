@@ -65,6 +65,8 @@ def page_of(transcript, judge, engine):
         "transcript": embedded(transcript),
         "judge": embedded(judge),
         "engine": embedded(engine),
+        # the playground lies in the repository; where a page of a transcript will lie, nobody knows
+        "project": ' href="../README.md"' if transcript is None else "",
     }
     return re.sub(r"\{\{(\w+)\}\}", lambda place: parts[place.group(1)], template)
 

@@ -7,7 +7,18 @@ import subprocess
 import tempfile
 import time
 
+PROBES = os.path.join(os.path.dirname(os.path.abspath(__file__)), "page_probes.js")
 NAMES = ["chromium", "chromium-browser", "google-chrome"]
+# code, number and text of keys that are no letters
+KEYS = {
+    "Enter": ("Enter", 13, "\r"),
+    "Escape": ("Escape", 27, ""),
+    "ArrowLeft": ("ArrowLeft", 37, ""),
+    "ArrowUp": ("ArrowUp", 38, ""),
+    "ArrowRight": ("ArrowRight", 39, ""),
+    "ArrowDown": ("ArrowDown", 40, ""),
+    " ": ("Space", 32, " "),
+}
 WORDS = [
     "--headless=new",
     "--no-sandbox",
@@ -66,6 +77,8 @@ class Browser:
         self.session = self.call("Target.attachToTarget", targetId=page, flatten=True)["sessionId"]
         for domain in ["Page", "Runtime", "Log", "Network"]:
             self.call(f"{domain}.enable")
+        with open(PROBES, encoding="utf-8") as file:
+            self.before_pages(file.read())
 
     def __enter__(self):
         return self
@@ -133,6 +146,27 @@ class Browser:
             if "method" in said:
                 self.note(said)
 
+    def before_pages(self, source):
+        """Has a script run in each page that is opened from now on, before its own; returns what `forget` takes."""
+        return self.call("Page.addScriptToEvaluateOnNewDocument", source=source)["identifier"]
+
+    def forget(self, script):
+        self.call("Page.removeScriptToEvaluateOnNewDocument", identifier=script)
+
+    def ask(self, probe, *words):
+        """What a probe of page_probes.js returns."""
+        return self.value(f"probes.{probe}({', '.join(json.dumps(word) for word in words)})")
+
+    def reload(self):
+        """Loads the page again, as its reader does."""
+        self.seen = []
+        self.call("Page.reload")
+        until = time.monotonic() + self.wait
+        while "Page.loadEventFired" not in self.seen:
+            said = self.message(until)
+            if "method" in said:
+                self.note(said)
+
     def value(self, expression):
         """What an expression is in the page."""
         made = self.call("Runtime.evaluate", expression=expression, returnByValue=True, awaitPromise=True)
@@ -151,6 +185,21 @@ class Browser:
         words = {"x": x, "y": y, "button": "left", "clickCount": 1}
         self.call("Input.dispatchMouseEvent", type="mousePressed", buttons=1, **words)
         self.call("Input.dispatchMouseEvent", type="mouseReleased", **words)
+
+    def press(self, name):
+        """Presses and releases a key by its name, as `browser.KEYS` or a character has it."""
+        code, number, text = KEYS.get(name, ("", ord(name[0].upper()), name))
+        self.key(name, code or f"Key{name.upper()}", number, text)
+
+    def drag(self, start, end):
+        """Drags the mouse from one place to another."""
+        (x1, y1), (x2, y2) = start, end
+        held = {"button": "left", "buttons": 1}
+        self.move(x1, y1)
+        self.call("Input.dispatchMouseEvent", type="mousePressed", x=x1, y=y1, clickCount=1, **held)
+        for x, y in [((x1 + x2) / 2, (y1 + y2) / 2), (x2, y2)]:
+            self.call("Input.dispatchMouseEvent", type="mouseMoved", x=x, y=y, **held)
+        self.call("Input.dispatchMouseEvent", type="mouseReleased", x=x2, y=y2, button="left", clickCount=1)
 
     def move(self, x, y):
         """Moves the mouse, no button held."""

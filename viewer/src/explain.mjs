@@ -3,7 +3,10 @@ import { counted } from "./numbers.mjs";
 
 const MOST_NAMED = 12;
 
-/** Names in words: `3`, `3 and 5`, `3, 5 and 9`. */
+/**
+ * Names in words: `3`, `3 and 5`, `3, 5 and 9`.
+ * @param {number[]} names
+ */
 export function listed(names) {
   if (names.length > MOST_NAMED) {
     return `${names.slice(0, MOST_NAMED).join(", ")} and ${names.length - MOST_NAMED} more`;
@@ -11,10 +14,18 @@ export function listed(names) {
   return names.length < 2 ? names.join("") : `${names.slice(0, -1).join(", ")} and ${names.at(-1)}`;
 }
 
+/**
+ * @param {import("./machine.mjs").Machine} machine
+ * @param {number} v
+ */
 function suitorsOf(machine, v) {
   return [...machine.neighbours[v]].filter((w) => machine.pointer[w] === v).sort((a, b) => a - b);
 }
 
+/**
+ * @param {import("./machine.mjs").Machine} machine
+ * @param {number} v
+ */
 function pointerOf(machine, v) {
   const w = machine.pointer[v];
   if (w === 0) {
@@ -23,11 +34,19 @@ function pointerOf(machine, v) {
   return machine.pointer[w] === v ? `at ${w}, which points back: they are married` : `at ${w}, which does not point back`;
 }
 
-/** Where a pointer leads, as the end of a sentence about its node. */
+/**
+ * Where a pointer leads, as the end of a sentence about its node.
+ * @param {import("./machine.mjs").Machine} machine
+ * @param {number} w
+ */
 function whereTo(machine, w) {
   return machine.pointer[w] === 0 ? "points nowhere" : `points at ${machine.pointer[w]}`;
 }
 
+/**
+ * @param {import("./machine.mjs").Machine} machine
+ * @param {number} v
+ */
 function whySeduce(machine, v) {
   const open = machine.openNeighbours(v);
   const free = "it points nowhere, nobody points at it";
@@ -37,6 +56,10 @@ function whySeduce(machine, v) {
   return `${free}, and ${open.length === 1 ? `its neighbour ${open[0]} points` : `its neighbours ${listed(open)} point`} nowhere too`;
 }
 
+/**
+ * @param {import("./machine.mjs").Machine} machine
+ * @param {number} v
+ */
 function whyAbandon(machine, v) {
   const w = machine.pointer[v];
   if (!machine.flags) {
@@ -46,7 +69,11 @@ function whyAbandon(machine, v) {
   return `it points at ${w}, which does not point back and ${reasons.join(" and ")}`;
 }
 
-/** The guard that holds at v, in words. */
+/**
+ * The guard that holds at v, in words.
+ * @param {import("./machine.mjs").Machine} machine
+ * @param {number} v
+ */
 function whyEnabled(machine, v) {
   const right = machine.flags ? "its flag is right, " : "";
   switch (machine.rule[v]) {
@@ -64,7 +91,11 @@ function whyEnabled(machine, v) {
   return "";
 }
 
-/** Why no guard holds at v, in words. */
+/**
+ * Why no guard holds at v, in words.
+ * @param {import("./machine.mjs").Machine} machine
+ * @param {number} v
+ */
 function whyQuiet(machine, v) {
   const w = machine.pointer[v];
   if (machine.isMarried(v)) {
@@ -80,7 +111,11 @@ function whyQuiet(machine, v) {
   return `it points nowhere, nobody points at it, and ${wanted}`;
 }
 
-/** What the charge counts at v itself: each part with its count and what for. */
+/**
+ * What the charge counts at v itself: each part with its count and what for.
+ * @param {import("./machine.mjs").Machine} machine
+ * @param {number} v
+ */
 function chargesAt(machine, v) {
   const married = machine.isMarried(v);
   return [
@@ -90,10 +125,18 @@ function chargesAt(machine, v) {
   ].filter(Boolean);
 }
 
+/**
+ * @param {import("./machine.mjs").Machine} machine
+ * @param {number} v
+ */
 function openEdgesOf(machine, v) {
   return [...machine.neighbours[v]].filter((w) => !machine.isClosed(v, w)).sort((a, b) => a - b);
 }
 
+/**
+ * @param {import("./machine.mjs").Machine} machine
+ * @param {number} v
+ */
 function chargeOfNode(machine, v) {
   const parts = chargesAt(machine, v);
   const whatFor = parts.length === 1 ? `, for ${parts[0][1]}` : parts.map(([count, part], at) => `${at === 0 ? ": " : ", "}${count} for ${part}`).join("");
@@ -102,10 +145,16 @@ function chargeOfNode(machine, v) {
   return `${machine.nodeCharge(v)} here${whatFor}${edges}`;
 }
 
-/** What is told of a node that is there: a heading, and terms with what is said of each. */
+/**
+ * What is told of a node that is there: a heading, and terms with what is said of each.
+ * @param {import("./machine.mjs").Machine} machine
+ * @param {number} v
+ * @returns {Explained}
+ */
 export function explainNode(machine, v) {
   const rule = machine.rule[v];
   const suitors = suitorsOf(machine, v);
+  /** @type {([string, string] | false)[]} */
   const rows = [
     ["pointer", pointerOf(machine, v)],
     machine.flags && ["flag", String(machine.flag[v])],
@@ -114,9 +163,14 @@ export function explainNode(machine, v) {
     rule ? [`may ${rule}`, `since ${whyEnabled(machine, v)}`] : ["not enabled", `since ${whyQuiet(machine, v)}`],
     ["charge", chargeOfNode(machine, v)],
   ];
-  return { heading: `Node ${v}`, rule, rows: rows.filter(Boolean) };
+  return { heading: `Node ${v}`, rule, rows: /** @type {[string, string][]} */ (rows.filter(Boolean)) };
 }
 
+/**
+ * @param {import("./machine.mjs").Machine} machine
+ * @param {number} low
+ * @param {number} high
+ */
 function whyClosed(machine, low, high) {
   const married = [low, high].filter((v) => machine.isMarried(v));
   if (machine.partner(low) === high) {
@@ -132,6 +186,11 @@ function whyClosed(machine, low, high) {
   return waiting ? `${waiting[0]} points at ${waiting[1]}, which points nowhere` : "both ends point nowhere, and somebody points at each";
 }
 
+/**
+ * @param {import("./machine.mjs").Machine} machine
+ * @param {number} low
+ * @param {number} high
+ */
 function whyOpen(machine, low, high) {
   if (!machine.flags) {
     return "neither end is married or waits for the other, and they are not both courted";
@@ -140,22 +199,39 @@ function whyOpen(machine, low, high) {
   return `neither end is married, and ${pointed ? `${high}, at which ${low} points, has the flag 1` : `${low} does not point at ${high}`}`;
 }
 
+/**
+ * @param {import("./machine.mjs").Machine} machine
+ * @param {number} low
+ * @param {number} high
+ */
 function alongEdge(machine, low, high) {
   const along = [[low, high], [high, low]].filter(([v, w]) => machine.pointer[v] === w).map(([v, w]) => `${v} points at ${w}`);
   return along.length === 0 ? "neither end points along it" : along.join(", and ");
 }
 
-/** What is told of an edge that is there. */
+/**
+ * What is told of an edge that is there.
+ * @param {import("./machine.mjs").Machine} machine
+ * @param {number} low
+ * @param {number} high
+ * @returns {Explained}
+ */
 export function explainEdge(machine, low, high) {
   const closed = machine.isClosed(low, high);
+  /** @type {([string, string] | false)[]} */
   const rows = [
     ["pointers", alongEdge(machine, low, high)],
     ["charge", closed ? `0: it is closed, since ${whyClosed(machine, low, high)}` : `2: it is open, since ${whyOpen(machine, low, high)}`],
   ];
-  return { heading: `Edge ${low} – ${high}`, rule: null, rows };
+  return { heading: `Edge ${low} – ${high}`, rule: null, rows: /** @type {[string, string][]} */ (rows) };
 }
 
-/** What is told of a node or an edge, whether it is there or not. */
+/**
+ * What is told of a node or an edge, whether it is there or not.
+ * @param {import("./machine.mjs").Machine} machine
+ * @param {Thing | null} thing
+ * @returns {Explained}
+ */
 export function explain(machine, thing) {
   if (thing.node) {
     const { node } = thing;

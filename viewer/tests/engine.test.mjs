@@ -4,7 +4,7 @@ import assert from "node:assert/strict";
 import test from "node:test";
 import { drawn, engineOfPage, program, whatIsMissing } from "./wasm.mjs";
 import { EngineFault } from "../src/playground/engine.mjs";
-import { BadLine, Lab } from "../src/playground/lab.mjs";
+import { BadLine, Lab, MOST_FAULTS, MOST_TEXT } from "../src/playground/lab.mjs";
 import { Replay } from "../src/replay.mjs";
 import { Transcript } from "../src/transcript.mjs";
 
@@ -130,13 +130,30 @@ test("what the page shows of the engine is what its player replays, at each entr
 test("a lab takes no bad line, and plays other lines from the start", { skip }, async () => {
   const lab = new Lab(await engineOfPage(), { rules: "hh", names: 4, present: 3 });
   ["link 1 2", "link 2 3", "step 1"].forEach((line) => lab.feed(line));
-  assert.throws(() => lab.feed("no command"), new BadLine(4, "no command"));
+  assert.throws(() => lab.feed("no command"), new BadLine(4, "no command", "is no command"));
   assert.equal(lab.script, "link 1 2\nlink 2 3\nstep 1\n");
   assert.equal(lab.transcript, "matching hh 4 3\n1 link 1 2 = ok\n2 link 2 3 = ok\n3 step 1 = 1:seduce>2\n");
   assert.equal(lab.words, "run --rules hh --nodes 4 --present 3");
   lab.replay(["link 1 2"]);
   assert.equal(lab.transcript, "matching hh 4 3\n1 link 1 2 = ok\n");
   assert.deepEqual([lab.seen.told.edges, lab.seen.charge, lab.seen.enabledNodes], [1, 2, [1, 2]]);
-  assert.throws(() => lab.replay(["link 1 2", "lnk"]), new BadLine(2, "lnk"));
+  assert.throws(() => lab.replay(["link 1 2", "lnk"]), new BadLine(2, "lnk", "is no command"));
+  lab.free();
+});
+
+test("a lab takes no line that would have the page stand still, and says which and why", { skip }, async () => {
+  const lab = new Lab(await engineOfPage(), { rules: "hh", names: 3, present: 3 });
+  const begun = performance.now();
+  const full = "scramble 1 1000000";
+  assert.throws(() => lab.replay(["link 1 2", full]), { name: "Error", line: 2, text: full, message: /^line 2 writes more than 100,000 registers, .*: scramble 1 1000000$/ });
+  assert.equal(lab.script, "link 1 2\n");
+  const lines = Array.from({ length: 200 }, (_, at) => `scramble ${at} ${MOST_FAULTS}`);
+  assert.throws(() => lab.replay(lines), { message: /^line \d+ comes after 16,777,216 characters of transcript/ });
+  assert.ok(lab.size > MOST_TEXT && lab.lines.length < 20, `${lab.size} characters of ${lab.lines.length} lines`);
+  assert.ok(performance.now() - begun < 5000, `${performance.now() - begun} ms`);
+  // a drive ends where nothing is enabled, however many steps it has
+  const drive = "link 1 2\ndrive 1 1000000\n";
+  lab.replay(drive.trimEnd().split("\n"));
+  assert.equal(lab.transcript, program(["run", "--rules", "hh", "--nodes", "3"], drive).text);
   lab.free();
 });

@@ -170,12 +170,25 @@ test("README's first transcript", () => {
   assert.equal(`7 status = ${replay.goTo(7).status(replay.series.spent[7])}`, text.trimEnd().split("\n").at(-1));
 });
 
-test("disturbances before and behind an entry", () => {
-  const text = "matching hh 2\n1 show 1 = -\n2 link 1 2 = ok\n3 link 1 2 = refused 3 already-linked\n4 point 1 2 = ok\n5 step 2 = 2:marry>1\n";
+test("bursts of disturbances before and behind an entry: one ends where somebody moves, and not at a question or a refusal", () => {
+  const text = [
+    "matching hh 2", "1 show 1 = -", "2 link 1 2 = ok", "3 link 1 2 = refused 3 already-linked", "4 point 1 2 = ok", "5 step 2 = 2:marry>1",
+    "6 unlink 1 2 = ok", "7 status = nodes=2 edges=0 pairs=0 enabled=0 charge=0 spent=0", "8 link 1 2 = ok", "9 step 1 = 1:seduce>2", "10 point 1 - = ok", "",
+  ].join("\n");
   const replay = new Replay(new Transcript(text));
-  assert.deepEqual([0, 1, 2, 3, 4, 5].map((number) => replay.nextDisturbance(number)), [2, 2, 4, 4, null, null]);
-  assert.deepEqual([0, 1, 2, 3, 4, 5].map((number) => replay.previousDisturbance(number)), [null, null, null, 2, 2, 4]);
-  assert.deepEqual([0, 1, 2, 3, 4, 5].map((number) => replay.epochAt(number).start), [0, 0, 2, 2, 4, 4]);
+  const entries = Array.from({ length: 11 }, (_, number) => number);
+  assert.deepEqual(entries.map((number) => replay.nextDisturbance(number)), [4, 4, 4, 4, 8, 8, 8, 8, 10, 10, null]);
+  assert.deepEqual(entries.map((number) => replay.previousDisturbance(number)), [null, null, null, null, null, 4, 4, 4, 4, 8, 8]);
+  assert.deepEqual(entries.map((number) => replay.epochAt(number).start), [0, 0, 2, 2, 4, 4, 6, 6, 8, 8, 10]);
+});
+
+test("a transcript opens at its first move; one without moves at the end of its first burst, and one with a base at that", () => {
+  const opening = (...lines) => new Replay(new Transcript([...lines, ""].join("\n"))).opening;
+  assert.equal(opening("matching hh 3", "1 link 1 2 = ok", "2 link 2 3 = ok", "3 step 1 = 1:seduce>2", "4 step 2 = 2:marry>1"), 3);
+  assert.equal(opening("matching hh 3", "1 enabled = none", "2 link 1 2 = ok", "3 link 2 3 = ok", "4 show 1 = -"), 3);
+  assert.equal(opening("matching hh 3", "1 show 1 = -"), 0);
+  assert.equal(opening("matching hh 3"), 0);
+  assert.equal(opening(...BASE, "3 step 2 = 2:marry>1"), 2);
 });
 
 test("a long transcript is entered anywhere: the counts are those of a walk from its beginning", () => {

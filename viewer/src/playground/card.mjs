@@ -3,9 +3,13 @@ import { explain } from "../explain.mjs";
 import { addText, byId } from "../svg.mjs";
 
 export class Card {
-  /** `acts` are those of the tools. */
+  /** @param {import("./tools.mjs").Acts} acts */
   constructor(acts) {
-    Object.assign(this, { acts, lab: null, thing: null });
+    this.acts = acts;
+    /** @type {import("./lab.mjs").Lab | null} */
+    this.lab = null;
+    /** @type {Thing | null} */
+    this.thing = null;
     byId("let-go").addEventListener("click", () => acts.choose(null));
     byId("do-move").addEventListener("click", () => acts.move(this.lab, `step ${this.thing.node}`));
     byId("do-free").addEventListener("click", () => acts.disturb(`point ${this.thing.node} -`));
@@ -14,8 +18,13 @@ export class Card {
     byId("do-cut").addEventListener("click", () => acts.disturb(`unlink ${this.thing.low} ${this.thing.high}`));
   }
 
+  /**
+   * @param {import("./lab.mjs").Lab} lab
+   * @param {Thing | null} thing
+   */
   show(lab, thing) {
-    Object.assign(this, { lab, thing });
+    this.lab = lab;
+    this.thing = thing;
     byId("chosen").hidden = thing === null;
     if (thing === null) {
       return;
