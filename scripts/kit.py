@@ -20,7 +20,10 @@ def require():
 
 def load():
     require()
-    page = subprocess.run(["rt", "doc"], capture_output=True, text=True, check=True).stdout.strip()
+    try:
+        page = subprocess.run(["rt", "doc"], capture_output=True, text=True, check=True).stdout.strip()
+    except (OSError, subprocess.CalledProcessError) as wrong:
+        sys.exit(f"{os.path.basename(sys.argv[0])}: the Rattle kit does not run: {wrong}")
     loader = importlib.machinery.SourceFileLoader("rtlib", f"{os.path.dirname(page)}/bin/rtlib.py")
     made = importlib.util.module_from_spec(importlib.util.spec_from_loader("rtlib", loader))
     sys.modules["rtlib"] = made
