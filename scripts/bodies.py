@@ -1,4 +1,5 @@
-"""Where the functions of a crate stand in its files, by the layout of rt fmt, and the crate without the bodies of most."""
+"""Where the functions of a crate stand in its files, by the layout of rt fmt, and the crate without the bodies of
+most."""
 import os
 import re
 
@@ -10,8 +11,9 @@ LEFT_OUT = "unreachable!()"
 
 
 class Function:
-    """A function with a body: its path below the crate as the prover names it, its file, its line there, the lines of its
-    body from `first` to before `end`, and the cycle of calls that it says it is in, with the module before it."""
+    """A function with a body: its path below the crate as the prover names it, its file, its line there, the lines
+    of its body from `first` to before `end`, and the cycle of calls that it says it is in, with the module before
+    it."""
 
     def __init__(self, path, file, line, first, end, cycle):
         self.path, self.file, self.line, self.first, self.end, self.cycle = path, file, line, first, end, cycle
@@ -53,8 +55,8 @@ def without_parameters(head):
 
 
 def holder_of(head, module, modules):
-    """The path of what an `impl` or a trait holds: a type's own functions stand where the type does, those of a trait for a
-    type in the module of the `impl`, under both names."""
+    """The path of what an `impl` or a trait holds: a type's own functions stand where the type does, those of a
+    trait for a type in the module of the `impl`, under both names."""
     if not head.startswith("impl"):
         return joined(module, re.search(r"trait (\w+)", head)[1])
     what = re.split(r" where\b| \{$", without_parameters(head))[0]
@@ -71,7 +73,8 @@ def holder_of(head, module, modules):
 
 
 def body_of(lines, at, indent):
-    """The lines of the body of the function whose head begins in a line, or None where it has none, or one of one line."""
+    """The lines of the body of the function whose head begins in a line, or None where it has none, or one of one
+    line."""
     for first in range(at, len(lines)):
         line = lines[first]
         ends_its_head = first == at or line.startswith(f"{indent})")
@@ -111,9 +114,9 @@ def functions_of(texts):
 
 
 def without_bodies(texts, kept):
-    """The texts with a body that nothing can reach in place of each function's that is neither kept nor in a cycle of calls
-    with one that is; and the paths of the functions, and of the cycles, that lost theirs. What a caller rests on stands
-    above the body."""
+    """The texts with a body that nothing can reach in place of each function's that is neither kept nor in a cycle
+    of calls with one that is; and the paths of the functions, and of the cycles, that lost theirs. What a caller
+    rests on stands above the body."""
     functions = functions_of(texts)
     cycles = {it.cycle for it in functions if it.path in kept and it.cycle}
     left_out = [it for it in functions if it.path not in kept and it.cycle not in cycles]

@@ -36,7 +36,8 @@ def joined_script():
         told = ", ".join(exported for _, exported in EXPORT.findall(text))
         plain = IMPORT.sub(lambda found: f'const {found[1]} = modules["{named(path.parent / found[2])}"];', text)
         parts.append(
-            f'modules["{named(path)}"] = (() => {{\n{EXPORT.sub(lambda found: found[1], plain)}\nreturn {{ {told} }};\n}})();\n'
+            f'modules["{named(path)}"] = (() => {{\n{EXPORT.sub(lambda found: found[1], plain)}\n'
+            f"return {{ {told} }};\n}})();\n"
         )
     return "\n".join(parts)
 
@@ -52,8 +53,8 @@ def allowed(text):
 
 
 def page_of(transcript, judge, engine):
-    """The page that plays a transcript, whose judge said something of it, or with None and None the playground; `engine` is the
-    module as text, or None."""
+    """The page that plays a transcript, whose judge said something of it, or with None and None the playground;
+    `engine` is the module as text, or None."""
     template = (VIEWER / "page.html").read_text(encoding="utf-8")
     style = "\n" + "".join((VIEWER / name).read_text(encoding="utf-8") for name in ["page.css", "playground.css"])
     script = joined_script()

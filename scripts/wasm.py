@@ -1,10 +1,10 @@
 """The engine as a module for browsers: the LLVM module of the proved code, compiled for a 64-bit WebAssembly memory.
 
-The kit compiles no heap for that target, so this way is the repository's own: what comes out is tested, and not proved. The kit's
-build calls a compiler of its toolchain folder; given a folder whose compiler keeps what it is given, it leaves the LLVM module of
-the functions that it has just proved. That is turned to the other target and linked with viewer/wasm/heap.c.
+The kit compiles no heap for that target, so this way is the repository's own: what comes out is tested, and not
+proved. The kit's build calls a compiler of its toolchain folder; given a folder whose compiler keeps what it is
+given, it leaves the LLVM module of the functions that it has just proved. That is turned to the other target and
+linked with viewer/wasm/heap.c.
 """
-import os
 import pathlib
 import re
 import shutil
@@ -63,7 +63,8 @@ def keeping_toolchain(kit, folder, kept):
 
 
 def is_wanting():
-    """Whether the library for C or its LLVM module is not there, or was built before a source that it may stand on was changed."""
+    """Whether the library for C or its LLVM module is not there, or was built before a source that it may stand on
+    was changed."""
     if not BUILT.exists() or not KEPT.exists():
         return True
     parts = [path for part in ("src", "specs", "proofs") for path in TOP.glob(f"crates/*/{part}")]
@@ -74,8 +75,8 @@ def is_wanting():
 
 
 def build(rtlib):
-    """Proves and builds the library for C on the libraries below it as they lie there, and keeps its LLVM module, where one of the two
-    is wanting."""
+    """Proves and builds the library for C on the libraries below it as they lie there, and keeps its LLVM module,
+    where one of the two is wanting."""
     if not is_wanting():
         return
     crate = next(it for it in rtlib.crates_below(str(TOP)) if it.name == CRATE.name)

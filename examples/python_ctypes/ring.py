@@ -1,6 +1,7 @@
 #!/usr/bin/env python3
-"""A ring of twelve nodes settles, is broken by a fault and by a node that leaves, and mends itself: the library for C, called by ctypes
-alone. The transcript is written, and the pairs and the verdict to standard error. (`rudekpi.Network` does all of this by itself.)
+"""A ring of twelve nodes settles, is broken by a fault and by a node that leaves, and mends itself: the library for
+C, called by ctypes alone. The transcript is written, and the pairs and the verdict to standard error.
+(`rudekpi.Network` does all of this by itself.)
 
 usage: ring.py LIBRARY
 """
@@ -97,7 +98,8 @@ def main():
         text = ring.text()
         verdict = ring.audit(text)
     print(
-        f"{counts.pairs} pairs after {counts.spent} moves; the audit has {verdict.entries} entries, {verdict.moves} moves",
+        f"{counts.pairs} pairs after {counts.spent} moves; the audit has {verdict.entries} entries, "
+        f"{verdict.moves} moves",
         file=sys.stderr,
     )
     sys.stdout.write(text.decode())

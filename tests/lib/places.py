@@ -25,7 +25,8 @@ def program_at(path: Union[str, os.PathLike[str]]) -> pathlib.Path:
 
 
 def built_program() -> pathlib.Path:
-    """The program that `./console` runs: it is taken from release/, or built, if need be. Raises `Missing` if there is none."""
+    """The program that `./console` runs: it is taken from release/, or built, if need be. Raises `Missing` if there
+    is none."""
     try:
         ran = subprocess.run([TOP / "console", "--version"], stdin=subprocess.DEVNULL, stdout=subprocess.DEVNULL)
     except OSError as error:

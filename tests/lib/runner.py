@@ -22,7 +22,8 @@ TALLY = Tally()
 class Checks(unittest.TestCase):
     """A test whose checks are counted one by one: one that fails is printed, and the test goes on.
 
-    `given` has the words of the command line, `tally` the counts. A test that makes no check of this kind counts as one.
+    `given` has the words of the command line, `tally` the counts. A test that makes no check of this kind counts as
+    one.
     """
 
     given = argparse.Namespace()

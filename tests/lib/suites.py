@@ -54,7 +54,8 @@ class Result:
 
 
 def counts_in(text: str) -> Optional[tuple[int, int]]:
-    """How many checks passed and failed by a suite's last line, or by the last lines of `node --test`; `None` without such."""
+    """How many checks passed and failed by a suite's last line, or by the last lines of `node --test`; `None`
+    without such."""
     lines = text.splitlines()
     found = ENDED.match(lines[-1]) if lines else None
     if found:
@@ -66,8 +67,9 @@ def counts_in(text: str) -> Optional[tuple[int, int]]:
 def judged(text: str, status: Optional[int]) -> Result:
     """What a suite's text and exit status say. The status is `None` if it was ended for taking too long.
 
-    A suite that fails without a count of failures counts as one failure: it ended by a signal, or printed no counts, or its
-    status and its counts disagree. One that ends well with nothing but skipped checks is no failure."""
+    A suite that fails without a count of failures counts as one failure: it ended by a signal, or printed no
+    counts, or its status and its counts disagree. One that ends well with nothing but skipped checks is no
+    failure."""
     skipped = [line[len(SKIPPED) :] for line in text.splitlines() if line.startswith(SKIPPED)]
     counts = counts_in(text)
     if status is None:
@@ -89,9 +91,16 @@ def judged(text: str, status: Optional[int]) -> Result:
 def run_suite(words: Iterable[str], seconds: float) -> Result:
     """Runs a command to its end, or for `seconds` at most, and judges what it printed and how it ended."""
     began = time.monotonic()
-    how = {"stdin": subprocess.DEVNULL, "stdout": subprocess.PIPE, "stderr": subprocess.STDOUT}
     try:
-        ran = subprocess.run([*words], timeout=seconds, text=True, errors="replace", **how)  # type: ignore[call-overload]
+        ran = subprocess.run(
+            [*words],
+            stdin=subprocess.DEVNULL,
+            stdout=subprocess.PIPE,
+            stderr=subprocess.STDOUT,
+            timeout=seconds,
+            text=True,
+            errors="replace",
+        )
         result = judged(ran.stdout, ran.returncode)
     except subprocess.TimeoutExpired as late:
         said = late.stdout or b""

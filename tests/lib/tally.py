@@ -31,7 +31,8 @@ class Tally:
         return self.require(name, came == wanted, lambda: f"{shown(came)}, and not {shown(wanted)}")
 
     def require(self, name: str, holds: object, told: object = "it does not hold") -> bool:
-        """Counts whether something holds, and returns it. `told` is printed with the name if it does not; a function is called."""
+        """Counts whether something holds, and returns it. `told` is printed with the name if it does not; a
+        function is called."""
         if holds:
             self.passed += 1
         else:
