@@ -1,6 +1,7 @@
 #!/usr/bin/env python3
-"""Hosts that keep a copy of each other's data, in pairs of neighbours. When a host fails its partner looks for another, and when it
-returns it looks for one itself. What each failure costs is told beside its budget, the charge: no schedule can make it cost more.
+"""Hosts that keep a copy of each other's data, in pairs of neighbours. When a host fails its partner looks for
+another, and when it returns it looks for one itself. What each failure costs is told beside its budget, the charge:
+no schedule can make it cost more.
 
 usage: examples/backup_partners.py
 """
@@ -9,7 +10,7 @@ import random
 import sys
 
 sys.path.insert(0, os.path.join(os.path.dirname(os.path.realpath(__file__)), "..", "python"))
-from rudekpi import Network
+from rudekpi import Network  # noqa: E402
 
 HOSTS = [f"h{number:02}" for number in range(1, 13)]
 # a ring in which each third host has a link to the host across it

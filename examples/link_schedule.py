@@ -1,6 +1,7 @@
 #!/usr/bin/env python3
-"""Gives each link of a changing mesh a slot. In each round the links of a maximal matching have theirs, so that no host talks to
-two others at once; then they are done, and the next round is for the links that still wait. Links come and go on the way.
+"""Gives each link of a changing mesh a slot. In each round the links of a maximal matching have theirs, so that no
+host talks to two others at once; then they are done, and the next round is for the links that still wait. Links
+come and go on the way.
 
 usage: examples/link_schedule.py
 """
@@ -9,7 +10,7 @@ import os
 import sys
 
 sys.path.insert(0, os.path.join(os.path.dirname(os.path.realpath(__file__)), "..", "python"))
-from rudekpi import Network
+from rudekpi import Network  # noqa: E402
 
 ROWS, COLUMNS = "abcd", "12345"
 # what changes before a round: a link comes, or goes without having had its slot, if it still waits

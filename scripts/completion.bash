@@ -40,7 +40,7 @@ _rudekpi_command() {
 _rudekpi_first_word() {
     local bench=
     [ "${COMP_WORDS[0]##*/}" = rudekpi ] && bench=$_rudekpi_bench
-    _rudekpi_words $_rudekpi_commands $bench help --help --version
+    _rudekpi_words "$_rudekpi_commands" "$bench" help --help --version
 }
 
 _rudekpi() {
@@ -61,7 +61,7 @@ _rudekpi() {
         *)
             case $command,$word in
                 ,*) _rudekpi_first_word ;;
-                help,*) _rudekpi_words $_rudekpi_commands ;;
+                help,*) _rudekpi_words "$_rudekpi_commands" ;;
                 storm,[!-]* | storm,) _rudekpi_files ;;
                 *) _rudekpi_flags "$command" ;;
             esac

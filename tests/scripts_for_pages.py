@@ -8,8 +8,8 @@ TOP = pathlib.Path(__file__).resolve().parent.parent
 
 @dataclasses.dataclass
 class Page:
-    """A script with its rules, its names, and how many of these are present at the start; or a storm of several scripts. Its page
-    plays the whole transcript, or what begins with the first base in it."""
+    """A script with its rules, its names, and how many of these are present at the start; or a storm of several
+    scripts. Its page plays the whole transcript, or what begins with the first base in it."""
 
     name: str
     rules: str

@@ -1,4 +1,5 @@
-"""Runs the program with calls that fail, by a library that is preloaded; it is built from refusing_calls.c beside this file."""
+"""Runs the program with calls that fail, by a library that is preloaded; it is built from refusing_calls.c beside
+this file."""
 import dataclasses
 import errno
 import os
@@ -14,7 +15,8 @@ FAILS, INTERRUPTED, TAKES_NONE = errno.EIO, errno.EINTR, 0
 
 @dataclasses.dataclass(frozen=True)
 class Ended:
-    """How a run ended, and which failures its calls met, a letter each as refusing_calls.c has them; 'l' where a thread was left."""
+    """How a run ended, and which failures its calls met, a letter each as refusing_calls.c has them; 'l' where a
+    thread was left."""
 
     status: int
     out: bytes
@@ -41,7 +43,8 @@ class Faulty:
         self.library = None
 
     def prepare(self):
-        """Builds the library. Says what is missing where that can't be done, or where the program's calls pass it by."""
+        """Builds the library. Says what is missing where that can't be done, or where the program's calls pass it
+        by."""
         compiler = shutil.which("cc")
         if compiler is None:
             return "cc"
@@ -65,7 +68,8 @@ class Faulty:
             return Ended(status, out, err, file.read(1000).removesuffix(b"e"))
 
     def ended(self, words, text, environment, err=subprocess.PIPE):
-        """How a run ended; its status is None where it did not in the time it may take. What is told goes to `err`, and is None where that is a file."""
+        """How a run ended; its status is None where it did not in the time it may take. What is told goes to `err`,
+        and is None where that is a file."""
         try:
             made = subprocess.run(
                 [self.program, *words],
