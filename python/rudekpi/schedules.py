@@ -8,10 +8,11 @@ found, and so is told.
 from __future__ import annotations
 
 import itertools
+import math
 import random
 import time
 from dataclasses import dataclass
-from typing import Callable, Iterator, Sequence
+from typing import Callable, Iterable, Iterator, Sequence
 
 from . import rules as rule_sets
 from .audits import epochs
@@ -23,6 +24,8 @@ from .state import State
 
 # how many states a network has at most in which all are looked at
 MOST_STATES = 400_000
+# how many seconds the first try of a search may take, whatever time it is given
+FIRST_TRY = 60
 
 
 @dataclass(frozen=True)
@@ -82,7 +85,9 @@ class Search:
         self.weights: dict[int, int] = {}
         self.size = 1
         for node, places in self.pointers.items():
-            self.weights[node] = self.size
+            # too many states to look at all have no need of weights, which would take memory
+            if self.size <= MOST_STATES:
+                self.weights[node] = self.size
             self.size *= len(places) * self.flags
         self.best: bytearray = bytearray()
 
@@ -186,13 +191,14 @@ def told(
 
 
 def best_found(search: Search, seconds: float, drawn: random.Random) -> Longest:
-    """The best of greedy schedules from states by chance, until the time is over; one at least."""
-    last, tried = time.monotonic() + seconds, 0
+    """The best of greedy schedules from states by chance, until the time is over; the first is whole, or of a minute."""
+    begun, tried = time.monotonic(), 0
+    last = begun + seconds
     best: list[tuple[int, str, int]] = []
     best_start = 0
     while not tried or time.monotonic() < last:
         start = drawn.randrange(search.size)
-        steps = greedy_from(search, start, drawn)
+        steps = greedy_from(search, start, drawn, last if tried else max(last, begun + FIRST_TRY))
         tried += 1
         if len(steps) > len(best):
             best, best_start = steps, start
@@ -200,18 +206,45 @@ def best_found(search: Search, seconds: float, drawn: random.Random) -> Longest:
     return told(search, len(best), False, tried, [[move] for move in best])
 
 
-def greedy_from(search: Search, code: int, drawn: random.Random) -> list[tuple[int, str, int]]:
-    """The moves from a state of which each lets the charge fall least; by chance where several do."""
+def greedy_from(search: Search, code: int, drawn: random.Random, last: float = math.inf) -> list[tuple[int, str, int]]:
+    """The moves from a state of which each lets the charge fall least, by chance if several do; until the network is
+    silent, or the clock shows `last`."""
+    search.set_to(code)
+    state = search.state
     steps: list[tuple[int, str, int]] = []
+    options: dict[int, list[tuple[int, tuple[int, str, int]]]] = {}
+    changed: Iterable[int] = state.neighbours
     while True:
-        moves = [move for of_node in search.moves_at(code) for move in of_node]
+        for node in changed:
+            if time.monotonic() >= last:
+                return steps
+            options[node] = options_at(state, node)
+        moves = [(fall, drawn.random(), move) for node in sorted(options) for fall, move in options[node]]
         if not moves:
             return steps
-        change, node, rule, target = min(
-            moves, key=lambda move: (rule_sets.fall(search.state, *move[1:]), drawn.random())
-        )
-        steps.append((node, rule, target))
-        code += change
+        _, _, move = min(moves)
+        state.move(*move)
+        steps.append(move)
+        # rules and falls depend on nothing further away
+        changed = ball(state, move[0], 3)
+
+
+def options_at(state: State, node: int) -> list[tuple[int, tuple[int, str, int]]]:
+    """The moves that are enabled at a node, each behind what it lets the charge fall by."""
+    rule = rule_sets.rule_at(state, node)
+    if not rule:
+        return []
+    targets = rule_sets.targets(state, node, rule) or [0]
+    return [(rule_sets.fall(state, node, rule, target), (node, rule, target)) for target in targets]
+
+
+def ball(state: State, node: int, radius: int) -> set[int]:
+    """The nodes at most so many edges away."""
+    reached = newest = {node}
+    for _ in range(radius):
+        newest = {near for it in newest for near in state.neighbours[it]} - reached
+        reached = reached | newest
+    return reached
 
 
 def connected_graphs(n: int) -> Iterator[Graph]:
