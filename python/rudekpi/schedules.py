@@ -1,8 +1,8 @@
 """The longest schedules there are: the most moves that a daemon can draw out of a network, from any state.
 
-In a small network every state and every choice is looked at, targets among them: since each move lowers the charge, no state comes
-twice, and the longest schedule from a state is that from the best of the next ones. In a larger one it is the best that a search has
-found, and so is told.
+In a small network every state and every choice is looked at, targets among them: since each move lowers the charge,
+no state comes twice, and the longest schedule from a state is that from the best of the next ones. In a larger one it
+is the best that a search has found, and so is told.
 """
 
 from __future__ import annotations
@@ -30,8 +30,8 @@ FIRST_TRY = 60
 
 @dataclass(frozen=True)
 class Longest:
-    """A schedule: the registers at its start, and who moves in each step. `is_proved` where all states and choices were looked at, so
-    that there is no longer one; else it is the best that was found."""
+    """A schedule: the registers at its start, and who moves in each step. `is_proved` if all states and choices were
+    looked at, so that there is no longer one; else it is the best that was found."""
 
     graph: Graph
     rules: str
@@ -60,7 +60,8 @@ class Longest:
         )
 
     def play(self, *, program: Program = None) -> str:
-        """The transcript of the script, which `audit` accepts and whose last epoch has the moves; raises what went wrong."""
+        """The transcript of the script, which `audit` accepts and whose last epoch has the moves; raises what went
+        wrong."""
         with Network(self.rules, len(self.graph.nodes), program=program) as net:
             transcript = net._played(self.script().splitlines())
         played = epochs(transcript, program=program)[-1].moves
@@ -70,8 +71,8 @@ class Longest:
 
 
 class Search:
-    """All states of a small network by numbers: a digit for each node, its pointer's place among its neighbours and, under `manne`,
-    its flag. A move changes the digit of its node alone, so the moves of a step add up."""
+    """All states of a small network by numbers: a digit for each node, its pointer's place among its neighbours and,
+    under `manne`, its flag. A move changes the digit of its node alone, so the moves of a step add up."""
 
     def __init__(self, graph: Graph, rules: str) -> None:
         number = {node: place for place, node in enumerate(graph.nodes, 1)}
@@ -102,7 +103,8 @@ class Search:
             self.state.flag(node, digit % self.flags)
 
     def moves_at(self, code: int) -> list[list[tuple[int, int, str, int]]]:
-        """For each enabled node its moves: what the number of the state changes by, the node, its rule and its target or 0."""
+        """For each enabled node its moves: what the number of the state changes by, the node, its rule and its target
+        or 0."""
         self.set_to(code)
         state, found = self.state, []
         for node, rule in rule_sets.enabled(state).items():
@@ -115,7 +117,8 @@ class Search:
         return found
 
     def steps_at(self, code: int) -> Iterator[tuple[tuple[int, int, str, int], ...]]:
-        """The steps that a daemon may take: one move under `hh`; under `manne` those of any of the enabled nodes, one at least."""
+        """The steps that a daemon may take: one move under `hh`; under `manne` those of any of the enabled nodes, one
+        at least."""
         moves = self.moves_at(code)
         if self.rules == "hh":
             return ((move,) for of_node in moves for move in of_node)
@@ -162,8 +165,8 @@ class Search:
 
 
 def longest(graph: Graph, rules: str, *, seconds: float = 10.0, seed: int = 0) -> Longest:
-    """The longest schedule of a network under `hh` or `manne`: of all, where it has at most 400,000 states, which takes some 50
-    microseconds a state; else the best that a search with this seed finds in so many seconds."""
+    """The longest schedule of a network under `hh` or `manne`: of all, where it has at most 400,000 states, which
+    takes some 50 microseconds a state; else the best that a search with this seed finds in so many seconds."""
     if rules not in rule_sets.WEIGHTS:
         raise ValueError(f"rules are 'hh' or 'manne', and not {rules!r}")
     search = Search(graph, rules)
@@ -191,7 +194,8 @@ def told(
 
 
 def best_found(search: Search, seconds: float, drawn: random.Random) -> Longest:
-    """The best of greedy schedules from states by chance, until the time is over; the first is whole, or of a minute."""
+    """The best of greedy schedules from states by chance, until the time is over; the first is whole, or of a
+    minute."""
     begun, tried = time.monotonic(), 0
     last = begun + seconds
     best: list[tuple[int, str, int]] = []
@@ -251,7 +255,10 @@ def connected_graphs(n: int) -> Iterator[Graph]:
     """Each connected graph of so many nodes once, up to the names of its nodes."""
     pairs = list(itertools.combinations(range(1, n + 1), 2))
     place = {pair: at for at, pair in enumerate(pairs)}
-    renamings = [[place[tuple(sorted((new[a - 1], new[b - 1])))] for a, b in pairs] for new in itertools.permutations(range(1, n + 1))]  # type: ignore[index]
+    numberings = itertools.permutations(range(1, n + 1))
+    renamings = [
+        [place[min(new[a - 1], new[b - 1]), max(new[a - 1], new[b - 1])] for a, b in pairs] for new in numberings
+    ]
     seen = bytearray(1 << len(pairs))
     for mask in range(1 << len(pairs)):
         if seen[mask]:
@@ -275,7 +282,8 @@ def is_connected(n: int, edges: Sequence[tuple[int, int]]) -> bool:
 
 
 def renamed(graph: Graph) -> Iterator[Graph]:
-    """A graph of the nodes 1 to n with its nodes' numbers in every order that makes another graph: under `manne` they matter."""
+    """A graph of the nodes 1 to n with its nodes' numbers in every order that makes another graph: under `manne` they
+    matter."""
     seen = set()
     for new in itertools.permutations(graph.nodes):
         edges = tuple(sorted((min(new[a - 1], new[b - 1]), max(new[a - 1], new[b - 1])) for a, b in graph.edges))
