@@ -5,12 +5,14 @@ environment has none. The same files make the same wheel to the byte. The progra
 pip runs elsewhere the package is made without it.
 """
 import base64
+import contextlib
 import hashlib
 import io
 import os
 import pathlib
 import platform
 import re
+import sys
 import tarfile
 import zipfile
 
@@ -60,7 +62,7 @@ def page_maker():
     shown = sorted(
         path for path in viewer.rglob("*") if path.suffix in (".html", ".css", ".mjs") and "tests" not in path.parts
     )
-    others = ["scripts/play", "scripts/page.py", "release/playground.html"]
+    others = ["scripts/play", "scripts/page.py", "release/playground.html", "release/MADE_FROM"]
     return {
         **{name: beside(name) for name in others},
         **{f"viewer/{path.relative_to(viewer).as_posix()}": path for path in shown},
@@ -139,6 +141,16 @@ def make_wheel(folder, has_program):
     return write_wheel(folder, WITHOUT, contents())
 
 
+@contextlib.contextmanager
+def in_one_line():
+    """What is missing, or is not what it should be, ends pip's call with one line."""
+    try:
+        yield
+    except (OSError, ValueError) as error:
+        sys.exit(f"rudekpi: {error}")
+
+
+@in_one_line()
 def build_wheel(wheel_directory, config_settings=None, metadata_directory=None):
     has_program = runs_here()
     if not has_program:
@@ -146,11 +158,13 @@ def build_wheel(wheel_directory, config_settings=None, metadata_directory=None):
     return make_wheel(wheel_directory, has_program)
 
 
+@in_one_line()
 def build_editable(wheel_directory, config_settings=None, metadata_directory=None):
     """Writes a wheel that has Python read the package where it lies, with the repository's own program."""
     return write_wheel(wheel_directory, WITHOUT, {"rudekpi.pth": f"{HERE}\n".encode()})
 
 
+@in_one_line()
 def build_sdist(sdist_directory, config_settings=None):
     """Writes an archive of the sources with the program, from which a wheel can be made anywhere."""
     top = f"rudekpi-{version()}"

@@ -14,7 +14,7 @@ from .daemons import AnyDaemon, Seeded, check_daemon, named
 from .direct import Direct
 from .errors import PastBound
 from .names import Names
-from .numbers import number_within
+from .numbers import counted, number_within
 from .program import Program, found_program
 from .replies import (
     Accepted,
@@ -102,7 +102,8 @@ class Network:
         session = self._session
         wrong = session.trouble()
         stands = f", {wrong}" if wrong else ", closed" if session.is_closed else ""
-        return f"<Network {self.rules}, {self._names.count} nodes, {session.entries} entries{stands}>"
+        nodes, entries = counted(self._names.count, "node"), counted(session.entries, "entry", "entries")
+        return f"<Network {self.rules}, {nodes}, {entries}{stands}>"
 
     def _repr_html_(self) -> str:
         """A small drawing of the network, for notebooks."""
@@ -260,7 +261,8 @@ class Network:
                 return Settled(steps, moves, charge)
             if moves >= charge:
                 raise PastBound(
-                    f"{len(enabled)} nodes are enabled after {moves} moves, as many as the charge was: who disturbs?"
+                    f"{counted(len(enabled), 'node is', 'nodes are')} enabled after {counted(moves, 'move')}, "
+                    "as many as the charge was: who disturbs?"
                 )
             moves += len(self.step(checked_choice(choose(enabled), enabled)))
             steps += 1

@@ -10,6 +10,11 @@ MOST_NODES, MOST_EDGES, MOST_TURNS, MOST_SEED = 65_535, 1_048_576, 1_000_000, 2*
 MOST_ENTRIES = 16_777_216
 
 
+def counted(count: int, one: str, more: str = "") -> str:
+    """How many there are of what has this name, and of more than one that name, which has an s at its end where none is said."""
+    return f"{count} {one if count == 1 else more or one + 's'}"
+
+
 def number_within(given: Any, most: int, what: str) -> int:
     """A whole number from 0 to the most that may be."""
     try:

@@ -18,7 +18,7 @@ from .audits import epochs
 from .errors import Lost, RudekpiError
 from .graphs import Graph
 from .network import Network
-from .numbers import MOST_SEED, MOST_TURNS, number_within
+from .numbers import MOST_SEED, MOST_TURNS, counted, number_within
 from .program import Program, found_program
 from .replies import Name
 from .workers import Handing, count_of
@@ -33,7 +33,8 @@ class LostExperiments(Lost):
 
     def __init__(self, experiments: list[Experiment]) -> None:
         super().__init__(
-            f"{len(experiments)} experiments are lost, since their workers died twice: {experiments[0].told()}, .."
+            f"{counted(len(experiments), 'experiment is', 'experiments are')} lost, "
+            f"since their workers died twice: {experiments[0].told()}, .."
         )
         self.experiments = experiments
 
