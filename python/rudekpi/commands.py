@@ -30,7 +30,7 @@ MADE = "a file (edge list, .col, .metis, .graphml, .json), or path:N ring:N star
 @contextlib.contextmanager
 def written(path: Optional[str]) -> Iterator[TextIO]:
     """A file that is written, or standard output where no path, or `-`, is given."""
-    if path in (None, "-"):
+    if path is None or path == "-":
         yield sys.stdout
     else:
         with streams.output_file(path) as file:

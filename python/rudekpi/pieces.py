@@ -97,7 +97,7 @@ class DirectAudit:
         with self.lock:
             if self.slot.full:
                 self.library.audit_finish(self.at, ctypes.byref(verdict))
-        told = sorted((it for it in self.verdicts if it.kind != NO_VERDICT), key=lambda it: it.kind == UNJUDGED)
+        told = sorted((it for it in self.verdicts if it.kind != NO_VERDICT), key=lambda it: bool(it.kind == UNJUDGED))
         if not told:
             raise ValueError("the audit is closed")
         return summary_of(told[0])
