@@ -9,7 +9,8 @@ import re
 import socket
 import statistics
 import sys
-from typing import Any, Callable, Iterable, Iterator, Optional, Sequence, TextIO
+from concurrent.futures import Executor
+from typing import Callable, Iterable, Iterator, Optional, Sequence, TextIO
 
 from . import daemons, json_lines, script_words, shell, streams, sweeps
 from .audits import audit
@@ -119,7 +120,7 @@ def reach(address: str) -> None:
 
 
 @contextlib.contextmanager
-def executor_of(given: argparse.Namespace) -> Iterator[Any]:
+def executor_of(given: argparse.Namespace) -> Iterator[Optional[Executor]]:
     """What plays: a cluster, or processes of this machine."""
     if given.dask:
         try:
@@ -133,7 +134,7 @@ def executor_of(given: argparse.Namespace) -> Iterator[Any]:
         yield None
 
 
-def rows_of(given: argparse.Namespace, rows: list[Row], file: Any) -> int:
+def rows_of(given: argparse.Namespace, rows: list[Row], file: Optional[TextIO]) -> int:
     """Plays a sweep, and adds its rows as they come; returns the exit status."""
     seeds = range(given.first_seed, given.first_seed + given.seeds)
     hits = [Disturbance(count, given.registers, given.joins, given.leaves) for count in given.faults]
@@ -184,7 +185,7 @@ def run_compare(given: argparse.Namespace) -> int:
     return status
 
 
-def by_number(word: str) -> list[Any]:
+def by_number(word: str) -> list[tuple[int, str]]:
     """What a word is sorted by, so that 5 stands in front of 10."""
     return [(int(part), "") if part.isdigit() else (0, part) for part in re.split("([0-9]+)", word)]
 
@@ -270,7 +271,7 @@ def parser_of() -> argparse.ArgumentParser:
     parser = argparse.ArgumentParser(prog="rudekpi", description=__doc__)
     commands = parser.add_subparsers(dest="command", required=True)
 
-    def command(name: str, run: Any, text: str) -> argparse.ArgumentParser:
+    def command(name: str, run: Callable[[argparse.Namespace], int], text: str) -> argparse.ArgumentParser:
         made = commands.add_parser(name, help=text, description=text)
         made.set_defaults(run=run)
         return made

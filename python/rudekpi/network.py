@@ -3,7 +3,7 @@
 from __future__ import annotations
 
 import os
-from typing import Any, Callable, Iterable, Optional, Union
+from typing import Any, Callable, Iterable, NoReturn, Optional, Union, cast
 
 from . import audits, drawings, library
 from .answers import Setting
@@ -87,13 +87,13 @@ class Network:
     def __enter__(self) -> Network:
         return self
 
-    def __exit__(self, kind: Any, *_: Any) -> None:
+    def __exit__(self, kind: Optional[type[BaseException]], *_: object) -> None:
         if kind:
             self._session.kill()
         else:
             self.close()
 
-    def __reduce__(self) -> Any:
+    def __reduce__(self) -> NoReturn:
         raise TypeError(
             "a network belongs to one process and is not copied: replay makes another one of its transcript"
         )
@@ -251,7 +251,7 @@ class Network:
         check_daemon(daemon)
         if isinstance(daemon, Seeded):
             return daemon.settle(self)
-        choose: Any = daemon.begin(self) if hasattr(daemon, "begin") else daemon
+        choose = daemon.begin(self) if hasattr(daemon, "begin") else cast(Daemon, daemon)
         charge, steps, moves = self.status().charge, 0, 0
         while True:
             enabled = self.enabled()

@@ -15,6 +15,7 @@ from typing import Any, Callable, Iterable, Iterator, Optional, Sequence, TextIO
 
 from . import daemons
 from .audits import epochs
+from .choices import Daemon
 from .errors import Lost, RudekpiError
 from .graphs import Graph
 from .network import Network
@@ -23,6 +24,8 @@ from .program import Program, found_program
 from .replies import Name
 from .workers import Handing, count_of
 
+# a daemon, a function that is one, or the word of one
+AnyDaemon = Union[daemons.AnyDaemon, Daemon, str]
 REGISTERS = ("any", "pointer", "flag")
 # about how many seconds a task takes
 TASK_SECONDS = 1.0
@@ -38,7 +41,7 @@ class LostExperiments(Lost):
         )
         self.experiments = experiments
 
-    def __reduce__(self) -> Any:
+    def __reduce__(self) -> tuple[object, ...]:
         return type(self), (self.experiments,)
 
 
@@ -94,7 +97,7 @@ class Experiment:
 
     graph: Graph
     rules: str
-    daemon: Any
+    daemon: AnyDaemon
     seed: int
     disturbance: Disturbance
     program: Program = None
@@ -206,7 +209,7 @@ def run_all(experiments: Sequence[Experiment]) -> list[Row]:
 def experiments_of(
     graphs: Iterable[Graph],
     rules: Iterable[str],
-    daemons: Iterable[Any],
+    daemons: Iterable[AnyDaemon],
     seeds: Iterable[int],
     disturbances: Iterable[Union[int, Disturbance]],
     program: Program = None,
@@ -226,14 +229,14 @@ def experiments_of(
     ]
 
 
-def is_synchronous(daemon: Any) -> bool:
+def is_synchronous(daemon: AnyDaemon) -> bool:
     return daemon == "synchronous" or isinstance(daemon, daemons.Synchronous)
 
 
 def sweep(
     graphs: Iterable[Graph],
     rules: Iterable[str] = ("manne",),
-    daemons: Iterable[Any] = ("seeded",),
+    daemons: Iterable[AnyDaemon] = ("seeded",),
     seeds: Iterable[int] = (0,),
     faults: Iterable[Union[int, Disturbance]] = (0,),
     *,
