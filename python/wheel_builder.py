@@ -8,15 +8,17 @@ pip runs elsewhere the package is made without it.
 from __future__ import annotations
 
 import base64
+import contextlib
 import hashlib
 import io
 import os
 import pathlib
 import platform
 import re
+import sys
 import tarfile
 import zipfile
-from typing import Mapping, Optional
+from typing import Iterator, Mapping, Optional
 
 HERE = pathlib.Path(__file__).resolve().parent
 PACKAGE = HERE / "rudekpi"
@@ -65,7 +67,7 @@ def page_maker() -> dict[str, pathlib.Path]:
     shown = sorted(
         path for path in viewer.rglob("*") if path.suffix in (".html", ".css", ".mjs") and "tests" not in path.parts
     )
-    others = ["scripts/play", "scripts/page.py", "release/playground.html"]
+    others = ["scripts/play", "scripts/page.py", "release/playground.html", "release/MADE_FROM"]
     return {
         **{name: beside(name) for name in others},
         **{f"viewer/{path.relative_to(viewer).as_posix()}": path for path in shown},
@@ -144,6 +146,16 @@ def make_wheel(folder: str, has_program: bool) -> str:
     return write_wheel(folder, WITHOUT, contents())
 
 
+@contextlib.contextmanager
+def in_one_line() -> Iterator[None]:
+    """What is missing, or is not what it should be, ends pip's call with one line."""
+    try:
+        yield
+    except (OSError, ValueError) as error:
+        sys.exit(f"rudekpi: {error}")
+
+
+@in_one_line()
 def build_wheel(
     wheel_directory: str,
     config_settings: Optional[Mapping[str, object]] = None,
@@ -155,6 +167,7 @@ def build_wheel(
     return make_wheel(wheel_directory, has_program)
 
 
+@in_one_line()
 def build_editable(
     wheel_directory: str,
     config_settings: Optional[Mapping[str, object]] = None,
@@ -164,6 +177,7 @@ def build_editable(
     return write_wheel(wheel_directory, WITHOUT, {"rudekpi.pth": f"{HERE}\n".encode()})
 
 
+@in_one_line()
 def build_sdist(sdist_directory: str, config_settings: Optional[Mapping[str, object]] = None) -> str:
     """Writes an archive of the sources with the program, from which a wheel can be made anywhere."""
     top = f"rudekpi-{version()}"

@@ -362,12 +362,16 @@ WRONG_LINES = [1, 2, 3, 3, 4, 1]
 
 def judges(pages, browser):
     """The foot of a page names its judge; text that a false judge lets in runs nothing, and is told to be no transcript."""
-    browser.open(pages.write(RING))
+    named = os.path.join(pages.folder, "judge")
+    with open(named, "w", encoding="ascii") as file:
+        file.write(f'#!/bin/sh\nexec "{pages.program}" "$@"\n')
+    os.chmod(named, stat.S_IRWXU)
+    browser.open(pages.write(RING, named))
     foot = browser.ask("text", "#judged")
     pages.expect(
         "the judge that was named",
         (
-            foot.startswith(f"Judged by {pages.program} audit, which whoever made this page named"),
+            foot.startswith(f"Judged by {named} audit, which whoever made this page named"),
             "counts otherwise" in foot,
         ),
         (True, False),

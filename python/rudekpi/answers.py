@@ -3,7 +3,7 @@
 from __future__ import annotations
 
 import re
-from typing import TYPE_CHECKING, Any, Optional
+from typing import TYPE_CHECKING, Optional
 
 from .errors import Garbled, Refused, text_of
 from .names import Names
@@ -60,7 +60,7 @@ class Answers:
         "wrong",
     )
 
-    def __init__(self, setting: Setting, asked: dict[int, Pending[Any]]) -> None:
+    def __init__(self, setting: Setting, asked: dict[int, Pending[object]]) -> None:
         self.setting = setting
         # the commands by their numbers, of which those from `front` on wait
         self.asked = asked
@@ -145,7 +145,7 @@ class Answers:
         elif entry or line != self.setting.header:
             self.garble(pending, line)
 
-    def take_of_base(self, pending: Pending[Any], line: bytes) -> None:
+    def take_of_base(self, pending: Pending[object], line: bytes) -> None:
         """Gives a line of a base to the checkpoint that it answers, whose answer is all of them."""
         if not self.is_next_of_base(line):
             return self.garble(pending, line)
@@ -167,7 +167,7 @@ class Answers:
             self.base_nodes, self.base_size = int(found[3]), 2 + int(found[3]) + int(found[4])
         return found is not None and int(found[1]) == self.entries
 
-    def answer(self, pending: Pending[Any], text: bytes) -> None:
+    def answer(self, pending: Pending[object], text: bytes) -> None:
         """The answer to the command that has waited longest."""
         if pending._ahead:
             pending._turns = self.all_held()
@@ -178,6 +178,6 @@ class Answers:
         pending._entry = self.entries
         self.front += STEP
 
-    def garble(self, pending: Optional[Pending[Any]], line: bytes) -> None:
+    def garble(self, pending: Optional[Pending[object]], line: bytes) -> None:
         wanted = pending._event.decode()[:200] if pending else "nothing"
         self.wrong = Garbled(f"line {self.lines} is {text_of(line[:200])!r}; asked was {wanted!r}")

@@ -4,7 +4,7 @@ from __future__ import annotations
 
 import ctypes
 import functools
-from typing import TYPE_CHECKING, Any, Callable, Optional, Sequence, Tuple
+from typing import TYPE_CHECKING, Any, Callable, Generic, NoReturn, Optional, Sequence, Tuple
 
 from .batch import Batch
 from .choices import numbers_of
@@ -14,7 +14,24 @@ from .library import COUNTS, ENTRY, MOVES, NO_MEMORY, REFUSAL, REFUSALS, REFUSED
 from .names import Names
 from .numbers import MOST_NODES, MOST_SEED, MOST_TURNS, number_within
 from .reading import Reader, read_base, read_fault, read_moves
-from .replies import Accepted, Base, Choice, Enabled, Fixed, Matching, Move, Moves, Name, Shown, Status, Turns
+from .replies import (
+    Accepted,
+    Answer,
+    Base,
+    Choice,
+    Enabled,
+    Fault,
+    Fixed,
+    Matching,
+    Move,
+    Moves,
+    Name,
+    Reply,
+    Reply_co,
+    Shown,
+    Status,
+    Turns,
+)
 
 if TYPE_CHECKING:
     from .direct import Direct
@@ -64,7 +81,7 @@ def refused_of(names: Names, entry: int, number: int, event: str) -> Refused:
     return Refused(names.told(event), number, REFUSALS[number - 1] if 0 < number <= len(REFUSALS) else "", entry)
 
 
-def raise_refusal(names: Names, entry: int, number: int, event: str) -> Any:
+def raise_refusal(names: Names, entry: int, number: int, event: str) -> NoReturn:
     raise refused_of(names, entry, number, event)
 
 
@@ -101,7 +118,7 @@ def status_of(names: Names, entry: int, counts: Sequence[int]) -> Status:
     return Status(entry, nodes, edges, pairs, enabled, charge, spent)
 
 
-def turns_of(names: Names, entry: int, read: Reader, lines: bytes, counts: Sequence[int]) -> Turns[Any]:
+def turns_of(names: Names, entry: int, read: Reader[Reply], lines: bytes, counts: Sequence[int]) -> Turns[Reply]:
     """The turns of a `drive` or `scramble`, out of their entries' lines, with the status behind them."""
     turns = []
     for line in text_of(lines).splitlines():
@@ -115,15 +132,16 @@ def base_of(names: Names, entry: int, lines: bytes) -> Base:
     return read_base(names, entry, "", text_of(lines).rstrip("\n"))
 
 
-class Done(Tuple[Any, ...]):
+class Done(Tuple[Any, ...], Generic[Reply_co]):
     """The answer to a command that was carried out: what makes the reply, of the names, the entry and more. A tuple is made in the least
     time."""
 
     __slots__ = ()
 
-    def result(self) -> Any:
+    def result(self) -> Reply_co:
         """The reply. Raises `Refused` where the event was refused, and `NoReply` where there is no memory for it."""
         try:
+            make: Callable[..., Reply_co]
             make, *given = self
             return make(*given)
         except MemoryError:
@@ -133,34 +151,33 @@ class Done(Tuple[Any, ...]):
 class DirectBatch(Batch):
     """Commands that are carried out one by one, as they are asked: their answers are there."""
 
-    _session: Any
-
     def __init__(self, session: Direct, raises: bool = True, keeps: bool = True) -> None:
-        super().__init__(session, raises, keeps)
+        self._direct, self._raises, self._number = session, raises, session.names.number_of
+        self._kept = {} if keeps else None
         self._names, self._has_numbers, self._show = (session.names, session.names.own is None, session.library.show)
 
-    def __exit__(self, kind: Any, *_: Any) -> None:
+    def __exit__(self, kind: Optional[type[BaseException]], *_: object) -> None:
         if not kind and self._raises and self.refusals:
             raise self.refusals[0]
 
-    def _refused(self, status: int, desk: Desk, event: str) -> Done:
+    def _refused(self, status: int, desk: Desk, event: str) -> Done[NoReturn]:
         """The answer of a call that was refused; raises what its status says, where there is no answer."""
         entry, refusal = desk.told[ENTRY], desk.told[REFUSAL]
         DESKS.append(desk)
         if status != REFUSED:
-            self._session.raise_for(status)
+            self._direct.raise_for(status)
         if self._kept is not None:
             self._kept[entry] = refused_of(self._names, entry, refusal, event)
         return Done((raise_refusal, self._names, entry, refusal, event))
 
-    def show(self, node: Name) -> Any:
+    def show(self, node: Name) -> Answer[Shown]:
         # what `_number` says of a plain number, at a third of its time
         number = node if type(node) is int and 0 < node <= MOST_NODES and self._has_numbers else self._number(node)
         try:
             desk = DESKS.pop()
         except IndexError:
             desk = Desk()
-        session = self._session
+        session = self._direct
         with session.lock:
             status = self._show(session.at, number, desk.at)
         if status:
@@ -173,8 +190,8 @@ class DirectBatch(Batch):
         finally:
             DESKS.append(desk)
 
-    def _edit(self, word: str, *numbers: int) -> Any:
-        session, desk = self._session, taken_desk()
+    def _edit(self, word: str, *numbers: int) -> Answer[Accepted]:
+        session, desk = self._direct, taken_desk()
         call = getattr(session.library, word)
         with session.lock:
             status = call(session.at, *numbers, desk.at)
@@ -189,27 +206,34 @@ class DirectBatch(Batch):
         finally:
             DESKS.append(desk)
 
-    def link(self, a: Name, b: Name) -> Any:
+    def link(self, a: Name, b: Name) -> Answer[Accepted]:
         return self._edit("link", self._number(a), self._number(b))
 
-    def unlink(self, a: Name, b: Name) -> Any:
+    def unlink(self, a: Name, b: Name) -> Answer[Accepted]:
         return self._edit("unlink", self._number(a), self._number(b))
 
-    def flag(self, node: Name, value: bool) -> Any:
+    def flag(self, node: Name, value: bool) -> Answer[Accepted]:
         return self._edit("flag", self._number(node), number_within(value, 1, "a flag"))
 
-    def join(self, node: Name) -> Any:
+    def join(self, node: Name) -> Answer[Accepted]:
         return self._edit("join", self._number(node))
 
-    def leave(self, node: Name) -> Any:
+    def leave(self, node: Name) -> Answer[Accepted]:
         return self._edit("leave", self._number(node))
 
-    def point(self, node: Name, target: Optional[Name]) -> Any:
+    def point(self, node: Name, target: Optional[Name]) -> Answer[Accepted]:
         return self._edit("point", self._number(node), 0 if target is None else self._number(target))
 
-    def _listed(self, make: Callable[..., Any], call: str, most: int, event: Callable[[], str], *words: Any) -> Any:
+    def _listed(
+        self,
+        make: Callable[[Names, int, list[int]], Reply],
+        call: str,
+        most: int,
+        event: Callable[[], str],
+        *words: object,
+    ) -> Answer[Reply]:
         """A call whose answer has rows, `most` at the most, which are fetched with it."""
-        session, desk = self._session, taken_desk()
+        session, desk = self._direct, taken_desk()
         room = session.rooms.taken(ROW_NUMBERS * most)
         library = session.library
         with session.lock:
@@ -231,7 +255,7 @@ class DirectBatch(Batch):
         finally:
             session.rooms.put(room)
 
-    def step(self, choice: Choice) -> Any:
+    def step(self, choice: Choice) -> Answer[Moves]:
         items = numbers_of(choice, self._number)
         given = (ctypes.c_uint32 * (2 * len(items)))(*(number for item in items for number in item))
 
@@ -240,15 +264,15 @@ class DirectBatch(Batch):
 
         return self._listed(moves_of, "step", len(items), event, given, ctypes.c_size_t(len(items)))
 
-    def enabled(self) -> Any:
+    def enabled(self) -> Answer[Enabled]:
         return self._listed(enabled_of, "enabled", self._names.count, lambda: "enabled")
 
-    def matching(self) -> Any:
+    def matching(self) -> Answer[Matching]:
         return self._listed(matching_of, "pairs", self._names.count // 2, lambda: "matching")
 
     def _standing(self) -> tuple[int, list[int]]:
         """The entry of a `status`, and what it says."""
-        session, desk = self._session, taken_desk()
+        session, desk = self._direct, taken_desk()
         with session.lock:
             status = session.library.status(session.at, desk.counts_at, desk.at)
         if status:
@@ -258,17 +282,17 @@ class DirectBatch(Batch):
         DESKS.append(desk)
         return found
 
-    def status(self) -> Any:
+    def status(self) -> Answer[Status]:
         entry, counts = self._standing()
         return Done((status_of, self._names, entry, counts))
 
-    def drive(self, seed: int, turns: int) -> Any:
+    def drive(self, seed: int, turns: int) -> Answer[Turns[Moves]]:
         return self._turned("drive", read_moves, seed, turns)
 
-    def scramble(self, seed: int, faults: int) -> Any:
+    def scramble(self, seed: int, faults: int) -> Answer[Turns[Fault]]:
         return self._turned("scramble", read_fault, seed, faults)
 
-    def _turned(self, word: str, read: Reader, seed: int, turns: int) -> Any:
+    def _turned(self, word: str, read: Reader[Reply], seed: int, turns: int) -> Answer[Turns[Reply]]:
         """Many entries, of which the turns are read from the transcript, and the status behind them."""
         numbers = ctypes.c_uint64(number_within(seed, MOST_SEED, "a seed")), number_within(
             turns, MOST_TURNS, "a number of turns"
@@ -277,17 +301,17 @@ class DirectBatch(Batch):
         entry, counts = self._standing()
         return Done((turns_of, self._names, entry, read, lines, counts))
 
-    def checkpoint(self) -> Any:
-        session = self._session
+    def checkpoint(self) -> Answer[Base]:
+        session = self._direct
         entry, lines = self._written("checkpoint")
         if not session.keeps:
             with session.lock:
                 session.text_kept.forget()
         return Done((base_of, self._names, entry, lines))
 
-    def _written(self, word: str, *words: Any) -> tuple[int, bytes]:
+    def _written(self, word: str, *words: object) -> tuple[int, bytes]:
         """The last entry of a call that writes several lines, and the lines. Raises what its status says."""
-        session, desk = self._session, taken_desk()
+        session, desk = self._direct, taken_desk()
         call = functools.partial(getattr(session.library, word), session.at, *words, desk.at)
         with session.lock:
             status, lines_of = session.text_kept.written_by(call)
@@ -302,15 +326,3 @@ class DirectBatch(Batch):
         if status:
             session.raise_for(status)
         return entry, lines
-
-
-class Costs(DirectBatch):
-    """What the edits and faults of a batch would cost; none of them is carried out."""
-
-    def _edit(self, word: str, *numbers: int) -> int:
-        session, found = self._session, ctypes.c_uint32()
-        with session.lock:
-            status = getattr(session.library, f"cost_of_{word}")(session.at, *numbers, ctypes.byref(found))
-        if status:
-            session.raise_for(status)
-        return found.value

@@ -6,7 +6,7 @@ from collections import abc
 from typing import Callable
 
 from .errors import WrongChoice
-from .numbers import MOST_NODES
+from .numbers import MOST_NODES, counted
 from .replies import Choice, Enabled, Name, Wish
 
 Daemon = Callable[[Enabled], Choice]
@@ -40,7 +40,7 @@ def checked_choice(choice: Choice, enabled: Enabled) -> Choice:
         raise WrongChoice(f"a daemon gives a list of nodes, and not {choice!r}")
     items = choice if isinstance(choice, abc.Set) else list(choice)
     if not items:
-        raise WrongChoice(f"the daemon chose nobody while {len(enabled)} nodes are enabled")
+        raise WrongChoice(f"the daemon chose nobody while {counted(len(enabled), 'node is', 'nodes are')} enabled")
     for item in items:
         node = item.node if isinstance(item, Wish) else item
         if node not in enabled:

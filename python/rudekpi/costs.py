@@ -2,11 +2,32 @@
 
 from __future__ import annotations
 
-from .numbers import MOST_EDGES
+from typing import Sequence
+
+from .names import Names
+from .numbers import MOST_EDGES, counted, number_within
+from .replies import Name
 from .state import State
 
+# the edits and faults, with how many words each is told
+COSTED = {"link": 2, "unlink": 2, "join": 1, "leave": 1, "point": 2, "flag": 2}
 # those that name two nodes
 PAIRED = ("link", "unlink", "point")
+
+
+def numbers_of_edit(names: Names, word: str, given: Sequence[Name]) -> list[int]:
+    """The numbers of an edit's or a fault's words, 0 for the pointer that is null. Raises `ValueError` for what is none, and
+    `TypeError` where it is told another number of words."""
+    if word not in COSTED:
+        raise ValueError(f"{' or '.join(COSTED)} has a cost, and not {word!r}")
+    if len(given) != COSTED[word]:
+        raise TypeError(f"{word} is told {counted(COSTED[word], 'word')}, and not {len(given)}")
+    node = names.number_of(given[0])
+    if word == "flag":
+        return [node, number_within(given[1], 1, "a flag")]
+    if word == "point" and given[1] is None:
+        return [node, 0]
+    return [node, *map(names.number_of, given[1:])]
 
 
 def why_refused(state: State, word: str, node: int, other: int = 0) -> str:

@@ -20,7 +20,7 @@ from __future__ import annotations
 
 import itertools
 from dataclasses import dataclass
-from typing import TYPE_CHECKING, Any, Callable, Union, get_args
+from typing import TYPE_CHECKING, Callable, Union, get_args
 
 from . import rules
 from .numbers import MOST_TURNS
@@ -124,7 +124,7 @@ WORDS: dict[str, Callable[[int], AnyDaemon]] = {
 }
 
 
-def check_daemon(daemon: Any) -> None:
+def check_daemon(daemon: object) -> None:
     """Raises `TypeError` for what is no daemon, such as one of the types above in the place of what it makes."""
     is_type = isinstance(daemon, type) and issubclass(daemon, get_args(AnyDaemon))
     if is_type or not (callable(daemon) or hasattr(daemon, "begin") or isinstance(daemon, Seeded)):

@@ -11,15 +11,17 @@ import ctypes
 import os
 import threading
 import weakref
-from typing import Any, Optional
+from typing import TYPE_CHECKING, Callable, Optional, Sequence
 
 from .batch import Batch
-from .calls import Costs, DirectBatch, Rooms
+from .calls import DirectBatch, Rooms
 from .errors import Ended, Inherited, RudekpiError, text_of
 from .kept_text import KeptText
 from .library import DONE, LOG_FULL, NO_MEMORY, NO_SESSION, Library, Slot
 from .names import Names
-from .replies import Name
+
+if TYPE_CHECKING:
+    from ctypes import _CArgObject
 
 SESSIONS: weakref.WeakSet[Direct] = weakref.WeakSet()
 
@@ -39,7 +41,7 @@ class Direct:
         self.ended: Optional[Ended] = None
         self.slot, self.empty, self.owner = Slot(), Slot(), os.getpid()
         # of whom commands are asked: the session, until it is closed
-        self.at: Any = ctypes.byref(self.slot)
+        self.at: _CArgObject = ctypes.byref(self.slot)
         self.text_kept, self.rooms = KeptText(library, self.at, keeps), Rooms()
         if library.session_new(("hh", "manne").index(rules), names.count, present, self.at):
             raise MemoryError("no memory for a network")
@@ -136,10 +138,15 @@ class Direct:
             self.raise_for(status)
         return found.value
 
-    def cost_of(self, word: str, *given: Name) -> int:
-        """What an edit or a fault would cost if it came now."""
-        cost: int = getattr(Costs(self), word)(*given)
-        return cost
+    def cost_of(self, word: str, numbers: Sequence[int]) -> int:
+        """What an edit or a fault would cost if it came now; 0 also for one that would be refused."""
+        found = ctypes.c_uint32()
+        call: Callable[..., int] = getattr(self.library, f"cost_of_{word}")
+        with self.lock:
+            status = call(self.at, *numbers, ctypes.byref(found))
+        if status:
+            self.raise_for(status)
+        return found.value
 
     def batch(self, raises: bool = True, keeps: bool = True) -> Batch:
         return DirectBatch(self, raises, keeps)

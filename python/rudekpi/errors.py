@@ -23,7 +23,7 @@ class Refused(RudekpiError):
         super().__init__(f"{event}: refused {number} {text} (entry {entry})")
         self.event, self.number, self.text, self.entry = event, number, text, entry
 
-    def __reduce__(self) -> Any:
+    def __reduce__(self) -> tuple[object, ...]:
         return type(self), (self.event, self.number, self.text, self.entry)
 
 
@@ -34,7 +34,7 @@ class Ended(RudekpiError):
         self.status, self.last_line = status, text_of(told).rstrip("\n").rpartition("\n")[2]
         super().__init__(f"the program ended with status {status}: {self.last_line or '(it said nothing)'}")
 
-    def __reduce__(self) -> Any:
+    def __reduce__(self) -> tuple[object, ...]:
         return type(self), (self.status, self.last_line.encode())
 
 
@@ -56,7 +56,7 @@ class NoReply(RudekpiError, MemoryError):
         super().__init__(f"{what} entry {entry}, which the transcript has")
         self.entry, self.what = entry, what
 
-    def __reduce__(self) -> Any:
+    def __reduce__(self) -> tuple[object, ...]:
         return type(self), (self.entry, self.what)
 
 
@@ -75,7 +75,7 @@ class Damaged(RudekpiError):
         super().__init__(f"line {line}: {why}")
         self.line, self.why = line, why
 
-    def __reduce__(self) -> Any:
+    def __reduce__(self) -> tuple[object, ...]:
         return type(self), (self.line, self.why)
 
     @classmethod

@@ -10,9 +10,12 @@ import ctypes
 import functools
 import operator
 import weakref
-from typing import Any, Callable, Union
+from typing import TYPE_CHECKING, Callable, Union
 
 from .library import Library
+
+if TYPE_CHECKING:
+    from ctypes import _CArgObject
 
 BASE_START = b"matching2 "
 # calls what it is given, as one call of C
@@ -41,7 +44,7 @@ def last_base(text: bytes) -> int:
 class KeptText:
     """The parts of a text, in their order. Where not all is kept, it begins with its last base."""
 
-    def __init__(self, library: Library, at: Any, keeps: bool) -> None:
+    def __init__(self, library: Library, at: _CArgObject, keeps: bool) -> None:
         self.library, self.at, self.keeps = library, at, keeps
         self.parts: list[Part] = []
         # below it all parts are empty

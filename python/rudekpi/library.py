@@ -6,8 +6,9 @@ import ctypes
 import functools
 import mmap
 import os
-from typing import Any, Optional
+from typing import Callable, Optional
 
+from .costs import COSTED
 from .errors import Damaged
 from .program import PACKAGE, Program
 from .replies import Summary
@@ -61,7 +62,6 @@ def summary_of(verdict: Verdict) -> Summary:
 
 # the calls of a session and of an audit. They are called with references and numbers below 2^31, or with numbers that are wrapped, for which ctypes
 # wants no types: to convert to them would take as long as the call. While those that may take long run, other threads of Python do
-COSTED = ("link", "unlink", "join", "leave", "point", "flag")
 SHORT = ("link", "unlink", "point", "flag", "show", "status", "partner", *(f"cost_of_{word}" for word in COSTED))
 LONG = (
     "session_new",
@@ -107,7 +107,7 @@ class Library:
             raise OSError(f"{path} is no library of this package: {error}") from None
         self.judge.argtypes, self.judge.restype = (ctypes.c_void_p, ctypes.c_size_t, ctypes.c_void_p), None
 
-    def __getattr__(self, name: str) -> Any:
+    def __getattr__(self, name: str) -> Callable[..., int]:
         raise AttributeError(name)
 
     def audit(self, at: int, size: int) -> Summary:

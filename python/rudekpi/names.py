@@ -5,7 +5,7 @@ from __future__ import annotations
 import re
 from collections import Counter
 from operator import index
-from typing import Any, Iterable, Optional, Union
+from typing import Iterable, Optional, Union, cast
 
 from .numbers import MOST_NODES, number_within
 from .replies import Name
@@ -50,9 +50,10 @@ class Names:
     """The numbers 1 to a count as names, or the caller's own names with the numbers 1, 2, .. in their order."""
 
     def __init__(self, nodes: Union[int, Iterable[Name]]) -> None:
-        self.own: Optional[list[Name]] = None if is_number(nodes) else own_names(nodes)  # type: ignore[arg-type]
+        self.own: Optional[list[Name]] = None if is_number(nodes) else own_names(cast("Iterable[Name]", nodes))
         self.numbers = {name: number for number, name in enumerate(self.own or [], 1)}
-        self.count = number_within(nodes if self.own is None else len(self.own), MOST_NODES, "a number of nodes")
+        count = cast(int, nodes) if self.own is None else len(self.own)
+        self.count = number_within(count, MOST_NODES, "a number of nodes")
 
     def all(self) -> list[Name]:
         return list(range(1, self.count + 1)) if self.own is None else list(self.own)
@@ -86,6 +87,6 @@ class Names:
         most = int(event.startswith("flag "))
         return NUMBER.sub(lambda found: repr(self.name_of(int(found[0]))), event, count=most)
 
-    def named(self, given: Any) -> Any:
+    def named(self, given: Optional[int]) -> Optional[Name]:
         """A node's name out of its number, None out of None."""
         return None if given is None else self.name_of(given)

@@ -3,18 +3,18 @@
 from __future__ import annotations
 
 import os
-from typing import Any, Callable, Iterable, Optional, Union
+from typing import Any, Callable, Iterable, NoReturn, Optional, Union, cast
 
 from . import audits, drawings, library
 from .answers import Setting
 from .batch import Batch
 from .choices import Daemon, checked_choice
-from .costs import PAIRED, why_refused
+from .costs import numbers_of_edit, why_refused
 from .daemons import AnyDaemon, Seeded, check_daemon, named
 from .direct import Direct
 from .errors import PastBound
 from .names import Names
-from .numbers import number_within
+from .numbers import counted, number_within
 from .program import Program, found_program
 from .replies import (
     Accepted,
@@ -87,13 +87,13 @@ class Network:
     def __enter__(self) -> Network:
         return self
 
-    def __exit__(self, kind: Any, *_: Any) -> None:
+    def __exit__(self, kind: Optional[type[BaseException]], *_: object) -> None:
         if kind:
             self._session.kill()
         else:
             self.close()
 
-    def __reduce__(self) -> Any:
+    def __reduce__(self) -> NoReturn:
         raise TypeError(
             "a network belongs to one process and is not copied: replay makes another one of its transcript"
         )
@@ -102,7 +102,8 @@ class Network:
         session = self._session
         wrong = session.trouble()
         stands = f", {wrong}" if wrong else ", closed" if session.is_closed else ""
-        return f"<Network {self.rules}, {self._names.count} nodes, {session.entries} entries{stands}>"
+        nodes, entries = counted(self._names.count, "node"), counted(session.entries, "entry", "entries")
+        return f"<Network {self.rules}, {nodes}, {entries}{stands}>"
 
     def _repr_html_(self) -> str:
         """A small drawing of the network, for notebooks."""
@@ -220,19 +221,17 @@ class Network:
         """Where the network stands, as a base whose lines stand in the transcript then; they are no entry."""
         return self._single.checkpoint().result()
 
-    def cost_of(self, word: str, *given: Any) -> int:
+    def cost_of(self, word: str, *given: Name) -> int:
         """What an edit or a fault would cost if it came now, in moves: `net.cost_of("unlink", "ann", "bob")`, and so for `link`, `join`,
         `leave`, `point` and `flag`. The charge grows by no more than this. Nothing is done, and no entry added.
 
         Raises `ValueError` for an event that would be refused, as to unlink what is not linked, and `NoSuchCommand` by a program,
         which has no command for it.
         """
-        if word not in library.COSTED:
-            raise ValueError(f"{' or '.join(library.COSTED)} has a cost, and not {word!r}")
-        cost = self._session.cost_of(word, *given)
+        numbers = numbers_of_edit(self._names, word, given)
+        cost = self._session.cost_of(word, numbers)
         if not cost:
             # there are edits and faults that cost nothing, and the library says the same of what would be refused
-            numbers = [0 if name is None else self.number_of(name) for name in given[: 2 if word in PAIRED else 1]]
             why = self._look(lambda state: why_refused(state, word, *numbers))
             if why:
                 raise ValueError(f"{' '.join([word, *map(repr, given)])} would be refused ({why}), so it has no cost")
@@ -252,7 +251,7 @@ class Network:
         check_daemon(daemon)
         if isinstance(daemon, Seeded):
             return daemon.settle(self)
-        choose: Any = daemon.begin(self) if hasattr(daemon, "begin") else daemon
+        choose = daemon.begin(self) if hasattr(daemon, "begin") else cast(Daemon, daemon)
         charge, steps, moves = self.status().charge, 0, 0
         while True:
             enabled = self.enabled()
@@ -260,7 +259,8 @@ class Network:
                 return Settled(steps, moves, charge)
             if moves >= charge:
                 raise PastBound(
-                    f"{len(enabled)} nodes are enabled after {moves} moves, as many as the charge was: who disturbs?"
+                    f"{counted(len(enabled), 'node is', 'nodes are')} enabled after {counted(moves, 'move')}, "
+                    "as many as the charge was: who disturbs?"
                 )
             moves += len(self.step(checked_choice(choose(enabled), enabled)))
             steps += 1
@@ -293,16 +293,17 @@ class Network:
         """
         import networkx
 
-        return self._look(lambda state: self._graph_of(state, networkx.Graph()))
+        graph = networkx.Graph()
+        self._look(lambda state: self._add_to(graph, state))
+        return graph
 
-    def _graph_of(self, state: State, graph: Any) -> Any:
-        """A graph to which the nodes that are present and their edges are added."""
+    def _add_to(self, graph: Any, state: State) -> None:
+        """Adds the nodes that are present and their edges to a `networkx.Graph`."""
         name_of = self.name_of
         for node in sorted(state.neighbours):
             graph.add_node(name_of(node), pointer=self._names.named(state.pointers.get(node)), flag=node in state.flags)
         for a, b in state.edges():
             graph.add_edge(name_of(a), name_of(b), pair=state.partner(a) == b)
-        return graph
 
     @classmethod
     def from_networkx(

@@ -42,7 +42,7 @@ class LostPart(Lost):
         )
         self.start, self.end, self.line = start, end, line
 
-    def __reduce__(self) -> Any:
+    def __reduce__(self) -> tuple[object, ...]:
         return type(self), (self.start, self.end, self.line)
 
 

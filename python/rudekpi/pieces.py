@@ -8,7 +8,7 @@ import itertools
 import os
 import select
 import threading
-from typing import Any, Iterator, Optional, Sequence, Union
+from typing import Iterator, NoReturn, Optional, Sequence, Union
 
 from .audits import Text, bytes_of, said_by, summary_read
 from .library import NO_SESSION, Library, Slot, Verdict, chosen, summary_of
@@ -44,10 +44,10 @@ class Audit:
     def __enter__(self) -> Audit:
         return self
 
-    def __exit__(self, *_: Any) -> None:
+    def __exit__(self, *_: object) -> None:
         self.close()
 
-    def __reduce__(self) -> Any:
+    def __reduce__(self) -> NoReturn:
         raise TypeError("an audit belongs to one process and is not copied")
 
     def feed(self, piece: Text) -> None:
@@ -97,7 +97,7 @@ class DirectAudit:
         with self.lock:
             if self.slot.full:
                 self.library.audit_finish(self.at, ctypes.byref(verdict))
-        told = sorted((it for it in self.verdicts if it.kind != NO_VERDICT), key=lambda it: it.kind == UNJUDGED)
+        told = sorted((it for it in self.verdicts if it.kind != NO_VERDICT), key=lambda it: bool(it.kind == UNJUDGED))
         if not told:
             raise ValueError("the audit is closed")
         return summary_of(told[0])

@@ -3,7 +3,7 @@
 from __future__ import annotations
 
 import itertools
-from typing import Any, Iterable, Iterator, Optional
+from typing import Iterable, Iterator, Optional, Union
 
 from .answers import BASE, CHECKPOINT
 from .audits import Text, audit
@@ -32,9 +32,10 @@ def replay(
     head, *parts = parts_of(transcript)
     _, rules, count, *rest = head[0].split(" ")
     present, edits = edits_to(head) if len(head) > 1 else (int((rest or [count])[0]), [])
-    nodes: Any = int(count) if names is None else own_names(names)
-    if names is not None and len(nodes) != int(count):
-        raise ValueError(f"{len(nodes)} names for {count} nodes")
+    own = None if names is None else own_names(names)
+    if own is not None and len(own) != int(count):
+        raise ValueError(f"{len(own)} names for {count} nodes")
+    nodes: Union[int, list[Name]] = int(count) if own is None else own
     entries = [(CHECKPOINT, "") if len(part) > 1 else tuple(part[0].split(" ", 1)[1].split(" = ")) for part in parts]
     net = Network(rules, nodes, present=present, program=program, engine=engine)
     if len(head) == 1:

@@ -3,13 +3,13 @@
 from __future__ import annotations
 
 import itertools
-from typing import Any, Optional, Sequence
+from typing import Optional, Sequence
 
 from .answers import STEP, Answers, Setting, refusal
-from .batch import Batch, Pending
+from .batch import Asked, AskedTurns, Batch, Pending
 from .errors import Garbled, Inherited, NoReply, NoSuchCommand, RudekpiError, text_of
-from .reading import read_accepted, read_status
-from .replies import Name, Turns
+from .reading import read_accepted
+from .replies import Reply
 from .talk import Load, Talk
 
 # how many bytes are asked before the program has to take some of them
@@ -27,7 +27,7 @@ class Session:
     def __init__(self, words: Sequence[str], setting: Setting) -> None:
         self.names = setting.names
         # the commands that wait, by their numbers, and what draws those
-        self.asked: dict[int, Pending[Any]] = {}
+        self.asked: dict[int, Pending[object]] = {}
         self.numbers = itertools.count()
         self.reached = Answers(setting, self.asked)
         # below which number no command waits
@@ -82,7 +82,7 @@ class Session:
         """None, since the program has no such question."""
         return None
 
-    def cost_of(self, word: str, *given: Name) -> int:
+    def cost_of(self, word: str, numbers: Sequence[int]) -> int:
         if isinstance(self.talk.ended, Inherited):
             raise self.talk.ended
         raise NoSuchCommand(f"the program tells no cost of {word} beforehand: play the network by engine='library'")
@@ -90,14 +90,9 @@ class Session:
     def tell(self, line: str) -> None:
         """Carries out a line of a script; behind one that writes several entries the status is asked, which ends them."""
         is_ended_by_status = line.startswith(("drive ", "scramble "))
-        words = (
-            ("status", read_accepted, None, f"{line}\n".encode())
-            if is_ended_by_status
-            else (line, read_accepted, None, b"")
-        )
-        self.ask(Pending(self, *words))
+        self.ask(AskedTurns(self, line, read_accepted) if is_ended_by_status else Asked(self, line, read_accepted))
 
-    def ask(self, pending: Pending[Any]) -> None:
+    def ask(self, pending: Pending[object]) -> None:
         """Takes a command to be written; waits only where much is unsent."""
         if self.is_closed:
             raise ValueError("the network is closed")
@@ -158,7 +153,7 @@ class Session:
         self.raise_what_is_wrong()
         self.go_on()
 
-    def wait(self, pending: Pending[Any]) -> None:
+    def wait(self, pending: Pending[object]) -> None:
         while pending._entry < 0:
             self.exchange()
 
@@ -196,21 +191,14 @@ class Session:
         self.is_closed = True
         self.talk.kill()
 
-    def reply(self, pending: Pending[Any]) -> Any:
+    def reply(self, pending: Pending[Reply]) -> Reply:
         """The reply to a command; raises a refusal, and what is no reply."""
-        names = self.names
         if pending._text.startswith(b"refused "):
-            raise refusal(names, pending._event, pending._text, pending._entry)
-        event, text = pending._event.decode(), text_of(pending._text)
+            raise refusal(self.names, pending._event, pending._text, pending._entry)
         try:
-            if not pending._ahead:
-                return pending._read(names, pending._entry, event, text)
-            turns = []
-            for entry, line in enumerate(pending._turns, pending._entry - len(pending._turns)):
-                parts = text_of(line).partition(" = ")
-                turns.append(pending._read(names, entry, parts[0], parts[2]))
-            return Turns(tuple(turns), read_status(names, pending._entry, event, text))
+            return pending._reply(self.names)
         except MemoryError:
             raise NoReply(pending._entry) from None
         except (ValueError, LookupError):
+            event, text = pending._event.decode(), text_of(pending._text)
             raise Garbled(f"entry {pending._entry} is no reply to {event[:200]!r}: {text[:200]!r}") from None

@@ -18,14 +18,17 @@ from typing import Any, Callable, Iterable, Iterator, Optional, Sequence, TextIO
 
 from . import daemons
 from .audits import epochs
+from .choices import Daemon
 from .errors import Lost, RudekpiError
 from .graphs import Graph
 from .network import Network
-from .numbers import MOST_SEED, MOST_TURNS, number_within
+from .numbers import MOST_SEED, MOST_TURNS, counted, number_within
 from .program import Program, found_program
 from .replies import Name
 from .workers import Handing, count_of
 
+# a daemon, a function that is one, or the word of one
+AnyDaemon = Union[daemons.AnyDaemon, Daemon, str]
 REGISTERS = ("any", "pointer", "flag")
 MOST_EXPERIMENTS = 1_000_000
 # about how many seconds a task takes
@@ -37,11 +40,12 @@ class LostExperiments(Lost):
 
     def __init__(self, experiments: list[Experiment]) -> None:
         super().__init__(
-            f"{len(experiments)} experiments are lost, since their workers died twice: {experiments[0].told()}, .."
+            f"{counted(len(experiments), 'experiment is', 'experiments are')} lost, "
+            f"since their workers died twice: {experiments[0].told()}, .."
         )
         self.experiments = experiments
 
-    def __reduce__(self) -> Any:
+    def __reduce__(self) -> tuple[object, ...]:
         return type(self), (self.experiments,)
 
 
@@ -103,7 +107,7 @@ class Experiment:
 
     graph: Graph
     rules: str
-    daemon: Any
+    daemon: AnyDaemon
     seed: int
     disturbance: Disturbance
     program: Program = None
@@ -216,7 +220,7 @@ def run_all(experiments: Sequence[Experiment]) -> list[Row]:
 def experiments_of(
     graphs: Iterable[Graph],
     rules: Iterable[str],
-    daemons: Iterable[Any],
+    daemons: Iterable[AnyDaemon],
     seeds: Iterable[int],
     disturbances: Iterable[Union[int, Disturbance]],
     program: Program = None,
@@ -259,14 +263,14 @@ def check_titles(graphs: Sequence[Any]) -> None:
             raise ValueError(f"two graphs have the title {graph.title!r}")
 
 
-def is_synchronous(daemon: Any) -> bool:
+def is_synchronous(daemon: AnyDaemon) -> bool:
     return daemon == "synchronous" or isinstance(daemon, daemons.Synchronous)
 
 
 def sweep(
     graphs: Iterable[Graph],
     rules: Iterable[str] = ("manne",),
-    daemons: Iterable[Any] = ("seeded",),
+    daemons: Iterable[AnyDaemon] = ("seeded",),
     seeds: Iterable[int] = (0,),
     faults: Iterable[Union[int, Disturbance]] = (0,),
     *,

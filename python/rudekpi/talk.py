@@ -14,13 +14,14 @@ import itertools
 import os
 import select
 import weakref
-from typing import Optional, Sequence
+from typing import Callable, Optional, Sequence
 
 from .errors import Ended, Inherited
 from .processes import IS_NONE, READ, Run
 
 # for how many milliseconds the pipes are waited for at the most before it is seen whether a handler has read what was waited for
 LONGEST_PAUSE = 64
+TOTAL: Callable[[list[int]], int] = sum
 TALKS: weakref.WeakSet[Talk] = weakref.WeakSet()
 
 
@@ -87,7 +88,7 @@ class Talk:
         """Whether the program took some of what is unsent."""
         load = self.load
         before, taken = len(load.taken), load.taken
-        left = map(load.data.__getitem__, map(slice, map(sum, (taken,)), (None,)))
+        left = map(load.data.__getitem__, map(slice, map(TOTAL, (taken,)), (None,)))
         try:
             taken.extend(filter(None, map(self.run.to.write, left)))
         except BrokenPipeError:

@@ -207,7 +207,7 @@ class Children(Timed):
             words = "the network belongs to another process, of which this one is a child: "
             words += "ask it there, or replay its transcript here"
             self.assertEqual(said, [f"{name}: {words}" for name in calls])
-            self.assertEqual((shown, own), (f"<Network manne, 3 nodes, 1 entries, {words}>", "1"))
+            self.assertEqual((shown, own), (f"<Network manne, 3 nodes, 1 entry, {words}>", "1"))
             self.assertEqual(net.show(1).entry, 2)
             self.assertEqual(net.edges, [(1, 2)])
         self.assertEqual(net.transcript().count(" = "), 2)

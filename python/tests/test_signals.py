@@ -207,6 +207,27 @@ class Handlers(Timed):
             self.assertTrue(net.transcript().startswith("matching2 manne 12\n"))
             self.assertLess(len(net.transcript()), 1000)
 
+    def test_in_the_middle_of_an_audit_that_is_fed(self) -> None:
+        with self.network() as net:
+            text = net.transcript().encode()
+        for turn in range(max(5, SIGNALS // 20)):
+            judge, busy = Audit(), []
+
+            def handle() -> None:
+                try:
+                    judge.feed(b"")
+                except ValueError as error:
+                    busy.append(str(error))
+
+            fed = iter([text[at : at + 7] for at in range(0, len(text), 7)])
+            self.signalled(9, handle, lambda: judge.feed(next(fed, b"")))
+            for piece in fed:
+                judge.feed(piece)
+            self.assertEqual(judge.finish(), audit(text))
+            is_told = {"the audit is in the middle of another call"} if self.engine == "program" else set()
+            self.assertLessEqual(set(busy), is_told)
+            judge.close()
+
     def test_that_end_it(self) -> None:
         for turn in range(max(6, SIGNALS // 20)):
             net = self.network()

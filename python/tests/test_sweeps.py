@@ -238,7 +238,7 @@ class Workers(Timed):
 
     def test_a_task_of_which_the_workers_die_twice_is_lost_alone(self):
         made = []
-        with self.assertRaisesRegex(sweeps.LostExperiments, "1 experiments are lost.*dies seed 0") as caught:
+        with self.assertRaisesRegex(sweeps.LostExperiments, "1 experiment is lost.*dies seed 0") as caught:
             for row in sweep([RING], ["hh"], [dies, "seeded", "least"], range(1)):
                 made.append(row)
         self.assertEqual(sorted(row.daemon for row in made), ["least", "seeded"])
