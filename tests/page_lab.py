@@ -350,8 +350,8 @@ def drops(pages, browser):
     verdict = pages.run([pages.program, "audit"], open(example, "rb").read())[1].decode().strip()
     pages.expect(
         "one that is accepted is played",
-        verdict in (waited(browser, False, "isHidden", "#judged") or browser.ask("text", "#judged")),
-        True,
+        (waited(browser, "382", "attribute", "#slider", "max"), verdict in browser.ask("text", "#judged")),
+        ("382", True),
     )
     pages.expect(
         "heads of arrows are drawn",

@@ -1,8 +1,10 @@
 // What can be taken back and done again: where the scripts of all labs stood before each act.
 
 /** @typedef {import("./lab.mjs").Lab} Lab */
-/** For each lab the number of lines that stayed, or all its lines if the act changed earlier ones.
- * @typedef {(number | string[])[]} Point */
+/**
+ * For each lab the number of lines that stayed, or all its lines if the act changed earlier ones.
+ * @typedef {(number | string[])[]} Point
+ */
 
 export class Past {
   constructor() {
@@ -39,7 +41,12 @@ export class Past {
     if (!point) {
       return null;
     }
-    this.undone.push({ point, lines: labs.map(({ lines }, at) => (typeof point[at] === "number" ? lines.slice(/** @type {number} */ (point[at])) : lines.slice())) });
+    this.undone.push({
+      point,
+      lines: labs.map(
+        ({ lines }, at) =>
+          (typeof point[at] === "number" ? lines.slice(/** @type {number} */ (point[at])) : lines.slice()))
+    });
     return point.map((kept, at) => (typeof kept === "number" ? labs[at].lines.slice(0, kept) : kept));
   }
 
@@ -53,6 +60,8 @@ export class Past {
       return null;
     }
     this.acts.push(undone.point);
-    return undone.point.map((kept, at) => (typeof kept === "number" ? [...labs[at].lines.slice(0, kept), ...undone.lines[at]] : undone.lines[at]));
+    return undone.point.map(
+      (kept, at) =>
+        (typeof kept === "number" ? [...labs[at].lines.slice(0, kept), ...undone.lines[at]] : undone.lines[at]));
   }
 }

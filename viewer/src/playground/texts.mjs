@@ -1,10 +1,11 @@
 // The script and the transcript beside the picture: shown as they grow, edited, copied and saved.
-import { byId, field } from "../svg.mjs";
-import { copy, save } from "./files.mjs";
-import { BadLine } from "./lab.mjs";
-import { writeAddress } from "./sharing.mjs";
+import {byId, field} from "../svg.mjs";
+import {copy, save} from "./files.mjs";
+import {BadLine} from "./lab.mjs";
+import {writeAddress} from "./sharing.mjs";
 
-// so many milliseconds lie between two writings of a text that grows; more where it is long, as a field takes long to show it
+// so many milliseconds lie between two writings of a text that grows; more where it is long, as a field takes long to
+// show it
 const GAP = 300;
 const CHARACTERS_A_MILLISECOND = 15;
 // farther down than any text goes
@@ -108,7 +109,10 @@ export class Texts {
 
   /** Has the text shown soon; what somebody edits is left alone. */
   show() {
-    this.timer ??= setTimeout(() => this.write(), Math.max(0, this.written + Math.max(GAP, this.field.value.length / CHARACTERS_A_MILLISECOND) - performance.now()));
+    this.timer ??= setTimeout(
+      () => this.write(),
+      Math.max(
+        0, this.written + Math.max(GAP, this.field.value.length / CHARACTERS_A_MILLISECOND) - performance.now()));
   }
 
   write() {
