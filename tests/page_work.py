@@ -283,6 +283,9 @@ def reloads(pages: Any, browser: Browser) -> None:
     browser.click(*place(browser, "#text-copy"))
     waited(browser, "The script is copied.", "text", "#story")
     pages.expect("what is copied is not lost", browser.ask("asksToLeave", 61_000), False)
+    begin(browser)
+    settles(browser)
+    pages.expect("a network that mends itself is no work", browser.ask("asksToLeave", 61_000), False)
     begin(browser, "#script=link+1+2;drive+1+9&nodes=3")
     waited(browser, "own", "value", "#preset")
     tool(browser, "node")
@@ -301,6 +304,16 @@ def reloads(pages: Any, browser: Browser) -> None:
     browser.click(*place(browser, "#to-lab"))
     waited(browser, TITLE, "title")
     pages.expect("and the network before it", waited(browser, wanted, "script"), wanted)
+    browser.open(pages.write(b"matching hh 2\n1 link 1 2 = ok\n"))
+    browser.click(*place(browser, "#to-lab"))
+    waited(browser, 1, "count", ".graph")
+    browser.reload()
+    pages.expect("a network on a transcript's page", waited(browser, TITLE, "title"), TITLE)
+    browser.click(*place(browser, "#to-transcript"))
+    title = "hh: 2 nodes, 1 entry – Rudekpi"
+    pages.expect("and back to the transcript", waited(browser, title, "title"), title)
+    browser.reload()
+    pages.expect("which a reload keeps", waited(browser, title, "title"), title)
     pages.expect("complaints of reloads", browser.complaints, [])
 
 
@@ -329,6 +342,13 @@ def redoes(pages: Any, browser: Browser) -> None:
     browser.click(*place(browser, "#undo"))
     browser.click(*edge(browser, 5, 6))
     pages.expect("another act ends it", waited(browser, True, "isDisabled", "#redo"), True)
+    before = browser.ask("scriptNow")
+    typed(browser, "\n".join(["link 1 3", *before[1:]]))
+    browser.click(*place(browser, "#text-use"))
+    pages.expect("a script of as many lines", browser.ask("scriptNow")[0], "link 1 3")
+    browser.click(*place(browser, "#undo"))
+    pages.expect("is taken back", browser.ask("scriptNow"), before)
+    agrees(pages, browser, "what a script was before")
     pages.expect("complaints of redo", browser.complaints, [])
 
 

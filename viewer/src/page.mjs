@@ -38,6 +38,13 @@ class Page {
     this.engine = () => (this.loaded ??= Engine.load(Uint8Array.from(atob(bytes), (letter) => letter.charCodeAt(0))));
     byId("to-lab").hidden = !this.runs;
     byId("to-lab").addEventListener("click", () => this.openLab(null));
+    /**
+     * The transcript that stands in the page, or null.
+     * @type {string | null}
+     */
+    this.embedded = dataOf("transcript");
+    byId("to-transcript").hidden = this.embedded === null;
+    byId("to-transcript").addEventListener("click", () => this.play(this.embedded, dataOf("judge")));
     byId("refusal-close").addEventListener("click", () => this.refuse(null));
     listenToFiles((data, name) => this.open(data, name), (wrong) => this.refuse(wrong));
     addEventListener("pagehide", () => this.keep());
@@ -45,12 +52,11 @@ class Page {
 
   async start() {
     const before = kept();
-    const text = dataOf("transcript");
     if (before?.view === "player" && before.transcript !== null) {
       this.keptLab = before.lab;
       await this.judge(new TextEncoder().encode(before.transcript));
-    } else if (text !== null && before?.view !== "lab") {
-      this.play(text, dataOf("judge"));
+    } else if (this.embedded !== null && before?.view !== "lab") {
+      this.play(this.embedded, dataOf("judge"));
     } else {
       await this.openLab(before?.lab ?? null);
     }

@@ -167,6 +167,11 @@ test("acts are taken back and done again in their order, whole scripts too", () 
   assert.equal(past.again(labs), null);
   set(past.back(labs));
   past.remember(labs);
+  past.forget();
+  set(past.again(labs));
+  assert.deepEqual(now(), ["xyz", "a"]);
+  set(past.back(labs));
+  past.remember(labs);
   assert.equal(past.again(labs), null);
 });
 

@@ -41,12 +41,14 @@ export class Daemon {
     if (all && enabled.length === 0) {
       return false;
     }
-    if (!this.stretch) {
+    const begins = !this.stretch;
+    if (begins) {
       play.remember();
       this.stretch = true;
     }
     const line = all ? `step ${enabled.join(" ")}` : `drive ${this.nextSeed()} 1`;
-    const made = play.attempt(() => play.feed(line, [lab]));
+    const made = play.attempt(() => play.feed(line, [lab]), begins);
+    this.stretch = made !== null;
     if (made?.[0] === "") {
       // nothing was enabled
       lab.lines.pop();
@@ -60,6 +62,7 @@ export class Daemon {
     this.run(false);
     this.stretch = false;
     if (this.stepAll()) {
+      play.work.acted();
       play.show(1);
     } else if (play.labs.every((lab) => lab.seen.enabledCount === 0)) {
       play.story.say("Nothing is enabled: all is stable.");

@@ -15,6 +15,7 @@ export class Past {
      * @type {{ point: Point, lines: string[][] }[]}
      */
     this.undone = [];
+    this.before = this.undone;
   }
 
   /**
@@ -24,12 +25,14 @@ export class Past {
    */
   remember(labs, whole = false) {
     this.acts.push(labs.map((lab) => (whole ? lab.lines.slice() : lab.lines.length)));
+    this.before = this.undone;
     this.undone = [];
   }
 
-  /** Forgets an act that came to nothing. */
+  /** Forgets the act that was remembered last, since it came to nothing. */
   forget() {
     this.acts.pop();
+    this.undone = this.before;
   }
 
   /**

@@ -28,6 +28,14 @@ function lastEntry(text) {
   return /^\d/.test(line) ? readEntry(line) : null;
 }
 
+/**
+ * @param {string[]} one
+ * @param {string[]} other
+ */
+function isSame(one, other) {
+  return one.length === other.length && one.every((line, at) => line === other[at]);
+}
+
 export class Playground {
   /**
    * @param {import("./engine.mjs").Engine} engine
@@ -187,7 +195,6 @@ export class Playground {
   remember(whole = false) {
     this.past.remember(this.labs, whole);
     this.daemon.stretch = false;
-    this.work.acted();
   }
 
   /**
@@ -235,6 +242,7 @@ export class Playground {
     if (texts === null) {
       return;
     }
+    this.work.acted();
     this.look(labs);
     const refused = texts.map(lastEntry).find((entry) => entry?.refused);
     if (refused) {
@@ -252,16 +260,19 @@ export class Playground {
    * What an act comes to, or null if its line was not carried out, which has been told then.
    * @template T
    * @param {() => T} act
+   * @param {boolean} begins whether the act was remembered as one of its own
    * @returns {T | null}
    */
-  attempt(act) {
+  attempt(act, begins = true) {
     try {
       return act();
     } catch (wrong) {
       if (!(wrong instanceof BadLine)) {
         throw wrong;
       }
-      this.past.forget();
+      if (begins) {
+        this.past.forget();
+      }
       return null;
     }
   }
@@ -274,6 +285,7 @@ export class Playground {
   move(lab, line) {
     this.remember();
     if (this.attempt(() => this.feed(line, [lab]))) {
+      this.work.acted();
       this.show(1);
     }
   }
@@ -312,7 +324,7 @@ export class Playground {
       return;
     }
     const before = this.lab.lines.length;
-    scripts.forEach((lines, at) => lines.length !== this.labs[at].lines.length && this.labs[at].replay(lines));
+    scripts.forEach((lines, at) => isSame(lines, this.labs[at].lines) || this.labs[at].replay(lines));
     this.daemon.stretch = false;
     this.changed = null;
     this.work.acted();
@@ -339,6 +351,7 @@ export class Playground {
       this.past.forget();
       throw wrong;
     }
+    this.work.acted();
     this.placeNewcomers();
     this.story.open();
     this.show(0);

@@ -1,5 +1,6 @@
 // The script and the transcript beside the picture: shown as they grow, edited, copied and saved.
 import {byId, field} from "../svg.mjs";
+import {EngineFault} from "./engine.mjs";
 import {copy, save} from "./files.mjs";
 import {BadLine} from "./lab.mjs";
 import {writeAddress} from "./sharing.mjs";
@@ -138,12 +139,24 @@ export class Texts {
       this.acts.play(lines);
       this.drop();
     } catch (wrong) {
-      if (!(wrong instanceof BadLine)) {
-        throw wrong;
-      }
+      this.tell(wrong, numbers);
+    }
+  }
+
+  /**
+   * Tells why a script was not played, where it stands.
+   * @param {Error} wrong
+   * @param {number[]} numbers those of its lines in the field
+   */
+  tell(wrong, numbers) {
+    if (wrong instanceof BadLine) {
       const told = renumbered(wrong, numbers);
       this.mark(told.line);
       this.refuse(`The script was not played: ${told.message}.`);
+    } else if (wrong instanceof EngineFault) {
+      this.refuse(`The script was not played, since the engine does not go on: ${wrong.message}.`);
+    } else {
+      throw wrong;
     }
   }
 
