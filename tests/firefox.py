@@ -1,5 +1,7 @@
-"""A headless Firefox that is driven through its Marionette port, with the standard library alone; it has the calls of `browser.Browser` that random
-acts need."""
+"""A headless Firefox, driven through its Marionette port with the standard library alone.
+
+It has the calls of `browser.Browser` that random acts need.
+"""
 
 from __future__ import annotations
 
@@ -42,7 +44,8 @@ SIGN = "JavaScript error: file:"
 
 def firefox_path() -> str | None:
     """Where a Firefox is, or None."""
-    return next((path for path in map(shutil.which, NAMES) if path), None)
+    found = (shutil.which(name) for name in NAMES)
+    return next((path for path in found if path), None)
 
 
 class Firefox:
@@ -51,7 +54,7 @@ class Firefox:
     def __init__(self, path: str, wait: float = 60, width: int = 1280, height: int = 900) -> None:
         self.wait, self.number, self.left = wait, 0, b""
         self.home = tempfile.TemporaryDirectory(prefix="rudekpi-firefox-", ignore_cleanup_errors=True)
-        preferences = {**PREFERENCES, "browser.download.dir": self.home.name}
+        preferences: dict[str, object] = {**PREFERENCES, "browser.download.dir": self.home.name}
         with open(f"{self.home.name}/user.js", "w", encoding="ascii") as file:
             file.writelines(
                 f"user_pref({json.dumps(key)}, {json.dumps(value)});\n" for key, value in preferences.items()

@@ -1,5 +1,7 @@
-"""Random acts on the playground: clicks, drags, keys, fields, texts, reloads and addresses, by a seed. After every hundred the transcript on the
-page must be one that the program accepts, and nothing may stand in the console."""
+"""Random acts on the playground: clicks, drags, keys, fields, texts, reloads and addresses, by a seed.
+
+After every hundred the program must accept the transcript on the page, and nothing may stand in the console.
+"""
 
 from __future__ import annotations
 
@@ -82,7 +84,7 @@ class Acts:
 
     def begin(self) -> None:
         self.browser.open(self.page)
-        self.settle(lambda: self.browser.ask("count", ".graph") > 0)
+        self.settle(lambda: bool(self.browser.ask("count", ".graph") > 0))
         self.browser.ask("choose", "#pace", "1000")
 
     def settle(self, is_so: Callable[[], bool], seconds: float = 10) -> None:
@@ -172,19 +174,19 @@ class Acts:
 
     def reload(self) -> str:
         self.browser.reload()
-        self.settle(lambda: self.browser.ask("count", ".graph, #graph .node") > 0)
+        self.settle(lambda: bool(self.browser.ask("count", ".graph, #graph .node") > 0))
         return "reload"
 
     def verdict(self) -> str:
         """What the program says of the transcript that the page writes."""
         if self.browser.ask("count", "body.lab") == 0:
             self.browser.ask("press", "#to-lab")
-            self.settle(lambda: self.browser.ask("count", "body.lab") == 1)
+            self.settle(lambda: bool(self.browser.ask("count", "body.lab") == 1))
         if self.browser.ask("isRunning"):
             self.browser.ask("press", "#run")
         text = self.browser.ask("transcript").encode()
         made = subprocess.run([self.program, "audit"], input=text, capture_output=True, timeout=600)
-        return made.stdout.decode().strip()
+        return str(made.stdout.decode().strip())
 
 
 def use(pages: Any, browser: Any, name: str, page: str, seed: int, count: int) -> None:

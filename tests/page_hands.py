@@ -1,4 +1,8 @@
-"""What hands do with a page that plays a transcript: they point, tap, type, pinch, save and go back; each is tried in a browser."""
+"""What hands do with a page that plays a transcript: they point, tap, type, pinch, save and go back; each is tried
+in a browser."""
+
+from __future__ import annotations
+
 import os
 import re
 import shutil
@@ -7,8 +11,9 @@ import struct
 import time
 import xml.etree.ElementTree as ElementTree
 import zlib
+from typing import Any
 
-from browser import PageFault
+from browser import Browser, PageFault
 
 RING = b"""matching hh 5
 1 link 1 2 = ok
@@ -21,20 +26,27 @@ RING = b"""matching hh 5
 8 point 3 2 = ok
 """
 PAIR = b"matching manne 3\n1 link 1 2 = ok\n2 link 2 3 = ok\n3 step 1 = 1:seduce>2\n4 flag 3 1 = ok\n"
-BASE = b"matching2 hh 3\nbase 822 spent=1 nodes=3 edges=1\nnode 1 2 0\nnode 2 - 0\nnode 3 - 0\nedge 1 2\n823 step 2 = 2:marry>1\n"
+BASE = b"""matching2 hh 3
+base 822 spent=1 nodes=3 edges=1
+node 1 2 0
+node 2 - 0
+node 3 - 0
+edge 1 2
+823 step 2 = 2:marry>1
+"""
 SVG = "{http://www.w3.org/2000/svg}"
 
 
-def place(browser, selector):
+def place(browser: Browser, selector: str) -> Any:
     return browser.ask("place", selector)
 
 
-def edge_place(browser, low, high):
+def edge_place(browser: Browser, low: int, high: int) -> Any:
     """A place on an edge of the drawing."""
     return place(browser, f"[data-ends='{low}-{high}']")
 
 
-def waited(browser, wanted, probe, *words, seconds=10):
+def waited(browser: Browser, wanted: Any, probe: str, *words: Any, seconds: float = 10) -> Any:
     """What a probe returns in the page, once it is what is wanted or so many seconds have passed."""
     until = time.monotonic() + seconds
     while (came := browser.ask(probe, *words)) != wanted and time.monotonic() < until:
@@ -42,7 +54,7 @@ def waited(browser, wanted, probe, *words, seconds=10):
     return came
 
 
-def fills(pages, browser):
+def fills(pages: Any, browser: Browser) -> None:
     """A small network fills the drawing; one that is too large to draw leaves no empty box."""
     browser.open(pages.write(RING))
     wide, high = browser.ask("shares")
@@ -66,7 +78,7 @@ def fills(pages, browser):
     pages.expect("complaints of a page without a drawing", browser.complaints, [])
 
 
-def titles(pages, browser):
+def titles(pages: Any, browser: Browser) -> None:
     """The title says what is played, and a base is told with its number."""
     for text, title, entry in [
         (RING, "hh: 5 nodes, 8 entries", ["step 1>2", "1:seduce>2", "6"]),
@@ -83,7 +95,7 @@ def titles(pages, browser):
         pages.expect(f"where it opens: {title}", shown, entry)
 
 
-def long_one(pages, browser):
+def long_one(pages: Any, browser: Browser) -> None:
     """Of many entries the plots are lines of means with a band, and digits are grouped in one way."""
     script = "".join(f"link {v} {v % 60 + 1}\n" for v in range(1, 61)) + "".join(
         f"scramble {k} 7\ndrive {k} 900\n" for k in range(1, 1500)
@@ -105,7 +117,7 @@ def long_one(pages, browser):
     pages.expect("the number of the last entry", browser.ask("text", "#number"), f"{entries:,}")
 
 
-def phone(pages, browser):
+def phone(pages: Any, browser: Browser) -> None:
     """On a phone the bar covers nothing of the entry and the figures, and all can be scrolled to."""
     path = pages.write(RING)
     for width, height in [(320, 568), (360, 640), (390, 844), (640, 360)]:
@@ -127,7 +139,7 @@ def phone(pages, browser):
     browser.window(1280, 900)
 
 
-def addresses(pages, browser):
+def addresses(pages: Any, browser: Browser) -> None:
     """Each step is soon in the address, and leads back; a hundred at once are one."""
     path = pages.write(RING)
     browser.open(path)
@@ -152,7 +164,7 @@ def addresses(pages, browser):
     pages.expect("an address that is typed", waited(browser, "2", "entry"), "2")
 
 
-def pinches(pages, browser):
+def pinches(pages: Any, browser: Browser) -> None:
     """Two fingers bring the drawing nearer where they are, and move it; one finger moves it then."""
     browser.window(390, 844)
     browser.fingers(True)
@@ -196,7 +208,7 @@ def pinches(pages, browser):
     pages.expect("complaints of fingers", browser.complaints, [])
 
 
-def type_number(browser, digits):
+def type_number(browser: Browser, digits: str) -> None:
     """Types a node's number into the field, to which a key leads."""
     browser.ask("blur")
     browser.key("f", "KeyF", 70, "f")
@@ -228,7 +240,7 @@ SUITED = {
 }
 
 
-def tells(pages, browser):
+def tells(pages: Any, browser: Browser) -> None:
     """A node and an edge under the mouse, picked by a click, by keys or by number, tell what they hold."""
     browser.open(pages.write(RING))
     browser.key("End", "End", 35)
@@ -284,7 +296,7 @@ def tells(pages, browser):
     pages.expect("complaints of telling", browser.complaints, [])
 
 
-def colours_of(png):
+def colours_of(png: bytes) -> tuple[int, int, int]:
     """Width, height and some of the bytes of a picture's lines."""
     width, height = struct.unpack(">II", png[16:24])
     at, data = 8, b""
@@ -295,7 +307,7 @@ def colours_of(png):
     return width, height, len(set(zlib.decompress(data)))
 
 
-def saved(folder, name, seconds=20):
+def saved(folder: str, name: str, seconds: float = 20) -> bytes:
     """A file that a page saves."""
     until = time.monotonic() + seconds
     path = os.path.join(folder, name)
@@ -305,15 +317,16 @@ def saved(folder, name, seconds=20):
         return file.read()
 
 
-def saves(pages, browser):
-    """The picture is saved as an SVG file that needs no page, with all names, and as a PNG that is finer than the page."""
+def saves(pages: Any, browser: Browser) -> None:
+    """The picture is saved as an SVG file that needs no page, with all names, and as a PNG that is finer than the
+    page."""
     browser.save_into(pages.folder)
     browser.open(pages.write(RING))
     browser.key("End", "End", 35)
     browser.click(*place(browser, "#save-svg"))
     browser.click(*place(browser, "#save-png"))
     picture = ElementTree.fromstring(saved(pages.folder, "matching-hh-5-entry-8.svg"))
-    names = sorted(text.text for text in picture.iter(f"{SVG}text"))
+    names = sorted(text.text or "" for text in picture.iter(f"{SVG}text"))
     pages.expect(
         "the names in the SVG, and the marks of the enabled nodes",
         names,
@@ -325,9 +338,9 @@ def saves(pages, browser):
         ({"rgb(0, 102, 166)", "rgb(255, 255, 255)"} <= fills_of, b"class" in ElementTree.tostring(picture)),
         (True, False),
     )
-    pages.expect("the title of the SVG", picture.find(f"{SVG}title").text, "hh: 5 nodes, 8 entries: after entry 8")
+    pages.expect("the title of the SVG", picture.findtext(f"{SVG}title"), "hh: 5 nodes, 8 entries: after entry 8")
     width, height, colours = colours_of(saved(pages.folder, "matching-hh-5-entry-8.png"))
-    wide, high = (float(number) for number in picture.get("viewBox").split(" ")[2:])
+    wide, high = (float(number) for number in picture.get("viewBox", "").split(" ")[2:])
     pages.expect(
         "the PNG", (width >= 1600, round(width / height, 1), colours > 20), (True, round(wide / high, 1), True)
     )
@@ -360,8 +373,9 @@ HOSTILE = [
 WRONG_LINES = [1, 2, 3, 3, 4, 1]
 
 
-def judges(pages, browser):
-    """The foot of a page names its judge; text that a false judge lets in runs nothing, and is told to be no transcript."""
+def judges(pages: Any, browser: Browser) -> None:
+    """The foot of a page names its judge; text that a false judge lets in runs nothing, and is told to be no
+    transcript."""
     named = os.path.join(pages.folder, "judge")
     with open(named, "w", encoding="ascii") as file:
         file.write(f'#!/bin/sh\nexec "{pages.program}" "$@"\n')
@@ -388,12 +402,12 @@ def judges(pages, browser):
         browser.open(pages.write(text, false))
         said = [browser.ask("title"), browser.ask("text", "#title"), browser.ask("count", "img, script")]
         pages.expect(
-            f"what is said of {text[:40]}",
+            f"what is said of {text[:40]!r}",
             (said[0], said[1].startswith(f"This is no transcript: line {line} "), said[2]),
             ("no transcript – Rudekpi", True, 4),
         )
         pages.expect(
-            f"what {text[:40]} fetches", [url for url in browser.fetched if not url.startswith("file:///")], []
+            f"what {text[:40]!r} fetches", [url for url in browser.fetched if not url.startswith("file:///")], []
         )
     browser.open(pages.write(RING, false))
     foot = browser.ask("text", "#judged")
@@ -413,7 +427,7 @@ def judges(pages, browser):
         )
 
 
-def use(pages, browser):
+def use(pages: Any, browser: Browser) -> None:
     """All of it; where one part breaks off, the others go on."""
     for part in [fills, titles, long_one, phone, addresses, pinches, tells, saves, judges]:
         try:

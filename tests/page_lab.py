@@ -1,9 +1,14 @@
-"""What hands do with the playground: each act is tried in a browser, by mouse, finger and key, and what it writes is given to the program."""
+"""What hands do with the playground: each act is tried in a browser, by mouse, finger and key, and what it writes is
+given to the program."""
+
+from __future__ import annotations
+
 import os
 import re
 import time
+from typing import Any, Sequence
 
-from browser import PageFault
+from browser import Browser, PageFault
 from page_hands import saved, waited
 
 TOP = os.path.dirname(os.path.dirname(os.path.abspath(__file__)))
@@ -11,7 +16,7 @@ PLAYGROUND = f"{TOP}/release/playground.html"
 TITLE = "Break a network by hand – Rudekpi"
 
 
-def begin(browser, address=""):
+def begin(browser: Browser, address: str = "") -> None:
     """Opens the playground as somebody does who was never there."""
     browser.open(f"{TOP}/viewer/page.css")
     browser.ask("forgetAll")
@@ -19,13 +24,13 @@ def begin(browser, address=""):
     waited(browser, 1, "count", ".graph")
 
 
-def place(browser, selector):
+def place(browser: Browser, selector: str) -> Any:
     """The middle of what a selector names, once it is in the window."""
     browser.ask("show", selector)
     return browser.ask("place", selector)
 
 
-def fresh(browser, kind="ring", nodes=6, rules="hh", seed=1):
+def fresh(browser: Browser, kind: str = "ring", nodes: int = 6, rules: str = "hh", seed: int = 1) -> None:
     """The playground with a network of a kind that has settled, and that waits."""
     begin(browser)
     browser.ask("choose", "#pace", "1000")
@@ -37,20 +42,20 @@ def fresh(browser, kind="ring", nodes=6, rules="hh", seed=1):
     waited(browser, False, "isRunning")
 
 
-def settles(browser, seconds=15):
+def settles(browser: Browser, seconds: float = 15) -> Any:
     return waited(browser, True, "isStable", seconds=seconds)
 
 
-def edge(browser, low, high, which=0):
+def edge(browser: Browser, low: int, high: int, which: int = 0) -> Any:
     """A place on an edge of the picture, beside its middle where another might lie."""
     return browser.ask("place", f"[data-ends='{low}-{high}']", which)
 
 
-def node(browser, name):
+def node(browser: Browser, name: int) -> Any:
     return place(browser, f".graph [data-node='{name}'] .body")
 
 
-def drag(browser, start, end, steps=4):
+def drag(browser: Browser, start: Sequence[float], end: Sequence[float], steps: int = 4) -> None:
     (x1, y1), (x2, y2) = start, end
     browser.move(x1, y1)
     browser.call("Input.dispatchMouseEvent", type="mousePressed", x=x1, y=y1, button="left", buttons=1, clickCount=1)
@@ -66,16 +71,16 @@ def drag(browser, start, end, steps=4):
     browser.call("Input.dispatchMouseEvent", type="mouseReleased", x=x2, y=y2, button="left", clickCount=1)
 
 
-def tool(browser, name):
+def tool(browser: Browser, name: str) -> None:
     browser.click(*place(browser, f"[data-tool='{name}']"))
 
 
-def last_act(browser, wanted):
+def last_act(browser: Browser, wanted: str) -> Any:
     """The last line of the script that is a hand's, once it is what is wanted."""
     return waited(browser, wanted, "lastAct", seconds=3)
 
 
-def daemon_moved(browser):
+def daemon_moved(browser: Browser) -> bool:
     """Whether the last line of the script soon is a seeded daemon's move."""
     until = time.monotonic() + 3
     while not re.fullmatch(r"drive \d+ 1", browser.ask("lastLine")) and time.monotonic() < until:
@@ -83,11 +88,12 @@ def daemon_moved(browser):
     return bool(re.fullmatch(r"drive \d+ 1", browser.ask("lastLine")))
 
 
-def transcript(browser):
-    return browser.ask("transcript").encode()
+def transcript(browser: Browser) -> bytes:
+    text: str = browser.ask("transcript")
+    return text.encode()
 
 
-def agrees(pages, browser, name, rules="hh"):
+def agrees(pages: Any, browser: Browser, name: str, rules: str = "hh") -> None:
     """The transcript is accepted, the script makes it, and what is drawn is what the program says of it."""
     written = transcript(browser)
     verdict = pages.run([pages.program, "audit"], written)
@@ -106,8 +112,9 @@ def agrees(pages, browser, name, rules="hh"):
     )
 
 
-def opens(pages, browser):
-    """Who opens the page sees a network that runs or has settled within a second, is told what to do, and sees it mend."""
+def opens(pages: Any, browser: Browser) -> None:
+    """Who opens the page sees a network that runs or has settled within a second, is told what to do, and sees it
+    mend."""
     begin(browser)
     time.sleep(1)
     said = [
@@ -128,7 +135,7 @@ def opens(pages, browser):
     pages.expect("what the page complains of", browser.complaints, [])
 
 
-def acts(pages, browser):
+def acts(pages: Any, browser: Browser) -> None:
     """Each act by the mouse is a line of the script; all that comes of it is what the program says."""
     fresh(browser)
     before = browser.ask("attribute", "[data-node='2']", "transform")
@@ -170,7 +177,7 @@ def acts(pages, browser):
     pages.expect("complaints of acts", browser.complaints, [])
 
 
-def moves(pages, browser):
+def moves(pages: Any, browser: Browser) -> None:
     """Who moves is chosen by a hand, by a seeded daemon, or is all that may."""
     fresh(browser, rules="manne", nodes=8)
     tool(browser, "flag")
@@ -214,8 +221,9 @@ def moves(pages, browser):
     pages.expect("complaints of moves", browser.complaints, [])
 
 
-def networks(pages, browser):
-    """Each network begins, settles and is what the program makes of its script; two rule sets stand side by side, disturbed alike."""
+def networks(pages: Any, browser: Browser) -> None:
+    """Each network begins, settles and is what the program makes of its script; two rule sets stand side by side,
+    disturbed alike."""
     for kind in ["ring", "path", "grid", "star", "disk", "random", "racks", "mesh"]:
         for nodes in (2, 23):
             fresh(browser, kind, nodes, "manne" if nodes == 23 else "hh")
@@ -242,7 +250,7 @@ def networks(pages, browser):
     pages.expect("complaints of networks", browser.complaints, [])
 
 
-def typed(browser, text):
+def typed(browser: Browser, text: str) -> None:
     """Types a text in the place of the field's own, as hands do."""
     browser.click(*place(browser, "#text"))
     browser.call(
@@ -258,8 +266,9 @@ def typed(browser, text):
     browser.call("Input.insertText", text=text)
 
 
-def texts(pages, browser):
-    """The script is edited and played, the transcript is edited and judged; both are saved, and what is saved is accepted."""
+def texts(pages: Any, browser: Browser) -> None:
+    """The script is edited and played, the transcript is edited and judged; both are saved, and what is saved is
+    accepted."""
     browser.save_into(pages.folder)
     fresh(browser, "path", 4)
     typed(browser, "link 1 2\nlink 2 3\nstep 1\nlink 1 9\n")
@@ -313,7 +322,7 @@ def texts(pages, browser):
     pages.expect("complaints of texts", browser.complaints, [])
 
 
-def dropped(browser, path):
+def dropped(browser: Browser, path: str) -> None:
     """Drops a file on the page."""
     data = {"items": [], "files": [path], "dragOperationsMask": 1}
     for kind in ["dragEnter", "dragOver", "drop"]:
@@ -328,7 +337,7 @@ HOSTILE = [
 ]
 
 
-def drops(pages, browser):
+def drops(pages: Any, browser: Browser) -> None:
     """A transcript that is dropped is judged and played; a refused one shows its first wrong line, and runs nothing."""
     fresh(browser)
     path = os.path.join(pages.folder, "dropped.transcript")
@@ -350,8 +359,8 @@ def drops(pages, browser):
     verdict = pages.run([pages.program, "audit"], open(example, "rb").read())[1].decode().strip()
     pages.expect(
         "one that is accepted is played",
-        verdict in (waited(browser, False, "isHidden", "#judged") or browser.ask("text", "#judged")),
-        True,
+        (waited(browser, "382", "attribute", "#slider", "max"), verdict in browser.ask("text", "#judged")),
+        ("382", True),
     )
     pages.expect(
         "heads of arrows are drawn",
@@ -378,7 +387,7 @@ def drops(pages, browser):
     pages.expect("complaints of dropping", browser.complaints, [])
 
 
-def addresses(pages, browser):
+def addresses(pages: Any, browser: Browser) -> None:
     """A script in the address is played; one that is hostile is told of, and runs nothing."""
     begin(browser, "#script=link+1+2;link+2+3;drive+7+100&rules=manne&nodes=4&present=3")
     waited(browser, "✓ stable, 1 pair", "text", ".state")
@@ -415,7 +424,7 @@ def addresses(pages, browser):
     pages.expect("complaints of addresses", browser.complaints, [])
 
 
-def fingers(pages, browser):
+def fingers(pages: Any, browser: Browser) -> None:
     """On a phone, in the dark: a finger cuts, drags and draws, and nothing is wider than the window."""
     browser.window(390, 844, True)
     browser.fingers(True)
@@ -452,11 +461,11 @@ def fingers(pages, browser):
     pages.expect("complaints of fingers", browser.complaints, [])
 
 
-def keys(pages, browser):
+def keys(pages: Any, browser: Browser) -> None:
     """All of it goes by keys alone."""
     fresh(browser, "ring", 6)
     browser.ask("focus", ".graph")
-    press = {
+    press: dict[str, tuple[Any, ...]] = {
         "down": ("ArrowDown", "ArrowDown", 40),
         "enter": ("Enter", "Enter", 13),
         "e": ("e", "KeyE", 69, "e"),
@@ -468,7 +477,7 @@ def keys(pages, browser):
         **{str(n): (str(n), f"Digit{n}", 48 + n, str(n)) for n in range(1, 7)},
     }
 
-    def strike(*names):
+    def strike(*names: str) -> None:
         for name in names:
             browser.key(*press[name])
 
@@ -502,9 +511,9 @@ def keys(pages, browser):
     pages.expect("complaints of keys", browser.complaints, [])
 
 
-def many(pages, browser):
-    """500 nodes at 30 pictures a second at the least, while they run, in the best of three tries. Where other programs keep the
-    processors busy that is skipped, and above half of it too, since a slower machine draws fewer."""
+def many(pages: Any, browser: Browser) -> None:
+    """500 nodes run at 30 pictures a second at least, in the best of three tries. If other programs keep the processors
+    busy that is skipped, and above half of it too, since a slower machine draws fewer."""
     best, shown = 0, 0
     for seed in (1, 2, 3):
         begin(browser)
@@ -527,7 +536,7 @@ def many(pages, browser):
     pages.expect("complaints of 500 nodes", browser.complaints, [])
 
 
-def without(pages, browser):
+def without(pages: Any, browser: Browser) -> None:
     """A browser without 64-bit memory gets one sentence, and plays transcripts."""
     script = browser.before_pages("WebAssembly.validate = () => false;")
     browser.open(PLAYGROUND)
@@ -541,7 +550,7 @@ def without(pages, browser):
     pages.expect("complaints without the engine", browser.complaints, [])
 
 
-def use(pages, browser):
+def use(pages: Any, browser: Browser) -> None:
     """All of it; where one part breaks off, the others go on."""
     for part in [opens, acts, moves, networks, texts, drops, addresses, fingers, keys, many, without]:
         try:

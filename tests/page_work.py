@@ -1,9 +1,14 @@
-"""What the playground opens, keeps, tells and shows: files, pasted texts and addresses, reloads, and what is told of each fault."""
+"""What the playground opens, keeps, tells and shows: files, pasted texts and addresses, reloads, and what is told of
+each fault."""
+
+from __future__ import annotations
+
 import os
 import time
 import xml.etree.ElementTree as ElementTree
+from typing import Any
 
-from browser import PageFault
+from browser import Browser, PageFault
 from page_hands import SVG, colours_of, saved, waited
 from page_lab import (
     PLAYGROUND,
@@ -54,15 +59,16 @@ NO_GRAPHS = [
 ]
 
 
-def write(pages, name, text):
+def write(pages: Any, name: str, text: str) -> str:
     path = os.path.join(pages.folder, name)
     with open(path, "w", encoding="utf-8") as file:
         file.write(text)
     return path
 
 
-def addresses(pages, browser):
-    """A link that names a node which is not there opens all the same, and sets the selectors; the page writes such links itself."""
+def addresses(pages: Any, browser: Browser) -> None:
+    """A link that names a node which is not there opens all the same, and sets the selectors; the page writes such
+    links itself."""
     begin(browser, "#script=link+1+2;link+2+9;drive+3+9&nodes=4&rules=manne")
     pages.expect("a link beyond the nodes", waited(browser, "✓ stable, 1 pair", "text", ".state"), "✓ stable, 1 pair")
     agrees(pages, browser, "a link beyond the nodes", "manne")
@@ -87,7 +93,7 @@ def addresses(pages, browser):
     pages.expect("complaints of links", browser.complaints, [])
 
 
-def full(pages, browser):
+def full(pages: Any, browser: Browser) -> None:
     """A script that would fill the log is told of at once, by its line, where it was given; what was there stays."""
     lines = "".join(f"scramble {k} 1000000\n" for k in range(1, 18))
     fresh(browser, "path", 4)
@@ -110,7 +116,7 @@ def full(pages, browser):
     pages.expect("complaints of full logs", browser.complaints, [])
 
 
-def keys(pages, browser):
+def keys(pages: Any, browser: Browser) -> None:
     """The key for links is no error after a node left, and where nothing was chosen."""
     fresh(browser, "ring", 6)
     browser.ask("focus", ".graph")
@@ -125,8 +131,9 @@ def keys(pages, browser):
     pages.expect("complaints of the key", browser.complaints, [])
 
 
-def looks(pages, browser):
-    """Nothing is wider than a window of 200 pixels; all pictures have names; the page says its name and leads to the project."""
+def looks(pages: Any, browser: Browser) -> None:
+    """Nothing is wider than a window of 200 pixels; all pictures have names; the page says its name and leads to the
+    project."""
     browser.window(200, 500)
     begin(browser)
     pages.expect("what is wider than 200", browser.ask("widest"), 200)
@@ -160,7 +167,7 @@ def looks(pages, browser):
     pages.expect("complaints of looks", browser.complaints, [])
 
 
-def sizes(pages, browser):
+def sizes(pages: Any, browser: Browser) -> None:
     """More nodes than the page makes are told of, and a star of 500 can be seen."""
     begin(browser)
     browser.ask("choose", "#preset", "star")
@@ -175,7 +182,7 @@ def sizes(pages, browser):
     pages.expect("complaints of sizes", browser.complaints, [])
 
 
-def calm(pages, browser):
+def calm(pages: Any, browser: Browser) -> None:
     """Who wants little motion sees none that was not asked for."""
     reduced = {"name": "prefers-reduced-motion", "value": "reduce"}
     browser.call("Emulation.setEmulatedMedia", features=[reduced])
@@ -190,8 +197,9 @@ def calm(pages, browser):
     pages.expect("complaints of calm", browser.complaints, [])
 
 
-def opens(pages, browser):
-    """What the page saves it opens: a script comes back to the same transcript; graph files become networks; all others are refused."""
+def opens(pages: Any, browser: Browser) -> None:
+    """What the page saves it opens: a script comes back to the same transcript; graph files become networks; all
+    others are refused."""
     browser.save_into(pages.folder)
     fresh(browser, "ring", 6, "manne")
     tool(browser, "flag")
@@ -241,8 +249,9 @@ def opens(pages, browser):
     pages.expect("complaints of opening", browser.complaints, [])
 
 
-def reloads(pages, browser):
-    """A reload brings back what stood there, a played transcript too; leaving more than a minute of unsaved work asks."""
+def reloads(pages: Any, browser: Browser) -> None:
+    """A reload brings back what stood there, a played transcript too; leaving more than a minute of unsaved work
+    asks."""
     fresh(browser, "ring", 8, "both", 5)
     browser.click(*edge(browser, 2, 3))
     browser.click(*place(browser, "#run"))
@@ -274,6 +283,9 @@ def reloads(pages, browser):
     browser.click(*place(browser, "#text-copy"))
     waited(browser, "The script is copied.", "text", "#story")
     pages.expect("what is copied is not lost", browser.ask("asksToLeave", 61_000), False)
+    begin(browser)
+    settles(browser)
+    pages.expect("a network that mends itself is no work", browser.ask("asksToLeave", 61_000), False)
     begin(browser, "#script=link+1+2;drive+1+9&nodes=3")
     waited(browser, "own", "value", "#preset")
     tool(browser, "node")
@@ -292,10 +304,20 @@ def reloads(pages, browser):
     browser.click(*place(browser, "#to-lab"))
     waited(browser, TITLE, "title")
     pages.expect("and the network before it", waited(browser, wanted, "script"), wanted)
+    browser.open(pages.write(b"matching hh 2\n1 link 1 2 = ok\n"))
+    browser.click(*place(browser, "#to-lab"))
+    waited(browser, 1, "count", ".graph")
+    browser.reload()
+    pages.expect("a network on a transcript's page", waited(browser, TITLE, "title"), TITLE)
+    browser.click(*place(browser, "#to-transcript"))
+    title = "hh: 2 nodes, 1 entry – Rudekpi"
+    pages.expect("and back to the transcript", waited(browser, title, "title"), title)
+    browser.reload()
+    pages.expect("which a reload keeps", waited(browser, title, "title"), title)
     pages.expect("complaints of reloads", browser.complaints, [])
 
 
-def redoes(pages, browser):
+def redoes(pages: Any, browser: Browser) -> None:
     """What was taken back is done again, line for line, until another act comes between."""
     fresh(browser, "grid", 9)
     pages.expect("nothing to do again", browser.ask("isDisabled", "#redo"), True)
@@ -315,12 +337,22 @@ def redoes(pages, browser):
         pages.expect("done again", browser.ask("scriptNow"), script)
     agrees(pages, browser, "what was done again")
     browser.click(*place(browser, "#undo"))
+    pages.expect("and taken back once more", browser.ask("scriptNow"), scripts[1])
+    browser.key("y", "KeyY", 89, "y")
+    browser.click(*place(browser, "#undo"))
     browser.click(*edge(browser, 5, 6))
     pages.expect("another act ends it", waited(browser, True, "isDisabled", "#redo"), True)
+    before = browser.ask("scriptNow")
+    typed(browser, "\n".join(["link 1 3", *before[1:]]))
+    browser.click(*place(browser, "#text-use"))
+    pages.expect("a script of as many lines", browser.ask("scriptNow")[0], "link 1 3")
+    browser.click(*place(browser, "#undo"))
+    pages.expect("is taken back", browser.ask("scriptNow"), before)
+    agrees(pages, browser, "what a script was before")
     pages.expect("complaints of redo", browser.complaints, [])
 
 
-def wrongs(pages, browser):
+def wrongs(pages: Any, browser: Browser) -> None:
     """A script that is bad is told where it stands, with its line marked; on a phone too."""
     for width, height in [(1280, 900), (360, 740)]:
         browser.window(width, height)
@@ -342,23 +374,23 @@ def wrongs(pages, browser):
     pages.expect("complaints of bad scripts", browser.complaints, [])
 
 
-def pictures(pages, browser):
+def pictures(pages: Any, browser: Browser) -> None:
     """The playground's picture is saved as SVG and PNG, with all names and the heads of arrows."""
     browser.save_into(pages.folder)
     fresh(browser, "path", 5)
     browser.click(*place(browser, "#lab-svg"))
     browser.click(*place(browser, "#lab-png"))
     picture = ElementTree.fromstring(saved(pages.folder, "matching-hh-17-5.svg"))
-    pages.expect("its names", sorted(text.text for text in picture.iter(f"{SVG}text")), ["1", "2", "3", "4", "5"])
+    pages.expect("its names", sorted(text.text or "" for text in picture.iter(f"{SVG}text")), ["1", "2", "3", "4", "5"])
     pages.expect("heads of arrows", len(list(picture.iter(f"{SVG}marker"))), 1)
     title = f"hh: 5 nodes after {len(browser.ask('scriptNow'))} lines of the script"
-    pages.expect("its title", picture.find(f"{SVG}title").text, title)
+    pages.expect("its title", picture.findtext(f"{SVG}title"), title)
     width, _, colours = colours_of(saved(pages.folder, "matching-hh-17-5.png"))
     pages.expect("the PNG", (width >= 1600, colours > 20), (True, True))
     pages.expect("complaints of pictures", browser.complaints, [])
 
 
-def use(pages, browser):
+def use(pages: Any, browser: Browser) -> None:
     """All of it; where one part breaks off, the others go on."""
     for part in [addresses, full, keys, looks, sizes, calm, opens, reloads, redoes, wrongs, pictures]:
         try:

@@ -11,7 +11,7 @@ import statistics
 import sys
 import warnings
 from concurrent.futures import Executor
-from typing import Any, Callable, Iterable, Iterator, Optional, Sequence, TextIO
+from typing import Callable, Iterable, Iterator, Optional, Sequence, TextIO
 
 from . import daemons, json_lines, script_words, shell, streams, sweeps
 from .audits import audit

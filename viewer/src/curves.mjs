@@ -1,5 +1,5 @@
-// Lines of a plot as paths. A line holds each value until the next entry; where many entries share a pixel it is their mean, and
-// a band behind it goes from their least to their greatest.
+// Lines of a plot as paths. A line holds each value until the next entry; where many entries share a pixel it is their
+// mean, and a band behind it goes from their least to their greatest.
 
 // so many pixels has a column that stands for several entries
 const COLUMN = 2;

@@ -29,7 +29,7 @@ function stepsFrom(start, lists) {
 function pivotColumns(lists) {
   const nearest = new Float64Array(lists.length).fill(Infinity);
   const columns = [];
-  for (let pivot = 0; columns.length < Math.min(PIVOTS, lists.length); ) {
+  for (let pivot = 0; columns.length < Math.min(PIVOTS, lists.length);) {
     const steps = stepsFrom(pivot, lists);
     steps.forEach((count, v) => {
       nearest[v] = Math.min(nearest[v], count);
@@ -53,7 +53,8 @@ function centre(columns) {
   const columnMeans = columns.map(mean);
   const rowMeans = columns[0].map((_, v) => mean(columns.map((column) => column[v])));
   const all = mean(columnMeans);
-  columns.forEach((column, at) => column.forEach((value, v) => (column[v] = value - columnMeans[at] - rowMeans[v] + all)));
+  columns.forEach(
+    (column, at) => column.forEach((value, v) => (column[v] = value - columnMeans[at] - rowMeans[v] + all)));
 }
 
 /**
@@ -105,8 +106,8 @@ export function placeByDistance(lists, spacing) {
   const along = (vector, v) => columns.reduce((sum, column, at) => sum + column[v] * vector[at], 0);
   const places = lists.map((_, v) => [along(first, v), along(second, v)]);
   let [total, count] = [0, 0];
-  lists.forEach((list, v) =>
-    list.forEach((w) => {
+  lists.forEach(
+    (list, v) => list.forEach((w) => {
       total += Math.hypot(places[v][0] - places[w][0], places[v][1] - places[w][1]);
       count += 1;
     }),

@@ -1,5 +1,5 @@
 // The network as a drawing: every element keeps its place, and is written anew only where it shows something else.
-import { add } from "./svg.mjs";
+import {add} from "./svg.mjs";
 
 export const MOST_DRAWN = 2000;
 export const RADIUS = 12;
@@ -12,14 +12,19 @@ const ASIDE = 0.5;
 const WIDE = 1.8;
 // so many pixels a unit, and names can be read; nodes grow where there are fewer, as far as their neighbours leave room
 const READABLE = 0.8;
-const SHARE_OF_GAP = 0.42;
+const SHARE_OF_GAP = 0.32;
 const MOST_GROWTH = 2;
 /** @type {Record<string, string>} */
-const MARKS = { update: "U", marry: "M", seduce: "S", abandon: "A" };
+const MARKS = {
+  update: "U",
+  marry: "M",
+  seduce: "S",
+  abandon: "A"
+};
 
 /**
- * Two places round a node where marks hide no pointer: both in the widest angle between its edges where that is wide, else one
- * in the middle of each of the two widest.
+ * Two places round a node where marks hide no pointer: both in the widest angle between its edges where that is wide,
+ * else one in the middle of each of the two widest.
  * @param {number[]} angles
  */
 export function freeAngles(angles) {
@@ -77,7 +82,10 @@ function changedEdge(entry) {
 }
 
 /** @typedef {{ line: SVGElement, classes: string }} KnownEdge */
-/** @typedef {{ group: SVGElement, classes: string, mark: SVGElement | null, letter: SVGElement | null, flag: SVGElement | null }} Shape */
+/**
+ * @typedef {{ group: SVGElement, classes: string, mark: SVGElement | null, letter: SVGElement | null, flag: SVGElement
+ * | null }} Shape
+ */
 
 export class Drawing {
   /**
@@ -100,7 +108,8 @@ export class Drawing {
       this.angles[v].push(angle);
       this.angles[w].push(angle > 0 ? angle - Math.PI : angle + Math.PI);
     }
-    this.layers = Object.fromEntries(["edges", "pairs", "picks", "pointers", "nodes", "changes"].map((name) => [name, add(svg, "g", { class: name })]));
+    this.layers = Object.fromEntries(["edges", "pairs", "picks", "pointers", "nodes", "changes"].map(
+      (name) => [name, add(svg, "g", { class: name })]));
     svg.classList.toggle("dense", edgesEver.length > DENSE * nodes);
     /** @type {Map<number, KnownEdge>} */
     this.edges = new Map();
@@ -118,7 +127,8 @@ export class Drawing {
   }
 
   /**
-   * Enlarges nodes and marks where a unit of the drawing has few pixels, so that their names can be read; returns the factor.
+   * Enlarges nodes and marks where a unit of the drawing has few pixels, so that their names can be read; returns the
+   * factor.
    * @param {number} pixels
    */
   growFor(pixels) {
@@ -154,7 +164,9 @@ export class Drawing {
    */
   makeNode(v) {
     const [x, y] = this.place(v);
-    const group = add(this.layers.nodes, "g", { class: "node", "data-node": v, transform: `translate(${x.toFixed(1)} ${y.toFixed(1)})` });
+    const group = add(
+      this.layers.nodes, "g",
+      { class: "node", "data-node": v, transform: `translate(${x.toFixed(1)} ${y.toFixed(1)})` });
     add(group, "circle", { class: "halo", r: RADIUS + 5 });
     add(group, "circle", { class: "body", r: RADIUS });
     add(group, "text", { class: "name", "font-size": nameSize(v), dy: "0.36em" }, String(v));
@@ -170,7 +182,13 @@ export class Drawing {
     const key = low * 65536 + high;
     if (!this.edges.has(key)) {
       const [[x1, y1], [x2, y2]] = [this.place(low), this.place(high)];
-      const attributes = { "data-ends": `${low}-${high}`, x1: x1.toFixed(1), y1: y1.toFixed(1), x2: x2.toFixed(1), y2: y2.toFixed(1) };
+      const attributes = {
+        "data-ends": `${low}-${high}`,
+        x1: x1.toFixed(1),
+        y1: y1.toFixed(1),
+        x2: x2.toFixed(1),
+        y2: y2.toFixed(1)
+      };
       this.edges.set(key, { line: add(this.layers.edges, "line", attributes), classes: "" });
     }
     return this.edges.get(key);
@@ -227,7 +245,9 @@ export class Drawing {
     add(this.layers.edges, "line", { class: `change ${changed.change}`, x1, y1, x2, y2 });
     const at = { x: (x1 + x2) / 2, y: (y1 + y2) / 2 };
     add(this.layers.changes, "circle", { class: changed.change, cx: at.x, cy: at.y, r: 8 });
-    add(this.layers.changes, "text", { class: changed.change, ...at, dy: "0.36em" }, changed.change === "came" ? "+" : "×");
+    add(
+      this.layers.changes, "text", { class: changed.change, ...at, dy: "0.36em" },
+      changed.change === "came" ? "+" : "×");
   }
 
   /**
@@ -239,13 +259,17 @@ export class Drawing {
     const shape = this.shapes[v];
     const rule = machine.rule[v];
     const flagged = machine.flag[v] === 1;
-    const classes = ["node", !machine.here[v] && "absent", machine.isMarried(v) && "married", rule && "enabled", isLit && "lit", flagged && "flagged"].filter(Boolean).join(" ");
+    const classes = [
+      "node", !machine.here[v] && "absent", machine.isMarried(v) && "married", rule && "enabled", isLit && "lit",
+      flagged && "flagged"
+    ].filter(Boolean).join(" ");
     if (shape.classes !== classes) {
       shape.classes = classes;
       shape.group.setAttribute("class", classes);
     }
     if (flagged && !shape.flag) {
-      shape.flag = add(shape.group, "path", { class: "flag", d: "M-4 8v-15l9 4.5l-9 4.5", transform: this.beside(v, 1) });
+      shape.flag =
+        add(shape.group, "path", { class: "flag", d: "M-4 8v-15l9 4.5l-9 4.5", transform: this.beside(v, 1) });
     }
     if (rule && !shape.mark) {
       shape.mark = add(shape.group, "g", { class: "mark", transform: this.beside(v, 0) });
@@ -282,7 +306,8 @@ export class Drawing {
    * @param {number} target
    */
   point(v, target) {
-    const line = this.pointers.get(v)?.line ?? add(this.layers.pointers, "line", { class: "pointer", "marker-end": "url(#arrow)" });
+    const line = this.pointers.get(v)?.line
+      ?? add(this.layers.pointers, "line", { class: "pointer", "marker-end": "url(#arrow)" });
     const [[x1, y1], [x2, y2]] = [this.place(v), this.place(target)];
     // two nodes that lie at one place have no direction
     const length = Math.hypot(x2 - x1, y2 - y1) || 1;
@@ -303,7 +328,8 @@ export class Drawing {
   countIn(from, to, radius) {
     const { x, y } = this.layout;
     /** @param {number} v */
-    const isIn = (v) => x[v] > from.x - radius && x[v] < to.x + radius && y[v] > from.y - radius && y[v] < to.y + radius;
+    const isIn = (v) =>
+      x[v] > from.x - radius && x[v] < to.x + radius && y[v] > from.y - radius && y[v] < to.y + radius;
     return this.shapes.filter((shape, v) => shape && !shape.classes.includes("absent") && isIn(v)).length;
   }
 

@@ -1,5 +1,5 @@
 // What an entry does to a machine.
-import { movesOf, wordsOf } from "./transcript.mjs";
+import {movesOf, wordsOf} from "./transcript.mjs";
 
 /**
  * Whether an entry changes the state: an accepted edit or fault, or a step.
@@ -40,7 +40,8 @@ function mayMove(machine, { node, rule, target }) {
  */
 function mayStep(machine, moves) {
   const nodes = new Set(moves.map((move) => move.node));
-  return nodes.size === moves.length && (machine.flags || moves.length === 1) && moves.every((move) => mayMove(machine, move));
+  return nodes.size === moves.length && (machine.flags || moves.length === 1)
+    && moves.every((move) => mayMove(machine, move));
 }
 
 /**

@@ -1,5 +1,6 @@
-// What a node or an edge is, in words: its registers, the rule that is enabled there with its guard, and what the charge counts.
-import { counted } from "./numbers.mjs";
+// What a node or an edge is, in words: its registers, the rule that is enabled there with its guard, and what the
+// charge counts.
+import {counted} from "./numbers.mjs";
 
 const MOST_NAMED = 12;
 
@@ -31,7 +32,8 @@ function pointerOf(machine, v) {
   if (w === 0) {
     return "null: it points nowhere";
   }
-  return machine.pointer[w] === v ? `at ${w}, which points back: they are married` : `at ${w}, which does not point back`;
+  return machine.pointer[w] === v ? `at ${w}, which points back: they are married` :
+                                    `at ${w}, which does not point back`;
 }
 
 /**
@@ -53,7 +55,8 @@ function whySeduce(machine, v) {
   if (machine.flags) {
     return `${free}, and ${open.at(-1)} is the highest neighbour above it that points nowhere and has the flag 0`;
   }
-  return `${free}, and ${open.length === 1 ? `its neighbour ${open[0]} points` : `its neighbours ${listed(open)} point`} nowhere too`;
+  return `${free}, and ${
+    open.length === 1 ? `its neighbour ${open[0]} points` : `its neighbours ${listed(open)} point`} nowhere too`;
 }
 
 /**
@@ -102,12 +105,14 @@ function whyQuiet(machine, v) {
     return `it and ${w} point at each other${machine.flags ? ", and its flag is 1" : ""}`;
   }
   if (w !== 0) {
-    return machine.flags ? `it waits for ${w}, which is higher and has the flag 0` : `it waits for ${w}, which points nowhere`;
+    return machine.flags ? `it waits for ${w}, which is higher and has the flag 0` :
+                           `it waits for ${w}, which points nowhere`;
   }
   if (machine.neighbours[v].size === 0) {
     return "it has no neighbour";
   }
-  const wanted = machine.flags ? "no higher neighbour points nowhere and has the flag 0" : "each neighbour points somewhere";
+  const wanted =
+    machine.flags ? "no higher neighbour points nowhere and has the flag 0" : "each neighbour points somewhere";
   return `it points nowhere, nobody points at it, and ${wanted}`;
 }
 
@@ -139,9 +144,13 @@ function openEdgesOf(machine, v) {
  */
 function chargeOfNode(machine, v) {
   const parts = chargesAt(machine, v);
-  const whatFor = parts.length === 1 ? `, for ${parts[0][1]}` : parts.map(([count, part], at) => `${at === 0 ? ": " : ", "}${count} for ${part}`).join("");
+  const whatFor = parts.length === 1 ?
+    `, for ${parts[0][1]}` :
+    parts.map(([count, part], at) => `${at === 0 ? ": " : ", "}${count} for ${part}`).join("");
   const open = openEdgesOf(machine, v);
-  const edges = open.length === 0 ? "" : `; 2 for ${open.length === 1 ? "its open edge" : "each of its open edges"}, to ${listed(open)}`;
+  const edges = open.length === 0 ?
+    "" :
+    `; 2 for ${open.length === 1 ? "its open edge" : "each of its open edges"}, to ${listed(open)}`;
   return `${machine.nodeCharge(v)} here${whatFor}${edges}`;
 }
 
@@ -159,7 +168,9 @@ export function explainNode(machine, v) {
     ["pointer", pointerOf(machine, v)],
     machine.flags && ["flag", String(machine.flag[v])],
     ["pointed at by", suitors.length === 0 ? "nobody" : listed(suitors)],
-    ["neighbours", machine.neighbours[v].size === 0 ? "none" : listed([...machine.neighbours[v]].sort((a, b) => a - b))],
+    [
+      "neighbours", machine.neighbours[v].size === 0 ? "none" : listed([...machine.neighbours[v]].sort((a, b) => a - b))
+    ],
     rule ? [`may ${rule}`, `since ${whyEnabled(machine, v)}`] : ["not enabled", `since ${whyQuiet(machine, v)}`],
     ["charge", chargeOfNode(machine, v)],
   ];
@@ -183,7 +194,8 @@ function whyClosed(machine, low, high) {
     return `${low} points at ${high}, which has the flag 0`;
   }
   const waiting = [[low, high], [high, low]].find(([v, w]) => machine.awaits(v, w));
-  return waiting ? `${waiting[0]} points at ${waiting[1]}, which points nowhere` : "both ends point nowhere, and somebody points at each";
+  return waiting ? `${waiting[0]} points at ${waiting[1]}, which points nowhere` :
+                   "both ends point nowhere, and somebody points at each";
 }
 
 /**
@@ -196,7 +208,8 @@ function whyOpen(machine, low, high) {
     return "neither end is married or waits for the other, and they are not both courted";
   }
   const pointed = machine.pointer[low] === high;
-  return `neither end is married, and ${pointed ? `${high}, at which ${low} points, has the flag 1` : `${low} does not point at ${high}`}`;
+  return `neither end is married, and ${
+    pointed ? `${high}, at which ${low} points, has the flag 1` : `${low} does not point at ${high}`}`;
 }
 
 /**
@@ -205,7 +218,8 @@ function whyOpen(machine, low, high) {
  * @param {number} high
  */
 function alongEdge(machine, low, high) {
-  const along = [[low, high], [high, low]].filter(([v, w]) => machine.pointer[v] === w).map(([v, w]) => `${v} points at ${w}`);
+  const along =
+    [[low, high], [high, low]].filter(([v, w]) => machine.pointer[v] === w).map(([v, w]) => `${v} points at ${w}`);
   return along.length === 0 ? "neither end points along it" : along.join(", and ");
 }
 
@@ -221,7 +235,11 @@ export function explainEdge(machine, low, high) {
   /** @type {([string, string] | false)[]} */
   const rows = [
     ["pointers", alongEdge(machine, low, high)],
-    ["charge", closed ? `0: it is closed, since ${whyClosed(machine, low, high)}` : `2: it is open, since ${whyOpen(machine, low, high)}`],
+    [
+      "charge",
+      closed ? `0: it is closed, since ${whyClosed(machine, low, high)}` :
+               `2: it is open, since ${whyOpen(machine, low, high)}`
+    ],
   ];
   return { heading: `Edge ${low} – ${high}`, rule: null, rows: /** @type {[string, string][]} */ (rows) };
 }
@@ -236,10 +254,16 @@ export function explain(machine, thing) {
   if (thing.node) {
     const { node } = thing;
     if (!machine.here[node]) {
-      return { heading: `Node ${node}`, rule: null, rows: [["absent", `it is none of the ${counted(machine.present, "node")} of this state`]] };
+      return {
+        heading: `Node ${node}`,
+        rule: null,
+        rows: [["absent", `it is none of the ${counted(machine.present, "node")} of this state`]]
+      };
     }
     return explainNode(machine, node);
   }
   const { low, high } = thing;
-  return machine.neighbours[low].has(high) ? explainEdge(machine, low, high) : { heading: `Edge ${low} – ${high}`, rule: null, rows: [["absent", "it is none of the edges of this state"]] };
+  return machine.neighbours[low].has(high) ?
+    explainEdge(machine, low, high) :
+    { heading: `Edge ${low} – ${high}`, rule: null, rows: [["absent", "it is none of the edges of this state"]] };
 }

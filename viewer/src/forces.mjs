@@ -1,5 +1,5 @@
-// Spreads places by forces (Fruchterman and Reingold, 1991): edges pull, and all nodes push one another. Nothing is drawn by
-// chance. Each round looks at every two nodes: with the 2,000 that are drawn at most that is a second in all.
+// Spreads places by forces (Fruchterman and Reingold, 1991): edges pull, and all nodes push one another. Nothing is
+// drawn by chance. Each round looks at every two nodes: with the 2,000 that are drawn at most that is a second in all.
 
 const ROUNDS = 300;
 const PAIRS_IN_ALL = 1e8;

@@ -19,7 +19,8 @@ function spread([one, other]) {
 }
 
 /**
- * What gestures do. `press` comes before a tap or drag, with null where it turns out to be none; `drop` after a drag by one finger.
+ * What gestures do. `press` comes before a tap or drag, with null where it turns out to be none; `drop` after a drag by
+ * one finger.
  * @typedef {object} Handlers
  * @property {(place: Place) => void} hover
  * @property {() => void} leave

@@ -33,8 +33,8 @@ function nearestNode(layout, machine, x, y, within) {
 }
 
 /**
- * The present node at a place, `{ node }`, at most `radius` and `reach` away; else the edge, `{ low, high }`, at most `reach` away;
- * else null. Looks at each node and edge once.
+ * The present node at a place, `{ node }`, at most `radius` and `reach` away; else the edge, `{ low, high }`, at most
+ * `reach` away; else null. Looks at each node and edge once.
  * @param {Layout} layout
  * @param {import("./machine.mjs").Machine} machine
  * @param {number} x

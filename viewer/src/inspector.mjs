@@ -1,7 +1,8 @@
-// What is under the pointer, or was picked by tap, key or number: it is marked in the drawing, and a card tells what it holds.
-import { explain } from "./explain.mjs";
-import { bestBox } from "./placing.mjs";
-import { addText, byId } from "./svg.mjs";
+// What is under the pointer, or was picked by tap, key or number: it is marked in the drawing, and a card tells what it
+// holds.
+import {explain} from "./explain.mjs";
+import {bestBox} from "./placing.mjs";
+import {addText, byId} from "./svg.mjs";
 
 /**
  * @param {Thing} one
@@ -13,8 +14,8 @@ function isSame(one, other) {
 
 export class Inspector {
   /**
-   * `machine()` is the state that is shown. `stage` marks a thing (`pick`) and says where it is seen (`pixelOf`); null where
-   * nothing is drawn.
+   * `machine()` is the state that is shown. `stage` marks a thing (`pick`) and says where it is seen (`pixelOf`); null
+   * where nothing is drawn.
    * @param {() => import("./machine.mjs").Machine} machine
    * @param {import("./stage.mjs").Stage | null} stage
    */
@@ -65,7 +66,8 @@ export class Inspector {
   }
 
   /**
-   * Picks the node by this number of steps farther on among those that are there; where none is picked the first or the last.
+   * Picks the node by this number of steps farther on among those that are there; where none is picked the first or the
+   * last.
    * @param {number} step
    */
   stepNode(step) {
@@ -128,7 +130,8 @@ export class Inspector {
     const card = byId("card");
     const whole = card.parentElement.getBoundingClientRect();
     const size = { width: card.offsetWidth, height: card.offsetHeight };
-    const { left, top } = bestBox(stage.pixelOf(thing), stage.svg.getBoundingClientRect(), size, (box) => stage.shareIn(box));
+    const { left, top } =
+      bestBox(stage.pixelOf(thing), stage.svg.getBoundingClientRect(), size, (box) => stage.shareIn(box));
     card.style.left = `${(left - whole.left).toFixed(0)}px`;
     card.style.top = `${(top - whole.top).toFixed(0)}px`;
   }

@@ -5,7 +5,10 @@
  * @typedef {{ page: Record<string, string>, drawing: Record<string, string> }} Keys
  */
 
-/** What keys do while a transcript is played: those of the whole page, and those of the drawing alone, where it has the focus. */
+/**
+ * What keys do while a transcript is played: those of the whole page, and those of the drawing alone, where it has the
+ * focus.
+ */
 export const PLAYER_KEYS = {
   page: {
     ArrowLeft: "back",
@@ -25,7 +28,7 @@ export const PLAYER_KEYS = {
     e: "edge",
     Escape: "let-go",
   },
-  drawing: { ArrowUp: "node-before", ArrowDown: "node-behind" },
+  drawing: {ArrowUp: "node-before", ArrowDown: "node-behind"},
 };
 
 /** And while a network is in hands. */
@@ -91,7 +94,9 @@ export function listen(actions, keys, signal) {
   const heard = (event) => {
     const name = nameOf(event);
     const action = actions[(onDrawing(event.target) && keys.drawing[name]) || keys.page[name]];
-    if (!action || event.ctrlKey || event.metaKey || event.altKey || takesKey(/** @type {HTMLInputElement} */ (event.target), event.key)) {
+    if (
+      !action || event.ctrlKey || event.metaKey || event.altKey
+      || takesKey(/** @type {HTMLInputElement} */ (event.target), event.key)) {
       return;
     }
     event.preventDefault();

@@ -1,7 +1,7 @@
 // Places for the nodes of a network: a pure function of its nodes and edges, so that a transcript has one drawing.
 // A path or a cycle lies on a ring; any other part is spread by its distances (pivot scaling) and then by forces.
-import { spread } from "./forces.mjs";
-import { placeByDistance } from "./distances.mjs";
+import {spread} from "./forces.mjs";
+import {placeByDistance} from "./distances.mjs";
 
 /**
  * Nodes that hang together, and their places.
@@ -160,7 +160,12 @@ function boxOf(places) {
   const least = (numbers) => numbers.reduce((a, b) => Math.min(a, b));
   /** @param {number[]} numbers */
   const most = (numbers) => numbers.reduce((a, b) => Math.max(a, b));
-  return { left: least(xs), top: least(ys), width: most(xs) - least(xs) + SPACING, height: most(ys) - least(ys) + SPACING };
+  return {
+    left: least(xs),
+    top: least(ys),
+    width: most(xs) - least(xs) + SPACING,
+    height: most(ys) - least(ys) + SPACING
+  };
 }
 
 /**
@@ -168,7 +173,7 @@ function boxOf(places) {
  * @param {Part[]} parts
  */
 function pack(parts) {
-  const boxes = parts.map((part) => ({ ...part, box: boxOf(part.places), at: 0, shift: [0, 0] }));
+  const boxes = parts.map((part) => ({...part, box: boxOf(part.places), at: 0, shift: [0, 0] }));
   boxes.sort((a, b) => b.box.height - a.box.height || a.order[0] - b.order[0]);
   const area = boxes.reduce((sum, { box }) => sum + box.width * box.height, 0);
   const widest = boxes.reduce((most, { box }) => Math.max(most, box.width), 0);
@@ -190,7 +195,8 @@ function pack(parts) {
   const width = rows.reduce((most, row) => Math.max(most, row.x), 0);
   for (const row of rows) {
     for (const part of row.parts) {
-      part.shift = [part.at + (width - row.x) / 2 - part.box.left, row.y + (row.height - part.box.height) / 2 - part.box.top];
+      part.shift =
+        [part.at + (width - row.x) / 2 - part.box.left, row.y + (row.height - part.box.height) / 2 - part.box.top];
     }
   }
   return { boxes, width, height: rows.at(-1).y + rows.at(-1).height };
@@ -218,12 +224,12 @@ export function layOut(nodes, edges) {
 }
 
 /**
- * The same drawing in a box that is not smaller than a page can show well: a smaller one is spread there, so that nodes keep
- * their size and come to stand farther apart.
+ * The same drawing in a box that is not smaller than a page can show well: a smaller one is spread there, so that nodes
+ * keep their size and come to stand farther apart.
  * @param {Layout} layout
  * @returns {Layout}
  */
-export function fill({ x, y, width, height }) {
+export function fill({x, y, width, height}) {
   const wide = width > SPACING ? (LEAST_WIDTH - SPACING) / (width - SPACING) : Infinity;
   const high = height > SPACING ? (LEAST_HEIGHT - SPACING) / (height - SPACING) : Infinity;
   const by = Math.max(1, Math.min(wide, high, MOST_SPREAD));

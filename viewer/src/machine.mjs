@@ -1,8 +1,11 @@
-// The machine of the definitions: a network with its registers, and at each node the rule that is enabled there. Counts are
-// kept with each change, so that a change costs what stands near it, and not what the network holds.
+// The machine of the definitions: a network with its registers, and at each node the rule that is enabled there. Counts
+// are kept with each change, so that a change costs what stands near it, and not what the network holds.
 
 /** The most that a node adds to a bound, and what a rule set does with flags. */
-export const RULE_SETS = { hh: { weight: 1, flags: false }, manne: { weight: 3, flags: true } };
+export const RULE_SETS = {
+  hh: {weight: 1, flags: false},
+  manne: {weight: 3, flags: true}
+};
 
 const NOBODY = 0;
 
@@ -211,8 +214,8 @@ export class Machine {
   }
 
   /**
-   * The nodes whose edges may count otherwise once v points at `target`: v, and a target that is married or courted then and
-   * not before, or the other way round.
+   * The nodes whose edges may count otherwise once v points at `target`: v, and a target that is married or courted
+   * then and not before, or the other way round.
    * @param {number} v
    * @param {number} target
    */
@@ -333,8 +336,9 @@ export class Machine {
    * @param {Move[]} moves
    */
   step(moves) {
-    const writes = moves.map(({ node, rule, target }) =>
-      rule === "update" ? [node, this.pointer[node], this.isMarried(node) ? 1 : 0] : [node, target, this.flag[node]],
+    const writes = moves.map(
+      ({ node, rule, target }) =>
+        rule === "update" ? [node, this.pointer[node], this.isMarried(node) ? 1 : 0] : [node, target, this.flag[node]],
     );
     for (const [node, target, flag] of writes) {
       this.write(node, target, flag);
@@ -344,6 +348,7 @@ export class Machine {
   /** @param {number} spent */
   status(spent) {
     const { present, edgeCount, pairCount, enabledCount, charge } = this;
-    return `nodes=${present} edges=${edgeCount} pairs=${pairCount} enabled=${enabledCount} charge=${charge} spent=${spent}`;
+    return `nodes=${present} edges=${edgeCount} pairs=${pairCount} enabled=${enabledCount} charge=${charge} spent=${
+      spent}`;
   }
 }

@@ -1,18 +1,19 @@
-// Puts the page together: a transcript that stands in it is played; else there is a network to break. What is opened, dropped or
-// pasted is told apart: the engine inside judges a transcript, plays a script, and links a graph.
-import { Playing } from "./playing.mjs";
-import { canRun, Engine } from "./playground/engine.mjs";
-import { forget, keep, kept } from "./playground/keeping.mjs";
-import { LabPage } from "./playground/lab_page.mjs";
-import { listenToFiles } from "./playground/opening.mjs";
-import { kindOf } from "./playground/text_kinds.mjs";
-import { byId, nameWindow } from "./svg.mjs";
+// Puts the page together: a transcript that stands in it is played; else there is a network to break. What is opened,
+// dropped or pasted is told apart: the engine inside judges a transcript, plays a script, and links a graph.
+import {Playing} from "./playing.mjs";
+import {canRun, Engine} from "./playground/engine.mjs";
+import {forget, keep, kept} from "./playground/keeping.mjs";
+import {LabPage} from "./playground/lab_page.mjs";
+import {listenToFiles} from "./playground/opening.mjs";
+import {kindOf} from "./playground/text_kinds.mjs";
+import {byId, nameWindow} from "./svg.mjs";
 
 const LONGEST_SHOWN = 300;
 // so many milliseconds after a change is it kept; larger ones are kept only when the page is left
 const SOON = 400;
 const LARGE = 1 << 20;
-const WITHOUT = "The engine of this page needs 64-bit WebAssembly memory, which this browser lacks: Chrome 133, Edge 133, Firefox 134 and later ones have it. Transcripts can be played here all the same: open one.";
+const WITHOUT =
+  "The engine of this page needs 64-bit WebAssembly memory, which this browser lacks: Chrome 133, Edge 133, Firefox 134 and later ones have it. Transcripts can be played here all the same: open one.";
 
 /** @param {string} id */
 function dataOf(id) {
@@ -37,6 +38,13 @@ class Page {
     this.engine = () => (this.loaded ??= Engine.load(Uint8Array.from(atob(bytes), (letter) => letter.charCodeAt(0))));
     byId("to-lab").hidden = !this.runs;
     byId("to-lab").addEventListener("click", () => this.openLab(null));
+    /**
+     * The transcript that stands in the page, or null.
+     * @type {string | null}
+     */
+    this.embedded = dataOf("transcript");
+    byId("to-transcript").hidden = this.embedded === null;
+    byId("to-transcript").addEventListener("click", () => this.play(this.embedded, dataOf("judge")));
     byId("refusal-close").addEventListener("click", () => this.refuse(null));
     listenToFiles((data, name) => this.open(data, name), (wrong) => this.refuse(wrong));
     addEventListener("pagehide", () => this.keep());
@@ -44,12 +52,11 @@ class Page {
 
   async start() {
     const before = kept();
-    const text = dataOf("transcript");
     if (before?.view === "player" && before.transcript !== null) {
       this.keptLab = before.lab;
       await this.judge(new TextEncoder().encode(before.transcript));
-    } else if (text !== null && before?.view !== "lab") {
-      this.play(text, dataOf("judge"));
+    } else if (this.embedded !== null && before?.view !== "lab") {
+      this.play(this.embedded, dataOf("judge"));
     } else {
       await this.openLab(before?.lab ?? null);
     }
@@ -95,7 +102,8 @@ class Page {
 
   /** @param {Engine} engine */
   labPage(engine) {
-    const lab = new LabPage(engine, (text) => this.judge(new TextEncoder().encode(text)), (wrong) => this.refuse(wrong));
+    const lab =
+      new LabPage(engine, (text) => this.judge(new TextEncoder().encode(text)), (wrong) => this.refuse(wrong));
     lab.play.hasChanged = () => this.keepSoon();
     return lab;
   }
@@ -131,7 +139,9 @@ class Page {
     if (kind === "transcript") {
       await this.judge(bytes);
     } else if (kind === "nothing" || kind === "GraphML") {
-      const said = kind === "nothing" ? "There is nothing in it." : "GraphML and other XML are not read here: save the graph as an edge list, or as node-link JSON.";
+      const said = kind === "nothing" ?
+        "There is nothing in it." :
+        "GraphML and other XML are not read here: save the graph as an edge list, or as node-link JSON.";
       this.refuse({ said, line: "" });
     } else if (!this.runs) {
       this.refuse({ said: WITHOUT, line: "" });
@@ -163,7 +173,10 @@ class Page {
       return;
     }
     const { said, accepted, line } = (await this.engine()).audit(bytes);
-    this.refuse(accepted ? null : { said: `The transcript is refused: ${said}`, line: text.split("\n")[line - 1] || "(there is no such line, or it is empty)" });
+    this.refuse(accepted ? null : {
+      said: `The transcript is refused: ${said}`,
+      line: text.split("\n")[line - 1] || "(there is no such line, or it is empty)"
+    });
     if (accepted) {
       this.opened = text;
       this.play(text, { here: true, verdict: said });

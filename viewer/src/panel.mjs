@@ -1,6 +1,6 @@
 // What stands beside the drawing: the entry with its reply, the entries near it, and the state in numbers.
-import { counted, grouped } from "./numbers.mjs";
-import { byId } from "./svg.mjs";
+import {counted, grouped} from "./numbers.mjs";
+import {byId} from "./svg.mjs";
 
 const NEAR = 3;
 const LONGEST = 400;
@@ -33,7 +33,9 @@ function item(transcript, number, current) {
   const entry = number === transcript.first ? null : transcript.entry(number);
   button.type = "button";
   button.dataset.entry = String(number);
-  button.textContent = entry ? cut(`${entry.number} ${entry.event} = ${entry.reply}`) : transcript.state ? `${number} the base` : `${number} the opening state`;
+  button.textContent = entry ? cut(`${entry.number} ${entry.event} = ${entry.reply}`) :
+    transcript.state ? `${number} the base` :
+                       `${number} the opening state`;
   button.tabIndex = -1;
   made.classList.toggle("refused", Boolean(entry?.refused));
   made.classList.toggle("disturbs", Boolean(entry?.disturbs));
@@ -110,7 +112,10 @@ export class Panel {
     byId("reply").textContent = cut(reply);
     byId("entry").classList.toggle("refused", Boolean(entry?.refused));
     byId("entry").classList.toggle("disturbs", Boolean(entry?.disturbs));
-    byId("kind").textContent = entry?.refused ? "⊘ refused" : entry?.disturbs ? "↯ disturbance" : kind === "base" ? kind : "";
+    byId("kind").textContent = entry?.refused ? "⊘ refused" :
+      entry?.disturbs                         ? "↯ disturbance" :
+      kind === "base"                         ? kind :
+                                                "";
   }
 
   /** @param {number} number */

@@ -1,11 +1,17 @@
 // The drawing as a file of its own, as it is seen: SVG, or PNG that the browser makes of it.
-import { byId } from "./svg.mjs";
+import {byId} from "./svg.mjs";
 
 const TEXT_STYLES = ["fill", "font-size", "font-weight", "font-family", "text-anchor"];
 const SHAPE_STYLES = ["fill", "stroke", "stroke-width", "stroke-dasharray", "stroke-linecap", "opacity"];
 // what an element has where nothing is said
 /** @type {Record<string, string>} */
-const PLAIN = { stroke: "none", "stroke-width": "1px", "stroke-dasharray": "none", "stroke-linecap": "butt", opacity: "1" };
+const PLAIN = {
+  stroke: "none",
+  "stroke-width": "1px",
+  "stroke-dasharray": "none",
+  "stroke-linecap": "butt",
+  opacity: "1"
+};
 const DROPPED = /^(class|tabindex|role|aria-.*|data-.*)$/;
 // a PNG is twice as fine as what is seen, and at least so many pixels wide or high
 const PNG_SCALE = 2;
@@ -95,7 +101,8 @@ export function standalone(svg, title) {
   const [left, top, width, height] = svg.getAttribute("viewBox").split(" ").map(Number);
   const paper = document.createElementNS(svg.namespaceURI, "rect");
   const colour = getComputedStyle(document.body).backgroundColor;
-  Object.entries({ x: left, y: top, width, height, fill: colour }).forEach(([key, value]) => paper.setAttribute(key, String(value)));
+  Object.entries({ x: left, y: top, width, height, fill: colour })
+    .forEach(([key, value]) => paper.setAttribute(key, String(value)));
   const name = document.createElementNS(svg.namespaceURI, "title");
   name.textContent = title;
   made.prepend(name, paper);
@@ -139,7 +146,8 @@ function hand(blob, name) {
  * Lets two buttons save a picture.
  * @param {string} svgButton
  * @param {string} pngButton
- * @param {() => { svg: SVGSVGElement, name: string, title: string }} told the picture, the file's name without its end, and the title
+ * @param {() => { svg: SVGSVGElement, name: string, title: string }} told the picture, the file's name without its end,
+ *   and the title
  */
 export function listenToSaving(svgButton, pngButton, told) {
   byId(svgButton).addEventListener("click", () => {

@@ -33,7 +33,9 @@ function boxes(place, room, { width, height }) {
   const [left, right] = [room.left + BORDER, Math.max(room.left + BORDER, room.right - width - BORDER)];
   const [top, bottom] = [room.top + BORDER, Math.max(room.top + BORDER, room.bottom - height - BORDER)];
   const level = Math.max(top, Math.min(bottom, place.y - height / 3));
-  const beside = [place.x + GAP, place.x - GAP - width].filter((at) => at >= left && at <= right).map((at) => ({ left: at, top: level, width, height }));
+  const beside = [place.x + GAP, place.x - GAP - width]
+                   .filter((at) => at >= left && at <= right)
+                   .map((at) => ({ left: at, top: level, width, height }));
   /**
    * @param {number} from
    * @param {number} to
@@ -42,11 +44,11 @@ function boxes(place, room, { width, height }) {
    */
   const share = (from, to, at, steps) => from + ((to - from) * at) / (steps - 1);
   const over = Array.from({ length: ACROSS * DOWN }, (_, at) => ({
-    left: share(left, right, at % ACROSS, ACROSS),
-    top: share(top, bottom, Math.floor(at / ACROSS), DOWN),
-    width,
-    height,
-  }));
+                                                       left: share(left, right, at % ACROSS, ACROSS),
+                                                       top: share(top, bottom, Math.floor(at / ACROSS), DOWN),
+                                                       width,
+                                                       height,
+                                                     }));
   return [...beside, ...over];
 }
 

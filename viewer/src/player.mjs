@@ -1,6 +1,6 @@
 // Where the page stands in the transcript: slider, buttons, keys, and playing on by itself.
-import { grouped } from "./numbers.mjs";
-import { byId, field } from "./svg.mjs";
+import {grouped} from "./numbers.mjs";
+import {byId, field} from "./svg.mjs";
 
 const FAR = 10;
 

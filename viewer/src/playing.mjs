@@ -1,20 +1,23 @@
 // Plays a transcript: it is replayed, and each part of the page shows the entry that is gone to.
-import { Address } from "./address.mjs";
-import { MOST_DRAWN } from "./drawing.mjs";
-import { Inspector } from "./inspector.mjs";
-import { showJudge } from "./judge.mjs";
-import { listen, PLAYER_KEYS } from "./keys.mjs";
-import { counted, grouped } from "./numbers.mjs";
-import { Panel } from "./panel.mjs";
-import { listenToSaving } from "./picture.mjs";
-import { Player } from "./player.mjs";
-import { plotsOf } from "./plots.mjs";
-import { Replay } from "./replay.mjs";
-import { Stage } from "./stage.mjs";
-import { byId, field, graphic, nameWindow } from "./svg.mjs";
-import { nodesOf, Transcript, TranscriptFault } from "./transcript.mjs";
+import {Address} from "./address.mjs";
+import {MOST_DRAWN} from "./drawing.mjs";
+import {Inspector} from "./inspector.mjs";
+import {showJudge} from "./judge.mjs";
+import {listen, PLAYER_KEYS} from "./keys.mjs";
+import {counted, grouped} from "./numbers.mjs";
+import {Panel} from "./panel.mjs";
+import {listenToSaving} from "./picture.mjs";
+import {Player} from "./player.mjs";
+import {plotsOf} from "./plots.mjs";
+import {Replay} from "./replay.mjs";
+import {Stage} from "./stage.mjs";
+import {byId, field, graphic, nameWindow} from "./svg.mjs";
+import {nodesOf, Transcript, TranscriptFault} from "./transcript.mjs";
 
-const RULE_SET_NAMES = { hh: "Hsu and Huang", manne: "Manne, Mjelde, Pilard and Tixeuil" };
+const RULE_SET_NAMES = {
+  hh: "Hsu and Huang",
+  manne: "Manne, Mjelde, Pilard and Tixeuil"
+};
 // the parts of the page in which a transcript is played
 const PARTS = ["player", "bar"];
 
@@ -41,7 +44,8 @@ function titleOf(transcript) {
 
 /** @param {Transcript} transcript */
 function showTitle(transcript) {
-  byId("title").textContent = `${sizeOf(transcript)}, rules of ${RULE_SET_NAMES[transcript.rules]}${baseOf(transcript)}`;
+  byId("title").textContent =
+    `${sizeOf(transcript)}, rules of ${RULE_SET_NAMES[transcript.rules]}${baseOf(transcript)}`;
   nameWindow(titleOf(transcript));
 }
 
@@ -55,10 +59,11 @@ function stageOf(replay) {
     return new Stage(graphic("graph"), nodes, replay.edgesEver);
   }
   document.body.classList.add("undrawn");
-  byId("undrawn").textContent =
-    nodes === 0
-      ? "No nodes: there is nothing to draw. The plots stand in the drawing's place."
-      : `${grouped(nodes)} nodes: up to ${grouped(MOST_DRAWN)} are drawn. The plots of the whole transcript stand in the drawing's place; a node that is found by its number is told of here.`;
+  byId("undrawn").textContent = nodes === 0 ?
+    "No nodes: there is nothing to draw. The plots stand in the drawing's place." :
+    `${grouped(nodes)} nodes: up to ${
+      grouped(
+        MOST_DRAWN)} are drawn. The plots of the whole transcript stand in the drawing's place; a node that is found by its number is told of here.`;
   return null;
 }
 
@@ -108,7 +113,11 @@ function listenToFinding(nodes, inspector, stage) {
  */
 function pictureOf({ transcript }, number) {
   const { rules, nodes } = transcript;
-  return { svg: graphic("graph"), name: `matching-${rules}-${nodes}-entry-${number}`, title: `${titleOf(transcript)}: after entry ${grouped(number)}` };
+  return {
+    svg: graphic("graph"),
+    name: `matching-${rules}-${nodes}-entry-${number}`,
+    title: `${titleOf(transcript)}: after entry ${grouped(number)}`
+  };
 }
 
 /**
@@ -134,7 +143,7 @@ function play(replay, signal) {
     document.body.dataset.entry = String(number);
   });
   /** @type {Record<string, () => void>} */
-  const actions = { ...drawingActions(stage, inspector), ...player.actions };
+  const actions = {...drawingActions(stage, inspector), ...player.actions };
   ["zoom-in", "zoom-out", "zoom-fit"].forEach((name) => byId(name).addEventListener("click", actions[name]));
   plots.forEach((plot) => plot.draw());
   new ResizeObserver(() => plots.forEach((plot) => plot.draw())).observe(byId("plots"));

@@ -1,14 +1,21 @@
 // Plots over entries: lines, with epochs as bands behind them.
-import { bandPath, columnsOf, meanPath, stepOf, stepPath, strideOf } from "./curves.mjs";
-import { grouped } from "./numbers.mjs";
-import { add, graphic } from "./svg.mjs";
+import {bandPath, columnsOf, meanPath, stepOf, stepPath, strideOf} from "./curves.mjs";
+import {grouped} from "./numbers.mjs";
+import {add, graphic} from "./svg.mjs";
 
-const MARGIN = { left: 52, right: 14, top: 8, bottom: 18 };
+const MARGIN = {
+  left: 52,
+  right: 14,
+  top: 8,
+  bottom: 18
+};
 // epochs narrower than so many pixels are not told apart, and have no bands
 const LEAST_BAND = 2;
 
-/** A line's name, which is its class too, and its value after each entry.
- * @typedef {{ name: string, valueAt: (number: number) => number }} PlotLine */
+/**
+ * A line's name, which is its class too, and its value after each entry.
+ * @typedef {{ name: string, valueAt: (number: number) => number }} PlotLine
+ */
 
 export class Plot {
   /**
@@ -117,13 +124,17 @@ export class Plot {
     for (let value = 0; value <= this.top; value += step) {
       const y = this.yOf(value);
       add(this.svg, "line", { class: "grid", x1: MARGIN.left, x2: this.width - MARGIN.right, y1: y, y2: y });
-      add(this.svg, "text", { class: "tick", x: MARGIN.left - 6, y, dy: "0.35em", "text-anchor": "end" }, grouped(value));
+      add(
+        this.svg, "text", { class: "tick", x: MARGIN.left - 6, y, dy: "0.35em", "text-anchor": "end" }, grouped(value));
     }
     const along = stepOf(Math.max(1, this.length), (this.width - MARGIN.left - MARGIN.right) / 80);
     for (let number = Math.ceil(this.first / along) * along; number <= this.last; number += along) {
       const x = this.xOf(number);
       const anchor = x > this.width - 30 ? "end" : "middle";
-      add(this.svg, "text", { class: "tick", x: anchor === "end" ? this.width - 4 : x, y: this.height - 4, "text-anchor": anchor }, grouped(number));
+      add(
+        this.svg, "text",
+        { class: "tick", x: anchor === "end" ? this.width - 4 : x, y: this.height - 4, "text-anchor": anchor },
+        grouped(number));
     }
   }
 

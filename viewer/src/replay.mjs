@@ -1,7 +1,7 @@
 // Replays a transcript once, keeps what the plots show of every entry, and a snapshot here and there to go back to.
-import { Machine, RULE_SETS } from "./machine.mjs";
-import { carryOut, changes, isPossible } from "./entries.mjs";
-import { movesOf, wordsOf } from "./transcript.mjs";
+import {Machine, RULE_SETS} from "./machine.mjs";
+import {carryOut, changes, isPossible} from "./entries.mjs";
+import {movesOf, wordsOf} from "./transcript.mjs";
 
 const SNAPSHOT_BYTES = 64 << 20;
 const LEAST_SPACING = 200;
@@ -21,7 +21,8 @@ export class Replay {
      * What the plots show, by its name and place.
      * @type {Record<string, Int32Array>}
      */
-    this.series = Object.fromEntries(["charge", "spent", "nodes", "edges", "pairs", "enabled"].map((name) => [name, new Int32Array(places)]));
+    this.series = Object.fromEntries(
+      ["charge", "spent", "nodes", "edges", "pairs", "enabled"].map((name) => [name, new Int32Array(places)]));
     /** @type {number[]} */
     this.disturbances = [];
     // the last entry of each burst: disturbances between which nobody moves
@@ -100,7 +101,8 @@ export class Replay {
   spacing() {
     const { nodes, edgeCount } = this.machine;
     const bytes = 6 * nodes + 8 * edgeCount + 100;
-    return Math.max(LEAST_SPACING, Math.ceil((nodes + edgeCount) / 10), Math.ceil((this.transcript.length * bytes) / SNAPSHOT_BYTES));
+    return Math.max(
+      LEAST_SPACING, Math.ceil((nodes + edgeCount) / 10), Math.ceil((this.transcript.length * bytes) / SNAPSHOT_BYTES));
   }
 
   /**
@@ -151,8 +153,8 @@ export class Replay {
   }
 
   /**
-   * The number of the disturbance that began the epoch of an entry, null where the transcript begins at a base behind it; and
-   * which epoch it is, counted from 1.
+   * The number of the disturbance that began the epoch of an entry, null where the transcript begins at a base behind
+   * it; and which epoch it is, counted from 1.
    * @param {number} number
    */
   epochAt(number) {
@@ -181,8 +183,10 @@ export class Replay {
     return this.burstEnds.findLast((end) => end < number) ?? null;
   }
 
-  /** The entry to open at: the base, or else the first move, so that nobody sees a network before it has its edges. Without moves
-   * it is the end of the first burst. */
+  /**
+   * The entry to open at: the base, or else the first move, so that nobody sees a network before it has its edges.
+   * Without moves it is the end of the first burst.
+   */
   get opening() {
     const { first, state } = this.transcript;
     return state ? first : this.firstMove ?? this.burstEnds[0] ?? first;

@@ -1,9 +1,9 @@
 // The stage: the drawing of a network with its zoom, and the hands on it.
-import { Drawing, RADIUS } from "./drawing.mjs";
-import { Gestures } from "./gestures.mjs";
-import { thingAt } from "./hit.mjs";
-import { fill, layOut } from "./layout.mjs";
-import { Zoom } from "./zoom.mjs";
+import {Drawing, RADIUS} from "./drawing.mjs";
+import {Gestures} from "./gestures.mjs";
+import {thingAt} from "./hit.mjs";
+import {fill, layOut} from "./layout.mjs";
+import {Zoom} from "./zoom.mjs";
 
 // so many pixels from an edge is on it
 const REACH = 7;
@@ -89,7 +89,8 @@ export class Stage {
    * @param {Box} box
    */
   shareIn({ left, top, width, height }) {
-    const [from, to] = [this.zoom.placeAt({ x: left, y: top }), this.zoom.placeAt({ x: left + width, y: top + height })];
+    const [from, to] =
+      [this.zoom.placeAt({ x: left, y: top }), this.zoom.placeAt({ x: left + width, y: top + height })];
     return this.drawing.countIn(from, to, RADIUS) / this.drawing.nodes;
   }
 

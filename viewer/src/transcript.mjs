@@ -1,5 +1,5 @@
-// Reads a transcript. `console audit` has judged what it says; that each line has the form of one is looked at here once more,
-// so that any text at all is either a transcript or a fault with its line.
+// Reads a transcript. `console audit` has judged what it says; that each line has the form of one is looked at here
+// once more, so that any text at all is either a transcript or a fault with its line.
 
 const CHANGES = new Set(["link", "unlink", "point", "flag", "join", "leave"]);
 const MOST_NAMES = 65535;
@@ -67,8 +67,8 @@ export function movesOf(entry) {
 }
 
 /**
- * The nodes that an entry speaks of: the ends of an edge, whose register a fault wrote, who came or went, who moved, who was
- * asked about.
+ * The nodes that an entry speaks of: the ends of an edge, whose register a fault wrote, who came or went, who moved,
+ * who was asked about.
  * @param {Entry} entry
  */
 export function nodesOf(entry) {
@@ -119,7 +119,8 @@ function numbersOf(words, most, text, at) {
 }
 
 /**
- * The base whose lines begin at a place: its numbers, the state that they tell, as a machine loads it, and where they end.
+ * The base whose lines begin at a place: its numbers, the state that they tell, as a machine loads it, and where they
+ * end.
  * @param {string} text
  * @param {number} at
  */
@@ -145,13 +146,25 @@ export function readBase(text, at) {
     ends.push(low, high);
     end += edge.length;
   }
-  return { rules, names, line, number, spent, nodes, end, state: { here, pointers, flags, ends: Int32Array.from(ends) } };
+  return {
+    rules,
+    names,
+    line,
+    number,
+    spent,
+    nodes,
+    end,
+    state: { here, pointers, flags, ends: Int32Array.from(ends) }
+  };
 }
 
-/** A header and entries numbered from 1, or a base and entries numbered behind it: `first` is the number at which it opens, `last`
- * that of its last entry, and `length` how many it has. An entry is read from its line when it is asked for. Names are 1 to `nodes`.
- * Behind a header the first are present at the start, `present` of them; a base has a `state`. `bases` are the lines that tell the
- * numbers of bases, each by the entry behind which it stands. A text that is none is a `TranscriptFault`. */
+/**
+ * A header and entries numbered from 1, or a base and entries numbered behind it: `first` is the number at which it
+ * opens, `last` that of its last entry, and `length` how many it has. An entry is read from its line when it is asked
+ * for. Names are 1 to `nodes`. Behind a header the first are present at the start, `present` of them; a base has a
+ * `state`. `bases` are the lines that tell the numbers of bases, each by the entry behind which it stands. A text that
+ * is none is a `TranscriptFault`.
+ */
 export class Transcript {
   /** @param {string} text */
   constructor(text) {

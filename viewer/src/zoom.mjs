@@ -1,5 +1,5 @@
 // Shows a part of a drawing, which buttons, keys, the wheel and fingers choose.
-import { View } from "./view.mjs";
+import {View} from "./view.mjs";
 
 // names smaller than so many pixels are left out: nobody reads them, and they are what takes time to draw
 const NAME_SIZE = 10;
@@ -12,7 +12,8 @@ export class Zoom {
    * @param {SVGSVGElement} svg
    * @param {number} width
    * @param {number} height
-   * @param {(pixels: number) => number} changed is told whenever another part is seen how many pixels a unit has then, and returns
+   * @param {(pixels: number) => number} changed is told whenever another part is seen how many pixels a unit has then,
+   *   and returns
    *     by which factor nodes are enlarged
    * @param {number} leastName names of fewer pixels are left out
    */

@@ -1,6 +1,6 @@
 // The node that was chosen, in words, with what can be done to it.
-import { explain } from "../explain.mjs";
-import { addText, byId } from "../svg.mjs";
+import {explain} from "../explain.mjs";
+import {addText, byId} from "../svg.mjs";
 
 export class Card {
   /** @param {import("./tools.mjs").Acts} acts */
@@ -13,7 +13,8 @@ export class Card {
     byId("let-go").addEventListener("click", () => acts.choose(null));
     byId("do-move").addEventListener("click", () => acts.move(this.lab, `step ${this.thing.node}`));
     byId("do-free").addEventListener("click", () => acts.disturb(`point ${this.thing.node} -`));
-    byId("do-flag").addEventListener("click", () => acts.disturb(`flag ${this.thing.node} ${1 - this.lab.seen.flag[this.thing.node]}`));
+    byId("do-flag").addEventListener(
+      "click", () => acts.disturb(`flag ${this.thing.node} ${1 - this.lab.seen.flag[this.thing.node]}`));
     byId("do-leave").addEventListener("click", () => acts.disturb(`leave ${this.thing.node}`));
     byId("do-cut").addEventListener("click", () => acts.disturb(`unlink ${this.thing.low} ${this.thing.high}`));
   }

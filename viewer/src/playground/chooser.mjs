@@ -34,8 +34,8 @@ export class Chooser {
   }
 
   /**
-   * Chooses the next link of the node that is chosen, or of the end from which that began. If nothing is chosen, or what is chosen
-   * is gone, it begins at the first node that has a link.
+   * Chooses the next link of the node that is chosen, or of the end from which that began. If nothing is chosen, or
+   * what is chosen is gone, it begins at the first node that has a link.
    * @param {Seen} seen
    */
   turn(seen) {

@@ -1,5 +1,5 @@
-// The engine inside the page: the proved code as a module for a 64-bit WebAssembly memory, called as C calls the library. Where the
-// words of include/rudekpi.h say more, they hold here too.
+// The engine inside the page: the proved code as a module for a 64-bit WebAssembly memory, called as C calls the
+// library. Where the words of include/rudekpi.h say more, they hold here too.
 
 /**
  * The calls of the module: places in its memory are of 64 bits.
@@ -15,11 +15,16 @@
  * @property {(slot: bigint) => void} rudekpi_session_free
  */
 
-const RULES = { hh: 0, manne: 1 };
+const RULES = {
+  hh: 0,
+  manne: 1
+};
 const SLOT_BYTES = 16;
 const VERDICT_BYTES = 32;
-const STATUSES = ["done", "not a command", "the log is full", "memory was refused", "there is no session", "out of range"];
-const VERDICTS = ["accepted", "bad header", "not a transcript line", "out of order", "not the machine's reply", "bad base"];
+const STATUSES =
+  ["done", "not a command", "the log is full", "memory was refused", "there is no session", "out of range"];
+const VERDICTS =
+  ["accepted", "bad header", "not a transcript line", "out of order", "not the machine's reply", "bad base"];
 // a module of nothing but a memory of 64 bits
 const WIDE = Uint8Array.of(0, 97, 115, 109, 1, 0, 0, 0, 5, 3, 1, 4, 0);
 
@@ -101,7 +106,8 @@ export class Engine {
   }
 
   /**
-   * A new network of the names 1 to `names`, the first `present` of which are present. Throws an `EngineFault` if there is none.
+   * A new network of the names 1 to `names`, the first `present` of which are present. Throws an `EngineFault` if there
+   * is none.
    * @param {RuleName} rules
    * @param {number} names
    * @param {number} present
@@ -111,7 +117,8 @@ export class Engine {
   }
 
   /**
-   * What the audit says of a transcript: a line as the program writes it, whether it accepts, and the first wrong line, else 0.
+   * What the audit says of a transcript: a line as the program writes it, whether it accepts, and the first wrong line,
+   * else 0.
    * @param {Uint8Array} bytes
    */
   audit(bytes) {
@@ -124,7 +131,8 @@ export class Engine {
     if (kind >= VERDICTS.length) {
       throw new EngineFault(3);
     }
-    const said = kind === 0 ? `accepted: ${entries} entries, ${epochs} epochs, ${moves} moves` : `line ${line}: ${VERDICTS[kind]}`;
+    const said =
+      kind === 0 ? `accepted: ${entries} entries, ${epochs} epochs, ${moves} moves` : `line ${line}: ${VERDICTS[kind]}`;
     return { said, accepted: kind === 0, line: Number(line) };
   }
 }

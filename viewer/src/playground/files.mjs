@@ -13,8 +13,8 @@ export function save(text, name) {
 }
 
 /**
- * Copies a text and returns whether it is copied. If the browser does not let the page, the field that holds it is selected, for a
- * hand to copy.
+ * Copies a text and returns whether it is copied. If the browser does not let the page, the field that holds it is
+ * selected, for a hand to copy.
  * @param {string} text
  * @param {HTMLInputElement} [field]
  */

@@ -1,7 +1,7 @@
-// Graph files, as the Python client reads them: edge lists, DIMACS, METIS and node-link JSON. A line that is not what its format
-// says is refused with its number: no graph is ever taken for another one.
-import { grouped } from "../numbers.mjs";
-import { MOST_NODES } from "./presets.mjs";
+// Graph files, as the Python client reads them: edge lists, DIMACS, METIS and node-link JSON. A line that is not what
+// its format says is refused with its number: no graph is ever taken for another one.
+import {grouped} from "../numbers.mjs";
+import {MOST_NODES} from "./presets.mjs";
 
 /** More links than this are too many to draw. */
 export const MOST_LINKS = 5000;
@@ -38,7 +38,8 @@ function wrong({ number, text }, why) {
  * @returns {Line[]}
  */
 function linesOf(text, isComment) {
-  const all = text.split(/\r\n|\n|\r/).map((line, at) => ({ number: at + 1, words: line.split(/[ \t]+/).filter(Boolean), text: line }));
+  const all = text.split(/\r\n|\n|\r/)
+                .map((line, at) => ({ number: at + 1, words: line.split(/[ \t]+/).filter(Boolean), text: line }));
   return all.filter(({ words }) => words.length > 0 && !isComment(words));
 }
 
@@ -84,12 +85,15 @@ class Collected {
     this.links.set(low < high ? `${low} ${high}` : `${high} ${low}`, [one, other]);
   }
 
-  /** The network: nodes are numbered in the order of their names if all are numbers, else in that in which they came. */
+  /**
+   * The network: nodes are numbered in the order of their names if all are numbers, else in that in which they came.
+   */
   get network() {
     const names = [...this.names.keys()];
     if (names.length > MOST_NODES || this.links.size > MOST_LINKS) {
       const size = `${grouped(names.length)} nodes and ${grouped(this.links.size)} links`;
-      throw new GraphFault(`it has ${size}, and this page draws ${MOST_NODES} and ${grouped(MOST_LINKS)} at most: the Python client takes it`);
+      throw new GraphFault(`it has ${size}, and this page draws ${MOST_NODES} and ${
+        grouped(MOST_LINKS)} at most: the Python client takes it`);
     }
     const order = names.every((name) => NUMBER.test(name)) ? names.sort((a, b) => Number(a) - Number(b)) : names;
     const numbers = new Map(order.map((name, at) => [name, at + 1]));
@@ -146,7 +150,10 @@ function dimacs(text) {
       }
       found.link(one, other);
     } else {
-      throw wrong(line, nodes === null ? "is no line p edge N M, with which a DIMACS graph begins" : "is no line e A B of a DIMACS graph");
+      throw wrong(
+        line,
+        nodes === null ? "is no line p edge N M, with which a DIMACS graph begins" :
+                         "is no line e A B of a DIMACS graph");
     }
   }
   if (nodes === null) {
@@ -161,7 +168,9 @@ function dimacs(text) {
  */
 function metis(text) {
   const found = new Collected();
-  const lines = text.replace(/(\r?\n)+$/, "").split(/\r?\n/).map((line, at) => ({ number: at + 1, words: line.split(/[ \t]+/).filter(Boolean), text: line }));
+  const lines = text.replace(/(\r?\n)+$/, "")
+                  .split(/\r?\n/)
+                  .map((line, at) => ({ number: at + 1, words: line.split(/[ \t]+/).filter(Boolean), text: line }));
   const [head, ...rest] = lines.filter(({ words }) => !words[0]?.startsWith("%"));
   if (head.words.length < 2 || head.words.length > 3 || !/^0*$/.test(head.words[2] ?? "")) {
     throw wrong(head, "is no line N M, with which a METIS graph without weights begins");
@@ -174,8 +183,8 @@ function metis(text) {
   if (further) {
     throw wrong(further, `comes after the lines of all ${nodes} nodes`);
   }
-  own.forEach((line, at) =>
-    line.words.forEach((word) => {
+  own.forEach(
+    (line, at) => line.words.forEach((word) => {
       const other = String(numberIn(line, word, 1, nodes, "a neighbour"));
       if (other === String(at + 1)) {
         throw wrong(line, "links a node with itself");
@@ -196,7 +205,8 @@ function metis(text) {
  */
 function jsonName(name, what) {
   if (typeof name !== "string" && !Number.isSafeInteger(name)) {
-    throw new GraphFault(`${what} has no name that is a text or a whole number: ${JSON.stringify(name) ?? "none"}`.slice(0, 200));
+    throw new GraphFault(
+      `${what} has no name that is a text or a whole number: ${JSON.stringify(name) ?? "none"}`.slice(0, 200));
   }
   // the text "1" and the number 1 are two names
   return typeof name === "string" && NUMBER.test(name) ? `"${name}"` : String(name);
@@ -218,7 +228,8 @@ function nodeLink(text) {
     throw new GraphFault("node-link JSON has a list of nodes, and a list of links or edges");
   }
   if ((told.directed ?? false) !== false || (told.multigraph ?? false) !== false) {
-    throw new GraphFault(`it is told to be a ${told.directed ? "directed graph" : "multigraph"}, and a network's links are neither`);
+    throw new GraphFault(
+      `it is told to be a ${told.directed ? "directed graph" : "multigraph"}, and a network's links are neither`);
   }
   const found = new Collected();
   for (const [at, node] of told.nodes.entries()) {
@@ -231,20 +242,26 @@ function nodeLink(text) {
   for (const [at, link] of links.entries()) {
     const [one, other] = [jsonName(link?.source, `link ${at + 1}`), jsonName(link?.target, `link ${at + 1}`)];
     if (!found.names.has(one) || !found.names.has(other) || one === other) {
-      throw new GraphFault(`link ${at + 1}, of ${one} and ${other}, ${one === other ? "links a node with itself" : "names a node that is not there"}`);
+      throw new GraphFault(`link ${at + 1}, of ${one} and ${other}, ${
+        one === other ? "links a node with itself" : "names a node that is not there"}`);
     }
     found.link(one, other);
   }
   return found.network;
 }
 
-const READERS = { "edge list": edgeList, "DIMACS graph": dimacs, "METIS graph": metis, "node-link graph": nodeLink };
+const READERS = {
+  "edge list": edgeList,
+  "DIMACS graph": dimacs,
+  "METIS graph": metis,
+  "node-link graph": nodeLink
+};
 
 /** @typedef {keyof typeof READERS} GraphFormat */
 
 /**
- * The network of a graph file: how many nodes it has, its links, and whether its names gave way to numbers. Throws a `GraphFault`
- * if the text is none of its format, or too large to draw.
+ * The network of a graph file: how many nodes it has, its links, and whether its names gave way to numbers. Throws a
+ * `GraphFault` if the text is none of its format, or too large to draw.
  * @param {string} text
  * @param {GraphFormat} format
  */

@@ -2,7 +2,10 @@
 
 const VERSION = 1;
 
-/** @typedef {{ plan: Plan, places: Size & { x: number[], y: number[] }, placeless: number[], at: number, source: import("./lab_page.mjs").Source | null, preset: string, size: string, seed: string, daemonSeed: number }} KeptLab */
+/**
+ * @typedef {{ plan: Plan, places: Size & { x: number[], y: number[] }, placeless: number[], at: number, source:
+ * import("./sources.mjs").Source | null, preset: string, size: string, seed: string, daemonSeed: number }} KeptLab
+ */
 /** @typedef {{ version: number, hash: string, view: string, lab: KeptLab | null, transcript: string | null }} Kept */
 
 function key() {

@@ -1,8 +1,8 @@
-// A network in hands: its script so far, the transcript that the engine writes of it, and its state. A second session goes
-// along, so that the questions that the page asks for its picture stand in no transcript.
-import { grouped } from "../numbers.mjs";
-import { EngineFault } from "./engine.mjs";
-import { Seen } from "./seen.mjs";
+// A network in hands: its script so far, the transcript that the engine writes of it, and its state. A second session
+// goes along, so that the questions that the page asks for its picture stand in no transcript.
+import {grouped} from "../numbers.mjs";
+import {EngineFault} from "./engine.mjs";
+import {Seen} from "./seen.mjs";
 
 /** @typedef {import("./engine.mjs").Engine} Engine */
 /** @typedef {import("./engine.mjs").Session} Session */
@@ -61,8 +61,8 @@ export class Lab {
   }
 
   /**
-   * Carries out a line and returns the text of its entries. Throws a `BadLine`, and changes nothing, if it is no command or if
-   * it would make more than this page holds.
+   * Carries out a line and returns the text of its entries. Throws a `BadLine`, and changes nothing, if it is no
+   * command or if it would make more than this page holds.
    * @param {string} line
    */
   feed(line) {
@@ -87,10 +87,14 @@ export class Lab {
   admit(line) {
     const [, faults] = /^scramble \d+ (\d+)$/.exec(line) ?? [];
     if (Number(faults) > MOST_FAULTS) {
-      throw this.bad(line, `writes more than ${grouped(MOST_FAULTS)} registers, which this page takes at once (console run takes them)`);
+      throw this.bad(
+        line,
+        `writes more than ${grouped(MOST_FAULTS)} registers, which this page takes at once (console run takes them)`);
     }
     if (this.size > MOST_TEXT) {
-      throw this.bad(line, `comes after ${grouped(MOST_TEXT)} characters of transcript, and this page holds no more (console run does)`);
+      throw this.bad(
+        line,
+        `comes after ${grouped(MOST_TEXT)} characters of transcript, and this page holds no more (console run does)`);
     }
   }
 
@@ -135,7 +139,8 @@ export class Lab {
 
   /** All edges that the engine ever accepted, each once. */
   get linksEver() {
-    const made = [...this.transcript.matchAll(/^\d+ link (\d+) (\d+) = ok$/gm)].map(([, v, w]) => [Number(v), Number(w)].sort((a, b) => a - b));
+    const made = [...this.transcript.matchAll(/^\d+ link (\d+) (\d+) = ok$/gm)].map(
+      ([, v, w]) => [Number(v), Number(w)].sort((a, b) => a - b));
     return [...new Map(made.map(([v, w]) => [v * 65536 + w, /** @type {Link} */ ([v, w])])).values()];
   }
 

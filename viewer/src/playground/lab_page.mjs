@@ -1,21 +1,15 @@
-// The playground's buttons, fields and keys, and what it begins with: what was there before a reload, the script of the address, or
-// a small network.
-import { LAB_KEYS, listen } from "../keys.mjs";
-import { counted, grouped } from "../numbers.mjs";
-import { listenToSaving } from "../picture.mjs";
-import { byId, field } from "../svg.mjs";
-import { EngineFault } from "./engine.mjs";
-import { GraphFault, readGraph } from "./graph_files.mjs";
-import { BadLine, Lab } from "./lab.mjs";
-import { Playground } from "./playground.mjs";
-import { MOST_NODES, PRESETS, presetOf } from "./presets.mjs";
-import { AddressFault, MOST_NAMES, namesIn, readAddress } from "./sharing.mjs";
-import { networkOfName } from "./text_kinds.mjs";
-import { linesOf, renumbered } from "./texts.mjs";
-import { TOOLS } from "./tools.mjs";
+// The playground's buttons, fields and keys, and what it begins with: what was there before a reload, the script of the
+// address, or a small network.
+import {LAB_KEYS, listen} from "../keys.mjs";
+import {counted} from "../numbers.mjs";
+import {listenToSaving} from "../picture.mjs";
+import {byId, field} from "../svg.mjs";
+import {Playground} from "./playground.mjs";
+import {MOST_NODES, PRESETS, presetOf} from "./presets.mjs";
+import {readAddress} from "./sharing.mjs";
+import {isTold, SPARE, sourceOf, tryOut} from "./sources.mjs";
+import {TOOLS} from "./tools.mjs";
 
-// so many further names may join
-const SPARE = 12;
 const NEARER = 1.4;
 // so many units does a key move a node
 const STRIDE = 12;
@@ -23,14 +17,8 @@ const STRIDE = 12;
 const OWN = "own";
 
 /** @typedef {import("./keeping.mjs").KeptLab} KeptLab */
-/**
- * A script or graph that was opened: each rule set plays its lines.
- * @typedef {Network & { names: number, present: number, lines: string[], title: string }} Source
- */
+/** @typedef {import("./sources.mjs").Source} Source */
 /** @typedef {import("./tools.mjs").ToolName} ToolName */
-/** @typedef {import("./graph_files.mjs").GraphFormat} GraphFormat */
-/** A source with the numbers of its lines in their text, the rules that play them, and what is said then.
- * @typedef {{ source: Source, numbers: number[], rules: RuleName[], said: string }} Opened */
 
 function isCalm() {
   return matchMedia("(prefers-reduced-motion: reduce)").matches;
@@ -74,8 +62,10 @@ export class LabPage {
       this.openPreset();
     });
     ["size", "seed"].forEach((id) => field(id).addEventListener("change", () => this.openPreset()));
-    field("rules").addEventListener("change", () => (this.source ? this.openSource(this.source, this.rules) : this.openPreset()));
-    field("which").addEventListener("change", () => this.play.turnTo(this.play.labs.findIndex((lab) => lab.rules === field("which").value)));
+    field("rules").addEventListener(
+      "change", () => (this.source ? this.openSource(this.source, this.rules) : this.openPreset()));
+    field("which").addEventListener(
+      "change", () => this.play.turnTo(this.play.labs.findIndex((lab) => lab.rules === field("which").value)));
     for (const button of toolButtons()) {
       button.addEventListener("click", () => this.take(/** @type {ToolName} */ (button.dataset.tool)));
     }
@@ -83,22 +73,23 @@ export class LabPage {
 
   listenToMoves() {
     const { play } = this;
-    byId("run").addEventListener("click", () => play.run(!play.runner.on));
-    byId("step").addEventListener("click", () => play.stepNow());
-    byId("scramble").addEventListener("click", () => play.scramble());
+    byId("run").addEventListener("click", () => play.daemon.run(!play.daemon.runner.on));
+    byId("step").addEventListener("click", () => play.daemon.stepNow());
+    byId("scramble").addEventListener("click", () => play.daemon.scramble());
     byId("undo").addEventListener("click", () => play.undo());
     byId("redo").addEventListener("click", () => play.redo());
-    field("pace").addEventListener("change", () => (play.runner.speed = Number(field("pace").value)));
+    field("pace").addEventListener("change", () => (play.daemon.runner.speed = Number(field("pace").value)));
     /** @param {(zoom: import("../zoom.mjs").Zoom) => void} by */
     const zoom = (by) => play.panes.forEach((pane) => by(pane.zoom));
     byId("nearer").addEventListener("click", () => zoom((it) => it.by(NEARER)));
     byId("farther").addEventListener("click", () => zoom((it) => it.by(1 / NEARER)));
     byId("whole").addEventListener("click", () => zoom((it) => it.fit()));
     listenToSaving("lab-svg", "lab-png", () => ({
-      svg: play.panes[play.at].svg,
-      name: play.lab.fileName,
-      title: `${play.lab.rules}: ${counted(play.lab.seen.present, "node")} after ${counted(play.lab.lines.length, "line")} of the script`,
-    }));
+                                           svg: play.panes[play.at].svg,
+                                           name: play.lab.fileName,
+                                           title: `${play.lab.rules}: ${counted(play.lab.seen.present, "node")} after ${
+                                             counted(play.lab.lines.length, "line")} of the script`,
+                                         }));
   }
 
   /**
@@ -160,7 +151,7 @@ export class LabPage {
   }
 
   leave() {
-    this.play.run(false);
+    this.play.daemon.run(false);
     this.ended?.abort();
   }
 
@@ -170,7 +161,8 @@ export class LabPage {
     this.play.chooser.choose(null);
     document.body.dataset.tool = name;
     const finger = matchMedia("(pointer: coarse)").matches;
-    byId("hint").textContent = finger ? TOOLS[name].hint.replace("Click", "Tap").replaceAll("click", "tap") : TOOLS[name].hint;
+    byId("hint").textContent =
+      finger ? TOOLS[name].hint.replace("Click", "Tap").replaceAll("click", "tap") : TOOLS[name].hint;
     toolButtons().forEach((button) => button.setAttribute("aria-pressed", String(button.dataset.tool === name)));
   }
 
@@ -186,10 +178,11 @@ export class LabPage {
     const network = presetOf(field("preset").value, nodes, Number(field("seed").value));
     const lines = network.links.map(([v, w]) => `link ${v} ${w}`);
     this.source = null;
-    this.play.open({ ...network, names: nodes + SPARE, present: nodes, labs: this.rules.map((rules) => ({ rules, lines })) });
+    this.play.open(
+      {...network, names: nodes + SPARE, present: nodes, labs: this.rules.map((rules) => ({ rules, lines })) });
     this.showChoice(nodes);
     this.sayChoice(wanted === nodes ? "" : `A network to begin with has 2 to ${MOST_NODES} nodes: here are ${nodes}.`);
-    this.play.run(!isCalm());
+    this.play.daemon.run(!isCalm());
   }
 
   /**
@@ -220,11 +213,11 @@ export class LabPage {
    * @param {RuleName[]} rules
    */
   openSource(source, rules) {
-    this.play.open({ ...source, labs: rules.map((name) => ({ rules: name, lines: source.lines })) });
+    this.play.open({...source, labs: rules.map((name) => ({ rules: name, lines: source.lines })) });
     this.source = source;
     this.showChoice(source.present);
     this.sayChoice("");
-    this.play.run(false);
+    this.play.daemon.run(false);
   }
 
   /**
@@ -236,66 +229,20 @@ export class LabPage {
    */
   openText(text, name, kind, enter) {
     try {
-      const opened = kind === "script" ? this.readScript(text, name) : this.readGraph(text, name, /** @type {GraphFormat} */ (kind));
-      this.tryOut(opened);
+      const opened = sourceOf(text, name, kind, this.rules);
+      tryOut(this.engine, opened);
       enter();
       this.openSource(opened.source, opened.rules);
       this.refuse(null);
-      this.play.run(kind !== "script" && !isCalm());
+      this.play.daemon.run(kind !== "script" && !isCalm());
       this.play.story.say(opened.said);
     } catch (wrong) {
       if (!isTold(wrong)) {
         throw wrong;
       }
-      this.refuse({ said: `The ${kind} ${name === "" ? "" : `${name} `}is refused: ${wrong.message}.`, line: wrong.text ?? "" });
+      this.refuse(
+        { said: `The ${kind} ${name === "" ? "" : `${name} `}is refused: ${wrong.message}.`, line: wrong.text ?? "" });
     }
-  }
-
-  /**
-   * Throws a `BadLine`, with its number in the text, if a script can't be played.
-   * @param {Opened} opened
-   */
-  tryOut({ source, rules, numbers }) {
-    const { names, present } = source;
-    const lab = new Lab(this.engine, { rules: rules[0], names, present });
-    try {
-      lab.replay(source.lines);
-    } catch (wrong) {
-      throw wrong instanceof BadLine ? renumbered(wrong, numbers) : wrong;
-    } finally {
-      lab.free();
-    }
-  }
-
-  /**
-   * @param {string} text
-   * @param {string} name
-   * @returns {Opened}
-   */
-  readScript(text, name) {
-    const { lines, numbers } = linesOf(text);
-    const told = networkOfName(name);
-    const names = told?.names ?? namesIn(lines);
-    if (names > MOST_NAMES) {
-      throw new GraphFault(`it is for nodes of ${grouped(names)} names, and this page draws ${MOST_NAMES} at most (console run takes it)`);
-    }
-    const present = Math.min(names, told?.present ?? names);
-    const source = { names, present, nodes: names, lines, title: name === "" ? "a pasted script" : name };
-    return { source, numbers, rules: told ? [told.rules] : this.rules, said: `Opened: a script of ${counted(lines.length, "line")}.` };
-  }
-
-  /**
-   * @param {string} text
-   * @param {string} name
-   * @param {GraphFormat} format
-   * @returns {Opened}
-   */
-  readGraph(text, name, format) {
-    const { nodes, links, renamed } = readGraph(text, format);
-    const lines = links.map(([v, w]) => `link ${v} ${w}`);
-    const source = { nodes, links, names: nodes + SPARE, present: nodes, lines, title: name === "" ? `a pasted ${format}` : name };
-    const numbered = renamed ? ". Its nodes are numbered from 1 here, in the order of their names" : "";
-    return { source, numbers: [], rules: this.rules, said: `Opened: the ${format} has ${counted(nodes, "node")} and ${counted(links.length, "link")}${numbered}.` };
   }
 
   /** Plays the script of the address, if it holds one. */
@@ -311,7 +258,8 @@ export class LabPage {
       if (!isTold(wrong)) {
         throw wrong;
       }
-      this.refuse({ said: `The address holds no script that can be played: ${wrong.message}.`, line: wrong.text ?? "" });
+      this.refuse(
+        { said: `The address holds no script that can be played: ${wrong.message}.`, line: wrong.text ?? "" });
     }
   }
 
@@ -321,9 +269,19 @@ export class LabPage {
    */
   get state() {
     const { layout, ...plan } = this.play.plan;
-    const places = { ...layout, x: [...layout.x], y: [...layout.y] };
-    const { at, seed: daemonSeed } = this.play;
-    return { plan, places, placeless: [...this.play.placeless], at, source: this.source, preset: field("preset").value, size: field("size").value, seed: field("seed").value, daemonSeed };
+    const places = {...layout, x: [...layout.x], y: [...layout.y] };
+    const { at, daemon: { seed: daemonSeed } } = this.play;
+    return {
+      plan,
+      places,
+      placeless: [...this.play.placeless],
+      at,
+      source: this.source,
+      preset: field("preset").value,
+      size: field("size").value,
+      seed: field("seed").value,
+      daemonSeed
+    };
   }
 
   /**
@@ -333,16 +291,16 @@ export class LabPage {
   restore(kept) {
     try {
       const { plan, places } = kept;
-      const layout = { ...places, x: Float64Array.from(places.x), y: Float64Array.from(places.y) };
+      const layout = {...places, x: Float64Array.from(places.x), y: Float64Array.from(places.y) };
       this.source = kept.source;
-      this.play.open({ ...plan, layout });
+      this.play.open({...plan, layout });
       this.play.placeless = new Set(kept.placeless);
-      this.play.seed = kept.daemonSeed;
+      this.play.daemon.seed = kept.daemonSeed;
       field("preset").value = kept.preset;
       field("seed").value = kept.seed;
       this.showChoice(Number(kept.size));
       this.play.turnTo(kept.at);
-      this.play.run(false);
+      this.play.daemon.run(false);
       this.play.draw();
       this.play.story.say("Here is what stood on the page before it was loaded again.");
       return true;
@@ -356,13 +314,7 @@ export class LabPage {
 
 /** @returns {HTMLButtonElement[]} */
 function toolButtons() {
-  return [...document.querySelectorAll("[data-tool]")].filter((button) => button instanceof HTMLButtonElement).map((button) => /** @type {HTMLButtonElement} */ (button));
-}
-
-/**
- * Whether somebody who opened a text is told of this.
- * @param {unknown} wrong
- */
-function isTold(wrong) {
-  return wrong instanceof AddressFault || wrong instanceof BadLine || wrong instanceof GraphFault || wrong instanceof EngineFault;
+  return [...document.querySelectorAll("[data-tool]")]
+    .filter((button) => button instanceof HTMLButtonElement)
+    .map((button) => /** @type {HTMLButtonElement} */ (button));
 }

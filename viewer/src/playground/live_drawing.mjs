@@ -1,6 +1,6 @@
 // The drawing of a network whose nodes are moved by hand and whose edges come and go.
-import { Drawing } from "../drawing.mjs";
-import { add } from "../svg.mjs";
+import {Drawing} from "../drawing.mjs";
+import {add} from "../svg.mjs";
 
 export class LiveDrawing extends Drawing {
   /**
@@ -112,7 +112,9 @@ export class LiveDrawing extends Drawing {
     this.band.classList.toggle("drawn", place !== null);
     if (place !== null) {
       const [x1, y1] = this.place(node);
-      Object.entries({ x1, y1, x2: place.x, y2: place.y }).forEach(([key, value]) => this.band.setAttribute(key, String(value)));
+      Object.entries({ x1, y1, x2: place.x, y2: place.y }).forEach(([
+                                                                     key, value
+                                                                   ]) => this.band.setAttribute(key, String(value)));
     }
   }
 

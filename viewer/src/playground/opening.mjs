@@ -1,5 +1,5 @@
 // Files that are dropped on the page or chosen, and texts that are pasted.
-import { byId } from "../svg.mjs";
+import {byId} from "../svg.mjs";
 
 /** Larger files are refused before they are read. */
 export const MOST_BYTES = 1 << 26;
@@ -21,7 +21,10 @@ export function listenToFiles(open, refuse) {
       return;
     }
     if (file.size > MOST_BYTES) {
-      refuse({ said: `${file.name} has ${Math.ceil(file.size / 1e6)} MB, and this page opens ${MOST_BYTES >> 20} MB at most.`, line: "" });
+      refuse({
+        said: `${file.name} has ${Math.ceil(file.size / 1e6)} MB, and this page opens ${MOST_BYTES >> 20} MB at most.`,
+        line: ""
+      });
       return;
     }
     try {

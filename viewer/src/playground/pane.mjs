@@ -1,20 +1,23 @@
 // One network of the page: its picture with the hands on it, and its charge under its bound.
-import { RADIUS } from "../drawing.mjs";
-import { Gestures } from "../gestures.mjs";
-import { thingAt } from "../hit.mjs";
-import { counted, grouped } from "../numbers.mjs";
-import { byId } from "../svg.mjs";
-import { Zoom } from "../zoom.mjs";
-import { LiveDrawing } from "./live_drawing.mjs";
-import { frame } from "./places.mjs";
-import { Trace } from "./trace.mjs";
+import {RADIUS} from "../drawing.mjs";
+import {Gestures} from "../gestures.mjs";
+import {thingAt} from "../hit.mjs";
+import {counted, grouped} from "../numbers.mjs";
+import {byId} from "../svg.mjs";
+import {Zoom} from "../zoom.mjs";
+import {LiveDrawing} from "./live_drawing.mjs";
+import {frame} from "./places.mjs";
+import {Trace} from "./trace.mjs";
 
 // so many pixels from an edge is on it, for a mouse and for a finger
 const REACH = 8;
 const FINGER_REACH = 18;
 // names of fewer pixels are left out here, as they take longer to draw than all else
 const LEAST_NAME = 7;
-const RULE_SET_NAMES = { hh: "rules of Hsu and Huang", manne: "rules of Manne and others" };
+const RULE_SET_NAMES = {
+  hh: "rules of Hsu and Huang",
+  manne: "rules of Manne and others"
+};
 
 /**
  * What hands do in a picture. `draws` says whether a drag draws a line from a node, and does not move it.
@@ -34,7 +37,8 @@ export class Pane {
    */
   constructor(lab, layout, hands) {
     const template = /** @type {HTMLTemplateElement} */ (byId("pane"));
-    const root = /** @type {HTMLElement} */ (/** @type {Element} */ (template.content.cloneNode(true)).firstElementChild);
+    const root =
+      /** @type {HTMLElement} */ (/** @type {Element} */ (template.content.cloneNode(true)).firstElementChild);
     this.lab = lab;
     this.layout = layout;
     this.hands = hands;
@@ -75,7 +79,9 @@ export class Pane {
    */
   under(place) {
     const { x, y } = this.zoom.placeAt(place);
-    return thingAt(this.layout, this.lab.seen, x, y, RADIUS * this.drawing.growth, (place.finger ? FINGER_REACH : REACH) * this.zoom.unit);
+    return thingAt(
+      this.layout, this.lab.seen, x, y, RADIUS * this.drawing.growth,
+      (place.finger ? FINGER_REACH : REACH) * this.zoom.unit);
   }
 
   /**
@@ -113,7 +119,8 @@ export class Pane {
     this.drawing.show(seen, entry, lit);
     this.meter();
     const quiet = seen.enabledCount === 0;
-    this.parts.state.textContent = quiet ? `✓ stable, ${counted(seen.pairCount, "pair")}` : `${grouped(seen.enabledCount)} may move`;
+    this.parts.state.textContent =
+      quiet ? `✓ stable, ${counted(seen.pairCount, "pair")}` : `${grouped(seen.enabledCount)} may move`;
     this.parts.state.classList.toggle("stable", quiet);
   }
 

@@ -1,8 +1,10 @@
 // What can be taken back and done again: where the scripts of all labs stood before each act.
 
 /** @typedef {import("./lab.mjs").Lab} Lab */
-/** For each lab the number of lines that stayed, or all its lines if the act changed earlier ones.
- * @typedef {(number | string[])[]} Point */
+/**
+ * For each lab the number of lines that stayed, or all its lines if the act changed earlier ones.
+ * @typedef {(number | string[])[]} Point
+ */
 
 export class Past {
   constructor() {
@@ -13,6 +15,7 @@ export class Past {
      * @type {{ point: Point, lines: string[][] }[]}
      */
     this.undone = [];
+    this.before = this.undone;
   }
 
   /**
@@ -22,12 +25,14 @@ export class Past {
    */
   remember(labs, whole = false) {
     this.acts.push(labs.map((lab) => (whole ? lab.lines.slice() : lab.lines.length)));
+    this.before = this.undone;
     this.undone = [];
   }
 
-  /** Forgets an act that came to nothing. */
+  /** Forgets the act that was remembered last, since it came to nothing. */
   forget() {
     this.acts.pop();
+    this.undone = this.before;
   }
 
   /**
@@ -39,7 +44,12 @@ export class Past {
     if (!point) {
       return null;
     }
-    this.undone.push({ point, lines: labs.map(({ lines }, at) => (typeof point[at] === "number" ? lines.slice(/** @type {number} */ (point[at])) : lines.slice())) });
+    this.undone.push({
+      point,
+      lines: labs.map(
+        ({ lines }, at) =>
+          (typeof point[at] === "number" ? lines.slice(/** @type {number} */ (point[at])) : lines.slice()))
+    });
     return point.map((kept, at) => (typeof kept === "number" ? labs[at].lines.slice(0, kept) : kept));
   }
 
@@ -53,6 +63,8 @@ export class Past {
       return null;
     }
     this.acts.push(undone.point);
-    return undone.point.map((kept, at) => (typeof kept === "number" ? [...labs[at].lines.slice(0, kept), ...undone.lines[at]] : undone.lines[at]));
+    return undone.point.map(
+      (kept, at) =>
+        (typeof kept === "number" ? [...labs[at].lines.slice(0, kept), ...undone.lines[at]] : undone.lines[at]));
   }
 }

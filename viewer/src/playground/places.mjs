@@ -1,5 +1,6 @@
-// Where nodes lie: places of a preset, or found by the layout of the transcripts' page; hands may move them, and newcomers find room.
-import { fill, layOut, SPACING } from "../layout.mjs";
+// Where nodes lie: places of a preset, or found by the layout of the transcripts' page; hands may move them, and
+// newcomers find room.
+import {fill, layOut, SPACING} from "../layout.mjs";
 
 // a unit of a preset's places
 const UNIT = 62;
@@ -29,7 +30,7 @@ function forNames({ x, y, width, height }, names) {
  * @param {Network} network
  * @param {number} names
  */
-export function placesOf({ nodes, links, places }, names) {
+export function placesOf({nodes, links, places}, names) {
   if (!places) {
     return forNames(fill(layOut(nodes, links)), names);
   }
@@ -45,7 +46,8 @@ export function placesOf({ nodes, links, places }, names) {
 }
 
 /**
- * Gives a layout the form of the picture in which it is seen, so many times wider than high: what it has stays in the middle.
+ * Gives a layout the form of the picture in which it is seen, so many times wider than high: what it has stays in the
+ * middle.
  * @param {Layout} layout
  * @param {number} form
  */
@@ -63,7 +65,7 @@ export function frame(layout, form) {
  * @param {number} x
  * @param {number} y
  */
-export function within({ width, height }, x, y) {
+export function within({width, height}, x, y) {
   /**
    * @param {number} at
    * @param {number} size
@@ -79,11 +81,16 @@ export function within({ width, height }, x, y) {
  */
 export function freePlace(layout, here) {
   const { x, y, width, height } = layout;
-  const candidates = Array.from({ length: ACROSS * DOWN }, (_, at) => [
-    BORDER + ((width - 2 * BORDER) * (at % ACROSS)) / (ACROSS - 1),
-    BORDER + ((height - 2 * BORDER) * Math.floor(at / ACROSS)) / (DOWN - 1),
+  const candidates = Array.from(
+    { length: ACROSS * DOWN },
+    (_, at) =>
+      [BORDER + ((width - 2 * BORDER) * (at % ACROSS)) / (ACROSS - 1),
+       BORDER + ((height - 2 * BORDER) * Math.floor(at / ACROSS)) / (DOWN - 1),
   ]);
   /** @param {number[]} place */
-  const room = ([px, py]) => x.reduce((least, at, v) => (here[v] ? Math.min(least, Math.hypot(at - px, y[v] - py)) : least), Infinity);
-  return candidates.map((place) => ({ place, room: room(place) })).reduce((best, next) => (next.room > best.room ? next : best)).place;
+  const room = ([px, py]) =>
+    x.reduce((least, at, v) => (here[v] ? Math.min(least, Math.hypot(at - px, y[v] - py)) : least), Infinity);
+  return candidates.map((place) => ({ place, room: room(place) }))
+    .reduce((best, next) => (next.room > best.room ? next : best))
+    .place;
 }

@@ -1,24 +1,23 @@
 // The playground: one network, or the same one under both rule sets, in the hands of whoever opens the page.
-import { counted } from "../numbers.mjs";
-import { byId, field } from "../svg.mjs";
-import { nodesOf, readEntry } from "../transcript.mjs";
-import { Card } from "./card.mjs";
-import { Chooser } from "./chooser.mjs";
-import { BadLine, Lab } from "./lab.mjs";
-import { Pane } from "./pane.mjs";
-import { Past } from "./past.mjs";
-import { freePlace, placesOf, within } from "./places.mjs";
-import { Runner } from "./runner.mjs";
-import { Story } from "./story.mjs";
-import { Texts } from "./texts.mjs";
-import { Tools } from "./tools.mjs";
-import { Work } from "./work.mjs";
+import {counted} from "../numbers.mjs";
+import {byId, field} from "../svg.mjs";
+import {nodesOf, readEntry} from "../transcript.mjs";
+import {Card} from "./card.mjs";
+import {Chooser} from "./chooser.mjs";
+import {Daemon} from "./daemon.mjs";
+import {BadLine, Lab} from "./lab.mjs";
+import {Pane} from "./pane.mjs";
+import {Past} from "./past.mjs";
+import {freePlace, placesOf, within} from "./places.mjs";
+import {Story} from "./story.mjs";
+import {Texts} from "./texts.mjs";
+import {Tools} from "./tools.mjs";
+import {Work} from "./work.mjs";
 
 // so many milliseconds does an edge that came or went stay marked
 const MARKED = 1600;
 // and nodes that moved lit
 const LIT = 700;
-const LAST_SEED = 999_999_999;
 
 /**
  * The last entry of some lines of a transcript, or null.
@@ -27,6 +26,14 @@ const LAST_SEED = 999_999_999;
 function lastEntry(text) {
   const line = text.trimEnd().split("\n").at(-1);
   return /^\d/.test(line) ? readEntry(line) : null;
+}
+
+/**
+ * @param {string[]} one
+ * @param {string[]} other
+ */
+function isSame(one, other) {
+  return one.length === other.length && one.every((line, at) => line === other[at]);
 }
 
 export class Playground {
@@ -42,10 +49,6 @@ export class Playground {
     this.panes = [];
     /** Which lab the card and the texts tell of. */
     this.at = 0;
-    /** The seed of the daemon's last move. */
-    this.seed = 0;
-    /** Whether the daemon's moves go on an act that can be taken back as one. */
-    this.stretch = false;
     /**
      * The entry whose edge is marked.
      * @type {Entry | null}
@@ -83,8 +86,14 @@ export class Playground {
     this.story = new Story(byId("story"));
     this.tools = new Tools(acts);
     this.card = new Card(acts);
-    this.runner = new Runner(() => this.stepAll(), (count) => count > 0 && this.show(count));
-    this.texts = new Texts(() => this.lab, { play: (lines) => this.playLines(lines), judge, pause: () => this.run(false), say: acts.say, saved: () => this.work.saved() });
+    this.daemon = new Daemon(this);
+    this.texts = new Texts(() => this.lab, {
+      play: (lines) => this.playLines(lines),
+      judge,
+      pause: () => this.daemon.run(false),
+      say: acts.say,
+      saved: () => this.work.saved()
+    });
   }
 
   /** The network whose texts and nodes are told of. */
@@ -114,11 +123,12 @@ export class Playground {
     this.labs = labs;
     this.past = new Past();
     this.at = 0;
-    this.stretch = false;
+    this.daemon.stretch = false;
     this.changed = null;
-    this.layout = plan.layout ?? placesOf({ ...plan, links: plan.links ?? labs[0].linksEver }, names);
+    this.layout = plan.layout ?? placesOf({...plan, links: plan.links ?? labs[0].linksEver }, names);
     // names that were given no place
-    this.placeless = new Set(plan.layout ? [] : Array.from({ length: names - plan.nodes }, (_, at) => plan.nodes + 1 + at));
+    this.placeless =
+      new Set(plan.layout ? [] : Array.from({ length: names - plan.nodes }, (_, at) => plan.nodes + 1 + at));
     byId("panes").classList.toggle("two", labs.length > 1);
     this.panes = labs.map((lab, at) => this.paneOf(lab, at));
     byId("which").hidden = labs.length < 2;
@@ -137,7 +147,13 @@ export class Playground {
    */
   get plan() {
     const { names, present } = this.lab;
-    return { names, present, nodes: names, labs: this.labs.map(({ rules, lines }) => ({ rules, lines: lines.slice() })), layout: this.layout };
+    return {
+      names,
+      present,
+      nodes: names,
+      labs: this.labs.map(({ rules, lines }) => ({ rules, lines: lines.slice() })),
+      layout: this.layout
+    };
   }
 
   /**
@@ -178,8 +194,7 @@ export class Playground {
    */
   remember(whole = false) {
     this.past.remember(this.labs, whole);
-    this.stretch = false;
-    this.work.acted();
+    this.daemon.stretch = false;
   }
 
   /**
@@ -204,8 +219,9 @@ export class Playground {
     try {
       return lab.feed(line);
     } catch (wrong) {
-      this.run(false);
-      const why = wrong instanceof BadLine ? `The line ${wrong.text} ${wrong.why}.` : `The engine does not go on: ${wrong.message}.`;
+      this.daemon.run(false);
+      const why = wrong instanceof BadLine ? `The line ${wrong.text} ${wrong.why}.` :
+                                             `The engine does not go on: ${wrong.message}.`;
       this.story.say(why, true);
       throw wrong;
     }
@@ -226,6 +242,7 @@ export class Playground {
     if (texts === null) {
       return;
     }
+    this.work.acted();
     this.look(labs);
     const refused = texts.map(lastEntry).find((entry) => entry?.refused);
     if (refused) {
@@ -243,16 +260,19 @@ export class Playground {
    * What an act comes to, or null if its line was not carried out, which has been told then.
    * @template T
    * @param {() => T} act
+   * @param {boolean} begins whether the act was remembered as one of its own
    * @returns {T | null}
    */
-  attempt(act) {
+  attempt(act, begins = true) {
     try {
       return act();
     } catch (wrong) {
       if (!(wrong instanceof BadLine)) {
         throw wrong;
       }
-      this.past.forget();
+      if (begins) {
+        this.past.forget();
+      }
       return null;
     }
   }
@@ -265,61 +285,9 @@ export class Playground {
   move(lab, line) {
     this.remember();
     if (this.attempt(() => this.feed(line, [lab]))) {
+      this.work.acted();
       this.show(1);
     }
-  }
-
-  /** One move of each network, by the daemon that was chosen; whether there was one. */
-  stepAll() {
-    return this.labs.map((lab) => this.stepOne(lab)).some(Boolean);
-  }
-
-  /** @param {Lab} lab */
-  stepOne(lab) {
-    if (!lab.fed && lab.seen.enabledCount === 0) {
-      return false;
-    }
-    const all = field("daemon").value === "all" && lab.seen.flags;
-    const enabled = all && lab.fed ? lab.look().enabledNodes : lab.seen.enabledNodes;
-    if (all && enabled.length === 0) {
-      return false;
-    }
-    if (!this.stretch) {
-      this.remember();
-      this.stretch = true;
-    }
-    this.seed = (this.seed % LAST_SEED) + 1;
-    const made = this.attempt(() => this.feed(all ? `step ${enabled.join(" ")}` : `drive ${this.seed} 1`, [lab]));
-    if (made?.[0] === "") {
-      // nothing was enabled
-      lab.lines.pop();
-    }
-    return Boolean(made?.[0]);
-  }
-
-  /** One move by hand on the button. */
-  stepNow() {
-    this.run(false);
-    this.stretch = false;
-    if (this.stepAll()) {
-      this.show(1);
-    } else if (this.labs.every((lab) => lab.seen.enabledCount === 0)) {
-      this.story.say("Nothing is enabled: all is stable.");
-    }
-    this.stretch = false;
-  }
-
-  /** @param {boolean} on */
-  run(on) {
-    if (on) {
-      this.runner.start();
-    } else {
-      this.runner.stop();
-    }
-    byId("run").textContent = on ? "❚❚ pause" : "▶ run";
-    byId("run").setAttribute("aria-pressed", String(on));
-    this.story.runs = on;
-    this.tell(0);
   }
 
   /**
@@ -331,12 +299,6 @@ export class Playground {
       const enabled = this.labs.reduce((sum, { seen }) => sum + seen.enabledCount, 0);
       this.story.goesOn(moves, enabled, this.lab.seen.pairCount);
     }
-  }
-
-  scramble() {
-    const count = Math.min(1000, Math.max(1, Math.round(Number(field("faults").value)) || 1));
-    this.seed = (this.seed % LAST_SEED) + 1;
-    this.disturb(`scramble ${this.seed} ${count}`);
   }
 
   /** Takes the last act back: its lines go, and the rest is played again. */
@@ -356,14 +318,14 @@ export class Playground {
    * @param {string} done
    */
   retrace(scripts, nothing, done) {
-    this.run(false);
+    this.daemon.run(false);
     if (scripts === null) {
       this.story.say(nothing);
       return;
     }
     const before = this.lab.lines.length;
-    scripts.forEach((lines, at) => lines.length !== this.labs[at].lines.length && this.labs[at].replay(lines));
-    this.stretch = false;
+    scripts.forEach((lines, at) => isSame(lines, this.labs[at].lines) || this.labs[at].replay(lines));
+    this.daemon.stretch = false;
     this.changed = null;
     this.work.acted();
     this.story.open();
@@ -380,7 +342,7 @@ export class Playground {
   playLines(lines) {
     const { lab } = this;
     const before = lab.lines.slice();
-    this.run(false);
+    this.daemon.run(false);
     this.remember(true);
     try {
       lab.replay(lines);
@@ -389,6 +351,7 @@ export class Playground {
       this.past.forget();
       throw wrong;
     }
+    this.work.acted();
     this.placeNewcomers();
     this.story.open();
     this.show(0);

@@ -1,7 +1,7 @@
-// Networks to begin with: their nodes are 1 to `nodes`, `links` their edges, and `places` where the nodes lie, by their names; where
-// there are none, the page finds places by itself.
-import { distanceToStretch } from "../hit.mjs";
-import { chanceOf } from "./chance.mjs";
+// Networks to begin with: their nodes are 1 to `nodes`, `links` their edges, and `places` where the nodes lie, by their
+// names; where there are none, the page finds places by itself.
+import {distanceToStretch} from "../hit.mjs";
+import {chanceOf} from "./chance.mjs";
 
 export const MOST_NODES = 500;
 // how much wider than high a field of nodes is
@@ -60,8 +60,8 @@ function around(angle, far) {
 }
 
 /**
- * The hub in the middle, and the others on a circle; many lie as the seeds of a sunflower do (Vogel, 1979), since their circle would be
- * too large to be seen. @param {number} nodes
+ * The hub in the middle, and the others on a circle; many lie as the seeds of a sunflower do (Vogel, 1979), since their
+ * circle would be too large to be seen.
  * @param {number} nodes
  */
 function star(nodes) {
@@ -70,7 +70,8 @@ function star(nodes) {
   const onCircle = (at) => around((2 * Math.PI * at) / leaves - Math.PI / 2, Math.max(1.6, nodes / 6));
   /** @param {number} at */
   const inFlower = (at) => around(at * Math.PI * (3 - Math.sqrt(5)), 0.6 * Math.sqrt(at + 3));
-  const places = Array.from({ length: nodes }, (_, at) => (at === 0 ? [0, 0] : (leaves > ROUND ? inFlower : onCircle)(at)));
+  const places =
+    Array.from({ length: nodes }, (_, at) => (at === 0 ? [0, 0] : (leaves > ROUND ? inFlower : onCircle)(at)));
   return { links: Array.from({ length: leaves }, (_, at) => [1, at + 2]), places };
 }
 
@@ -132,8 +133,8 @@ function isClear(places, v, w) {
 }
 
 /**
- * Routers and what hangs on them, on a grid that was shaken: one of three is a router, which hears the routers near it; each other
- * node hears the two routers that are nearest, of those whose links run past all others where there are any.
+ * Routers and what hangs on them, on a grid that was shaken: one of three is a router, which hears the routers near it;
+ * each other node hears the two routers that are nearest, of those whose links run past all others where there are any.
  * @param {number} nodes
  * @param {number} seed
  */
@@ -148,12 +149,15 @@ function mesh(nodes, seed) {
   /** @param {number} at */
   const isRouter = (at) => ((at % columns) + 2 * Math.floor(at / columns) + (Math.floor(at / columns) >> 1)) % 3 === 1;
   const routers = places.flatMap((_, at) => (isRouter(at) ? [at] : []));
-  const links = near(places, MESH_REACH).filter(([v, w]) => isRouter(v - 1) && isRouter(w - 1) && isClear(places, v - 1, w - 1));
+  const links =
+    near(places, MESH_REACH).filter(([v, w]) => isRouter(v - 1) && isRouter(w - 1) && isClear(places, v - 1, w - 1));
   places.forEach((place, at) => {
     if (!isRouter(at)) {
       const nearest = [...routers].sort((v, w) => distance(place, places[v]) - distance(place, places[w])).slice(0, 4);
       const clear = nearest.filter((router) => isClear(places, at, router));
-      (clear.length > 0 ? clear : nearest).slice(0, 2).forEach((router) => links.push([Math.min(at, router) + 1, Math.max(at, router) + 1]));
+      (clear.length > 0 ? clear : nearest).slice(0, 2).forEach((router) => links.push([
+        Math.min(at, router) + 1, Math.max(at, router) + 1
+      ]));
     }
   });
   return { links, places };
@@ -173,7 +177,8 @@ function random(nodes, seed) {
    * @param {number} v
    * @param {number} w
    */
-  const link = (v, w) => v !== w && links.set(Math.min(v, w) * 65536 + Math.max(v, w), [Math.min(v, w), Math.max(v, w)]);
+  const link = (v, w) =>
+    v !== w && links.set(Math.min(v, w) * 65536 + Math.max(v, w), [Math.min(v, w), Math.max(v, w)]);
   for (let v = 2; v <= nodes; v += 1) {
     link(v, 1 + below(v - 1));
   }
@@ -185,7 +190,8 @@ function random(nodes, seed) {
 }
 
 /**
- * Hosts in racks: a partner that holds a host's copy has to stand in the rack beside it, so that no rack takes both away.
+ * Hosts in racks: a partner that holds a host's copy has to stand in the rack beside it, so that no rack takes both
+ * away.
  * @param {number} nodes
  */
 function racks(nodes) {
@@ -205,17 +211,23 @@ function racks(nodes) {
   return { links, places };
 }
 
-/** By their words in the page: how many nodes there are at first, and how they are made of a number of nodes and a seed. */
-/** @type {Record<string, { name: string, nodes: number, make: (nodes: number, seed: number) => { links: Link[], places?: Link[] } }>} */
+/**
+ * By their words in the page: how many nodes there are at first, and how they are made of a number of nodes and a
+ * seed.
+ */
+/**
+ * @type {Record<string, { name: string, nodes: number, make: (nodes: number, seed: number) => { links: Link[],
+ *   places?: Link[] } }>}
+ */
 export const PRESETS = {
-  mesh: { name: "wireless mesh", nodes: 15, make: mesh },
-  ring: { name: "ring", nodes: 12, make: ring },
-  path: { name: "path", nodes: 12, make: path },
-  grid: { name: "grid", nodes: 24, make: grid },
-  star: { name: "star", nodes: 12, make: star },
-  disk: { name: "unit disk", nodes: 30, make: unitDisk },
-  random: { name: "random", nodes: 24, make: random },
-  racks: { name: "racks of backup partners", nodes: 24, make: racks },
+  mesh: {name: "wireless mesh", nodes: 15, make: mesh},
+  ring: {name: "ring", nodes: 12, make: ring},
+  path: {name: "path", nodes: 12, make: path},
+  grid: {name: "grid", nodes: 24, make: grid},
+  star: {name: "star", nodes: 12, make: star},
+  disk: {name: "unit disk", nodes: 30, make: unitDisk},
+  random: {name: "random", nodes: 24, make: random},
+  racks: {name: "racks of backup partners", nodes: 24, make: racks},
 };
 
 /**

@@ -1,7 +1,8 @@
-// A network as the engine tells it: registers and edges from the base that it writes, who is enabled, and the numbers of its status.
-// Nothing is played here; only what follows from the registers, such as who points at whom, is looked up for the words.
-import { Machine } from "../machine.mjs";
-import { readBase } from "../transcript.mjs";
+// A network as the engine tells it: registers and edges from the base that it writes, who is enabled, and the numbers
+// of its status. Nothing is played here; only what follows from the registers, such as who points at whom, is looked up
+// for the words.
+import {Machine} from "../machine.mjs";
+import {readBase} from "../transcript.mjs";
 
 const ASKED = ["enabled", "status", "checkpoint"];
 
@@ -34,7 +35,8 @@ export class Seen extends Machine {
    */
   hear(text) {
     const [enabled, status] = text.split("\n", 2).map((line) => line.slice(line.indexOf(" = ") + 3));
-    this.told = Object.fromEntries(status.split(" ").map((word) => word.split("=")).map(([key, value]) => [key, Number(value)]));
+    this.told =
+      Object.fromEntries(status.split(" ").map((word) => word.split("=")).map(([key, value]) => [key, Number(value)]));
     this.load(readBase(text, text.indexOf("matching2 ")).state);
     this.enabledNodes = [];
     for (const [, node, rule] of enabled.matchAll(/(\d+):([a-z]+)/g)) {

@@ -1,6 +1,6 @@
-// A script in the page's address: `#script=link+1+2;drive+7+100&rules=manne&nodes=4`. Whoever wrote the address is not known, so what
-// stands there is only ever text for the engine.
-import { MOST_NODES } from "./presets.mjs";
+// A script in the page's address: `#script=link+1+2;drive+7+100&rules=manne&nodes=4`. Whoever wrote the address is not
+// known, so what stands there is only ever text for the engine.
+import {MOST_NODES} from "./presets.mjs";
 
 const MOST_CHARACTERS = 4000;
 /** More names than this are none of a network that is drawn here. */
@@ -32,13 +32,15 @@ function numberOf(fields, key, least, most) {
  * @param {string[]} lines
  */
 export function namesIn(lines) {
-  const spoken = lines.filter((line) => /^(?:link|unlink|point|flag|join|leave|step|show) /.test(line)).flatMap((line) => (line.startsWith("flag") ? line.match(/\d+/g)?.slice(0, 1) : line.match(/\d+/g)) ?? []);
+  const spoken =
+    lines.filter((line) => /^(?:link|unlink|point|flag|join|leave|step|show) /.test(line))
+      .flatMap((line) => (line.startsWith("flag") ? line.match(/\d+/g)?.slice(0, 1) : line.match(/\d+/g)) ?? []);
   return spoken.reduce((most, word) => Math.max(most, word.length < 6 ? Number(word) : 0), 2);
 }
 
 /**
- * The script of an address with its network, or null if it holds none. Throws an `AddressFault` if that can't be one. Lines are
- * not looked at: that is the engine's.
+ * The script of an address with its network, or null if it holds none. Throws an `AddressFault` if that can't be one.
+ * Lines are not looked at: that is the engine's.
  * @param {string} hash
  */
 export function readAddress(hash) {
@@ -64,7 +66,7 @@ export function readAddress(hash) {
  * The end of an address that holds a lab's script, or null if that is too long.
  * @param {{ rules: string, names: number, present: number, lines: string[] }} lab
  */
-export function writeAddress({ rules, names, present, lines }) {
+export function writeAddress({rules, names, present, lines}) {
   const script = lines.join(";");
   if (script.length > MOST_CHARACTERS) {
     return null;

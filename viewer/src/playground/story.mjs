@@ -1,5 +1,6 @@
-// What has happened, in a sentence: what was broken, how many moves it took until all was stable, and how many it could have taken.
-import { counted, grouped } from "../numbers.mjs";
+// What has happened, in a sentence: what was broken, how many moves it took until all was stable, and how many it could
+// have taken.
+import {counted, grouped} from "../numbers.mjs";
 
 // so many milliseconds does a word stand that is none of the story's own
 const HELD = 2500;

@@ -1,7 +1,19 @@
 // What a text is that was opened, dropped or pasted: a transcript, a script, or a graph of some format.
 
-const COMMANDS = new Set(["link", "unlink", "point", "flag", "join", "leave", "step", "show", "enabled", "matching", "status", "checkpoint", "drive", "scramble"]);
-const ENDS = { col: "DIMACS graph", dimacs: "DIMACS graph", metis: "METIS graph", graph: "METIS graph", json: "node-link graph", graphml: "GraphML", transcript: "transcript", script: "script" };
+const COMMANDS = new Set([
+  "link", "unlink", "point", "flag", "join", "leave", "step", "show", "enabled", "matching", "status", "checkpoint",
+  "drive", "scramble"
+]);
+const ENDS = {
+  col: "DIMACS graph",
+  dimacs: "DIMACS graph",
+  metis: "METIS graph",
+  graph: "METIS graph",
+  json: "node-link graph",
+  graphml: "GraphML",
+  transcript: "transcript",
+  script: "script"
+};
 const NAMED = /matching-(hh|manne)-(\d{1,5})(?:-(\d{1,5}))?(?!\d)/;
 
 /** @typedef {"transcript" | "script" | "GraphML" | "nothing" | import("./graph_files.mjs").GraphFormat} Kind */
@@ -53,5 +65,6 @@ export function kindOf(text, name) {
  */
 export function networkOfName(name) {
   const [, rules, names, present] = NAMED.exec(name) ?? [];
-  return rules ? { rules: /** @type {RuleName} */ (rules), names: Number(names), present: Number(present ?? names) } : null;
+  return rules ? { rules: /** @type {RuleName} */ (rules), names: Number(names), present: Number(present ?? names) } :
+                 null;
 }

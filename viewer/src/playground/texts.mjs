@@ -1,10 +1,12 @@
 // The script and the transcript beside the picture: shown as they grow, edited, copied and saved.
-import { byId, field } from "../svg.mjs";
-import { copy, save } from "./files.mjs";
-import { BadLine } from "./lab.mjs";
-import { writeAddress } from "./sharing.mjs";
+import {byId, field} from "../svg.mjs";
+import {EngineFault} from "./engine.mjs";
+import {copy, save} from "./files.mjs";
+import {BadLine} from "./lab.mjs";
+import {writeAddress} from "./sharing.mjs";
 
-// so many milliseconds lie between two writings of a text that grows; more where it is long, as a field takes long to show it
+// so many milliseconds lie between two writings of a text that grows; more where it is long, as a field takes long to
+// show it
 const GAP = 300;
 const CHARACTERS_A_MILLISECOND = 15;
 // farther down than any text goes
@@ -108,7 +110,10 @@ export class Texts {
 
   /** Has the text shown soon; what somebody edits is left alone. */
   show() {
-    this.timer ??= setTimeout(() => this.write(), Math.max(0, this.written + Math.max(GAP, this.field.value.length / CHARACTERS_A_MILLISECOND) - performance.now()));
+    this.timer ??= setTimeout(
+      () => this.write(),
+      Math.max(
+        0, this.written + Math.max(GAP, this.field.value.length / CHARACTERS_A_MILLISECOND) - performance.now()));
   }
 
   write() {
@@ -134,12 +139,24 @@ export class Texts {
       this.acts.play(lines);
       this.drop();
     } catch (wrong) {
-      if (!(wrong instanceof BadLine)) {
-        throw wrong;
-      }
+      this.tell(wrong, numbers);
+    }
+  }
+
+  /**
+   * Tells why a script was not played, where it stands.
+   * @param {Error} wrong
+   * @param {number[]} numbers those of its lines in the field
+   */
+  tell(wrong, numbers) {
+    if (wrong instanceof BadLine) {
       const told = renumbered(wrong, numbers);
       this.mark(told.line);
       this.refuse(`The script was not played: ${told.message}.`);
+    } else if (wrong instanceof EngineFault) {
+      this.refuse(`The script was not played, since the engine does not go on: ${wrong.message}.`);
+    } else {
+      throw wrong;
     }
   }
 

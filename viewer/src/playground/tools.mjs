@@ -1,5 +1,6 @@
-// What a click, a tap or Enter on a node, an edge or an empty place does, by the tool that is in hand. Each act is a line of a script.
-import { explainNode } from "../explain.mjs";
+// What a click, a tap or Enter on a node, an edge or an empty place does, by the tool that is in hand. Each act is a
+// line of a script.
+import {explainNode} from "../explain.mjs";
 
 /** @typedef {import("./lab.mjs").Lab} Lab */
 /** @typedef {import("./seen.mjs").Seen} Seen */
@@ -20,12 +21,13 @@ import { explainNode } from "../explain.mjs";
  * @type {Record<ToolName, { hint: string, draws: boolean }>}
  */
 export const TOOLS = {
-  cut: { hint: "Click a link to cut it.", draws: false },
-  link: { hint: "Drag from one node to another to link them.", draws: true },
-  point: { hint: "Drag from a node to its neighbour: it points there. Click a node twice: it points nowhere.", draws: true },
-  flag: { hint: "Click a node to flip its flag.", draws: false },
-  node: { hint: "Click an empty place: a node joins. Click a node: it leaves.", draws: false },
-  move: { hint: "Click a node with a yellow ring: it moves.", draws: false },
+  cut: {hint: "Click a link to cut it.", draws: false},
+  link: {hint: "Drag from one node to another to link them.", draws: true},
+  point:
+    {hint: "Drag from a node to its neighbour: it points there. Click a node twice: it points nowhere.", draws: true},
+  flag: {hint: "Click a node to flip its flag.", draws: false},
+  node: {hint: "Click an empty place: a node joins. Click a node: it leaves.", draws: false},
+  move: {hint: "Click a node with a yellow ring: it moves.", draws: false},
 };
 
 /**

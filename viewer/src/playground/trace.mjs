@@ -1,6 +1,6 @@
 // How the charge went, under the bound, over the last changes that were shown.
-import { counted, grouped } from "../numbers.mjs";
-import { add } from "../svg.mjs";
+import {counted, grouped} from "../numbers.mjs";
+import {add} from "../svg.mjs";
 
 const LENGTH = 160;
 const HEIGHT = 100;
@@ -14,7 +14,8 @@ export class Trace {
     this.top = root.querySelector(".top");
     this.along = root.querySelector(".along");
     svg.setAttribute("viewBox", `0 -4 ${LENGTH} ${HEIGHT + 8}`);
-    this.paths = Object.fromEntries(["bound", "sum", "charge"].map((name) => [name, add(svg, "path", { class: `line ${name}` })]));
+    this.paths =
+      Object.fromEntries(["bound", "sum", "charge"].map((name) => [name, add(svg, "path", { class: `line ${name}` })]));
   }
 
   /**

@@ -1,4 +1,5 @@
-// Whether there is work that would be lost: acts by hand that were neither saved nor copied, the first of them a while ago.
+// Whether there is work that would be lost: acts by hand that were neither saved nor copied, the first of them a while
+// ago.
 
 /** So many milliseconds of unsaved work are worth a question. */
 export const WORTH = 60_000;
