@@ -17,6 +17,13 @@ def pipe(end: Optional[IO[bytes]]) -> IO[bytes]:
     return end
 
 
+def pipe_of_text(end: Optional[IO[str]]) -> IO[str]:
+    """The same for a stream of text."""
+    if end is None:
+        raise ValueError("this stream is no pipe")
+    return end
+
+
 class ProgramChecks(Checks):
     """Tests that run the program to its end."""
 

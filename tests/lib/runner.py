@@ -160,6 +160,8 @@ def main(doc: str, cases: Sequence[Type[unittest.TestCase]], *options: Options) 
     try:
         if hasattr(given, "program"):
             given.program = str(places.program_of(given.program))
+        if hasattr(given, "library"):
+            given.library = str(places.library_in(given.library).parent)
         Checks.given = given
         return run_tests(tests).end()
     except places.Missing as missing:
