@@ -56,12 +56,14 @@ class Counting(unittest.TestResult):
         super().stopTest(test)
         if not self.wrong and self.counts() == self.before:
             self.tally.passed += 1
+        # what comes now is no test's: the beginning or the end of a class
+        self.wrong = False
 
     def note(self, test: unittest.TestCase, told: str) -> None:
         if self.wrong:
             self.tally.failed -= 1
         self.wrong = True
-        self.tally.fail(test.id(), told)
+        self.tally.fail(name_of(test), told)
 
     def addError(self, test: unittest.TestCase, err: ExcInfo) -> None:
         self.note(test, "".join(traceback.format_exception(*err)))
@@ -74,7 +76,7 @@ class Counting(unittest.TestResult):
             self.note(subtest, "".join(traceback.format_exception(*err)))
 
     def addSkip(self, test: unittest.TestCase, reason: str) -> None:
-        self.tally.skip(test.id(), reason)
+        self.tally.skip(name_of(test), reason)
 
     def addUnexpectedSuccess(self, test: unittest.TestCase) -> None:
         self.note(test, "it was to fail")
@@ -86,17 +88,23 @@ def tests_of(cases: Iterable[Type[unittest.TestCase]]) -> Iterator[unittest.Test
         yield from (case(name) for name in vars(case) if name.startswith("test_"))
 
 
+def name_of(test: unittest.TestCase) -> str:
+    """A test's name without the script's, or the name of a class whose beginning failed or skipped its tests."""
+    name = test.id()
+    if name.startswith("setUpClass (") and name.endswith(")"):
+        name = name[len("setUpClass (") : -1]
+    return name.removeprefix("__main__.")
+
+
 def fits(test: unittest.TestCase, names: Sequence[str]) -> bool:
     """Whether a test's name has one of the names in it, or fits one as a pattern. No names fit all."""
-    own = test.id()
+    own = name_of(test)
     return not names or any(name in own or fnmatch.fnmatchcase(own.rsplit(".", 1)[-1], name) for name in names)
 
 
 def run_tests(tests: Iterable[unittest.TestCase], tally: Tally = TALLY) -> Tally:
     """Runs tests one after another, and counts what comes of them."""
-    result = Counting(tally)
-    for test in tests:
-        test.run(result)
+    unittest.TestSuite(tests).run(Counting(tally))
     return tally
 
 
@@ -145,13 +153,15 @@ def main(doc: str, cases: Sequence[Type[unittest.TestCase]], *options: Options) 
     given = parser.parse_args()
     tests = [test for test in tests_of(cases) if fits(test, given.names)]
     if given.list:
-        print("".join(f"{test.id().removeprefix('__main__.')}\n" for test in tests), end="")
+        print("".join(f"{name_of(test)}\n" for test in tests), end="")
         return 0
     if not tests:
         return stop(f"no test {' or '.join(given.names)}")
     try:
         if hasattr(given, "program"):
             given.program = str(places.program_of(given.program))
+        if hasattr(given, "library"):
+            given.library = str(places.library_in(given.library).parent)
         Checks.given = given
         return run_tests(tests).end()
     except places.Missing as missing:

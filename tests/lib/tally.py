@@ -3,7 +3,7 @@
 from __future__ import annotations
 
 import sys
-from typing import TextIO
+from typing import Sequence, TextIO
 
 # How much of a value is printed.
 SHOWN = 600
@@ -46,6 +46,14 @@ class Tally:
         self.print(
             f"{name}: {lines[0]}" if len(lines) == 1 else "\n".join([f"{name}:", *(INDENT + it for it in lines)])
         )
+
+    def same(self, name: str, differs: Sequence[str]) -> None:
+        """Counts a comparison, which passes if nothing differs. What differs is printed below the name."""
+        if differs:
+            self.failed += 1
+            self.print("\n".join([name, *(INDENT + line for line in differs)]))
+        else:
+            self.passed += 1
 
     def skip(self, name: str, why: str) -> None:
         """Counts a check that is skipped, and prints its name and what it lacks."""
