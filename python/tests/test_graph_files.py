@@ -5,8 +5,9 @@ import json
 import os
 import pathlib
 import unittest
+import unittest.mock
 
-from rudekpi import graphs
+from rudekpi import graph_builder, graphs
 from support import Timed
 
 try:
@@ -102,9 +103,11 @@ class Read(Timed):
             self.expect_refused("a.csv", text, why)
 
     def test_more_edges_than_a_network_has(self):
-        lines = (f"{a} {b}\n" for a in range(1500) for b in range(a))
-        text = "".join(itertools.islice(lines, 1_048_577))
-        self.expect_refused("a.txt", text, "line 1048577: a network has at most 1048576 edges")
+        self.assertEqual(graph_builder.MOST_EDGES, 1_048_576)
+        text = "".join(f"{a} {b}\n" for a, b in itertools.combinations(range(9), 2))
+        with unittest.mock.patch.object(graph_builder, "MOST_EDGES", 35):
+            self.expect_refused("a.txt", text, "line 36: a network has at most 35 edges")
+            self.assertEqual(len(self.read("a.txt", text[:-4])[1]), 35)
 
     def test_dimacs(self):
         self.assertEqual(

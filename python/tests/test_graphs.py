@@ -143,7 +143,7 @@ class Made(Timed):
             ("gnp:65535,1e-300", 0, 0),
             ("disk:65535,0", 0, 0),
             ("disk:65535,1e-300", 0, 0),
-            ("regular:20000,4", 40_000, 40_000),
+            ("regular:6000,4", 12_000, 12_000),
         ]:
             with self.subTest(words):
                 self.assertTrue(least <= len(graphs.graph_of(words).edges) <= most)
