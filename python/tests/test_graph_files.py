@@ -170,6 +170,8 @@ class Read(Timed):
 
         wanted = (("a", "b", "c"), (("a", "b"), ("b", "c")))
         self.assertEqual(self.read("a.graphml", whole(edge.format("a", "b") + some + edge.format("c", "b"))), wanted)
+        latin = whole(node.format("\u00e9")).replace('"1.0"', '"1.0" encoding="ISO-8859-1"').encode("latin-1")
+        self.assertEqual(self.read("a.graphml", latin), (("\u00e9",), ()))
         arcs = whole(some + "".join(edge.format(*it) for it in ("ab", "cb", "ba")), "directed")
         self.assertEqual(self.read("a.graphml", arcs, undirected=True), wanted)
         arc = '<edge source="a" target="b" directed="true"/>'
@@ -194,6 +196,9 @@ class Read(Timed):
             (whole("").replace("</graph>", "</graph>\n<graph/>"), "line 5: a second or a nested graph"),
             ("<graphml/>", "expected a graph, and there is none"),
             ("<x/>", "line 1: expected graphml, and not `x`"),
+            ("<?xml version='1.0' encoding='utf-7'?><graphml/>", "line 1: expected one of the encodings utf-8, "),
+            ("<?xml version='1.0' encoding='big5'?><graphml/>", "line 1: expected one of the encodings utf-8, "),
+            (b"<graphml>\xff</graphml>", "no XML: not well-formed"),
             ("<x", "no XML: unclosed token: line 1, column 0"),
             ('<!DOCTYPE a [<!ENTITY b "c">]><a/>', "line 1: expected no DOCTYPE"),
         ]:
