@@ -35,9 +35,10 @@ class Read(Timed):
     def expect_refused(self, name, text, why, **how):
         """A file is refused with its path and, behind it, just this."""
         path = self.path(name, text)
-        with self.subTest(name=name, text=text[:60]), self.assertRaises(ValueError) as caught:
-            graphs.graph_of(path, **how)
-        self.assertTrue(str(caught.exception).startswith(f"{path}: {why}"), str(caught.exception))
+        with self.subTest(name=name, text=text[:60]):
+            with self.assertRaises(ValueError) as caught:
+                graphs.graph_of(path, **how)
+            self.assertTrue(str(caught.exception).startswith(f"{path}: {why}"), str(caught.exception))
 
     def test_edge_lists(self):
         self.assertEqual(self.read("a.txt", "# two\n2 10\n10 1\n\n7\n1 10\n"), ((1, 2, 7, 10), ((2, 10), (1, 10))))
