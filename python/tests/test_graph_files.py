@@ -77,6 +77,7 @@ class Read(Timed):
             ("a b nan\n", "line 1: expected two names, and at most one number"),
             ("1 2\n3 4\n1 2\n", "line 3: the edge of '1' and '2' is there already, by line 1"),
             ("1 2\n2 1\n1 2\n", "line 3: the edge of '1' and '2' is there already, by line 1"),
+            ("1 2\n2 1\n2 1\n", "line 3: the edge of '2' and '1' is there already, by line 1"),
             ("1-2\n2-3\n", "line 1: expected two names, and not '1-2' alone: no line has an edge"),
             ("1: 2\n", "line 1: expected names, and no ':'"),
             ("*Vertices 3\n", "line 1: expected names, and no '*'"),
