@@ -136,7 +136,7 @@ class Made(Timed):
         # in KB; one list of the nodes would take more
         self.assertLess(resource.getrusage(resource.RUSAGE_SELF).ru_maxrss - before, 20_000)
 
-    def test_large_sparse_graphs(self):
+    def test_large_graphs(self):
         for words, least, most in [
             # 21,474 edges in the mean, and a standard deviation of 147
             ("gnp:65535,0.00001,1", 20_700, 22_300),
@@ -144,6 +144,7 @@ class Made(Timed):
             ("disk:65535,0", 0, 0),
             ("disk:65535,1e-300", 0, 0),
             ("regular:6000,4", 12_000, 12_000),
+            ("regular:400,398", 79_600, 79_600),
         ]:
             with self.subTest(words):
                 self.assertTrue(least <= len(graphs.graph_of(words).edges) <= most)
