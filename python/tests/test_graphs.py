@@ -6,8 +6,9 @@ import random
 import resource
 import time
 import unittest
+import unittest.mock
 
-from rudekpi import graphs
+from rudekpi import generators, graphs
 from support import Timed
 
 try:
@@ -75,6 +76,22 @@ class Made(Timed):
             for seed in range(20):
                 with self.subTest(n=n, degree=degree, seed=seed):
                     self.assertEqual(degrees(graphs.regular(n, degree, seed)), [degree] * n)
+
+    def test_ends_that_are_left_over_are_joined_by_switching_edges(self):
+        left = 0
+        for seed in range(40):
+            made = generators.EndJoiner(30, 14, random.Random(seed))
+            made.misses = 20
+            made.join_free_ends()
+            left += len(made.ends) > 0
+            made.switch_edges()
+            with self.subTest(seed=seed):
+                self.assertEqual(made.ends, [])
+                self.assertEqual(degrees(graphs.Graph("made", tuple(range(1, 31)), tuple(made.edges))), [14] * 30)
+                self.assertTrue(all(a < b for a, b in made.edges))
+        self.assertGreater(left, 30)
+        with unittest.mock.patch.object(generators, "SMALL_ENDS", 0):
+            self.assertEqual(degrees(graphs.regular(20, 9, 4)), [9] * 20)
 
     def test_regular_graphs_are_by_chance(self):
         # of the 70 graphs of six nodes with two neighbours each, 10 are two triangles, and 60 a ring
